@@ -1,1 +1,13 @@
+pub mod Bytes
+pub mod Name
+pub mod Header
+pub mod Term
+pub mod Record
+pub mod Section
+pub mod Lists
+pub mod Faults
+pub mod Rules
+pub mod Dictionary
+pub mod TypeNumbers
+pub mod FaultNames
 pub mod Lines

@@ -1,2 +1,18 @@
 //! CTF dictionaries: what they are, which faults they can have, and what a session may ask of them.
 #![tactic(auto)]
+
+mod bytes;
+mod faults;
+mod kinds;
+mod numbers;
+mod replies;
+mod requests;
+mod sections;
+
+pub use bytes::{Bytes, LONGEST_PIECE, Piece};
+pub use faults::{Fault, fault_name};
+pub use kinds::Kind;
+pub use numbers::{SlotNumber, TypeNum};
+pub use replies::{Answer, Reply};
+pub use requests::{ListName, Request};
+pub use sections::Section;

@@ -1,0 +1,152 @@
+-- The first fault of a dictionary: a table of rules, each with the least place where it is broken, or none.
+-- The rules themselves are ours, over the layout of ctf(5); Rules.antt says them as facts.
+use Rattle.std.specs.Prelude.{◌≡◌, ℕ, zero, suc, ◌+◌, ◌-◌, ◌/◌, ◌%◌, ◌++◌, Result, Ok, Err, is_none, ◌==◌, ◌||◌, ◌&&◌, not, nat_lt, Bool, List, [], ◌∷◌, length, map, slice_index, Option, Some, None, if◌then◌else◌}
+use Rattle.ctf_model.specs.Bytes.{u16_at, u32_at}
+use Rattle.ctf_model.specs.Header.{Fields, fields, section}
+use Rattle.ctf_model.specs.Lists.{Lists, tables}
+use Rattle.ctf_model.specs.Name.{Tables, name}
+use Rattle.ctf_model.specs.Section.{Piece, records}
+use Rattle.ctf_model.specs.declared.faults.Fault.{Fault}
+use Rattle.ctf_model.specs.declared.sections.Section.TheVariants.{STypes}
+
+-- a rule that says no place
+abbrev pub if_broken : Bool → Option ℕ
+if_broken broken = if broken then Some 0 else None
+
+-- ---- the header
+
+-- fewer than 4 bytes
+abbrev pub too_short : List ℕ → Option ℕ
+too_short ctf = if_broken (nat_lt (length ctf) 4)
+
+-- CTF_MAGIC doesn't stand at the front
+abbrev pub bad_magic : List ℕ → Option ℕ
+bad_magic ctf = if_broken (not (u16_at ctf 0 == 0xcff1))
+
+-- not CTF_VERSION_2
+abbrev pub bad_version : List ℕ → Option ℕ
+bad_version ctf = if_broken (not (slice_index ctf 2 == 2))
+
+-- the flag CTF_F_COMPRESS
+abbrev pub compressed : List ℕ → Option ℕ
+compressed ctf = if_broken (slice_index ctf 3 % 2 == 1)
+
+-- fewer bytes than a header has
+abbrev pub short_header : List ℕ → Option ℕ
+short_header ctf = if_broken (nat_lt (length ctf) 36)
+
+-- a section begins before the one in front of it
+abbrev pub is_out_of_order : Fields → Bool
+is_out_of_order h = nat_lt h.objtoff h.lbloff || nat_lt h.funcoff h.objtoff || nat_lt h.typeoff h.funcoff || nat_lt h.stroff h.typeoff
+
+abbrev pub bad_order : List ℕ → Option ℕ
+bad_order ctf = if_broken (is_out_of_order (fields ctf))
+
+-- labels and types stand at multiples of 4, objects and functions at multiples of 2
+abbrev pub is_misaligned : Fields → Bool
+is_misaligned h = nat_lt 0 (h.lbloff % 4) || nat_lt 0 (h.objtoff % 2) || nat_lt 0 (h.funcoff % 2) || nat_lt 0 (h.typeoff % 4)
+
+abbrev pub bad_align : List ℕ → Option ℕ
+bad_align ctf = if_broken (is_misaligned (fields ctf))
+
+-- the strings run past the end
+abbrev pub past_end : List ℕ → Option ℕ
+past_end ctf = if_broken (nat_lt (length ctf) (36 + (fields ctf).stroff + (fields ctf).strlen))
+
+-- there are strings, and they don't begin with a zero byte
+abbrev pub bad_strings : List ℕ → Option ℕ
+bad_strings ctf = if_broken (nat_lt 0 (fields ctf).strlen && not (slice_index ctf (36 + (fields ctf).stroff) == 0))
+
+-- ---- the records
+
+-- where reading record by record stops at a fault
+abbrev pub walk_fault : List (Result Piece Fault) → Option Fault
+walk_fault [] = None
+walk_fault (Ok p ∷ rest) = walk_fault rest
+walk_fault (Err f ∷ rest) = Some f
+
+-- the records of the type section
+unfoldable pub types : List ℕ → List (Result Piece Fault)
+types ctf = records (section ctf STypes)
+
+-- the place of a fault, where it has this code
+abbrev pub place_of : ℕ → Option Fault → Option ℕ
+place_of code None = None
+place_of code (Some f) = if f.code == code then Some f.place else None
+
+-- a record is cut off
+abbrev pub truncated : Lists → Option ℕ
+truncated s = place_of 10 (walk_fault (types s.ctf))
+
+-- a record's kind isn't known
+abbrev pub bad_kind : Lists → Option ℕ
+bad_kind s = place_of 11 (walk_fault (types s.ctf))
+
+-- more records than 32,766 (ours: a child's last number would be the mark of the long form)
+abbrev pub too_many : Lists → Option ℕ
+too_many s = if nat_lt 32766 (length (types s.ctf)) then Some 32767 else None
+
+-- ---- names
+
+-- a name reference, with the byte offset at which it stands
+pub record Site : Type 0 where
+  pub place : ℕ
+  pub reference : ℕ
+
+-- the first of the sites whose reference names nothing
+unfoldable pub first_nameless : Tables → List Site → Option ℕ
+first_nameless t [] = None
+first_nameless t (site ∷ sites) = if is_none (name t site.reference) then Some site.place else first_nameless t sites
+
+-- the sites of n labels from a place on: a label is 8 bytes and begins with its name
+unfoldable pub label_sites : List ℕ → ℕ → ℕ → List Site
+label_sites ctf at zero = []
+label_sites ctf at (suc n) = record { place = at; reference = u32_at ctf at } ∷ label_sites ctf (at + 8) n
+
+-- the sites of records whose section begins at a place: a record begins with its name
+unfoldable pub record_sites : ℕ → List (Result Piece Fault) → List Site
+record_sites start [] = []
+record_sites start (Ok p ∷ rest) = record { place = start + p.at; reference = u32_at p.bytes 0 } ∷ record_sites start rest
+record_sites start (Err f ∷ rest) = []
+
+-- every name reference by rising place: those of the header, of the labels, of the records
+unfoldable pub sites : List ℕ → List Site
+sites ctf =
+  let h = fields ctf in
+  record { place = 4; reference = h.parlabel } ∷ record { place = 8; reference = h.parname }
+  ∷ (label_sites ctf (36 + h.lbloff) ((h.objtoff - h.lbloff) / 8) ++ record_sites (36 + h.typeoff) (types ctf))
+
+-- a reference names nothing
+unfoldable pub bad_name : Lists → Option ℕ
+bad_name s = first_nameless (tables s) (sites s.ctf)
+
+-- ---- the table
+
+-- the rules of the header, numbered from 1
+abbrev pub header_rules : List (List ℕ → Option ℕ)
+header_rules = too_short ∷ bad_magic ∷ bad_version ∷ compressed ∷ short_header ∷ bad_order ∷ bad_align ∷ past_end ∷ bad_strings ∷ []
+
+abbrev pub on_ctf : (List ℕ → Option ℕ) → Lists → Option ℕ
+on_ctf rule s = rule s.ctf
+
+-- all rules, numbered from 1
+unfoldable pub rules : List (Lists → Option ℕ)
+rules = map on_ctf header_rules ++ truncated ∷ bad_kind ∷ too_many ∷ bad_name ∷ []
+
+-- a fault at the place, if there is one, else what comes later
+abbrev pub or_later : ℕ → Option ℕ → Option Fault → Option Fault
+or_later code None later = later
+or_later code (Some place) later = Some (record { code = code; place = place })
+
+-- the first of the rules that is broken, at its least place; they are numbered from a code on
+abbrev pub first_broken : {S : Type 0} → ℕ → List (S → Option ℕ) → S → Option Fault
+first_broken code [] s = None
+first_broken code (rule ∷ rules) s = or_later code (rule s) (first_broken (code + 1) rules s)
+
+-- the first fault of a header
+abbrev pub header_fault : List ℕ → Option Fault
+header_fault ctf = first_broken 1 header_rules ctf
+
+-- the first fault of a dictionary
+unfoldable pub first_fault : Lists → Option Fault
+first_fault s = first_broken 1 rules s

@@ -1,0 +1,90 @@
+-- The rules that a dictionary keeps, each as a fact about the whole lists. Source: ours, over the layout of ctf(5).
+use Rattle.std.specs.Prelude.{◌≡◌, ◌≢◌, ◌<◌, ◌≤◌, ℕ, ◌+◌, ◌%◌, List, [], ◌∷◌, length, slice_index, slice_index_or, Option, None, MatchOption, Any, ◌⊎◌}
+use Rattle.ctf_model.specs.Bytes.{u16_at}
+use Rattle.ctf_model.specs.Faults.{Site, sites}
+use Rattle.ctf_model.specs.Header.{Fields, fields, section}
+use Rattle.ctf_model.specs.Lists.{Lists, tables}
+use Rattle.ctf_model.specs.Name.{name}
+use Rattle.ctf_model.specs.Record.{kind}
+use Rattle.ctf_model.specs.Section.{IsCut}
+use Rattle.ctf_model.specs.declared.faults.Fault.{Fault}
+use Rattle.ctf_model.specs.declared.sections.Section.TheVariants.{STypes, SStrings}
+
+-- ---- each rule, whatever the rules before it say: the lists break it at a place
+
+abbrev pub TooShort : Lists → ℕ → Type 0
+TooShort s place = (place ≡ 0) × (length s.ctf < 4)
+
+abbrev pub BadMagic : Lists → ℕ → Type 0
+BadMagic s place = (place ≡ 0) × (u16_at s.ctf 0 ≢ 0xcff1)
+
+abbrev pub BadVersion : Lists → ℕ → Type 0
+BadVersion s place = (place ≡ 0) × (slice_index s.ctf 2 ≢ 2)
+
+abbrev pub IsCompressed : Lists → ℕ → Type 0
+IsCompressed s place = (place ≡ 0) × (slice_index s.ctf 3 % 2 ≡ 1)
+
+abbrev pub ShortHeader : Lists → ℕ → Type 0
+ShortHeader s place = (place ≡ 0) × (length s.ctf < 36)
+
+-- a section begins before the one in front of it
+abbrev pub IsOutOfOrder : Fields → Type 0
+IsOutOfOrder h = (h.objtoff < h.lbloff) ⊎ (h.funcoff < h.objtoff) ⊎ (h.typeoff < h.funcoff) ⊎ (h.stroff < h.typeoff)
+
+abbrev pub BadOrder : Lists → ℕ → Type 0
+BadOrder s place = (place ≡ 0) × IsOutOfOrder (fields s.ctf)
+
+abbrev pub IsMisaligned : Fields → Type 0
+IsMisaligned h = (0 < h.lbloff % 4) ⊎ (0 < h.objtoff % 2) ⊎ (0 < h.funcoff % 2) ⊎ (0 < h.typeoff % 4)
+
+abbrev pub BadAlign : Lists → ℕ → Type 0
+BadAlign s place = (place ≡ 0) × IsMisaligned (fields s.ctf)
+
+abbrev pub PastEnd : Lists → ℕ → Type 0
+PastEnd s place = (place ≡ 0) × (length s.ctf < 36 + (fields s.ctf).stroff + (fields s.ctf).strlen)
+
+abbrev pub BadStrings : Lists → ℕ → Type 0
+BadStrings s place = (place ≡ 0) × (0 < length (section s.ctf SStrings)) × (slice_index (section s.ctf SStrings) 0 ≢ 0)
+
+-- what stands where no whole record does has a kind, but one that isn't known
+abbrev pub HasUnknownKind : List ℕ → Type 0
+HasUnknownKind rest = (8 ≤ length rest) × (kind rest ≡ None)
+
+-- after the last whole record something stands, which is cut off
+abbrev pub Truncated : Lists → ℕ → Type 0
+Truncated s place = (parts : List (List ℕ)) × (rest : List ℕ) × IsCut (section s.ctf STypes) parts rest × (0 < length rest) × (¬ HasUnknownKind rest) × (place ≡ length parts + 1)
+
+-- after the last whole record something stands, whose kind isn't known
+abbrev pub BadKind : Lists → ℕ → Type 0
+BadKind s place = (parts : List (List ℕ)) × (rest : List ℕ) × IsCut (section s.ctf STypes) parts rest × HasUnknownKind rest × (place ≡ length parts + 1)
+
+abbrev pub TooMany : Lists → ℕ → Type 0
+TooMany s place = (parts : List (List ℕ)) × (rest : List ℕ) × IsCut (section s.ctf STypes) parts rest × (32766 < length parts) × (place ≡ 32767)
+
+-- a name reference that stands at the place names nothing
+abbrev pub BadName : Lists → ℕ → Type 0
+BadName s place = Any (λ site. (site.place ≡ place) × (name (tables s) site.reference ≡ None)) (sites s.ctf)
+
+-- ---- the first fault
+
+-- no rule has the number 0
+abbrev pub Never : Lists → ℕ → Type 0
+Never s place = ⊥
+
+-- the rules by their numbers
+abbrev pub rules : List (Lists → ℕ → Type 0)
+rules = Never ∷ TooShort ∷ BadMagic ∷ BadVersion ∷ IsCompressed ∷ ShortHeader ∷ BadOrder ∷ BadAlign ∷ PastEnd ∷ BadStrings ∷ Truncated ∷ BadKind ∷ TooMany ∷ BadName ∷ []
+
+-- the rule of a number is broken at the place
+abbrev pub IsBroken : Lists → ℕ → ℕ → Type 0
+IsBroken s number place = slice_index_or rules number Never s place
+
+-- no rule below a number is broken anywhere
+abbrev pub Keeps : Lists → ℕ → Type 0
+Keeps s number = (rule : ℕ) → rule < number → (place : ℕ) → IsBroken s rule place → ⊥
+
+-- the least rule that is broken, at its least place
+pub record IsFirstFault (s : Lists) (f : Fault) : Type 0 where
+  pub broken : IsBroken s f.code f.place
+  pub earlier : Keeps s f.code
+  pub least : (place : ℕ) → place < f.place → IsBroken s f.code place → ⊥

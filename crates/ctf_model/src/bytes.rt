@@ -1,0 +1,87 @@
+//! Lists of bytes that are owned, seen by contracts as lists.
+ghost use Rattle.std.specs.Prelude.{◌≡◌, ◌≤◌, ◌++◌, [], length, vec_len, IfOk, OnOk, OnErr};
+
+use std::alloc::{AllocError, Global};
+use std::marker::Model;
+
+/// The greatest length of a list in a request, in bytes.
+pub const LONGEST_PIECE: usize = 1_048_576;
+
+/// A list of bytes.
+#[derive(Drop)]
+pub struct Bytes {
+    bytes: Vec<u8>,
+}
+
+impl Model for Bytes {
+    ghost use Rattle.std.specs.Prelude.{ℕ, List};
+
+    ghost Value = { List ℕ };
+
+    ghost view = { λ b. b.bytes.items };
+}
+
+impl Bytes {
+    pub fn new(alloc: Global) -> Bytes
+        ensures { result ≡ [] }
+    {
+        Bytes {
+            bytes: Vec::new(alloc),
+        }
+    }
+
+    pub fn as_slice(&self) -> &[u8]
+        ensures { result.now ≡ self.now }
+    {
+        &self.bytes
+    }
+}
+
+impl From<Vec<u8>> for Bytes {
+    ghost from_gives = { λ v b. b ≡ v.items };
+
+    fn from(bytes: Vec<u8>) -> Bytes {
+        Bytes { bytes }
+    }
+}
+
+/// A list of bytes that a request brings: at most `LONGEST_PIECE` of them.
+#[derive(Drop)]
+pub struct Piece {
+    bytes: Vec<u8>,
+}
+
+impl Model for Piece {
+    ghost use Rattle.std.specs.Prelude.{ℕ, List, ◌≤◌, vec_len};
+    ghost use Rattle.ctf_model.specs.declared.bytes.TheConstants.{LONGEST_PIECE};
+
+    ghost Value = { List ℕ };
+
+    ghost view = { λ p. p.bytes.items };
+
+    ghost invariant = { λ p. vec_len p.bytes ≤ LONGEST_PIECE };
+}
+
+impl Piece {
+    pub fn new(bytes: Vec<u8>) -> Piece
+        requires { vec_len bytes ≤ LONGEST_PIECE }
+        ensures { result ≡ bytes.items }
+    {
+        Piece { bytes }
+    }
+
+    pub fn as_slice(&self) -> &[u8]
+        ensures bytes { result.now ≡ self.now }
+        ensures short { length result.now ≤ LONGEST_PIECE }
+    {
+        &self.bytes
+    }
+
+    /// The bytes, handed back without copying.
+    pub fn into_vec(self) -> Vec<u8>
+        ensures bytes { result.items ≡ self }
+        ensures short { vec_len result ≤ LONGEST_PIECE }
+    {
+        self.bytes
+    }
+}
