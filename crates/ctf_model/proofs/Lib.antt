@@ -1,1 +1,4 @@
 pub mod Nameless
+pub mod Prefix
+pub mod Unique
+pub mod Walk

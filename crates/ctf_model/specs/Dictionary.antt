@@ -1,5 +1,5 @@
 -- What the bytes of a dictionary denote. Source: ctf(5); a child is told by its parent's name (ours).
-use Rattle.std.specs.Prelude.{◌≡◌, ◌<◌, ◌≤◌, ℕ, zero, suc, ◌+◌, ◌-◌, ◌/◌, ◌==◌, not, Bool, List, [], ◌∷◌, length, drop, Option, Some, None, Result, Ok, Err, unwrap_or, if◌then◌else◌}
+use Rattle.std.specs.Prelude.{◌≡◌, ◌<◌, ◌≤◌, ℕ, zero, suc, ◌/◌, ◌==◌, not, Bool, List, [], ◌∷◌, length, drop, Option, Some, None, Result, Ok, Err, unwrap_or}
 use Rattle.ctf_model.specs.Bytes.{u32_at}
 use Rattle.ctf_model.specs.Faults.{first_fault, types}
 use Rattle.ctf_model.specs.Header.{fields, section}

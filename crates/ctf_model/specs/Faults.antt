@@ -1,12 +1,13 @@
 -- The first fault of a dictionary: a table of rules, each with the least place where it is broken, or none.
 -- The rules themselves are ours, over the layout of ctf(5); Rules.antt says them as facts.
-use Rattle.std.specs.Prelude.{◌≡◌, ℕ, zero, suc, ◌+◌, ◌-◌, ◌/◌, ◌%◌, ◌++◌, Result, Ok, Err, is_none, ◌==◌, ◌||◌, ◌&&◌, not, nat_lt, Bool, List, [], ◌∷◌, length, map, slice_index, Option, Some, None, if◌then◌else◌}
+use Rattle.std.specs.Prelude.{ℕ, zero, suc, ◌+◌, ◌-◌, ◌/◌, ◌%◌, ◌++◌, Result, Ok, Err, is_none, ◌==◌, ◌||◌, ◌&&◌, not, nat_lt, Bool, List, [], ◌∷◌, length, map, slice_index, Option, Some, None, if◌then◌else◌}
 use Rattle.ctf_model.specs.Bytes.{u16_at, u32_at}
 use Rattle.ctf_model.specs.Header.{Fields, fields, section}
 use Rattle.ctf_model.specs.Lists.{Lists, tables}
 use Rattle.ctf_model.specs.Name.{Tables, name}
 use Rattle.ctf_model.specs.Section.{Piece, records}
 use Rattle.ctf_model.specs.declared.faults.Fault.{Fault}
+use Rattle.ctf_model.specs.declared.faults.TheConstants.Fault.{TRUNCATED, BAD_KIND}
 use Rattle.ctf_model.specs.declared.sections.Section.TheVariants.{STypes}
 
 -- a rule that says no place
@@ -76,11 +77,11 @@ place_of code (Some f) = if f.code == code then Some f.place else None
 
 -- a record is cut off
 abbrev pub truncated : Lists → Option ℕ
-truncated s = place_of 10 (walk_fault (types s.ctf))
+truncated s = place_of TRUNCATED (walk_fault (types s.ctf))
 
 -- a record's kind isn't known
 abbrev pub bad_kind : Lists → Option ℕ
-bad_kind s = place_of 11 (walk_fault (types s.ctf))
+bad_kind s = place_of BAD_KIND (walk_fault (types s.ctf))
 
 -- more records than 32,766 (ours: a child's last number would be the mark of the long form)
 abbrev pub too_many : Lists → Option ℕ

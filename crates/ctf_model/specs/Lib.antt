@@ -5,6 +5,7 @@ pub mod Term
 pub mod Record
 pub mod Section
 pub mod Lists
+pub mod Laws
 pub mod Faults
 pub mod Rules
 pub mod Dictionary

@@ -1,7 +1,7 @@
 -- The rules that a dictionary keeps, each as a fact about the whole lists. Source: ours, over the layout of ctf(5).
-use Rattle.std.specs.Prelude.{◌≡◌, ◌≢◌, ◌<◌, ◌≤◌, ℕ, ◌+◌, ◌%◌, List, [], ◌∷◌, length, slice_index, slice_index_or, Option, None, MatchOption, Any, ◌⊎◌}
+use Rattle.std.specs.Prelude.{◌≡◌, ◌≢◌, ◌<◌, ◌≤◌, ℕ, ◌+◌, ◌%◌, List, [], ◌∷◌, length, slice_index, slice_index_or, None, Any, ◌⊎◌}
 use Rattle.ctf_model.specs.Bytes.{u16_at}
-use Rattle.ctf_model.specs.Faults.{Site, sites}
+use Rattle.ctf_model.specs.Faults.{sites}
 use Rattle.ctf_model.specs.Header.{Fields, fields, section}
 use Rattle.ctf_model.specs.Lists.{Lists, tables}
 use Rattle.ctf_model.specs.Name.{name}

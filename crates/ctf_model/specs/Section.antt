@@ -3,6 +3,7 @@ use Rattle.std.specs.Prelude.{◌≡◌, ℕ, zero, suc, ◌+◌, ◌&&◌, List
 use Rattle.std.specs.Option.{option_and_then}
 use Rattle.std.specs.List.{concat, AllByRecursion}
 use Rattle.ctf_model.specs.declared.faults.Fault.{Fault}
+use Rattle.ctf_model.specs.declared.faults.TheConstants.Fault.{TRUNCATED, BAD_KIND}
 use Rattle.ctf_model.specs.Name.{Tables}
 use Rattle.ctf_model.specs.Term.{Term}
 use Rattle.ctf_model.specs.Record.{IsWhole, Spells, head_len, variant_len, size, vlen, kind}
@@ -42,7 +43,7 @@ pub record Piece : Type 0 where
 
 -- the fault of bytes that no whole record begins: a kind that isn't known, else a record that is cut off
 abbrev pub stop_code : List ℕ → ℕ
-stop_code b = if nat_le 8 (length b) && is_none (kind b) then 11 else 10
+stop_code b = if nat_le 8 (length b) && is_none (kind b) then BAD_KIND else TRUNCATED
 
 -- a record and what comes later, or the fault and nothing
 abbrev pub step : List ℕ → ℕ → ℕ → (ℕ → List (Result Piece Fault)) → Option ℕ → List (Result Piece Fault)

@@ -3,14 +3,15 @@ use Rattle.std.specs.Prelude.{ℕ, ◌-◌, ◌==◌, nat_le, nat_lt, List, Opti
 use Rattle.ctf_model.specs.Dictionary.{Dictionary}
 use Rattle.ctf_model.specs.Term.{Term}
 use Rattle.ctf_model.specs.declared.faults.Fault.{Fault}
+use Rattle.ctf_model.specs.declared.faults.TheConstants.Fault.{NO_TYPE, NO_PARENT}
 
 -- no type has the number
 abbrev pub no_type : Fault
-no_type = record { code = 24; place = 0 }
+no_type = record { code = NO_TYPE; place = 0 }
 
 -- a parent's type is asked for, and no parent was imported
 abbrev pub no_parent : Fault
-no_parent = record { code = 23; place = 0 }
+no_parent = record { code = NO_PARENT; place = 0 }
 
 abbrev pub or_no_type : Option Term → Result Term Fault
 or_no_type None = Err no_type

@@ -1,4 +1,4 @@
-use Rattle.std.proofs.Common.{arith, ◌≡◌}
+use Rattle.std.proofs.Common.{arith}
 use Rattle.ctf_model.proofs.Nameless.{nameless}
 use Rattle.ctf_model.proofs.faults.fault_name.Goals as goal
 

@@ -1,0 +1,57 @@
+-- No whole record begins another.
+use Rattle.std.proofs.Common.{◌≡◌, ℕ, ◌+◌, ◌≤◌, Bool, true, false, List, [], ◌++◌, length, take, drop, Option, Some, None, refl, sym, ap, subst, ◌∙◌, arith}
+use Rattle.std.specs.Prelude.{MatchOption}
+use Rattle.std.proofs.lemmas.List.{take-append-le, drop-append-le, length-append, length-drop, nil_from_length}
+use Rattle.ctf_model.specs.declared.kinds.Kind.{Kind}
+use Rattle.ctf_model.specs.Bytes.{number, u16_at, u32_at}
+use Rattle.ctf_model.specs.Record.{info, field, is_long, head_len, size, vlen, kind, variant_len, IsWhole, IsWholeAt}
+
+-- a piece inside a list is the same with more bytes behind
+pub piece-append : (a x : List ℕ) (at n : ℕ) → at + n ≤ length a → take n (drop at (a ++ x)) ≡ take n (drop at a)
+piece-append a x at n h =
+    let inside : at ≤ length a = omega arith in
+    let room : n ≤ length (drop at a) = omega (arith, length-drop at a) in
+    rw (drop-append-le, take-append-le) refl
+
+pub u16-append : (a x : List ℕ) (at : ℕ) → at + 2 ≤ length a → u16_at (a ++ x) at ≡ u16_at a at
+u16-append a x at h = ap number (piece-append a x at 2 h)
+
+pub u32-append : (a x : List ℕ) (at : ℕ) → at + 4 ≤ length a → u32_at (a ++ x) at ≡ u32_at a at
+u32-append a x at h = ap number (piece-append a x at 4 h)
+
+field-append : (a x : List ℕ) → 8 ≤ length a → field (a ++ x) ≡ field a
+field-append a x h = u16-append a x 6 (omega arith)
+
+size-append : (a x : List ℕ) (long : Bool) → is_long a ≡ long → 8 ≤ length a → head_len a ≤ length a → size (a ++ x) ≡ size a
+size-append a x true e low h =
+    let wide : 16 ≤ length a = (rw e at h) in
+    rw (field-append a x low, e, u32-append a x 8 (omega arith), u32-append a x 12 (omega arith)) refl
+size-append a x false e low h = rw (field-append a x low, e) refl
+
+same_kind : {A : Type 0} (x y : A) → Some x ≡ Some y → x ≡ y
+same_kind x y e = cc
+
+record_len-append : (a x : List ℕ) (k : Kind) → IsWholeAt a k → head_len (a ++ x) + variant_len k (size (a ++ x)) (vlen (a ++ x)) ≡ length a
+record_len-append a x k p =
+    let low = p.has_head in
+    let enough : head_len a ≤ length a = omega (arith, p.ends) in
+    rw (size-append a x (is_long a) refl low enough, field-append a x low, u16-append a x 4 (omega arith)) (sym p.ends)
+
+at_kinds : (a x : List ℕ) (o o' : Option Kind) → o' ≡ o → MatchOption o ⊥ (IsWholeAt a) → MatchOption o' ⊥ (IsWholeAt (a ++ x)) → x ≡ []
+at_kinds a x None o' e p q = absurd p
+at_kinds a x (Some k) None e p q = absurd q
+at_kinds a x (Some k) (Some k') e p q =
+    let same : k' ≡ k = cc in
+    let q' : IsWholeAt (a ++ x) k = subst (IsWholeAt (a ++ x)) same q in
+    let len : length (a ++ x) ≡ length a = q'.ends ∙ record_len-append a x k p in
+    let none : length x ≡ 0 = omega (arith, length-append a x) in nil_from_length x none
+
+has_head : (o : Option Kind) (a : List ℕ) → MatchOption o ⊥ (IsWholeAt a) → 8 ≤ length a
+has_head None a p = absurd p
+has_head (Some k) a p = p.has_head
+
+pub IsWhole-prefix : (a x : List ℕ) → IsWhole a → IsWhole (a ++ x) → x ≡ []
+unfolding IsWhole
+IsWhole-prefix a x p q =
+    let same : info (a ++ x) ≡ info a = u16-append a x 4 (let h = has_head (kind a) a p in omega arith) in
+    at_kinds a x (kind a) (kind (a ++ x)) (rw same refl) p q

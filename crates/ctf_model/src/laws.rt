@@ -1,0 +1,14 @@
+//! Laws over the definitions alone. Each is the contract of a function that does nothing.
+ghost use Rattle.ctf_model.specs.Laws.{NoRecordBeginsAnother, SectionSpellsOneList};
+
+/// No whole record is the beginning of another.
+pub fn no_record_begins_another()
+    ensures { NoRecordBeginsAnother }
+{
+}
+
+/// A section spells at most one list of types.
+pub fn section_spells_one_list()
+    ensures { SectionSpellsOneList }
+{
+}
