@@ -64,15 +64,15 @@ terms_in t (Err f ∷ rest) = terms_in t rest
 -- what the lists say, where they break no rule
 unfoldable pub said_by : Lists → Dictionary
 said_by s =
-  let t = tables s in
-  let h = fields s.ctf in
-  record {
-    child = not (h.parname == 0);
-    parname = name_or_empty t h.parname;
-    parlabel = name_or_empty t h.parlabel;
-    labels = labels_in t (length (section s.ctf SLabels) / 8) (section s.ctf SLabels);
-    terms = terms_in t (types s.ctf);
-  }
+    let t = tables s in
+    let h = fields s.ctf in
+    record {
+      child = not (h.parname == 0);
+      parname = name_or_empty t h.parname;
+      parlabel = name_or_empty t h.parlabel;
+      labels = labels_in t (length (section s.ctf SLabels) / 8) (section s.ctf SLabels);
+      terms = terms_in t (types s.ctf);
+    }
 
 abbrev pub unless_fault : Option Fault → Dictionary → Option Dictionary
 unless_fault None d = Some d

@@ -113,9 +113,9 @@ record_sites start (Err f ∷ rest) = []
 -- every name reference by rising place: those of the header, of the labels, of the records
 unfoldable pub sites : List ℕ → List Site
 sites ctf =
-  let h = fields ctf in
-  record { place = 4; reference = h.parlabel } ∷ record { place = 8; reference = h.parname }
-  ∷ (label_sites ctf (36 + h.lbloff) ((h.objtoff - h.lbloff) / 8) ++ record_sites (36 + h.typeoff) (types ctf))
+    let h = fields ctf in
+    record { place = 4; reference = h.parlabel } ∷ record { place = 8; reference = h.parname }
+    ∷ (label_sites ctf (36 + h.lbloff) ((h.objtoff - h.lbloff) / 8) ++ record_sites (36 + h.typeoff) (types ctf))
 
 -- a reference names nothing
 unfoldable pub bad_name : Lists → Option ℕ

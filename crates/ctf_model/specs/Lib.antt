@@ -10,5 +10,11 @@ pub mod Faults
 pub mod Rules
 pub mod Dictionary
 pub mod TypeNumbers
+pub mod State
+pub mod Steps
+pub mod Runs
 pub mod FaultNames
 pub mod Lines
+pub mod Ask
+pub mod ReplyLines
+pub mod Output

@@ -77,8 +77,8 @@ IsWhole b = MatchOption (kind b) (⊥) (IsWholeAt b)
 -- size, and the encoding word behind the head: 8 bits of flags, 8 of offset, 16 of width
 abbrev pub scalar : List ℕ → Scalar
 scalar b =
-  let word = u32_at b (head_len b) in
-  record { size = size b; encoding = word / 2 ^ 24; offset = word / 2 ^ 16 % 256; bits = word % 2 ^ 16 }
+    let word = u32_at b (head_len b) in
+    record { size = size b; encoding = word / 2 ^ 24; offset = word / 2 ^ 16 % 256; bits = word % 2 ^ 16 }
 
 -- what the record says by its kind
 abbrev pub body_of : Tables → List ℕ → Kind → Option Body

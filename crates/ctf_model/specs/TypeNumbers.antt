@@ -29,10 +29,10 @@ in_parent (Some parent) n = type_numbered parent.terms n
 -- in a child: its own types count from 0x8001, and the numbers below 0x8000 are the parent's
 abbrev pub type_in_child : List Term → Option Dictionary → ℕ → Result Term Fault
 type_in_child own parent n =
-  if nat_lt 0x8000 n then or_no_type (slice_get own (n - 0x8001))
-  else if n == 0x8000 then Err no_type
-  else if n == 0 then Err no_type
-  else in_parent parent n
+    if nat_lt 0x8000 n then or_no_type (slice_get own (n - 0x8001))
+    else if n == 0x8000 then Err no_type
+    else if n == 0 then Err no_type
+    else in_parent parent n
 
 -- the type that a number names in a dictionary with its imported parent, or none
 abbrev pub type_at : Dictionary → Option Dictionary → ℕ → Result Term Fault

@@ -13,65 +13,125 @@ pub struct Fault {
 
 impl Fault {
     pub const MEMORY: u16 = 0;
+
     pub const TOO_SHORT: u16 = 1;
+
     pub const BAD_MAGIC: u16 = 2;
+
     pub const BAD_VERSION: u16 = 3;
+
     pub const COMPRESSED: u16 = 4;
+
     pub const SHORT_HEADER: u16 = 5;
+
     pub const BAD_ORDER: u16 = 6;
+
     pub const BAD_ALIGN: u16 = 7;
+
     pub const PAST_END: u16 = 8;
+
     pub const BAD_STRINGS: u16 = 9;
+
     pub const TRUNCATED: u16 = 10;
+
     pub const BAD_KIND: u16 = 11;
+
     pub const TOO_MANY: u16 = 12;
+
     pub const BAD_NAME: u16 = 13;
+
     pub const BAD_REFERENCE: u16 = 14;
+
     pub const VALUE_DEEP: u16 = 15;
+
     pub const DECL_DEEP: u16 = 16;
+
     pub const BAD_FUNCS: u16 = 17;
+
     pub const BAD_SYMBOL_TYPE: u16 = 18;
+
     pub const BAD_SYMTAB: u16 = 19;
+
     pub const NOT_CHILD: u16 = 20;
+
     pub const PARENT_IS_CHILD: u16 = 21;
+
     pub const PARENT_SHORT: u16 = 22;
+
     pub const NO_PARENT: u16 = 23;
+
     pub const NO_TYPE: u16 = 24;
+
     pub const NOT_REFERENCE: u16 = 25;
+
     pub const INCOMPLETE: u16 = 26;
+
     pub const TOO_BIG: u16 = 27;
+
     pub const NO_MEMBER: u16 = 28;
+
     pub const NOT_AGGREGATE: u16 = 29;
+
     pub const WRONG_KIND: u16 = 30;
+
     pub const TOO_LONG: u16 = 31;
+
     pub const NOT_FOUND: u16 = 32;
+
     pub const BAD_SYNTAX: u16 = 33;
+
     pub const NO_SYMBOL: u16 = 34;
+
     pub const NOT_DATA: u16 = 35;
+
     pub const NOT_FUNCTION: u16 = 36;
+
     pub const NO_INFO: u16 = 37;
+
     pub const NO_LABEL: u16 = 38;
+
     pub const BAD_REF: u16 = 39;
+
     pub const FULL: u16 = 40;
+
     pub const DUPLICATE: u16 = 41;
+
     pub const SETTLED: u16 = 42;
+
     pub const VLEN_FULL: u16 = 43;
+
     pub const DEEP_MEMBER: u16 = 44;
+
     pub const BAD_OFFSET: u16 = 45;
+
     pub const NAME_HAS_ZERO: u16 = 46;
+
     pub const DICT_TOO_BIG: u16 = 47;
+
     pub const SHORT_MEMORY: u16 = 48;
+
     pub const NO_SLOT: u16 = 49;
+
     pub const SLOTS_FULL: u16 = 50;
+
     pub const STAGE_FULL: u16 = 51;
+
     pub const READ_ONLY: u16 = 52;
+
     pub const NAME_TAKEN: u16 = 53;
+
     pub const NOT_PUBLISHED: u16 = 54;
+
     pub const NOT_UPDATED: u16 = 55;
+
     pub const LONG_REPLY: u16 = 56;
+
     pub const NOT_JSON: u16 = 57;
+
     pub const BAD_REQUEST: u16 = 58;
+
     pub const LONG_LINE: u16 = 59;
+
     pub const FIXED_PARENT: u16 = 62;
 }
 

@@ -4,11 +4,9 @@ ghost use Rattle.ctf_model.specs.Laws.{NoRecordBeginsAnother, SectionSpellsOneLi
 /// No whole record is the beginning of another.
 pub fn no_record_begins_another()
     ensures { NoRecordBeginsAnother }
-{
-}
+{}
 
 /// A section spells at most one list of types.
 pub fn section_spells_one_list()
     ensures { SectionSpellsOneList }
-{
-}
+{}

@@ -1,0 +1,98 @@
+-- What a line asks. What is JSON is serde_json's reading of it; all else is ours.
+use Rattle.std.specs.Prelude.{ℕ, ◌&&◌, List, length, Bool, Option, None, Some, Result, Ok, Err, option_and_then, nat_le, nat_lt, nat_eq, codes, if◌then◌else◌}
+use Rattle.std.specs.Cmp.Lexicographic.{pointwise}
+use Rattle.std.specs.Option.{option_map}
+use Rattle.std.specs.Result.{result_ok}
+use Rattle.std.specs.Str.{is_utf8}
+use Rattle.hex.specs.Hex.{decode_of}
+use Rattle.serde_json.specs.Data.{Data}
+use Rattle.serde_json.specs.Find.{get, as_number, as_u64, as_str}
+use Rattle.serde_json.specs.Read.{read}
+use Rattle.ctf_model.specs.Lines.{longest_line}
+use Rattle.ctf_model.specs.declared.bytes.TheConstants.{LONGEST_PIECE}
+use Rattle.ctf_model.specs.declared.faults.Fault.{Fault}
+use Rattle.ctf_model.specs.declared.faults.TheConstants.Fault.{NOT_JSON, BAD_REQUEST, LONG_LINE}
+use Rattle.ctf_model.specs.declared.numbers.TypeNum.{TypeNum}
+use Rattle.ctf_model.specs.declared.requests.ListName.{ListName}
+use Rattle.ctf_model.specs.declared.requests.ListName.TheVariants.{Ctf, Str}
+use Rattle.ctf_model.specs.declared.requests.Request.{Request}
+use Rattle.ctf_model.specs.declared.requests.Request.TheVariants.{DoPart, DoOpen, DoKind, DoReset}
+
+-- two texts are the same
+abbrev pub is_word : List ℕ → List ℕ → Bool
+is_word w v = pointwise nat_eq w v
+
+-- ---- fields
+
+-- n, where it is from low to high
+abbrev pub within : ℕ → ℕ → ℕ → Option ℕ
+within low high n = if nat_le low n && nat_le n high then Some n else None
+
+-- the number of a field, where it is there and in its range
+abbrev pub number_in : ℕ → ℕ → List ℕ → Data → Option ℕ
+number_in low high key line = option_and_then (within low high) (option_and_then as_u64 (option_and_then as_number (get key line)))
+
+-- the text of a field
+abbrev pub text_in : List ℕ → Data → Option (List ℕ)
+text_in key line = option_and_then as_str (get key line)
+
+-- bytes that are no more than a request may bring
+abbrev pub not_too_many : List ℕ → Option (List ℕ)
+not_too_many bytes = if nat_le (length bytes) LONGEST_PIECE then Some bytes else None
+
+-- the bytes of an even number of hexadecimal digits, of either case
+abbrev pub bytes_spelled : List ℕ → Option (List ℕ)
+bytes_spelled digits = option_and_then not_too_many (result_ok (decode_of digits))
+
+abbrev pub list_named : List ℕ → Option ListName
+list_named w = if is_word w (codes "ctf") then Some Ctf else if is_word w (codes "str") then Some Str else None
+
+-- ---- words, each with its fields
+
+abbrev pub slot_asked : Data → Option ℕ
+slot_asked line = number_in 1 4294967295 (codes "d") line
+
+abbrev pub type_asked : Data → Option TypeNum
+type_asked line = option_map (λ t. record { 0 = t }) (number_in 0 65535 (codes "t") line)
+
+abbrev pub kind_asked : Data → Option Request
+kind_asked line = option_and_then (λ d. option_map (λ t. DoKind d t) (type_asked line)) (slot_asked line)
+
+abbrev pub part_asked : Data → Option Request
+part_asked line = option_and_then (λ list. option_map (λ bytes. DoPart list bytes) (option_and_then bytes_spelled (text_in (codes "bytes") line))) (option_and_then list_named (text_in (codes "section") line))
+
+abbrev pub word_asked : List ℕ → Data → Option Request
+word_asked w line =
+    if is_word w (codes "kind") then kind_asked line
+    else if is_word w (codes "part") then part_asked line
+    else if is_word w (codes "open") then Some DoOpen
+    else if is_word w (codes "reset") then Some DoReset
+    else None
+
+abbrev pub request_asked : Data → Option Request
+request_asked line = option_and_then (λ w. word_asked w line) (text_in (codes "op") line)
+
+-- ---- lines
+
+abbrev pub placeless : ℕ → Fault
+placeless code = record { code = code; place = 0 }
+
+abbrev pub or_bad_request : ℕ → Option Request → Result (ℕ × Request) (ℕ × Fault)
+or_bad_request s None = Err (s, placeless BAD_REQUEST)
+or_bad_request s (Some request) = Ok (s, request)
+
+abbrev pub asked_by : Data → Option ℕ → Result (ℕ × Request) (ℕ × Fault)
+asked_by line None = Err (0, placeless BAD_REQUEST)
+asked_by line (Some s) = or_bad_request s (request_asked line)
+
+abbrev pub value_asked : Option Data → Result (ℕ × Request) (ℕ × Fault)
+value_asked None = Err (0, placeless NOT_JSON)
+value_asked (Some line) = asked_by line (number_in 1 4294967295 (codes "s") line)
+
+-- the value of a line; bytes that are no text aren't JSON
+abbrev pub json : List ℕ → Option Data
+json line = if is_utf8 line then read line else None
+
+-- a line's session and request, or its session or 0 and the refusal
+unfoldable pub ask : List ℕ → Result (ℕ × Request) (ℕ × Fault)
+ask line = if nat_lt longest_line (length line) then Err (0, placeless LONG_LINE) else value_asked (json line)

@@ -1,0 +1,81 @@
+-- Runs of one session by itself, and of many sessions together. Source: ours. A history is a list, the newest first.
+use Rattle.std.specs.Prelude.{◌≡◌, ◌≢◌, ℕ, ◌==◌, List, [], ◌∷◌, Bool, true, false, Option, None, Result, Ok, Err, if◌then◌else◌}
+use Rattle.ctf_model.specs.Lists.{Lists}
+use Rattle.ctf_model.specs.State.{State}
+use Rattle.ctf_model.specs.Steps.{step, Outcome}
+use Rattle.ctf_model.specs.declared.faults.TheConstants.Fault.{MEMORY}
+use Rattle.ctf_model.specs.declared.faults.Fault.{Fault}
+use Rattle.ctf_model.specs.declared.replies.Answer.{Answer}
+use Rattle.ctf_model.specs.declared.replies.Reply.{Reply}
+use Rattle.ctf_model.specs.declared.requests.Request.{Request}
+use Rattle.ctf_model.specs.declared.requests.Request.TheVariants.{DoPart, DoOpen, DoKind, DoReset}
+
+-- ---- a session by itself
+
+-- a request with what its take found
+pub record Given : Type 0 where
+  pub request : Request
+  pub found : Option Lists
+
+-- a private library after a history of requests
+abbrev pub private_state : State → List Given → State
+private_state start [] = start
+private_state start (now ∷ earlier) = (step (private_state start earlier) now.request now.found).state
+
+-- its replies, the newest first
+abbrev pub private_replies : State → List Given → List Reply
+private_replies start [] = []
+private_replies start (now ∷ earlier) = (step (private_state start earlier) now.request now.found).reply ∷ private_replies start earlier
+
+-- ---- many sessions
+
+-- a request of a session
+pub record Call : Type 0 where
+  pub session : ℕ
+  pub request : Request
+
+-- what a request finds where each session's library is this; no word takes yet
+abbrev pub found_in : (ℕ → State) → Request → Option Lists
+found_in libraries (DoPart list piece) = None
+found_in libraries DoOpen = None
+found_in libraries (DoKind d t) = None
+found_in libraries DoReset = None
+
+-- what a session was given by a history of all sessions: its own requests, each with what the owner's own run had published
+abbrev pub given : (ℕ → State) → List Call → ℕ → List Given
+given start [] s = []
+given start (call ∷ earlier) s =
+    if call.session == s
+    then record { request = call.request; found = found_in (λ q. private_state (start q) (given start earlier q)) call.request } ∷ given start earlier s
+    else given start earlier s
+
+-- the library of a session's own run after a history of all sessions
+abbrev pub own_state : (ℕ → State) → List Call → ℕ → State
+own_state start calls s = private_state (start s) (given start calls s)
+
+-- ---- one call among many libraries
+
+abbrev pub addressed : ℕ → Reply → Reply
+addressed s reply = record reply { session = s }
+
+-- memory was refused to a request of a session
+abbrev pub no_memory : ℕ → Reply
+no_memory s = record { session = s; outcome = Err (record { code = MEMORY; place = 0 }) }
+
+abbrev pub says_no_memory : Result Answer Fault → Bool
+says_no_memory (Ok answer) = false
+says_no_memory (Err fault) = fault.code == MEMORY
+
+abbrev pub is_no_memory : Reply → Bool
+is_no_memory reply = says_no_memory reply.outcome
+
+-- a step of one library by itself: its definition's outcome, or memory was refused and nothing changed
+pub record Answered (old : State) (outcome : Outcome) (reply : Reply) (new : State) : Type 0 where
+  pub granted : is_no_memory reply ≡ false → (reply ≡ outcome.reply) × (new ≡ outcome.state)
+  pub refused : is_no_memory reply ≡ true → (reply ≡ no_memory 0) × (new ≡ old)
+
+-- only the caller's library changes, by its own step; where memory was refused, it stays too
+pub record Steps (old : ℕ → State) (s : ℕ) (request : Request) (reply : Reply) (new : ℕ → State) : Type 0 where
+  pub granted : is_no_memory reply ≡ false → (reply ≡ addressed s (step (old s) request (found_in old request)).reply) × (new s ≡ (step (old s) request (found_in old request)).state)
+  pub refused : is_no_memory reply ≡ true → (reply ≡ no_memory s) × (new s ≡ old s)
+  pub others : (other : ℕ) → other ≢ s → new other ≡ old other

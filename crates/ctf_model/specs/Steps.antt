@@ -1,0 +1,130 @@
+-- The reply to a request in the library of one session, and what the library is then. Source: ours.
+use Rattle.std.specs.Prelude.{ℕ, ◌+◌, ◌==◌, ◌&&◌, List, [], ◌∷◌, ◌++◌, length, Bool, Option, None, Some, Result, Ok, Err, unwrap_or, nat_lt, nat_le, if◌then◌else◌}
+use Rattle.std.specs.Option.{option_map}
+use Rattle.ctf_model.specs.Dictionary.{said_by}
+use Rattle.ctf_model.specs.Faults.{first_fault}
+use Rattle.ctf_model.specs.Lists.{Lists}
+use Rattle.ctf_model.specs.State.{State, Slot, Stage, empty_state, empty_stage}
+use Rattle.ctf_model.specs.Term.{Term, Body, integer}
+use Rattle.ctf_model.specs.TypeNumbers.{type_at}
+use Rattle.ctf_model.specs.declared.faults.Fault.{Fault}
+use Rattle.ctf_model.specs.declared.faults.TheConstants.Fault.{NO_SLOT, SLOTS_FULL, STAGE_FULL}
+use Rattle.ctf_model.specs.declared.kinds.Kind.{Kind}
+use Rattle.ctf_model.specs.declared.kinds.Kind.TheVariants.{KInteger}
+use Rattle.ctf_model.specs.declared.replies.Answer.{Answer}
+use Rattle.ctf_model.specs.declared.replies.Answer.TheVariants as answers
+use Rattle.ctf_model.specs.declared.replies.Reply.{Reply}
+use Rattle.ctf_model.specs.declared.requests.ListName.{ListName}
+use Rattle.ctf_model.specs.declared.requests.ListName.TheVariants.{Ctf, Str}
+use Rattle.ctf_model.specs.declared.requests.Request.{Request}
+use Rattle.ctf_model.specs.declared.requests.Request.TheVariants.{DoPart, DoOpen, DoKind, DoReset}
+
+-- the reply, not yet addressed to its session, and the library after it
+pub record Outcome : Type 0 where
+  pub reply : Reply
+  pub state : State
+
+abbrev pub outcome_of : Result Answer Fault → State → Outcome
+outcome_of said state = record { reply = record { session = 0; outcome = said }; state = state }
+
+abbrev pub grants : Answer → State → Outcome
+grants answer state = outcome_of (Ok answer) state
+
+-- a refusal leaves the library as it was
+abbrev pub refuses : ℕ → State → Outcome
+refuses code state = outcome_of (Err (record { code = code; place = 0 })) state
+
+-- ---- part
+
+-- the greatest length of a staged list, in bytes
+abbrev pub longest_list : ℕ
+longest_list = 16777216
+
+abbrev pub staged : ListName → Stage → Option (List ℕ)
+staged Ctf stage = stage.ctf
+staged Str stage = stage.strs
+
+abbrev pub with_staged : ListName → List ℕ → Stage → Stage
+with_staged Ctf bytes stage = record stage { ctf = Some bytes }
+with_staged Str bytes stage = record stage { strs = Some bytes }
+
+-- a list becomes this one, if it may be so long
+abbrev pub stages : ListName → List ℕ → State → Outcome
+stages list bytes state =
+    if nat_lt longest_list (length bytes) then refuses STAGE_FULL state
+    else grants (answers.Length (length bytes)) (record state { stage = with_staged list bytes state.stage })
+
+-- a piece goes to the end of a list, which is staged from then on
+abbrev pub parts : ListName → List ℕ → State → Outcome
+parts list piece state = stages list (unwrap_or (staged list state.stage) [] ++ piece) state
+
+-- ---- open
+
+-- how many slots may be in use, and the last number of a slot
+abbrev pub most_slots : ℕ
+most_slots = 255
+
+abbrev pub last_number : ℕ
+last_number = 4294967295
+
+abbrev pub has_room : State → Bool
+has_room state = nat_lt (length state.slots) most_slots && nat_le state.next last_number
+
+-- a list that no part named is empty, or isn't there
+abbrev pub staged_lists : Stage → Lists
+staged_lists stage = record { ctf = unwrap_or stage.ctf []; sym = stage.sym; strs = stage.strs }
+
+-- a new slot for a dictionary, under the next number
+abbrev pub adds_slot : Lists → State → Outcome
+adds_slot lists state =
+    grants (answers.Opened state.next (length (said_by lists).terms))
+    (record state { slots = state.slots ++ record { number = state.next; lists = lists; parent = None } ∷ []; next = state.next + 1 })
+
+-- an accepted dictionary leaves the stage empty
+abbrev pub opens_unless : Option Fault → Lists → State → Outcome
+opens_unless None lists state = adds_slot lists (record state { stage = empty_stage })
+opens_unless (Some fault) lists state = outcome_of (Err fault) state
+
+abbrev pub opens : Lists → State → Outcome
+opens lists state = if has_room state then opens_unless (first_fault lists) lists state else refuses SLOTS_FULL state
+
+-- ---- questions
+
+-- the slot of a number
+abbrev pub slot_at : ℕ → List Slot → Option Slot
+slot_at number [] = None
+slot_at number (slot ∷ slots) = if slot.number == number then Some slot else slot_at number slots
+
+-- a question to a slot leaves the library as it was
+abbrev pub asks : (Slot → Result Answer Fault) → Option Slot → State → Outcome
+asks question None state = refuses NO_SLOT state
+asks question (Some slot) state = outcome_of (question slot) state
+
+-- the type of a number in a slot
+abbrev pub slot_type : ℕ → Slot → Result Term Fault
+slot_type t slot = type_at (said_by slot.lists) (option_map said_by slot.parent) t
+
+abbrev pub kind_of : Body → Kind
+kind_of (integer scalar) = KInteger
+
+abbrev pub kind_said : Result Term Fault → Result Answer Fault
+kind_said (Ok x) = Ok (answers.Kind (kind_of x.body))
+kind_said (Err fault) = Err fault
+
+abbrev pub kind_question : ℕ → Slot → Result Answer Fault
+kind_question t slot = kind_said (slot_type t slot)
+
+-- ---- reset
+
+-- what is published stays
+abbrev pub resets : State → Outcome
+resets state = grants answers.Done (record empty_state { published = state.published })
+
+-- ---- every request
+
+-- what a take found is read by a take alone; no word takes yet
+unfoldable pub step : State → Request → Option Lists → Outcome
+step state (DoPart list piece) found = parts list piece state
+step state DoOpen found = opens (staged_lists state.stage) state
+step state (DoKind d t) found = asks (kind_question t.0) (slot_at d state.slots) state
+step state DoReset found = resets state
