@@ -18,6 +18,7 @@ beyond code bound (row ∷ rows) h le =
     rw other (beyond code bound rows parts.1 le)
 
 at_gap : (code : ℕ) → (code ≡ 60) ⊎ (code ≡ 61) → name_of_fault code ≡ []
+unfolding name_of_fault
 at_gap code (inl e) = rw e refl
 at_gap code (inr e) = rw e refl
 
@@ -25,4 +26,5 @@ gap : (code : ℕ) → 60 ≤ code → code ≢ 62 → code < 63 → (code ≡ 6
 gap code low other high = ⊎_elim (λ lt. inl (omega arith)) (λ le. inr (omega arith)) (cases_lt code 61)
 
 pub nameless : (code : ℕ) → 60 ≤ code → code ≢ 62 → [] ≡ name_of_fault code
+unfolding name_of_fault
 nameless code low other = ⊎_elim (λ lt. sym (at_gap code (gap code low other lt))) (λ le. sym (beyond code 63 fault_names refl le)) (cases_lt code 63)

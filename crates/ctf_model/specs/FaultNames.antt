@@ -71,5 +71,5 @@ abbrev pub name_beside : ℕ → List (ℕ × List ℕ) → List ℕ
 name_beside code [] = []
 name_beside code (row ∷ rows) = if row.0 == code then row.1 else name_beside code rows
 
-abbrev pub name_of_fault : ℕ → List ℕ
+unfoldable pub name_of_fault : ℕ → List ℕ
 name_of_fault code = name_beside code fault_names

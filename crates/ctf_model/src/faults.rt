@@ -136,6 +136,7 @@ impl Fault {
 }
 
 /// The name of a code, as replies and messages show it; the empty text for a code that has none.
+#[tactic(auto, unfolding(crate::specs::FaultNames::name_of_fault))]
 pub fn fault_name(code: u16) -> &'static str
     ensures { result.now ≡ name_of_fault code }
 {

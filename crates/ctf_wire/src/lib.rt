@@ -1,0 +1,9 @@
+//! Lines of requests and replies, the sessions that they belong to, and the run over a reader and a writer.
+#![tactic(auto)]
+
+mod lines;
+mod parts;
+mod reading;
+mod writing;
+
+pub use lines::{FromLine, ToLine};

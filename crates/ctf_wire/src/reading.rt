@@ -1,0 +1,155 @@
+//! Reads the request of a line.
+ghost use Rattle.std.specs.Prelude.{◌≡◌, ◌≢◌, Option, None, Some, IfOk, IfErr, Ok, Err, codes, option_map};
+ghost use Rattle.serde_json.specs.View.{view};
+ghost use Rattle.ctf_model.specs.Ask.{ask, placeless, number_in, text_in, list_named, bytes_spelled, not_too_many, slot_asked, type_asked, kind_asked, part_asked, word_asked, request_asked, value_asked};
+ghost use Rattle.ctf_model.specs.declared.faults.TheConstants.Fault.{MEMORY};
+
+use crate::lines::FromLine;
+use ctf_model::{Fault, LONGEST_PIECE, ListName, Piece, Request, SlotNumber, TypeNum, placeless};
+use hex::FromHexError;
+use serde_json::Value;
+use std::alloc::{AllocError, Global};
+
+/// The longest line that is read, in bytes without its newline.
+pub const LONGEST_LINE: usize = 1_048_576;
+
+impl FromLine for Request {
+    ghost asked = { ask };
+
+    fn read(alloc: Global, line: &[u8]) -> Result<(u32, Request), (u32, Fault)> {
+        if line.len() > LONGEST_LINE {
+            return Err((0, placeless(Fault::LONG_LINE)));
+        }
+        let Ok(text) = str::from_utf8(line) else {
+            return Err((0, placeless(Fault::NOT_JSON)));
+        };
+        match Value::from_str(alloc, text) {
+            Ok(value) => read_value(alloc, &value),
+            Err(e) => {
+                if e.is_memory() {
+                    Err((0, placeless(Fault::MEMORY)))
+                } else {
+                    Err((0, placeless(Fault::NOT_JSON)))
+                }
+            }
+        }
+    }
+}
+
+fn read_value(alloc: Global, value: &Value) -> Result<(u32, Request), (u32, Fault)>
+    ensures ok { IfOk result (λ said. value_asked (Some (view value.now)) ≡ Ok said) }
+    ensures refused { IfErr result (λ refusal. refusal.1.code ≢ MEMORY → value_asked (Some (view value.now)) ≡ Err refusal) }
+    ensures memory { IfErr result (λ refusal. refusal.1.code ≡ MEMORY → refusal ≡ (0, placeless MEMORY)) }
+{
+    let Some(session) = number(value, "s", 1, u64::from(u32::MAX)) else {
+        return Err((0, placeless(Fault::BAD_REQUEST)));
+    };
+    match read_request(alloc, value) {
+        Ok(Some(request)) => Ok((session as u32, request)),
+        Ok(None) => Err((session as u32, placeless(Fault::BAD_REQUEST))),
+        Err(AllocError) => Err((0, placeless(Fault::MEMORY))),
+    }
+}
+
+/// The number of a field, where it is there and in its range.
+fn number(value: &Value, key: &str, low: u64, high: u64) -> Option<u64>
+    ensures { result ≡ number_in low high key.now (view value.now) }
+{
+    let number = value.get(key)?.as_u64()?;
+    if low <= number && number <= high {
+        Some(number)
+    } else {
+        None
+    }
+}
+
+/// The text of a field.
+fn text<'a>(value: &'a Value, key: &str) -> Option<&'a str>
+    ensures { option_map (λ s. s.now) result ≡ text_in key.now (view value.now) }
+{
+    value.get(key)?.as_str()
+}
+
+fn read_request(alloc: Global, value: &Value) -> Result<Option<Request>, AllocError>
+    ensures { IfOk result (λ request. request ≡ request_asked (view value.now)) }
+{
+    match text(value, "op") {
+        Some("kind") => Ok(read_kind(value)),
+        Some("part") => read_part(alloc, value),
+        Some("open") => Ok(Some(Request::DoOpen)),
+        Some("reset") => Ok(Some(Request::DoReset)),
+        _ => Ok(None),
+    }
+}
+
+fn slot(value: &Value) -> Option<SlotNumber>
+    ensures { result ≡ slot_asked (view value.now) }
+{
+    let number = number(value, "d", 1, u64::from(u32::MAX))?;
+    SlotNumber::new(number as u32)
+}
+
+fn type_number(value: &Value) -> Option<TypeNum>
+    ensures { result ≡ type_asked (view value.now) }
+{
+    let number = number(value, "t", 0, u64::from(u16::MAX))?;
+    Some(TypeNum(number as u16))
+}
+
+fn read_kind(value: &Value) -> Option<Request>
+    ensures { result ≡ kind_asked (view value.now) }
+{
+    let d = slot(value)?;
+    let t = type_number(value)?;
+    Some(Request::DoKind { d, t })
+}
+
+fn list(name: &str) -> Option<ListName>
+    ensures { result ≡ list_named name.now }
+{
+    match name {
+        "ctf" => Some(ListName::Ctf),
+        "str" => Some(ListName::Str),
+        _ => None,
+    }
+}
+
+/// The bytes that hexadecimal digits spell.
+fn piece(alloc: Global, digits: &str) -> Result<Option<Piece>, AllocError>
+    ensures { IfOk result (λ piece. piece ≡ bytes_spelled digits.now) }
+{
+    match hex::decode(alloc, digits) {
+        Ok(bytes) => Ok(short_piece(bytes)),
+        Err(FromHexError::OutOfMemory) => Err(AllocError),
+        Err(_) => Ok(None),
+    }
+}
+
+fn read_part(alloc: Global, value: &Value) -> Result<Option<Request>, AllocError>
+    ensures { IfOk result (λ request. request ≡ part_asked (view value.now)) }
+{
+    let Some(name) = text(value, "section") else {
+        return Ok(None);
+    };
+    let Some(section) = list(name) else {
+        return Ok(None);
+    };
+    let Some(digits) = text(value, "bytes") else {
+        return Ok(None);
+    };
+    match piece(alloc, digits)? {
+        Some(bytes) => Ok(Some(Request::DoPart { section, bytes })),
+        None => Ok(None),
+    }
+}
+
+/// Bytes that are no more than a request may bring.
+fn short_piece(bytes: Vec<u8>) -> Option<Piece>
+    ensures { result ≡ not_too_many bytes.items }
+{
+    if bytes.len() <= LONGEST_PIECE {
+        Some(Piece::new(bytes))
+    } else {
+        None
+    }
+}
