@@ -2,8 +2,10 @@
 #![tactic(auto)]
 
 mod lines;
+mod no_memory;
 mod parts;
 mod reading;
 mod writing;
 
 pub use lines::{FromLine, ToLine};
+pub use no_memory::memory_line;
