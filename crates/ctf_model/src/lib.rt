@@ -11,7 +11,7 @@ mod requests;
 mod sections;
 
 pub use bytes::{Bytes, LONGEST_PIECE, Piece};
-pub use faults::{Fault, fault_name};
+pub use faults::{Fault, fault_name, placeless};
 pub use kinds::Kind;
 pub use laws::{no_record_begins_another, section_spells_one_list};
 pub use numbers::{SlotNumber, TypeNum};
