@@ -1,0 +1,116 @@
+-- The first fault, stage by stage: the header, the records, the names.
+use Rattle.std.proofs.Common.{◌≡◌, ℕ, zero, suc, ◌+◌, Bool, true, false, cond, eqb, ltb, drop, List, [], ◌∷◌, ◌++◌, length, Option, Some, None, Result, refl, sym, ap, subst, ◌∙◌, arith, ◌⊎◌, inl, inr}
+use Rattle.std.specs.Prelude.{map}
+use Rattle.std.specs.Option.{option_or}
+use Rattle.ctf_model.specs.Faults.{or_later, first_broken, header_rules, header_fault, on_ctf, walk_fault, types, place_of, truncated, bad_kind, too_many, bad_name, first_nameless, sites, rules, first_fault}
+use Rattle.ctf_model.specs.Header.{section}
+use Rattle.ctf_model.specs.Lists.{Lists, tables}
+use Rattle.ctf_model.specs.Section.{Piece, step, walk, front_len, records}
+use Rattle.ctf_model.specs.declared.faults.Fault.{Fault}
+use Rattle.ctf_model.specs.declared.sections.Section.TheVariants.{STypes}
+use Rattle.ctf_check.specs.Stages.{records_fault}
+
+-- ---- one list of rules after the other
+
+or_later-or : (code : ℕ) (here : Option ℕ) (a b : Option Fault) → or_later code here (option_or a b) ≡ option_or (or_later code here a) b
+or_later-or code None a b = refl
+or_later-or code (Some p) a b = refl
+
+first_append : (code : ℕ) (xs ys : List (Lists → Option ℕ)) (s : Lists) → first_broken code (xs ++ ys) s ≡ option_or (first_broken code xs s) (first_broken (code + length xs) ys s)
+first_append code [] ys s = let same : code ≡ code + 0 = omega arith in ap (λ (n : ℕ). first_broken n ys s) same
+first_append code (x ∷ xs) ys s =
+    let same : (code + 1) + length xs ≡ code + suc (length xs) = omega arith in
+    ap (λ (f : Option Fault). or_later code (x s) f) (first_append (code + 1) xs ys s ∙ ap (λ (n : ℕ). option_or (first_broken (code + 1) xs s) (first_broken n ys s)) same)
+    ∙ or_later-or code (x s) (first_broken (code + 1) xs s) (first_broken (code + suc (length xs)) ys s)
+
+-- ---- where reading record by record stops
+
+abbrev IsStop : Fault → Type 0
+IsStop f = (f.code ≡ 10) ⊎ (f.code ≡ 11)
+
+stop_either : (t : Bool) (place : ℕ) → IsStop (record { code = cond t 11 10; place = place })
+stop_either true place = inr refl
+stop_either false place = inl refl
+
+some_same : (f g : Fault) → Some f ≡ Some g → f ≡ g
+some_same f g e = cc
+
+stop_cond : (t : Bool) (xs : List (Result Piece Fault)) (f : Fault) → (walk_fault xs ≡ Some f → IsStop f) → walk_fault (cond t [] xs) ≡ Some f → IsStop f
+stop_cond true xs f h e = absurd cc
+stop_cond false xs f h e = h e
+
+stop_step : (b : List ℕ) (index at : ℕ) (later : ℕ → List (Result Piece Fault)) (r : Option ℕ) (f : Fault) → ((n : ℕ) → walk_fault (later n) ≡ Some f → IsStop f) → walk_fault (step b index at later r) ≡ Some f → IsStop f
+stop_step b index at later None f h e = subst IsStop (some_same _ f e) (stop_either _ index)
+stop_step b index at later (Some n) f h e = h n e
+
+-- it stops by the rule of whole records or by that of known kinds
+walk_stop : (bound index at : ℕ) (b : List ℕ) (f : Fault) → walk_fault (walk bound index at b) ≡ Some f → IsStop f
+unfolding walk
+walk_stop zero index at b f e = absurd cc
+walk_stop (suc bound) index at b f e = stop_cond (eqb (length b) 0) _ f (stop_step b index at _ (front_len b) f (λ n. walk_stop bound (index + 1) (at + n) (drop n b) f)) e
+
+types_stop : (ctf : List ℕ) (f : Fault) → walk_fault (types ctf) ≡ Some f → IsStop f
+unfolding types
+types_stop ctf f w = walk_stop _ 1 0 _ f w
+
+by_code : (f : Fault) (more : Option Fault) → IsStop f → or_later 10 (place_of 10 (Some f)) (or_later 11 (place_of 11 (Some f)) more) ≡ Some f
+by_code f more (inl e) = rw e refl
+by_code f more (inr e) = rw e refl
+
+-- the three rules of the records are one stage
+records_stage : (w : Option Fault) (many : Bool) (names : Option Fault) → ((f : Fault) → w ≡ Some f → IsStop f)
+    → or_later 10 (place_of 10 w) (or_later 11 (place_of 11 w) (or_later 12 (cond many (Some 32767) None) names)) ≡ option_or (option_or w (cond many (Some (record { code = 12; place = 32767 })) None)) names
+records_stage None true names h = refl
+records_stage None false names h = refl
+records_stage (Some f) many names h = by_code f (or_later 12 (cond many (Some 32767) None) names) (h f refl)
+
+-- ---- the stages
+
+stages : (s : Lists) → first_fault s ≡ option_or (header_fault s.ctf) (option_or (records_fault (types s.ctf)) (or_later 13 (bad_name s) None))
+unfolding first_fault rules
+stages s =
+    first_append 1 (map on_ctf header_rules) (truncated ∷ bad_kind ∷ too_many ∷ bad_name ∷ []) s
+    ∙ ap (option_or (header_fault s.ctf)) (records_stage (walk_fault (types s.ctf)) (ltb 32766 (length (types s.ctf))) (or_later 13 (bad_name s) None) (types_stop s.ctf))
+
+pub at_header : (s : Lists) (f : Fault) → header_fault s.ctf ≡ Some f → first_fault s ≡ Some f
+at_header s f e = stages s ∙ ap (λ (h : Option Fault). option_or h (option_or (records_fault (types s.ctf)) (or_later 13 (bad_name s) None))) e
+
+past_header : (s : Lists) → header_fault s.ctf ≡ None → first_fault s ≡ option_or (records_fault (types s.ctf)) (or_later 13 (bad_name s) None)
+past_header s e = stages s ∙ ap (λ (h : Option Fault). option_or h (option_or (records_fault (types s.ctf)) (or_later 13 (bad_name s) None))) e
+
+pub at_records : (s : Lists) (f : Fault) → header_fault s.ctf ≡ None → records_fault (types s.ctf) ≡ Some f → first_fault s ≡ Some f
+at_records s f e w = past_header s e ∙ ap (λ (r : Option Fault). option_or r (or_later 13 (bad_name s) None)) w
+
+pub at_names : (s : Lists) (bad : Option ℕ) → header_fault s.ctf ≡ None → records_fault (types s.ctf) ≡ None → bad ≡ first_nameless (tables s) (sites s.ctf) → first_fault s ≡ or_later 13 bad None
+unfolding bad_name
+at_names s bad e w b = past_header s e ∙ ap (λ (r : Option Fault). option_or r (or_later 13 (bad_name s) None)) w ∙ ap (λ (o : Option ℕ). or_later 13 o None) (sym b)
+
+-- ---- where no rule is broken, no stage finds a fault
+
+none_first : (a b : Option Fault) → option_or a b ≡ None → (a ≡ None) × (b ≡ None)
+none_first None b e = (refl, e)
+none_first (Some f) b e = absurd cc
+
+none_place : (here : Option ℕ) → or_later 13 here None ≡ None → here ≡ None
+none_place None e = refl
+none_place (Some p) e = absurd cc
+
+pub record Faultless (s : Lists) : Type 0 where
+  pub read : walk_fault (types s.ctf) ≡ None
+  pub named : first_nameless (tables s) (sites s.ctf) ≡ None
+
+pub faultless : (s : Lists) → first_fault s ≡ None → Faultless s
+unfolding bad_name
+faultless s e =
+    let later = none_first (header_fault s.ctf) (option_or (records_fault (types s.ctf)) (or_later 13 (bad_name s) None)) (sym (stages s) ∙ e) in
+    let parts = none_first (records_fault (types s.ctf)) (or_later 13 (bad_name s) None) later.1 in
+    record {
+      read = (none_first (walk_fault (types s.ctf)) _ parts.0).0;
+      named = none_place (bad_name s) parts.1;
+    }
+
+-- ---- the part that the code reads
+
+pub types_are : (ctf b : List ℕ) → b ≡ section ctf STypes → records b ≡ types ctf
+unfolding types
+types_are ctf b e = rw e refl

@@ -1,0 +1,63 @@
+-- Names one after the other.
+use Rattle.std.proofs.Common.{◌≡◌, ℕ, suc, ◌+◌, ◌-◌, ◌*◌, ◌/◌, ◌<◌, ◌≤◌, Bool, true, false, cond, take, drop, List, [], ◌∷◌, ◌++◌, Option, Some, refl, ap, ◌∙◌, arith}
+use Rattle.std.specs.Prelude.{is_none}
+use Rattle.std.specs.Option.{option_or}
+use Rattle.ctf_model.specs.Bytes.{u32_at}
+use Rattle.ctf_model.specs.Faults.{Site, label_sites, record_sites, first_nameless, sites, types}
+use Rattle.ctf_model.specs.Header.{Fields, fields, range_of}
+use Rattle.ctf_model.specs.Name.{Tables, name}
+use Rattle.ctf_model.specs.Section.{records}
+use Rattle.ctf_model.specs.declared.sections.Section.TheVariants.{SLabels, STypes}
+
+pub label_sites_next : (ctf : List ℕ) (start count i : ℕ) → i < count
+    → label_sites ctf (start + 8 * i) (count - i) ≡ record { place = start + 8 * i; reference = u32_at ctf (start + 8 * i) } ∷ label_sites ctf (start + 8 * (i + 1)) (count - (i + 1))
+unfolding label_sites
+label_sites_next ctf start count i lt =
+    let k : count - i ≡ suc (count - (i + 1)) = omega arith in
+    let next : start + 8 * i + 8 ≡ start + 8 * (i + 1) = omega arith in
+    rw k (ap (λ (at : ℕ). record { place = start + 8 * i; reference = u32_at ctf (start + 8 * i) } ∷ label_sites ctf at (count - (i + 1))) next)
+
+pub label_sites_end : (ctf : List ℕ) (start count i : ℕ) → count ≤ i → label_sites ctf (start + 8 * i) (count - i) ≡ []
+unfolding label_sites
+label_sites_end ctf start count i le = let k : count - i ≡ 0 = omega arith in rw k refl
+
+-- ---- the first name that is bad, part by part
+
+pub nameless_append : (t : Tables) (xs ys : List Site) → first_nameless t (xs ++ ys) ≡ option_or (first_nameless t xs) (first_nameless t ys)
+unfolding first_nameless
+nameless_append t [] ys = refl
+nameless_append t (x ∷ xs) ys = at (is_none (name t x.reference)) (nameless_append t xs ys)
+  where
+    at : (b : Bool) → first_nameless t (xs ++ ys) ≡ option_or (first_nameless t xs) (first_nameless t ys) → cond b (Some x.place) (first_nameless t (xs ++ ys)) ≡ option_or (cond b (Some x.place) (first_nameless t xs)) (first_nameless t ys)
+    at true ih = refl
+    at false ih = ih
+
+-- the first bad name is that of the header, else of the labels, else of the records
+pub sites_parts : (t : Tables) (ctf : List ℕ) (a b c : Option ℕ)
+    → a ≡ first_nameless t (record { place = 4; reference = (fields ctf).parlabel } ∷ record { place = 8; reference = (fields ctf).parname } ∷ [])
+    → b ≡ first_nameless t (label_sites ctf (36 + (fields ctf).lbloff) (((fields ctf).objtoff - (fields ctf).lbloff) / 8))
+    → c ≡ first_nameless t (record_sites (36 + (fields ctf).typeoff) (types ctf))
+    → first_nameless t (sites ctf) ≡ option_or a (option_or b c)
+unfolding sites
+sites_parts t ctf a b c p q r =
+    let labels = label_sites ctf (36 + (fields ctf).lbloff) (((fields ctf).objtoff - (fields ctf).lbloff) / 8) in
+    let of_records = record_sites (36 + (fields ctf).typeoff) (types ctf) in
+    let front = record { place = 4; reference = (fields ctf).parlabel } ∷ record { place = 8; reference = (fields ctf).parname } ∷ [] in
+    nameless_append t front (labels ++ of_records) ∙ rw (p, q, r) (ap (option_or (first_nameless t front)) (nameless_append t labels of_records))
+
+-- ---- the same, where a header says they are
+
+pub header_part : (t : Tables) (ctf : List ℕ) (h : Fields) → h ≡ fields ctf
+    → first_nameless t (record { place = 4; reference = h.parlabel } ∷ record { place = 8; reference = h.parname } ∷ []) ≡ first_nameless t (record { place = 4; reference = (fields ctf).parlabel } ∷ record { place = 8; reference = (fields ctf).parname } ∷ [])
+header_part t ctf h e = rw e refl
+
+pub label_part : (t : Tables) (ctf : List ℕ) (h : Fields) (r : ℕ × ℕ) → h ≡ fields ctf → r ≡ range_of h SLabels
+    → first_nameless t (label_sites ctf r.0 ((r.1 - r.0) / 8)) ≡ first_nameless t (label_sites ctf (36 + (fields ctf).lbloff) (((fields ctf).objtoff - (fields ctf).lbloff) / 8))
+label_part t ctf h r e f =
+    let less : (36 + (fields ctf).objtoff) - (36 + (fields ctf).lbloff) ≡ (fields ctf).objtoff - (fields ctf).lbloff = omega arith in
+    rw (f, e, less) refl
+
+pub record_part : (t : Tables) (ctf : List ℕ) (h : Fields) (r : ℕ × ℕ) → h ≡ fields ctf → r ≡ range_of h STypes
+    → first_nameless t (record_sites r.0 (records (take (r.1 - r.0) (drop r.0 ctf)))) ≡ first_nameless t (record_sites (36 + (fields ctf).typeoff) (types ctf))
+unfolding types
+record_part t ctf h r e f = rw (f, e) refl

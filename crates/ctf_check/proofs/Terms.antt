@@ -1,0 +1,197 @@
+-- What the records of a dictionary spell where no rule is broken.
+use Rattle.std.proofs.Common.{◌≡◌, ℕ, zero, suc, ◌+◌, ◌-◌, ◌/◌, ◌^◌, ◌<◌, ◌≤◌, Bool, true, false, cond, eqb, take, drop, List, [], ◌∷◌, ◌++◌, length, Option, Some, None, Result, Ok, Err, refl, sym, ap, subst, ◌∙◌, arith}
+use Rattle.std.specs.Prelude.{is_some, is_none, slice_get}
+use Rattle.std.specs.List.{AllByRecursion}
+use Rattle.std.specs.Option.{option_or, option_and_then}
+use Rattle.std.proofs.lemmas.Bool.{eqb-true, eqb-false}
+use Rattle.ctf_model.proofs.Walk.{front_len_range}
+use Rattle.ctf_model.specs.Bytes.{u32_at}
+use Rattle.ctf_model.specs.Dictionary.{said_by, terms_in}
+use Rattle.ctf_model.specs.Faults.{Site, first_nameless, first_fault, label_sites, record_sites, sites, types, walk_fault}
+use Rattle.ctf_model.specs.Header.{fields}
+use Rattle.ctf_model.specs.Lists.{Lists, tables}
+use Rattle.ctf_model.specs.Name.{Tables, name}
+use Rattle.ctf_model.specs.Record.{info, is_root, kind, scalar, term_of}
+use Rattle.ctf_model.specs.Section.{Piece, front_len, step, walk}
+use Rattle.ctf_model.specs.Term.{Term}
+use Rattle.ctf_model.specs.Term as term
+use Rattle.ctf_model.specs.declared.faults.Fault.{Fault}
+use Rattle.ctf_model.specs.declared.kinds.Kind.TheVariants.{KInteger}
+use Rattle.ctf_check.specs.Pieces.{piece_numbered}
+use Rattle.ctf_check.proofs.Order.{faultless}
+use Rattle.ctf_check.proofs.Reading.{front_known, kind_taken}
+use Rattle.ctf_check.proofs.Sites.{nameless_append}
+
+-- ---- one record
+
+known_is : (b : List ℕ) → is_some (kind b) ≡ true → kind b ≡ Some KInteger
+known_is b e = at (eqb (info b / 2 ^ 11) 1) e
+  where
+    at : (t : Bool) → is_some (cond t (Some KInteger) None) ≡ true → cond t (Some KInteger) None ≡ Some KInteger
+    at true e = refl
+    at false e = absurd cc
+
+some_text : (o : Option (List ℕ)) → is_none o ≡ false → (x : List ℕ) × (o ≡ Some x)
+some_text None e = absurd cc
+some_text (Some x) e = (x, refl)
+
+-- a record whose kind is known and whose name is good spells a type of that name
+pub record Spelled (t : Tables) (b : List ℕ) : Type 0 where
+  pub type : Term
+  pub says : term_of t b ≡ Some type
+  pub named : name t (u32_at b 0) ≡ Some type.name
+
+spelled_by : (t : Tables) (b text : List ℕ) → kind b ≡ Some KInteger → name t (u32_at b 0) ≡ Some text → Spelled t b
+unfolding term_of
+spelled_by t b text k n = record {
+  type = record { name = text; root = is_root b; body = term.integer (scalar b) };
+  says = rw (k, n) refl;
+  named = n;
+}
+
+spelled : (t : Tables) (b : List ℕ) → is_some (kind b) ≡ true → is_none (name t (u32_at b 0)) ≡ false → Spelled t b
+spelled t b known good = let text = some_text (name t (u32_at b 0)) good in spelled_by t b text.0 (known_is b known) text.1
+
+-- ---- all records
+
+abbrev pub IsSpelled : Tables → Result Piece Fault → Type 0
+IsSpelled t (Ok p) = Spelled t p.bytes
+IsSpelled t (Err f) = ⊥
+
+abbrev AreSpelled : Tables → ℕ → List (Result Piece Fault) → Type 0
+AreSpelled t start xs = walk_fault xs ≡ None → first_nameless t (record_sites start xs) ≡ None → AllByRecursion (IsSpelled t) xs
+
+spelled_cond : (t : Tables) (start : ℕ) (ended : Bool) (xs : List (Result Piece Fault)) → AreSpelled t start xs → AreSpelled t start (cond ended [] xs)
+spelled_cond t start true xs h = λ w n. tt
+spelled_cond t start false xs h = h
+
+none_here : (bad : Bool) (place : ℕ) (later : Option ℕ) → cond bad (Some place) later ≡ None → (bad ≡ false) × (later ≡ None)
+none_here true place later e = absurd cc
+none_here false place later e = (refl, e)
+
+spelled_step : (t : Tables) (start : ℕ) (b : List ℕ) (index at : ℕ) (later : ℕ → List (Result Piece Fault)) (r : Option ℕ) → front_len b ≡ r → ((n : ℕ) → AreSpelled t start (later n)) → AreSpelled t start (step b index at later r)
+unfolding first_nameless record_sites
+spelled_step t start b index at later None e h = λ w n. absurd cc
+spelled_step t start b index at later (Some n) e h = λ w names.
+    let range = front_len_range b n e in
+    let known : is_some (kind (take n b)) ≡ true = rw (kind_taken b n range.0 range.1) (front_known b n e) in
+    let good = none_here (is_none (name t (u32_at (take n b) 0))) (start + at) (first_nameless t (record_sites start (later n))) names in
+    (spelled t (take n b) known good.0, h n w good.1)
+
+walk_spelled : (t : Tables) (start bound index at : ℕ) (b : List ℕ) → AreSpelled t start (walk bound index at b)
+unfolding walk
+walk_spelled t start zero index at b = λ w n. tt
+walk_spelled t start (suc bound) index at b = spelled_cond t start (eqb (length b) 0) _ (spelled_step t start b index at _ (front_len b) refl (λ n. walk_spelled t start bound (index + 1) (at + n) (drop n b)))
+
+none_last : (a b : Option ℕ) → option_or a b ≡ None → b ≡ None
+none_last None b e = e
+none_last (Some p) b e = absurd cc
+
+last_nameless : (t : Tables) (xs ys : List Site) → first_nameless t (xs ++ ys) ≡ None → first_nameless t ys ≡ None
+last_nameless t xs ys e = none_last (first_nameless t xs) (first_nameless t ys) (sym (nameless_append t xs ys) ∙ e)
+
+records_named : (t : Tables) (ctf : List ℕ) → first_nameless t (sites ctf) ≡ None → first_nameless t (record_sites (36 + (fields ctf).typeoff) (types ctf)) ≡ None
+unfolding sites
+records_named t ctf e =
+    let labels = label_sites ctf (36 + (fields ctf).lbloff) (((fields ctf).objtoff - (fields ctf).lbloff) / 8) in
+    let of_records = record_sites (36 + (fields ctf).typeoff) (types ctf) in
+    let front = record { place = 4; reference = (fields ctf).parlabel } ∷ record { place = 8; reference = (fields ctf).parname } ∷ [] in
+    last_nameless t labels of_records (last_nameless t front (labels ++ of_records) e)
+
+pub all_spelled : (s : Lists) → first_fault s ≡ None → AllByRecursion (IsSpelled (tables s)) (types s.ctf)
+unfolding types
+all_spelled s e = let f = faultless s e in walk_spelled (tables s) (36 + (fields s.ctf).typeoff) _ 1 0 _ f.read (records_named (tables s) s.ctf f.named)
+
+-- ---- their number
+
+terms_length : (t : Tables) (xs : List (Result Piece Fault)) → AllByRecursion (IsSpelled t) xs → length (terms_in t xs) ≡ length xs
+unfolding terms_in
+terms_length t [] all = refl
+terms_length t (Ok p ∷ xs) all = rw all.0.says (ap suc (terms_length t xs all.1))
+terms_length t (Err f ∷ xs) all = absurd all.0
+
+pub terms_count : (s : Lists) → first_fault s ≡ None → length (said_by s).terms ≡ length (types s.ctf)
+unfolding said_by
+terms_count s e = terms_length (tables s) (types s.ctf) (all_spelled s e)
+
+-- ---- the record with a number
+
+pub numbered_spelled : (t : Tables) (xs : List (Result Piece Fault)) (n : ℕ) (p : Piece) → AllByRecursion (IsSpelled t) xs → piece_numbered xs n ≡ Some p → Spelled t p.bytes
+numbered_spelled t [] n p all e = absurd cc
+numbered_spelled t (Err f ∷ xs) n p all e = absurd cc
+numbered_spelled t (Ok q ∷ xs) n p all e = at (eqb q.index n) (numbered_spelled t xs n p all.1) e
+  where
+    at : (here : Bool) → (piece_numbered xs n ≡ Some p → Spelled t p.bytes) → cond here (Some q) (piece_numbered xs n) ≡ Some p → Spelled t p.bytes
+    at true later e = let same : q ≡ p = cc in subst (λ (x : Piece). Spelled t x.bytes) same all.0
+    at false later e = later e
+
+pub numbered_index : (xs : List (Result Piece Fault)) (n : ℕ) (p : Piece) → piece_numbered xs n ≡ Some p → p.index ≡ n
+numbered_index [] n p e = absurd cc
+numbered_index (Err f ∷ xs) n p e = absurd cc
+numbered_index (Ok q ∷ xs) n p e = at (eqb q.index n) refl (numbered_index xs n p) e
+  where
+    at : (here : Bool) → eqb q.index n ≡ here → (piece_numbered xs n ≡ Some p → p.index ≡ n) → cond here (Some q) (piece_numbered xs n) ≡ Some p → p.index ≡ n
+    at true test later e = let same : q ≡ p = cc in ap (λ (x : Piece). x.index) (sym same) ∙ eqb-true q.index n test
+    at false test later e = later e
+
+-- the records count up from a number
+abbrev AreNumbered : ℕ → List (Result Piece Fault) → Type 0
+AreNumbered i [] = Unit {0}
+AreNumbered i (Ok p ∷ xs) = (p.index ≡ i) × AreNumbered (i + 1) xs
+AreNumbered i (Err f ∷ xs) = Unit {0}
+
+counted_cond : (ended : Bool) (i : ℕ) (xs : List (Result Piece Fault)) → AreNumbered i xs → AreNumbered i (cond ended [] xs)
+counted_cond true i xs h = tt
+counted_cond false i xs h = h
+
+counted_step : (b : List ℕ) (i at : ℕ) (later : ℕ → List (Result Piece Fault)) (r : Option ℕ) → ((n : ℕ) → AreNumbered (i + 1) (later n)) → AreNumbered i (step b i at later r)
+counted_step b i at later None h = tt
+counted_step b i at later (Some n) h = (refl, h n)
+
+walk_numbered : (bound i at : ℕ) (b : List ℕ) → AreNumbered i (walk bound i at b)
+unfolding walk
+walk_numbered zero i at b = tt
+walk_numbered (suc bound) i at b = counted_cond (eqb (length b) 0) i _ (counted_step b i at _ (front_len b) (λ n. walk_numbered bound (i + 1) (at + n) (drop n b)))
+
+-- what the record with a number spells
+abbrev pub spelled_at : Tables → Option Piece → Option Term
+spelled_at t o = option_and_then (λ p. term_of t p.bytes) o
+
+numbered_term : (t : Tables) (i : ℕ) (xs : List (Result Piece Fault)) (n : ℕ) → AllByRecursion (IsSpelled t) xs → AreNumbered i xs → i ≤ n → spelled_at t (piece_numbered xs n) ≡ slice_get (terms_in t xs) (n - i)
+unfolding terms_in
+numbered_term t i [] n all count le = refl
+numbered_term t i (Err f ∷ xs) n all count le = absurd all.0
+numbered_term t i (Ok p ∷ xs) n all count le = at (eqb p.index n) refl (numbered_term t (i + 1) xs n all.1 count.1)
+  where
+    at : (here : Bool) → eqb p.index n ≡ here → (i + 1 ≤ n → spelled_at t (piece_numbered xs n) ≡ slice_get (terms_in t xs) (n - (i + 1))) → spelled_at t (cond here (Some p) (piece_numbered xs n)) ≡ slice_get (terms_in t (Ok p ∷ xs)) (n - i)
+    at true test later =
+        let same = eqb-true p.index n test in
+        let k : n - i ≡ 0 = omega (arith, count.0) in
+        rw (k, all.0.says) refl
+    at false test later =
+        let other = eqb-false p.index n test in
+        let more : i + 1 ≤ n = omega (arith, count.0) in
+        let k : n - i ≡ suc (n - (i + 1)) = omega arith in
+        rw (k, all.0.says) (later more)
+
+numbered_low : (i : ℕ) (xs : List (Result Piece Fault)) (n : ℕ) → AreNumbered i xs → n < i → piece_numbered xs n ≡ None
+numbered_low i [] n count lt = refl
+numbered_low i (Err f ∷ xs) n count lt = refl
+numbered_low i (Ok p ∷ xs) n count lt = at (eqb p.index n) refl (numbered_low (i + 1) xs n count.1 (omega arith))
+  where
+    at : (here : Bool) → eqb p.index n ≡ here → piece_numbered xs n ≡ None → cond here (Some p) (piece_numbered xs n) ≡ None
+    at true test later = let same = eqb-true p.index n test in absurd (omega (arith, count.0))
+    at false test later = later
+
+types_numbered : (ctf : List ℕ) → AreNumbered 1 (types ctf)
+unfolding types
+types_numbered ctf = walk_numbered _ 1 0 _
+
+-- the type with a number, from 1 on, is what the record with that number spells
+pub type_is : (s : Lists) (n : ℕ) → first_fault s ≡ None → spelled_at (tables s) (piece_numbered (types s.ctf) n) ≡ cond (eqb n 0) None (slice_get (said_by s).terms (n - 1))
+unfolding said_by
+type_is s n e = at (eqb n 0) refl
+  where
+    at : (none : Bool) → eqb n 0 ≡ none → spelled_at (tables s) (piece_numbered (types s.ctf) n) ≡ cond none None (slice_get (terms_in (tables s) (types s.ctf)) (n - 1))
+    at true test = let zero_is = eqb-true n 0 test in rw (numbered_low 1 (types s.ctf) n (types_numbered s.ctf) (omega arith)) refl
+    at false test = let other = eqb-false n 0 test in numbered_term (tables s) 1 (types s.ctf) n (all_spelled s e) (types_numbered s.ctf) (omega arith)

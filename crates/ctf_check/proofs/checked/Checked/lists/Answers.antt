@@ -1,0 +1,7 @@
+use Rattle.std.proofs.Common.{refl}
+use Rattle.ctf_model.specs.Dictionary.{denoted}
+use Rattle.ctf_check.proofs.checked.Checked.lists.Goals as goal
+
+pub returns-clause-denotes : goal.returns-clause-denotes
+unfolding denoted
+returns-clause-denotes c = rw c.args.self.now.faultless refl

@@ -1,0 +1,52 @@
+use Rattle.std.proofs.Common.{◌≡◌, List, ℕ, Result, option_copied, refl, sym, ap, ◌∙◌, length}
+use Rattle.std.proofs.lemmas.Result.{err_from_is_err_and}
+use Rattle.ctf_model.specs.Faults.{first_nameless, sites}
+use Rattle.ctf_model.specs.Lists.{Lists, tables as tables_in}
+use Rattle.ctf_model.specs.Name.{Tables}
+use Rattle.ctf_model.specs.Section.{Piece}
+use Rattle.ctf_model.specs.declared.faults.Fault.{Fault}
+use Rattle.ctf_check.specs.Stages.{records_fault}
+use Rattle.ctf_check.proofs.Order.{at_header, at_records, at_names, types_are}
+use Rattle.ctf_check.proofs.Terms.{terms_count}
+use Rattle.ctf_check.proofs.judge.check.Goals as goal
+
+pub returns-in_err-header-clause-exact_err : goal.returns-in_err-header-clause-exact_err
+returns-in_err-header-clause-exact_err c =
+    let p = err_from_is_err_and c.from_residual.result c.from_residual.ensures.1 in
+    let s : Lists = record { ctf = c.args.ctf.now; sym = option_copied c.args.sym; strs = option_copied c.args.strs } in
+    rw (p.1, p.2) (at_header s c.in_err-header.field-0.0 c.in_err-header.ensures.exact_err)
+
+pub returns-in_err-count-clause-exact_err : goal.returns-in_err-count-clause-exact_err
+returns-in_err-count-clause-exact_err c =
+    let p = err_from_is_err_and c.from_residual-in_err-count.result c.from_residual-in_err-count.ensures.1 in
+    let s : Lists = record { ctf = c.args.ctf.now; sym = option_copied c.args.sym; strs = option_copied c.args.strs } in
+    let part = types_are s.ctf c.bytes_in.result.now c.bytes_in.ensures in
+    rw (p.1, p.2) (at_records s c.in_err-count.field-0.0 c.in_ok-header.ensures.exact_ok (ap records_fault (sym part) ∙ c.in_err-count.ensures.exact_err))
+
+-- the tables of names are those of the lists
+same_tables : (t : Tables) (s : Lists) (internal : List ℕ) → t ≡ record { internal = internal; elf = s.strs } → internal ≡ (tables_in s).internal → t ≡ tables_in s
+same_tables t s internal e i = rw (e, i) refl
+
+pub returns-in-Some-clause-exact_err : goal.returns-in-Some-clause-exact_err
+returns-in-Some-clause-exact_err c =
+    let s : Lists = record { ctf = c.args.ctf.now; sym = option_copied c.args.sym; strs = option_copied c.args.strs } in
+    let part = types_are s.ctf c.bytes_in.result.now c.bytes_in.ensures in
+    let same = same_tables _ s c.bytes_in-2.result.now c.new-strings.ensures c.bytes_in-2.ensures in
+    let bad = c.bad_name.ensures ∙ ap (λ (t : Tables). first_nameless t (sites s.ctf)) same in
+    let all = at_names s c.bad_name.result c.in_ok-header.ensures.exact_ok (ap records_fault (sym part) ∙ c.in_ok-count.ensures.exact_ok) bad in
+    rw c.in-Some.is at all
+
+pub invariant_of-result : goal.invariant_of-result
+invariant_of-result c =
+    let s : Lists = record { ctf = c.args.ctf.now; sym = option_copied c.args.sym; strs = option_copied c.args.strs } in
+    let part = types_are s.ctf c.bytes_in.result.now c.bytes_in.ensures in
+    let same = same_tables _ s c.bytes_in-2.result.now c.new-strings.ensures c.bytes_in-2.ensures in
+    let bad = c.bad_name.ensures ∙ ap (λ (t : Tables). first_nameless t (sites s.ctf)) same in
+    let all = at_names s c.bad_name.result c.in_ok-header.ensures.exact_ok (ap records_fault (sym part) ∙ c.in_ok-count.ensures.exact_ok) bad in
+    let none = rw c.in_default.is at all in
+    record {
+      faultless = none;
+      fits = c.in_ok-header.ensures.fields;
+      inside = c.in_ok-header.ensures.inside;
+      counted = c.in_ok-count.ensures.count ∙ ap (λ (l : List (Result Piece Fault)). length l) part ∙ sym (terms_count s none);
+    }

@@ -1,0 +1,32 @@
+-- What a `Checked` shows.
+use Rattle.std.specs.Prelude.{◌≡◌, ℕ, ◌-◌, ◌==◌, Option, Some, None, slice_get, if◌then◌else◌}
+use Rattle.ctf_model.specs.Dictionary.{Dictionary, said_by}
+use Rattle.ctf_model.specs.Faults.{types}
+use Rattle.ctf_model.specs.Lists.{Lists, tables}
+use Rattle.ctf_model.specs.Name.{Tables}
+use Rattle.ctf_model.specs.Term.{Term}
+use Rattle.ctf_check.specs.ListsView.{lists_in}
+use Rattle.ctf_check.specs.Pieces.{piece_numbered}
+use Rattle.ctf_check.specs.RecordView.{piece}
+use Rattle.ctf_check.specs.declared.checked.Checked.{Checked}
+use Rattle.ctf_check.specs.declared.record.Record.{Record}
+
+-- the lists that it was handed in as
+abbrev pub lists_of : Checked → Lists
+lists_of d = lists_in d.lists
+
+-- its tables of names
+abbrev pub tables_of : Checked → Tables
+tables_of d = tables (lists_of d)
+
+-- the dictionary that it is
+abbrev pub dictionary_of : Checked → Dictionary
+dictionary_of d = said_by (lists_of d)
+
+-- the own type with a number; they count from 1
+abbrev pub type_at : Dictionary → ℕ → Option Term
+type_at d n = if n == 0 then None else slice_get d.terms (n - 1)
+
+-- the record is the one that has its number there
+abbrev pub IsOwn : Checked → Record → Type 0
+IsOwn d r = piece_numbered (types (lists_of d).ctf) r.index ≡ Some (piece r)

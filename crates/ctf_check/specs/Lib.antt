@@ -1,0 +1,5 @@
+pub mod CheckedView
+pub mod ListsView
+pub mod Pieces
+pub mod RecordView
+pub mod Stages

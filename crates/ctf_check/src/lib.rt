@@ -1,0 +1,15 @@
+//! The check of a dictionary, and what a dictionary that passed it answers.
+#![tactic(auto)]
+
+mod checked;
+mod cursor;
+mod judge;
+mod lists;
+mod names;
+mod record;
+mod sections;
+
+pub use checked::Checked;
+pub use judge::check;
+pub use lists::LentLists;
+pub use record::Record;

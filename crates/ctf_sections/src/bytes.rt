@@ -1,0 +1,21 @@
+//! Numbers in bytes, the low byte first.
+ghost use Rattle.std.specs.Prelude.{◌≡◌, ◌+◌, ◌≤◌, length};
+ghost use Rattle.ctf_model.specs.Bytes.{u16_at as number16_at, u32_at as number32_at};
+
+use byteorder::{ByteOrder, LittleEndian};
+
+/// The number in the two bytes from an offset on.
+pub fn u16_at(bytes: &[u8], at: usize) -> u16
+    requires { at + 2 ≤ length bytes.now }
+    ensures { result ≡ number16_at bytes.now at }
+{
+    LittleEndian::read_u16(&bytes[at..])
+}
+
+/// The number in the four bytes from an offset on.
+pub fn u32_at(bytes: &[u8], at: usize) -> u32
+    requires { at + 4 ≤ length bytes.now }
+    ensures { result ≡ number32_at bytes.now at }
+{
+    LittleEndian::read_u32(&bytes[at..])
+}
