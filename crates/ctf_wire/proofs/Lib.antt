@@ -1,3 +1,5 @@
 pub mod Asking
 pub mod Short
 pub mod MemoryLine
+pub mod Places
+pub mod Faulting
