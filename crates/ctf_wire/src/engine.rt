@@ -1,0 +1,198 @@
+//! The loop: bytes from a source, lines to a machine, replies to a sink.
+ghost use Rattle.std.specs.Prelude.{◌≡◌, ℕ, ◌+◌, ◌<◌, ◌≤◌, ◌^◌, ◌++◌, ◌∷◌, [], List, Option, true, false, OnOk, OnErr, Err, vec_capacity};
+ghost use Rattle.std.specs.Bool.{OnTrue, OnFalse};
+ghost use Rattle.std.specs.Io.KnownBytes.{Appends, Consumes, IsAtEnd};
+ghost use Rattle.ctf_model.specs.Lines.{all_lines, whole_lines};
+ghost use Rattle.ctf_wire.specs.Flushes.{Flushes, Delivers, DeliversThen};
+ghost use Rattle.ctf_wire.specs.Pulls.{lines_read};
+ghost use Rattle.ctf_wire.specs.Served.{BeginsWith, BrokenOff, Serves};
+ghost use Rattle.ctf_wire.specs.Standing.{Stands};
+
+use crate::machines::Machine;
+use crate::pending::Pending;
+use crate::pieces::cut;
+use crate::run_faults::RunFault;
+use crate::sending::send;
+use crate::sinks::Sink;
+use crate::sources::Source;
+use std::alloc::Global;
+
+/// How many bytes one read asks for.
+const CHUNK: usize = 65_536;
+
+/// The room that a machine finds for its reply.
+const LEAST_ROOM: usize = 96;
+
+/// Answers the pending line.
+fn answer<M: Machine, K: Sink>(
+    machine: &mut M,
+    pending: &Pending,
+    sink: &mut K,
+    out: &mut Vec<u8>,
+) -> bool
+    requires { 96 ≤ vec_capacity out.old }
+    ensures capacity { vec_capacity out.old ≤ vec_capacity out.new }
+    ensures sent { OnTrue result ((reply : List ℕ) × M.Step machine.old pending.now reply machine.new
+        × Appends (K.contents sink.old) (K.contents sink.new) reply
+        × Delivers (K.flushes sink.old) (K.flushes sink.new) (reply ∷ [])) }
+    ensures well { OnTrue result (K.has_failed sink.new ≡ K.has_failed sink.old) }
+    ensures cut { OnFalse result ((reply : List ℕ) × M.Step machine.old pending.now reply machine.new
+        × (front : List ℕ) × BeginsWith reply front
+        × Appends (K.contents sink.old) (K.contents sink.new) front
+        × DeliversThen (K.flushes sink.old) (K.flushes sink.new) [] front) }
+    ensures failed { OnFalse result (K.has_failed sink.new ≡ true) }
+{
+    out.clear();
+    if pending.is_too_long() {
+        machine.step_too_long(out);
+    } else {
+        machine.step(pending.bytes(), out);
+    }
+    send(sink, out)
+}
+
+/// Answers the line that this piece ends.
+fn end_line<M: Machine, K: Sink>(
+    machine: &mut M,
+    pending: &mut Pending,
+    sink: &mut K,
+    out: &mut Vec<u8>,
+    piece: &[u8],
+) -> bool
+    requires room { 96 ≤ vec_capacity out.old }
+    requires piece { whole_lines piece.now ≡ [] }
+    ensures capacity { vec_capacity out.old ≤ vec_capacity out.new }
+    ensures fed { OnTrue result ((start : M) (contents : Option (List ℕ)) (flushes : Option Flushes) (read : List ℕ) →
+        Stands M.Step start read machine.old pending.old contents (K.contents sink.old) flushes (K.flushes sink.old) →
+        Stands M.Step start (read ++ (piece.now ++ 10 ∷ [])) machine.new pending.new contents (K.contents sink.new) flushes (K.flushes sink.new)) }
+    ensures well { OnTrue result (K.has_failed sink.new ≡ K.has_failed sink.old) }
+    ensures cut { OnFalse result ((start : M) (contents : Option (List ℕ)) (flushes : Option Flushes) (read : List ℕ) →
+        Stands M.Step start read machine.old pending.old contents (K.contents sink.old) flushes (K.flushes sink.old) →
+        BrokenOff M.Step start (whole_lines (read ++ (piece.now ++ 10 ∷ []))) machine.new contents (K.contents sink.new) flushes (K.flushes sink.new)) }
+    ensures failed { OnFalse result (K.has_failed sink.new ≡ true) }
+{
+    pending.append(piece);
+    if !answer(machine, pending, sink, out) {
+        return false;
+    }
+    pending.clear();
+    true
+}
+
+/// Takes bytes in: answers each line that they end.
+fn feed<M: Machine, K: Sink>(
+    machine: &mut M,
+    pending: &mut Pending,
+    sink: &mut K,
+    out: &mut Vec<u8>,
+    bytes: &[u8],
+) -> bool
+    requires { 96 ≤ vec_capacity out.old }
+    ensures capacity { vec_capacity out.old ≤ vec_capacity out.new }
+    ensures fed { OnTrue result ((start : M) (contents : Option (List ℕ)) (flushes : Option Flushes) (read : List ℕ) →
+        Stands M.Step start read machine.old pending.old contents (K.contents sink.old) flushes (K.flushes sink.old) →
+        Stands M.Step start (read ++ bytes.now) machine.new pending.new contents (K.contents sink.new) flushes (K.flushes sink.new)) }
+    ensures well { OnTrue result (K.has_failed sink.new ≡ K.has_failed sink.old) }
+    ensures cut { OnFalse result ((start : M) (contents : Option (List ℕ)) (flushes : Option Flushes) (read : List ℕ) →
+        Stands M.Step start read machine.old pending.old contents (K.contents sink.old) flushes (K.flushes sink.old) →
+        BrokenOff M.Step start (whole_lines (read ++ bytes.now)) machine.new contents (K.contents sink.new) flushes (K.flushes sink.new)) }
+    ensures failed { OnFalse result (K.has_failed sink.new ≡ true) }
+{
+    let mut rest = bytes;
+    while let Some((piece, after)) = cut(rest) {
+        if !end_line(machine, pending, sink, out, piece) {
+            return false;
+        }
+        rest = after;
+    }
+    pending.append(rest);
+    true
+}
+
+/// Answers the last piece, where it isn't empty.
+fn finish<M: Machine, K: Sink>(
+    machine: &mut M,
+    pending: &Pending,
+    sink: &mut K,
+    out: &mut Vec<u8>,
+) -> Result<(), RunFault>
+    requires { 96 ≤ vec_capacity out.old }
+    ensures faults { OnErr result (result ≡ Err RunFault.Write) }
+    ensures fed { OnOk result ((start : M) (contents : Option (List ℕ)) (flushes : Option Flushes) (read : List ℕ) →
+        Stands M.Step start read machine.old pending.now contents (K.contents sink.old) flushes (K.flushes sink.old) →
+        Serves M.Step start (all_lines read) machine.new contents (K.contents sink.new) flushes (K.flushes sink.new)) }
+    ensures well { OnOk result (K.has_failed sink.new ≡ K.has_failed sink.old) }
+    ensures cut { OnErr result ((start : M) (contents : Option (List ℕ)) (flushes : Option Flushes) (read : List ℕ) →
+        Stands M.Step start read machine.old pending.now contents (K.contents sink.old) flushes (K.flushes sink.old) →
+        BrokenOff M.Step start (all_lines read) machine.new contents (K.contents sink.new) flushes (K.flushes sink.new)) }
+    ensures failed { OnErr result (K.has_failed sink.new ≡ true) }
+{
+    if pending.is_empty() {
+        return Ok(());
+    }
+    if !answer(machine, pending, sink, out) {
+        return Err(RunFault::Write);
+    }
+    Ok(())
+}
+
+/// Answers the source's lines, to its end or for `reads` reads.
+pub fn answer_bounded<M: Machine, S: Source, K: Sink>(
+    alloc: Global,
+    machine: &mut M,
+    source: &mut S,
+    sink: &mut K,
+    reads: u64,
+) -> Result<(), RunFault>
+    requires count { S.pull_count source.old + reads < 2 ^ 64 }
+    requires unended { S.has_ended source.old ≡ false }
+    requires sound { S.has_failed source.old ≡ false }
+    requires writable { K.has_failed sink.old ≡ false }
+
+    // All that there was is read, and each line has its reply.
+    ensures done { OnOk result ((read : List ℕ) × Consumes (S.remaining source.old) (S.remaining source.new) read × IsAtEnd (S.remaining source.new)
+        × Serves M.Step machine.old (all_lines read) machine.new (K.contents sink.old) (K.contents sink.new) (K.flushes sink.old) (K.flushes sink.new)) }
+    ensures done_marks { OnOk result ((S.has_ended source.new ≡ true) × (S.has_failed source.new ≡ false) × (K.has_failed sink.new ≡ false)) }
+
+    // The whole lines that were read have their replies, and a last piece has none.
+    ensures read { result ≡ Err RunFault.Read → ((read : List ℕ) × Consumes (S.remaining source.old) (S.remaining source.new) read
+        × Serves M.Step machine.old (whole_lines read) machine.new (K.contents sink.old) (K.contents sink.new) (K.flushes sink.old) (K.flushes sink.new)) }
+    ensures read_marks { result ≡ Err RunFault.Read → (S.has_failed source.new ≡ true) × (S.has_ended source.new ≡ false) × (K.has_failed sink.new ≡ false) }
+    ensures bound { result ≡ Err RunFault.ReadBound → ((read : List ℕ) × Consumes (S.remaining source.old) (S.remaining source.new) read
+        × Serves M.Step machine.old (whole_lines read) machine.new (K.contents sink.old) (K.contents sink.new) (K.flushes sink.old) (K.flushes sink.new)) }
+    ensures bound_marks { result ≡ Err RunFault.ReadBound → (S.pull_count source.new ≡ S.pull_count source.old + reads)
+        × (S.has_ended source.new ≡ false) × (S.has_failed source.new ≡ false) × (K.has_failed sink.new ≡ false) }
+
+    // Of the replies whole ones and then a front of one are written.
+    ensures write { result ≡ Err RunFault.Write → ((read : List ℕ) × Consumes (S.remaining source.old) (S.remaining source.new) read
+        × BrokenOff M.Step machine.old (lines_read (S.has_ended source.new) read) machine.new (K.contents sink.old) (K.contents sink.new) (K.flushes sink.old) (K.flushes sink.new)) }
+    ensures write_marks { result ≡ Err RunFault.Write → (K.has_failed sink.new ≡ true) × (S.has_failed source.new ≡ false) }
+
+    // Nothing was done.
+    ensures memory { result ≡ Err RunFault.Memory → (source.new ≡ source.old) × (sink.new ≡ sink.old) × (machine.new ≡ machine.old) }
+
+    // No more pulls than allowed.
+    ensures pulls { S.pull_count source.new ≤ S.pull_count source.old + reads }
+{
+    let Ok(mut pending) = Pending::new(alloc) else {
+        return Err(RunFault::Memory);
+    };
+    let Ok(mut out) = Vec::with_capacity(alloc, LEAST_ROOM) else {
+        return Err(RunFault::Memory);
+    };
+    let Ok(mut chunk) = Vec::from_elem(alloc, 0u8, CHUNK) else {
+        return Err(RunFault::Memory);
+    };
+    for turn in 0..reads {
+        let Some(count) = source.pull(&mut chunk) else {
+            return Err(RunFault::Read);
+        };
+        if count == 0 {
+            return finish(machine, &pending, sink, &mut out);
+        }
+        if !feed(machine, &mut pending, sink, &mut out, &chunk[..count]) {
+            return Err(RunFault::Write);
+        }
+    }
+    Err(RunFault::ReadBound)
+}
