@@ -1,5 +1,5 @@
 //! The loop: bytes from a source, lines to a machine, replies to a sink.
-ghost use Rattle.std.specs.Prelude.{◌≡◌, ℕ, ◌+◌, ◌<◌, ◌≤◌, ◌^◌, ◌++◌, ◌∷◌, [], List, Option, true, false, OnOk, OnErr, Err, vec_capacity};
+ghost use Rattle.std.specs.Prelude.{◌≡◌, ℕ, ◌+◌, ◌<◌, ◌≤◌, ◌^◌, ◌++◌, ◌∷◌, [], List, Option, true, false, OnOk, OnErr, IfOk, Err, vec_len, vec_capacity};
 ghost use Rattle.std.specs.Bool.{OnTrue, OnFalse};
 ghost use Rattle.std.specs.Io.KnownBytes.{Appends, Consumes, IsAtEnd};
 ghost use Rattle.ctf_model.specs.Lines.{all_lines, whole_lines};
@@ -15,13 +15,20 @@ use crate::run_faults::RunFault;
 use crate::sending::send;
 use crate::sinks::Sink;
 use crate::sources::Source;
-use std::alloc::Global;
+use std::alloc::{AllocError, Global};
 
 /// How many bytes one read asks for.
 const CHUNK: usize = 65_536;
 
 /// The room that a machine finds for its reply.
 const LEAST_ROOM: usize = 96;
+
+/// So many zero bytes.
+fn zeroes(alloc: Global, count: usize) -> Result<Vec<u8>, AllocError>
+    ensures { IfOk result (λ v. vec_len v ≡ count) }
+{
+    Vec::from_elem(alloc, 0, count)
+}
 
 /// Answers the pending line.
 fn answer<M: Machine, K: Sink>(
@@ -180,11 +187,12 @@ pub fn answer_bounded<M: Machine, S: Source, K: Sink>(
     let Ok(mut out) = Vec::with_capacity(alloc, LEAST_ROOM) else {
         return Err(RunFault::Memory);
     };
-    let Ok(mut chunk) = Vec::from_elem(alloc, 0u8, CHUNK) else {
+    let Ok(mut chunk) = zeroes(alloc, CHUNK) else {
         return Err(RunFault::Memory);
     };
+    let chunk = chunk.as_mut_slice();
     for turn in 0..reads {
-        let Some(count) = source.pull(&mut chunk) else {
+        let Some(count) = source.pull(chunk) else {
             return Err(RunFault::Read);
         };
         if count == 0 {

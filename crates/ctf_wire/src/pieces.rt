@@ -8,6 +8,8 @@ use memchr::memchr;
 pub fn cut(bytes: &[u8]) -> Option<(&[u8], &[u8])>
     ensures { MatchOption result (whole_lines bytes.now ≡ []) (λ p. (whole_lines p.0.now ≡ []) × (bytes.now ≡ p.0.now ++ 10 ∷ p.1.now)) }
 {
-    let end = memchr(b'\n', bytes)?;
+    let Some(end) = memchr(b'\n', bytes) else {
+        return None;
+    };
     Some((&bytes[..end], &bytes[end + 1..]))
 }
