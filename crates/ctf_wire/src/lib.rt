@@ -2,6 +2,7 @@
 #![tactic(auto)]
 
 mod engine;
+mod feeding;
 mod machines;
 mod pending;
 mod pieces;
@@ -19,4 +20,3 @@ pub use run_faults::RunFault;
 pub use sinks::Sink;
 pub use sources::Source;
 pub use writers::ToWriter;
-

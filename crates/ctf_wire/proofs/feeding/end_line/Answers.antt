@@ -1,5 +1,5 @@
 use Rattle.ctf_wire.proofs.Replying.{Stands-line, Stands-cut}
-use Rattle.ctf_wire.proofs.engine.end_line.Goals as goal
+use Rattle.ctf_wire.proofs.feeding.end_line.Goals as goal
 
 pub returns-then-not-answer-clause-cut : goal.returns-then-not-answer-clause-cut
 returns-then-not-answer-clause-cut g c = λ start contents flushes read s.

@@ -1,7 +1,7 @@
 use Rattle.std.proofs.Common.{◌≡◌, ℕ, ◌≤◌, ◌++◌, List, Option, length, vec_capacity}
 use Rattle.ctf_wire.specs.Flushes.{Flushes}
 use Rattle.ctf_wire.specs.Standing.{Stands}
-use Rattle.ctf_wire.proofs.engine.feed.Given as goal
+use Rattle.ctf_wire.proofs.feeding.feed.Given as goal
 
 abbrev pub invariant-loop-piece : goal.invariant-loop-piece
 invariant-loop-piece g l = record {

@@ -4,7 +4,7 @@ use Rattle.ctf_wire.specs.Served.{BeginsWith, BrokenOff}
 use Rattle.ctf_wire.specs.Standing.{Stands}
 use Rattle.ctf_wire.proofs.Cutting.{whole_lines-front, regrouped}
 use Rattle.ctf_wire.proofs.Replying.{Stands-piece, BrokenOff-more}
-use Rattle.ctf_wire.proofs.engine.feed.Goals as goal
+use Rattle.ctf_wire.proofs.feeding.feed.Goals as goal
 
 pub loop-piece-preserved : goal.loop-piece-preserved
 loop-piece-preserved g c =
