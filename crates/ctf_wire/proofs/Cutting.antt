@@ -52,14 +52,16 @@ regrouped all done rest piece after whole split = whole ∙ ap (λ bs. done ++ b
 whole_lines-newline : (bs : List ℕ) → whole_lines (bs ++ 10 ∷ []) ≡ whole_lines bs ++ last_piece bs ∷ []
 whole_lines-newline [] = refl
 whole_lines-newline (b ∷ bs) = elim (eqb b 10) as (λ t. (if t then [] ∷ whole_lines (bs ++ 10 ∷ []) else onto_first b (whole_lines (bs ++ 10 ∷ []))) ≡ (if t then [] ∷ whole_lines bs else onto_first b (whole_lines bs)) ++ (if t then last_piece bs else onto_last b (whole_lines bs) (last_piece bs)) ∷ []) [
-  true ↦ ap (λ lines. [] ∷ lines) (whole_lines-newline bs)
-  | false ↦ ap (onto_first b) (whole_lines-newline bs) ∙ onto_first-push b (whole_lines bs) (last_piece bs) ]
+  | true ↦ ap (λ lines. [] ∷ lines) (whole_lines-newline bs)
+  | false ↦ ap (onto_first b) (whole_lines-newline bs) ∙ onto_first-push b (whole_lines bs) (last_piece bs)
+]
 
 last_piece-newline : (bs : List ℕ) → last_piece (bs ++ 10 ∷ []) ≡ []
 last_piece-newline [] = refl
 last_piece-newline (b ∷ bs) = elim (eqb b 10) as (λ t. (if t then last_piece (bs ++ 10 ∷ []) else onto_last b (whole_lines (bs ++ 10 ∷ [])) (last_piece (bs ++ 10 ∷ []))) ≡ []) [
-  true ↦ last_piece-newline bs
-  | false ↦ rw (whole_lines-newline bs, last_piece-newline bs) (onto_last-after b (whole_lines bs) (last_piece bs)) ]
+  | true ↦ last_piece-newline bs
+  | false ↦ rw (whole_lines-newline bs, last_piece-newline bs) (onto_last-after b (whole_lines bs) (last_piece bs))
+]
 
 -- a piece without newline ends no line
 pub whole_lines-piece : (bs piece : List ℕ) → whole_lines piece ≡ [] → whole_lines (bs ++ piece) ≡ whole_lines bs
@@ -69,22 +71,24 @@ whole_lines-piece (b ∷ bs) piece h = rw (whole_lines-piece bs piece h) refl
 last_piece-whole : (piece : List ℕ) → whole_lines piece ≡ [] → last_piece piece ≡ piece
 last_piece-whole [] h = refl
 last_piece-whole (b ∷ bs) h = (elim (eqb b 10) as (λ t. (if t then [] ∷ whole_lines bs else onto_first b (whole_lines bs)) ≡ [] → (if t then last_piece bs else onto_last b (whole_lines bs) (last_piece bs)) ≡ b ∷ bs) [
-  true ↦ λ e. cc
-  | false ↦ λ e. rw (onto_first-nil b (whole_lines bs) e, last_piece-whole bs (onto_first-nil b (whole_lines bs) e)) refl ]) h
+  | true ↦ λ e. cc
+  | false ↦ λ e. rw (onto_first-nil b (whole_lines bs) e, last_piece-whole bs (onto_first-nil b (whole_lines bs) e)) refl
+]) h
 
 -- it joins the last piece
 pub last_piece-piece : (bs piece : List ℕ) → whole_lines piece ≡ [] → last_piece (bs ++ piece) ≡ last_piece bs ++ piece
 last_piece-piece [] piece h = last_piece-whole piece h
 last_piece-piece (b ∷ bs) piece h = rw (whole_lines-piece bs piece h, last_piece-piece bs piece h) (elim (eqb b 10) as (λ t. (if t then last_piece bs ++ piece else onto_last b (whole_lines bs) (last_piece bs ++ piece)) ≡ (if t then last_piece bs else onto_last b (whole_lines bs) (last_piece bs)) ++ piece) [
-  true ↦ refl
-  | false ↦ onto_last-more b (whole_lines bs) (last_piece bs) piece ])
+  | true ↦ refl
+  | false ↦ onto_last-more b (whole_lines bs) (last_piece bs) piece
+])
 
 -- a piece and a newline end a line
 pub whole_lines-line : (bs piece : List ℕ) → whole_lines piece ≡ [] → whole_lines (bs ++ (piece ++ 10 ∷ [])) ≡ whole_lines bs ++ (last_piece bs ++ piece) ∷ []
 whole_lines-line bs piece h =
     ap whole_lines (sym (append_assoc bs piece (10 ∷ []))) ∙ whole_lines-newline (bs ++ piece)
-      ∙ ap (λ lines. lines ++ last_piece (bs ++ piece) ∷ []) (whole_lines-piece bs piece h)
-      ∙ ap (λ line. whole_lines bs ++ line ∷ []) (last_piece-piece bs piece h)
+    ∙ ap (λ lines. lines ++ last_piece (bs ++ piece) ∷ []) (whole_lines-piece bs piece h)
+    ∙ ap (λ line. whole_lines bs ++ line ∷ []) (last_piece-piece bs piece h)
 
 pub last_piece-line : (bs piece : List ℕ) → last_piece (bs ++ (piece ++ 10 ∷ [])) ≡ []
 last_piece-line bs piece = ap last_piece (sym (append_assoc bs piece (10 ∷ []))) ∙ last_piece-newline (bs ++ piece)
@@ -99,5 +103,6 @@ whole_lines-front [] more = (whole_lines more, refl)
 whole_lines-front (b ∷ bs) more =
     let h = whole_lines-front bs more in
     elim (eqb b 10) as (λ t. BeginsWith (if t then [] ∷ whole_lines (bs ++ more) else onto_first b (whole_lines (bs ++ more))) (if t then [] ∷ whole_lines bs else onto_first b (whole_lines bs))) [
-      true ↦ (h.0, ap (λ lines. [] ∷ lines) h.1)
-      | false ↦ onto_first-front b (whole_lines bs) (whole_lines (bs ++ more)) h ]
+      | true ↦ (h.0, ap (λ lines. [] ∷ lines) h.1)
+      | false ↦ onto_first-front b (whole_lines bs) (whole_lines (bs ++ more)) h
+    ]

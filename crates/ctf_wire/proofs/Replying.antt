@@ -13,7 +13,7 @@ use Rattle.ctf_wire.proofs.Passing.{Delivers-none, DeliversThen-trans}
 
 -- one more line is answered
 Answers-push : {S : Type 0} (Step : S → Option (List ℕ) → List ℕ → S → Type 0) (old mid new : S) (lines replies : List (List ℕ)) (line reply : List ℕ)
-  → Answers Step old lines replies mid → Step mid (stored line) reply new → Answers Step old (lines ++ line ∷ []) (replies ++ reply ∷ []) new
+    → Answers Step old lines replies mid → Step mid (stored line) reply new → Answers Step old (lines ++ line ∷ []) (replies ++ reply ∷ []) new
 Answers-push {S} Step old mid new [] [] line reply a s =
     let P : S → Type 0 = λ x. Step x (stored line) reply new in
     (new, subst P a s, refl)
@@ -26,13 +26,13 @@ concat-push : (replies : List (List ℕ)) (reply : List ℕ) → concat (replies
 concat-push replies reply = concat-append replies (reply ∷ []) ∙ ap (λ r. concat replies ++ r) (append-nil reply)
 
 pub Serves-none : {S : Type 0} (Step : S → Option (List ℕ) → List ℕ → S → Type 0) (machine : S) (contents : Option (List ℕ)) (flushes : Option Flushes)
-  → Serves Step machine [] machine contents contents flushes flushes
+    → Serves Step machine [] machine contents contents flushes flushes
 Serves-none {S} Step machine contents flushes = record { replies = []; answers = refl; written = Appends-nil contents; delivered = Delivers-none flushes }
 
 -- the reply to one more line is sent
 pub Serves-push : {S : Type 0} (Step : S → Option (List ℕ) → List ℕ → S → Type 0) (start mid new : S) (lines : List (List ℕ)) (line reply : List ℕ) (c0 c1 c2 : Option (List ℕ)) (f0 f1 f2 : Option Flushes)
-  → Serves Step start lines mid c0 c1 f0 f1 → Step mid (stored line) reply new → Appends c1 c2 reply → Delivers f1 f2 (reply ∷ [])
-  → Serves Step start (lines ++ line ∷ []) new c0 c2 f0 f2
+    → Serves Step start lines mid c0 c1 f0 f1 → Step mid (stored line) reply new → Appends c1 c2 reply → Delivers f1 f2 (reply ∷ [])
+    → Serves Step start (lines ++ line ∷ []) new c0 c2 f0 f2
 Serves-push {S} Step start mid new lines line reply c0 c1 c2 f0 f1 f2 s step sent delivered =
     let P : List ℕ → Type 0 = λ bs. Appends c0 c2 bs in
     record {
@@ -44,8 +44,8 @@ Serves-push {S} Step start mid new lines line reply c0 c1 c2 f0 f1 f2 s step sen
 
 -- only a front of the reply to one more line is sent
 pub Serves-cut : {S : Type 0} (Step : S → Option (List ℕ) → List ℕ → S → Type 0) (start mid new : S) (lines : List (List ℕ)) (line reply front : List ℕ) (c0 c1 c2 : Option (List ℕ)) (f0 f1 f2 : Option Flushes)
-  → Serves Step start lines mid c0 c1 f0 f1 → Step mid (stored line) reply new → BeginsWith reply front → Appends c1 c2 front → DeliversThen f1 f2 [] front
-  → BrokenOff Step start (lines ++ line ∷ []) new c0 c2 f0 f2
+    → Serves Step start lines mid c0 c1 f0 f1 → Step mid (stored line) reply new → BeginsWith reply front → Appends c1 c2 front → DeliversThen f1 f2 [] front
+    → BrokenOff Step start (lines ++ line ∷ []) new c0 c2 f0 f2
 Serves-cut {S} Step start mid new lines line reply front c0 c1 c2 f0 f1 f2 s step begins sent delivered =
     let P : List (List ℕ) → Type 0 = λ ps. DeliversThen f0 f2 ps front in
     record {
@@ -62,23 +62,23 @@ Serves-cut {S} Step start mid new lines line reply front c0 c1 c2 f0 f1 f2 s ste
 
 -- a line before the end is a line of all
 pub BrokenOff-more : {S : Type 0} (Step : S → Option (List ℕ) → List ℕ → S → Type 0) (start new : S) (lines all : List (List ℕ)) (c0 c2 : Option (List ℕ)) (f0 f2 : Option Flushes)
-  → BeginsWith all lines → BrokenOff Step start lines new c0 c2 f0 f2 → BrokenOff Step start all new c0 c2 f0 f2
+    → BeginsWith all lines → BrokenOff Step start lines new c0 c2 f0 f2 → BrokenOff Step start all new c0 c2 f0 f2
 BrokenOff-more {S} Step start new lines all c0 c2 f0 f2 more b = record {
-    answered = b.answered;
-    first = (b.first.0 ++ more.0, more.1 ∙ ap (λ ls. ls ++ more.0) b.first.1 ∙ append_assoc b.answered b.first.0 more.0);
-    replies = b.replies;
-    last = b.last;
-    answers = b.answers;
-    front = b.front;
-    begins = b.begins;
-    written = b.written;
-    delivered = b.delivered;
-  }
+  answered = b.answered;
+  first = (b.first.0 ++ more.0, more.1 ∙ ap (λ ls. ls ++ more.0) b.first.1 ∙ append_assoc b.answered b.first.0 more.0);
+  replies = b.replies;
+  last = b.last;
+  answers = b.answers;
+  front = b.front;
+  begins = b.begins;
+  written = b.written;
+  delivered = b.delivered;
+}
 
 -- a piece without newline came
 pub Stands-piece : {S : Type 0} (Step : S → Option (List ℕ) → List ℕ → S → Type 0) (start machine : S) (read piece : List ℕ) (held now : Option (List ℕ)) (c0 c1 : Option (List ℕ)) (f0 f1 : Option Flushes)
-  → Stands Step start read machine held c0 c1 f0 f1 → whole_lines piece ≡ [] → ((bs : List ℕ) → held ≡ stored bs → now ≡ stored (bs ++ piece))
-  → Stands Step start (read ++ piece) machine now c0 c1 f0 f1
+    → Stands Step start read machine held c0 c1 f0 f1 → whole_lines piece ≡ [] → ((bs : List ℕ) → held ≡ stored bs → now ≡ stored (bs ++ piece))
+    → Stands Step start (read ++ piece) machine now c0 c1 f0 f1
 Stands-piece {S} Step start machine read piece held now c0 c1 f0 f1 s none joined =
     let P : List (List ℕ) → Type 0 = λ lines. Serves Step start lines machine c0 c1 f0 f1 in
     record {
@@ -88,9 +88,9 @@ Stands-piece {S} Step start machine read piece held now c0 c1 f0 f1 s none joine
 
 -- a piece and a newline came, and the line that they end is answered
 pub Stands-line : {S : Type 0} (Step : S → Option (List ℕ) → List ℕ → S → Type 0) (start mid new : S) (read piece reply : List ℕ) (held joined now : Option (List ℕ)) (c0 c1 c2 : Option (List ℕ)) (f0 f1 f2 : Option Flushes)
-  → Stands Step start read mid held c0 c1 f0 f1 → whole_lines piece ≡ [] → ((bs : List ℕ) → held ≡ stored bs → joined ≡ stored (bs ++ piece))
-  → Step mid joined reply new → Appends c1 c2 reply → Delivers f1 f2 (reply ∷ []) → now ≡ Some []
-  → Stands Step start (read ++ (piece ++ 10 ∷ [])) new now c0 c2 f0 f2
+    → Stands Step start read mid held c0 c1 f0 f1 → whole_lines piece ≡ [] → ((bs : List ℕ) → held ≡ stored bs → joined ≡ stored (bs ++ piece))
+    → Step mid joined reply new → Appends c1 c2 reply → Delivers f1 f2 (reply ∷ []) → now ≡ Some []
+    → Stands Step start (read ++ (piece ++ 10 ∷ [])) new now c0 c2 f0 f2
 Stands-line {S} Step start mid new read piece reply held joined now c0 c1 c2 f0 f1 f2 s none joins step sent delivered cleared =
     let P : List (List ℕ) → Type 0 = λ lines. Serves Step start lines new c0 c2 f0 f2 in
     let Q : Option (List ℕ) → Type 0 = λ o. Step mid o reply new in
@@ -101,9 +101,9 @@ Stands-line {S} Step start mid new read piece reply held joined now c0 c1 c2 f0 
 
 -- a piece and a newline came, and the reply to the line that they end is cut
 pub Stands-cut : {S : Type 0} (Step : S → Option (List ℕ) → List ℕ → S → Type 0) (start mid new : S) (read piece reply front : List ℕ) (held joined : Option (List ℕ)) (c0 c1 c2 : Option (List ℕ)) (f0 f1 f2 : Option Flushes)
-  → Stands Step start read mid held c0 c1 f0 f1 → whole_lines piece ≡ [] → ((bs : List ℕ) → held ≡ stored bs → joined ≡ stored (bs ++ piece))
-  → Step mid joined reply new → BeginsWith reply front → Appends c1 c2 front → DeliversThen f1 f2 [] front
-  → BrokenOff Step start (whole_lines (read ++ (piece ++ 10 ∷ []))) new c0 c2 f0 f2
+    → Stands Step start read mid held c0 c1 f0 f1 → whole_lines piece ≡ [] → ((bs : List ℕ) → held ≡ stored bs → joined ≡ stored (bs ++ piece))
+    → Step mid joined reply new → BeginsWith reply front → Appends c1 c2 front → DeliversThen f1 f2 [] front
+    → BrokenOff Step start (whole_lines (read ++ (piece ++ 10 ∷ []))) new c0 c2 f0 f2
 Stands-cut {S} Step start mid new read piece reply front held joined c0 c1 c2 f0 f1 f2 s none joins step begins sent delivered =
     let P : List (List ℕ) → Type 0 = λ lines. BrokenOff Step start lines new c0 c2 f0 f2 in
     let Q : Option (List ℕ) → Type 0 = λ o. Step mid o reply new in

@@ -20,3 +20,6 @@ pub use run_faults::RunFault;
 pub use sinks::Sink;
 pub use sources::Source;
 pub use writers::ToWriter;
+
+#[cfg(test)]
+mod tests;

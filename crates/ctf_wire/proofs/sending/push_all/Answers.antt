@@ -15,10 +15,10 @@ loop-at-preserved g c =
     record {
       within = let h = c.in-Some.ensures.within in search rules;
       pushed =
-        let P : List ℕ → Type 0 = λ xs. Appends (g.K.Sink.contents c.args.sink.now) (g.K.Sink.contents c.push.new.self) xs in
-        subst P (sym next) (Appends-trans _ _ _ _ _ c.loop-at.invariant.pushed c.in-Some.ensures.bytes);
+          let P : List ℕ → Type 0 = λ xs. Appends (g.K.Sink.contents c.args.sink.now) (g.K.Sink.contents c.push.new.self) xs in
+          subst P (sym next) (Appends-trans _ _ _ _ _ c.loop-at.invariant.pushed c.in-Some.ensures.bytes);
       waits = c.in-Some.ensures.waits ∙ ap (λ k. and_waits k (take c.in-Some.n (take (length bs - at) (drop at bs)))) c.loop-at.invariant.waits
-        ∙ and_waits-more (g.K.Sink.flushes c.args.sink.now) (take at bs) _ ∙ ap (and_waits (g.K.Sink.flushes c.args.sink.now)) (sym next);
+          ∙ and_waits-more (g.K.Sink.flushes c.args.sink.now) (take at bs) _ ∙ ap (and_waits (g.K.Sink.flushes c.args.sink.now)) (sym next);
       well = search rules;
     }
 
