@@ -2,15 +2,36 @@
 #![tactic(auto)]
 
 mod broker;
+mod engine;
+mod feeding;
 mod library;
 mod lines;
+mod machines;
 mod no_memory;
 mod parts;
+mod pending;
+mod pieces;
+mod readers;
 mod reading;
+mod run_faults;
+mod sending;
+mod sinks;
 mod slots;
+mod sources;
+mod writers;
 mod writing;
 
 pub use broker::Broker;
+pub use engine::answer_bounded;
 pub use library::Library;
 pub use lines::{FromLine, ToLine};
+pub use machines::Machine;
 pub use no_memory::memory_line;
+pub use readers::FromReader;
+pub use run_faults::RunFault;
+pub use sinks::Sink;
+pub use sources::Source;
+pub use writers::ToWriter;
+
+#[cfg(test)]
+mod tests;

@@ -1,0 +1,68 @@
+//! A source over a reader.
+ghost use Rattle.std.specs.Prelude.{◌≡◌, false};
+
+use crate::sources::Source;
+use std::io::Read;
+
+/// Pulls from a reader. An interrupted read is a failed one.
+#[derive(Drop)]
+pub struct FromReader<R> {
+    reader: R,
+    pulls: u64,
+    ended: bool,
+    failed: bool,
+}
+
+impl<R> FromReader<R> {
+    /// Nothing is read yet.
+    pub fn new(reader: R) -> Self
+        ensures reader { result.reader ≡ reader }
+        ensures pulls { result.pulls ≡ 0 }
+        ensures ended { result.ended ≡ false }
+        ensures failed { result.failed ≡ false }
+    {
+        FromReader {
+            reader,
+            pulls: 0,
+            ended: false,
+            failed: false,
+        }
+    }
+}
+
+impl<R: Read> Source for FromReader<R> {
+    ghost remaining = { λ s. R.remaining s.reader };
+
+    ghost pull_count = { λ s. s.pulls };
+
+    ghost has_ended = { λ s. s.ended };
+
+    ghost has_failed = { λ s. s.failed };
+
+    fn pull(&mut self, buffer: &mut [u8]) -> Option<usize> {
+        self.pulls += 1;
+        match self.reader.read(buffer) {
+            Ok(0) => {
+                self.ended = true;
+                Some(0)
+            }
+            Ok(n) => Some(n),
+            Err(_) => {
+                self.failed = true;
+                None
+            }
+        }
+    }
+
+    fn pulls(&self) -> u64 {
+        self.pulls
+    }
+
+    fn ended(&self) -> bool {
+        self.ended
+    }
+
+    fn failed(&self) -> bool {
+        self.failed
+    }
+}
