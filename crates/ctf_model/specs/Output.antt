@@ -39,3 +39,9 @@ abbrev pub out : (ℕ → State) → List Call → List (List ℕ) → List Mark
 out start calls [] marks = []
 out start calls (line ∷ lines) [] = line_out start calls answered (ask line) ∷ out start (calls_after calls answered (ask line)) lines []
 out start calls (line ∷ lines) (mark ∷ marks) = line_out start calls mark (ask line) ∷ out start (calls_after calls mark (ask line)) lines marks
+
+-- the history that lines make
+abbrev pub calls_made : List Call → List (List ℕ) → List Mark → List Call
+calls_made calls [] marks = calls
+calls_made calls (line ∷ lines) [] = calls_made (calls_after calls answered (ask line)) lines []
+calls_made calls (line ∷ lines) (mark ∷ marks) = calls_made (calls_after calls mark (ask line)) lines marks

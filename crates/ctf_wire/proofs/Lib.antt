@@ -6,3 +6,5 @@ pub mod Faulting
 pub mod Cutting
 pub mod Passing
 pub mod Replying
+pub mod Alone
+pub mod WrittenOut

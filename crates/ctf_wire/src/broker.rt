@@ -43,6 +43,11 @@ impl Broker {
         }
     }
 
+    /// What its libraries are made with.
+    pub(crate) fn allocator(&self) -> Global {
+        self.alloc
+    }
+
     /// Answers a request of a session: the session's own library makes its step, and all others stay.
     pub fn step(&mut self, session: u32, request: &Request) -> Reply
         requires { session ≢ 0 }

@@ -16,6 +16,7 @@ pub trait FromLine: Sized {
     /// Reads a line, given without its newline.
     fn read(alloc: Global, line: &[u8]) -> Result<(u32, Self), (u32, Fault)>
         ensures ok { IfOk result (λ said. asked line.now ≡ Ok said) }
+        ensures session { IfOk result (λ said. said.0 ≢ 0) }
         ensures refused { IfErr result (λ refusal. refusal.1.code ≢ MEMORY → asked line.now ≡ Err refusal) }
         // Where memory was refused, no session is said.
         ensures memory { IfErr result (λ refusal. refusal.1.code ≡ MEMORY → refusal ≡ (0, placeless MEMORY)) };

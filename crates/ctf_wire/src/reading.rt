@@ -1,5 +1,5 @@
 //! Reads the request of a line.
-ghost use Rattle.std.specs.Prelude.{◌≡◌, ◌≢◌, Option, None, Some, IfOk, IfErr, Ok, Err, codes, option_map};
+ghost use Rattle.std.specs.Prelude.{◌≡◌, ◌≢◌, ◌≤◌, IfSome, Option, None, Some, IfOk, IfErr, Ok, Err, codes, option_map};
 ghost use Rattle.serde_json.specs.View.{view};
 ghost use Rattle.ctf_model.specs.Ask.{ask, placeless, number_in, text_in, list_named, bytes_spelled, not_too_many, slot_asked, type_asked, kind_asked, part_asked, word_asked, request_asked, value_asked};
 ghost use Rattle.ctf_model.specs.declared.faults.TheConstants.Fault.{MEMORY};
@@ -38,6 +38,7 @@ impl FromLine for Request {
 
 fn read_value(alloc: Global, value: &Value) -> Result<(u32, Request), (u32, Fault)>
     ensures ok { IfOk result (λ said. value_asked (Some (view value.now)) ≡ Ok said) }
+    ensures session { IfOk result (λ said. said.0 ≢ 0) }
     ensures refused { IfErr result (λ refusal. refusal.1.code ≢ MEMORY → value_asked (Some (view value.now)) ≡ Err refusal) }
     ensures memory { IfErr result (λ refusal. refusal.1.code ≡ MEMORY → refusal ≡ (0, placeless MEMORY)) }
 {
@@ -53,7 +54,8 @@ fn read_value(alloc: Global, value: &Value) -> Result<(u32, Request), (u32, Faul
 
 /// The number of a field, where it is there and in its range.
 fn number(value: &Value, key: &str, low: u64, high: u64) -> Option<u64>
-    ensures { result ≡ number_in low high key.now (view value.now) }
+    ensures number { result ≡ number_in low high key.now (view value.now) }
+    ensures in_range { IfSome result (λ n. (low ≤ n) × (n ≤ high)) }
 {
     let number = value.get(key)?.as_u64()?;
     if low <= number && number <= high {

@@ -1,0 +1,112 @@
+-- What a broker answers to lines is what each session's own run answers: by induction on the lines.
+use Rattle.std.proofs.Common.{◌≡◌, ◌≢◌, ℕ, List, [], ◌∷◌, length, Bool, true, false, Ok, Err, Result, eqb, leb, refl, ◌∙◌, ap, sym, subst, arith, inl, inr}
+use Rattle.std.proofs.lemmas.Bool.{leb-false}
+use Rattle.std.proofs.lemmas.Bool.Decides.{nat_tests}
+use Rattle.ctf_model.specs.Ask.{ask}
+use Rattle.ctf_model.specs.Lines.{stored}
+use Rattle.ctf_model.specs.Output.{Mark, answered, refused, unread, line_out, calls_after, out, calls_made}
+use Rattle.ctf_model.specs.ReplyLines.{reply_line}
+use Rattle.ctf_model.specs.Runs.{Call, Steps, found_in, own_state, addressed, is_no_memory}
+use Rattle.ctf_model.specs.State.{State}
+use Rattle.ctf_model.specs.Steps.{step, Outcome}
+use Rattle.ctf_model.specs.declared.faults.Fault.{Fault}
+use Rattle.ctf_model.specs.declared.replies.Reply.{Reply}
+use Rattle.ctf_model.specs.declared.requests.Request.{Request}
+use Rattle.ctf_wire.proofs.Asking.{ask-long}
+use Rattle.ctf_wire.proofs.Places.{found_none}
+use Rattle.ctf_wire.specs.Served.{Answers}
+use Rattle.ctf_wire.specs.Serving.{ask_stored, LineSteps, BrokerStep, ServesAlone}
+use Rattle.ctf_wire.specs.Table.{library_at}
+use Rattle.ctf_wire.specs.declared.broker.Entry.{Entry}
+
+-- a line that is too long to be stored asks what its place does
+asked_stored : (line : List ℕ) → ask_stored (stored line) ≡ ask line
+asked_stored line = by_length (leb (length line) 1048576) refl
+  where
+    by_length : (t : Bool) → leb (length line) 1048576 ≡ t → ask_stored (stored line) ≡ ask line
+    by_length true e = rw e refl
+    by_length false e = let long = leb-false (length line) 1048576 e in rw e (sym (ask-long line (omega (arith, long))))
+
+-- each library is its own run after the history
+abbrev Holds : (ℕ → State) → List Call → (ℕ → State) → Type 0
+Holds start calls now = (s : ℕ) → now s ≡ own_state start calls s
+
+-- what is found depends on the libraries at each session alone
+found_same : (a b : ℕ → State) (request : Request) → found_in a request ≡ found_in b request
+found_same a b request = found_none a request ∙ sym (found_none b request)
+
+-- the step in a library that is its own run
+own_step : (start now : ℕ → State) (calls : List Call) (s : ℕ) (request : Request) → Holds start calls now → step (now s) request (found_in now request) ≡ step (own_state start calls s) request (found_in (own_state start calls) request)
+own_step start now calls s request held =
+    ap (λ (l : State). step l request (found_in now request)) (held s) ∙ ap (step (own_state start calls s) request) (found_same now (own_state start calls) request)
+
+-- a granted call joins the history
+granted_holds : (start old new : ℕ → State) (calls : List Call) (s : ℕ) (request : Request) (reply : Reply) → Holds start calls old → Steps old s request reply new → is_no_memory reply ≡ false
+    → (q : ℕ) (t : Bool) → eqb s q ≡ t → new q ≡ own_state start (record { session = s; request = request } ∷ calls) q
+granted_holds start old new calls s request reply held st m q false t =
+    let other : q ≢ s = λ e. let hit : eqb s s ≡ false = subst (λ (x : ℕ). eqb s x ≡ false) e t in grind (arith, nat_tests, hit) in
+    rw t (st.others q other ∙ held q)
+granted_holds start old new calls s request reply held st m q true t =
+    let same : s ≡ q = grind (arith, nat_tests, t) in
+    let here : new q ≡ (step (own_state start calls s) request (found_in (own_state start calls) request)).state =
+    ap new (sym same) ∙ (st.granted m).1 ∙ ap (λ (o : Outcome). o.state) (own_step start old calls s request held) in
+    rw t (here ∙ ap (λ (x : ℕ). (step (own_state start calls x) request (found_in (own_state start calls) request)).state) same)
+
+-- memory was refused to a call: all libraries stay
+refused_stays : (old new : ℕ → State) (s : ℕ) (request : Request) (reply : Reply) → Steps old s request reply new → is_no_memory reply ≡ true → (q : ℕ) (t : Bool) → eqb s q ≡ t → new q ≡ old q
+refused_stays old new s request reply st m q true t =
+    let same : s ≡ q = grind (arith, nat_tests, t) in
+    let P : ℕ → Type 0 = λ x. new x ≡ old x in
+    subst P same (st.refused m).1
+refused_stays old new s request reply st m q false t =
+    let other : q ≢ s = λ e. let hit : eqb s s ≡ false = subst (λ (x : ℕ). eqb s x ≡ false) e t in grind (arith, nat_tests, hit) in
+    st.others q other
+
+-- a line's mark, what was written for it, and that the libraries are the own runs after it
+record Done (start : ℕ → State) (calls : List Call) (said : Result (ℕ × Request) (ℕ × Fault)) (written : List ℕ) (new : ℕ → State) : Type 0 where
+  pub mark : Mark
+  pub wrote : written ≡ line_out start calls mark said
+  pub holds : Holds start (calls_after calls mark said) new
+
+request_done : (start old new : ℕ → State) (calls : List Call) (s : ℕ) (request : Request) (reply : Reply) (written : List ℕ) → Holds start calls old → written ≡ reply_line reply → Steps old s request reply new
+    → (m : Bool) → is_no_memory reply ≡ m → Done start calls (Ok (s, request)) written new
+request_done start old new calls s request reply written held w st true m = record {
+  mark = refused;
+  wrote = w ∙ ap reply_line (st.refused m).0;
+  holds = λ q. refused_stays old new s request reply st m q (eqb s q) refl ∙ held q;
+}
+request_done start old new calls s request reply written held w st false m = record {
+  mark = answered;
+  wrote = w ∙ ap reply_line ((st.granted m).0 ∙ ap (λ (o : Outcome). addressed s o.reply) (own_step start old calls s request held));
+  holds = λ q. granted_holds start old new calls s request reply held st m q (eqb s q) refl;
+}
+
+line_done : (start old new : ℕ → State) (calls : List Call) (said : Result (ℕ × Request) (ℕ × Fault)) (written : List ℕ) → Holds start calls old → LineSteps old said written new → Done start calls said written new
+line_done start old new calls said written held (inl none) = record { mark = unread; wrote = none.0; holds = λ q. none.1 q ∙ held q }
+line_done start old new calls (Err refusal) written held (inr told) = record { mark = answered; wrote = told.0; holds = λ q. told.1 q ∙ held q }
+line_done start old new calls (Ok said) written held (inr told) = request_done start old new calls said.0 said.1 told.0 written held told.1 told.2 (is_no_memory told.0) refl
+
+-- after a history, the same for all that follows
+record RunsOn (start : ℕ → State) (calls : List Call) (lines replies : List (List ℕ)) (new : ℕ → State) : Type 0 where
+  pub marks : List Mark
+  pub replies_are : replies ≡ out start calls lines marks
+  pub libraries_are : Holds start (calls_made calls lines marks) new
+
+runs_on : (start : ℕ → State) (calls : List Call) (old new : List Entry) (lines replies : List (List ℕ)) → Holds start calls (library_at old) → Answers BrokerStep old lines replies new → RunsOn start calls lines replies (library_at new)
+runs_on start calls old new [] [] held a = record { marks = []; replies_are = refl; libraries_are = λ s. ap (λ (es : List Entry). library_at es s) a ∙ held s }
+runs_on start calls old new [] (reply ∷ replies) held a = absurd a
+runs_on start calls old new (line ∷ lines) [] held a = absurd a
+runs_on start calls old new (line ∷ lines) (reply ∷ replies) held a =
+    let P : Result (ℕ × Request) (ℕ × Fault) → Type 0 = λ said. LineSteps (library_at old) said reply (library_at a.0) in
+    let d = line_done start (library_at old) (library_at a.0) calls (ask line) reply held (subst P (asked_stored line) a.1) in
+    let rest = runs_on start (calls_after calls d.mark (ask line)) a.0 new lines replies d.holds a.2 in
+    record {
+      marks = d.mark ∷ rest.marks;
+      replies_are = ap (λ (r : List ℕ). r ∷ replies) d.wrote ∙ ap (λ (rs : List (List ℕ)). line_out start calls d.mark (ask line) ∷ rs) rest.replies_are;
+      libraries_are = rest.libraries_are;
+    }
+
+pub serves_alone : ServesAlone
+serves_alone old new lines replies a =
+    let runs = runs_on (library_at old) [] old new lines replies (λ s. refl) a in
+    record { marks = runs.marks; replies_are = runs.replies_are; libraries_are = runs.libraries_are }
