@@ -1,0 +1,12 @@
+//! `ctfd`: a type service over CTF dictionaries, on standard input and output.
+#![tactic(auto)]
+
+mod commands;
+mod serving;
+mod status;
+
+use std::process::ExitCode;
+
+fn main(rt: HostRuntime) -> ExitCode {
+    ExitCode::from(commands::run(&rt))
+}
