@@ -1,8 +1,13 @@
 //! Dictionaries typed by hand, and which rule each breaks first.
 
-use crate::check;
+use crate::{LentLists, check};
 use ctf_model::{Fault, Kind};
 use std::test::Fail;
+
+/// A header alone.
+const EMPTY: [u8; 36] = *b"\xf1\xcf\x02\x00\
+    \x00\x00\x00\x00\x00\x00\x00\x00\x00\x00\x00\x00\x00\x00\x00\x00\
+    \x00\x00\x00\x00\x00\x00\x00\x00\x00\x00\x00\x00\x00\x00\x00\x00";
 
 /// An integer named "int": header, one record of 12 bytes, 5 bytes of strings.
 const INT: [u8; 53] = *b"\xf1\xcf\x02\x00\
@@ -48,10 +53,30 @@ fn changed<const N: usize>(ctf: &[u8; N], changes: &[(usize, u8)]) -> [u8; N] {
     ctf
 }
 
+/// A dictionary handed in alone.
+fn alone(ctf: &[u8]) -> LentLists<'_> {
+    LentLists {
+        ctf,
+        sym: None,
+        strs: None,
+    }
+}
+
+/// `OUTER` handed in with the program's strings.
+fn outer(strs: &'static [u8]) -> LentLists<'static> {
+    LentLists {
+        ctf: &OUTER,
+        sym: None,
+        strs: Some(strs),
+    }
+}
+
 /// The code and the place of the fault of a dictionary, if it has one.
-fn fault_of(ctf: &[u8], strs: Option<&[u8]>) -> Option<(u16, u64)> {
-    let fault = check(ctf, None, strs).err()?;
-    Some((fault.code, fault.place))
+fn fault_of(lists: LentLists<'_>) -> Option<(u16, u64)> {
+    match check(lists.ctf, None, lists.strs) {
+        Ok(_) => None,
+        Err(fault) => Some((fault.code, fault.place)),
+    }
 }
 
 #[test]
@@ -63,7 +88,7 @@ fn judges_lengths(rt: HostRuntime) {
             _ => Fault::PAST_END,
         };
         assert_eq!(rt;
-            fault_of(INT.get(..len).unwrap_or(&[]), None),
+            fault_of(alone(INT.get(..len).unwrap_or(&[]))),
             Some((code, 0)),
             "at {len}"
         );
@@ -85,7 +110,7 @@ fn judges_headers(rt: HostRuntime) {
     ];
     for (changes, code) in rows {
         assert_eq!(rt;
-            fault_of(&changed(&INT, changes), None),
+            fault_of(alone(&changed(&INT, changes))),
             Some((code, 0)),
             "at {changes:?}"
         );
@@ -114,7 +139,7 @@ fn judges_records_and_names(rt: HostRuntime) {
     ];
     for (changes, code, place) in rows {
         assert_eq!(rt;
-            fault_of(&changed(&INT, changes), None),
+            fault_of(alone(&changed(&INT, changes))),
             Some((code, place)),
             "at {changes:?}"
         );
@@ -128,17 +153,14 @@ fn judges_records_and_names(rt: HostRuntime) {
     ];
     for (changes, code, place) in rows {
         assert_eq!(rt;
-            fault_of(&changed(&LABELLED, changes), None),
+            fault_of(alone(&changed(&LABELLED, changes))),
             Some((code, place)),
             "labelled, at {changes:?}"
         );
     }
-    assert_eq!(rt; fault_of(&OUTER, None), Some((Fault::BAD_NAME, 36)));
-    assert_eq!(rt; fault_of(&OUTER, Some(b"")), Some((Fault::BAD_NAME, 36)));
-    assert_eq!(rt;
-        fault_of(&OUTER, Some(b"\0xn")),
-        Some((Fault::BAD_NAME, 36))
-    );
+    assert_eq!(rt; fault_of(alone(&OUTER)), Some((Fault::BAD_NAME, 36)));
+    assert_eq!(rt; fault_of(outer(b"")), Some((Fault::BAD_NAME, 36)));
+    assert_eq!(rt; fault_of(outer(b"\0xn")), Some((Fault::BAD_NAME, 36)));
 }
 
 #[test]
@@ -146,28 +168,27 @@ fn refuses_one_record_too_many(rt: HostRuntime) -> Result<(), Fail> {
     // 32,766 records are 393,192 bytes, one more are 393,204
     for (header, records, fault) in [
         (
-            changed(&INT, &[(28, 0xe8), (29, 0xff), (30, 5), (32, 0)]),
+            changed(&EMPTY, &[(28, 0xe8), (29, 0xff), (30, 5)]),
             32766,
             None,
         ),
         (
-            changed(&INT, &[(28, 0xf4), (29, 0xff), (30, 5), (32, 0)]),
+            changed(&EMPTY, &[(28, 0xf4), (29, 0xff), (30, 5)]),
             32767,
             Some((Fault::TOO_MANY, 32767)),
         ),
     ] {
-        let mut ctf = header[..36].to_vec(rt.alloc())?;
+        let mut ctf = header.to_vec(rt.alloc())?;
         for _ in 0..records {
             ctf.extend_from_slice(b"\x00\x00\x00\x00\x00\x0c\x04\x00\x20\x00\x00\x01")?;
         }
-        assert_eq!(rt; fault_of(&ctf, None), fault, "at {records}");
+        assert_eq!(rt; fault_of(alone(&ctf)), fault, "at {records}");
     }
     Ok(())
 }
 
 #[test]
 fn answers(rt: HostRuntime) {
-    let none = changed(&INT, &[(28, 0), (32, 0)]);
     let longer = b"\xf1\xcf\x02\x00\
         \x00\x00\x00\x00\x00\x00\x00\x00\
         \x00\x00\x00\x00\x00\x00\x00\x00\x00\x00\x00\x00\x00\x00\x00\x00\
@@ -175,7 +196,7 @@ fn answers(rt: HostRuntime) {
         \x01\x00\x00\x00\x00\x0c\x04\x00\x20\x00\x00\x01\
         \x00int\x00\xff";
     let rows: [(&[u8], Option<&[u8]>, &[&[u8]]); 7] = [
-        (&none[..36], None, &[]),
+        (&EMPTY, None, &[]),
         (&INT, None, &[b"int"]),
         (longer, None, &[b"int"]),
         (&LONG, None, &[b"int"]),
@@ -189,7 +210,7 @@ fn answers(rt: HostRuntime) {
         };
         assert_eq!(rt; checked.count(), names.len());
         assert!(rt; checked.term(0).is_none());
-        assert!(rt; checked.term(names.len() + 1).is_none());
+        assert!(rt; checked.term(3).is_none());
         for (i, name) in names.iter().enumerate() {
             let Some(record) = checked.term(i + 1) else {
                 panic!(rt; "the type is there")
