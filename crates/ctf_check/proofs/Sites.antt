@@ -7,6 +7,7 @@ use Rattle.ctf_model.specs.Faults.{Site, label_sites, record_sites, first_namele
 use Rattle.ctf_model.specs.Header.{Fields, fields, range_of}
 use Rattle.ctf_model.specs.Name.{Tables, name}
 use Rattle.ctf_model.specs.Section.{records}
+use Rattle.ctf_check.specs.Stages.{header_sites}
 use Rattle.ctf_model.specs.declared.sections.Section.TheVariants.{SLabels, STypes}
 
 pub label_sites_next : (ctf : List ℕ) (start count i : ℕ) → i < count
@@ -34,7 +35,7 @@ nameless_append t (x ∷ xs) ys = at (is_none (name t x.reference)) (nameless_ap
 
 -- the first bad name is that of the header, else of the labels, else of the records
 pub sites_parts : (t : Tables) (ctf : List ℕ) (a b c : Option ℕ)
-    → a ≡ first_nameless t (record { place = 4; reference = (fields ctf).parlabel } ∷ record { place = 8; reference = (fields ctf).parname } ∷ [])
+    → a ≡ first_nameless t (header_sites (fields ctf))
     → b ≡ first_nameless t (label_sites ctf (36 + (fields ctf).lbloff) (((fields ctf).objtoff - (fields ctf).lbloff) / 8))
     → c ≡ first_nameless t (record_sites (36 + (fields ctf).typeoff) (types ctf))
     → first_nameless t (sites ctf) ≡ option_or a (option_or b c)
@@ -42,13 +43,13 @@ unfolding sites
 sites_parts t ctf a b c p q r =
     let labels = label_sites ctf (36 + (fields ctf).lbloff) (((fields ctf).objtoff - (fields ctf).lbloff) / 8) in
     let of_records = record_sites (36 + (fields ctf).typeoff) (types ctf) in
-    let front = record { place = 4; reference = (fields ctf).parlabel } ∷ record { place = 8; reference = (fields ctf).parname } ∷ [] in
+    let front = header_sites (fields ctf) in
     nameless_append t front (labels ++ of_records) ∙ rw (p, q, r) (ap (option_or (first_nameless t front)) (nameless_append t labels of_records))
 
 -- ---- the same, where a header says they are
 
 pub header_part : (t : Tables) (ctf : List ℕ) (h : Fields) → h ≡ fields ctf
-    → first_nameless t (record { place = 4; reference = h.parlabel } ∷ record { place = 8; reference = h.parname } ∷ []) ≡ first_nameless t (record { place = 4; reference = (fields ctf).parlabel } ∷ record { place = 8; reference = (fields ctf).parname } ∷ [])
+    → first_nameless t (header_sites h) ≡ first_nameless t (header_sites (fields ctf))
 header_part t ctf h e = rw e refl
 
 pub label_part : (t : Tables) (ctf : List ℕ) (h : Fields) (r : ℕ × ℕ) → h ≡ fields ctf → r ≡ range_of h SLabels

@@ -18,6 +18,7 @@ use Rattle.ctf_model.specs.Term as term
 use Rattle.ctf_model.specs.declared.faults.Fault.{Fault}
 use Rattle.ctf_model.specs.declared.kinds.Kind.TheVariants.{KInteger}
 use Rattle.ctf_check.specs.Pieces.{piece_numbered}
+use Rattle.ctf_check.specs.Stages.{header_sites}
 use Rattle.ctf_check.proofs.Order.{faultless}
 use Rattle.ctf_check.proofs.Reading.{front_known, kind_taken}
 use Rattle.ctf_check.proofs.Sites.{nameless_append}
@@ -95,7 +96,7 @@ unfolding sites
 records_named t ctf e =
     let labels = label_sites ctf (36 + (fields ctf).lbloff) (((fields ctf).objtoff - (fields ctf).lbloff) / 8) in
     let of_records = record_sites (36 + (fields ctf).typeoff) (types ctf) in
-    let front = record { place = 4; reference = (fields ctf).parlabel } ∷ record { place = 8; reference = (fields ctf).parname } ∷ [] in
+    let front = header_sites (fields ctf) in
     last_nameless t labels of_records (last_nameless t front (labels ++ of_records) e)
 
 pub all_spelled : (s : Lists) → first_fault s ≡ None → AllByRecursion (IsSpelled (tables s)) (types s.ctf)

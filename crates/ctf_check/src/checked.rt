@@ -4,7 +4,6 @@ ghost use Rattle.std.specs.Option.{option_map};
 ghost use Rattle.ctf_model.specs.Dictionary.{said_by, denoted, name_or_empty};
 ghost use Rattle.ctf_model.specs.Faults.{first_fault};
 ghost use Rattle.ctf_model.specs.Header.{fields};
-ghost use Rattle.ctf_model.specs.Lists.{tables as tables_in};
 ghost use Rattle.ctf_model.specs.Record.{term_of};
 ghost use Rattle.ctf_sections.specs.StringsView.{tables};
 ghost use Rattle.ctf_check.specs.ListsView.{lists_in};
@@ -84,7 +83,8 @@ impl<'a> Checked<'a> {
     /// The record of an own type; they count from 1. It is looked for from the first record on.
     pub fn term(&self, index: usize) -> Option<Record<'a>>
         ensures exact { IsSome result ↔ IsSome (type_at (dictionary_of self.now) index) }
-        ensures spells { IfSome result (λ r. term_of (tables_of self.now) (bytes_of r) ≡ type_at (dictionary_of self.now) index) }
+        ensures spells { IfSome result (λ r. term_of (tables_of self.now) (bytes_of r)
+            ≡ type_at (dictionary_of self.now) index) }
         ensures index { IfSome result (λ r. index_of r ≡ index) }
         ensures own { IfSome result (λ r. IsOwn self.now r) }
     {
@@ -95,7 +95,8 @@ impl<'a> Checked<'a> {
     /// The name of a type of the dictionary.
     pub fn name(&self, term: &Record<'a>) -> &'a [u8]
         requires own { IsOwn self.now term.now }
-        ensures { option_map (λ x. x.name) (term_of (tables_of self.now) (bytes_of term.now)) ≡ Some result.now }
+        ensures { option_map (λ x. x.name) (term_of (tables_of self.now) (bytes_of term.now))
+            ≡ Some result.now }
     {
         self.named(u32_at(term.bytes, 0))
     }

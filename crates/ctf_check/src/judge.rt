@@ -3,6 +3,7 @@ ghost use Rattle.std.specs.Prelude.{◌≡◌, length, IfOk, IfErr, OnOk, IsNone
 ghost use Rattle.ctf_model.specs.Faults.{first_fault};
 ghost use Rattle.ctf_model.specs.Section.{records};
 ghost use Rattle.ctf_check.specs.CheckedView.{lists_of};
+ghost use Rattle.ctf_check.specs.ListsView.{given};
 ghost use Rattle.ctf_check.specs.Stages.{records_fault};
 
 use crate::checked::Checked;
@@ -35,17 +36,19 @@ fn count_records(types: &[u8]) -> Result<usize, Fault>
 }
 
 /// Judges a dictionary that is handed in as its CTF section and, where they are there, the program's
-/// symbol table and its strings. Its labels and records are read once for their form and once for
-/// their names.
+/// symbol table and its strings. Its records are read once for their form and once for their names.
 pub fn check<'a>(
     ctf: &'a [u8],
     sym: Option<&'a [u8]>,
     strs: Option<&'a [u8]>,
 ) -> Result<Checked<'a>, Fault>
     requires no_symbols { IsNone sym }
-    ensures lists { IfOk result (λ d. lists_of d ≡ record { ctf = ctf.now; sym = option_copied sym.entry; strs = option_copied strs.entry }) }
-    ensures exact_ok { OnOk result (first_fault (record { ctf = ctf.now; sym = option_copied sym.entry; strs = option_copied strs.entry }) ≡ None) }
-    ensures exact_err { IfErr result (λ f. first_fault (record { ctf = ctf.now; sym = option_copied sym.entry; strs = option_copied strs.entry }) ≡ Some f) }
+    ensures lists { IfOk result (λ d. lists_of d
+        ≡ given ctf.now (option_copied sym.entry) (option_copied strs.entry)) }
+    ensures exact_ok { OnOk result (first_fault
+        (given ctf.now (option_copied sym.entry) (option_copied strs.entry)) ≡ None) }
+    ensures exact_err { IfErr result (λ f. first_fault
+        (given ctf.now (option_copied sym.entry) (option_copied strs.entry)) ≡ Some f) }
 {
     let header = Header::read(ctf)?;
     let count = count_records(bytes_in(ctf, header, Section::STypes))?;

@@ -8,6 +8,8 @@ mod lists;
 mod names;
 mod record;
 mod sections;
+#[cfg(test)]
+mod tests;
 
 pub use checked::Checked;
 pub use judge::check;

@@ -1,10 +1,11 @@
 //! The rule of names: each name reference names something.
-ghost use Rattle.std.specs.Prelude.{◌≡◌, ◌≤◌, ◌+◌, ◌*◌, ◌^◌, [], ◌∷◌, length, is_none};
+ghost use Rattle.std.specs.Prelude.{◌≡◌, ◌≤◌, ◌+◌, ◌*◌, ◌^◌, length, is_none};
 ghost use Rattle.ctf_model.specs.Name.{name};
 ghost use Rattle.ctf_model.specs.Header.{fields};
 ghost use Rattle.ctf_model.specs.Faults.{first_nameless, label_sites, record_sites, sites};
 ghost use Rattle.ctf_model.specs.Section.{records};
 ghost use Rattle.ctf_sections.specs.StringsView.{tables};
+ghost use Rattle.ctf_check.specs.Stages.{header_sites};
 
 use crate::cursor::Records;
 use ctf_model::Section;
@@ -20,7 +21,7 @@ fn names_nothing(strings: Strings<'_>, reference: u32) -> bool
 /// The first of the header's names that is bad: its place in the dictionary.
 #[tactic(auto, unfolding(ctf_model::specs::Faults::first_nameless))]
 fn bad_in_header(header: Header, strings: Strings<'_>) -> Option<u64>
-    ensures { result ≡ first_nameless (tables strings.entry) (record { place = 4; reference = header.parlabel } ∷ record { place = 8; reference = header.parname } ∷ []) }
+    ensures { result ≡ first_nameless (tables strings.entry) (header_sites header) }
 {
     if names_nothing(strings, header.parlabel()) {
         Some(4)

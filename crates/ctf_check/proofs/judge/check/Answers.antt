@@ -5,6 +5,7 @@ use Rattle.ctf_model.specs.Lists.{Lists, tables as tables_in}
 use Rattle.ctf_model.specs.Name.{Tables}
 use Rattle.ctf_model.specs.Section.{Piece}
 use Rattle.ctf_model.specs.declared.faults.Fault.{Fault}
+use Rattle.ctf_check.specs.ListsView.{given}
 use Rattle.ctf_check.specs.Stages.{records_fault}
 use Rattle.ctf_check.proofs.Order.{at_header, at_records, at_names, types_are}
 use Rattle.ctf_check.proofs.Terms.{terms_count}
@@ -13,13 +14,13 @@ use Rattle.ctf_check.proofs.judge.check.Goals as goal
 pub returns-in_err-header-clause-exact_err : goal.returns-in_err-header-clause-exact_err
 returns-in_err-header-clause-exact_err c =
     let p = err_from_is_err_and c.from_residual.result c.from_residual.ensures.1 in
-    let s : Lists = record { ctf = c.args.ctf.now; sym = option_copied c.args.sym; strs = option_copied c.args.strs } in
+    let s = given c.args.ctf.now (option_copied c.args.sym) (option_copied c.args.strs) in
     rw (p.1, p.2) (at_header s c.in_err-header.field-0.0 c.in_err-header.ensures.exact_err)
 
 pub returns-in_err-count-clause-exact_err : goal.returns-in_err-count-clause-exact_err
 returns-in_err-count-clause-exact_err c =
     let p = err_from_is_err_and c.from_residual-in_err-count.result c.from_residual-in_err-count.ensures.1 in
-    let s : Lists = record { ctf = c.args.ctf.now; sym = option_copied c.args.sym; strs = option_copied c.args.strs } in
+    let s = given c.args.ctf.now (option_copied c.args.sym) (option_copied c.args.strs) in
     let part = types_are s.ctf c.bytes_in.result.now c.bytes_in.ensures in
     rw (p.1, p.2) (at_records s c.in_err-count.field-0.0 c.in_ok-header.ensures.exact_ok (ap records_fault (sym part) ∙ c.in_err-count.ensures.exact_err))
 
@@ -29,7 +30,7 @@ same_tables t s internal e i = rw (e, i) refl
 
 pub returns-in-Some-clause-exact_err : goal.returns-in-Some-clause-exact_err
 returns-in-Some-clause-exact_err c =
-    let s : Lists = record { ctf = c.args.ctf.now; sym = option_copied c.args.sym; strs = option_copied c.args.strs } in
+    let s = given c.args.ctf.now (option_copied c.args.sym) (option_copied c.args.strs) in
     let part = types_are s.ctf c.bytes_in.result.now c.bytes_in.ensures in
     let same = same_tables _ s c.bytes_in-2.result.now c.new-strings.ensures c.bytes_in-2.ensures in
     let bad = c.bad_name.ensures ∙ ap (λ (t : Tables). first_nameless t (sites s.ctf)) same in
@@ -38,7 +39,7 @@ returns-in-Some-clause-exact_err c =
 
 pub invariant_of-result : goal.invariant_of-result
 invariant_of-result c =
-    let s : Lists = record { ctf = c.args.ctf.now; sym = option_copied c.args.sym; strs = option_copied c.args.strs } in
+    let s = given c.args.ctf.now (option_copied c.args.sym) (option_copied c.args.strs) in
     let part = types_are s.ctf c.bytes_in.result.now c.bytes_in.ensures in
     let same = same_tables _ s c.bytes_in-2.result.now c.new-strings.ensures c.bytes_in-2.ensures in
     let bad = c.bad_name.ensures ∙ ap (λ (t : Tables). first_nameless t (sites s.ctf)) same in

@@ -1,0 +1,150 @@
+//! Headers and names typed by hand.
+
+use crate::bytes::{u16_at, u32_at};
+use crate::{Header, Strings};
+use ctf_model::{Fault, Section, placeless};
+
+/// An integer named "int": header, one record of 12 bytes, 5 bytes of strings.
+const INT: [u8; 53] = *b"\xf1\xcf\x02\x00\
+    \x00\x00\x00\x00\x00\x00\x00\x00\
+    \x00\x00\x00\x00\x00\x00\x00\x00\x00\x00\x00\x00\x00\x00\x00\x00\
+    \x0c\x00\x00\x00\x05\x00\x00\x00\
+    \x01\x00\x00\x00\x00\x0c\x04\x00\x20\x00\x00\x01\
+    \x00int\x00";
+
+/// `INT` with bytes changed.
+fn changed(changes: &[(usize, u8)]) -> [u8; 53] {
+    let mut ctf = INT;
+    for (at, byte) in changes {
+        if let Some(place) = ctf.get_mut(*at) {
+            *place = *byte;
+        }
+    }
+    ctf
+}
+
+#[test]
+fn judges_headers(rt: HostRuntime) {
+    let good: [&[(usize, u8)]; 7] = [
+        &[],
+        &[(3, 2)],
+        &[(4, 0xff), (8, 0xff)],
+        &[(24, 12)],
+        &[(28, 0), (32, 0)],
+        &[(28, 17), (32, 0)],
+        &[(12, 4), (16, 6), (20, 10), (24, 12)],
+    ];
+    for changes in good {
+        assert!(rt; Header::read(&changed(changes)).is_ok(), "at {changes:?}");
+    }
+    let bad: [(&[(usize, u8)], u16); 24] = [
+        (&[(0, 0)], Fault::BAD_MAGIC),
+        (&[(1, 0xf1), (2, 3)], Fault::BAD_MAGIC),
+        (&[(2, 1)], Fault::BAD_VERSION),
+        (&[(2, 3), (3, 1)], Fault::BAD_VERSION),
+        (&[(3, 1)], Fault::COMPRESSED),
+        (&[(3, 0xff)], Fault::COMPRESSED),
+        (&[(12, 4)], Fault::BAD_ORDER),
+        (&[(15, 0xff)], Fault::BAD_ORDER),
+        (&[(16, 2)], Fault::BAD_ORDER),
+        (&[(20, 2)], Fault::BAD_ORDER),
+        (&[(24, 16)], Fault::BAD_ORDER),
+        (&[(27, 0xff)], Fault::BAD_ORDER),
+        (&[(12, 2), (16, 4), (20, 4), (24, 4)], Fault::BAD_ALIGN),
+        (&[(16, 1), (20, 2), (24, 4)], Fault::BAD_ALIGN),
+        (&[(20, 3), (24, 4)], Fault::BAD_ALIGN),
+        (&[(24, 2)], Fault::BAD_ALIGN),
+        (&[(24, 2), (31, 0xff)], Fault::BAD_ALIGN),
+        (&[(28, 13)], Fault::PAST_END),
+        (&[(31, 0xff)], Fault::PAST_END),
+        (&[(32, 6)], Fault::PAST_END),
+        (&[(35, 0xff)], Fault::PAST_END),
+        (
+            &[(28, 0xff), (29, 0xff), (30, 0xff), (31, 0xff)],
+            Fault::PAST_END,
+        ),
+        (&[(28, 8)], Fault::BAD_STRINGS),
+        (&[(48, 1)], Fault::BAD_STRINGS),
+    ];
+    for (changes, code) in bad {
+        assert_eq!(rt;
+            Header::read(&changed(changes)).err(),
+            Some(placeless(code)),
+            "at {changes:?}"
+        );
+    }
+}
+
+#[test]
+fn judges_lengths(rt: HostRuntime) {
+    for (len, code) in [
+        (0, Fault::TOO_SHORT),
+        (3, Fault::TOO_SHORT),
+        (4, Fault::SHORT_HEADER),
+        (35, Fault::SHORT_HEADER),
+        (36, Fault::PAST_END),
+        (52, Fault::PAST_END),
+    ] {
+        let cut = INT.get(..len).unwrap_or(&[]);
+        assert_eq!(rt; Header::read(cut).err(), Some(placeless(code)), "at {len}");
+    }
+}
+
+#[test]
+fn gives_ranges_and_references(rt: HostRuntime) {
+    let ctf = changed(&[(4, 1), (8, 2), (12, 0), (16, 4), (20, 6), (24, 8)]);
+    let Ok(header) = Header::read(&ctf) else {
+        panic!(rt; "it is a good header")
+    };
+    for (section, range) in [
+        (Section::SLabels, (36, 40)),
+        (Section::SObjects, (40, 42)),
+        (Section::SFunctions, (42, 44)),
+        (Section::STypes, (44, 48)),
+        (Section::SStrings, (48, 53)),
+    ] {
+        assert_eq!(rt; header.range(section), range, "at {section:?}");
+    }
+    assert_eq!(rt; (header.parlabel(), header.parname()), (1, 2));
+}
+
+#[test]
+fn finds_names(rt: HostRuntime) {
+    let both = Strings::new(b"\0int\0tail", Some(b"\0elf\0"));
+    let rows: [(u32, Option<&[u8]>); 11] = [
+        (0, Some(b"")),
+        (1, Some(b"int")),
+        (2, Some(b"nt")),
+        (4, Some(b"")),
+        (5, None),
+        (9, None),
+        (0x7fff_ffff, None),
+        (0x8000_0000, Some(b"")),
+        (0x8000_0001, Some(b"elf")),
+        (0x8000_0005, None),
+        (0xffff_ffff, None),
+    ];
+    for (reference, name) in rows {
+        assert_eq!(rt; both.name(reference), name, "at {reference}");
+    }
+    let neither = Strings::new(b"", None);
+    let rows: [(u32, Option<&[u8]>); 4] = [
+        (0, Some(b"")),
+        (1, None),
+        (0x8000_0000, Some(b"")),
+        (0x8000_0001, None),
+    ];
+    for (reference, name) in rows {
+        assert_eq!(rt;
+            neither.name(reference),
+            name,
+            "without tables, at {reference}"
+        );
+    }
+}
+
+#[test]
+fn reads_numbers(rt: HostRuntime) {
+    let bytes = b"\x01\x02\x03\x04\x05";
+    assert_eq!(rt; (u16_at(bytes, 1), u32_at(bytes, 1)), (0x0302, 0x0504_0302));
+}
