@@ -1,3 +1,4 @@
+pub mod Cut
 pub mod Nameless
 pub mod Prefix
 pub mod Unique

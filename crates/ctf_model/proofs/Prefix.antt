@@ -31,11 +31,15 @@ size-append a x false e low h = rw (field-append a x low, e) refl
 same_kind : {A : Type 0} (x y : A) → Some x ≡ Some y → x ≡ y
 same_kind x y e = cc
 
-record_len-append : (a x : List ℕ) (k : Kind) → IsWholeAt a k → head_len (a ++ x) + variant_len k (size (a ++ x)) (vlen (a ++ x)) ≡ length a
-record_len-append a x k p =
-    let low = p.has_head in
-    let enough : head_len a ≤ length a = omega (arith, p.ends) in
-    rw (size-append a x (is_long a) refl low enough, field-append a x low, u16-append a x 4 (omega arith)) (sym p.ends)
+-- bytes behind a head change neither its length nor the length that it calls for
+pub head_len-append : (a x : List ℕ) → 8 ≤ length a → head_len (a ++ x) ≡ head_len a
+head_len-append a x low = rw (field-append a x low) refl
+
+pub record_len-append : (a x : List ℕ) (k : Kind) → 8 ≤ length a → head_len a ≤ length a → head_len (a ++ x) + variant_len k (size (a ++ x)) (vlen (a ++ x)) ≡ head_len a + variant_len k (size a) (vlen a)
+record_len-append a x k low enough = rw (size-append a x (is_long a) refl low enough, field-append a x low, u16-append a x 4 (omega arith)) refl
+
+pub kind-append : (a x : List ℕ) → 8 ≤ length a → kind (a ++ x) ≡ kind a
+kind-append a x low = let same : info (a ++ x) ≡ info a = u16-append a x 4 (omega arith) in rw same refl
 
 at_kinds : (a x : List ℕ) (o o' : Option Kind) → o' ≡ o → MatchOption o ⊥ (IsWholeAt a) → MatchOption o' ⊥ (IsWholeAt (a ++ x)) → x ≡ []
 at_kinds a x None o' e p q = absurd p
@@ -43,15 +47,14 @@ at_kinds a x (Some k) None e p q = absurd q
 at_kinds a x (Some k) (Some k') e p q =
     let same : k' ≡ k = cc in
     let q' : IsWholeAt (a ++ x) k = subst (IsWholeAt (a ++ x)) same q in
-    let len : length (a ++ x) ≡ length a = q'.ends ∙ record_len-append a x k p in
+    let enough : head_len a ≤ length a = omega (arith, p.ends) in
+    let len : length (a ++ x) ≡ length a = q'.ends ∙ record_len-append a x k p.has_head enough ∙ sym p.ends in
     let none : length x ≡ 0 = omega (arith, length-append a x) in nil_from_length x none
 
-has_head : (o : Option Kind) (a : List ℕ) → MatchOption o ⊥ (IsWholeAt a) → 8 ≤ length a
+pub has_head : (o : Option Kind) (a : List ℕ) → MatchOption o ⊥ (IsWholeAt a) → 8 ≤ length a
 has_head None a p = absurd p
 has_head (Some k) a p = p.has_head
 
 pub IsWhole-prefix : (a x : List ℕ) → IsWhole a → IsWhole (a ++ x) → x ≡ []
 unfolding IsWhole
-IsWhole-prefix a x p q =
-    let same : info (a ++ x) ≡ info a = u16-append a x 4 (let h = has_head (kind a) a p in omega arith) in
-    at_kinds a x (kind a) (kind (a ++ x)) (rw same refl) p q
+IsWhole-prefix a x p q = at_kinds a x (kind a) (kind (a ++ x)) (kind-append a x (has_head (kind a) a p)) p q

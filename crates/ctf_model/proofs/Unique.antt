@@ -25,7 +25,7 @@ longer a b x y p q e le =
 pub one_front : (a b x y : List ℕ) → IsWhole a → IsWhole b → a ++ x ≡ b ++ y → a ≡ b
 one_front a b x y p q e = ⊎_elim (λ lt. longer a b x y p q e (omega arith)) (λ le. sym (longer b a y x q p (sym e) le)) (cases_lt (length a) (length b))
 
-one_rest : (a b x y : List ℕ) → a ≡ b → a ++ x ≡ b ++ y → x ≡ y
+pub one_rest : (a b x y : List ℕ) → a ≡ b → a ++ x ≡ b ++ y → x ≡ y
 one_rest a b x y same e = sym (drop_at a x (length a) refl) ∙ ap (drop (length a)) e ∙ (rw same (drop_at b y (length b) refl))
 
 some_same : (x y : Term) → Some x ≡ Some y → x ≡ y

@@ -8,7 +8,7 @@ use Rattle.ctf_model.specs.declared.kinds.Kind.{Kind}
 use Rattle.ctf_model.specs.Record.{head_len, is_long, variant_len, size, vlen, kind}
 use Rattle.ctf_model.specs.Section.{Piece, front_len, fitting, step, stop_code, walk}
 
-fitting_range : (room m n : ℕ) → fitting room m ≡ Some n → (m ≡ n) × (n ≤ room)
+pub fitting_range : (room m n : ℕ) → fitting room m ≡ Some n → (m ≡ n) × (n ≤ room)
 fitting_range room m n e = at (leb m room) refl e
   where
     at : (b : Bool) → leb m room ≡ b → cond b (Some m) None ≡ Some n → (m ≡ n) × (n ≤ room)
