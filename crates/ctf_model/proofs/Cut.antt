@@ -3,6 +3,7 @@ use Rattle.std.proofs.Common.{◌≡◌, ℕ, zero, suc, ◌+◌, ◌<◌, ◌�
 use Rattle.std.specs.Prelude.{MatchOption, is_none, ◌&&◌}
 use Rattle.std.specs.List.{concat, AllByRecursion}
 use Rattle.std.specs.Option.{option_and_then}
+use Rattle.std.specs.Bool.{Decides}
 use Rattle.std.proofs.lemmas.Bool.{le-leb, le-ltb, leb-true, eqb-true, eqb-false, and_parts, true_from_ne_false}
 use Rattle.std.proofs.lemmas.List.{take-append-drop, take_at, drop_at, append_assoc, length-append, length-take, length-drop, nil_from_length}
 use Rattle.ctf_model.specs.declared.faults.Fault.{Fault}
@@ -134,6 +135,10 @@ unknown_true b e = let both = and_parts (leb 8 (length b)) (is_none (kind b)) e 
 
 pub code_unknown : (b : List ℕ) → HasUnknownKind b → stop_code b ≡ BAD_KIND
 code_unknown b h = let long : leb 8 (length b) ≡ true = le-leb 8 (length b) h.0 in rw (long, h.1) refl
+
+-- the test that picks the code decides the fact
+pub unknown_decided : (b : List ℕ) → Decides (leb 8 (length b) && is_none (kind b)) (HasUnknownKind b)
+unknown_decided b = (unknown_true b, λ h. let long : leb 8 (length b) ≡ true = le-leb 8 (length b) h.0 in rw (long, h.1) refl)
 
 pub code_cut_off : (b : List ℕ) → ¬ HasUnknownKind b → stop_code b ≡ TRUNCATED
 code_cut_off b no_kind = at (leb 8 (length b) && is_none (kind b)) refl

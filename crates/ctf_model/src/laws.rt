@@ -17,3 +17,8 @@ pub fn records_are_a_cut()
     ensures read { RecordsAreACut }
     ensures one { OneCut }
 {}
+
+/// The first fault is the least rule that is broken, at its least place; without one every rule is kept.
+pub fn first_fault_is_the_least()
+    ensures { FirstFaultIsTheLeast }
+{}
