@@ -1,4 +1,5 @@
 pub mod Cut
+pub mod Denoted
 pub mod FirstFault
 pub mod HeaderRules
 pub mod Judge

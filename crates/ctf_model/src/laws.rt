@@ -22,3 +22,10 @@ pub fn records_are_a_cut()
 pub fn first_fault_is_the_least()
     ensures { FirstFaultIsTheLeast }
 {}
+
+/// Lists denote a dictionary exactly where they have no fault, and then just one, which is what is computed.
+pub fn faultless_exactly_where_denoted()
+    ensures denoted { FaultlessWhereDenoted }
+    ensures one { DenotesOne }
+    ensures computed { ComputesWhatIsDenoted }
+{}

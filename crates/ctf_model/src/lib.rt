@@ -13,7 +13,8 @@ mod sections;
 pub use bytes::{Bytes, LONGEST_PIECE, Piece};
 pub use faults::{Fault, fault_name};
 pub use kinds::Kind;
-pub use laws::{first_fault_is_the_least, no_record_begins_another, records_are_a_cut, section_spells_one_list};
+pub use laws::{faultless_exactly_where_denoted, first_fault_is_the_least, no_record_begins_another, records_are_a_cut,
+    section_spells_one_list};
 pub use numbers::{SlotNumber, TypeNum};
 pub use replies::{Answer, Reply};
 pub use requests::{ListName, Request};
