@@ -94,12 +94,15 @@ cut_below (suc bound) b le = at (front_len b) refl (λ n e. let range = front_le
     at : (r : Option ℕ) → front_len b ≡ r → ((n : ℕ) → front_len b ≡ Some n → (parts : List (List ℕ)) × (rest : List ℕ) × IsCut (drop n b) parts rest) → (parts : List (List ℕ)) × (rest : List ℕ) × IsCut b parts rest
     at None e more = ([], b, record { joined = refl; whole = tt; stops = stops_none b e })
     at (Some n) e more =
-        let later = more n e in
-        (take n b ∷ later.0, later.1, record {
-          joined = sym (take-append-drop n b) ∙ ap (λ (r : List ℕ). take n b ++ r) later.2.joined ∙ sym (append_assoc (take n b) (concat later.0) later.1);
-          whole = (front_whole b n e, later.2.whole);
-          stops = later.2.stops;
-        })
+        let later = more n e in (
+          take n b ∷ later.0,
+          later.1,
+          record {
+            joined = sym (take-append-drop n b) ∙ ap (λ (r : List ℕ). take n b ++ r) later.2.joined ∙ sym (append_assoc (take n b) (concat later.0) later.1);
+            whole = (front_whole b n e, later.2.whole);
+            stops = later.2.stops;
+          },
+        )
 
 -- ---- reading gives the records of a cut
 

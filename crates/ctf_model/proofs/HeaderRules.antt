@@ -100,9 +100,9 @@ strings_decided : (ctf : List ℕ) → start ctf + (fields ctf).strlen ≤ lengt
 strings_decided ctf h =
     let len = strings_len ctf h in
     Decides-like _
-      (λ (p : (0 < (fields ctf).strlen) × (slice_index ctf (start ctf) ≢ 0)). let some : 0 < length (section ctf SStrings) = omega (arith, len, p.0) in (some, λ e. p.1 (sym (strings_first ctf p.0) ∙ e)))
-      (λ q. let some : 0 < (fields ctf).strlen = omega (arith, len, q.0) in (some, λ e. q.1 (strings_first ctf some ∙ e)))
-      (Decides-and _ _ (Decides-ltb 0 (fields ctf).strlen) (Decides-not _ (Decides-eqb (slice_index ctf (start ctf)) 0)))
+    (λ (p : (0 < (fields ctf).strlen) × (slice_index ctf (start ctf) ≢ 0)). let some : 0 < length (section ctf SStrings) = omega (arith, len, p.0) in (some, λ e. p.1 (sym (strings_first ctf p.0) ∙ e)))
+    (λ q. let some : 0 < (fields ctf).strlen = omega (arith, len, q.0) in (some, λ e. q.1 (strings_first ctf some ∙ e)))
+    (Decides-and _ _ (Decides-ltb 0 (fields ctf).strlen) (Decides-not _ (Decides-eqb (slice_index ctf (start ctf)) 0)))
 
 pub agrees_9 : (s : Lists) → Keeps s 9 → Agrees (bad_strings s.ctf) (IsBroken s 9)
 agrees_9 s keeps = at _ (strings_decided s.ctf (kept_end s 9 (omega arith) keeps))

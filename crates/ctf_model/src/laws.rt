@@ -1,6 +1,14 @@
 //! Laws over the definitions alone. Each is the contract of a function that does nothing.
-ghost use Rattle.ctf_model.specs.Laws.{ComputesWhatIsDenoted, DenotesOne, FaultlessWhereDenoted,
-    FirstFaultIsTheLeast, NoRecordBeginsAnother, OneCut, RecordsAreACut, SectionSpellsOneList};
+ghost use Rattle.ctf_model.specs.Laws.{
+  ComputesWhatIsDenoted,
+  DenotesOne,
+  FaultlessWhereDenoted,
+  FirstFaultIsTheLeast,
+  NoRecordBeginsAnother,
+  OneCut,
+  RecordsAreACut,
+  SectionSpellsOneList,
+};
 
 /// No whole record is the beginning of another.
 pub fn no_record_begins_another()
