@@ -1,26 +1,26 @@
 -- Lists that keep every rule denote just one dictionary.
-use Rattle.std.proofs.Common.{◌≡◌, ℕ, zero, suc, ◌+◌, ◌-◌, ◌*◌, ◌/◌, ◌^◌, ◌<◌, ◌≤◌, Bool, true, false, cond, eqb, List, [], ◌∷◌, ◌++◌, length, take, drop, Option, Some, None, Result, Ok, Err, refl, sym, ap, subst, ◌∙◌, arith}
+use Rattle.std.proofs.Common.{◌≡◌, ℕ, zero, suc, ◌+◌, ◌-◌, ◌*◌, ◌/◌, ◌^◌, ◌<◌, ◌≤◌, Bool, true, false, cond, eqb, List, [], ◌∷◌, ◌++◌, length, take, drop, Option, Some, None, Result, refl, sym, ap, subst, ◌∙◌, arith}
 use Rattle.std.specs.Prelude.{MatchOption, unwrap_or, ◌↔◌}
 use Rattle.std.specs.List.{concat, AllByRecursion}
-use Rattle.std.proofs.lemmas.List.{length-take, length-drop, take-take, drop-take, drop-drop, append_assoc, append-nil, nil_from_length}
+use Rattle.std.proofs.lemmas.List.{length-take, length-drop, take-take, drop-take, drop-drop, append_assoc, nil_from_length}
 use Rattle.ctf_model.specs.Bytes.{number, u32_at}
 use Rattle.ctf_model.specs.declared.faults.Fault.{Fault}
 use Rattle.ctf_model.specs.declared.kinds.Kind.{Kind}
 use Rattle.ctf_model.specs.declared.kinds.Kind.TheVariants.{KInteger}
 use Rattle.ctf_model.specs.declared.sections.Section.TheVariants.{SLabels, STypes}
-use Rattle.ctf_model.specs.Dictionary.{Dictionary, Label, Denotes, AreLabels, name_or_empty, labels_in, onto, terms_in, said_by, denoted, unless_fault}
+use Rattle.ctf_model.specs.Dictionary.{Dictionary, Label, Denotes, AreLabels, labels_in, terms_in, said_by, denoted, unless_fault}
 use Rattle.ctf_model.specs.Faults.{Site, first_fault, label_sites, record_sites, sites, types}
-use Rattle.ctf_model.specs.Header.{Fields, fields, section}
-use Rattle.ctf_model.specs.Laws.{KeepsEveryRule, pieces, rest_fault}
+use Rattle.ctf_model.specs.Header.{fields, section}
+use Rattle.ctf_model.specs.Laws.{KeepsEveryRule, pieces}
 use Rattle.ctf_model.specs.Lists.{Lists, tables}
 use Rattle.ctf_model.specs.Name.{Tables, name}
-use Rattle.ctf_model.specs.Record.{IsWhole, IsWholeAt, Spells, term_of, kind, kind_numbered, info, body_of, is_root, scalar}
+use Rattle.ctf_model.specs.Record.{IsWhole, IsWholeAt, Spells, term_of, kind, kind_numbered, info, is_root, scalar}
 use Rattle.ctf_model.specs.Rules.{IsFirstFault}
-use Rattle.ctf_model.specs.Section.{Section, Piece, IsCut}
+use Rattle.ctf_model.specs.Section.{Section, Piece}
 use Rattle.ctf_model.specs.Term.{Term}
 use Rattle.ctf_model.specs.Term as term
 use Rattle.ctf_model.proofs.Judge.{least_fault}
-use Rattle.ctf_model.proofs.HeaderRules.{InOrder, kept_order, kept_end}
+use Rattle.ctf_model.proofs.HeaderRules.{kept_order, kept_end}
 use Rattle.ctf_model.proofs.NameRules.{IsNameless, any_here, any_there}
 use Rattle.ctf_model.proofs.RecordRules.{kept_records, types_cut}
 use Rattle.ctf_model.proofs.Unique.{one_list}

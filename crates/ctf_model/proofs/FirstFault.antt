@@ -1,8 +1,8 @@
 -- A table of computed rules finds the least fact that holds, at its least place.
-use Rattle.std.proofs.Common.{◌≡◌, ℕ, ◌+◌, ◌<◌, ◌≤◌, Bool, true, false, cond, List, [], ◌∷◌, length, Option, Some, None, refl, sym, ap, subst, ◌∙◌, arith, below_more, below_none, ⊎_elim}
+use Rattle.std.proofs.Common.{◌≡◌, ℕ, ◌+◌, ◌<◌, ◌≤◌, Bool, true, false, List, [], ◌∷◌, length, Option, Some, None, refl, subst, arith, below_more, ⊎_elim}
 use Rattle.std.specs.Prelude.{MatchOption}
 use Rattle.std.specs.Bool.{Decides}
-use Rattle.std.proofs.Math.ListN.{get_or, get_or-eq_default}
+use Rattle.std.proofs.Math.ListN.{get_or-eq_default}
 use Rattle.std.proofs.lemmas.Bool.{cases_lt, false≢true}
 use Rattle.ctf_model.specs.Faults.{if_broken, first_broken, or_later}
 use Rattle.ctf_model.specs.Laws.{KeepsEveryRule}

@@ -1,5 +1,5 @@
 -- Each rule of the header agrees with its fact.
-use Rattle.std.proofs.Common.{◌≡◌, ◌≢◌, ℕ, ◌+◌, ◌-◌, ◌%◌, ◌<◌, ◌≤◌, Bool, eqb, ltb, List, length, take, drop, refl, sym, ap, ◌∙◌, arith, true, false, ◌⊎◌, inl, inr, ⊎_elim}
+use Rattle.std.proofs.Common.{◌≡◌, ◌≢◌, ℕ, ◌+◌, ◌-◌, ◌%◌, ◌<◌, ◌≤◌, Bool, eqb, ltb, List, length, drop, refl, sym, ap, ◌∙◌, arith, true, false, ◌⊎◌, inl, inr, ⊎_elim}
 use Rattle.std.specs.Prelude.{slice_index, not, ◌&&◌, ◌||◌}
 use Rattle.std.specs.Bool.{Decides}
 use Rattle.std.proofs.lemmas.Bool.{cases_lt, false≢true}
@@ -7,10 +7,9 @@ use Rattle.std.proofs.lemmas.Bool.Decides.{Decides-eqb, Decides-ltb, Decides-not
 use Rattle.std.proofs.lemmas.List.{length-take, length-drop, get_or-take, get_or-drop}
 use Rattle.ctf_model.specs.Bytes.{u16_at}
 use Rattle.ctf_model.specs.Faults.{if_broken, too_short, bad_magic, bad_version, compressed, short_header, bad_order, bad_align, past_end, bad_strings, is_out_of_order, is_misaligned}
-use Rattle.ctf_model.specs.Header.{Fields, fields, section, range_of}
+use Rattle.ctf_model.specs.Header.{Fields, fields, section}
 use Rattle.ctf_model.specs.Lists.{Lists}
 use Rattle.ctf_model.specs.Rules.{IsBroken, Keeps, IsOutOfOrder, IsMisaligned}
-use Rattle.ctf_model.specs.declared.sections.Section.{Section}
 use Rattle.ctf_model.specs.declared.sections.Section.TheVariants.{SStrings}
 use Rattle.ctf_model.proofs.FirstFault.{Agrees, test_agrees}
 

@@ -1,5 +1,5 @@
 -- The computed first fault is the least rule that is broken, at its least place.
-use Rattle.std.proofs.Common.{ℕ, ◌+◌, Option, Some, None, refl}
+use Rattle.std.proofs.Common.{Option, Some, None, refl}
 use Rattle.std.specs.Prelude.{MatchOption}
 use Rattle.ctf_model.specs.Faults.{first_fault, rules}
 use Rattle.ctf_model.specs.Laws.{KeepsEveryRule}

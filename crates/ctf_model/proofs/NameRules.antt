@@ -1,12 +1,11 @@
 -- The rule of names agrees with its fact: the sites are listed by rising places.
-use Rattle.std.proofs.Common.{◌≡◌, ℕ, zero, suc, ◌+◌, ◌-◌, ◌*◌, ◌/◌, ◌<◌, ◌≤◌, Bool, true, false, cond, eqb, List, [], ◌∷◌, ◌++◌, length, Option, Some, None, Result, Ok, Err, refl, sym, ap, subst, ◌∙◌, arith, ◌⊎◌, inl, inr}
+use Rattle.std.proofs.Common.{◌≡◌, ℕ, zero, suc, ◌+◌, ◌-◌, ◌*◌, ◌/◌, ◌<◌, ◌≤◌, Bool, true, false, cond, eqb, List, [], ◌∷◌, ◌++◌, length, Option, Some, None, Result, Err, refl, sym, subst, arith, ◌⊎◌, inl, inr}
 use Rattle.std.specs.Prelude.{is_none, Any, slice_index_or}
-use Rattle.ctf_model.specs.Bytes.{u32_at}
 use Rattle.ctf_model.specs.declared.faults.Fault.{Fault}
 use Rattle.ctf_model.specs.declared.sections.Section.TheVariants.{STypes}
 use Rattle.ctf_model.specs.Faults.{Site, first_nameless, label_sites, record_sites, sites, bad_name, types}
-use Rattle.ctf_model.specs.Header.{Fields, fields, section}
-use Rattle.ctf_model.specs.Laws.{pieces, rest_fault}
+use Rattle.ctf_model.specs.Header.{fields, section}
+use Rattle.ctf_model.specs.Laws.{pieces}
 use Rattle.ctf_model.specs.Lists.{Lists, tables}
 use Rattle.ctf_model.specs.Name.{Tables, name}
 use Rattle.ctf_model.specs.Rules.{IsBroken, Keeps}

@@ -1,7 +1,7 @@
 -- Each rule of the records agrees with its fact.
-use Rattle.std.proofs.Common.{◌≡◌, ℕ, suc, ◌+◌, ◌<◌, ◌≤◌, Bool, true, false, cond, eqb, ltb, leb, List, [], ◌∷◌, length, Option, Some, None, Result, Ok, Err, refl, sym, ap, ◌∙◌, arith, ◌⊎◌, inl, inr, ⊎_elim}
+use Rattle.std.proofs.Common.{◌≡◌, ℕ, suc, ◌+◌, ◌<◌, ◌≤◌, Bool, true, false, cond, eqb, ltb, List, [], ◌∷◌, length, Some, None, Result, refl, sym, ap, ◌∙◌, arith, ◌⊎◌, inl, inr}
 use Rattle.std.specs.Bool.{Decides}
-use Rattle.std.proofs.lemmas.Bool.{eqb-true, eqb-false, ne_eqb, ltb-true, lt-ltb, cases_lt}
+use Rattle.std.proofs.lemmas.Bool.{eqb-true, eqb-false, ne_eqb, ltb-true, lt-ltb}
 use Rattle.ctf_model.specs.declared.faults.Fault.{Fault}
 use Rattle.ctf_model.specs.declared.faults.TheConstants.Fault.{TRUNCATED, BAD_KIND}
 use Rattle.ctf_model.specs.declared.sections.Section.TheVariants.{STypes}
@@ -12,7 +12,7 @@ use Rattle.ctf_model.specs.Lists.{Lists}
 use Rattle.ctf_model.specs.Rules.{IsBroken, Keeps, Truncated, BadKind, TooMany, HasUnknownKind}
 use Rattle.ctf_model.specs.Section.{Piece, IsCut, stop_code}
 use Rattle.ctf_model.proofs.Cut.{read, records_cut, code_unknown, code_cut_off, unknown_decided}
-use Rattle.ctf_model.proofs.FirstFault.{Agrees, IsExactly, exact_agrees}
+use Rattle.ctf_model.proofs.FirstFault.{Agrees, exact_agrees}
 
 -- ---- what reading gives for a cut of the type section
 

@@ -1,5 +1,5 @@
 -- Laws over the definitions alone. Each is the contract of a function of src/laws.rt.
-use Rattle.std.specs.Prelude.{◌≡◌, ◌↔◌, ℕ, ◌+◌, ◌==◌, List, [], ◌∷◌, ◌++◌, length, Option, Some, None, Result, Ok, Err, MatchOption, if◌then◌else◌}
+use Rattle.std.specs.Prelude.{◌≡◌, ◌↔◌, ℕ, ◌+◌, ◌==◌, List, [], ◌∷◌, ◌++◌, length, Some, None, Result, Ok, Err, MatchOption, if◌then◌else◌}
 use Rattle.ctf_model.specs.Dictionary.{Dictionary, Denotes, denoted}
 use Rattle.ctf_model.specs.Faults.{first_fault}
 use Rattle.ctf_model.specs.Lists.{Lists}

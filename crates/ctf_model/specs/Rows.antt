@@ -1,7 +1,7 @@
 -- Worked rows: what the definitions say of small inputs. The values were worked out by hand from the format.
-use Rattle.std.specs.Prelude.{◌≡◌, ℕ, ◌/◌, ◌%◌, ◌^◌, true, false, List, [], ◌∷◌, ◌++◌, take, drop, slice_set, Option, Some, None, Result, Ok, Err, codes}
+use Rattle.std.specs.Prelude.{◌≡◌, ℕ, ◌/◌, ◌%◌, ◌^◌, true, false, List, [], ◌∷◌, ◌++◌, take, drop, slice_set, Some, None, Result, Ok, Err, codes}
 use Rattle.ctf_model.specs.Ask.{ask}
-use Rattle.ctf_model.specs.Dictionary.{Dictionary, Label, denoted}
+use Rattle.ctf_model.specs.Dictionary.{Dictionary, denoted}
 use Rattle.ctf_model.specs.Faults.{first_fault}
 use Rattle.ctf_model.specs.Lines.{all_lines}
 use Rattle.ctf_model.specs.Lists.{Lists}
@@ -10,7 +10,7 @@ use Rattle.ctf_model.specs.Output as marks
 use Rattle.ctf_model.specs.Record.{variant_len}
 use Rattle.ctf_model.specs.ReplyLines.{fault_line, reply_line}
 use Rattle.ctf_model.specs.Runs.{Given, private_state, private_replies}
-use Rattle.ctf_model.specs.State.{State, empty_state}
+use Rattle.ctf_model.specs.State.{empty_state}
 use Rattle.ctf_model.specs.Term.{Scalar, Body, Term}
 use Rattle.ctf_model.specs.Term as term
 use Rattle.ctf_model.specs.TypeNumbers.{type_at}

@@ -74,7 +74,7 @@ impl Piece {
         ensures bytes { result.now ≡ self.now }
         ensures short { length result.now ≤ LONGEST_PIECE }
     {
-        &self.bytes
+        self.bytes.as_slice()
     }
 
     /// The bytes, handed back without copying.
@@ -82,6 +82,7 @@ impl Piece {
         ensures bytes { result.items ≡ self }
         ensures short { vec_len result ≤ LONGEST_PIECE }
     {
-        self.bytes
+        let Piece { bytes } = self;
+        bytes
     }
 }

@@ -10,6 +10,8 @@ mod replies;
 mod requests;
 mod rows;
 mod sections;
+#[cfg(test)]
+mod tests;
 
 pub use bytes::{Bytes, LONGEST_PIECE, Piece};
 pub use faults::{Fault, fault_name};
