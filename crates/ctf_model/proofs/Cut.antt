@@ -6,6 +6,7 @@ use Rattle.std.specs.Option.{option_and_then}
 use Rattle.std.specs.Bool.{Decides}
 use Rattle.std.proofs.lemmas.Bool.{le-leb, le-ltb, leb-true, eqb-true, and_parts}
 use Rattle.std.proofs.lemmas.List.{take-append-drop, take_at, drop_at, append_assoc, length-append, length-take, length-drop}
+use Rattle.std.proofs.lemmas.Option.{same_Some}
 use Rattle.ctf_model.specs.declared.faults.Fault.{Fault}
 use Rattle.ctf_model.specs.declared.faults.TheConstants.Fault.{TRUNCATED, BAD_KIND}
 use Rattle.ctf_model.specs.declared.kinds.Kind.{Kind}
@@ -19,11 +20,9 @@ use Rattle.ctf_model.proofs.Walk.{fitting_range, front_len_range, walk_ended, wa
 
 -- ---- the record that begins bytes
 
+-- what has room is there
 fits : (room n : ℕ) → n ≤ room → fitting room n ≡ Some n
 fits room n h = let test : leb n room ≡ true = le-leb n room h in rw test refl
-
-some_kind : (k l : Kind) → Some k ≡ Some l → k ≡ l
-some_kind k l e = cc
 
 -- where a whole record begins the bytes, its length is computed
 pub front_len-whole : (a x : List ℕ) → IsWhole a → front_len (a ++ x) ≡ Some (length a)
@@ -37,7 +36,7 @@ front_len-whole a x p =
     at None o' e p = absurd p
     at (Some k) None e p = absurd cc
     at (Some k) (Some k') e p =
-        let same : k' ≡ k = some_kind k' k e in
+        let same : k' ≡ k = same_Some k' k e in
         let enough : head_len a ≤ length a = omega (arith, p.ends) in
         let len : head_len (a ++ x) + variant_len k (size (a ++ x)) (vlen (a ++ x)) ≡ length a = record_len-append a x k p.has_head enough ∙ sym p.ends in
         rw (same, len) (fits (length (a ++ x)) (length a) (omega (arith, length-append a x)))
@@ -57,10 +56,11 @@ whole-front_len a x e =
         let len = (fitting_range (length (a ++ x)) (head_len (a ++ x) + variant_len k (size (a ++ x)) (vlen (a ++ x))) (length a) e).0 in
         let head = head_len-append a x low in
         let enough : head_len a ≤ length a = omega (arith, len, head) in
-        let kinds : k ≡ k' = some_kind k k' same in
+        let kinds : k ≡ k' = same_Some k k' same in
         let ends : length a ≡ head_len a + variant_len k (size a) (vlen a) = sym len ∙ record_len-append a x k low enough in
         subst (IsWholeAt a) kinds (record { has_head = low; ends = ends })
 
+-- the bytes of a computed length are a whole record
 pub front_whole : (b : List ℕ) (n : ℕ) → front_len b ≡ Some n → IsWhole (take n b)
 front_whole b n e =
     let range = front_len_range b n e in
@@ -74,6 +74,7 @@ stops_none b e front rest p same =
     let some = front_len-whole front rest p in
     let none : front_len (front ++ rest) ≡ None = ap front_len (sym same) ∙ e in absurd cc
 
+-- the same, the other way round
 pub none_from_stops : (b : List ℕ) → Stops b → front_len b ≡ None
 none_from_stops b stops = at (front_len b) refl
   where
@@ -83,6 +84,7 @@ none_from_stops b stops = at (front_len b) refl
 
 -- ---- every list of bytes has a cut
 
+-- bytes of at most so many have a cut
 cut_below : (bound : ℕ) (b : List ℕ) → length b ≤ bound → (parts : List (List ℕ)) × (rest : List ℕ) × IsCut b parts rest
 cut_below zero b le = ([], b, record { joined = refl; whole = tt; stops = stops_none b (at (front_len b) refl) })
   where
@@ -106,6 +108,7 @@ cut_below (suc bound) b le = at (front_len b) refl (λ n e. let range = front_le
 
 -- ---- reading gives the records of a cut
 
+-- where no whole record begins the bytes, reading gives their fault
 walk_rest : (b : List ℕ) (index at : ℕ) → Stops b → walk (length b) index at b ≡ rest_fault index b
 walk_rest b index at stops = go (eqb (length b) 0) refl
   where
@@ -113,6 +116,7 @@ walk_rest b index at stops = go (eqb (length b) 0) refl
     go true e = rw e (walk_ended (length b) index at b (eqb-true (length b) 0 e))
     go false e = rw e (walk_none index at b (nonempty b e) (none_from_stops b stops))
 
+-- reading a cut gives its records and the fault of its rest
 walk_cut : (parts : List (List ℕ)) (b rest : List ℕ) (index at : ℕ) → b ≡ concat parts ++ rest → AllByRecursion IsWhole parts → Stops rest → walk (length b) index at b ≡ pieces index at parts rest
 walk_cut [] b rest index at joined whole stops = ap (λ (r : List ℕ). walk (length r) index at r) joined ∙ walk_rest rest index at stops
 walk_cut (part ∷ parts) b rest index at joined whole stops =
@@ -124,11 +128,13 @@ walk_cut (part ∷ parts) b rest index at joined whole stops =
     took b part behind index at (length part) front taken left
     ∙ ap (λ (later : List (Result Piece Fault)). Ok (record { index = index; at = at; bytes = part }) ∷ later) (walk_cut parts behind rest (index + 1) (at + length part) refl whole.1 stops)
 
+-- so does reading a section from its beginning
 pub records_cut : (b : List ℕ) (parts : List (List ℕ)) (rest : List ℕ) → IsCut b parts rest → records b ≡ pieces 1 0 parts rest
 records_cut b parts rest cut = walk_cut parts b rest 1 0 cut.joined cut.whole cut.stops
 
 -- ---- the code of the rest's fault
 
+-- where the test of the code passes, the kind is not known
 unknown_true : (b : List ℕ) → (leb 8 (length b) && is_none (kind b)) ≡ true → HasUnknownKind b
 unknown_true b e = let both = and_parts (leb 8 (length b)) (is_none (kind b)) e in (leb-true 8 (length b) both.0, at (kind b) both.1)
   where
@@ -136,6 +142,7 @@ unknown_true b e = let both = and_parts (leb 8 (length b)) (is_none (kind b)) e 
     at None e = refl
     at (Some k) e = absurd cc
 
+-- a kind that is not known has its code
 pub code_unknown : (b : List ℕ) → HasUnknownKind b → stop_code b ≡ BAD_KIND
 code_unknown b h = let long : leb 8 (length b) ≡ true = le-leb 8 (length b) h.0 in rw (long, h.1) refl
 
@@ -143,6 +150,7 @@ code_unknown b h = let long : leb 8 (length b) ≡ true = le-leb 8 (length b) h.
 pub unknown_decided : (b : List ℕ) → Decides (leb 8 (length b) && is_none (kind b)) (HasUnknownKind b)
 unknown_decided b = (unknown_true b, λ h. let long : leb 8 (length b) ≡ true = le-leb 8 (length b) h.0 in rw (long, h.1) refl)
 
+-- all else is cut off
 pub code_cut_off : (b : List ℕ) → ¬ HasUnknownKind b → stop_code b ≡ TRUNCATED
 code_cut_off b no_kind = at (leb 8 (length b) && is_none (kind b)) refl
   where
@@ -150,6 +158,7 @@ code_cut_off b no_kind = at (leb 8 (length b) && is_none (kind b)) refl
     at true e = absurd (no_kind (unknown_true b e))
     at false e = refl
 
+-- all bytes are read as a cut
 pub read : (b : List ℕ) → (parts : List (List ℕ)) × (rest : List ℕ) × Reads b parts rest
 read b =
     let found = cut_below (length b) b (omega arith) in
@@ -157,6 +166,7 @@ read b =
 
 -- ---- a cut is the only one
 
+-- two cuts of the same bytes are the same
 pub one_cut : (xs ys : List (List ℕ)) (b c x y : List ℕ) → b ≡ c → IsCut b xs x → IsCut c ys y → (xs ≡ ys) × (x ≡ y)
 one_cut [] [] b c x y same p q = (refl, sym p.joined ∙ same ∙ q.joined)
 one_cut [] (f ∷ ys) b c x y same p q = absurd (p.stops f (concat ys ++ y) q.whole.0 (sym p.joined ∙ same ∙ q.joined ∙ append_assoc f (concat ys) y))

@@ -3,6 +3,7 @@ use Rattle.std.proofs.Common.{◌≡◌, ℕ, zero, suc, ◌+◌, ◌-◌, ◌*�
 use Rattle.std.specs.Prelude.{MatchOption, unwrap_or, ◌↔◌}
 use Rattle.std.specs.List.{concat, AllByRecursion}
 use Rattle.std.proofs.lemmas.List.{length-take, length-drop, take-take, drop-take, drop-drop, append_assoc, nil_from_length}
+use Rattle.std.proofs.lemmas.Option.{same_Some}
 use Rattle.ctf_model.specs.Bytes.{number, u32_at}
 use Rattle.ctf_model.specs.declared.faults.Fault.{Fault}
 use Rattle.ctf_model.specs.declared.kinds.Kind.{Kind}
@@ -27,24 +28,30 @@ use Rattle.ctf_model.proofs.Unique.{one_list}
 
 -- ---- names that are good
 
+-- the reference names something
 abbrev IsNamed : Tables → ℕ → Type 0
 IsNamed t reference = name t reference ≡ None → ⊥
 
+-- the references of all sites name something
 abbrev AreNamed : Tables → List Site → Type 0
 AreNamed t xs = AllByRecursion (λ (site : Site). IsNamed t site.reference) xs
 
+-- where no site is nameless, all are named
 all_named : (t : Tables) (xs : List Site) → ((p : ℕ) → IsNameless t xs p → ⊥) → AreNamed t xs
 all_named t [] h = tt
 all_named t (site ∷ more) h = (λ e. h site.place (any_here _ site more (refl, e)), all_named t more (λ p a. h p (any_there _ site more a)))
 
+-- of named sites the first ones are named
 split_front : (t : Tables) (xs ys : List Site) → AreNamed t (xs ++ ys) → AreNamed t xs
 split_front t [] ys h = tt
 split_front t (x ∷ xs) ys h = (h.0, split_front t xs ys h.1)
 
+-- of named sites the last ones are named
 split_back : (t : Tables) (xs ys : List Site) → AreNamed t (xs ++ ys) → AreNamed t ys
 split_back t [] ys h = h
 split_back t (x ∷ xs) ys h = split_back t xs ys h.1
 
+-- what is there is the value
 the_value : (o : Option (List ℕ)) → (o ≡ None → ⊥) → o ≡ Some (unwrap_or o [])
 the_value None h = absurd (h refl)
 the_value (Some x) h = refl
@@ -67,6 +74,7 @@ labels_read t ctf (suc n) at len inside low high named =
 
 -- ---- types
 
+-- the one kind that is known yet is the integer
 known : (n : ℕ) (k : Kind) → kind_numbered n ≡ Some k → k ≡ KInteger
 known n k e = at (eqb n 1) e
   where
@@ -98,12 +106,14 @@ terms_read t start (part ∷ parts) rest b index at joined ends whole named =
 
 -- ---- a dictionary
 
+-- all names of a dictionary are good
 record Good (s : Lists) : Type 0 where
   parlabel : IsNamed (tables s) (fields s.ctf).parlabel
   parname : IsNamed (tables s) (fields s.ctf).parname
   labels : AreNamed (tables s) (label_sites s.ctf (36 + (fields s.ctf).lbloff) (((fields s.ctf).objtoff - (fields s.ctf).lbloff) / 8))
   records : AreNamed (tables s) (record_sites (36 + (fields s.ctf).typeoff) (types s.ctf))
 
+-- where every rule is kept, all names are good
 good : (s : Lists) → KeepsEveryRule s → Good s
 unfolding sites
 good s keeps =
@@ -112,9 +122,11 @@ good s keeps =
     let records = record_sites (36 + (fields s.ctf).typeoff) (types s.ctf) in
     record { parlabel = all.0; parname = all.1.0; labels = split_front (tables s) labels records all.1.1; records = split_back (tables s) labels records all.1.1 }
 
+-- a part inside has its length
 section_len : (ctf : List ℕ) (a b : ℕ) → a ≤ b → b ≤ length ctf → length (take (b - a) (drop a ctf)) ≡ b - a
 section_len ctf a b le inside = omega (arith, length-take (b - a) (drop a ctf), length-drop a ctf)
 
+-- the labels that are said are those of the bytes
 labels_said : (s : Lists) → KeepsEveryRule s → AreLabels (tables s) (section s.ctf SLabels) (labels_in (tables s) (length (section s.ctf SLabels) / 8) (section s.ctf SLabels))
 labels_said s keeps =
     let h = fields s.ctf in
@@ -131,6 +143,7 @@ labels_said s keeps =
     let found = labels_read (tables s) s.ctf n (36 + h.lbloff) (h.objtoff - h.lbloff) (omega arith) (omega arith) (omega arith) (good s keeps).labels in
     rw (len, size) found
 
+-- the types that are said are those of the bytes
 terms_said : (s : Lists) → KeepsEveryRule s → Section (tables s) (section s.ctf STypes) (terms_in (tables s) (types s.ctf))
 terms_said s keeps =
     let r = kept_records s 14 (omega arith) (λ rule lt. keeps rule) in
@@ -139,6 +152,7 @@ terms_said s keeps =
     subst (λ (rs : List (Result Piece Fault)). Section (tables s) (section s.ctf STypes) (terms_in (tables s) rs)) (sym same)
     (terms_read (tables s) (36 + (fields s.ctf).typeoff) r.0 r.1 (section s.ctf STypes) 1 0 r.2.joined r.3 r.2.whole named)
 
+-- without a first fault every rule is kept
 keeps_from : (s : Lists) → first_fault s ≡ None → KeepsEveryRule s
 keeps_from s e = subst (λ (f : Option Fault). MatchOption f (KeepsEveryRule s) (IsFirstFault s)) e (least_fault s)
 
@@ -159,25 +173,25 @@ denotes_said s e =
 
 -- ---- only one dictionary
 
-some_same : {A : Type 0} (x y : A) → Some x ≡ Some y → x ≡ y
-some_same x y e = cc
-
+-- labels with the same name and last type are the same
 one_label : (x y : Label) → x.name ≡ y.name → x.last ≡ y.last → x ≡ y
 one_label x y p q = ap (λ (n : List ℕ). record { name = n; last = x.last }) p ∙ ap (λ (m : ℕ). record { name = y.name; last = m }) q
 
+-- bytes are one list of labels
 one_labels : (t : Tables) (b : List ℕ) (xs ys : List Label) → AreLabels t b xs → AreLabels t b ys → xs ≡ ys
 one_labels t b [] [] p q = refl
 one_labels t b [] (y ∷ ys) p q = let low = q.0 in absurd (omega arith)
 one_labels t b (x ∷ xs) [] p q = let low = p.0 in absurd (omega arith)
 one_labels t b (x ∷ xs) (y ∷ ys) p q =
-    let head = one_label x y (some_same x.name y.name (sym p.1 ∙ q.1)) (sym p.2 ∙ q.2) in
+    let head = one_label x y (same_Some x.name y.name (sym p.1 ∙ q.1)) (sym p.2 ∙ q.2) in
     ap (λ (z : Label). z ∷ xs) head ∙ ap (λ (zs : List Label). y ∷ zs) (one_labels t (drop 8 b) xs ys p.3 q.3)
 
+-- lists denote one dictionary
 pub one_dictionary : (s : Lists) (d e : Dictionary) → Denotes s d → Denotes s e → d ≡ e
 one_dictionary s d e p q =
     let child : d.child ≡ e.child = p.child ∙ sym q.child in
-    let parname : d.parname ≡ e.parname = some_same d.parname e.parname (sym p.parname ∙ q.parname) in
-    let parlabel : d.parlabel ≡ e.parlabel = some_same d.parlabel e.parlabel (sym p.parlabel ∙ q.parlabel) in
+    let parname : d.parname ≡ e.parname = same_Some d.parname e.parname (sym p.parname ∙ q.parname) in
+    let parlabel : d.parlabel ≡ e.parlabel = same_Some d.parlabel e.parlabel (sym p.parlabel ∙ q.parlabel) in
     let labels : d.labels ≡ e.labels = one_labels (tables s) (section s.ctf SLabels) d.labels e.labels p.labels q.labels in
     let terms : d.terms ≡ e.terms = one_list (tables s) (section s.ctf STypes) (section s.ctf STypes) d.terms e.terms refl p.terms q.terms in
     ap (λ (x : Bool). record { child = x; parname = d.parname; parlabel = d.parlabel; labels = d.labels; terms = d.terms }) child
@@ -188,13 +202,15 @@ one_dictionary s d e p q =
 
 -- ---- what is computed
 
+-- lists denote a dictionary exactly where they have no fault
 pub faultless_denoted : (s : Lists) → (first_fault s ≡ None) ↔ ((d : Dictionary) × Denotes s d)
 faultless_denoted s = (λ e. (said_by s, denotes_said s e), λ h. h.1.faultless)
 
+-- what is computed is what is denoted
 pub denoted_denotes : (s : Lists) (d : Dictionary) → (denoted s ≡ Some d) ↔ Denotes s d
 unfolding denoted
 denoted_denotes s d = (λ e. at (first_fault s) refl e, λ h. (rw h.faultless (ap (λ (x : Dictionary). Some x) (one_dictionary s (said_by s) d (denotes_said s h.faultless) h))))
   where
     at : (f : Option Fault) → first_fault s ≡ f → unless_fault f (said_by s) ≡ Some d → Denotes s d
-    at None e same = subst (Denotes s) (some_same (said_by s) d same) (denotes_said s e)
+    at None e same = subst (Denotes s) (same_Some (said_by s) d same) (denotes_said s e)
     at (Some f) e same = absurd cc

@@ -13,21 +13,22 @@ use Rattle.ctf_model.specs.Rules.{IsBroken, Keeps, IsOutOfOrder, IsMisaligned}
 use Rattle.ctf_model.specs.declared.sections.Section.TheVariants.{SStrings}
 use Rattle.ctf_model.proofs.FirstFault.{Agrees, test_agrees}
 
-pub agrees_1 : (s : Lists) → Agrees (too_short s.ctf) (IsBroken s 1)
-agrees_1 s = test_agrees _ _ (Decides-ltb (length s.ctf) 4)
+pub too_short_agrees : (s : Lists) → Agrees (too_short s.ctf) (IsBroken s 1)
+too_short_agrees s = test_agrees _ _ (Decides-ltb (length s.ctf) 4)
 
-pub agrees_2 : (s : Lists) → Agrees (bad_magic s.ctf) (IsBroken s 2)
-agrees_2 s = test_agrees _ _ (Decides-not _ (Decides-eqb (u16_at s.ctf 0) 0xcff1))
+pub bad_magic_agrees : (s : Lists) → Agrees (bad_magic s.ctf) (IsBroken s 2)
+bad_magic_agrees s = test_agrees _ _ (Decides-not _ (Decides-eqb (u16_at s.ctf 0) 0xcff1))
 
-pub agrees_3 : (s : Lists) → Agrees (bad_version s.ctf) (IsBroken s 3)
-agrees_3 s = test_agrees _ _ (Decides-not _ (Decides-eqb (slice_index s.ctf 2) 2))
+pub bad_version_agrees : (s : Lists) → Agrees (bad_version s.ctf) (IsBroken s 3)
+bad_version_agrees s = test_agrees _ _ (Decides-not _ (Decides-eqb (slice_index s.ctf 2) 2))
 
-pub agrees_4 : (s : Lists) → Agrees (compressed s.ctf) (IsBroken s 4)
-agrees_4 s = test_agrees _ _ (Decides-eqb (slice_index s.ctf 3 % 2) 1)
+pub compressed_agrees : (s : Lists) → Agrees (compressed s.ctf) (IsBroken s 4)
+compressed_agrees s = test_agrees _ _ (Decides-eqb (slice_index s.ctf 3 % 2) 1)
 
-pub agrees_5 : (s : Lists) → Agrees (short_header s.ctf) (IsBroken s 5)
-agrees_5 s = test_agrees _ _ (Decides-ltb (length s.ctf) 36)
+pub short_header_agrees : (s : Lists) → Agrees (short_header s.ctf) (IsBroken s 5)
+short_header_agrees s = test_agrees _ _ (Decides-ltb (length s.ctf) 36)
 
+-- four tests, from the left or from the right
 or_right : (a b c d : Bool) → (((a || b) || c) || d) ≡ (a || (b || (c || d)))
 or_right true b c d = refl
 or_right false true c d = refl
@@ -37,32 +38,37 @@ or_right false false c d = refl
 four_decided : {A B C D : Type 0} (a b c d : Bool) → Decides a A → Decides b B → Decides c C → Decides d D → Decides (((a || b) || c) || d) (A ⊎ (B ⊎ (C ⊎ D)))
 four_decided a b c d p q r t = Decides-at _ _ (or_right a b c d) (Decides-or a _ p (Decides-or b _ q (Decides-or c d r t)))
 
+-- the test of order decides its fact
 order_decided : (h : Fields) → Decides (is_out_of_order h) (IsOutOfOrder h)
 order_decided h = four_decided _ _ _ _ (Decides-ltb h.objtoff h.lbloff) (Decides-ltb h.funcoff h.objtoff) (Decides-ltb h.typeoff h.funcoff) (Decides-ltb h.stroff h.typeoff)
 
-pub agrees_6 : (s : Lists) → Agrees (bad_order s.ctf) (IsBroken s 6)
-agrees_6 s = test_agrees _ _ (order_decided (fields s.ctf))
+pub bad_order_agrees : (s : Lists) → Agrees (bad_order s.ctf) (IsBroken s 6)
+bad_order_agrees s = test_agrees _ _ (order_decided (fields s.ctf))
 
+-- the test of alignment decides its fact
 align_decided : (h : Fields) → Decides (is_misaligned h) (IsMisaligned h)
 align_decided h = four_decided _ _ _ _ (Decides-ltb 0 (h.lbloff % 4)) (Decides-ltb 0 (h.objtoff % 2)) (Decides-ltb 0 (h.funcoff % 2)) (Decides-ltb 0 (h.typeoff % 4))
 
-pub agrees_7 : (s : Lists) → Agrees (bad_align s.ctf) (IsBroken s 7)
-agrees_7 s = test_agrees _ _ (align_decided (fields s.ctf))
+pub bad_align_agrees : (s : Lists) → Agrees (bad_align s.ctf) (IsBroken s 7)
+bad_align_agrees s = test_agrees _ _ (align_decided (fields s.ctf))
 
-pub agrees_8 : (s : Lists) → Agrees (past_end s.ctf) (IsBroken s 8)
-agrees_8 s = test_agrees _ _ (Decides-ltb (length s.ctf) (36 + (fields s.ctf).stroff + (fields s.ctf).strlen))
+pub past_end_agrees : (s : Lists) → Agrees (past_end s.ctf) (IsBroken s 8)
+past_end_agrees s = test_agrees _ _ (Decides-ltb (length s.ctf) (36 + (fields s.ctf).stroff + (fields s.ctf).strlen))
 
 -- ---- what the kept rules say
 
+-- each section begins where the one in front of it does, or later
 pub record InOrder (h : Fields) : Type 0 where
   pub objects : h.lbloff ≤ h.objtoff
   pub functions : h.objtoff ≤ h.funcoff
   pub types : h.funcoff ≤ h.typeoff
   pub strings : h.typeoff ≤ h.stroff
 
+-- what is not lesser is at least as great
 from_not : (m n : ℕ) → ¬ (m < n) → n ≤ m
 from_not m n h = ⊎_elim (λ lt. absurd (h lt)) (λ le. le) (cases_lt m n)
 
+-- offsets that are not out of order are in order
 pub in_order : (h : Fields) → ¬ IsOutOfOrder h → InOrder h
 in_order h ok = record {
   objects = from_not h.objtoff h.lbloff (λ lt. ok (inl lt));
@@ -71,20 +77,25 @@ in_order h ok = record {
   strings = from_not h.stroff h.typeoff (λ lt. ok (inr (inr (inr lt))));
 }
 
+-- where the rule of order is kept, the offsets are in order
 pub kept_order : (s : Lists) (n : ℕ) → 6 < n → Keeps s n → InOrder (fields s.ctf)
 kept_order s n lt keeps = in_order (fields s.ctf) (λ o. keeps 6 lt 0 (refl, o))
 
+-- where the rule of the end is kept, the strings lie inside
 pub kept_end : (s : Lists) (n : ℕ) → 8 < n → Keeps s n → 36 + (fields s.ctf).stroff + (fields s.ctf).strlen ≤ length s.ctf
 kept_end s n lt keeps = from_not (length s.ctf) (36 + (fields s.ctf).stroff + (fields s.ctf).strlen) (λ o. keeps 8 lt 0 (refl, o))
 
 -- ---- the string section
 
+-- where the strings begin
 abbrev start : List ℕ → ℕ
 start ctf = 36 + (fields ctf).stroff
 
+-- strings inside have the length that the header says
 strings_len : (ctf : List ℕ) → start ctf + (fields ctf).strlen ≤ length ctf → length (section ctf SStrings) ≡ (fields ctf).strlen
 strings_len ctf h = omega (arith, length-take (start ctf + (fields ctf).strlen - start ctf) (drop (start ctf) ctf), length-drop (start ctf) ctf)
 
+-- their first byte stands where the header says
 strings_first : (ctf : List ℕ) → 0 < (fields ctf).strlen → slice_index (section ctf SStrings) 0 ≡ slice_index ctf (start ctf)
 strings_first ctf h =
     let n = start ctf + (fields ctf).strlen - start ctf in
@@ -92,9 +103,11 @@ strings_first ctf h =
     let lt : 0 < start ctf + (fields ctf).strlen - start ctf = omega arith in
     get_or-take n (drop (start ctf) ctf) 0 0 lt ∙ get_or-drop (start ctf) ctf 0 0 ∙ ap (λ (i : ℕ). slice_index ctf i) zero_is
 
+-- there are strings, and they do not begin with a zero byte
 abbrev AreBad : List ℕ → Type 0
 AreBad ctf = (0 < length (section ctf SStrings)) × (slice_index (section ctf SStrings) 0 ≢ 0)
 
+-- the test of the strings decides that
 strings_decided : (ctf : List ℕ) → start ctf + (fields ctf).strlen ≤ length ctf → Decides (ltb 0 (fields ctf).strlen && not (eqb (slice_index ctf (start ctf)) 0)) (AreBad ctf)
 strings_decided ctf h =
     let len = strings_len ctf h in
@@ -103,8 +116,8 @@ strings_decided ctf h =
     (λ q. let some : 0 < (fields ctf).strlen = omega (arith, len, q.0) in (some, λ e. q.1 (strings_first ctf some ∙ e)))
     (Decides-and _ _ (Decides-ltb 0 (fields ctf).strlen) (Decides-not _ (Decides-eqb (slice_index ctf (start ctf)) 0)))
 
-pub agrees_9 : (s : Lists) → Keeps s 9 → Agrees (bad_strings s.ctf) (IsBroken s 9)
-agrees_9 s keeps = at _ (strings_decided s.ctf (kept_end s 9 (omega arith) keeps))
+pub bad_strings_agrees : (s : Lists) → Keeps s 9 → Agrees (bad_strings s.ctf) (IsBroken s 9)
+bad_strings_agrees s keeps = at _ (strings_decided s.ctf (kept_end s 9 (omega arith) keeps))
   where
     at : (b : Bool) → Decides b (AreBad s.ctf) → Agrees (if_broken b) (IsBroken s 9)
     at true d = let f = d.0 refl in ((refl, f.0, f.1), λ q lt f. absurd (omega arith))

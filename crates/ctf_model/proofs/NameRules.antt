@@ -17,12 +17,15 @@ use Rattle.ctf_model.proofs.RecordRules.{types_cut}
 
 -- ---- one of a list
 
+-- what holds of the first holds of some
 pub any_here : {X : Type 0} (P : X → Type 0) (x : X) (xs : List X) → P x → Any P (x ∷ xs)
 any_here P x xs p = (0, x, omega arith, refl, p)
 
+-- what holds of one of the rest holds of some
 pub any_there : {X : Type 0} (P : X → Type 0) (x : X) (xs : List X) → Any P xs → Any P (x ∷ xs)
 any_there P x xs a = let lt = a.2 in (suc a.0, a.1, omega arith, a.3, a.4)
 
+-- what holds of some holds of the first or of one of the rest
 any_split : {X : Type 0} (P : X → Type 0) (x : X) (xs : List X) → Any P (x ∷ xs) → P x ⊎ Any P xs
 any_split {X} P x xs a = at a.0 a.1 a.2 a.3 a.4
   where
@@ -37,6 +40,7 @@ abbrev pub IsRising : ℕ → List Site → Type 0
 IsRising low [] = Unit {0}
 IsRising low (site ∷ more) = (low ≤ site.place) × IsRising site.place more
 
+-- rising places rise from any lower one
 lower : (low high : ℕ) (xs : List Site) → low ≤ high → IsRising high xs → IsRising low xs
 lower low high [] le r = tt
 lower low high (site ∷ more) le r = let from = r.0 in (omega arith, r.1)
@@ -45,6 +49,7 @@ lower low high (site ∷ more) le r = let from = r.0 in (omega arith, r.1)
 abbrev pub IsNameless : Tables → List Site → ℕ → Type 0
 IsNameless t xs p = Any (λ site. (site.place ≡ p) × (name t site.reference ≡ None)) xs
 
+-- no nameless site stands below the lowest place
 none_below : (t : Tables) (xs : List Site) (low p : ℕ) → IsRising low xs → IsNameless t xs p → low ≤ p
 none_below t [] low p r a = let lt = a.2 in absurd (omega arith)
 none_below t (site ∷ more) low p r a = at (any_split _ site more a) (λ later. none_below t more site.place p r.1 later)
@@ -53,10 +58,12 @@ none_below t (site ∷ more) low p r a = at (any_split _ site more a) (λ later.
     at (inl here) next = let from = r.0 in let same = here.0 in omega arith
     at (inr later) next = let from = r.0 in let behind = next later in omega arith
 
+-- where the test for none passes, there is none
 is_none_true : {A : Type 0} (o : Option A) → is_none o ≡ true → o ≡ None
 is_none_true None e = refl
 is_none_true (Some x) e = absurd cc
 
+-- where it does not pass, there is one
 not_here : {A : Type 0} (o : Option A) → is_none o ≡ false → o ≡ None → ⊥
 not_here None e n = absurd cc
 not_here (Some x) e n = absurd cc
@@ -81,11 +88,13 @@ nameless_agrees t (site ∷ more) low r = at (is_none (name t site.reference)) r
 
 -- ---- the sites of a dictionary
 
+-- the sites of labels rise, and then those behind them
 labels_rising : (ctf : List ℕ) (at n low high : ℕ) (more : List Site) → low ≤ at → at + 8 * n ≤ high → IsRising high more → IsRising low (label_sites ctf at n ++ more)
 unfolding label_sites
 labels_rising ctf at zero low high more le end r = lower low high more (omega arith) r
 labels_rising ctf at (suc n) low high more le end r = (le, labels_rising ctf (at + 8) n at high more (omega arith) (omega arith) r)
 
+-- the sites of records rise
 records_rising : (start low : ℕ) (parts : List (List ℕ)) (rest : List ℕ) (index at : ℕ) → low ≤ start + at → IsRising low (record_sites start (pieces index at parts rest))
 unfolding record_sites
 records_rising start low [] rest index at le = end (eqb (length rest) 0)
@@ -95,6 +104,7 @@ records_rising start low [] rest index at le = end (eqb (length rest) 0)
     end false = tt
 records_rising start low (part ∷ parts) rest index at le = (le, records_rising start (start + at) parts rest (index + 1) (at + length part) (omega arith))
 
+-- where the sections are in order, all sites rise
 sites_rising : (s : Lists) → InOrder (fields s.ctf) → IsRising 0 (sites s.ctf)
 unfolding sites
 sites_rising s ok =
@@ -107,6 +117,6 @@ sites_rising s ok =
     let before = ok.types in
     (omega arith, (omega arith, labels_rising s.ctf (36 + h.lbloff) ((h.objtoff - h.lbloff) / 8) 8 (36 + h.typeoff) _ (omega arith) (omega arith) found))
 
-pub agrees_13 : (s : Lists) → Keeps s 13 → Agrees (bad_name s) (IsBroken s 13)
+pub bad_name_agrees : (s : Lists) → Keeps s 13 → Agrees (bad_name s) (IsBroken s 13)
 unfolding bad_name
-agrees_13 s keeps = nameless_agrees (tables s) (sites s.ctf) 0 (sites_rising s (kept_order s 13 (omega arith) keeps))
+bad_name_agrees s keeps = nameless_agrees (tables s) (sites s.ctf) 0 (sites_rising s (kept_order s 13 (omega arith) keeps))
