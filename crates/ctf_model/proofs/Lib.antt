@@ -1,4 +1,11 @@
+pub mod Cut
+pub mod Denoted
+pub mod FirstFault
+pub mod HeaderRules
+pub mod Judge
+pub mod NameRules
 pub mod Nameless
 pub mod Prefix
+pub mod RecordRules
 pub mod Unique
 pub mod Walk

@@ -1,30 +1,29 @@
 -- A code beyond the table has no name.
-use Rattle.std.proofs.Common.{◌≡◌, ◌≢◌, ℕ, ◌<◌, ◌≤◌, Bool, true, false, eqb, ltb, List, [], ◌∷◌, refl, sym, arith, ◌⊎◌, inl, inr, ⊎_elim}
-use Rattle.std.specs.Prelude.{◌&&◌}
+use Rattle.std.proofs.Common.{◌≡◌, ◌≢◌, ℕ, ◌<◌, ◌≤◌, true, false, eqb, ltb, List, [], ◌∷◌, refl, sym, arith, ◌⊎◌, inl, inr, ⊎_elim}
 use Rattle.std.specs.List.{list_all}
-use Rattle.std.proofs.lemmas.Bool.{ne_eqb, ltb-true, cases_lt}
+use Rattle.std.proofs.lemmas.Bool.{ne_eqb, ltb-true, cases_lt, and_parts}
 use Rattle.ctf_model.specs.FaultNames.{fault_names, name_beside, name_of_fault}
 
-both : (a b : Bool) → (a && b) ≡ true → (a ≡ true) × (b ≡ true)
-both true b h = (refl, h)
-both false b h = absurd cc
-
+-- a code that is not below the bound of a table has no name in it
 beyond : (code bound : ℕ) (rows : List (ℕ × List ℕ)) → list_all (λ row. ltb row.0 bound) rows ≡ true → bound ≤ code → name_beside code rows ≡ []
 beyond code bound [] h le = refl
 beyond code bound (row ∷ rows) h le =
-    let parts = both (ltb row.0 bound) (list_all (λ row. ltb row.0 bound) rows) h in
+    let parts = and_parts (ltb row.0 bound) (list_all (λ row. ltb row.0 bound) rows) h in
     let low : row.0 < bound = ltb-true row.0 bound parts.0 in
     let other : eqb row.0 code ≡ false = ne_eqb row.0 code (omega arith) in
     rw other (beyond code bound rows parts.1 le)
 
+-- two codes in the gap have no name
 at_gap : (code : ℕ) → (code ≡ 60) ⊎ (code ≡ 61) → name_of_fault code ≡ []
 unfolding name_of_fault
 at_gap code (inl e) = rw e refl
 at_gap code (inr e) = rw e refl
 
+-- the gap is just these two
 gap : (code : ℕ) → 60 ≤ code → code ≢ 62 → code < 63 → (code ≡ 60) ⊎ (code ≡ 61)
 gap code low other high = ⊎_elim (λ lt. inl (omega arith)) (λ le. inr (omega arith)) (cases_lt code 61)
 
+-- a code that the table lacks has no name
 pub nameless : (code : ℕ) → 60 ≤ code → code ≢ 62 → [] ≡ name_of_fault code
 unfolding name_of_fault
 nameless code low other = ⊎_elim (λ lt. sym (at_gap code (gap code low other lt))) (λ le. sym (beyond code 63 fault_names refl le)) (cases_lt code 63)

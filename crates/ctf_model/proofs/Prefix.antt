@@ -13,45 +13,54 @@ piece-append a x at n h =
     let room : n ≤ length (drop at a) = omega (arith, length-drop at a) in
     rw (drop-append-le, take-append-le) refl
 
+-- a number of two bytes inside is the same with more bytes behind
 pub u16-append : (a x : List ℕ) (at : ℕ) → at + 2 ≤ length a → u16_at (a ++ x) at ≡ u16_at a at
 u16-append a x at h = ap number (piece-append a x at 2 h)
 
+-- a number of four bytes too
 pub u32-append : (a x : List ℕ) (at : ℕ) → at + 4 ≤ length a → u32_at (a ++ x) at ≡ u32_at a at
 u32-append a x at h = ap number (piece-append a x at 4 h)
 
+-- so is the size field of a head
 field-append : (a x : List ℕ) → 8 ≤ length a → field (a ++ x) ≡ field a
 field-append a x h = u16-append a x 6 (omega arith)
 
+-- so is the size of a record whose head is inside
 size-append : (a x : List ℕ) (long : Bool) → is_long a ≡ long → 8 ≤ length a → head_len a ≤ length a → size (a ++ x) ≡ size a
 size-append a x true e low h =
     let wide : 16 ≤ length a = (rw e at h) in
     rw (field-append a x low, e, u32-append a x 8 (omega arith), u32-append a x 12 (omega arith)) refl
 size-append a x false e low h = rw (field-append a x low, e) refl
 
-same_kind : {A : Type 0} (x y : A) → Some x ≡ Some y → x ≡ y
-same_kind x y e = cc
+-- bytes behind a head change neither its length nor the length that it calls for
+pub head_len-append : (a x : List ℕ) → 8 ≤ length a → head_len (a ++ x) ≡ head_len a
+head_len-append a x low = rw (field-append a x low) refl
 
-record_len-append : (a x : List ℕ) (k : Kind) → IsWholeAt a k → head_len (a ++ x) + variant_len k (size (a ++ x)) (vlen (a ++ x)) ≡ length a
-record_len-append a x k p =
-    let low = p.has_head in
-    let enough : head_len a ≤ length a = omega (arith, p.ends) in
-    rw (size-append a x (is_long a) refl low enough, field-append a x low, u16-append a x 4 (omega arith)) (sym p.ends)
+-- so is the length that a record calls for
+pub record_len-append : (a x : List ℕ) (k : Kind) → 8 ≤ length a → head_len a ≤ length a → head_len (a ++ x) + variant_len k (size (a ++ x)) (vlen (a ++ x)) ≡ head_len a + variant_len k (size a) (vlen a)
+record_len-append a x k low enough = rw (size-append a x (is_long a) refl low enough, field-append a x low, u16-append a x 4 (omega arith)) refl
 
+-- so is the kind
+pub kind-append : (a x : List ℕ) → 8 ≤ length a → kind (a ++ x) ≡ kind a
+kind-append a x low = let same : info (a ++ x) ≡ info a = u16-append a x 4 (omega arith) in rw same refl
+
+-- where kinds are the same, nothing stands behind
 at_kinds : (a x : List ℕ) (o o' : Option Kind) → o' ≡ o → MatchOption o ⊥ (IsWholeAt a) → MatchOption o' ⊥ (IsWholeAt (a ++ x)) → x ≡ []
 at_kinds a x None o' e p q = absurd p
 at_kinds a x (Some k) None e p q = absurd q
 at_kinds a x (Some k) (Some k') e p q =
     let same : k' ≡ k = cc in
     let q' : IsWholeAt (a ++ x) k = subst (IsWholeAt (a ++ x)) same q in
-    let len : length (a ++ x) ≡ length a = q'.ends ∙ record_len-append a x k p in
+    let enough : head_len a ≤ length a = omega (arith, p.ends) in
+    let len : length (a ++ x) ≡ length a = q'.ends ∙ record_len-append a x k p.has_head enough ∙ sym p.ends in
     let none : length x ≡ 0 = omega (arith, length-append a x) in nil_from_length x none
 
-has_head : (o : Option Kind) (a : List ℕ) → MatchOption o ⊥ (IsWholeAt a) → 8 ≤ length a
+-- a whole record has a head
+pub has_head : (o : Option Kind) (a : List ℕ) → MatchOption o ⊥ (IsWholeAt a) → 8 ≤ length a
 has_head None a p = absurd p
 has_head (Some k) a p = p.has_head
 
+-- no whole record begins another
 pub IsWhole-prefix : (a x : List ℕ) → IsWhole a → IsWhole (a ++ x) → x ≡ []
 unfolding IsWhole
-IsWhole-prefix a x p q =
-    let same : info (a ++ x) ≡ info a = u16-append a x 4 (let h = has_head (kind a) a p in omega arith) in
-    at_kinds a x (kind a) (kind (a ++ x)) (rw same refl) p q
+IsWhole-prefix a x p q = at_kinds a x (kind a) (kind (a ++ x)) (kind-append a x (has_head (kind a) a p)) p q

@@ -18,3 +18,4 @@ pub mod Lines
 pub mod Ask
 pub mod ReplyLines
 pub mod Output
+pub mod Rows

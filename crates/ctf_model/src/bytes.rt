@@ -109,7 +109,7 @@ impl Piece {
         ensures bytes { result.now ≡ self.now }
         ensures short { length result.now ≤ LONGEST_PIECE }
     {
-        &self.bytes
+        self.bytes.as_slice()
     }
 
     /// The bytes, handed back without copying.
@@ -117,6 +117,7 @@ impl Piece {
         ensures bytes { result.items ≡ self }
         ensures short { vec_len result ≤ LONGEST_PIECE }
     {
-        self.bytes
+        let Piece { bytes } = self;
+        bytes
     }
 }

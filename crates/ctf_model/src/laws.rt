@@ -1,5 +1,14 @@
 //! Laws over the definitions alone. Each is the contract of a function that does nothing.
-ghost use Rattle.ctf_model.specs.Laws.{NoRecordBeginsAnother, SectionSpellsOneList};
+ghost use Rattle.ctf_model.specs.Laws.{
+  ComputesWhatIsDenoted,
+  DenotesOne,
+  FaultlessWhereDenoted,
+  FirstFaultIsTheLeast,
+  NoRecordBeginsAnother,
+  OneCut,
+  RecordsAreACut,
+  SectionSpellsOneList,
+};
 
 /// No whole record is the beginning of another.
 pub fn no_record_begins_another()
@@ -9,4 +18,22 @@ pub fn no_record_begins_another()
 /// A section spells at most one list of types.
 pub fn section_spells_one_list()
     ensures { SectionSpellsOneList }
+{}
+
+/// Reading record by record gives whole records as far as they go, and then the fault of what is left.
+pub fn records_are_a_cut()
+    ensures read { RecordsAreACut }
+    ensures one { OneCut }
+{}
+
+/// The first fault is the least rule that is broken, at its least place; without one every rule is kept.
+pub fn first_fault_is_the_least()
+    ensures { FirstFaultIsTheLeast }
+{}
+
+/// Lists denote a dictionary exactly where they have no fault, and then just one, which is what is computed.
+pub fn faultless_exactly_where_denoted()
+    ensures denoted { FaultlessWhereDenoted }
+    ensures one { DenotesOne }
+    ensures computed { ComputesWhatIsDenoted }
 {}

@@ -8,13 +8,23 @@ mod laws;
 mod numbers;
 mod replies;
 mod requests;
+mod rows;
 mod sections;
+#[cfg(test)]
+mod tests;
 
 pub use bytes::{Bytes, LONGEST_PIECE, Piece};
 pub use faults::{Fault, fault_name, placeless};
 pub use kinds::Kind;
-pub use laws::{no_record_begins_another, section_spells_one_list};
+pub use laws::{
+    faultless_exactly_where_denoted, first_fault_is_the_least, no_record_begins_another,
+    records_are_a_cut, section_spells_one_list,
+};
 pub use numbers::{SlotNumber, TypeNum};
 pub use replies::{Answer, Reply};
 pub use requests::{ListName, Request};
+pub use rows::{
+    bytes_denote, bytes_have_faults, lines_ask, lines_say, lists_are_long, numbers_name, output_is,
+    session_runs,
+};
 pub use sections::Section;

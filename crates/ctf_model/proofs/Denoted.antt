@@ -1,0 +1,216 @@
+-- Lists that keep every rule denote just one dictionary.
+use Rattle.std.proofs.Common.{◌≡◌, ℕ, zero, suc, ◌+◌, ◌-◌, ◌*◌, ◌/◌, ◌^◌, ◌<◌, ◌≤◌, Bool, true, false, cond, eqb, List, [], ◌∷◌, ◌++◌, length, take, drop, Option, Some, None, Result, refl, sym, ap, subst, ◌∙◌, arith}
+use Rattle.std.specs.Prelude.{MatchOption, unwrap_or, ◌↔◌}
+use Rattle.std.specs.List.{concat, AllByRecursion}
+use Rattle.std.proofs.lemmas.List.{length-take, length-drop, take-take, drop-take, drop-drop, append_assoc, nil_from_length}
+use Rattle.std.proofs.lemmas.Option.{same_Some}
+use Rattle.ctf_model.specs.Bytes.{number, u32_at}
+use Rattle.ctf_model.specs.declared.faults.Fault.{Fault}
+use Rattle.ctf_model.specs.declared.kinds.Kind.{Kind}
+use Rattle.ctf_model.specs.declared.kinds.Kind.TheVariants.{KInteger}
+use Rattle.ctf_model.specs.declared.sections.Section.TheVariants.{SLabels, STypes}
+use Rattle.ctf_model.specs.Dictionary.{Dictionary, Label, Denotes, AreLabels, labels_in, terms_in, said_by, denoted, unless_fault}
+use Rattle.ctf_model.specs.Faults.{Site, first_fault, label_sites, record_sites, sites, types}
+use Rattle.ctf_model.specs.Header.{fields, section}
+use Rattle.ctf_model.specs.Laws.{KeepsEveryRule, pieces}
+use Rattle.ctf_model.specs.Lists.{Lists, tables}
+use Rattle.ctf_model.specs.Name.{Tables, name}
+use Rattle.ctf_model.specs.Record.{IsWhole, IsWholeAt, Spells, term_of, kind, kind_numbered, info, is_root, scalar}
+use Rattle.ctf_model.specs.Rules.{IsFirstFault}
+use Rattle.ctf_model.specs.Section.{Section, Piece}
+use Rattle.ctf_model.specs.Term.{Term}
+use Rattle.ctf_model.specs.Term as term
+use Rattle.ctf_model.proofs.Judge.{least_fault}
+use Rattle.ctf_model.proofs.HeaderRules.{kept_order, kept_end}
+use Rattle.ctf_model.proofs.NameRules.{IsNameless, any_here, any_there}
+use Rattle.ctf_model.proofs.RecordRules.{kept_records, types_cut}
+use Rattle.ctf_model.proofs.Unique.{one_list}
+
+-- ---- names that are good
+
+-- the reference names something
+abbrev IsNamed : Tables → ℕ → Type 0
+IsNamed t reference = name t reference ≡ None → ⊥
+
+-- the references of all sites name something
+abbrev AreNamed : Tables → List Site → Type 0
+AreNamed t xs = AllByRecursion (λ (site : Site). IsNamed t site.reference) xs
+
+-- where no site is nameless, all are named
+all_named : (t : Tables) (xs : List Site) → ((p : ℕ) → IsNameless t xs p → ⊥) → AreNamed t xs
+all_named t [] h = tt
+all_named t (site ∷ more) h = (λ e. h site.place (any_here _ site more (refl, e)), all_named t more (λ p a. h p (any_there _ site more a)))
+
+-- of named sites the first ones are named
+split_front : (t : Tables) (xs ys : List Site) → AreNamed t (xs ++ ys) → AreNamed t xs
+split_front t [] ys h = tt
+split_front t (x ∷ xs) ys h = (h.0, split_front t xs ys h.1)
+
+-- of named sites the last ones are named
+split_back : (t : Tables) (xs ys : List Site) → AreNamed t (xs ++ ys) → AreNamed t ys
+split_back t [] ys h = h
+split_back t (x ∷ xs) ys h = split_back t xs ys h.1
+
+-- what is there is the value
+the_value : (o : Option (List ℕ)) → (o ≡ None → ⊥) → o ≡ Some (unwrap_or o [])
+the_value None h = absurd (h refl)
+the_value (Some x) h = refl
+
+-- ---- labels
+
+-- the labels that are read are those that the bytes are, where their names are good
+labels_read : (t : Tables) (ctf : List ℕ) (n at len : ℕ) → at + len ≤ length ctf → 8 * n ≤ len → len < 8 * n + 8 → AreNamed t (label_sites ctf at n)
+    → AreLabels t (take len (drop at ctf)) (labels_in t n (take len (drop at ctf)))
+unfolding label_sites labels_in
+labels_read t ctf zero at len inside low high named = omega (arith, length-take len (drop at ctf))
+labels_read t ctf (suc n) at len inside low high named =
+    let long : 8 ≤ length (take len (drop at ctf)) = omega (arith, length-take len (drop at ctf), length-drop at ctf) in
+    let word : u32_at (take len (drop at ctf)) 0 ≡ u32_at ctf at = ap number (take-take 4 len (drop at ctf) (omega arith)) in
+    let good : IsNamed t (u32_at (take len (drop at ctf)) 0) = subst (IsNamed t) (sym word) named.0 in
+    let less : 8 + (len - 8) ≡ len = omega arith in
+    let behind : drop 8 (take len (drop at ctf)) ≡ take (len - 8) (drop (at + 8) ctf) = ap (λ (m : ℕ). drop 8 (take m (drop at ctf))) (sym less) ∙ drop-take 8 (len - 8) (drop at ctf) ∙ ap (take (len - 8)) (drop-drop 8 at ctf) in
+    let later = labels_read t ctf n (at + 8) (len - 8) (omega arith) (omega arith) (omega arith) named.1 in
+    (long, the_value (name t (u32_at (take len (drop at ctf)) 0)) good, refl, subst (λ (r : List ℕ). AreLabels t r (labels_in t n r)) (sym behind) later)
+
+-- ---- types
+
+-- the one kind that is known yet is the integer
+known : (n : ℕ) (k : Kind) → kind_numbered n ≡ Some k → k ≡ KInteger
+known n k e = at (eqb n 1) e
+  where
+    at : (b : Bool) → cond b (Some KInteger) None ≡ Some k → k ≡ KInteger
+    at true e = cc
+    at false e = absurd cc
+
+-- a whole record with a good name spells a type
+spelled : (t : Tables) (b : List ℕ) → IsWhole b → IsNamed t (u32_at b 0) → (x : Term) × Spells t b x
+unfolding IsWhole term_of
+spelled t b whole named = at (kind b) refl whole (name t (u32_at b 0)) refl
+  where
+    at : (k : Option Kind) → kind b ≡ k → MatchOption k ⊥ (IsWholeAt b) → (n : Option (List ℕ)) → name t (u32_at b 0) ≡ n → (x : Term) × Spells t b x
+    at None e w n f = absurd w
+    at (Some k) e w None f = absurd (named f)
+    at (Some k) e w (Some text) f =
+        let integer = known (info b / 2 ^ 11) k e in
+        (record { name = text; root = is_root b; body = term.integer (scalar b) }, record { whole = whole; says = rw (e, integer, f) refl })
+
+-- the types that are read are those that the bytes spell, where their names are good
+terms_read : (t : Tables) (start : ℕ) (parts : List (List ℕ)) (rest b : List ℕ) (index at : ℕ) → b ≡ concat parts ++ rest → length rest ≡ 0 → AllByRecursion IsWhole parts → AreNamed t (record_sites start (pieces index at parts rest))
+    → Section t b (terms_in t (pieces index at parts rest))
+unfolding record_sites terms_in
+terms_read t start [] rest b index at joined ends whole named = rw ends (joined ∙ nil_from_length rest ends)
+terms_read t start (part ∷ parts) rest b index at joined ends whole named =
+    let x = spelled t part whole.0 named.0 in
+    let later = terms_read t start parts rest (concat parts ++ rest) (index + 1) (at + length part) refl ends whole.1 named.1 in
+    rw x.1.says (part, concat parts ++ rest, joined ∙ append_assoc part (concat parts) rest, x.1, later)
+
+-- ---- a dictionary
+
+-- all names of a dictionary are good
+record Good (s : Lists) : Type 0 where
+  parlabel : IsNamed (tables s) (fields s.ctf).parlabel
+  parname : IsNamed (tables s) (fields s.ctf).parname
+  labels : AreNamed (tables s) (label_sites s.ctf (36 + (fields s.ctf).lbloff) (((fields s.ctf).objtoff - (fields s.ctf).lbloff) / 8))
+  records : AreNamed (tables s) (record_sites (36 + (fields s.ctf).typeoff) (types s.ctf))
+
+-- where every rule is kept, all names are good
+good : (s : Lists) → KeepsEveryRule s → Good s
+unfolding sites
+good s keeps =
+    let all = all_named (tables s) (sites s.ctf) (λ p a. keeps 13 p a) in
+    let labels = label_sites s.ctf (36 + (fields s.ctf).lbloff) (((fields s.ctf).objtoff - (fields s.ctf).lbloff) / 8) in
+    let records = record_sites (36 + (fields s.ctf).typeoff) (types s.ctf) in
+    record { parlabel = all.0; parname = all.1.0; labels = split_front (tables s) labels records all.1.1; records = split_back (tables s) labels records all.1.1 }
+
+-- a part inside has its length
+section_len : (ctf : List ℕ) (a b : ℕ) → a ≤ b → b ≤ length ctf → length (take (b - a) (drop a ctf)) ≡ b - a
+section_len ctf a b le inside = omega (arith, length-take (b - a) (drop a ctf), length-drop a ctf)
+
+-- the labels that are said are those of the bytes
+labels_said : (s : Lists) → KeepsEveryRule s → AreLabels (tables s) (section s.ctf SLabels) (labels_in (tables s) (length (section s.ctf SLabels) / 8) (section s.ctf SLabels))
+labels_said s keeps =
+    let h = fields s.ctf in
+    let order = kept_order s 14 (omega arith) (λ rule lt. keeps rule) in
+    let inside = kept_end s 14 (omega arith) (λ rule lt. keeps rule) in
+    let objects = order.objects in
+    let functions = order.functions in
+    let before = order.types in
+    let strings = order.strings in
+    let from = 36 + h.lbloff in
+    let size : (36 + h.objtoff) - (36 + h.lbloff) ≡ h.objtoff - h.lbloff = omega arith in
+    let len : length (section s.ctf SLabels) ≡ h.objtoff - h.lbloff = section_len s.ctf (36 + h.lbloff) (36 + h.objtoff) (omega arith) (omega arith) ∙ size in
+    let n = (h.objtoff - h.lbloff) / 8 in
+    let found = labels_read (tables s) s.ctf n (36 + h.lbloff) (h.objtoff - h.lbloff) (omega arith) (omega arith) (omega arith) (good s keeps).labels in
+    rw (len, size) found
+
+-- the types that are said are those of the bytes
+terms_said : (s : Lists) → KeepsEveryRule s → Section (tables s) (section s.ctf STypes) (terms_in (tables s) (types s.ctf))
+terms_said s keeps =
+    let r = kept_records s 14 (omega arith) (λ rule lt. keeps rule) in
+    let same = types_cut s.ctf r.0 r.1 r.2 in
+    let named = subst (λ (rs : List (Result Piece Fault)). AreNamed (tables s) (record_sites (36 + (fields s.ctf).typeoff) rs)) same (good s keeps).records in
+    subst (λ (rs : List (Result Piece Fault)). Section (tables s) (section s.ctf STypes) (terms_in (tables s) rs)) (sym same)
+    (terms_read (tables s) (36 + (fields s.ctf).typeoff) r.0 r.1 (section s.ctf STypes) 1 0 r.2.joined r.3 r.2.whole named)
+
+-- without a first fault every rule is kept
+keeps_from : (s : Lists) → first_fault s ≡ None → KeepsEveryRule s
+keeps_from s e = subst (λ (f : Option Fault). MatchOption f (KeepsEveryRule s) (IsFirstFault s)) e (least_fault s)
+
+-- where there is no fault, what is said is denoted
+pub denotes_said : (s : Lists) → first_fault s ≡ None → Denotes s (said_by s)
+unfolding said_by
+denotes_said s e =
+    let keeps = keeps_from s e in
+    let named = good s keeps in
+    record {
+      faultless = e;
+      child = refl;
+      parname = the_value (name (tables s) (fields s.ctf).parname) named.parname;
+      parlabel = the_value (name (tables s) (fields s.ctf).parlabel) named.parlabel;
+      labels = labels_said s keeps;
+      terms = terms_said s keeps;
+    }
+
+-- ---- only one dictionary
+
+-- labels with the same name and last type are the same
+one_label : (x y : Label) → x.name ≡ y.name → x.last ≡ y.last → x ≡ y
+one_label x y p q = ap (λ (n : List ℕ). record { name = n; last = x.last }) p ∙ ap (λ (m : ℕ). record { name = y.name; last = m }) q
+
+-- bytes are one list of labels
+one_labels : (t : Tables) (b : List ℕ) (xs ys : List Label) → AreLabels t b xs → AreLabels t b ys → xs ≡ ys
+one_labels t b [] [] p q = refl
+one_labels t b [] (y ∷ ys) p q = let low = q.0 in absurd (omega arith)
+one_labels t b (x ∷ xs) [] p q = let low = p.0 in absurd (omega arith)
+one_labels t b (x ∷ xs) (y ∷ ys) p q =
+    let head = one_label x y (same_Some x.name y.name (sym p.1 ∙ q.1)) (sym p.2 ∙ q.2) in
+    ap (λ (z : Label). z ∷ xs) head ∙ ap (λ (zs : List Label). y ∷ zs) (one_labels t (drop 8 b) xs ys p.3 q.3)
+
+-- lists denote one dictionary
+pub one_dictionary : (s : Lists) (d e : Dictionary) → Denotes s d → Denotes s e → d ≡ e
+one_dictionary s d e p q =
+    let child : d.child ≡ e.child = p.child ∙ sym q.child in
+    let parname : d.parname ≡ e.parname = same_Some d.parname e.parname (sym p.parname ∙ q.parname) in
+    let parlabel : d.parlabel ≡ e.parlabel = same_Some d.parlabel e.parlabel (sym p.parlabel ∙ q.parlabel) in
+    let labels : d.labels ≡ e.labels = one_labels (tables s) (section s.ctf SLabels) d.labels e.labels p.labels q.labels in
+    let terms : d.terms ≡ e.terms = one_list (tables s) (section s.ctf STypes) (section s.ctf STypes) d.terms e.terms refl p.terms q.terms in
+    ap (λ (x : Bool). record { child = x; parname = d.parname; parlabel = d.parlabel; labels = d.labels; terms = d.terms }) child
+    ∙ ap (λ (x : List ℕ). record { child = e.child; parname = x; parlabel = d.parlabel; labels = d.labels; terms = d.terms }) parname
+    ∙ ap (λ (x : List ℕ). record { child = e.child; parname = e.parname; parlabel = x; labels = d.labels; terms = d.terms }) parlabel
+    ∙ ap (λ (x : List Label). record { child = e.child; parname = e.parname; parlabel = e.parlabel; labels = x; terms = d.terms }) labels
+    ∙ ap (λ (x : List Term). record { child = e.child; parname = e.parname; parlabel = e.parlabel; labels = e.labels; terms = x }) terms
+
+-- ---- what is computed
+
+-- lists denote a dictionary exactly where they have no fault
+pub faultless_denoted : (s : Lists) → (first_fault s ≡ None) ↔ ((d : Dictionary) × Denotes s d)
+faultless_denoted s = (λ e. (said_by s, denotes_said s e), λ h. h.1.faultless)
+
+-- what is computed is what is denoted
+pub denoted_denotes : (s : Lists) (d : Dictionary) → (denoted s ≡ Some d) ↔ Denotes s d
+unfolding denoted
+denoted_denotes s d = (λ e. at (first_fault s) refl e, λ h. (rw h.faultless (ap (λ (x : Dictionary). Some x) (one_dictionary s (said_by s) d (denotes_said s h.faultless) h))))
+  where
+    at : (f : Option Fault) → first_fault s ≡ f → unless_fault f (said_by s) ≡ Some d → Denotes s d
+    at None e same = subst (Denotes s) (same_Some (said_by s) d same) (denotes_said s e)
+    at (Some f) e same = absurd cc

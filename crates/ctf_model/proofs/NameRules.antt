@@ -1,0 +1,122 @@
+-- The rule of names agrees with its fact: the sites are listed by rising places.
+use Rattle.std.proofs.Common.{◌≡◌, ℕ, zero, suc, ◌+◌, ◌-◌, ◌*◌, ◌/◌, ◌<◌, ◌≤◌, Bool, true, false, cond, eqb, List, [], ◌∷◌, ◌++◌, length, Option, Some, None, Result, Err, refl, sym, subst, arith, ◌⊎◌, inl, inr}
+use Rattle.std.specs.Prelude.{is_none, Any, slice_index_or}
+use Rattle.ctf_model.specs.declared.faults.Fault.{Fault}
+use Rattle.ctf_model.specs.declared.sections.Section.TheVariants.{STypes}
+use Rattle.ctf_model.specs.Faults.{Site, first_nameless, label_sites, record_sites, sites, bad_name, types}
+use Rattle.ctf_model.specs.Header.{fields, section}
+use Rattle.ctf_model.specs.Laws.{pieces}
+use Rattle.ctf_model.specs.Lists.{Lists, tables}
+use Rattle.ctf_model.specs.Name.{Tables, name}
+use Rattle.ctf_model.specs.Rules.{IsBroken, Keeps}
+use Rattle.ctf_model.specs.Section.{Piece, stop_code}
+use Rattle.ctf_model.proofs.Cut.{read}
+use Rattle.ctf_model.proofs.FirstFault.{Agrees}
+use Rattle.ctf_model.proofs.HeaderRules.{InOrder, kept_order}
+use Rattle.ctf_model.proofs.RecordRules.{types_cut}
+
+-- ---- one of a list
+
+-- what holds of the first holds of some
+pub any_here : {X : Type 0} (P : X → Type 0) (x : X) (xs : List X) → P x → Any P (x ∷ xs)
+any_here P x xs p = (0, x, omega arith, refl, p)
+
+-- what holds of one of the rest holds of some
+pub any_there : {X : Type 0} (P : X → Type 0) (x : X) (xs : List X) → Any P xs → Any P (x ∷ xs)
+any_there P x xs a = let lt = a.2 in (suc a.0, a.1, omega arith, a.3, a.4)
+
+-- what holds of some holds of the first or of one of the rest
+any_split : {X : Type 0} (P : X → Type 0) (x : X) (xs : List X) → Any P (x ∷ xs) → P x ⊎ Any P xs
+any_split {X} P x xs a = at a.0 a.1 a.2 a.3 a.4
+  where
+    at : (k : ℕ) (y : X) → k < length (x ∷ xs) → slice_index_or (x ∷ xs) k y ≡ y → P y → P x ⊎ Any P xs
+    at zero y lt e p = inl (subst P (sym e) p)
+    at (suc k) y lt e p = inr (k, y, omega arith, e, p)
+
+-- ---- sites by rising places
+
+-- places from a lowest one on, none lesser than one before it
+abbrev pub IsRising : ℕ → List Site → Type 0
+IsRising low [] = Unit {0}
+IsRising low (site ∷ more) = (low ≤ site.place) × IsRising site.place more
+
+-- rising places rise from any lower one
+lower : (low high : ℕ) (xs : List Site) → low ≤ high → IsRising high xs → IsRising low xs
+lower low high [] le r = tt
+lower low high (site ∷ more) le r = let from = r.0 in (omega arith, r.1)
+
+-- a site at the place names nothing
+abbrev pub IsNameless : Tables → List Site → ℕ → Type 0
+IsNameless t xs p = Any (λ site. (site.place ≡ p) × (name t site.reference ≡ None)) xs
+
+-- no nameless site stands below the lowest place
+none_below : (t : Tables) (xs : List Site) (low p : ℕ) → IsRising low xs → IsNameless t xs p → low ≤ p
+none_below t [] low p r a = let lt = a.2 in absurd (omega arith)
+none_below t (site ∷ more) low p r a = at (any_split _ site more a) (λ later. none_below t more site.place p r.1 later)
+  where
+    at : ((site.place ≡ p) × (name t site.reference ≡ None)) ⊎ IsNameless t more p → (IsNameless t more p → site.place ≤ p) → low ≤ p
+    at (inl here) next = let from = r.0 in let same = here.0 in omega arith
+    at (inr later) next = let from = r.0 in let behind = next later in omega arith
+
+-- where the test for none passes, there is none
+is_none_true : {A : Type 0} (o : Option A) → is_none o ≡ true → o ≡ None
+is_none_true None e = refl
+is_none_true (Some x) e = absurd cc
+
+-- where it does not pass, there is one
+not_here : {A : Type 0} (o : Option A) → is_none o ≡ false → o ≡ None → ⊥
+not_here None e n = absurd cc
+not_here (Some x) e n = absurd cc
+
+-- the first nameless site stands at the least place of all nameless ones
+nameless_agrees : (t : Tables) (xs : List Site) (low : ℕ) → IsRising low xs → Agrees (first_nameless t xs) (IsNameless t xs)
+unfolding first_nameless
+nameless_agrees t [] low r = λ p a. let lt = a.2 in absurd (omega arith)
+nameless_agrees t (site ∷ more) low r = at (is_none (name t site.reference)) refl (first_nameless t more) (nameless_agrees t more site.place r.1)
+  where
+    rest : is_none (name t site.reference) ≡ false → (p : ℕ) → IsNameless t (site ∷ more) p → IsNameless t more p
+    rest e p a = go (any_split _ site more a)
+      where
+        go : ((site.place ≡ p) × (name t site.reference ≡ None)) ⊎ IsNameless t more p → IsNameless t more p
+        go (inl here) = absurd (not_here (name t site.reference) e here.1)
+        go (inr later) = later
+
+    at : (b : Bool) → is_none (name t site.reference) ≡ b → (later : Option ℕ) → Agrees later (IsNameless t more) → Agrees (cond b (Some site.place) later) (IsNameless t (site ∷ more))
+    at true e later h = (any_here _ site more (refl, is_none_true (name t site.reference) e), λ q lt a. let low = none_below t (site ∷ more) site.place q (omega arith, r.1) a in absurd (omega arith))
+    at false e None h = λ p a. h p (rest e p a)
+    at false e (Some p) h = (any_there _ site more h.0, λ q lt a. h.1 q lt (rest e q a))
+
+-- ---- the sites of a dictionary
+
+-- the sites of labels rise, and then those behind them
+labels_rising : (ctf : List ℕ) (at n low high : ℕ) (more : List Site) → low ≤ at → at + 8 * n ≤ high → IsRising high more → IsRising low (label_sites ctf at n ++ more)
+unfolding label_sites
+labels_rising ctf at zero low high more le end r = lower low high more (omega arith) r
+labels_rising ctf at (suc n) low high more le end r = (le, labels_rising ctf (at + 8) n at high more (omega arith) (omega arith) r)
+
+-- the sites of records rise
+records_rising : (start low : ℕ) (parts : List (List ℕ)) (rest : List ℕ) (index at : ℕ) → low ≤ start + at → IsRising low (record_sites start (pieces index at parts rest))
+unfolding record_sites
+records_rising start low [] rest index at le = end (eqb (length rest) 0)
+  where
+    end : (b : Bool) → IsRising low (record_sites start (cond b [] (Err (record { code = stop_code rest; place = index }) ∷ [])))
+    end true = tt
+    end false = tt
+records_rising start low (part ∷ parts) rest index at le = (le, records_rising start (start + at) parts rest (index + 1) (at + length part) (omega arith))
+
+-- where the sections are in order, all sites rise
+sites_rising : (s : Lists) → InOrder (fields s.ctf) → IsRising 0 (sites s.ctf)
+unfolding sites
+sites_rising s ok =
+    let h = fields s.ctf in
+    let r = read (section s.ctf STypes) in
+    let places : IsRising (36 + h.typeoff) (record_sites (36 + h.typeoff) (pieces 1 0 r.0 r.1)) = records_rising (36 + h.typeoff) (36 + h.typeoff) r.0 r.1 1 0 (omega arith) in
+    let found : IsRising (36 + h.typeoff) (record_sites (36 + h.typeoff) (types s.ctf)) = subst (λ (rs : List (Result Piece Fault)). IsRising (36 + h.typeoff) (record_sites (36 + h.typeoff) rs)) (sym (types_cut s.ctf r.0 r.1 r.2.cut)) places in
+    let objects = ok.objects in
+    let functions = ok.functions in
+    let before = ok.types in
+    (omega arith, (omega arith, labels_rising s.ctf (36 + h.lbloff) ((h.objtoff - h.lbloff) / 8) 8 (36 + h.typeoff) _ (omega arith) (omega arith) found))
+
+pub bad_name_agrees : (s : Lists) → Keeps s 13 → Agrees (bad_name s) (IsBroken s 13)
+unfolding bad_name
+bad_name_agrees s keeps = nameless_agrees (tables s) (sites s.ctf) 0 (sites_rising s (kept_order s 13 (omega arith) keeps))

@@ -1,0 +1,200 @@
+-- Worked rows: what the definitions say of small inputs. The values were worked out by hand from the format.
+use Rattle.std.specs.Prelude.{◌≡◌, ℕ, ◌/◌, ◌%◌, ◌^◌, true, false, List, [], ◌∷◌, ◌++◌, take, drop, slice_set, Some, None, Result, Ok, Err, codes}
+use Rattle.ctf_model.specs.Ask.{ask}
+use Rattle.ctf_model.specs.Dictionary.{Dictionary, denoted}
+use Rattle.ctf_model.specs.Faults.{first_fault}
+use Rattle.ctf_model.specs.Lines.{all_lines}
+use Rattle.ctf_model.specs.Lists.{Lists}
+use Rattle.ctf_model.specs.Output.{Mark, out}
+use Rattle.ctf_model.specs.Output as marks
+use Rattle.ctf_model.specs.Record.{variant_len}
+use Rattle.ctf_model.specs.ReplyLines.{fault_line, reply_line}
+use Rattle.ctf_model.specs.Runs.{Given, private_state, private_replies}
+use Rattle.ctf_model.specs.State.{empty_state}
+use Rattle.ctf_model.specs.Term.{Scalar, Body, Term}
+use Rattle.ctf_model.specs.Term as term
+use Rattle.ctf_model.specs.TypeNumbers.{type_at}
+use Rattle.ctf_model.specs.declared.faults.Fault.{Fault}
+use Rattle.ctf_model.specs.declared.kinds.Kind.TheVariants.{KInteger, KFloat, KPointer, KArray, KFunction, KStruct, KUnion, KEnum}
+use Rattle.ctf_model.specs.declared.replies.Answer.{Answer}
+use Rattle.ctf_model.specs.declared.replies.Answer.TheVariants as answers
+use Rattle.ctf_model.specs.declared.replies.Reply.{Reply}
+use Rattle.ctf_model.specs.declared.requests.ListName.TheVariants.{Ctf}
+use Rattle.ctf_model.specs.declared.requests.Request.{Request}
+use Rattle.ctf_model.specs.declared.requests.Request.TheVariants.{DoPart, DoOpen, DoKind, DoReset}
+
+-- ---- inputs
+
+-- the four bytes of a number, the low one first
+abbrev pub word : ℕ → List ℕ
+word n = n % 256 ∷ n / 256 % 256 ∷ n / 2 ^ 16 % 256 ∷ n / 2 ^ 24 ∷ []
+
+-- a header without flags, labels and parent's label: the parent's name, four offsets, and the strings' length
+abbrev pub header : ℕ → ℕ → ℕ → ℕ → ℕ → ℕ → List ℕ
+header parname objtoff funcoff typeoff stroff strlen = 0xf1 ∷ 0xcf ∷ 2 ∷ 0 ∷ (word 0 ++ word parname ++ word 0 ++ word objtoff ++ word funcoff ++ word typeoff ++ word stroff ++ word strlen)
+
+-- a record of an integer: its name, then kind 1 and the root flag, its size, and the encoding word
+abbrev pub integer_record : ℕ → List ℕ
+integer_record name = word name ++ 0 ∷ 0x0c ∷ 4 ∷ 0 ∷ 0x20 ∷ 0 ∷ 0 ∷ 1 ∷ []
+
+-- the 53 bytes of a dictionary with one type, the integer int
+abbrev pub int_bytes : List ℕ
+int_bytes = header 0 0 0 0 12 5 ++ integer_record 1 ++ 0 ∷ 105 ∷ 110 ∷ 116 ∷ 0 ∷ []
+
+-- the same with its name in the strings of a symbol table
+abbrev pub outer_bytes : List ℕ
+outer_bytes = header 0 0 0 0 12 0 ++ integer_record 0x80000001
+
+-- a child of p with the parent's label q, one label r that covers type 0x8001, and no types
+abbrev pub child_bytes : List ℕ
+child_bytes = 0xf1 ∷ 0xcf ∷ 2 ∷ 0 ∷ (word 3 ++ word 1 ++ word 0 ++ word 8 ++ word 8 ++ word 8 ++ word 8 ++ word 7) ++ word 5 ++ word 0x8001 ++ 0 ∷ 112 ∷ 0 ∷ 113 ∷ 0 ∷ 114 ∷ 0 ∷ []
+
+-- an integer without a name in the long form, of 2^32 + 4 bytes, not visible
+abbrev pub long_bytes : List ℕ
+long_bytes = header 0 0 0 0 20 0 ++ word 0 ++ 0 ∷ 8 ∷ 0xff ∷ 0xff ∷ (word 1 ++ word 4) ++ 0x10 ∷ 0 ∷ 3 ∷ 2 ∷ []
+
+-- lists without a symbol table
+abbrev pub alone : List ℕ → Lists
+alone ctf = record { ctf = ctf; sym = None; strs = None }
+
+abbrev pub fault : ℕ → ℕ → Fault
+fault code place = record { code = code; place = place }
+
+-- ---- what they denote
+
+-- a visible integer of four bytes
+abbrev pub four_bytes : List ℕ → Term
+four_bytes name = record { name = name; root = true; body = term.integer (record { size = 4; encoding = 1; offset = 0; bits = 32 }) }
+
+abbrev pub int : Term
+int = four_bytes (codes "int")
+
+-- a dictionary of these types that isn't a child, with no labels
+abbrev pub of_types : List Term → Dictionary
+of_types types = record { child = false; parname = []; parlabel = []; labels = []; terms = types }
+
+abbrev pub child : Dictionary
+child = record { child = true; parname = codes "p"; parlabel = codes "q"; labels = record { name = codes "r"; last = 0x8001 } ∷ []; terms = [] }
+
+abbrev pub long_integer : Term
+long_integer = record { name = []; root = false; body = term.integer (record { size = 4294967300; encoding = 2; offset = 3; bits = 16 }) }
+
+pub record BytesDenote : Type 0 where
+  pub one_int : denoted (alone int_bytes) ≡ Some (of_types (int ∷ []))
+  pub byte_more : denoted (alone (int_bytes ++ 7 ∷ [])) ≡ Some (of_types (int ∷ []))
+  pub outer_name : denoted (record { ctf = outer_bytes; sym = None; strs = Some (0 ∷ 120 ∷ 110 ∷ 0 ∷ []) }) ≡ Some (of_types (four_bytes (codes "xn") ∷ []))
+  pub empty : denoted (alone (header 0 0 0 0 0 0)) ≡ Some (of_types [])
+  pub a_child : denoted (alone child_bytes) ≡ Some child
+  pub long_form : denoted (alone long_bytes) ≡ Some (of_types (long_integer ∷ []))
+
+-- ---- what is wrong with others
+
+pub record BytesHaveFaults : Type 0 where
+  pub no_byte : first_fault (alone []) ≡ Some (fault 1 0)
+  pub three_bytes : first_fault (alone (take 3 int_bytes)) ≡ Some (fault 1 0)
+  pub magic : first_fault (alone (slice_set int_bytes 0 0xf2)) ≡ Some (fault 2 0)
+  pub version : first_fault (alone (slice_set int_bytes 2 3)) ≡ Some (fault 3 0)
+  pub compressed : first_fault (alone (slice_set int_bytes 3 1)) ≡ Some (fault 4 0)
+  pub version_before_flags : first_fault (alone (slice_set (slice_set int_bytes 3 1) 2 3)) ≡ Some (fault 3 0)
+  pub no_header : first_fault (alone (take 4 int_bytes)) ≡ Some (fault 5 0)
+  pub short_header : first_fault (alone (take 35 int_bytes)) ≡ Some (fault 5 0)
+  pub order : first_fault (alone (header 0 4 0 8 12 0)) ≡ Some (fault 6 0)
+  pub align : first_fault (alone (header 0 0 0 2 12 0)) ≡ Some (fault 7 0)
+  pub no_sections : first_fault (alone (take 36 int_bytes)) ≡ Some (fault 8 0)
+  pub cut_strings : first_fault (alone (take 52 int_bytes)) ≡ Some (fault 8 0)
+  pub strings : first_fault (alone (header 0 0 0 0 0 1 ++ 105 ∷ [])) ≡ Some (fault 9 0)
+  pub cut_record : first_fault (alone (header 0 0 0 0 8 0 ++ take 8 (integer_record 0))) ≡ Some (fault 10 1)
+  pub cut_second : first_fault (alone (header 0 0 0 0 16 0 ++ integer_record 0 ++ 0 ∷ 0 ∷ 0 ∷ 0 ∷ [])) ≡ Some (fault 10 2)
+  pub pointer : first_fault (alone (header 0 0 0 0 8 0 ++ 0 ∷ 0 ∷ 0 ∷ 0 ∷ 0 ∷ 0x18 ∷ 1 ∷ 0 ∷ [])) ≡ Some (fault 11 1)
+  pub no_table : first_fault (alone outer_bytes) ≡ Some (fault 13 36)
+  pub parent_name : first_fault (alone (header 1 0 0 0 0 0)) ≡ Some (fault 13 8)
+
+-- ---- how long the lists behind heads are
+
+pub record ListsAreLong : Type 0 where
+  pub integer : variant_len KInteger 4 0 ≡ 4
+  pub float : variant_len KFloat 8 0 ≡ 4
+  pub pointer : variant_len KPointer 1 0 ≡ 0
+  pub array : variant_len KArray 0 0 ≡ 8
+  pub two_arguments : variant_len KFunction 0 2 ≡ 4
+  pub three_arguments : variant_len KFunction 0 3 ≡ 8
+  pub short_members : variant_len KStruct 8191 2 ≡ 16
+  pub long_members : variant_len KStruct 8192 2 ≡ 32
+  pub union : variant_len KUnion 8 3 ≡ 24
+  pub enumerators : variant_len KEnum 4 3 ≡ 24
+
+-- ---- which type a number names
+
+-- a child with a type of its own
+abbrev pub child_of_int : Dictionary
+child_of_int = record child { terms = int ∷ [] }
+
+pub record NumbersName : Type 0 where
+  pub zero_is_none : type_at (of_types (int ∷ [])) None 0 ≡ Err (fault 24 0)
+  pub first : type_at (of_types (int ∷ [])) None 1 ≡ Ok int
+  pub past : type_at (of_types (int ∷ [])) None 2 ≡ Err (fault 24 0)
+  pub no_parent : type_at child_of_int None 3 ≡ Err (fault 23 0)
+  pub in_parent : type_at child_of_int (Some (of_types (long_integer ∷ []))) 1 ≡ Ok long_integer
+  pub past_parent : type_at child_of_int (Some (of_types (long_integer ∷ []))) 2 ≡ Err (fault 24 0)
+  pub child_zero : type_at child_of_int None 0 ≡ Err (fault 24 0)
+  pub between : type_at child_of_int None 0x8000 ≡ Err (fault 24 0)
+  pub own : type_at child_of_int None 0x8001 ≡ Ok int
+  pub past_own : type_at child_of_int None 0x8002 ≡ Err (fault 24 0)
+
+-- ---- a session
+
+abbrev pub asked : Request → Given
+asked request = record { request = request; found = None }
+
+-- what a session asks, the newest first: it stages an int in two parts, opens it, asks for types, and lets it go
+abbrev pub questions : List Given
+questions = asked (DoKind 1 (record { 0 = 2 })) ∷ asked (DoKind 2 (record { 0 = 1 })) ∷ asked (DoKind 1 (record { 0 = 1 })) ∷ asked DoOpen ∷ asked (DoPart Ctf (drop 40 int_bytes)) ∷ asked (DoPart Ctf (take 40 int_bytes)) ∷ []
+
+abbrev pub says : Result Answer Fault → Reply
+says outcome = record { session = 0; outcome = outcome }
+
+pub record SessionRuns : Type 0 where
+  pub replies : private_replies empty_state (asked DoReset ∷ questions)
+      ≡ says (Ok answers.Done) ∷ says (Err (fault 24 0)) ∷ says (Err (fault 49 0)) ∷ says (Ok (answers.Kind KInteger)) ∷ says (Ok (answers.Opened 1 1)) ∷ says (Ok (answers.Length 53)) ∷ says (Ok (answers.Length 40)) ∷ []
+  pub opened : private_state empty_state questions ≡ record empty_state { slots = record { number = 1; lists = alone int_bytes; parent = None } ∷ []; next = 2 }
+  pub reset : private_state empty_state (asked DoReset ∷ questions) ≡ empty_state
+  pub refused : private_replies empty_state (asked DoOpen ∷ []) ≡ says (Err (fault 1 0)) ∷ []
+
+-- ---- lines
+
+abbrev pub answers_of : ℕ → Result Answer Fault → List ℕ
+answers_of s outcome = reply_line (record { session = s; outcome = outcome })
+
+pub record LinesSay : Type 0 where
+  pub length : answers_of 7 (Ok (answers.Length 53)) ≡ codes "{\"ok\":{\"length\":53},\"s\":7}\n"
+  pub opened : answers_of 7 (Ok (answers.Opened 1 20)) ≡ codes "{\"ok\":{\"d\":1,\"types\":20},\"s\":7}\n"
+  pub kind : answers_of 7 (Ok (answers.Kind KInteger)) ≡ codes "{\"ok\":{\"kind\":\"integer\"},\"s\":7}\n"
+  pub done : answers_of 7 (Ok answers.Done) ≡ codes "{\"ok\":{},\"s\":7}\n"
+  pub refusal : answers_of 7 (Err (fault 49 0)) ≡ codes "{\"fault\":{\"code\":49,\"name\":\"NoSlot\",\"place\":0},\"s\":7}\n"
+  pub at_place : fault_line 0 (fault 13 36) ≡ codes "{\"fault\":{\"code\":13,\"name\":\"BadName\",\"place\":36},\"s\":0}\n"
+  pub cut : all_lines (codes "ab\n\nc") ≡ codes "ab" ∷ [] ∷ codes "c" ∷ []
+  pub ended : all_lines (codes "ab\n") ≡ codes "ab" ∷ []
+  pub none : all_lines [] ≡ []
+
+-- ---- what lines ask
+
+pub record LinesAsk : Type 0 where
+  pub reset : ask (codes "{\"s\":7,\"op\":\"reset\"}") ≡ Ok (7, DoReset)
+  pub opens : ask (codes " {\"op\":\"open\", \"s\":4294967295, \"x\":[]}") ≡ Ok (4294967295, DoOpen)
+  pub kind : ask (codes "{\"s\":1,\"op\":\"kind\",\"d\":2,\"t\":65535}") ≡ Ok (1, DoKind 2 (record { 0 = 65535 }))
+  pub part : ask (codes "{\"s\":1,\"op\":\"part\",\"section\":\"ctf\",\"bytes\":\"F1cf\"}") ≡ Ok (1, DoPart Ctf (0xf1 ∷ 0xcf ∷ []))
+  pub not_json : ask [] ≡ Err (0, fault 57 0)
+  pub no_object : ask (codes "5") ≡ Err (0, fault 58 0)
+  pub no_session : ask (codes "{\"s\":0,\"op\":\"reset\"}") ≡ Err (0, fault 58 0)
+  pub no_word : ask (codes "{\"s\":7,\"op\":\"rest\"}") ≡ Err (7, fault 58 0)
+  pub great_type : ask (codes "{\"s\":7,\"op\":\"kind\",\"d\":2,\"t\":65536}") ≡ Err (7, fault 58 0)
+  pub odd_digits : ask (codes "{\"s\":7,\"op\":\"part\",\"section\":\"ctf\",\"bytes\":\"f1c\"}") ≡ Err (7, fault 58 0)
+
+-- ---- the whole output
+
+-- two sessions ask in turn; memory is refused to one line, and reading another
+pub record OutputIs : Type 0 where
+  pub written : out (λ s. empty_state) []
+      (codes "{\"s\":1,\"op\":\"part\",\"section\":\"ctf\",\"bytes\":\"f1cf\"}" ∷ codes "{\"s\":2,\"op\":\"part\",\"section\":\"ctf\",\"bytes\":\"00\"}" ∷ codes "{\"s\":1,\"op\":\"reset\"}" ∷ codes "{\"s\":1,\"op\":\"reset\"}" ∷ codes "{\"s\":1,\"op\":\"part\",\"section\":\"ctf\",\"bytes\":\"02\"}" ∷ [])
+      (marks.answered ∷ marks.answered ∷ marks.refused ∷ marks.unread ∷ [])
+      ≡ codes "{\"ok\":{\"length\":2},\"s\":1}\n" ∷ codes "{\"ok\":{\"length\":1},\"s\":2}\n" ∷ codes "{\"fault\":{\"code\":0,\"name\":\"Memory\",\"place\":0},\"s\":1}\n" ∷ codes "{\"fault\":{\"code\":0,\"name\":\"Memory\",\"place\":0},\"s\":0}\n" ∷ codes "{\"ok\":{\"length\":3},\"s\":1}\n" ∷ []

@@ -1,0 +1,42 @@
+//! Worked rows: what the definitions say of small inputs. Each is the contract of a function that does nothing.
+ghost use Rattle.ctf_model.specs.Rows.{BytesDenote, BytesHaveFaults, LinesAsk, LinesSay, ListsAreLong, NumbersName, OutputIs, SessionRuns};
+
+/// What bytes of a few types denote.
+pub fn bytes_denote()
+    ensures { BytesDenote }
+{}
+
+/// The first fault of bytes, at its place.
+pub fn bytes_have_faults()
+    ensures { BytesHaveFaults }
+{}
+
+/// How long the lists behind heads are.
+pub fn lists_are_long()
+    ensures { ListsAreLong }
+{}
+
+/// Which type a number names, in a child and elsewhere.
+pub fn numbers_name()
+    ensures { NumbersName }
+{}
+
+/// What a session is answered, and what it holds then.
+pub fn session_runs()
+    ensures { SessionRuns }
+{}
+
+/// Lines of replies, and how input is cut into lines.
+pub fn lines_say()
+    ensures { LinesSay }
+{}
+
+/// What lines ask.
+pub fn lines_ask()
+    ensures { LinesAsk }
+{}
+
+/// The output for two sessions, where memory is refused now and then.
+pub fn output_is()
+    ensures { OutputIs }
+{}
