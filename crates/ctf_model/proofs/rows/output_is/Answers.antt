@@ -3,10 +3,11 @@ use Rattle.std.specs.Str.{is_utf8, chars}
 use Rattle.std.specs.Fmt.{digits}
 use Rattle.hex.proofs.OnLiterals.{hex_on_literals}
 use Rattle.serde_json.proofs.OnLiterals.{serde_json_on_literals}
+use Rattle.ctf_model.specs.FaultNames.{name_of_fault}
 use Rattle.ctf_model.specs.Ask.{ask}
 use Rattle.ctf_model.specs.Steps.{step}
 use Rattle.ctf_model.proofs.rows.output_is.Goals as goal
 
 pub returns : goal.returns
-unfolding digits ask is_utf8 chars hex_on_literals serde_json_on_literals step
+unfolding digits ask is_utf8 chars hex_on_literals serde_json_on_literals step name_of_fault
 returns c = record { written = refl }
