@@ -1,11 +1,11 @@
 -- How lines come about as pieces of the input come.
-use Rattle.std.proofs.Common.{◌≡◌, ℕ, zero, suc, ◌+◌, ◌-◌, ◌<◌, ◌≤◌, List, [], ◌∷◌, ◌++◌, length, take, drop, get_or, Bool, true, false, eqb, refl, ◌∙◌, ap, sym, subst, arith, append_assoc, append-nil, add-one, drop-cons}
+use Rattle.std.proofs.Common.{◌≡◌, ℕ, zero, suc, ◌+◌, ◌-◌, ◌<◌, List, [], ◌∷◌, ◌++◌, length, take, drop, true, false, eqb, refl, ◌∙◌, ap, sym, arith, append_assoc, add-one, drop-cons}
 use Rattle.std.proofs.lemmas.List.{take_rest, take-append-drop}
 use Rattle.std.proofs.Math.Seq.{take-add}
 use Rattle.std.specs.Prelude.{if◌then◌else◌, slice_index}
 use Rattle.std.proofs.lemmas.Bool.Decides.{nat_tests}
 use Rattle.memchr.specs.Find.{Nowhere, Passes, is_byte}
-use Rattle.ctf_model.specs.Lines.{onto_first, onto_last, whole_lines, last_piece, all_lines, if_not_empty}
+use Rattle.ctf_model.specs.Lines.{onto_first, onto_last, whole_lines, last_piece}
 use Rattle.ctf_wire.specs.Served.{BeginsWith}
 
 -- no newline stands before place n

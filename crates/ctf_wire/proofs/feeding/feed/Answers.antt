@@ -1,6 +1,6 @@
-use Rattle.std.proofs.Common.{arith, ◌≡◌, ◌∙◌, ap, sym, subst, List, ℕ, Option, ◌++◌, ◌∷◌, [], append_assoc, append-nil}
+use Rattle.std.proofs.Common.{arith, ◌≡◌, ◌∙◌, ap, sym, subst, List, ℕ, ◌++◌, ◌∷◌, [], append_assoc}
 use Rattle.ctf_model.specs.Lines.{whole_lines}
-use Rattle.ctf_wire.specs.Served.{BeginsWith, BrokenOff}
+use Rattle.ctf_wire.specs.Served.{BeginsWith}
 use Rattle.ctf_wire.specs.Standing.{Stands}
 use Rattle.ctf_wire.proofs.Cutting.{whole_lines-front, regrouped}
 use Rattle.ctf_wire.proofs.Replying.{Stands-piece, BrokenOff-more}

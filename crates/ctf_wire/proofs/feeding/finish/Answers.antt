@@ -1,5 +1,5 @@
-use Rattle.std.proofs.Common.{◌≡◌, ◌≢◌, ◌∙◌, sym, subst, List, ℕ, ◌++◌, ◌∷◌, [], Some, Option, false, true}
-use Rattle.ctf_model.specs.Lines.{all_lines, whole_lines, last_piece, stored}
+use Rattle.std.proofs.Common.{◌≡◌, ◌≢◌, ◌∙◌, subst, List, ℕ, [], Some, Option, false, true}
+use Rattle.ctf_model.specs.Lines.{whole_lines, last_piece, stored}
 use Rattle.ctf_wire.specs.Served.{Serves, BrokenOff}
 use Rattle.ctf_wire.proofs.Replying.{Serves-push, Serves-cut, all_lines-last}
 use Rattle.ctf_wire.proofs.feeding.finish.Goals as goal

@@ -1,4 +1,4 @@
-use Rattle.std.proofs.Common.{rules, arith, length, take, ◌≡◌, sym, subst, ap, ◌∙◌, List, ℕ, []}
+use Rattle.std.proofs.Common.{arith, length, ◌≡◌, sym, ap, ◌∙◌}
 use Rattle.std.proofs.lemmas.Bool.Decides.{nat_tests}
 use Rattle.std.proofs.Math.Seq.{take-length}
 use Rattle.std.specs.Prelude.{slice_index}

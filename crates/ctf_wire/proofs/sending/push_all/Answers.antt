@@ -1,10 +1,10 @@
-use Rattle.std.proofs.Common.{arith, take, drop, length, ◌-◌, ◌+◌, ◌≡◌, ◌∙◌, ap, sym, subst, rules, List, ℕ}
+use Rattle.std.proofs.Common.{take, drop, length, ◌-◌, ◌∙◌, ap, sym, subst, rules, List, ℕ}
 use Rattle.std.specs.Io.KnownBytes.{Appends}
 use Rattle.std.proofs.KnownBytes.{Appends-trans, Appends-kept}
 use Rattle.std.proofs.lemmas.List.{take-append-drop}
 use Rattle.ctf_wire.specs.Flushes.{and_waits}
 use Rattle.ctf_wire.proofs.Cutting.{take-next}
-use Rattle.ctf_wire.proofs.Passing.{and_waits-nil, and_waits-more}
+use Rattle.ctf_wire.proofs.Passing.{and_waits-more}
 use Rattle.ctf_wire.proofs.sending.push_all.Goals as goal
 
 pub loop-at-preserved : goal.loop-at-preserved
