@@ -40,22 +40,30 @@ pub fn answer_bounded<M: Machine, S: Source, K: Sink>(
     requires writable { K.has_failed sink.old ≡ false }
 
     // All that there was is read, and each line has its reply.
-    ensures done { OnOk result ((read : List ℕ) × Consumes (S.remaining source.old) (S.remaining source.new) read × IsAtEnd (S.remaining source.new)
-        × Serves M.Step machine.old (all_lines read) machine.new (K.contents sink.old) (K.contents sink.new) (K.flushes sink.old) (K.flushes sink.new)) }
+    ensures done { OnOk result ((read : List ℕ)
+        × Consumes (S.remaining source.old) (S.remaining source.new) read × IsAtEnd (S.remaining source.new)
+        × Serves M.Step machine.old (all_lines read) machine.new
+        (K.contents sink.old) (K.contents sink.new) (K.flushes sink.old) (K.flushes sink.new)) }
     ensures done_marks { OnOk result ((S.has_ended source.new ≡ true) × (S.has_failed source.new ≡ false) × (K.has_failed sink.new ≡ false)) }
 
     // The whole lines that were read have their replies, and a last piece has none.
-    ensures read { result ≡ Err RunFault.Read → ((read : List ℕ) × Consumes (S.remaining source.old) (S.remaining source.new) read
-        × Serves M.Step machine.old (whole_lines read) machine.new (K.contents sink.old) (K.contents sink.new) (K.flushes sink.old) (K.flushes sink.new)) }
+    ensures read { result ≡ Err RunFault.Read → ((read : List ℕ)
+        × Consumes (S.remaining source.old) (S.remaining source.new) read
+        × Serves M.Step machine.old (whole_lines read) machine.new
+        (K.contents sink.old) (K.contents sink.new) (K.flushes sink.old) (K.flushes sink.new)) }
     ensures read_marks { result ≡ Err RunFault.Read → (S.has_failed source.new ≡ true) × (S.has_ended source.new ≡ false) × (K.has_failed sink.new ≡ false) }
-    ensures bound { result ≡ Err RunFault.ReadBound → ((read : List ℕ) × Consumes (S.remaining source.old) (S.remaining source.new) read
-        × Serves M.Step machine.old (whole_lines read) machine.new (K.contents sink.old) (K.contents sink.new) (K.flushes sink.old) (K.flushes sink.new)) }
+    ensures bound { result ≡ Err RunFault.ReadBound → ((read : List ℕ)
+        × Consumes (S.remaining source.old) (S.remaining source.new) read
+        × Serves M.Step machine.old (whole_lines read) machine.new
+        (K.contents sink.old) (K.contents sink.new) (K.flushes sink.old) (K.flushes sink.new)) }
     ensures bound_marks { result ≡ Err RunFault.ReadBound → (S.pull_count source.new ≡ S.pull_count source.old + reads)
         × (S.has_ended source.new ≡ false) × (S.has_failed source.new ≡ false) × (K.has_failed sink.new ≡ false) }
 
     // Of the replies whole ones and then a front of one are written.
-    ensures write { result ≡ Err RunFault.Write → ((read : List ℕ) × Consumes (S.remaining source.old) (S.remaining source.new) read
-        × BrokenOff M.Step machine.old (lines_read (S.has_ended source.new) read) machine.new (K.contents sink.old) (K.contents sink.new) (K.flushes sink.old) (K.flushes sink.new)) }
+    ensures write { result ≡ Err RunFault.Write → ((read : List ℕ)
+        × Consumes (S.remaining source.old) (S.remaining source.new) read
+        × BrokenOff M.Step machine.old (lines_read (S.has_ended source.new) read) machine.new
+        (K.contents sink.old) (K.contents sink.new) (K.flushes sink.old) (K.flushes sink.new)) }
     ensures write_marks { result ≡ Err RunFault.Write → (K.has_failed sink.new ≡ true) × (S.has_failed source.new ≡ false) }
 
     // Nothing was done.

@@ -54,12 +54,16 @@ fn end_line<M: Machine, K: Sink>(
     requires piece { whole_lines piece.now ≡ [] }
     ensures capacity { vec_capacity out.old ≤ vec_capacity out.new }
     ensures fed { OnTrue result ((start : M) (contents : Option (List ℕ)) (flushes : Option Flushes) (read : List ℕ) →
-        Stands M.Step start read machine.old pending.old contents (K.contents sink.old) flushes (K.flushes sink.old) →
-        Stands M.Step start (read ++ (piece.now ++ 10 ∷ [])) machine.new pending.new contents (K.contents sink.new) flushes (K.flushes sink.new)) }
+        Stands M.Step start read machine.old pending.old
+        contents (K.contents sink.old) flushes (K.flushes sink.old) →
+        Stands M.Step start (read ++ (piece.now ++ 10 ∷ [])) machine.new pending.new
+        contents (K.contents sink.new) flushes (K.flushes sink.new)) }
     ensures well { OnTrue result (K.has_failed sink.new ≡ K.has_failed sink.old) }
     ensures cut { OnFalse result ((start : M) (contents : Option (List ℕ)) (flushes : Option Flushes) (read : List ℕ) →
-        Stands M.Step start read machine.old pending.old contents (K.contents sink.old) flushes (K.flushes sink.old) →
-        BrokenOff M.Step start (whole_lines (read ++ (piece.now ++ 10 ∷ []))) machine.new contents (K.contents sink.new) flushes (K.flushes sink.new)) }
+        Stands M.Step start read machine.old pending.old
+        contents (K.contents sink.old) flushes (K.flushes sink.old) →
+        BrokenOff M.Step start (whole_lines (read ++ (piece.now ++ 10 ∷ []))) machine.new
+        contents (K.contents sink.new) flushes (K.flushes sink.new)) }
     ensures failed { OnFalse result (K.has_failed sink.new ≡ true) }
 {
     pending.append(piece);
@@ -81,12 +85,16 @@ pub fn feed<M: Machine, K: Sink>(
     requires { 96 ≤ vec_capacity out.old }
     ensures capacity { vec_capacity out.old ≤ vec_capacity out.new }
     ensures fed { OnTrue result ((start : M) (contents : Option (List ℕ)) (flushes : Option Flushes) (read : List ℕ) →
-        Stands M.Step start read machine.old pending.old contents (K.contents sink.old) flushes (K.flushes sink.old) →
-        Stands M.Step start (read ++ bytes.now) machine.new pending.new contents (K.contents sink.new) flushes (K.flushes sink.new)) }
+        Stands M.Step start read machine.old pending.old
+        contents (K.contents sink.old) flushes (K.flushes sink.old) →
+        Stands M.Step start (read ++ bytes.now) machine.new pending.new
+        contents (K.contents sink.new) flushes (K.flushes sink.new)) }
     ensures well { OnTrue result (K.has_failed sink.new ≡ K.has_failed sink.old) }
     ensures cut { OnFalse result ((start : M) (contents : Option (List ℕ)) (flushes : Option Flushes) (read : List ℕ) →
-        Stands M.Step start read machine.old pending.old contents (K.contents sink.old) flushes (K.flushes sink.old) →
-        BrokenOff M.Step start (whole_lines (read ++ bytes.now)) machine.new contents (K.contents sink.new) flushes (K.flushes sink.new)) }
+        Stands M.Step start read machine.old pending.old
+        contents (K.contents sink.old) flushes (K.flushes sink.old) →
+        BrokenOff M.Step start (whole_lines (read ++ bytes.now)) machine.new
+        contents (K.contents sink.new) flushes (K.flushes sink.new)) }
     ensures failed { OnFalse result (K.has_failed sink.new ≡ true) }
 {
     let mut rest = bytes;
@@ -110,12 +118,16 @@ pub fn finish<M: Machine, K: Sink>(
     requires { 96 ≤ vec_capacity out.old }
     ensures faults { OnErr result (result ≡ Err RunFault.Write) }
     ensures fed { OnOk result ((start : M) (contents : Option (List ℕ)) (flushes : Option Flushes) (read : List ℕ) →
-        Stands M.Step start read machine.old pending.now contents (K.contents sink.old) flushes (K.flushes sink.old) →
-        Serves M.Step start (all_lines read) machine.new contents (K.contents sink.new) flushes (K.flushes sink.new)) }
+        Stands M.Step start read machine.old pending.now
+        contents (K.contents sink.old) flushes (K.flushes sink.old) →
+        Serves M.Step start (all_lines read) machine.new
+        contents (K.contents sink.new) flushes (K.flushes sink.new)) }
     ensures well { OnOk result (K.has_failed sink.new ≡ K.has_failed sink.old) }
     ensures cut { OnErr result ((start : M) (contents : Option (List ℕ)) (flushes : Option Flushes) (read : List ℕ) →
-        Stands M.Step start read machine.old pending.now contents (K.contents sink.old) flushes (K.flushes sink.old) →
-        BrokenOff M.Step start (all_lines read) machine.new contents (K.contents sink.new) flushes (K.flushes sink.new)) }
+        Stands M.Step start read machine.old pending.now
+        contents (K.contents sink.old) flushes (K.flushes sink.old) →
+        BrokenOff M.Step start (all_lines read) machine.new
+        contents (K.contents sink.new) flushes (K.flushes sink.new)) }
     ensures failed { OnErr result (K.has_failed sink.new ≡ true) }
 {
     if pending.is_empty() {
