@@ -26,6 +26,3 @@ DeliversThen-trans None mid new pieces more front p q = tt
 DeliversThen-trans (Some old) mid new pieces more front p q = λ none.
     let P : Option Flushes → Type 0 = λ o. DeliversThen o new more front in
     subst P (p none) q refl ∙ ap (λ ps. Some (record { pieces = ps; waiting = front })) (append_assoc old.pieces pieces more)
-
-pub Delivers-none : (known : Option Flushes) → Delivers known known []
-Delivers-none known = DeliversThen-pushed known known [] (sym (and_waits-nil known))

@@ -1,15 +1,15 @@
 -- What one more line adds to what was served.
-use Rattle.std.proofs.Common.{◌≡◌, ◌≢◌, ℕ, List, [], ◌∷◌, ◌++◌, Option, Some, refl, ◌∙◌, ap, sym, subst, arith, append_assoc, append-nil}
+use Rattle.std.proofs.Common.{◌≡◌, ◌≢◌, ℕ, List, [], ◌∷◌, ◌++◌, Option, Some, refl, ◌∙◌, ap, sym, subst, append_assoc, append-nil}
 use Rattle.std.specs.List.{concat}
 use Rattle.std.specs.Io.KnownBytes.{Appends}
-use Rattle.std.proofs.KnownBytes.{Appends-nil, Appends-trans}
+use Rattle.std.proofs.KnownBytes.{Appends-trans}
 use Rattle.std.proofs.lemmas.List.Folds.{concat-append}
 use Rattle.ctf_model.specs.Lines.{whole_lines, last_piece, all_lines, if_not_empty, stored}
 use Rattle.ctf_wire.specs.Flushes.{Flushes, Delivers, DeliversThen}
 use Rattle.ctf_wire.specs.Served.{Answers, BeginsWith, Serves, BrokenOff}
 use Rattle.ctf_wire.specs.Standing.{Stands}
 use Rattle.ctf_wire.proofs.Cutting.{whole_lines-piece, last_piece-piece, whole_lines-line, last_piece-line}
-use Rattle.ctf_wire.proofs.Passing.{Delivers-none, DeliversThen-trans}
+use Rattle.ctf_wire.proofs.Passing.{DeliversThen-trans}
 
 -- one more line is answered
 Answers-push : {S : Type 0} (Step : S → Option (List ℕ) → List ℕ → S → Type 0) (old mid new : S) (lines replies : List (List ℕ)) (line reply : List ℕ)
@@ -24,10 +24,6 @@ Answers-push {S} Step old mid new (l ∷ lines) (r ∷ replies) line reply a s =
 
 concat-push : (replies : List (List ℕ)) (reply : List ℕ) → concat (replies ++ reply ∷ []) ≡ concat replies ++ reply
 concat-push replies reply = concat-append replies (reply ∷ []) ∙ ap (λ r. concat replies ++ r) (append-nil reply)
-
-pub Serves-none : {S : Type 0} (Step : S → Option (List ℕ) → List ℕ → S → Type 0) (machine : S) (contents : Option (List ℕ)) (flushes : Option Flushes)
-    → Serves Step machine [] machine contents contents flushes flushes
-Serves-none {S} Step machine contents flushes = record { replies = []; answers = refl; written = Appends-nil contents; delivered = Delivers-none flushes }
 
 -- the reply to one more line is sent
 pub Serves-push : {S : Type 0} (Step : S → Option (List ℕ) → List ℕ → S → Type 0) (start mid new : S) (lines : List (List ℕ)) (line reply : List ℕ) (c0 c1 c2 : Option (List ℕ)) (f0 f1 f2 : Option Flushes)
@@ -109,17 +105,9 @@ Stands-cut {S} Step start mid new read piece reply front held joined c0 c1 c2 f0
     let Q : Option (List ℕ) → Type 0 = λ o. Step mid o reply new in
     subst P (sym (whole_lines-line read piece none)) (Serves-cut Step start mid new (whole_lines read) (last_piece read ++ piece) reply front c0 c1 c2 f0 f1 f2 s.served (subst Q (joins (last_piece read) s.holds) step) begins sent delivered)
 
-none-held : (piece : List ℕ) → stored piece ≡ Some [] → if_not_empty piece ≡ []
-none-held [] h = refl
-none-held (b ∷ bs) h = grind arith
-
 some-held : (piece : List ℕ) → stored piece ≢ Some [] → piece ∷ [] ≡ if_not_empty piece
 some-held [] h = absurd (h refl)
 some-held (b ∷ bs) h = refl
-
--- nothing is held
-pub all_lines-none : (read : List ℕ) → stored (last_piece read) ≡ Some [] → whole_lines read ≡ all_lines read
-all_lines-none read h = sym (ap (λ lines. whole_lines read ++ lines) (none-held (last_piece read) h) ∙ append-nil (whole_lines read))
 
 -- a last piece is held
 pub all_lines-last : (read : List ℕ) → stored (last_piece read) ≢ Some [] → whole_lines read ++ last_piece read ∷ [] ≡ all_lines read
