@@ -187,7 +187,7 @@ fn refuses_one_record_too_many(rt: HostRuntime) -> Result<(), Fail> {
     Ok(())
 }
 
-/// Every record has the same name of 4 MiB, so a check that read each name would take minutes.
+/// Every record has the same name of 4 MiB: a check that read each name would read 128 GiB.
 #[test]
 fn reads_no_name_for_each_record(rt: HostRuntime) -> Result<(), Fail> {
     let sizes = [(28, 0xe8), (29, 0xff), (30, 5), (32, 2), (34, 0x40)];
