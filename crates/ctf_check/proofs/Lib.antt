@@ -1,3 +1,4 @@
+pub mod LastNames
 pub mod Order
 pub mod Reading
 pub mod Sites

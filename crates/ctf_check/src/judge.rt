@@ -8,11 +8,12 @@ ghost use Rattle.ctf_check.specs.Stages.{records_fault};
 
 use crate::checked::Checked;
 use crate::cursor::Records;
+use crate::ends::NameEnds;
 use crate::lists::LentLists;
 use crate::names::bad_name;
 use crate::sections::bytes_in;
 use ctf_model::{Fault, Section};
-use ctf_sections::{Header, Strings};
+use ctf_sections::Header;
 
 /// How many records a section has.
 #[tactic(auto, using(crate::proofs::Reading::walk_len))]
@@ -52,8 +53,8 @@ pub fn check<'a>(
 {
     let header = Header::read(ctf)?;
     let count = count_records(bytes_in(ctf, header, Section::STypes))?;
-    let strings = Strings::new(bytes_in(ctf, header, Section::SStrings), strs);
-    if let Some(place) = bad_name(ctf, header, strings) {
+    let ends = NameEnds::new(bytes_in(ctf, header, Section::SStrings), strs);
+    if let Some(place) = bad_name(ctf, header, ends) {
         return Err(Fault {
             code: Fault::BAD_NAME,
             place,

@@ -3,6 +3,7 @@
 
 mod checked;
 mod cursor;
+mod ends;
 mod judge;
 mod lists;
 mod names;

@@ -1,31 +1,25 @@
 //! The rule of names: each name reference names something.
-ghost use Rattle.std.specs.Prelude.{◌≡◌, ◌≤◌, ◌+◌, ◌*◌, ◌^◌, length, is_none};
-ghost use Rattle.ctf_model.specs.Name.{name};
+ghost use Rattle.std.specs.Prelude.{◌≡◌, ◌≤◌, ◌+◌, ◌*◌, ◌^◌, length};
 ghost use Rattle.ctf_model.specs.Header.{fields};
 ghost use Rattle.ctf_model.specs.Faults.{first_nameless, label_sites, record_sites, sites};
 ghost use Rattle.ctf_model.specs.Section.{records};
-ghost use Rattle.ctf_sections.specs.StringsView.{tables};
+ghost use Rattle.ctf_check.specs.EndsView.{tables_in};
 ghost use Rattle.ctf_check.specs.Stages.{header_sites};
 
 use crate::cursor::Records;
+use crate::ends::NameEnds;
 use ctf_model::Section;
+use ctf_sections::Header;
 use ctf_sections::bytes::u32_at;
-use ctf_sections::{Header, Strings};
-
-fn names_nothing(strings: Strings<'_>, reference: u32) -> bool
-    ensures { result ≡ is_none (name (tables strings.entry) reference) }
-{
-    strings.name(reference).is_none()
-}
 
 /// The first of the header's names that is bad: its place in the dictionary.
 #[tactic(auto, unfolding(ctf_model::specs::Faults::first_nameless))]
-fn bad_in_header(header: Header, strings: Strings<'_>) -> Option<u64>
-    ensures { result ≡ first_nameless (tables strings.entry) (header_sites header) }
+fn bad_in_header(header: Header, ends: NameEnds<'_>) -> Option<u64>
+    ensures { result ≡ first_nameless (tables_in ends.entry) (header_sites header) }
 {
-    if names_nothing(strings, header.parlabel()) {
+    if ends.names_nothing(header.parlabel()) {
         Some(4)
-    } else if names_nothing(strings, header.parname()) {
+    } else if ends.names_nothing(header.parname()) {
         Some(8)
     } else {
         None
@@ -34,13 +28,13 @@ fn bad_in_header(header: Header, strings: Strings<'_>) -> Option<u64>
 
 /// The first of the names of `count` labels that is bad: its place in the dictionary.
 #[tactic(auto, using(crate::proofs::Sites::label_sites_next, crate::proofs::Sites::label_sites_end), unfolding(ctf_model::specs::Faults::first_nameless))]
-fn bad_in_labels(ctf: &[u8], start: usize, count: usize, strings: Strings<'_>) -> Option<u64>
+fn bad_in_labels(ctf: &[u8], start: usize, count: usize, ends: NameEnds<'_>) -> Option<u64>
     requires { start + 8 * count ≤ length ctf.now }
-    ensures { result ≡ first_nameless (tables strings.entry) (label_sites ctf.now start count) }
+    ensures { result ≡ first_nameless (tables_in ends.entry) (label_sites ctf.now start count) }
 {
     for i in 0..count {
         let at = start + 8 * i;
-        if names_nothing(strings, u32_at(ctf, at)) {
+        if ends.names_nothing(u32_at(ctf, at)) {
             return Some(at as u64);
         }
     }
@@ -50,13 +44,13 @@ fn bad_in_labels(ctf: &[u8], start: usize, count: usize, strings: Strings<'_>) -
 /// The first of the names of records that is bad: its place in the dictionary, where their section
 /// begins at `start`.
 #[tactic(auto, unfolding(ctf_model::specs::Faults::first_nameless, ctf_model::specs::Faults::record_sites))]
-fn bad_in_records(types: &[u8], start: usize, strings: Strings<'_>) -> Option<u64>
+fn bad_in_records(types: &[u8], start: usize, ends: NameEnds<'_>) -> Option<u64>
     requires { start ≤ 2 ^ 63 }
-    ensures { result ≡ first_nameless (tables strings.entry) (record_sites start (records types.now)) }
+    ensures { result ≡ first_nameless (tables_in ends.entry) (record_sites start (records types.now)) }
 {
     for record in Records::new(types) {
         let Ok(record) = record else { return None };
-        if names_nothing(strings, u32_at(record.bytes, 0)) {
+        if ends.names_nothing(u32_at(record.bytes, 0)) {
             return Some((start + record.at) as u64);
         }
     }
@@ -64,18 +58,18 @@ fn bad_in_records(types: &[u8], start: usize, strings: Strings<'_>) -> Option<u6
 }
 
 /// The first name of a dictionary that is bad: the place of its reference.
-pub fn bad_name(ctf: &[u8], header: Header, strings: Strings<'_>) -> Option<u64>
+pub fn bad_name(ctf: &[u8], header: Header, ends: NameEnds<'_>) -> Option<u64>
     requires fields { header ≡ fields ctf.now }
     requires inside { 36 + header.stroff + header.strlen ≤ length ctf.now }
-    ensures { result ≡ first_nameless (tables strings.entry) (sites ctf.now) }
+    ensures { result ≡ first_nameless (tables_in ends.entry) (sites ctf.now) }
 {
-    if let Some(place) = bad_in_header(header, strings) {
+    if let Some(place) = bad_in_header(header, ends) {
         return Some(place);
     }
     let (start, end) = header.range(Section::SLabels);
-    if let Some(place) = bad_in_labels(ctf, start, (end - start) / 8, strings) {
+    if let Some(place) = bad_in_labels(ctf, start, (end - start) / 8, ends) {
         return Some(place);
     }
     let (start, end) = header.range(Section::STypes);
-    bad_in_records(&ctf[start..end], start, strings)
+    bad_in_records(&ctf[start..end], start, ends)
 }

@@ -187,6 +187,23 @@ fn refuses_one_record_too_many(rt: HostRuntime) -> Result<(), Fail> {
     Ok(())
 }
 
+/// Every record has the same name of 4 MiB: a check that read each name would read 128 GiB.
+#[test]
+fn reads_no_name_for_each_record(rt: HostRuntime) -> Result<(), Fail> {
+    let sizes = [(28, 0xe8), (29, 0xff), (30, 5), (32, 2), (34, 0x40)];
+    let mut ctf = changed(&EMPTY, &sizes).to_vec(rt.alloc())?;
+    for _ in 0..32766 {
+        ctf.extend_from_slice(b"\x01\x00\x00\x00\x00\x0c\x04\x00\x20\x00\x00\x01")?;
+    }
+    ctf.push(0)?;
+    for _ in 0..0x40_0000 {
+        ctf.push(b'a')?;
+    }
+    ctf.push(0)?;
+    assert_eq!(rt; fault_of(alone(&ctf)), None);
+    Ok(())
+}
+
 #[test]
 fn answers(rt: HostRuntime) {
     let longer = b"\xf1\xcf\x02\x00\

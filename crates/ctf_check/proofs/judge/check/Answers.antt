@@ -1,7 +1,7 @@
 use Rattle.std.proofs.Common.{◌≡◌, List, ℕ, Result, option_copied, refl, sym, ap, ◌∙◌, length}
 use Rattle.std.proofs.lemmas.Result.{err_from_is_err_and}
 use Rattle.ctf_model.specs.Faults.{first_nameless, sites}
-use Rattle.ctf_model.specs.Lists.{Lists, tables as tables_in}
+use Rattle.ctf_model.specs.Lists.{Lists, tables as tables_of}
 use Rattle.ctf_model.specs.Name.{Tables}
 use Rattle.ctf_model.specs.Section.{Piece}
 use Rattle.ctf_model.specs.declared.faults.Fault.{Fault}
@@ -25,14 +25,14 @@ returns-in_err-count-clause-exact_err c =
     rw (p.1, p.2) (at_records s c.in_err-count.field-0.0 c.in_ok-header.ensures.exact_ok (ap records_fault (sym part) ∙ c.in_err-count.ensures.exact_err))
 
 -- the tables of names are those of the lists
-same_tables : (t : Tables) (s : Lists) (internal : List ℕ) → t ≡ record { internal = internal; elf = s.strs } → internal ≡ (tables_in s).internal → t ≡ tables_in s
+same_tables : (t : Tables) (s : Lists) (internal : List ℕ) → t ≡ record { internal = internal; elf = s.strs } → internal ≡ (tables_of s).internal → t ≡ tables_of s
 same_tables t s internal e i = rw (e, i) refl
 
 pub returns-in-Some-clause-exact_err : goal.returns-in-Some-clause-exact_err
 returns-in-Some-clause-exact_err c =
     let s = given c.args.ctf.now (option_copied c.args.sym) (option_copied c.args.strs) in
     let part = types_are s.ctf c.bytes_in.result.now c.bytes_in.ensures in
-    let same = same_tables _ s c.bytes_in-2.result.now c.new-strings.ensures c.bytes_in-2.ensures in
+    let same = same_tables _ s c.bytes_in-2.result.now c.new-ends.ensures c.bytes_in-2.ensures in
     let bad = c.bad_name.ensures ∙ ap (λ (t : Tables). first_nameless t (sites s.ctf)) same in
     let all = at_names s c.bad_name.result c.in_ok-header.ensures.exact_ok (ap records_fault (sym part) ∙ c.in_ok-count.ensures.exact_ok) bad in
     rw c.in-Some.is at all
@@ -41,7 +41,7 @@ pub invariant_of-result : goal.invariant_of-result
 invariant_of-result c =
     let s = given c.args.ctf.now (option_copied c.args.sym) (option_copied c.args.strs) in
     let part = types_are s.ctf c.bytes_in.result.now c.bytes_in.ensures in
-    let same = same_tables _ s c.bytes_in-2.result.now c.new-strings.ensures c.bytes_in-2.ensures in
+    let same = same_tables _ s c.bytes_in-2.result.now c.new-ends.ensures c.bytes_in-2.ensures in
     let bad = c.bad_name.ensures ∙ ap (λ (t : Tables). first_nameless t (sites s.ctf)) same in
     let all = at_names s c.bad_name.result c.in_ok-header.ensures.exact_ok (ap records_fault (sym part) ∙ c.in_ok-count.ensures.exact_ok) bad in
     let none = rw c.in_default.is at all in

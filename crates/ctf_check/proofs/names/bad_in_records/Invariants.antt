@@ -1,8 +1,8 @@
 use Rattle.std.proofs.Common.{◌≡◌}
 use Rattle.ctf_model.specs.Faults.{first_nameless, record_sites}
 use Rattle.ctf_model.specs.Section.{records}
-use Rattle.ctf_sections.specs.StringsView.{tables}
+use Rattle.ctf_check.specs.EndsView.{tables_in}
 use Rattle.ctf_check.proofs.names.bad_in_records.Given as goal
 
 abbrev pub invariant-loop-record : goal.invariant-loop-record
-invariant-loop-record l = first_nameless (tables l.strings) (record_sites l.start l.record-iterator) ≡ first_nameless (tables l.strings) (record_sites l.start (records l.types))
+invariant-loop-record l = first_nameless (tables_in l.ends) (record_sites l.start l.record-iterator) ≡ first_nameless (tables_in l.ends) (record_sites l.start (records l.types))

@@ -1,0 +1,8 @@
+-- What `NameEnds` shows.
+use Rattle.ctf_model.specs.Name.{Tables}
+use Rattle.ctf_sections.specs.StringsView.{tables}
+use Rattle.ctf_check.specs.declared.ends.NameEnds.{NameEnds}
+
+-- its tables of names
+abbrev pub tables_in : NameEnds → Tables
+tables_in n = tables n.strings

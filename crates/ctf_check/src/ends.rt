@@ -1,0 +1,62 @@
+//! Which references name something, told by where names end, without reading the names.
+ghost use Rattle.std.specs.Prelude.{◌≡◌, ℕ, Some, is_none, nat_le};
+ghost use Rattle.ctf_model.specs.Name.{name, text_at};
+ghost use Rattle.ctf_sections.specs.StringsView.{tables};
+
+use ctf_sections::Strings;
+use memchr::memrchr;
+
+/// The place behind the last zero byte of a table: what begins before it is a name, what begins
+/// there or later is none.
+fn end_of_names(table: &[u8]) -> usize
+    ensures { (at : ℕ) → is_none (text_at (Some table.now) at) ≡ nat_le result at }
+{
+    match memrchr(0, table) {
+        Some(last) => last + 1,
+        None => 0,
+    }
+}
+
+/// The tables of names, with the place behind the last name of each; 0 where a table is absent.
+#[derive(Clone, Copy)]
+pub struct NameEnds<'a> {
+    strings: Strings<'a>,
+    internal_end: usize,
+    elf_end: usize,
+    ghost internal: { (at : ℕ) → is_none (text_at (Some (tables strings).internal) at) ≡ nat_le internal_end at },
+    ghost elf: { (at : ℕ) → is_none (text_at (tables strings).elf at) ≡ nat_le elf_end at },
+}
+
+impl<'a> NameEnds<'a> {
+    ghost use Rattle.std.specs.Prelude.{option_copied};
+    ghost use Rattle.ctf_check.specs.EndsView.{tables_in};
+
+    pub fn new(internal: &'a [u8], elf: Option<&'a [u8]>) -> NameEnds<'a>
+        ensures { tables_in result ≡ record { internal = internal.now; elf = option_copied elf.entry } }
+    {
+        let elf_end = match elf {
+            Some(table) => end_of_names(table),
+            None => 0,
+        };
+        NameEnds {
+            strings: Strings::new(internal, elf),
+            internal_end: end_of_names(internal),
+            elf_end,
+        }
+    }
+
+    /// Whether a reference names nothing.
+    pub fn names_nothing(self, reference: u32) -> bool
+        ensures { result ≡ is_none (name (tables_in self.entry) reference) }
+    {
+        let offset = (reference & 0x7fff_ffff) as usize;
+        if offset == 0 {
+            return false;
+        }
+        if reference >> 31 == 0 {
+            offset >= self.internal_end
+        } else {
+            offset >= self.elf_end
+        }
+    }
+}
