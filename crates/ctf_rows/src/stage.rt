@@ -5,23 +5,29 @@ use crate::runs::{INT, put_open, put_part, served};
 use std::alloc::{AllocError, Global};
 use std::test::Fail;
 
+/// The reply to a part, where the list is then so long.
+fn put_length(alloc: Global, want: &mut Vec<u8>, length: u64) -> Result<(), AllocError> {
+    let length = format!(in alloc; "{length}")?;
+    put_line(
+        want,
+        b"{\"ok\":{\"length\":",
+        length.as_bytes(),
+        b"},\"s\":7}",
+    )
+}
+
 /// A full list handed in by 64 parts of 262,144 bytes, each with its reply: an empty dictionary, and zero bytes.
 fn fill(alloc: Global, input: &mut Vec<u8>, want: &mut Vec<u8>) -> Result<(), AllocError> {
     let zeroes = Vec::from_elem(alloc, b'0', 524_288)?;
     let mut first = Vec::from_slice(alloc, b"f1cf0200")?;
     first.extend_from_slice(zeroes.get(8..).unwrap_or(&[]))?;
     put_part(input, "ctf", &first)?;
-    for part in 1..=64 {
-        if part > 1 {
-            put_part(input, "ctf", &zeroes)?;
-        }
-        let length = format!(in alloc; "{}", part * 262_144)?;
-        put_line(
-            want,
-            b"{\"ok\":{\"length\":",
-            length.as_bytes(),
-            b"},\"s\":7}",
-        )?;
+    put_length(alloc, want, 262_144)?;
+    let mut length: u64 = 262_144;
+    for _ in 1..64 {
+        put_part(input, "ctf", &zeroes)?;
+        length = length.wrapping_add(262_144);
+        put_length(alloc, want, length)?;
     }
     Ok(())
 }
