@@ -1,15 +1,15 @@
 #!/usr/bin/env python3
-"""Runs a command on each stream of streams.py, and prints lines per second and peak memory.
+"""Runs a command on each stream of streams.py, and prints processor time, lines per second and peak memory.
 
 usage: run.py COMMAND [WORD]..
 
-Each stream is run three times from a file, its output goes to a pipe that is read to its end,
-and the fastest run counts.
+Each stream is run five times from a file, its output goes to a pipe that is read to its end,
+and the run with the least processor time, the program's and the system's for it, counts.
 """
+import resource
 import subprocess
 import sys
 import tempfile
-import time
 
 import streams
 
@@ -20,10 +20,15 @@ def high_water(pid):
         return next((int(line.split()[1]) for line in status if line.startswith("VmHWM:")), 0)
 
 
+def used():
+    """The seconds of processor time that ended children have used."""
+    usage = resource.getrusage(resource.RUSAGE_CHILDREN)
+    return usage.ru_utime + usage.ru_stime
+
+
 def run(command, path):
     """The seconds, the lines written, and the peak memory in KiB as far as seen at each read."""
-    lines, memory = 0, 0
-    begin = time.perf_counter()
+    lines, memory, before = 0, 0, used()
     with open(path, "rb") as stdin:
         child = subprocess.Popen(command, stdin=stdin, stdout=subprocess.PIPE)
     while piece := child.stdout.read1(65_536):
@@ -31,7 +36,7 @@ def run(command, path):
         memory = max(memory, high_water(child.pid))
     if child.wait():
         sys.exit(f"{command[0]} ended with status {child.returncode}")
-    return time.perf_counter() - begin, lines, memory
+    return used() - before, lines, memory
 
 
 def main(command):
@@ -39,7 +44,7 @@ def main(command):
         with tempfile.NamedTemporaryFile("w", suffix=".jsonl") as file:
             file.writelines(make())
             file.flush()
-            seconds, lines, memory = min(run(command, file.name) for _ in range(3))
+            seconds, lines, memory = min(run(command, file.name) for _ in range(5))
         print(f"{name:10}{lines:8} lines {seconds:8.3f} s {lines / seconds:12.0f} lines/s {memory:8} KiB")
 
 
