@@ -1,0 +1,50 @@
+#!/usr/bin/env bash
+# Checks how a built ctfd ends: its exit status, and what stands on standard output and standard error.
+# usage: tests/program.sh PROGRAM
+# Not part of the gate, which runs the stored run of crates/ctfd alone. Needs /dev/full.
+set -u
+program=$(realpath "$1")
+first=$(realpath "$(dirname "$0")/../examples/first.jsonl")
+work=$(mktemp -d)
+trap 'rm -r "$work"' EXIT
+failed=0
+
+# expect NAME STATUS OUT ERR: the run just made, whose outputs are $work/out and $work/err, ended so.
+# OUT and ERR are patterns that a line must match; an empty one says that nothing was written.
+expect() {
+    local well=yes
+    [ "$status" = "$2" ] || well="status $status"
+    check "$3" out || well="standard output"
+    check "$4" err || well="standard error"
+    printf '%-36s %s\n' "$1" "$well"
+    [ "$well" = yes ] || failed=1
+}
+
+check() {
+    if [ -z "$1" ]; then [ ! -s "$work/$2" ]; else grep -q -- "$1" "$work/$2"; fi
+}
+
+# ends IN WORD..: runs the program on a file.
+ends() {
+    local input=$1
+    shift
+    "$program" "$@" < "$input" > "$work/out" 2> "$work/err"
+    status=$?
+}
+
+ends /dev/null;                 expect "no command" 2 '' 'Usage'
+ends /dev/null bad;             expect "a command that is not there" 2 '' 'bad'
+ends /dev/null serve more;      expect "a word too many" 2 '' 'more'
+ends /dev/null --help;          expect "help" 0 'Usage' ''
+ends /dev/null serve --help;    expect "help of serve" 0 'Usage' ''
+ends /dev/null serve;           expect "no lines" 0 '' ''
+ends "$first" serve;            expect "the first run" 0 '^{"ok":{"kind":"integer"},"s":7}$' ''
+ends . serve;                   expect "a folder as input" 3 '' '^ctfd: Read$'
+: > "$work/out"
+"$program" serve < "$first" > /dev/full 2> "$work/err"
+status=$?;                      expect "a full output" 3 '' '^ctfd: Write$'
+yes '{"s":7,"op":"reset"}' | head -n 200000 > "$work/many"
+{ "$program" serve < "$work/many" 2> "$work/err"; echo $? > "$work/status"; } | head -n 1 > "$work/out"
+status=$(cat "$work/status")
+printf '%-36s status %s, standard error: %s\n' "a reader that leaves" "$status" "$(cat "$work/err")"
+exit $failed
