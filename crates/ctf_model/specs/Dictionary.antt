@@ -5,7 +5,7 @@ use Rattle.ctf_model.specs.Faults.{first_fault, types}
 use Rattle.ctf_model.specs.Header.{fields, section}
 use Rattle.ctf_model.specs.Lists.{Lists, tables}
 use Rattle.ctf_model.specs.Name.{Tables, name}
-use Rattle.ctf_model.specs.Record.{term_of}
+use Rattle.ctf_model.specs.Spelling.{term_of}
 use Rattle.ctf_model.specs.Section.{Section, Piece}
 use Rattle.ctf_model.specs.Term.{Term}
 use Rattle.ctf_model.specs.declared.faults.Fault.{Fault}

@@ -1,13 +1,16 @@
 -- The first fault of a dictionary: a table of rules, each with the least place where it is broken, or none.
 -- The rules themselves are ours, over the layout of ctf(5); Rules.antt says them as facts.
-use Rattle.std.specs.Prelude.{ℕ, zero, suc, ◌+◌, ◌-◌, ◌/◌, ◌%◌, ◌++◌, Result, Ok, Err, is_none, ◌==◌, ◌||◌, ◌&&◌, not, nat_lt, Bool, List, [], ◌∷◌, length, map, slice_index, Option, Some, None, if◌then◌else◌}
+use Rattle.std.specs.Prelude.{ℕ, zero, suc, ◌+◌, ◌-◌, ◌/◌, ◌%◌, ◌++◌, Result, Ok, Err, is_none, ◌==◌, ◌||◌, ◌&&◌, not, nat_lt, Bool, List, [], ◌∷◌, length, map, drop, slice_index, Option, Some, None, if◌then◌else◌}
 use Rattle.ctf_model.specs.Bytes.{u16_at, u32_at}
 use Rattle.ctf_model.specs.Header.{Fields, fields, section}
 use Rattle.ctf_model.specs.Lists.{Lists, tables}
 use Rattle.ctf_model.specs.Name.{Tables, name}
+use Rattle.ctf_model.specs.Record.{kind, size, vlen, head_len, member_len, behind_head}
 use Rattle.ctf_model.specs.Section.{Piece, records}
 use Rattle.ctf_model.specs.declared.faults.Fault.{Fault}
 use Rattle.ctf_model.specs.declared.faults.TheConstants.Fault.{TRUNCATED, BAD_KIND}
+use Rattle.ctf_model.specs.declared.kinds.Kind.{Kind}
+use Rattle.ctf_model.specs.declared.kinds.Kind.TheVariants.{KStruct, KUnion, KEnum}
 use Rattle.ctf_model.specs.declared.sections.Section.TheVariants.{STypes}
 
 -- a rule that says no place
@@ -104,13 +107,25 @@ unfoldable pub label_sites : List ℕ → ℕ → ℕ → List Site
 label_sites ctf at zero = []
 label_sites ctf at (suc n) = record { place = at; reference = u32_at ctf at } ∷ label_sites ctf (at + 8) n
 
+-- the sites of n items of a length from a place on, each of which begins with its name
+unfoldable pub item_sites : ℕ → ℕ → ℕ → List ℕ → List Site
+item_sites place len zero b = []
+item_sites place len (suc n) b = record { place = place; reference = u32_at b 0 } ∷ item_sites (place + len) len n (drop len b)
+
+-- the sites in the list of a record at a place: those of members and of enumerators
+abbrev pub list_sites : ℕ → List ℕ → Option Kind → List Site
+list_sites place b (Some KStruct) = item_sites (place + head_len b) (member_len (size b)) (vlen b) (behind_head b)
+list_sites place b (Some KUnion) = item_sites (place + head_len b) (member_len (size b)) (vlen b) (behind_head b)
+list_sites place b (Some KEnum) = item_sites (place + head_len b) 8 (vlen b) (behind_head b)
+list_sites place b _ = []
+
 -- the sites of records whose section begins at a place: a record begins with its name
 unfoldable pub record_sites : ℕ → List (Result Piece Fault) → List Site
 record_sites start [] = []
-record_sites start (Ok p ∷ rest) = record { place = start + p.at; reference = u32_at p.bytes 0 } ∷ record_sites start rest
+record_sites start (Ok p ∷ rest) = record { place = start + p.at; reference = u32_at p.bytes 0 } ∷ (list_sites (start + p.at) p.bytes (kind p.bytes) ++ record_sites start rest)
 record_sites start (Err f ∷ rest) = []
 
--- every name reference by rising place: those of the header, of the labels, of the records
+-- every name reference by rising place: those of the header, of the labels, of the records with their lists
 unfoldable pub sites : List ℕ → List Site
 sites ctf =
     let h = fields ctf in

@@ -3,12 +3,14 @@ pub mod Name
 pub mod Header
 pub mod Term
 pub mod Record
+pub mod Spelling
 pub mod Section
 pub mod Lists
 pub mod Laws
 pub mod Faults
 pub mod Rules
 pub mod Dictionary
+pub mod Chains
 pub mod TypeNumbers
 pub mod State
 pub mod Steps

@@ -1,18 +1,9 @@
--- Type records: their fields, when one is whole, and which type it spells.
--- Source: ctf(5), "The Type Section"; ctf_stype_t, ctf_type_t, CTF_INFO_KIND, CTF_INFO_ISROOT, CTF_INFO_VLEN, CTF_INT_DATA of sys/ctf.h.
-use Rattle.std.specs.Prelude.{◌≡◌, ◌≤◌, ℕ, ◌+◌, ◌*◌, ◌/◌, ◌%◌, ◌^◌, ◌==◌, Bool, List, length, nat_lt, Option, Some, None, MatchOption, if◌then◌else◌}
+-- Type records: their fields, and when one is whole.
+-- Source: ctf(5), "The Type Section"; ctf_stype_t, ctf_type_t, CTF_INFO_KIND, CTF_INFO_ISROOT, CTF_INFO_VLEN of sys/ctf.h.
+use Rattle.std.specs.Prelude.{◌≡◌, ◌≤◌, ℕ, ◌+◌, ◌*◌, ◌/◌, ◌%◌, ◌^◌, ◌==◌, Bool, List, [], ◌∷◌, length, drop, slice_get, nat_lt, Option, MatchOption, if◌then◌else◌}
 use Rattle.ctf_model.specs.Bytes.{u16_at, u32_at}
-use Rattle.ctf_model.specs.Name.{Tables, name}
-use Rattle.ctf_model.specs.Term.{Scalar, Body, Term}
-use Rattle.ctf_model.specs.Term as term
 use Rattle.ctf_model.specs.declared.kinds.Kind.{Kind}
-use Rattle.ctf_model.specs.declared.kinds.Kind.TheVariants.{KInteger, KFloat, KArray, KFunction, KStruct, KUnion, KEnum}
-
--- this, and then that of its value, or none
-infixl 10 ◌>>=◌
-abbrev ◌>>=◌ : {A B : Type 0} → Option A → (A → Option B) → Option B
-None >>= f = None
-(Some x) >>= f = f x
+use Rattle.ctf_model.specs.declared.kinds.Kind.TheVariants.{KUnknown, KInteger, KFloat, KPointer, KArray, KFunction, KStruct, KUnion, KEnum, KForward, KTypedef, KVolatile, KConst, KRestrict}
 
 -- ---- the fields of the record that begins these bytes
 
@@ -40,12 +31,12 @@ vlen b = info b % 1024
 abbrev pub is_root : List ℕ → Bool
 is_root b = info b / 1024 % 2 == 1
 
--- the kinds that are known so far, by their numbers: only integers yet
-abbrev pub kind_numbered : ℕ → Option Kind
-kind_numbered number = if number == 1 then Some KInteger else None
+-- the kinds by their numbers, from 0
+abbrev pub kinds : List Kind
+kinds = KUnknown ∷ KInteger ∷ KFloat ∷ KPointer ∷ KArray ∷ KFunction ∷ KStruct ∷ KUnion ∷ KEnum ∷ KForward ∷ KTypedef ∷ KVolatile ∷ KConst ∷ KRestrict ∷ []
 
 abbrev pub kind : List ℕ → Option Kind
-kind b = kind_numbered (info b / 2 ^ 11)
+kind b = slice_get kinds (info b / 2 ^ 11)
 
 -- a member's length goes by the size of its struct or union
 abbrev pub member_len : ℕ → ℕ
@@ -62,6 +53,10 @@ variant_len KUnion size vlen = member_len size * vlen
 variant_len KEnum size vlen = 8 * vlen
 variant_len _ size vlen = 0
 
+-- the bytes behind the head
+abbrev pub behind_head : List ℕ → List ℕ
+behind_head b = drop (head_len b) b
+
 -- ---- whole records
 
 pub record IsWholeAt (b : List ℕ) (k : Kind) : Type 0 where
@@ -71,29 +66,3 @@ pub record IsWholeAt (b : List ℕ) (k : Kind) : Type 0 where
 -- at least 8 bytes, a known kind, and just the length that kind, form, size and list call for
 unfoldable pub IsWhole : List ℕ → Type 0
 IsWhole b = MatchOption (kind b) (⊥) (IsWholeAt b)
-
--- ---- the type that a record spells
-
--- size, and the encoding word behind the head: 8 bits of flags, 8 of offset, 16 of width
-abbrev pub scalar : List ℕ → Scalar
-scalar b =
-    let word = u32_at b (head_len b) in
-    record { size = size b; encoding = word / 2 ^ 24; offset = word / 2 ^ 16 % 256; bits = word % 2 ^ 16 }
-
--- what the record says by its kind
-abbrev pub body_of : Tables → List ℕ → Kind → Option Body
-body_of t b KInteger = Some (term.integer (scalar b))
-body_of t b _ = None
-
--- the type of a record, if its names are good
-unfoldable pub term_of : Tables → List ℕ → Option Term
-term_of t b = do
-  k ← kind b
-  text ← name t (u32_at b 0)
-  said ← body_of t b k
-  Some (record { name = text; root = is_root b; body = said })
-
--- these bytes are one whole record, and it says this type
-pub record Spells (t : Tables) (b : List ℕ) (x : Term) : Type 0 where
-  pub whole : IsWhole b
-  pub says : term_of t b ≡ Some x

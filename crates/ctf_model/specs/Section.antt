@@ -6,7 +6,8 @@ use Rattle.ctf_model.specs.declared.faults.Fault.{Fault}
 use Rattle.ctf_model.specs.declared.faults.TheConstants.Fault.{TRUNCATED, BAD_KIND}
 use Rattle.ctf_model.specs.Name.{Tables}
 use Rattle.ctf_model.specs.Term.{Term}
-use Rattle.ctf_model.specs.Record.{IsWhole, Spells, head_len, variant_len, size, vlen, kind}
+use Rattle.ctf_model.specs.Record.{IsWhole, head_len, variant_len, size, vlen, kind}
+use Rattle.ctf_model.specs.Spelling.{Spells}
 
 -- the bytes are records, one after the other, that spell these types
 abbrev pub Section : Tables → List ℕ → List Term → Type 0

@@ -5,12 +5,13 @@ use Rattle.ctf_model.specs.Dictionary.{said_by}
 use Rattle.ctf_model.specs.Faults.{first_fault}
 use Rattle.ctf_model.specs.Lists.{Lists}
 use Rattle.ctf_model.specs.State.{State, Slot, Stage, empty_state, empty_stage}
-use Rattle.ctf_model.specs.Term.{Term, Body, integer}
+use Rattle.ctf_model.specs.Term.{Term, Body}
+use Rattle.ctf_model.specs.Term as term
 use Rattle.ctf_model.specs.TypeNumbers.{type_at}
 use Rattle.ctf_model.specs.declared.faults.Fault.{Fault}
 use Rattle.ctf_model.specs.declared.faults.TheConstants.Fault.{NO_SLOT, SLOTS_FULL, STAGE_FULL}
 use Rattle.ctf_model.specs.declared.kinds.Kind.{Kind}
-use Rattle.ctf_model.specs.declared.kinds.Kind.TheVariants.{KInteger}
+use Rattle.ctf_model.specs.declared.kinds.Kind.TheVariants.{KUnknown, KInteger, KFloat, KPointer, KArray, KFunction, KStruct, KUnion, KEnum, KForward, KTypedef, KVolatile, KConst, KRestrict}
 use Rattle.ctf_model.specs.declared.replies.Answer.{Answer}
 use Rattle.ctf_model.specs.declared.replies.Answer.TheVariants as answers
 use Rattle.ctf_model.specs.declared.replies.Reply.{Reply}
@@ -105,7 +106,20 @@ abbrev pub slot_type : ℕ → Slot → Result Term Fault
 slot_type t slot = type_at (said_by slot.lists) (option_map said_by slot.parent) t
 
 abbrev pub kind_of : Body → Kind
-kind_of (integer scalar) = KInteger
+kind_of term.unknown = KUnknown
+kind_of (term.integer scalar) = KInteger
+kind_of (term.float scalar) = KFloat
+kind_of (term.pointer t) = KPointer
+kind_of (term.array elements) = KArray
+kind_of (term.function ret args) = KFunction
+kind_of (term.struct size members) = KStruct
+kind_of (term.union size members) = KUnion
+kind_of (term.enum size enumerators) = KEnum
+kind_of (term.forward tag) = KForward
+kind_of (term.typedef t) = KTypedef
+kind_of (term.volatile t) = KVolatile
+kind_of (term.const t) = KConst
+kind_of (term.restrict t) = KRestrict
 
 abbrev pub kind_said : Result Term Fault → Result Answer Fault
 kind_said (Ok x) = Ok (answers.Kind (kind_of x.body))

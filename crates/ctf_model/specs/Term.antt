@@ -1,16 +1,60 @@
 -- Types, apart from how they stand in bytes. Source: ctf(5), "Type Section".
-use Rattle.std.specs.Prelude.{ℕ, Bool, List}
+use Rattle.std.specs.Prelude.{ℕ, ℤ, Bool, List}
 
--- an integer: its size in bytes, its encoding flags, and where its value lies in its storage, in bits
+-- ---- parts of types
+
+-- an integer or a float: its size in bytes, its encoding, and where its value lies in its storage, in bits
 pub record Scalar : Type 0 where
   pub size : ℕ
   pub encoding : ℕ
   pub offset : ℕ
   pub bits : ℕ
 
--- what a type is, by its kind; the other kinds join here
+-- an array: its size in bytes, the types of its contents and of its index, and how many elements it has
+pub record Elements : Type 0 where
+  pub size : ℕ
+  pub contents : ℕ
+  pub index : ℕ
+  pub count : ℕ
+
+-- a member of a struct or union: its name, its type, and where it begins, in bits
+pub record Member : Type 0 where
+  pub name : List ℕ
+  pub tnum : ℕ
+  pub offset : ℕ
+
+-- a name for a value of an enum
+pub record Enumerator : Type 0 where
+  pub name : List ℕ
+  pub value : ℤ
+
+-- what a forward declares
+pub data Tag : Type 0 where
+  struct_tag : Tag
+  union_tag : Tag
+  enum_tag : Tag
+
+-- ---- types
+
+-- what a type is, by its kind; other types are named by number, and 0 is no type
 pub data Body : Type 0 where
+  unknown : Body
   integer : Scalar → Body
+  float : Scalar → Body
+  pointer : ℕ → Body
+  array : Elements → Body
+  -- what it returns, and its arguments as they stand; a last argument 0 says that more may follow
+  function : ℕ → List ℕ → Body
+  -- size in bytes, and members
+  struct : ℕ → List Member → Body
+  union : ℕ → List Member → Body
+  -- size in bytes, and enumerators
+  enum : ℕ → List Enumerator → Body
+  forward : Tag → Body
+  typedef : ℕ → Body
+  volatile : ℕ → Body
+  const : ℕ → Body
+  restrict : ℕ → Body
 
 -- a type: its name, whether it is visible to look-ups by name, and what it is
 pub record Term : Type 0 where
