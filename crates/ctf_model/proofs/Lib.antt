@@ -1,3 +1,4 @@
+pub mod ChainRules
 pub mod Cut
 pub mod Denoted
 pub mod FirstFault
@@ -7,5 +8,7 @@ pub mod NameRules
 pub mod Nameless
 pub mod Prefix
 pub mod RecordRules
+pub mod ReferenceRules
+pub mod Spelled
 pub mod Unique
 pub mod Walk
