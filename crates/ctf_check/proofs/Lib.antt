@@ -1,4 +1,6 @@
 pub mod LastNames
+pub mod Naming
+pub mod Numbering
 pub mod Order
 pub mod Reading
 pub mod Sites

@@ -1,11 +1,13 @@
--- The stages of the check behind the header: its records, and the parts of the rule of names.
-use Rattle.std.specs.Prelude.{List, [], ◌∷◌, length, nat_lt, Option, Some, None, Result, if◌then◌else◌}
+-- The stages of the check behind the header: its records, the parts of the rule of names, and its types.
+use Rattle.std.specs.Prelude.{List, [], ◌∷◌, length, nat_lt, Bool, Option, Some, None, Result, if◌then◌else◌}
 use Rattle.std.specs.Option.{option_or}
-use Rattle.ctf_model.specs.Faults.{Site, walk_fault}
+use Rattle.ctf_model.specs.Chains.{by_value, declarator, edges}
+use Rattle.ctf_model.specs.Faults.{Site, walk_fault, or_later, first_misnaming, first_deep}
 use Rattle.ctf_model.specs.Header.{Fields}
-use Rattle.ctf_model.specs.Section.{Piece}
+use Rattle.ctf_model.specs.Name.{Tables}
+use Rattle.ctf_model.specs.Section.{Piece, terms_in}
 use Rattle.ctf_model.specs.declared.faults.Fault.{Fault}
-use Rattle.ctf_model.specs.declared.faults.TheConstants.Fault.{TOO_MANY}
+use Rattle.ctf_model.specs.declared.faults.TheConstants.Fault.{TOO_MANY, BAD_REFERENCE, VALUE_DEEP, DECL_DEEP}
 
 -- the first fault of the records: where reading them stops, else that they are too many
 abbrev pub records_fault : List (Result Piece Fault) → Option Fault
@@ -14,3 +16,10 @@ records_fault rs = option_or (walk_fault rs) (if nat_lt 32766 (length rs) then S
 -- the sites of the names of a header
 abbrev pub header_sites : Fields → List Site
 header_sites h = record { place = 4; reference = h.parlabel } ∷ record { place = 8; reference = h.parname } ∷ []
+
+-- the first fault of the types of records: a reference to one that is not there, else a chain that is too long
+abbrev pub types_fault : Tables → Bool → List (Result Piece Fault) → Option Fault
+types_fault t child rs =
+    or_later BAD_REFERENCE (first_misnaming t child (length rs) rs)
+    (or_later VALUE_DEEP (first_deep (edges by_value child (terms_in t rs)) 0 (length rs))
+    (or_later DECL_DEEP (first_deep (edges declarator child (terms_in t rs)) 0 (length rs)) None))

@@ -4,16 +4,14 @@ ghost use Rattle.std.specs.Option.{option_map};
 ghost use Rattle.ctf_model.specs.Dictionary.{said_by, denoted, name_or_empty};
 ghost use Rattle.ctf_model.specs.Faults.{first_fault};
 ghost use Rattle.ctf_model.specs.Header.{fields};
-ghost use Rattle.ctf_model.specs.Record.{term_of};
+ghost use Rattle.ctf_model.specs.Spelling.{term_of};
 ghost use Rattle.ctf_sections.specs.StringsView.{tables};
 ghost use Rattle.ctf_check.specs.ListsView.{lists_in};
 
-use crate::cursor::record_numbered;
 use crate::lists::LentLists;
-use crate::record::Record;
 use crate::sections::bytes_in;
 use ctf_model::Section;
-use ctf_sections::bytes::u32_at;
+use ctf_records::{Record, record_numbered};
 use ctf_sections::{Header, Strings};
 
 /// A dictionary that breaks no rule. Each call answers from the lists that it was handed in as.
@@ -30,7 +28,7 @@ pub struct Checked<'a> {
 
 impl<'a> Checked<'a> {
     ghost use Rattle.ctf_check.specs.CheckedView.{lists_of, dictionary_of, tables_of, type_at, IsOwn};
-    ghost use Rattle.ctf_check.specs.RecordView.{index_of, bytes_of};
+    ghost use Rattle.ctf_records.specs.RecordView.{index_of, bytes_of};
 
     fn strings(&self) -> Strings<'a>
         ensures { tables result ≡ tables_of self.now }
@@ -98,7 +96,7 @@ impl<'a> Checked<'a> {
         ensures { option_map (λ x. x.name) (term_of (tables_of self.now) (bytes_of term.now))
             ≡ Some result.now }
     {
-        self.named(u32_at(term.bytes, 0))
+        self.named(term.name_ref())
     }
 
     /// The lists that it was handed in as.

@@ -7,12 +7,12 @@ ghost use Rattle.ctf_check.specs.ListsView.{given};
 ghost use Rattle.ctf_check.specs.Stages.{records_fault};
 
 use crate::checked::Checked;
-use crate::cursor::Records;
 use crate::ends::NameEnds;
 use crate::lists::LentLists;
 use crate::names::bad_name;
 use crate::sections::bytes_in;
 use ctf_model::{Fault, Section};
+use ctf_records::Records;
 use ctf_sections::Header;
 
 /// How many records a section has.

@@ -5,16 +5,16 @@ use Rattle.std.specs.Option.{option_map}
 use Rattle.std.specs.List.{AllByRecursion}
 use Rattle.ctf_model.specs.Faults.{types}
 use Rattle.ctf_model.specs.Name.{Tables}
-use Rattle.ctf_model.specs.Record.{term_of}
+use Rattle.ctf_model.specs.Spelling.{term_of}
 use Rattle.ctf_model.specs.Section.{Piece}
 use Rattle.ctf_model.specs.Term.{Term}
 use Rattle.ctf_model.specs.declared.faults.Fault.{Fault}
 use Rattle.ctf_check.proofs.Order.{types_are}
 use Rattle.ctf_check.proofs.Terms.{IsSpelled, all_spelled, numbered_index, numbered_spelled, spelled_at, type_is}
 use Rattle.ctf_check.specs.CheckedView.{lists_of, tables_of}
-use Rattle.ctf_check.specs.Pieces.{piece_numbered}
-use Rattle.ctf_check.specs.RecordView.{bytes_of, index_of, piece}
-use Rattle.ctf_check.specs.declared.record.Record.{Record}
+use Rattle.ctf_records.specs.Pieces.{piece_numbered}
+use Rattle.ctf_records.specs.RecordView.{bytes_of, index_of, piece}
+use Rattle.ctf_records.specs.declared.record.Record.{Record}
 use Rattle.ctf_check.proofs.checked.Checked.term.Goals as goal
 
 -- ---- over any list of records
