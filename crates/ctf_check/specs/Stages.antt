@@ -1,10 +1,12 @@
 -- The stages of the check behind the header: its records, the parts of the rule of names, and its types.
-use Rattle.std.specs.Prelude.{List, [], ◌∷◌, length, nat_lt, Bool, Option, Some, None, Result, if◌then◌else◌}
+use Rattle.std.specs.Prelude.{ℕ, List, [], ◌∷◌, length, nat_lt, Bool, Option, Some, None, Result, if◌then◌else◌}
 use Rattle.std.specs.Option.{option_or}
+use Rattle.ctf_model.specs.Bytes.{u32_at}
 use Rattle.ctf_model.specs.Chains.{by_value, declarator, edges}
-use Rattle.ctf_model.specs.Faults.{Site, walk_fault, or_later, first_misnaming, first_deep}
+use Rattle.ctf_model.specs.Faults.{Site, list_sites, walk_fault, or_later, first_misnaming, first_deep}
 use Rattle.ctf_model.specs.Header.{Fields}
 use Rattle.ctf_model.specs.Name.{Tables}
+use Rattle.ctf_model.specs.Record.{kind}
 use Rattle.ctf_model.specs.Section.{Piece, terms_in}
 use Rattle.ctf_model.specs.declared.faults.Fault.{Fault}
 use Rattle.ctf_model.specs.declared.faults.TheConstants.Fault.{TOO_MANY, BAD_REFERENCE, VALUE_DEEP, DECL_DEEP}
@@ -16,6 +18,10 @@ records_fault rs = option_or (walk_fault rs) (if nat_lt 32766 (length rs) then S
 -- the sites of the names of a header
 abbrev pub header_sites : Fields → List Site
 header_sites h = record { place = 4; reference = h.parlabel } ∷ record { place = 8; reference = h.parname } ∷ []
+
+-- the sites of a record that begins at a place: its name, and those in its list
+abbrev pub own_sites : ℕ → List ℕ → List Site
+own_sites place b = record { place = place; reference = u32_at b 0 } ∷ list_sites place b (kind b)
 
 -- the first fault of the types of records: a reference to one that is not there, else a chain that is too long
 abbrev pub types_fault : Tables → Bool → List (Result Piece Fault) → Option Fault

@@ -6,7 +6,7 @@ ghost use Rattle.ctf_model.specs.Record.{kind as kind_in};
 ghost use Rattle.ctf_model.specs.Section.{records};
 ghost use Rattle.ctf_records.specs.RecordView.{bytes_of};
 ghost use Rattle.ctf_check.specs.EndsView.{tables_in};
-ghost use Rattle.ctf_check.specs.Stages.{header_sites};
+ghost use Rattle.ctf_check.specs.Stages.{header_sites, own_sites};
 
 use crate::ends::NameEnds;
 use crate::references::member_len_of;
@@ -70,6 +70,7 @@ fn bad_in_items(
 
 /// The first of the names in the list of a record that is bad: its place in the dictionary, where
 /// the record begins at `start`.
+#[tactic(auto, unfolding(ctf_model::specs::Faults::first_nameless))]
 fn bad_in_list(term: &Record<'_>, start: usize, ends: NameEnds<'_>) -> Option<u64>
     requires near { start + length (bytes_of term.now) < 2 ^ 64 }
     ensures { result ≡ first_nameless (tables_in ends.entry) (list_sites start (bytes_of term.now) (kind_in (bytes_of term.now))) }
@@ -85,20 +86,30 @@ fn bad_in_list(term: &Record<'_>, start: usize, ends: NameEnds<'_>) -> Option<u6
     }
 }
 
+/// The first of the names of a record that is bad: its place in the dictionary, where the record
+/// begins at `start`.
+#[tactic(auto, unfolding(ctf_model::specs::Faults::first_nameless))]
+fn bad_in_record(term: &Record<'_>, start: usize, ends: NameEnds<'_>) -> Option<u64>
+    requires near { start + length (bytes_of term.now) < 2 ^ 64 }
+    ensures { result ≡ first_nameless (tables_in ends.entry) (own_sites start (bytes_of term.now)) }
+{
+    if ends.names_nothing(term.name_ref()) {
+        return Some(start as u64);
+    }
+    bad_in_list(term, start, ends)
+}
+
 /// The first of the names of records that is bad: its place in the dictionary, where their section
 /// begins at `start`.
+#[tactic(auto, using(crate::proofs::Sites::record_then_rest, crate::proofs::Sites::no_record, crate::proofs::Sites::no_more_records))]
 fn bad_in_records(types: &[u8], start: usize, ends: NameEnds<'_>) -> Option<u64>
-    requires { start ≤ 2 ^ 63 }
+    requires { start < 2 ^ 63 }
     ensures { result ≡ first_nameless (tables_in ends.entry) (record_sites start (records types.now)) }
 {
     for record in Records::new(types) {
         let Ok(record) = record else { return None };
-        let place = start + record.place();
-        if ends.names_nothing(record.name_ref()) {
-            return Some(place as u64);
-        }
-        if let Some(bad) = bad_in_list(&record, place, ends) {
-            return Some(bad);
+        if let Some(place) = bad_in_record(&record, start + record.place(), ends) {
+            return Some(place);
         }
     }
     None
