@@ -30,6 +30,24 @@ impl<'a> Checked<'a> {
     ghost use Rattle.ctf_check.specs.CheckedView.{lists_of, dictionary_of, tables_of, type_at, IsOwn};
     ghost use Rattle.ctf_records.specs.RecordView.{index_of, bytes_of};
 
+    /// A dictionary that was accepted before, without judging it again.
+    ///
+    /// `count` is the number of its own types. It takes constant time.
+    pub fn again(lists: LentLists<'a>, count: usize) -> Checked<'a>
+        requires faultless { first_fault (lists_in lists) ≡ None }
+        requires counted { count ≡ length (said_by (lists_in lists)).terms }
+        ensures { lists_of result ≡ lists_in lists.entry }
+    {
+        match Header::read(lists.ctf) {
+            Ok(header) => Checked {
+                lists,
+                header,
+                count,
+            },
+            Err(_) => unreachable!(),
+        }
+    }
+
     fn strings(&self) -> Strings<'a>
         ensures { tables result ≡ tables_of self.now }
     {

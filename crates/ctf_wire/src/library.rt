@@ -177,7 +177,7 @@ impl Library {
             None => Bytes::new(self.alloc),
         };
         let strs = self.strs.take();
-        self.slots.push_reserved(Slot { number, ctf, strs });
+        self.slots.push_reserved(Slot { number, ctf, strs, types });
         self.next += 1;
         granted(Answer::Opened {
             d: number,
