@@ -1,5 +1,5 @@
 -- What a line asks. What is JSON is serde_json's reading of it; all else is ours.
-use Rattle.std.specs.Prelude.{ℕ, ◌&&◌, List, length, Bool, Option, None, Some, Result, Ok, Err, option_and_then, nat_le, nat_lt, nat_eq, codes, if◌then◌else◌}
+use Rattle.std.specs.Prelude.{ℕ, ◌&&◌, List, length, is_none, Bool, Option, None, Some, Result, Ok, Err, option_and_then, nat_le, nat_lt, nat_eq, codes, if◌then◌else◌}
 use Rattle.std.specs.Cmp.Lexicographic.{pointwise}
 use Rattle.std.specs.Option.{option_map}
 use Rattle.std.specs.Result.{result_ok}
@@ -16,7 +16,8 @@ use Rattle.ctf_model.specs.declared.numbers.TypeNum.{TypeNum}
 use Rattle.ctf_model.specs.declared.requests.ListName.{ListName}
 use Rattle.ctf_model.specs.declared.requests.ListName.TheVariants.{Ctf, Str}
 use Rattle.ctf_model.specs.declared.requests.Request.{Request}
-use Rattle.ctf_model.specs.declared.requests.Request.TheVariants.{DoPart, DoOpen, DoKind, DoReset}
+use Rattle.ctf_model.specs.declared.requests.Request.TheVariants.{DoPart, DoCheck, DoOpen, DoReset, DoKind, DoRecord, DoMembers, DoEnumerators, DoArgs, DoArray, DoEncoding}
+use Rattle.ctf_model.specs.declared.requests.Window.{Window}
 
 -- two texts are the same
 abbrev pub is_word : List ℕ → List ℕ → Bool
@@ -55,18 +56,41 @@ slot_asked line = number_in 1 4294967295 (codes "d") line
 abbrev pub type_asked : Data → Option TypeNum
 type_asked line = option_map (λ t. record { 0 = t }) (number_in 0 65535 (codes "t") line)
 
-abbrev pub kind_asked : Data → Option Request
-kind_asked line = option_and_then (λ d. option_map (λ t. DoKind d t) (type_asked line)) (slot_asked line)
+-- a question on a type of a slot
+abbrev pub about_type : (ℕ → TypeNum → Request) → Data → Option Request
+about_type make line = option_and_then (λ d. option_map (λ t. make d t) (type_asked line)) (slot_asked line)
+
+-- the first item that is wanted, 0 where that isn't said
+abbrev pub from_asked : Data → Option ℕ
+from_asked line = if is_none (get (codes "from") line) then Some 0 else number_in 0 4294967295 (codes "from") line
+
+-- how many items are wanted; all where that isn't said
+abbrev pub count_asked : Data → Option (Option ℕ)
+count_asked line = if is_none (get (codes "count") line) then Some None else option_map (λ n. Some n) (number_in 0 4294967295 (codes "count") line)
+
+abbrev pub window_asked : Data → Option Window
+window_asked line = option_and_then (λ from. option_map (λ count. record { from = from; count = count }) (count_asked line)) (from_asked line)
+
+-- a question on the items of a type of a slot
+abbrev pub about_items : (ℕ → TypeNum → Window → Request) → Data → Option Request
+about_items make line = option_and_then (λ window. about_type (λ d t. make d t window) line) (window_asked line)
 
 abbrev pub part_asked : Data → Option Request
 part_asked line = option_and_then (λ list. option_map (λ bytes. DoPart list bytes) (option_and_then bytes_spelled (text_in (codes "bytes") line))) (option_and_then list_named (text_in (codes "section") line))
 
 abbrev pub word_asked : List ℕ → Data → Option Request
 word_asked w line =
-    if is_word w (codes "kind") then kind_asked line
-    else if is_word w (codes "part") then part_asked line
+    if is_word w (codes "part") then part_asked line
+    else if is_word w (codes "check") then Some DoCheck
     else if is_word w (codes "open") then Some DoOpen
     else if is_word w (codes "reset") then Some DoReset
+    else if is_word w (codes "kind") then about_type (λ d t. DoKind d t) line
+    else if is_word w (codes "record") then about_type (λ d t. DoRecord d t) line
+    else if is_word w (codes "members") then about_items (λ d t window. DoMembers d t window) line
+    else if is_word w (codes "enumerators") then about_items (λ d t window. DoEnumerators d t window) line
+    else if is_word w (codes "args") then about_type (λ d t. DoArgs d t) line
+    else if is_word w (codes "array") then about_type (λ d t. DoArray d t) line
+    else if is_word w (codes "encoding") then about_type (λ d t. DoEncoding d t) line
     else None
 
 abbrev pub request_asked : Data → Option Request

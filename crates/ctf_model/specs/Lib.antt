@@ -14,6 +14,9 @@ pub mod References
 pub mod Chains
 pub mod TypeNumbers
 pub mod State
+pub mod Answers
+pub mod Questions
+pub mod Text
 pub mod Steps
 pub mod Runs
 pub mod FaultNames

@@ -1,12 +1,12 @@
 -- What is written for the lines of all sessions. Source: ours.
 use Rattle.std.specs.Prelude.{ℕ, List, [], ◌∷◌, Result, Ok, Err}
+use Rattle.ctf_model.specs.Answers.{Reply}
 use Rattle.ctf_model.specs.Ask.{ask}
 use Rattle.ctf_model.specs.ReplyLines.{fault_line, reply_line}
 use Rattle.ctf_model.specs.Runs.{Call, own_state, found_in, addressed, no_memory}
 use Rattle.ctf_model.specs.State.{State}
 use Rattle.ctf_model.specs.Steps.{step}
 use Rattle.ctf_model.specs.declared.faults.Fault.{Fault}
-use Rattle.ctf_model.specs.declared.replies.Reply.{Reply}
 use Rattle.ctf_model.specs.declared.requests.Request.{Request}
 
 -- whether memory was refused to a line: to its request, or already to reading it

@@ -1,5 +1,7 @@
 -- Worked rows: what the definitions say of small inputs. The values were worked out by hand from the format.
 use Rattle.std.specs.Prelude.{◌≡◌, ℕ, ◌/◌, ◌%◌, ◌^◌, true, false, List, [], ◌∷◌, ◌++◌, take, drop, slice_set, Some, None, Result, Ok, Err, codes}
+use Rattle.ctf_model.specs.Answers.{Answer, Reply}
+use Rattle.ctf_model.specs.Answers as answers
 use Rattle.ctf_model.specs.Ask.{ask}
 use Rattle.ctf_model.specs.Dictionary.{Dictionary, denoted}
 use Rattle.ctf_model.specs.Faults.{first_fault}
@@ -16,9 +18,6 @@ use Rattle.ctf_model.specs.Term as term
 use Rattle.ctf_model.specs.TypeNumbers.{type_at}
 use Rattle.ctf_model.specs.declared.faults.Fault.{Fault}
 use Rattle.ctf_model.specs.declared.kinds.Kind.TheVariants.{KInteger, KFloat, KPointer, KArray, KFunction, KStruct, KUnion, KEnum}
-use Rattle.ctf_model.specs.declared.replies.Answer.{Answer}
-use Rattle.ctf_model.specs.declared.replies.Answer.TheVariants as answers
-use Rattle.ctf_model.specs.declared.replies.Reply.{Reply}
 use Rattle.ctf_model.specs.declared.requests.ListName.TheVariants.{Ctf}
 use Rattle.ctf_model.specs.declared.requests.Request.{Request}
 use Rattle.ctf_model.specs.declared.requests.Request.TheVariants.{DoPart, DoOpen, DoKind, DoReset}
@@ -154,7 +153,7 @@ says outcome = record { session = 0; outcome = outcome }
 
 pub record SessionRuns : Type 0 where
   pub replies : private_replies empty_state (asked DoReset ∷ questions)
-      ≡ says (Ok answers.Done) ∷ says (Err (fault 24 0)) ∷ says (Err (fault 49 0)) ∷ says (Ok (answers.Kind KInteger)) ∷ says (Ok (answers.Opened 1 1)) ∷ says (Ok (answers.Length 53)) ∷ says (Ok (answers.Length 40)) ∷ []
+      ≡ says (Ok answers.done) ∷ says (Err (fault 24 0)) ∷ says (Err (fault 49 0)) ∷ says (Ok (answers.kind KInteger)) ∷ says (Ok (answers.opened 1 1)) ∷ says (Ok (answers.staged 53)) ∷ says (Ok (answers.staged 40)) ∷ []
   pub opened : private_state empty_state questions ≡ record empty_state { slots = record { number = 1; lists = alone int_bytes; parent = None } ∷ []; next = 2 }
   pub reset : private_state empty_state (asked DoReset ∷ questions) ≡ empty_state
   pub refused : private_replies empty_state (asked DoOpen ∷ []) ≡ says (Err (fault 1 0)) ∷ []
@@ -165,10 +164,10 @@ abbrev pub answers_of : ℕ → Result Answer Fault → List ℕ
 answers_of s outcome = reply_line (record { session = s; outcome = outcome })
 
 pub record LinesSay : Type 0 where
-  pub length : answers_of 7 (Ok (answers.Length 53)) ≡ codes "{\"ok\":{\"length\":53},\"s\":7}\n"
-  pub opened : answers_of 7 (Ok (answers.Opened 1 20)) ≡ codes "{\"ok\":{\"d\":1,\"types\":20},\"s\":7}\n"
-  pub kind : answers_of 7 (Ok (answers.Kind KInteger)) ≡ codes "{\"ok\":{\"kind\":\"integer\"},\"s\":7}\n"
-  pub done : answers_of 7 (Ok answers.Done) ≡ codes "{\"ok\":{},\"s\":7}\n"
+  pub length : answers_of 7 (Ok (answers.staged 53)) ≡ codes "{\"ok\":{\"length\":53},\"s\":7}\n"
+  pub opened : answers_of 7 (Ok (answers.opened 1 20)) ≡ codes "{\"ok\":{\"d\":1,\"types\":20},\"s\":7}\n"
+  pub kind : answers_of 7 (Ok (answers.kind KInteger)) ≡ codes "{\"ok\":{\"kind\":\"integer\"},\"s\":7}\n"
+  pub done : answers_of 7 (Ok answers.done) ≡ codes "{\"ok\":{},\"s\":7}\n"
   pub refusal : answers_of 7 (Err (fault 49 0)) ≡ codes "{\"fault\":{\"code\":49,\"name\":\"NoSlot\",\"place\":0},\"s\":7}\n"
   pub at_place : fault_line 0 (fault 13 36) ≡ codes "{\"fault\":{\"code\":13,\"name\":\"BadName\",\"place\":36},\"s\":0}\n"
   pub cut : all_lines (codes "ab\n\nc") ≡ codes "ab" ∷ [] ∷ codes "c" ∷ []

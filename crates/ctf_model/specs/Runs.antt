@@ -1,14 +1,12 @@
 -- Runs of one session by itself, and of many sessions together. Source: ours. A history is a list, the newest first.
 use Rattle.std.specs.Prelude.{◌≡◌, ◌≢◌, ℕ, ◌==◌, List, [], ◌∷◌, Bool, true, false, Option, None, Result, Ok, Err, if◌then◌else◌}
+use Rattle.ctf_model.specs.Answers.{Answer, Reply}
 use Rattle.ctf_model.specs.Lists.{Lists}
 use Rattle.ctf_model.specs.State.{State}
 use Rattle.ctf_model.specs.Steps.{step, Outcome}
 use Rattle.ctf_model.specs.declared.faults.TheConstants.Fault.{MEMORY}
 use Rattle.ctf_model.specs.declared.faults.Fault.{Fault}
-use Rattle.ctf_model.specs.declared.replies.Answer.{Answer}
-use Rattle.ctf_model.specs.declared.replies.Reply.{Reply}
 use Rattle.ctf_model.specs.declared.requests.Request.{Request}
-use Rattle.ctf_model.specs.declared.requests.Request.TheVariants.{DoPart, DoOpen, DoKind, DoReset}
 
 -- ---- a session by itself
 
@@ -36,10 +34,7 @@ pub record Call : Type 0 where
 
 -- what a request finds where each session's library is this; no word takes yet
 abbrev pub found_in : (ℕ → State) → Request → Option Lists
-found_in libraries (DoPart list piece) = None
-found_in libraries DoOpen = None
-found_in libraries (DoKind d t) = None
-found_in libraries DoReset = None
+found_in libraries request = None
 
 -- what a session was given by a history of all sessions: its own requests, each with what the owner's own run had published
 abbrev pub given : (ℕ → State) → List Call → ℕ → List Given

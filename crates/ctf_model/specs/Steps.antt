@@ -1,24 +1,21 @@
 -- The reply to a request in the library of one session, and what the library is then. Source: ours.
 use Rattle.std.specs.Prelude.{ℕ, ◌+◌, ◌==◌, ◌&&◌, List, [], ◌∷◌, ◌++◌, length, Bool, Option, None, Some, Result, Ok, Err, unwrap_or, nat_lt, nat_le, if◌then◌else◌}
 use Rattle.std.specs.Option.{option_map}
+use Rattle.ctf_model.specs.Answers.{Answer, Reply}
+use Rattle.ctf_model.specs.Answers as answers
 use Rattle.ctf_model.specs.Dictionary.{said_by}
 use Rattle.ctf_model.specs.Faults.{first_fault}
 use Rattle.ctf_model.specs.Lists.{Lists}
 use Rattle.ctf_model.specs.State.{State, Slot, Stage, empty_state, empty_stage}
-use Rattle.ctf_model.specs.Term.{Term, Body}
-use Rattle.ctf_model.specs.Term as term
+use Rattle.ctf_model.specs.Questions.{type_question, kind_said, head_said, members_said, enumerators_said, arguments_said, array_said, encoding_said}
+use Rattle.ctf_model.specs.Term.{Term}
 use Rattle.ctf_model.specs.TypeNumbers.{type_at}
 use Rattle.ctf_model.specs.declared.faults.Fault.{Fault}
 use Rattle.ctf_model.specs.declared.faults.TheConstants.Fault.{NO_SLOT, SLOTS_FULL, STAGE_FULL}
-use Rattle.ctf_model.specs.declared.kinds.Kind.{Kind}
-use Rattle.ctf_model.specs.declared.kinds.Kind.TheVariants.{KUnknown, KInteger, KFloat, KPointer, KArray, KFunction, KStruct, KUnion, KEnum, KForward, KTypedef, KVolatile, KConst, KRestrict}
-use Rattle.ctf_model.specs.declared.replies.Answer.{Answer}
-use Rattle.ctf_model.specs.declared.replies.Answer.TheVariants as answers
-use Rattle.ctf_model.specs.declared.replies.Reply.{Reply}
 use Rattle.ctf_model.specs.declared.requests.ListName.{ListName}
 use Rattle.ctf_model.specs.declared.requests.ListName.TheVariants.{Ctf, Str}
 use Rattle.ctf_model.specs.declared.requests.Request.{Request}
-use Rattle.ctf_model.specs.declared.requests.Request.TheVariants.{DoPart, DoOpen, DoKind, DoReset}
+use Rattle.ctf_model.specs.declared.requests.Request.TheVariants.{DoPart, DoCheck, DoOpen, DoReset, DoKind, DoRecord, DoMembers, DoEnumerators, DoArgs, DoArray, DoEncoding}
 
 -- the reply, not yet addressed to its session, and the library after it
 pub record Outcome : Type 0 where
@@ -53,7 +50,7 @@ with_staged Str bytes stage = record stage { strs = Some bytes }
 abbrev pub stages : ListName → List ℕ → State → Outcome
 stages list bytes state =
     if nat_lt longest_list (length bytes) then refuses STAGE_FULL state
-    else grants (answers.Length (length bytes)) (record state { stage = with_staged list bytes state.stage })
+    else grants (answers.staged (length bytes)) (record state { stage = with_staged list bytes state.stage })
 
 -- a piece goes to the end of a list, which is staged from then on
 abbrev pub parts : ListName → List ℕ → State → Outcome
@@ -78,7 +75,7 @@ staged_lists stage = record { ctf = unwrap_or stage.ctf []; sym = stage.sym; str
 -- a new slot for a dictionary, under the next number
 abbrev pub adds_slot : Lists → State → Outcome
 adds_slot lists state =
-    grants (answers.Opened state.next (length (said_by lists).terms))
+    grants (answers.opened state.next (length (said_by lists).terms))
     (record state { slots = state.slots ++ record { number = state.next; lists = lists; parent = None } ∷ []; next = state.next + 1 })
 
 -- an accepted dictionary leaves the stage empty
@@ -88,6 +85,16 @@ opens_unless (Some fault) lists state = outcome_of (Err fault) state
 
 abbrev pub opens : Lists → State → Outcome
 opens lists state = if has_room state then opens_unless (first_fault lists) lists state else refuses SLOTS_FULL state
+
+-- ---- check
+
+-- the staged lists are judged, and nothing changes
+abbrev pub accepts_unless : Option Fault → State → Outcome
+accepts_unless None state = grants answers.done state
+accepts_unless (Some fault) state = outcome_of (Err fault) state
+
+abbrev pub checks : State → Outcome
+checks state = accepts_unless (first_fault (staged_lists state.stage)) state
 
 -- ---- questions
 
@@ -105,40 +112,28 @@ asks question (Some slot) state = outcome_of (question slot) state
 abbrev pub slot_type : ℕ → Slot → Result Term Fault
 slot_type t slot = type_at (said_by slot.lists) (option_map said_by slot.parent) t
 
-abbrev pub kind_of : Body → Kind
-kind_of term.unknown = KUnknown
-kind_of (term.integer scalar) = KInteger
-kind_of (term.float scalar) = KFloat
-kind_of (term.pointer t) = KPointer
-kind_of (term.array elements) = KArray
-kind_of (term.function ret args) = KFunction
-kind_of (term.struct size members) = KStruct
-kind_of (term.union size members) = KUnion
-kind_of (term.enum size enumerators) = KEnum
-kind_of (term.forward tag) = KForward
-kind_of (term.typedef t) = KTypedef
-kind_of (term.volatile t) = KVolatile
-kind_of (term.const t) = KConst
-kind_of (term.restrict t) = KRestrict
-
-abbrev pub kind_said : Result Term Fault → Result Answer Fault
-kind_said (Ok x) = Ok (answers.Kind (kind_of x.body))
-kind_said (Err fault) = Err fault
-
-abbrev pub kind_question : ℕ → Slot → Result Answer Fault
-kind_question t slot = kind_said (slot_type t slot)
+-- a question on a type of a slot
+abbrev pub asks_type : (Term → Result Answer Fault) → ℕ → ℕ → State → Outcome
+asks_type answer d t state = asks (λ slot. type_question answer (slot_type t slot)) (slot_at d state.slots) state
 
 -- ---- reset
 
 -- what is published stays
 abbrev pub resets : State → Outcome
-resets state = grants answers.Done (record empty_state { published = state.published })
+resets state = grants answers.done (record empty_state { published = state.published })
 
 -- ---- every request
 
 -- what a take found is read by a take alone; no word takes yet
 unfoldable pub step : State → Request → Option Lists → Outcome
 step state (DoPart list piece) found = parts list piece state
+step state DoCheck found = checks state
 step state DoOpen found = opens (staged_lists state.stage) state
-step state (DoKind d t) found = asks (kind_question t.0) (slot_at d state.slots) state
 step state DoReset found = resets state
+step state (DoKind d t) found = asks_type kind_said d t.0 state
+step state (DoRecord d t) found = asks_type head_said d t.0 state
+step state (DoMembers d t window) found = asks_type (members_said window) d t.0 state
+step state (DoEnumerators d t window) found = asks_type (enumerators_said window) d t.0 state
+step state (DoArgs d t) found = asks_type arguments_said d t.0 state
+step state (DoArray d t) found = asks_type array_said d t.0 state
+step state (DoEncoding d t) found = asks_type encoding_said d t.0 state

@@ -6,7 +6,6 @@ mod faults;
 mod kinds;
 mod laws;
 mod numbers;
-mod replies;
 mod requests;
 mod rows;
 mod sections;
@@ -21,8 +20,7 @@ pub use laws::{
     records_are_a_cut, section_spells_one_list,
 };
 pub use numbers::{SlotNumber, TypeNum};
-pub use replies::{Answer, Reply};
-pub use requests::{ListName, Request};
+pub use requests::{ListName, Request, Window};
 pub use rows::{
     bytes_denote, bytes_have_faults, kinds_denote, kinds_have_faults, lines_ask, lines_say,
     lists_are_long, numbers_name, output_is, session_runs,
