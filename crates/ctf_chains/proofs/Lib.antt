@@ -1,0 +1,4 @@
+pub mod Lists
+pub mod Depths
+pub mod Visits
+pub mod WorkLeft

@@ -1,0 +1,17 @@
+-- Chains that are too long. Source: ours.
+use Rattle.std.specs.Prelude.{ℕ, ◌<◌, List, length, Option, MatchOption}
+use Rattle.ctf_model.specs.Chains.{IsWithin}
+
+-- from every type before n, no chain is longer than so many steps
+pub record AreWithinBefore (es : List (List ℕ)) (limit n : ℕ) : Type 0 where
+  pub each : (j : ℕ) → j < n → IsWithin es limit j
+
+-- from this type a longer chain begins, and from no type before it
+pub record IsFirstDeep (es : List (List ℕ)) (limit i : ℕ) : Type 0 where
+  pub inside : i < length es
+  pub deep : ¬ IsWithin es limit i
+  pub before : AreWithinBefore es limit i
+
+-- the first type from which a longer chain begins, or none where there is no such type
+abbrev pub IsLeastDeep : List (List ℕ) → ℕ → Option ℕ → Type 0
+IsLeastDeep es limit found = MatchOption found (AreWithinBefore es limit (length es)) (IsFirstDeep es limit)
