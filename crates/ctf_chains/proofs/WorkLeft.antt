@@ -1,6 +1,6 @@
 -- What the search may still cost.
 use Rattle.std.proofs.Common.{◌≡◌, ℕ, zero, suc, ◌+◌, ◌≤◌, ◌<◌, List, [], ◌∷◌, length, get_or, set, slice_index_or, slice_set, refl, subst, arith}
-use Rattle.ctf_chains.specs.Places.{Places, places_at, work}
+use Rattle.ctf_chains.specs.Places.{Places, places_at, full_work}
 use Rattle.ctf_chains.specs.Search.{busy, owed, work_left}
 
 work_set : (all : Places) (known : List ℕ) (i entry : ℕ) → i < length all → i < length known → work_left all (set known i entry) + owed (places_at all i) (get_or known i 0) ≡ work_left all known + owed (places_at all i) entry
@@ -26,11 +26,11 @@ work_closed all known i d a b =
     rw e (omega arith)
 
 -- an empty table leaves all the work
-pub all_work : (all : Places) (known : List ℕ) → length known ≡ length all → ((j : ℕ) → slice_index_or known j 0 ≡ 0) → work_left all known ≡ work all
+pub all_left : (all : Places) (known : List ℕ) → length known ≡ length all → ((j : ℕ) → slice_index_or known j 0 ≡ 0) → work_left all known ≡ full_work all
 unfolding work_left
-all_work [] known e h = refl
-all_work (places ∷ all) [] e h = absurd (omega arith)
-all_work (places ∷ all) (entry ∷ known) e h =
+all_left [] known e h = refl
+all_left (places ∷ all) [] e h = absurd (omega arith)
+all_left (places ∷ all) (entry ∷ known) e h =
     let entry_is : entry ≡ 0 = h 0 in
-    let rest : work_left all known ≡ work all = all_work all known (omega arith) (λ j. h (suc j)) in
+    let rest : work_left all known ≡ full_work all = all_left all known (omega arith) (λ j. h (suc j)) in
     rw (entry_is, rest) refl

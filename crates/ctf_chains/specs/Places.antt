@@ -23,6 +23,6 @@ abbrev pub record_work : List (Option ℕ) → ℕ
 record_work places = 1 + length places
 
 -- what all records cost
-abbrev pub work : Places → ℕ
-work [] = 0
-work (places ∷ all) = record_work places + work all
+abbrev pub full_work : Places → ℕ
+full_work [] = 0
+full_work (places ∷ all) = record_work places + full_work all

@@ -2,7 +2,7 @@
 ghost use Rattle.std.specs.Prelude.{◌≡◌, ℕ, ◌+◌, ◌<◌, ◌≤◌, ◌⊎◌, length, MatchOption, slice_index_or};
 ghost use Rattle.ctf_model.specs.Chains.{longest_chain};
 ghost use Rattle.ctf_chains.specs.Deep.{IsLeastDeep};
-ghost use Rattle.ctf_chains.specs.Places.{steps_between, work};
+ghost use Rattle.ctf_chains.specs.Places.{steps_between, full_work};
 ghost use Rattle.ctf_chains.specs.Search.{Knows, OnWay, Answers, work_left};
 
 use crate::graph::Graph;
@@ -83,7 +83,7 @@ pub fn first_deep<G: Graph>(graph: &G, known: &mut [u16], work: &mut u64) -> Opt
     requires same { length known.old ≡ length (G.places graph.now) }
     requires empty { (j : ℕ) → slice_index_or known.old j 0 ≡ 0 }
     ensures least { IsLeastDeep (steps_between (G.places graph.now)) longest_chain result }
-    ensures work { work.new ≤ work.old + work (G.places graph.now) }
+    ensures work { work.new ≤ work.old + full_work (G.places graph.now) }
 {
     for i in 0..graph.len() {
         if depth(graph, known, work, i, LONGEST_CHAIN).is_none() {

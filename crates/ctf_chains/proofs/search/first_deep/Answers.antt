@@ -1,9 +1,9 @@
 use Rattle.std.proofs.Common.{◌≡◌, arith}
 use Rattle.ctf_model.specs.Chains.{IsWithin}
-use Rattle.ctf_chains.specs.Places.{steps_between, work}
+use Rattle.ctf_chains.specs.Places.{steps_between, full_work}
 use Rattle.ctf_chains.specs.Search.{NoneMoreBusy, work_left}
 use Rattle.ctf_chains.proofs.Visits.{one_more_before, found, empty_knows, on_way_none}
-use Rattle.ctf_chains.proofs.WorkLeft.{all_work}
+use Rattle.ctf_chains.proofs.WorkLeft.{all_left}
 use Rattle.ctf_chains.proofs.search.first_deep.Goals as goal
 
 pub loop-i-preserved : goal.loop-i-preserved
@@ -19,8 +19,8 @@ loop-i-preserved g c =
 
 pub loop-i-init : goal.loop-i-init
 loop-i-init g c =
-    let all : work_left (g.G.Graph.places c.args.graph.now) c.args.known.now ≡ work (g.G.Graph.places c.args.graph.now) =
-    all_work (g.G.Graph.places c.args.graph.now) c.args.known.now (omega arith) c.requires.empty in
+    let all : work_left (g.G.Graph.places c.args.graph.now) c.args.known.now ≡ full_work (g.G.Graph.places c.args.graph.now) =
+    all_left (g.G.Graph.places c.args.graph.now) c.args.known.now (omega arith) c.requires.empty in
     record {
       before = record { each = λ j h. absurd (omega arith) };
       knows = empty_knows (steps_between (g.G.Graph.places c.args.graph.now)) c.args.known.now c.requires.empty;
