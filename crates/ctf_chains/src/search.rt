@@ -1,11 +1,12 @@
 //! The first record that a chain of too many steps begins at.
-ghost use Rattle.std.specs.Prelude.{◌≡◌, ℕ, ◌+◌, ◌<◌, ◌≤◌, ◌⊎◌, length, MatchOption, slice_index_or};
+ghost use Rattle.std.specs.Prelude.{◌≡◌, ℕ, ◌+◌, ◌<◌, ◌≤◌, ◌⊎◌, length, IfOk, MatchOption, slice_index_or};
 ghost use Rattle.ctf_model.specs.Chains.{longest_chain};
 ghost use Rattle.ctf_chains.specs.Deep.{IsLeastDeep};
 ghost use Rattle.ctf_chains.specs.Places.{steps_between, full_work};
 ghost use Rattle.ctf_chains.specs.Search.{Knows, OnWay, Answers, work_left};
 
 use crate::graph::Graph;
+use std::alloc::{AllocError, Global};
 
 /// The greatest number of steps that a chain may have.
 pub const LONGEST_CHAIN: u16 = 512;
@@ -75,11 +76,8 @@ fn depth<G: Graph>(
     Some(longest)
 }
 
-/// The least record that a chain of more than `LONGEST_CHAIN` steps begins at, if there is one.
-///
-/// `known` is one 0 for each record. `work` grows by one for each record that is opened and for
-/// each place that is read. A cycle of steps is a chain without end.
-pub fn first_deep<G: Graph>(graph: &G, known: &mut [u16], work: &mut u64) -> Option<usize>
+/// Looks through the records in turn, with a table that knows nothing yet.
+fn first_of<G: Graph>(graph: &G, known: &mut [u16], work: &mut u64) -> Option<usize>
     requires same { length known.old ≡ length (G.places graph.now) }
     requires empty { (j : ℕ) → slice_index_or known.old j 0 ≡ 0 }
     ensures least { IsLeastDeep (steps_between (G.places graph.now)) longest_chain result }
@@ -91,4 +89,22 @@ pub fn first_deep<G: Graph>(graph: &G, known: &mut [u16], work: &mut u64) -> Opt
         }
     }
     None
+}
+
+/// The first record that a chain of more than `LONGEST_CHAIN` steps begins at, if there is one. A
+/// cycle of steps is a chain without end.
+///
+/// `work` grows by one for each record that is opened, and by one for each place that is read.
+/// Takes two bytes for each record while it runs.
+pub fn first_deep<G: Graph>(
+    alloc: Global,
+    graph: &G,
+    work: &mut u64,
+) -> Result<Option<usize>, AllocError>
+    ensures least { IfOk result (λ first.
+        IsLeastDeep (steps_between (G.places graph.now)) longest_chain first) }
+    ensures work { work.new ≤ work.old + full_work (G.places graph.now) }
+{
+    let mut known = vec![in alloc; 0u16; graph.len()]?;
+    Ok(first_of(graph, known.as_mut_slice(), work))
 }

@@ -4,7 +4,7 @@ use Rattle.ctf_chains.specs.Places.{steps_between, full_work}
 use Rattle.ctf_chains.specs.Search.{NoneMoreBusy, work_left}
 use Rattle.ctf_chains.proofs.Visits.{one_more_before, found, empty_knows, on_way_none}
 use Rattle.ctf_chains.proofs.WorkLeft.{all_left}
-use Rattle.ctf_chains.proofs.search.first_deep.Goals as goal
+use Rattle.ctf_chains.proofs.search.first_of.Goals as goal
 
 pub loop-i-preserved : goal.loop-i-preserved
 loop-i-preserved g c =
