@@ -121,6 +121,10 @@ took_last item len n b x h lt e =
 positive : (n : ℕ) → (n ≡ 0 → ⊥) → 0 < n
 positive n some = omega arith
 
+-- a row, where the length that it goes by is the items'
+pub placed : (b r : List ℕ) (k len i : ℕ) → r ≡ drop (k * i) b → k ≡ len → r ≡ drop (len * i) b
+placed b r k len i e f = e ∙ ap (λ (l : ℕ). drop (l * i) b) f
+
 -- ---- what the calls of an iterator owe, where s is what is left before it
 
 module _ {A : Type 0} (item : List ℕ → Option A) (len n : ℕ) (b : List ℕ) (s : List A) (seen : listed item len n b ≡ s) (inv : IsListed item len n b) where
@@ -129,6 +133,15 @@ module _ {A : Type 0} (item : List ℕ → Option A) (len n : ℕ) (b : List ℕ
 
   pub none_left : n ≡ 0 → (s ≡ []) × (s ≡ [])
   none_left e = let none = sym seen ∙ listed_none item len n b e in (none, none)
+
+  pub row_good : (i : ℕ) (r : List ℕ) → i < n → r ≡ drop (len * i) b → IsSome (item r)
+  row_good i r lt e = rw e (row item len n i b inv lt).good
+
+  pub last_good : (r : List ℕ) → (n ≡ 0 → ⊥) → r ≡ drop (len * (n - 1)) b → IsSome (item r)
+  last_good r some e = row_good (n - 1) r (omega arith) e
+
+  pub first_good : (n ≡ 0 → ⊥) → IsSome (item b)
+  first_good some = let none : len * 0 ≡ 0 = omega arith in row_good 0 b (positive n some) (rw none refl)
 
   pub get_some : (i : ℕ) (row : List ℕ) (x : A) → i < n → row ≡ drop (len * i) b → item row ≡ Some x → Some x ≡ slice_get s i
   get_some i row x lt e f = gets item len n i b (Some x) inv lt (ap item (sym e) ∙ f) ∙ ap (λ (l : List A). slice_get l i) seen

@@ -1,1 +1,2 @@
+pub mod ItemsView
 pub mod Lists

@@ -2,6 +2,10 @@
 #![tactic(auto)]
 
 mod args;
+mod enumerators;
+mod members;
 mod rows;
 
 pub use args::Args;
+pub use enumerators::{Enumerator, Enumerators};
+pub use members::{Member, Members};
