@@ -1,0 +1,66 @@
+-- Which kinds say what. Source: ctf(5), "The Type Section": cts_size or cts_type by kind, and what stands behind the head.
+use Rattle.std.specs.Prelude.{ℕ, List, Option, Some, None}
+use Rattle.std.specs.Option.{option_and_then}
+use Rattle.ctf_model.specs.Record.{kind, field, size, vlen, variant_len}
+use Rattle.ctf_model.specs.Spelling.{tag}
+use Rattle.ctf_model.specs.Term.{Tag}
+use Rattle.ctf_model.specs.declared.kinds.Kind.{Kind}
+use Rattle.ctf_model.specs.declared.kinds.Kind.TheVariants.{KInteger, KFloat, KPointer, KArray, KFunction, KStruct, KUnion, KEnum, KForward, KTypedef, KVolatile, KConst, KRestrict}
+
+-- ---- by kind
+
+-- the size in bytes of a value
+abbrev pub size_of_kind : Kind → List ℕ → Option ℕ
+size_of_kind KInteger b = Some (size b)
+size_of_kind KFloat b = Some (size b)
+size_of_kind KArray b = Some (size b)
+size_of_kind KStruct b = Some (size b)
+size_of_kind KUnion b = Some (size b)
+size_of_kind KEnum b = Some (size b)
+size_of_kind _ b = None
+
+-- the type that is pointed to, returned, renamed or qualified
+abbrev pub reference_of_kind : Kind → List ℕ → Option ℕ
+reference_of_kind KPointer b = Some (field b)
+reference_of_kind KFunction b = Some (field b)
+reference_of_kind KTypedef b = Some (field b)
+reference_of_kind KVolatile b = Some (field b)
+reference_of_kind KConst b = Some (field b)
+reference_of_kind KRestrict b = Some (field b)
+reference_of_kind _ b = None
+
+-- what a forward declares
+abbrev pub declared_of_kind : Kind → List ℕ → Option Tag
+declared_of_kind KForward b = Some (tag (field b))
+declared_of_kind _ b = None
+
+-- how many arguments, members or enumerators are listed
+abbrev pub listed_of_kind : Kind → List ℕ → ℕ
+listed_of_kind KFunction b = vlen b
+listed_of_kind KStruct b = vlen b
+listed_of_kind KUnion b = vlen b
+listed_of_kind KEnum b = vlen b
+listed_of_kind _ b = 0
+
+-- ---- of a record
+
+abbrev pub size_in : List ℕ → Option ℕ
+size_in b = option_and_then (λ k. size_of_kind k b) (kind b)
+
+abbrev pub reference_in : List ℕ → Option ℕ
+reference_in b = option_and_then (λ k. reference_of_kind k b) (kind b)
+
+abbrev pub declared_in : List ℕ → Option Tag
+declared_in b = option_and_then (λ k. declared_of_kind k b) (kind b)
+
+-- 0 or what is listed
+abbrev pub at_kind : (Kind → ℕ) → Option Kind → ℕ
+at_kind f None = 0
+at_kind f (Some k) = f k
+
+abbrev pub listed : List ℕ → ℕ
+listed b = at_kind (λ k. listed_of_kind k b) (kind b)
+
+-- how many bytes stand behind the head
+abbrev pub len_behind : List ℕ → ℕ
+len_behind b = at_kind (λ k. variant_len k (size b) (vlen b)) (kind b)

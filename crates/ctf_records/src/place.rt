@@ -1,0 +1,30 @@
+//! The record that begins at a place of a section.
+ghost use Rattle.std.specs.Prelude.{◌≡◌, ◌≤◌, ◌+◌, ◌^◌, take, Some};
+ghost use Rattle.std.specs.Option.{option_map};
+ghost use Rattle.ctf_model.specs.Section.{front_len as front_of};
+ghost use Rattle.ctf_records.specs.RecordView.{piece, piece_at};
+
+use crate::front::front_len;
+use crate::record::Record;
+
+/// The record of a length at the front of some bytes that stand at a place of their section.
+pub(crate) fn taken<'a>(rest: &'a [u8], len: usize, index: u64, at: usize) -> Record<'a>
+    requires whole { front_of rest.now ≡ Some len }
+    requires near { at + len ≤ 2 ^ 63 }
+    ensures { piece result ≡ record { index = index; at = at; bytes = take len rest.now } }
+{
+    let (bytes, _) = rest.split_at(len);
+    Record { index, at, bytes }
+}
+
+/// The whole record that begins at a place of a section, if one does; it is given the number.
+pub fn record_at<'a>(types: &'a [u8], at: usize, index: u64) -> Option<Record<'a>>
+    ensures { option_map piece result ≡ piece_at types.now at index }
+{
+    if at > types.len() {
+        return None;
+    }
+    let (_, rest) = types.split_at(at);
+    let len = front_len(rest)?;
+    Some(taken(rest, len, index, at))
+}
