@@ -21,13 +21,13 @@ pub struct Args<'a> {
 impl<'a> Model for Args<'a> {
     ghost use Rattle.std.specs.Prelude.{ℕ, List};
     ghost use Rattle.ctf_model.specs.Spelling.{argument_of};
-    ghost use Rattle.ctf_views.specs.Lists.{listed, IsListed};
+    ghost use Rattle.ctf_views.specs.Lists.{items_in, AreGood};
 
     ghost Value = { List ℕ };
 
-    ghost view = { λ it. listed argument_of 2 it.count it.bytes.now };
+    ghost view = { λ it. items_in argument_of 2 it.count it.bytes.now };
 
-    ghost invariant = { λ it. IsListed argument_of 2 it.count it.bytes.now };
+    ghost invariant = { λ it. AreGood argument_of 2 it.count it.bytes.now };
 }
 
 /// The argument that begins some bytes.

@@ -5,7 +5,7 @@ ghost use Rattle.std.specs.Iterator.{YieldsFirstBy, YieldsLastBy, item_count, Up
 ghost use Rattle.std.specs.Iterator.SizeHint.{IsWithinCount};
 ghost use Rattle.ctf_model.specs.Spelling.{items, enumerator_of};
 ghost use Rattle.ctf_sections.specs.StringsView.{tables};
-ghost use Rattle.ctf_views.specs.Lists.{IsListed};
+ghost use Rattle.ctf_views.specs.Lists.{AreGood};
 ghost use Rattle.ctf_views.specs.ItemsView.{enumerator};
 
 use crate::rows::from_row;
@@ -34,13 +34,13 @@ impl<'a> Model for Enumerators<'a> {
     ghost use Rattle.ctf_model.specs.Spelling.{enumerator_of};
     ghost use Rattle.ctf_model.specs.Term.{Enumerator as SpelledEnumerator};
     ghost use Rattle.ctf_sections.specs.StringsView.{tables};
-    ghost use Rattle.ctf_views.specs.Lists.{listed, IsListed};
+    ghost use Rattle.ctf_views.specs.Lists.{items_in, AreGood};
 
     ghost Value = { List SpelledEnumerator };
 
-    ghost view = { λ it. listed (enumerator_of (tables it.strings)) 8 it.count it.bytes.now };
+    ghost view = { λ it. items_in (enumerator_of (tables it.strings)) 8 it.count it.bytes.now };
 
-    ghost invariant = { λ it. IsListed (enumerator_of (tables it.strings)) 8 it.count it.bytes.now };
+    ghost invariant = { λ it. AreGood (enumerator_of (tables it.strings)) 8 it.count it.bytes.now };
 }
 
 /// The enumerator that begins some bytes.
@@ -57,7 +57,7 @@ fn first_enumerator<'a>(bytes: &[u8], strings: Strings<'a>) -> Enumerator<'a>
 
 impl<'a> Enumerators<'a> {
     pub(crate) fn new(bytes: &'a [u8], count: usize, strings: Strings<'a>) -> Enumerators<'a>
-        requires { IsListed (enumerator_of (tables strings)) 8 count bytes.now }
+        requires { AreGood (enumerator_of (tables strings)) 8 count bytes.now }
         ensures { items (enumerator_of (tables strings.entry)) 8 count bytes.now ≡ Some result }
     {
         Enumerators {

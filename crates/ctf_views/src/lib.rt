@@ -4,8 +4,14 @@
 mod args;
 mod enumerators;
 mod members;
+mod parts;
+mod reading;
 mod rows;
+mod shown;
 
 pub use args::Args;
 pub use enumerators::{Enumerator, Enumerators};
 pub use members::{Member, Members};
+pub use parts::{ArrayInfo, Encoding};
+pub use reading::variant;
+pub use shown::Variant;

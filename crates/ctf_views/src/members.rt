@@ -6,7 +6,7 @@ ghost use Rattle.std.specs.Iterator.SizeHint.{IsWithinCount};
 ghost use Rattle.ctf_model.specs.Record.{member_len as len_of_member};
 ghost use Rattle.ctf_model.specs.Spelling.{items, member_of};
 ghost use Rattle.ctf_sections.specs.StringsView.{tables};
-ghost use Rattle.ctf_views.specs.Lists.{IsListed};
+ghost use Rattle.ctf_views.specs.Lists.{AreGood};
 ghost use Rattle.ctf_views.specs.ItemsView.{member};
 
 use crate::rows::from_row;
@@ -39,13 +39,13 @@ impl<'a> Model for Members<'a> {
     ghost use Rattle.ctf_model.specs.Spelling.{member_of};
     ghost use Rattle.ctf_model.specs.Term.{Member as SpelledMember};
     ghost use Rattle.ctf_sections.specs.StringsView.{tables};
-    ghost use Rattle.ctf_views.specs.Lists.{listed, IsListed};
+    ghost use Rattle.ctf_views.specs.Lists.{items_in, AreGood};
 
     ghost Value = { List SpelledMember };
 
-    ghost view = { λ it. listed (member_of it.size (tables it.strings)) (len_of_member it.size) it.count it.bytes.now };
+    ghost view = { λ it. items_in (member_of it.size (tables it.strings)) (len_of_member it.size) it.count it.bytes.now };
 
-    ghost invariant = { λ it. IsListed (member_of it.size (tables it.strings)) (len_of_member it.size) it.count it.bytes.now };
+    ghost invariant = { λ it. AreGood (member_of it.size (tables it.strings)) (len_of_member it.size) it.count it.bytes.now };
 }
 
 /// The length of each member of a struct or union of a size: it calls for the form with wide offsets
@@ -74,13 +74,8 @@ fn first_member<'a>(bytes: &[u8], size: u64, strings: Strings<'a>) -> Member<'a>
 }
 
 impl<'a> Members<'a> {
-    pub(crate) fn new(
-        bytes: &'a [u8],
-        count: usize,
-        size: u64,
-        strings: Strings<'a>,
-    ) -> Members<'a>
-        requires { IsListed (member_of size (tables strings)) (len_of_member size) count bytes.now }
+    pub(crate) fn new(bytes: &'a [u8], count: usize, size: u64, strings: Strings<'a>) -> Members<'a>
+        requires { AreGood (member_of size (tables strings)) (len_of_member size) count bytes.now }
         ensures { items (member_of size (tables strings.entry)) (len_of_member size) count bytes.now ≡ Some result }
     {
         Members {

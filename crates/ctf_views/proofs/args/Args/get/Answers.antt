@@ -1,5 +1,5 @@
 use Rattle.ctf_model.specs.Spelling.{argument_of}
-use Rattle.ctf_views.proofs.Listed.{get_some, get_none}
+use Rattle.ctf_views.proofs.Items.{get_some, get_none}
 use Rattle.ctf_views.proofs.args.Args.get.Goals as goal
 
 pub returns-then-index-self : goal.returns-then-index-self

@@ -1,5 +1,5 @@
 use Rattle.ctf_model.specs.Spelling.{argument_of}
-use Rattle.ctf_views.proofs.Listed.{none_left, back_steps, back_keeps, goes_back}
+use Rattle.ctf_views.proofs.Items.{none_left, back_steps, back_keeps, goes_back}
 use Rattle.ctf_views.proofs.args.ArgsDoubleEndedIterator.next_back.Goals as goal
 
 pub returns-then-self-eq0-clause-steps : goal.returns-then-self-eq0-clause-steps

@@ -1,5 +1,5 @@
 use Rattle.ctf_model.specs.Spelling.{argument_of}
-use Rattle.ctf_views.proofs.Listed.{count_is}
+use Rattle.ctf_views.proofs.Items.{count_is}
 use Rattle.ctf_views.proofs.args.ArgsExactSizeIterator.len.Goals as goal
 
 pub returns-clause-value : goal.returns-clause-value

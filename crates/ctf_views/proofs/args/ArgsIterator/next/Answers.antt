@@ -1,5 +1,5 @@
 use Rattle.ctf_model.specs.Spelling.{argument_of}
-use Rattle.ctf_views.proofs.Listed.{none_left, next_steps, next_keeps, goes_front}
+use Rattle.ctf_views.proofs.Items.{none_left, next_steps, next_keeps, goes_front}
 use Rattle.ctf_views.proofs.args.ArgsIterator.next.Goals as goal
 
 pub returns-then-self-eq0-clause-steps : goal.returns-then-self-eq0-clause-steps

@@ -1,6 +1,6 @@
 use Rattle.ctf_model.specs.Spelling.{enumerator_of}
 use Rattle.ctf_sections.specs.StringsView.{tables}
-use Rattle.ctf_views.proofs.Listed.{get_some, get_none, row_good}
+use Rattle.ctf_views.proofs.Items.{get_some, get_none, row_good}
 use Rattle.ctf_views.proofs.enumerators.Enumerators.get.Goals as goal
 
 pub first_enumerator-requires-clause-named : goal.first_enumerator-requires-clause-named

@@ -1,7 +1,7 @@
 use Rattle.ctf_model.specs.Spelling.{enumerator_of}
 use Rattle.ctf_sections.specs.StringsView.{tables}
 use Rattle.ctf_views.specs.ItemsView.{enumerator}
-use Rattle.ctf_views.proofs.Listed.{none_left, last_good, back_steps, back_keeps, goes_back}
+use Rattle.ctf_views.proofs.Items.{none_left, last_good, back_steps, back_keeps, goes_back}
 use Rattle.ctf_views.proofs.enumerators.EnumeratorsDoubleEndedIterator.next_back.Goals as goal
 
 pub returns-then-self-eq0-clause-steps : goal.returns-then-self-eq0-clause-steps

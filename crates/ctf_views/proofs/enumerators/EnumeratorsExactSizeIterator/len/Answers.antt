@@ -1,6 +1,6 @@
 use Rattle.ctf_model.specs.Spelling.{enumerator_of}
 use Rattle.ctf_sections.specs.StringsView.{tables}
-use Rattle.ctf_views.proofs.Listed.{count_is}
+use Rattle.ctf_views.proofs.Items.{count_is}
 use Rattle.ctf_views.proofs.enumerators.EnumeratorsExactSizeIterator.len.Goals as goal
 
 pub returns-clause-value : goal.returns-clause-value

@@ -1,7 +1,7 @@
 use Rattle.ctf_model.specs.Spelling.{enumerator_of}
 use Rattle.ctf_sections.specs.StringsView.{tables}
 use Rattle.ctf_views.specs.ItemsView.{enumerator}
-use Rattle.ctf_views.proofs.Listed.{none_left, first_good, next_steps, next_keeps, goes_front}
+use Rattle.ctf_views.proofs.Items.{none_left, first_good, next_steps, next_keeps, goes_front}
 use Rattle.ctf_views.proofs.enumerators.EnumeratorsIterator.next.Goals as goal
 
 pub returns-then-self-eq0-clause-steps : goal.returns-then-self-eq0-clause-steps

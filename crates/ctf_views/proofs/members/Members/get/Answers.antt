@@ -2,7 +2,7 @@ use Rattle.std.proofs.Common.{◌-◌}
 use Rattle.ctf_model.specs.Record.{member_len}
 use Rattle.ctf_model.specs.Spelling.{member_of}
 use Rattle.ctf_sections.specs.StringsView.{tables}
-use Rattle.ctf_views.proofs.Listed.{get_some, get_none, row_good, placed}
+use Rattle.ctf_views.proofs.Items.{get_some, get_none, row_good, placed}
 use Rattle.ctf_views.proofs.members.Members.get.Goals as goal
 
 pub first_member-requires-clause-named : goal.first_member-requires-clause-named

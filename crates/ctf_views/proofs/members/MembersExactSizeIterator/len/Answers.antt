@@ -2,7 +2,7 @@ use Rattle.std.proofs.Common.{◌-◌}
 use Rattle.ctf_model.specs.Record.{member_len}
 use Rattle.ctf_model.specs.Spelling.{member_of}
 use Rattle.ctf_sections.specs.StringsView.{tables}
-use Rattle.ctf_views.proofs.Listed.{count_is}
+use Rattle.ctf_views.proofs.Items.{count_is}
 use Rattle.ctf_views.proofs.members.MembersExactSizeIterator.len.Goals as goal
 
 pub returns-clause-value : goal.returns-clause-value

@@ -3,7 +3,7 @@ use Rattle.ctf_model.specs.Record.{member_len}
 use Rattle.ctf_model.specs.Spelling.{member_of}
 use Rattle.ctf_sections.specs.StringsView.{tables}
 use Rattle.ctf_views.specs.ItemsView.{member}
-use Rattle.ctf_views.proofs.Listed.{none_left, first_good, next_steps, next_keeps, goes_front, placed}
+use Rattle.ctf_views.proofs.Items.{none_left, first_good, next_steps, next_keeps, goes_front, placed}
 use Rattle.ctf_views.proofs.members.MembersIterator.next.Goals as goal
 
 pub returns-then-self-eq0-clause-steps : goal.returns-then-self-eq0-clause-steps
