@@ -8,6 +8,8 @@ mod parts;
 mod reading;
 mod rows;
 mod shown;
+#[cfg(test)]
+mod tests;
 
 pub use args::Args;
 pub use enumerators::{Enumerator, Enumerators};
