@@ -1,4 +1,5 @@
 pub mod LastNames
+pub mod LongChains
 pub mod Naming
 pub mod Numbering
 pub mod Order
