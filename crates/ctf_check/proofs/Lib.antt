@@ -6,3 +6,4 @@ pub mod Order
 pub mod Reading
 pub mod Sites
 pub mod Terms
+pub mod TypeStages

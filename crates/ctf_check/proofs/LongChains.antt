@@ -1,14 +1,15 @@
 -- The first type that a long chain begins at, as it is found and as the rule says it.
-use Rattle.std.proofs.Common.{◌≡◌, ℕ, ◌+◌, ◌<◌, ◌≤◌, Bool, List, [], ◌∷◌, length, map, Option, Some, None, Result, Ok, Err, refl, sym, ap, ◌∙◌, arith, ⊎_elim}
-use Rattle.std.specs.List.{AllByRecursion}
+use Rattle.std.proofs.Common.{◌≡◌, ℕ, ◌+◌, ◌<◌, Bool, List, length, Option, Some, None, Result, refl, sym, ap, subst, ◌∙◌, arith}
+use Rattle.std.specs.List.{filter_map}
+use Rattle.std.specs.Prelude.{IfSome}
 use Rattle.std.specs.Option.{option_map}
-use Rattle.std.proofs.lemmas.Bool.{cases_lt}
 use Rattle.std.proofs.lemmas.List.{length-map}
+use Rattle.std.proofs.lemmas.Option.{same_Some}
 use Rattle.ctf_model.proofs.ChainRules.{DeepFrom, deep_agrees}
 use Rattle.ctf_model.proofs.FirstFault.{Agrees}
-use Rattle.ctf_model.specs.Chains.{edges, longest_chain}
+use Rattle.ctf_model.specs.Chains.{edges, own_index, longest_chain}
 use Rattle.ctf_model.specs.declared.faults.Fault.{Fault}
-use Rattle.ctf_model.specs.Faults.{first_deep}
+use Rattle.ctf_model.specs.Faults.{first_deep, walk_fault}
 use Rattle.ctf_model.specs.Name.{Tables}
 use Rattle.ctf_model.specs.Section.{Piece, terms_in}
 use Rattle.ctf_model.specs.Term.{Body, Term}
@@ -16,7 +17,7 @@ use Rattle.ctf_chains.specs.Deep.{IsLeastDeep, IsLeastDeepType}
 use Rattle.ctf_chains.specs.Steps.{AreSpelled, steps}
 use Rattle.ctf_chains.specs.declared.chain.Chain.{Chain}
 use Rattle.ctf_check.specs.Stages.{chain_place}
-use Rattle.ctf_check.proofs.Terms.{IsSpelled, terms_length}
+use Rattle.ctf_check.proofs.Terms.{each_spelled, terms_length}
 
 -- the least deep type, numbered from 1, is the place that the rule gives
 deep_place : (es : List (List ℕ)) (r : Option ℕ) (found : Option ℕ) → Agrees r (DeepFrom es 0 (length es)) → IsLeastDeep es longest_chain found → r ≡ option_map (λ i. i + 1) found
@@ -35,17 +36,20 @@ deep_place es (Some p) (Some i) h d = ap (λ (n : ℕ). Some n) same
     same = let is = h.0.4 in omega (arith, not_less, not_more)
 
 -- there are as many types in the graph of steps
-edges_length : (steps : Body → List ℕ) (child : Bool) (xs : List Term) → length (edges steps child xs) ≡ length xs
+edges_length : (step : Body → List ℕ) (child : Bool) (xs : List Term) → length (edges step child xs) ≡ length xs
 unfolding edges
-edges_length steps child xs = length-map _ xs
-
--- records that spell types spell one each
-spelled_length : (t : Tables) (xs : List (Result Piece Fault)) → AllByRecursion (IsSpelled t) xs → length (terms_in t xs) ≡ length xs
-spelled_length t xs all = terms_length t xs all
+edges_length step child xs = length-map xs (λ (x : Term). filter_map (own_index child (length xs)) (step x.body))
 
 -- what was found is the rule's place
-pub found_place : (chain : Chain) (child : Bool) (t : Tables) (xs : List (Result Piece Fault)) (found : Option ℕ) → AllByRecursion (IsSpelled t) xs → IsLeastDeep (edges (steps chain) child (terms_in t xs)) longest_chain found → chain_place chain t child xs ≡ option_map (λ i. i + 1) found
-found_place chain child t xs found all d =
+pub found_place : (chain : Chain) (child : Bool) (t : Tables) (xs : List (Result Piece Fault)) (o found : Option ℕ) → o ≡ found → walk_fault xs ≡ None → IsLeastDeepType chain child xs o → AreSpelled t xs → chain_place chain t child xs ≡ option_map (λ i. i + 1) found
+found_place chain child t xs o found same whole least spelled =
     let es = edges (steps chain) child (terms_in t xs) in
-    let len : length es ≡ length xs = edges_length (steps chain) child (terms_in t xs) ∙ spelled_length t xs all in
+    let all = each_spelled t xs whole spelled in
+    let len : length es ≡ length xs = edges_length (steps chain) child (terms_in t xs) ∙ terms_length t xs all in
+    let d = subst (IsLeastDeep es longest_chain) same (least t spelled) in
     ap (λ (n : ℕ). first_deep es 0 n) (sym len) ∙ deep_place es (first_deep es 0 (length es)) found (deep_agrees es 0 (length es)) d
+
+-- the place is that of a record
+pub found_inside : (o : Option ℕ) (i n : ℕ) → o ≡ Some i → IfSome o (λ j. j < n) → i < n
+found_inside None i n e h = absurd cc
+found_inside (Some j) i n e h = let same : j ≡ i = same_Some j i e in subst (λ (k : ℕ). k < n) same h

@@ -23,7 +23,7 @@ fn judge_chain(
 ) -> Result<(), Fault>
     requires whole { walk_fault (records types.now) ≡ None }
     requires starts { starts.now ≡ starts_in (records types.now) }
-    requires few { length (records types.now) < 2 ^ 32 }
+    requires short { length (records types.now) < 2 ^ 32 }
     ensures ok { OnOk result ((t : Tables) → AreSpelled t (records types.now) → chain_place chain t child (records types.now) ≡ None) }
     ensures err { IfErr result (λ f. (f ≡ want_of_memory) ⊎ ((f.code ≡ code)
         × ((t : Tables) → AreSpelled t (records types.now) → chain_place chain t child (records types.now) ≡ Some f.place))) }
@@ -51,6 +51,20 @@ pub fn judge_chains(alloc: Global, types: &[u8], numbers: Numbers) -> Result<(),
     let Ok(starts) = record_starts(alloc, types, numbers.count) else {
         return Err(placeless(Fault::MEMORY));
     };
-    judge_chain(alloc, types, &starts, numbers.child, Chain::ByValue, Fault::VALUE_DEEP)?;
-    judge_chain(alloc, types, &starts, numbers.child, Chain::Declarator, Fault::DECL_DEEP)
+    judge_chain(
+        alloc,
+        types,
+        &starts,
+        numbers.child,
+        Chain::ByValue,
+        Fault::VALUE_DEEP,
+    )?;
+    judge_chain(
+        alloc,
+        types,
+        &starts,
+        numbers.child,
+        Chain::Declarator,
+        Fault::DECL_DEEP,
+    )
 }
