@@ -1,6 +1,6 @@
 -- The first, the last and each other item of a list that stands in bytes.
 use Rattle.std.proofs.Common.{◌≡◌, ℕ, zero, suc, ◌+◌, ◌-◌, ◌*◌, ◌<◌, ◌≤◌, List, [], ◌∷◌, ◌++◌, length, take, drop, Option, Some, None, refl, sym, ap, subst, ◌∙◌, arith, length-drop, length-append}
-use Rattle.std.specs.Prelude.{slice_get, unwrap_or, is_some, IsSome}
+use Rattle.std.specs.Prelude.{slice_get, unwrap_or, IsSome}
 use Rattle.std.specs.Iterator.{MakesProgress, item_count}
 use Rattle.std.proofs.lemmas.List.{take-append-drop}
 use Rattle.std.proofs.lemmas.Option.{slice_get_past, same_Some}

@@ -1,4 +1,4 @@
--- What of a type stands behind the head of its record.
+-- What of a type stands behind the head of its record. Source: ctf(5), "The Type Section": the variable-length data of each kind.
 use Rattle.std.specs.Prelude.{ℕ, List}
 use Rattle.ctf_model.specs.Term.{Body, Enumerator, Member, Scalar, Elements, Tag}
 use Rattle.ctf_model.specs.Term as term
@@ -15,6 +15,7 @@ pub record EncodingParts : Type 0 where
   pub offset : ℕ
   pub bits : ℕ
 
+-- what is shown, by kind
 pub data Shown : Type 0 where
   members : List Member → Shown
   enumerators : List Enumerator → Shown
@@ -24,13 +25,15 @@ pub data Shown : Type 0 where
   tag : Tag → Shown
   nothing : Shown
 
+-- of an array
 abbrev pub array_parts : Elements → ArrayParts
 array_parts e = record { contents = e.contents; index = e.index; count = e.count }
 
+-- of an integer or a float
 abbrev pub encoding_parts : Scalar → EncodingParts
 encoding_parts s = record { encoding = s.encoding; offset = s.offset; bits = s.bits }
 
--- a type's size, and the types that it points to, renames, qualifies or returns, stand in the head
+-- what is shown of a type; its size, and the type that it points to, renames, qualifies or returns, stand in the head
 abbrev pub shown : Body → Shown
 shown (term.struct size items) = members items
 shown (term.union size items) = members items

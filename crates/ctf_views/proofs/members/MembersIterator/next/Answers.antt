@@ -1,4 +1,3 @@
-use Rattle.std.proofs.Common.{◌-◌}
 use Rattle.ctf_model.specs.Record.{member_len}
 use Rattle.ctf_model.specs.Spelling.{member_of}
 use Rattle.ctf_sections.specs.StringsView.{tables}
