@@ -1,26 +1,23 @@
 -- The types that are read from the bytes of a record are those that its type names.
-use Rattle.std.proofs.Common.{◌≡◌, ℕ, zero, suc, ◌+◌, ◌*◌, ◌-◌, ◌<◌, ◌≤◌, Bool, true, false, cond, ltb, List, [], ◌∷◌, length, take, drop, map, Option, Some, None, Result, Ok, Err, refl, sym, ap, ◌∙◌, arith}
+use Rattle.std.proofs.Common.{◌≡◌, ℕ, zero, suc, Bool, true, false, cond, ltb, List, [], ◌∷◌, drop, map, Option, Some, None, Result, Ok, Err, refl, sym, ap, ◌∙◌}
 use Rattle.std.specs.Prelude.{◌||◌, ◌&&◌}
 use Rattle.std.proofs.Math.Bool.{or-false}
 use Rattle.std.specs.List.{list_any, AllByRecursion}
-use Rattle.std.specs.Option.{option_map, option_map_or}
-use Rattle.std.proofs.lemmas.List.{drop-drop}
+use Rattle.std.specs.Option.{option_map}
 use Rattle.std.proofs.lemmas.Option.{same_Some}
-use Rattle.std.proofs.Math.Nat.{mul-suc}
-use Rattle.ctf_model.specs.Bytes.{number, u16_at, u32_at}
+use Rattle.ctf_model.specs.Bytes.{u16_at, u32_at}
 use Rattle.ctf_model.specs.declared.faults.Fault.{Fault}
 use Rattle.ctf_model.specs.declared.kinds.Kind.{Kind}
 use Rattle.ctf_model.specs.declared.kinds.Kind.TheVariants.{KUnknown, KInteger, KFloat, KPointer, KArray, KFunction, KStruct, KUnion, KEnum, KForward, KTypedef, KVolatile, KConst, KRestrict}
 use Rattle.ctf_model.specs.Faults.{first_misnaming}
 use Rattle.ctf_model.specs.Name.{Tables, name}
-use Rattle.ctf_model.specs.Record.{kind, field, is_long, is_root, size, vlen, member_len, behind_head}
-use Rattle.ctf_model.specs.References.{references, is_missing, is_forward, has_long_tag, names_missing, is_misnaming}
+use Rattle.ctf_model.specs.Record.{kind, field, is_long, size, vlen, member_len, behind_head}
+use Rattle.ctf_model.specs.References.{references, is_missing, is_forward, is_misnaming}
 use Rattle.ctf_model.specs.Section.{Piece}
 use Rattle.ctf_model.specs.Spelling.{◌>>=◌, items, narrow_member, wide_member, member_of, argument_of, members, arguments, enumerators, scalar, elements, tag, body_of, term_of}
 use Rattle.ctf_model.specs.Term.{Member, Enumerator, Body, Term}
 use Rattle.ctf_model.specs.Term as term
-use Rattle.ctf_records.specs.ByKind.{reference_of_kind}
-use Rattle.ctf_check.specs.Named.{numbers_in, listed_types, named_types, head_misnames, rest_misnames, kind_misnames, misnames, first_that_misnames}
+use Rattle.ctf_check.specs.Named.{numbers_in, named_types, kind_misnames, misnames, first_that_misnames}
 use Rattle.ctf_check.proofs.Terms.{IsSpelled}
 
 -- ---- lists

@@ -1,14 +1,7 @@
 -- Reading record by record.
-use Rattle.std.proofs.Common.{◌≡◌, ℕ, zero, suc, ◌+◌, ◌<◌, ◌≤◌, ◌/◌, ◌^◌, Bool, true, false, cond, eqb, ltb, take, drop, List, [], ◌∷◌, ◌++◌, length, Option, Some, None, Result, refl, sym, ap, subst, ◌∙◌, arith, length-take}
-use Rattle.std.specs.Prelude.{is_some}
-use Rattle.std.specs.Option.{option_and_then}
-use Rattle.std.specs.Iterator.{MakesProgress, item_count}
-use Rattle.std.proofs.lemmas.List.{take-append-drop}
-use Rattle.ctf_model.proofs.Prefix.{u16-append}
-use Rattle.ctf_model.specs.Bytes.{u16_at}
-use Rattle.ctf_model.specs.Section.{Piece, step, walk, front_len, fitting}
+use Rattle.std.proofs.Common.{ℕ, zero, suc, ◌+◌, ◌≤◌, Bool, true, false, cond, eqb, drop, List, [], length, Option, Some, None, Result, arith}
+use Rattle.ctf_model.specs.Section.{Piece, step, walk, front_len}
 use Rattle.ctf_model.specs.declared.faults.Fault.{Fault}
-use Rattle.ctf_model.specs.declared.kinds.Kind.{Kind}
 
 cond_len : (t : Bool) (xs : List (Result Piece Fault)) (n : ℕ) → length xs ≤ n → length (cond t [] xs) ≤ n
 cond_len true xs n h = omega arith

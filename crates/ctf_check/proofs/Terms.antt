@@ -1,9 +1,9 @@
 -- What the records of a dictionary spell where no rule is broken.
-use Rattle.std.proofs.Common.{◌≡◌, ℕ, zero, suc, ◌+◌, ◌-◌, ◌/◌, ◌^◌, ◌<◌, ◌≤◌, Bool, true, false, cond, eqb, take, drop, List, [], ◌∷◌, ◌++◌, length, Option, Some, None, Result, Ok, Err, refl, sym, ap, subst, ◌∙◌, arith}
-use Rattle.std.specs.Prelude.{is_some, is_none, slice_get}
+use Rattle.std.proofs.Common.{◌≡◌, ℕ, zero, suc, ◌+◌, ◌-◌, ◌/◌, ◌<◌, ◌≤◌, Bool, true, false, cond, eqb, take, drop, List, [], ◌∷◌, ◌++◌, length, Option, Some, None, Result, Ok, Err, refl, sym, ap, subst, ◌∙◌, arith}
+use Rattle.std.specs.Prelude.{is_none, IsSome, slice_get}
 use Rattle.std.specs.List.{AllByRecursion}
 use Rattle.std.specs.Option.{option_or, option_map, option_and_then}
-use Rattle.std.proofs.lemmas.Bool.{eqb-true, eqb-false}
+use Rattle.std.proofs.lemmas.Bool.{eqb-true, eqb-false, false≢true}
 use Rattle.ctf_model.proofs.Cut.{front_whole}
 use Rattle.ctf_model.proofs.Spelled.{AreNamed, split_front, spelled}
 use Rattle.ctf_model.specs.Bytes.{u32_at}
@@ -18,6 +18,7 @@ use Rattle.ctf_model.specs.Section.{Piece, front_len, step, terms_in, walk}
 use Rattle.ctf_model.specs.Term.{Body, Term}
 use Rattle.ctf_model.specs.declared.faults.Fault.{Fault}
 use Rattle.ctf_model.specs.declared.kinds.Kind.{Kind}
+use Rattle.ctf_chains.specs.Steps.{AreSpelled}
 use Rattle.ctf_records.specs.Pieces.{piece_numbered}
 use Rattle.ctf_check.specs.Stages.{header_sites}
 use Rattle.ctf_check.proofs.Order.{faultless}
@@ -75,10 +76,10 @@ abbrev pub IsSpelled : Tables → Result Piece Fault → Type 0
 IsSpelled t (Ok p) = Spelled t p.bytes
 IsSpelled t (Err f) = ⊥
 
-abbrev AreSpelled : Tables → ℕ → List (Result Piece Fault) → Type 0
-AreSpelled t start xs = walk_fault xs ≡ None → first_nameless t (record_sites start xs) ≡ None → AllByRecursion (IsSpelled t) xs
+abbrev SpelledFrom : Tables → ℕ → List (Result Piece Fault) → Type 0
+SpelledFrom t start xs = walk_fault xs ≡ None → first_nameless t (record_sites start xs) ≡ None → AllByRecursion (IsSpelled t) xs
 
-spelled_cond : (t : Tables) (start : ℕ) (ended : Bool) (xs : List (Result Piece Fault)) → AreSpelled t start xs → AreSpelled t start (cond ended [] xs)
+spelled_cond : (t : Tables) (start : ℕ) (ended : Bool) (xs : List (Result Piece Fault)) → SpelledFrom t start xs → SpelledFrom t start (cond ended [] xs)
 spelled_cond t start true xs h = λ w n. tt
 spelled_cond t start false xs h = h
 
@@ -94,14 +95,14 @@ later_nameless : (t : Tables) (b : List ℕ) (place : ℕ) (more : List Site) �
 unfolding first_nameless
 later_nameless t b place more e = last_nameless t (list_sites place b (kind b)) more (none_here (is_none (name t (u32_at b 0))) place (first_nameless t (list_sites place b (kind b) ++ more)) e).1
 
-spelled_step : (t : Tables) (start : ℕ) (b : List ℕ) (index at : ℕ) (later : ℕ → List (Result Piece Fault)) (r : Option ℕ) → front_len b ≡ r → ((n : ℕ) → AreSpelled t start (later n)) → AreSpelled t start (step b index at later r)
+spelled_step : (t : Tables) (start : ℕ) (b : List ℕ) (index at : ℕ) (later : ℕ → List (Result Piece Fault)) (r : Option ℕ) → front_len b ≡ r → ((n : ℕ) → SpelledFrom t start (later n)) → SpelledFrom t start (step b index at later r)
 unfolding record_sites
 spelled_step t start b index at later None e h = λ w n. absurd cc
 spelled_step t start b index at later (Some n) e h = λ w names.
     let named = named_all t (record_sites start (Ok (record { index = index; at = at; bytes = take n b }) ∷ later n)) names in
     (spelled_whole t (take n b) (start + at) (record_sites start (later n)) (front_whole b n e) named, h n w (later_nameless t (take n b) (start + at) (record_sites start (later n)) names))
 
-walk_spelled : (t : Tables) (start bound index at : ℕ) (b : List ℕ) → AreSpelled t start (walk bound index at b)
+walk_spelled : (t : Tables) (start bound index at : ℕ) (b : List ℕ) → SpelledFrom t start (walk bound index at b)
 unfolding walk
 walk_spelled t start zero index at b = λ w n. tt
 walk_spelled t start (suc bound) index at b = spelled_cond t start (eqb (length b) 0) _ (spelled_step t start b index at _ (front_len b) refl (λ n. walk_spelled t start bound (index + 1) (at + n) (drop n b)))
@@ -122,9 +123,28 @@ spelled_from s read named = walk_spelled (tables s) (36 + (fields s.ctf).typeoff
 pub all_spelled : (s : Lists) → first_fault s ≡ None → AllByRecursion (IsSpelled (tables s)) (types s.ctf)
 all_spelled s e = let f = faultless s e in spelled_from s f.read f.named
 
+-- ---- the same in the words of ctf_chains
+
+type_there : (t : Tables) (b : List ℕ) → IsSome (term_of t b) → Spelled t b
+type_there t b h = at (term_of t b) refl h
+  where
+    at : (x : Option Term) → term_of t b ≡ x → IsSome x → Spelled t b
+    at None e h = absurd (false≢true h)
+    at (Some x) e h = record { type = x; says = e; named = name_of t b x e }
+
+pub each_spelled : (t : Tables) (xs : List (Result Piece Fault)) → walk_fault xs ≡ None → AreSpelled t xs → AllByRecursion (IsSpelled t) xs
+each_spelled t [] w a = tt
+each_spelled t (Ok p ∷ xs) w a = (type_there t p.bytes a.0, each_spelled t xs w a.1)
+each_spelled t (Err f ∷ xs) w a = absurd cc
+
+pub all_are_spelled : (t : Tables) (xs : List (Result Piece Fault)) → AllByRecursion (IsSpelled t) xs → AreSpelled t xs
+all_are_spelled t [] a = tt
+all_are_spelled t (Ok p ∷ xs) a = let says = a.0.says in ((rw says refl), all_are_spelled t xs a.1)
+all_are_spelled t (Err f ∷ xs) a = absurd a.0
+
 -- ---- their number
 
-terms_length : (t : Tables) (xs : List (Result Piece Fault)) → AllByRecursion (IsSpelled t) xs → length (terms_in t xs) ≡ length xs
+pub terms_length : (t : Tables) (xs : List (Result Piece Fault)) → AllByRecursion (IsSpelled t) xs → length (terms_in t xs) ≡ length xs
 unfolding terms_in
 terms_length t [] all = refl
 terms_length t (Ok p ∷ xs) all = rw all.0.says (ap suc (terms_length t xs all.1))

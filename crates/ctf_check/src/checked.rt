@@ -7,12 +7,15 @@ ghost use Rattle.ctf_model.specs.Header.{fields};
 ghost use Rattle.ctf_model.specs.Spelling.{term_of};
 ghost use Rattle.ctf_sections.specs.StringsView.{tables};
 ghost use Rattle.ctf_check.specs.ListsView.{lists_in};
+ghost use Rattle.ctf_views.specs.Shown.{shown};
+ghost use Rattle.ctf_views.specs.VariantView.{seen};
 
 use crate::lists::LentLists;
 use crate::sections::bytes_in;
 use ctf_model::Section;
 use ctf_records::{Record, record_numbered};
 use ctf_sections::{Header, Strings};
+use ctf_views::{Variant, variant};
 
 /// A dictionary that breaks no rule. Each call answers from the lists that it was handed in as.
 #[derive(Clone, Copy)]
@@ -115,6 +118,15 @@ impl<'a> Checked<'a> {
             ≡ Some result.now }
     {
         self.named(term.name_ref())
+    }
+
+    /// What stands behind the head of a type of the dictionary.
+    pub fn variant(&self, term: &Record<'a>) -> Variant<'a>
+        requires own { IsOwn self.now term.now }
+        ensures { option_map (λ x. shown x.body) (term_of (tables_of self.now) (bytes_of term.now))
+            ≡ Some (seen result) }
+    {
+        variant(term, self.strings())
     }
 
     /// The lists that it was handed in as.

@@ -4,6 +4,7 @@
 mod checked;
 mod ends;
 mod judge;
+mod judging;
 mod lists;
 mod names;
 mod references;

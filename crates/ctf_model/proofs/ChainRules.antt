@@ -35,10 +35,10 @@ true_within es (suc k) i h = from_all (within es k) (IsWithin es k) (true_within
 -- ---- the types in order
 
 -- a chain of too many steps begins at the type of the place, one of n from type i on
-abbrev DeepFrom : List (List ℕ) → ℕ → ℕ → ℕ → Type 0
+abbrev pub DeepFrom : List (List ℕ) → ℕ → ℕ → ℕ → Type 0
 DeepFrom es i n place = (j : ℕ) × (i ≤ j) × (j < i + n) × (¬ IsWithin es longest_chain j) × (place ≡ j + 1)
 
-deep_agrees : (es : List (List ℕ)) (i n : ℕ) → Agrees (first_deep es i n) (DeepFrom es i n)
+pub deep_agrees : (es : List (List ℕ)) (i n : ℕ) → Agrees (first_deep es i n) (DeepFrom es i n)
 unfolding first_deep
 deep_agrees es i zero = λ p h. let low = h.1 in let high = h.2 in absurd (omega arith)
 deep_agrees es i (suc n) = at (within es longest_chain i) refl (first_deep es (i + 1) n) (deep_agrees es (i + 1) n)

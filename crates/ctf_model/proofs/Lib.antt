@@ -3,6 +3,7 @@ pub mod Cut
 pub mod Denoted
 pub mod FirstFault
 pub mod HeaderRules
+pub mod Items
 pub mod Judge
 pub mod NameRules
 pub mod Nameless

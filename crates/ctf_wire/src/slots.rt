@@ -6,6 +6,7 @@ ghost use Rattle.ctf_model.specs.Record.{kind as kind_in};
 ghost use Rattle.ctf_model.specs.Steps.{kind_said};
 ghost use Rattle.ctf_model.specs.TypeNumbers.{type_at, no_type, no_parent};
 ghost use Rattle.ctf_check.specs.CheckedView.{lists_of, dictionary_of};
+ghost use Rattle.ctf_check.specs.ListsView.{lists_in};
 ghost use Rattle.ctf_wire.specs.TypeIndex.{own_index, own_type, kind_or_no_type, kind_at};
 
 use ctf_check::{Checked, LentLists};
@@ -82,23 +83,23 @@ impl Slot {
     ghost use Rattle.ctf_wire.specs.SlotView.{slot_of};
     ghost use Rattle.ctf_model.specs.Steps.{kind_question};
 
-    /// Its dictionary, lent.
-    fn dictionary(&self) -> Checked<'_>
-        ensures { lists_of result ≡ (slot_of self.now).lists }
+    /// The lists of its dictionary, lent.
+    fn lists(&self) -> LentLists<'_>
+        ensures { lists_in result ≡ (slot_of self.now).lists }
     {
-        let lists = LentLists {
+        LentLists {
             ctf: self.ctf.as_slice(),
             sym: None,
             strs: list_bytes(&self.strs),
-        };
-        Checked::again(lists, self.types)
+        }
     }
 
     /// The kind of a type.
     fn kind_of_type(&self, t: TypeNum) -> Result<Kind, Fault>
         ensures { result ≡ kind_at (said_by (slot_of self.now).lists) t.0 }
     {
-        kind_of(&self.dictionary(), t)
+        let dictionary = Checked::again(self.lists(), self.types);
+        kind_of(&dictionary, t)
     }
 
     /// What a question for the kind of a type is answered.

@@ -1,4 +1,4 @@
-use Rattle.std.proofs.Common.{◌≡◌, None, Some, sym, ◌∙◌}
+use Rattle.std.proofs.Common.{sym, ◌∙◌}
 use Rattle.ctf_check.specs.ListsView.{lists_in}
 use Rattle.ctf_check.proofs.Order.{faultless}
 use Rattle.ctf_check.proofs.checked.Checked.again.Goals as goal

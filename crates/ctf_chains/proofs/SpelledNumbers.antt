@@ -1,0 +1,110 @@
+-- The numbers that stand in a record are those of the type that it spells.
+use Rattle.std.proofs.Common.{◌≡◌, ℕ, zero, suc, ◌+◌, ◌*◌, ◌^◌, List, [], ◌∷◌, map, drop, Bool, true, false, cond, ltb, Option, Some, None, refl, sym, ap, ◌∙◌}
+use Rattle.std.specs.Option.{option_map}
+use Rattle.std.proofs.lemmas.Option.{same_Some}
+use Rattle.ctf_model.specs.Bytes.{u16_at, u32_at}
+use Rattle.ctf_model.specs.Chains.{by_value, declarator}
+use Rattle.ctf_model.specs.Name.{Tables, name}
+use Rattle.ctf_model.specs.Record.{kind, is_root, field, size, vlen, member_len, behind_head}
+use Rattle.ctf_model.specs.Spelling.{◌>>=◌, items, member_of, body_of, members, enumerators, arguments, term_of}
+use Rattle.ctf_model.specs.Term.{Member, Enumerator, Body, Term}
+use Rattle.ctf_model.specs.Term as term
+use Rattle.ctf_model.specs.declared.kinds.Kind.{Kind}
+use Rattle.ctf_model.specs.declared.kinds.Kind.TheVariants.{KUnknown, KInteger, KFloat, KPointer, KArray, KFunction, KStruct, KUnion, KEnum, KForward, KTypedef, KVolatile, KConst, KRestrict}
+use Rattle.ctf_chains.specs.Numbers.{member_types, numbers_of_kind, numbers}
+use Rattle.ctf_chains.specs.Steps.{steps}
+use Rattle.ctf_chains.specs.declared.chain.Chain.{Chain}
+use Rattle.ctf_chains.specs.declared.chain.Chain.TheVariants.{ByValue, Declarator}
+
+-- ---- members
+
+-- the type of a member of either form
+member_type : (width : ℕ) (t : Tables) (b : List ℕ) (m : Member) → member_of width t b ≡ Some m → m.tnum ≡ u16_at b 4
+member_type width t b m e = by_form (ltb width 8192) (name t (u32_at b 0)) e
+  where
+    numbered : (offset : ℕ) (text : Option (List ℕ)) → option_map (λ text. let x : Member = record { name = text; tnum = u16_at b 4; offset = offset } in x) text ≡ Some m → m.tnum ≡ u16_at b 4
+    numbered offset None e = absurd cc
+    numbered offset (Some text) e = ap (λ (x : Member). x.tnum) (sym (same_Some _ _ e))
+
+    by_form : (narrow : Bool) (text : Option (List ℕ)) → cond narrow (option_map (λ text. let x : Member = record { name = text; tnum = u16_at b 4; offset = u16_at b 6 } in x) text) (option_map (λ text. let x : Member = record { name = text; tnum = u16_at b 4; offset = 2 ^ 32 * u32_at b 8 + u32_at b 12 } in x) text) ≡ Some m → m.tnum ≡ u16_at b 4
+    by_form true text e = numbered (u16_at b 6) text e
+    by_form false text e = numbered (2 ^ 32 * u32_at b 8 + u32_at b 12) text e
+
+-- the types of the members of a list, where those of the later members are known
+items_types_case : (width : ℕ) (t : Tables) (len n : ℕ) (b : List ℕ) (ms : List Member) → ((rest : List Member) → items (member_of width t) len n (drop len b) ≡ Some rest → map (λ m. m.tnum) rest ≡ member_types len n (drop len b)) → items (member_of width t) len (suc n) b ≡ Some ms → map (λ m. m.tnum) ms ≡ u16_at b 4 ∷ member_types len n (drop len b)
+items_types_case width t len n b ms more e = first (member_of width t b) refl (items (member_of width t) len n (drop len b)) refl e
+  where
+    joined : (m : Member) (rest : List Member) → member_of width t b ≡ Some m → items (member_of width t) len n (drop len b) ≡ Some rest → Some (m ∷ rest) ≡ Some ms → map (λ m. m.tnum) ms ≡ u16_at b 4 ∷ member_types len n (drop len b)
+    joined m rest here later e =
+        let same : m ∷ rest ≡ ms = same_Some _ _ e in
+        let front : m.tnum ≡ u16_at b 4 = member_type width t b m here in
+        let back : map (λ m. m.tnum) rest ≡ member_types len n (drop len b) = more rest later in
+        rw (← same, front, back) refl
+
+    then_rest : (m : Member) (o : Option (List Member)) → member_of width t b ≡ Some m → items (member_of width t) len n (drop len b) ≡ o → (o >>= λ rest. Some (m ∷ rest)) ≡ Some ms → map (λ m. m.tnum) ms ≡ u16_at b 4 ∷ member_types len n (drop len b)
+    then_rest m None here later e = absurd cc
+    then_rest m (Some rest) here later e = joined m rest here later e
+
+    first : (o : Option Member) → member_of width t b ≡ o → (p : Option (List Member)) → items (member_of width t) len n (drop len b) ≡ p → (o >>= λ m. (p >>= λ rest. Some (m ∷ rest))) ≡ Some ms → map (λ m. m.tnum) ms ≡ u16_at b 4 ∷ member_types len n (drop len b)
+    first None here p later e = absurd cc
+    first (Some m) here p later e = then_rest m p here later e
+
+-- the types of the members of a list
+items_types : (width : ℕ) (t : Tables) (len n : ℕ) (b : List ℕ) (ms : List Member) → items (member_of width t) len n b ≡ Some ms → map (λ m. m.tnum) ms ≡ member_types len n b
+unfolding member_types
+items_types width t len zero b ms e = ap (λ (xs : List Member). map (λ m. m.tnum) xs) (sym (same_Some _ _ e))
+items_types width t len (suc n) b ms e = items_types_case width t len n b ms (λ rest h. items_types width t len n (drop len b) rest h) e
+
+-- ---- bodies
+
+-- the numbers of a body, where a list goes into it
+listed : {A : Type 0} (numbers : Body → List ℕ) (make : List A → Body) (found : Option (List A)) (ns : List ℕ) (said : Body) → ((xs : List A) → found ≡ Some xs → numbers (make xs) ≡ ns) → option_map make found ≡ Some said → numbers said ≡ ns
+listed numbers make None ns said h e = absurd cc
+listed numbers make (Some xs) ns said h e = ap numbers (sym (same_Some _ _ e)) ∙ h xs refl
+
+-- the numbers of what a record says are those that stand in it
+body_numbers : (chain : Chain) (t : Tables) (b : List ℕ) (k : Kind) (said : Body) → body_of t b k ≡ Some said → steps chain said ≡ numbers_of_kind chain b (Some k)
+body_numbers ByValue t b KUnknown said e = ap by_value (sym (same_Some _ _ e))
+body_numbers ByValue t b KInteger said e = ap by_value (sym (same_Some _ _ e))
+body_numbers ByValue t b KFloat said e = ap by_value (sym (same_Some _ _ e))
+body_numbers ByValue t b KPointer said e = ap by_value (sym (same_Some _ _ e))
+body_numbers ByValue t b KArray said e = ap by_value (sym (same_Some _ _ e))
+body_numbers ByValue t b KFunction said e = listed by_value (term.function (field b)) (arguments b) [] said (λ xs h. refl) e
+body_numbers ByValue t b KStruct said e = listed by_value (term.struct (size b)) (members t b) _ said (λ ms h. items_types (size b) t (member_len (size b)) (vlen b) (behind_head b) ms h) e
+body_numbers ByValue t b KUnion said e = listed by_value (term.union (size b)) (members t b) _ said (λ ms h. items_types (size b) t (member_len (size b)) (vlen b) (behind_head b) ms h) e
+body_numbers ByValue t b KEnum said e = listed by_value (term.enum (size b)) (enumerators t b) [] said (λ xs h. refl) e
+body_numbers ByValue t b KForward said e = ap by_value (sym (same_Some _ _ e))
+body_numbers ByValue t b KTypedef said e = ap by_value (sym (same_Some _ _ e))
+body_numbers ByValue t b KVolatile said e = ap by_value (sym (same_Some _ _ e))
+body_numbers ByValue t b KConst said e = ap by_value (sym (same_Some _ _ e))
+body_numbers ByValue t b KRestrict said e = ap by_value (sym (same_Some _ _ e))
+body_numbers Declarator t b KUnknown said e = ap declarator (sym (same_Some _ _ e))
+body_numbers Declarator t b KInteger said e = ap declarator (sym (same_Some _ _ e))
+body_numbers Declarator t b KFloat said e = ap declarator (sym (same_Some _ _ e))
+body_numbers Declarator t b KPointer said e = ap declarator (sym (same_Some _ _ e))
+body_numbers Declarator t b KArray said e = ap declarator (sym (same_Some _ _ e))
+body_numbers Declarator t b KFunction said e = listed declarator (term.function (field b)) (arguments b) (field b ∷ []) said (λ xs h. refl) e
+body_numbers Declarator t b KStruct said e = listed declarator (term.struct (size b)) (members t b) [] said (λ xs h. refl) e
+body_numbers Declarator t b KUnion said e = listed declarator (term.union (size b)) (members t b) [] said (λ xs h. refl) e
+body_numbers Declarator t b KEnum said e = listed declarator (term.enum (size b)) (enumerators t b) [] said (λ xs h. refl) e
+body_numbers Declarator t b KForward said e = ap declarator (sym (same_Some _ _ e))
+body_numbers Declarator t b KTypedef said e = ap declarator (sym (same_Some _ _ e))
+body_numbers Declarator t b KVolatile said e = ap declarator (sym (same_Some _ _ e))
+body_numbers Declarator t b KConst said e = ap declarator (sym (same_Some _ _ e))
+body_numbers Declarator t b KRestrict said e = ap declarator (sym (same_Some _ _ e))
+
+-- ---- types
+
+-- the numbers of the type that a record spells are those that stand in the record
+pub spelled_numbers : (chain : Chain) (t : Tables) (b : List ℕ) (x : Term) → term_of t b ≡ Some x → steps chain x.body ≡ numbers chain b
+unfolding term_of
+spelled_numbers chain t b x e = by_kind (kind b) (name t (u32_at b 0)) e
+  where
+    by_body : (k : Kind) (text : List ℕ) (o : Option Body) → body_of t b k ≡ o → (o >>= λ said. Some (let y : Term = record { name = text; root = is_root b; body = said } in y)) ≡ Some x → steps chain x.body ≡ numbers_of_kind chain b (Some k)
+    by_body k text None h e = absurd cc
+    by_body k text (Some said) h e = ap (λ (y : Term). steps chain y.body) (sym (same_Some _ _ e)) ∙ body_numbers chain t b k said h
+
+    by_kind : (o : Option Kind) (named : Option (List ℕ)) → (o >>= λ k. (named >>= λ text. (body_of t b k >>= λ said. Some (let y : Term = record { name = text; root = is_root b; body = said } in y)))) ≡ Some x → steps chain x.body ≡ numbers_of_kind chain b o
+    by_kind None named e = absurd cc
+    by_kind (Some k) None e = absurd cc
+    by_kind (Some k) (Some text) e = by_body k text (body_of t b k) refl e

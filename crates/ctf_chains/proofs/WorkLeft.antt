@@ -1,0 +1,36 @@
+-- What the search may still cost.
+use Rattle.std.proofs.Common.{◌≡◌, ℕ, zero, suc, ◌+◌, ◌≤◌, ◌<◌, List, [], ◌∷◌, length, get_or, set, slice_index_or, slice_set, refl, subst, arith}
+use Rattle.ctf_chains.specs.Places.{Places, places_at, full_work}
+use Rattle.ctf_chains.specs.Search.{busy, owed, work_left}
+
+work_set : (all : Places) (known : List ℕ) (i entry : ℕ) → i < length all → i < length known → work_left all (set known i entry) + owed (places_at all i) (get_or known i 0) ≡ work_left all known + owed (places_at all i) entry
+unfolding work_left
+work_set [] known i entry a b = absurd (omega arith)
+work_set (places ∷ all) [] i entry a b = absurd (omega arith)
+work_set (places ∷ all) (old ∷ known) zero entry a b = omega arith
+work_set (places ∷ all) (old ∷ known) (suc i) entry a b = omega (arith, work_set all known i entry (omega arith) (omega arith))
+
+-- to open a record pays for its places
+pub work_opened : (all : Places) (known : List ℕ) (i : ℕ) → i < length all → i < length known → slice_index_or known i 0 ≡ 0 → work_left all (slice_set known i busy) + (1 + length (places_at all i)) ≡ work_left all known
+work_opened all known i a b is =
+    let P : ℕ → Type 0 = λ v. work_left all (set known i busy) + owed (places_at all i) v ≡ work_left all known + 0 in
+    let h : work_left all (set known i busy) + (1 + length (places_at all i)) ≡ work_left all known + 0 = subst P is (work_set all known i busy a b) in
+    omega arith
+
+-- to close it costs nothing
+pub work_closed : (all : Places) (known : List ℕ) (i d : ℕ) → i < length all → i < length known → work_left all (slice_set known i (d + 1)) ≤ work_left all known
+work_closed all known i d a b =
+    let P : ℕ → Type 0 = λ v. work_left all (set known i v) + owed (places_at all i) (get_or known i 0) ≡ work_left all known + owed (places_at all i) v in
+    let e : d + 1 ≡ suc d = omega arith in
+    let h : work_left all (set known i (suc d)) + owed (places_at all i) (get_or known i 0) ≡ work_left all known + 0 = work_set all known i (suc d) a b in
+    rw e (omega arith)
+
+-- an empty table leaves all the work
+pub all_left : (all : Places) (known : List ℕ) → length known ≡ length all → ((j : ℕ) → slice_index_or known j 0 ≡ 0) → work_left all known ≡ full_work all
+unfolding work_left
+all_left [] known e h = refl
+all_left (places ∷ all) [] e h = absurd (omega arith)
+all_left (places ∷ all) (entry ∷ known) e h =
+    let entry_is : entry ≡ 0 = h 0 in
+    let rest : work_left all known ≡ full_work all = all_left all known (omega arith) (λ j. h (suc j)) in
+    rw (entry_is, rest) refl

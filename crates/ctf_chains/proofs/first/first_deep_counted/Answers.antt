@@ -1,0 +1,23 @@
+use Rattle.std.proofs.Common.{ℕ, ◌+◌, ◌≤◌, List, Option, subst, arith}
+use Rattle.std.proofs.lemmas.Result.{IfOk-weaker}
+use Rattle.ctf_model.specs.Chains.{longest_chain}
+use Rattle.ctf_model.specs.Section.{records}
+use Rattle.ctf_chains.specs.Deep.{IsLeastDeep, IsLeastDeepType}
+use Rattle.ctf_chains.specs.Numbers.{section_places}
+use Rattle.ctf_chains.specs.Places.{steps_between, full_work}
+use Rattle.ctf_chains.proofs.Edges.{steps_are, work_is}
+use Rattle.ctf_chains.proofs.first.first_deep_counted.Goals as goal
+
+pub returns-clause-least : goal.returns-clause-least
+returns-clause-least c =
+    let rs = records c.args.types.now in
+    let P : Option ℕ → Type 0 = IsLeastDeep (steps_between (section_places c.args.chain c.args.child rs)) longest_chain in
+    let Q : Option ℕ → Type 0 = IsLeastDeepType c.args.chain c.args.child rs in
+    IfOk-weaker c.first_deep.result P Q
+    (λ found least t spelled. subst (λ (es : List (List ℕ)). IsLeastDeep es longest_chain found) (steps_are c.args.chain c.args.child t rs c.requires.whole spelled) least)
+    c.first_deep.ensures.least
+
+pub returns-clause-work : goal.returns-clause-work
+returns-clause-work c = λ t spelled.
+    let bound : c.first_deep.new.work ≤ c.args.work.now + full_work (section_places c.args.chain c.args.child (records c.args.types.now)) = c.first_deep.ensures.work in
+    omega (arith, work_is c.args.chain c.args.child t (records c.args.types.now) c.requires.whole spelled)

@@ -1,0 +1,87 @@
+use Rattle.std.proofs.Common.{◌≡◌, ℕ, ◌+◌, ◌-◌, ◌≤◌, length, take, slice_set, ◌++◌, ◌∷◌, [], sym, ◌∙◌, rules, arith}
+use Rattle.std.proofs.Math.ListN.{length-set}
+use Rattle.ctf_chains.specs.Places.{places_at, led_to, steps_between}
+use Rattle.ctf_chains.specs.Search.{IsDepth, busy, work_left}
+use Rattle.ctf_chains.proofs.Depths.{none_yet, one_more, led_more, led_same, is_depth, deep_target}
+use Rattle.ctf_chains.proofs.Visits.{knows_more, cycle_is_deep, on_way_more, none_more, ended}
+use Rattle.ctf_chains.proofs.WorkLeft.{work_opened, work_closed}
+use Rattle.ctf_chains.proofs.search.+depth.Goals as goal
+use Rattle.ctf_chains.proofs.search.+depth.Goals.{in-Some+else-budget-eq0+in-Some-depth, in_default}
+
+pub returns-then-before-clause-answer : goal.returns-then-before-clause-answer
+returns-then-before-clause-answer g t c =
+    cycle_is_deep (steps_between (g.G.Graph.places c.args.graph.now)) c.args.known.now c.args.i c.args.budget c.requires.on_way (search rules)
+
+pub loop-k-init : goal.loop-k-init
+loop-k-init g t c =
+    let opened : work_left (g.G.Graph.places c.args.graph.now) (slice_set c.args.known.now c.args.i busy) + (1 + length (places_at (g.G.Graph.places c.args.graph.now) c.args.i)) ≡ work_left (g.G.Graph.places c.args.graph.now) c.args.known.now =
+    work_opened (g.G.Graph.places c.args.graph.now) c.args.known.now c.args.i (omega arith) (omega arith) (search rules) in
+    record {
+      longest = none_yet (steps_between (g.G.Graph.places c.args.graph.now));
+      affordable = omega arith;
+      knows = knows_more (steps_between (g.G.Graph.places c.args.graph.now)) c.args.known.now c.args.i busy (omega arith) c.requires.knows (λ low high. absurd (omega arith));
+      busy_as_before = record { was = λ j h. h };
+      work = omega arith;
+    }
+
+pub returns-then-budget-eq0-clause-answer : goal.returns-then-budget-eq0-clause-answer
+returns-then-budget-eq0-clause-answer g t c =
+    deep_target (g.G.Graph.places c.args.graph.now) c.args.budget c.args.i c.loop-k.k c.in-Some.j
+    (omega arith) (search rules) (λ le w. omega arith)
+
+pub depth-requires : goal.depth-requires
+depth-requires g t c κs within =
+    (omega arith, (within, (omega (arith, length-set {A = ℕ}), (c.in-Some.ensures.inside, (omega arith, (c.loop-k.invariant.knows, on_way_more (g.G.Graph.places c.args.graph.now) c.args.known.now c.loop-k.known c.args.i c.loop-k.k c.in-Some.j (search rules) (search rules) c.requires.on_way c.loop-k.invariant.busy_as_before))))))
+
+pub returns-in_default-depth-clause-answer : goal.returns-in_default-depth-clause-answer
+returns-in_default-depth-clause-answer g t c =
+    deep_target (g.G.Graph.places c.args.graph.now) c.args.budget c.args.i c.loop-k.k c.in-Some.j
+    (search rules) (search rules) (λ le. c.in_default-depth.ensures.answer)
+
+pub loop-k-preserved : goal.loop-k-preserved
+loop-k-preserved g t c =
+    let es = steps_between (g.G.Graph.places c.args.graph.now) in
+    let ps = places_at (g.G.Graph.places c.args.graph.now) c.args.i in
+    elim c.match-place.branch [
+      | in-Some+else-budget-eq0+in-Some-depth w ↦
+          let seen : led_to (take (c.loop-k.k + 1) ps) ≡ led_to (take c.loop-k.k ps) ++ (w.in-Some.j ∷ []) =
+          led_more ps c.loop-k.k w.in-Some.j (search rules) (search rules) in
+          record {
+            longest = rw (seen, w.longest-is) (one_more es (led_to (take c.loop-k.k ps)) w.in-Some.j w.in-Some-depth.below c.loop-k.longest w.longer-longest.result
+                c.loop-k.invariant.longest w.in-Some-depth.ensures.answer.depth w.longer-longest.ensures.both.0 w.longer-longest.ensures.both.1 w.longer-longest.ensures.one);
+            affordable = omega (arith, w.in-Some-depth.ensures.answer.affordable, w.longer-longest.ensures.one);
+            knows = rw w.known-is w.in-Some-depth.ensures.knows;
+            busy_as_before = rw w.known-is (none_more (slice_set c.args.known.now c.args.i busy) c.loop-k.known w.depth.new.known c.loop-k.invariant.busy_as_before w.in-Some-depth.ensures.answer.ended);
+            work = rw w.known-is (omega (arith, w.in-Some-depth.ensures.work));
+          }
+      | in_default w ↦
+          let seen : led_to (take (c.loop-k.k + 1) ps) ≡ led_to (take c.loop-k.k ps) =
+          led_same ps c.loop-k.k (search rules) (sym c.place.ensures.leads ∙ w.in_default.is) in
+          record {
+            longest = rw (seen, w.longest-is) c.loop-k.invariant.longest;
+            affordable = rw w.longest-is c.loop-k.invariant.affordable;
+            knows = rw w.known-is c.loop-k.invariant.knows;
+            busy_as_before = rw w.known-is c.loop-k.invariant.busy_as_before;
+            work = rw w.known-is (omega arith);
+          }
+    ]
+
+pub returns-clause-knows : goal.returns-clause-knows
+returns-clause-knows g t c =
+    let d : IsDepth (steps_between (g.G.Graph.places c.args.graph.now)) c.args.i c.loop-k.longest =
+    is_depth (g.G.Graph.places c.args.graph.now) c.args.i c.loop-k.k c.loop-k.longest (omega arith) c.loop-k.invariant.longest in
+    let e : (c.loop-k.longest + 1) - 1 ≡ c.loop-k.longest = omega arith in
+    knows_more (steps_between (g.G.Graph.places c.args.graph.now)) c.loop-k.known c.args.i (c.loop-k.longest + 1) (omega (arith, length-set {A = ℕ})) c.loop-k.invariant.knows (λ low high. rw e d)
+
+pub returns-clause-answer : goal.returns-clause-answer
+returns-clause-answer g t c = record {
+  depth = is_depth (g.G.Graph.places c.args.graph.now) c.args.i c.loop-k.k c.loop-k.longest (omega arith) c.loop-k.invariant.longest;
+  affordable = omega arith;
+  ended = ended c.args.known.now c.loop-k.known c.args.i (c.loop-k.longest + 1) (omega (arith, length-set {A = ℕ})) (omega arith) c.loop-k.invariant.busy_as_before;
+}
+
+pub returns-clause-work : goal.returns-clause-work
+returns-clause-work g t c =
+    let closed : work_left (g.G.Graph.places c.args.graph.now) (slice_set c.loop-k.known c.args.i (c.loop-k.longest + 1)) ≤ work_left (g.G.Graph.places c.args.graph.now) c.loop-k.known =
+    work_closed (g.G.Graph.places c.args.graph.now) c.loop-k.known c.args.i c.loop-k.longest (omega arith) (omega (arith, length-set {A = ℕ})) in
+    omega arith

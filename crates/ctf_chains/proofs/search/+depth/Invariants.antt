@@ -1,0 +1,16 @@
+use Rattle.std.proofs.Common.{◌≤◌, ◌-◌, ◌+◌, length, take}
+use Rattle.ctf_chains.specs.Places.{places_at, led_to, steps_between}
+use Rattle.ctf_chains.specs.Search.{IsLongest, Knows, NoneMoreBusy, work_left}
+use Rattle.ctf_chains.proofs.search.+depth.Given as goal
+
+abbrev pub decreases-depth : goal.decreases-depth
+decreases-depth g l = l.budget
+
+abbrev pub invariant-loop-k : goal.invariant-loop-k
+invariant-loop-k g l = record {
+  longest : IsLongest (steps_between (g.G.Graph.places l.graph)) (led_to (take l.k (places_at (g.G.Graph.places l.graph) l.i))) l.longest;
+  affordable : l.longest ≤ l.budget;
+  knows : Knows (steps_between (g.G.Graph.places l.graph)) l.known;
+  busy_as_before : NoneMoreBusy l.initial.known l.known;
+  work : l.work + (length (places_at (g.G.Graph.places l.graph) l.i) - l.k) + work_left (g.G.Graph.places l.graph) l.known ≤ l.fn.work + work_left (g.G.Graph.places l.graph) l.fn.known;
+}

@@ -1,0 +1,32 @@
+use Rattle.std.proofs.Common.{◌≡◌, arith}
+use Rattle.ctf_model.specs.Chains.{IsWithin}
+use Rattle.ctf_chains.specs.Places.{steps_between, full_work}
+use Rattle.ctf_chains.specs.Search.{NoneMoreBusy, work_left}
+use Rattle.ctf_chains.proofs.Visits.{one_more_before, found, empty_knows, on_way_none}
+use Rattle.ctf_chains.proofs.WorkLeft.{all_left}
+use Rattle.ctf_chains.proofs.search.first_of.Goals as goal
+
+pub loop-i-preserved : goal.loop-i-preserved
+loop-i-preserved g c =
+    let f : IsWithin (steps_between (g.G.Graph.places c.args.graph.now)) 512 c.loop-i.i × NoneMoreBusy c.loop-i.known c.depth.new.known =
+    found (steps_between (g.G.Graph.places c.args.graph.now)) 512 c.loop-i.i c.loop-i.known c.depth.new.known c.depth.result c.if-is_none.ensures c.depth.ensures.answer in
+    record {
+      before = one_more_before (steps_between (g.G.Graph.places c.args.graph.now)) 512 c.loop-i.i c.loop-i.invariant.before f.0;
+      knows = c.depth.ensures.knows;
+      none_busy = λ j h. c.loop-i.invariant.none_busy j (f.1.was j h);
+      work = omega arith;
+    }
+
+pub loop-i-init : goal.loop-i-init
+loop-i-init g c =
+    let all : work_left (g.G.Graph.places c.args.graph.now) c.args.known.now ≡ full_work (g.G.Graph.places c.args.graph.now) =
+    all_left (g.G.Graph.places c.args.graph.now) c.args.known.now (omega arith) c.requires.empty in
+    record {
+      before = record { each = λ j h. absurd (omega arith) };
+      knows = empty_knows (steps_between (g.G.Graph.places c.args.graph.now)) c.args.known.now c.requires.empty;
+      none_busy = λ j h. absurd (omega (arith, c.requires.empty j));
+      work = omega arith;
+    }
+
+pub depth-requires-clause-on_way : goal.depth-requires-clause-on_way
+depth-requires-clause-on_way g c = on_way_none (steps_between (g.G.Graph.places c.args.graph.now)) c.loop-i.known c.loop-i.i c.loop-i.invariant.none_busy

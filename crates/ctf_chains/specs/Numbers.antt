@@ -1,0 +1,56 @@
+-- The type numbers that steps lead to, as they stand in records.
+-- Source: ctf(5), "The Type Section"; ctf_stype_t, ctf_member_t, ctf_lmember_t, ctf_array_t of sys/ctf.h.
+use Rattle.std.specs.Prelude.{ℕ, zero, suc, Bool, List, [], ◌∷◌, length, map, drop, Option, Some, None, Result, Ok, Err}
+use Rattle.ctf_model.specs.Bytes.{u16_at}
+use Rattle.ctf_model.specs.Chains.{own_index}
+use Rattle.ctf_model.specs.Record.{kind, field, size, vlen, member_len, behind_head}
+use Rattle.ctf_model.specs.Section.{Piece}
+use Rattle.ctf_model.specs.declared.faults.Fault.{Fault}
+use Rattle.ctf_model.specs.declared.kinds.Kind.{Kind}
+use Rattle.ctf_model.specs.declared.kinds.Kind.TheVariants.{KPointer, KArray, KFunction, KStruct, KUnion, KTypedef, KVolatile, KConst, KRestrict}
+use Rattle.ctf_chains.specs.declared.chain.Chain.{Chain}
+use Rattle.ctf_chains.specs.declared.chain.Chain.TheVariants.{ByValue, Declarator}
+use Rattle.ctf_chains.specs.declared.place.Spot.{Spot}
+use Rattle.ctf_chains.specs.declared.place.Spot.TheVariants.{Nowhere, Head, Contents, Members}
+use Rattle.ctf_chains.specs.Places.{Places}
+
+-- the types of so many members of a length: each stands behind the four bytes of a name
+unfoldable pub member_types : ℕ → ℕ → List ℕ → List ℕ
+member_types len zero b = []
+member_types len (suc n) b = u16_at b 4 ∷ member_types len n (drop len b)
+
+-- where the numbers of a kind stand
+abbrev pub spot : Chain → Kind → Spot
+spot chain KTypedef = Head
+spot chain KVolatile = Head
+spot chain KConst = Head
+spot chain KRestrict = Head
+spot chain KArray = Contents
+spot ByValue KStruct = Members
+spot ByValue KUnion = Members
+spot Declarator KPointer = Head
+spot Declarator KFunction = Head
+spot _ _ = Nowhere
+
+abbrev pub numbers_at : Spot → List ℕ → List ℕ
+numbers_at Nowhere b = []
+numbers_at Head b = field b ∷ []
+numbers_at Contents b = u16_at (behind_head b) 0 ∷ []
+numbers_at Members b = member_types (member_len (size b)) (vlen b) (behind_head b)
+
+abbrev pub numbers_of_kind : Chain → List ℕ → Option Kind → List ℕ
+numbers_of_kind chain b None = []
+numbers_of_kind chain b (Some k) = numbers_at (spot chain k) b
+
+-- the numbers of a record
+abbrev pub numbers : Chain → List ℕ → List ℕ
+numbers chain b = numbers_of_kind chain b (kind b)
+
+-- the own types that a record leads to, where there are so many
+abbrev pub record_places : Chain → Bool → ℕ → Result Piece Fault → List (Option ℕ)
+record_places chain child count (Ok piece) = map (own_index child count) (numbers chain piece.bytes)
+record_places chain child count (Err f) = []
+
+-- the own types that each record of a section leads to
+abbrev pub section_places : Chain → Bool → List (Result Piece Fault) → Places
+section_places chain child pieces = map (record_places chain child (length pieces)) pieces

@@ -1,0 +1,28 @@
+-- Records that lead to each other, by their numbers from 0. Source: ours.
+use Rattle.std.specs.Prelude.{ℕ, ◌+◌, List, [], ◌∷◌, length, map, Option, slice_index_or}
+use Rattle.std.specs.List.{filter_map}
+
+-- the places of each record, with the record that each leads to, or none
+abbrev pub Places : Type 0
+Places = List (List (Option ℕ))
+
+-- the places of one record
+abbrev pub places_at : Places → ℕ → List (Option ℕ)
+places_at all i = slice_index_or all i []
+
+-- the records that places lead to
+abbrev pub led_to : List (Option ℕ) → List ℕ
+led_to places = filter_map (λ place. place) places
+
+-- the records that each record leads to
+abbrev pub steps_between : Places → List (List ℕ)
+steps_between all = map led_to all
+
+-- what a record costs: one to open it, and one for each of its places
+abbrev pub record_work : List (Option ℕ) → ℕ
+record_work places = 1 + length places
+
+-- what all records cost
+abbrev pub full_work : Places → ℕ
+full_work [] = 0
+full_work (places ∷ all) = record_work places + full_work all

@@ -1,0 +1,66 @@
+-- What the search for long chains knows on its way. Source: ours.
+use Rattle.std.specs.Prelude.{◌≡◌, ℕ, zero, suc, ◌+◌, ◌-◌, ◌≤◌, ◌<◌, List, [], ◌∷◌, Option, slice_index_or, MatchOption}
+use Rattle.std.specs.List.{AllByRecursion}
+use Rattle.ctf_model.specs.Chains.{IsWithin}
+use Rattle.ctf_chains.specs.Places.{Places, record_work}
+
+-- ---- depths
+
+-- no chain that steps first to one of these records is longer than so many steps
+unfoldable pub AreWithin : List (List ℕ) → ℕ → List ℕ → Type 0
+AreWithin es zero js = js ≡ []
+AreWithin es (suc k) js = AllByRecursion (IsWithin es k) js
+
+-- the longest chain that steps first to one of these records has d steps
+pub record IsLongest (es : List (List ℕ)) (js : List ℕ) (d : ℕ) : Type 0 where
+  pub within : AreWithin es d js
+  pub least : (k : ℕ) → AreWithin es k js → d ≤ k
+
+-- the longest chain from a record has d steps
+pub record IsDepth (es : List (List ℕ)) (i d : ℕ) : Type 0 where
+  pub within : IsWithin es d i
+  pub least : (k : ℕ) → IsWithin es k i → d ≤ k
+
+-- ---- the table: for each record 0, or busy while its visit is under way, or one more than its depth
+
+abbrev pub busy : ℕ
+busy = 0xffff
+
+-- the depths in the table are right
+pub record Knows (es : List (List ℕ)) (known : List ℕ) : Type 0 where
+  pub right : (j : ℕ) → 1 ≤ slice_index_or known j 0 → slice_index_or known j 0 < busy → IsDepth es j (slice_index_or known j 0 - 1)
+
+-- one step or more lead from j to i, as far as the lengths of chains tell
+pub record Leads (es : List (List ℕ)) (j i : ℕ) : Type 0 where
+  pub on : (k : ℕ) → IsWithin es k j → (m : ℕ) × (m < k) × IsWithin es m i
+
+-- every record whose visit is under way leads to i
+pub record OnWay (es : List (List ℕ)) (known : List ℕ) (i : ℕ) : Type 0 where
+  pub leads : (j : ℕ) → slice_index_or known j 0 ≡ busy → Leads es j i
+
+-- every visit that is under way after was so before
+pub record NoneMoreBusy (before after : List ℕ) : Type 0 where
+  pub was : (j : ℕ) → slice_index_or after j 0 ≡ busy → slice_index_or before j 0 ≡ busy
+
+-- a visit of i that ended with its depth
+pub record Found (es : List (List ℕ)) (budget i : ℕ) (before after : List ℕ) (d : ℕ) : Type 0 where
+  pub depth : IsDepth es i d
+  pub affordable : d ≤ budget
+  pub ended : NoneMoreBusy before after
+
+-- what a visit of i answers: its depth, or none where that is more than the budget
+abbrev pub Answers : List (List ℕ) → ℕ → ℕ → List ℕ → List ℕ → Option ℕ → Type 0
+Answers es budget i before after found = MatchOption found (¬ IsWithin es budget i) (Found es budget i before after)
+
+-- ---- work
+
+-- what a record may still cost: nothing once the table has an entry for it
+abbrev pub owed : List (Option ℕ) → ℕ → ℕ
+owed places zero = record_work places
+owed places (suc entry) = 0
+
+-- what all records may still cost
+unfoldable pub work_left : Places → List ℕ → ℕ
+work_left [] known = 0
+work_left (places ∷ all) [] = 0
+work_left (places ∷ all) (entry ∷ known) = owed places entry + work_left all known

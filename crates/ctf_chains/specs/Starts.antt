@@ -1,0 +1,10 @@
+-- Where the records of a section begin. Source: ours.
+use Rattle.std.specs.Prelude.{ℕ, List, [], ◌∷◌, Result, Ok, Err}
+use Rattle.ctf_model.specs.Section.{Piece}
+use Rattle.ctf_model.specs.declared.faults.Fault.{Fault}
+
+-- the places of the records, in order
+abbrev pub starts_in : List (Result Piece Fault) → List ℕ
+starts_in [] = []
+starts_in (Ok piece ∷ rest) = piece.at ∷ starts_in rest
+starts_in (Err f ∷ rest) = starts_in rest

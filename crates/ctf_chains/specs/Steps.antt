@@ -1,0 +1,25 @@
+-- Steps from type to type, by their sort. Source: ours.
+use Rattle.std.specs.Prelude.{ℕ, ◌+◌, List, [], ◌∷◌, length, sum_by, Result, Ok, Err, IsSome}
+use Rattle.ctf_model.specs.Chains.{by_value, declarator}
+use Rattle.ctf_model.specs.Name.{Tables}
+use Rattle.ctf_model.specs.Section.{Piece}
+use Rattle.ctf_model.specs.Spelling.{term_of}
+use Rattle.ctf_model.specs.Term.{Body, Term}
+use Rattle.ctf_model.specs.declared.faults.Fault.{Fault}
+use Rattle.ctf_chains.specs.declared.chain.Chain.{Chain}
+use Rattle.ctf_chains.specs.declared.chain.Chain.TheVariants.{ByValue, Declarator}
+
+-- the numbers of the types that steps of a sort lead to
+abbrev pub steps : Chain → Body → List ℕ
+steps ByValue = by_value
+steps Declarator = declarator
+
+-- what the types cost: one for each, and one for each number that its steps lead to
+abbrev pub steps_work : (Body → List ℕ) → List Term → ℕ
+steps_work steps types = sum_by (λ x. 1 + length (steps x.body)) types
+
+-- each record spells a type
+abbrev pub AreSpelled : Tables → List (Result Piece Fault) → Type 0
+AreSpelled t [] = Unit {0}
+AreSpelled t (Ok piece ∷ rest) = IsSome (term_of t piece.bytes) × AreSpelled t rest
+AreSpelled t (Err f ∷ rest) = AreSpelled t rest

@@ -1,0 +1,61 @@
+//! The first type of a section that a chain of too many steps begins at.
+ghost use Rattle.std.specs.Prelude.{◌≡◌, ◌+◌, ◌<◌, ◌≤◌, length, IfOk, IfSome, None};
+ghost use Rattle.ctf_model.specs.Section.{terms_in};
+ghost use Rattle.ctf_model.specs.Faults.{walk_fault};
+ghost use Rattle.ctf_model.specs.Name.{Tables};
+ghost use Rattle.ctf_model.specs.Section.{records};
+ghost use Rattle.ctf_chains.specs.Deep.{IsLeastDeepType};
+ghost use Rattle.ctf_chains.specs.Starts.{starts_in};
+ghost use Rattle.ctf_chains.specs.Steps.{AreSpelled, steps, steps_work};
+
+use crate::chain::Chain;
+use crate::search::first_deep;
+use crate::starts::Starts;
+use crate::types::Types;
+use std::alloc::{AllocError, Global};
+
+/// The first own type, from 0, that a chain of more than `LONGEST_CHAIN` steps begins at, if there
+/// is one.
+///
+/// Takes two bytes for each record while it runs. No name is read.
+pub fn first_deep_type(
+    alloc: Global,
+    types: &[u8],
+    starts: &Starts,
+    child: bool,
+    chain: Chain,
+) -> Result<Option<usize>, AllocError>
+    requires whole { walk_fault (records types.now) ≡ None }
+    requires starts { starts.now ≡ starts_in (records types.now) }
+    ensures least { IfOk result (λ found. IsLeastDeepType chain child (records types.now) found) }
+    ensures inside { IfOk result (λ found. IfSome found (λ i. i < length (records types.now))) }
+{
+    let mut work = 0;
+    first_deep_counted(alloc, types, starts, child, chain, &mut work)
+}
+
+/// The same, with what it costs added to `work`: one for each record that it opens, and one for
+/// each type number that it reads.
+pub fn first_deep_counted(
+    alloc: Global,
+    types: &[u8],
+    starts: &Starts,
+    child: bool,
+    chain: Chain,
+    work: &mut u64,
+) -> Result<Option<usize>, AllocError>
+    requires whole { walk_fault (records types.now) ≡ None }
+    requires starts { starts.now ≡ starts_in (records types.now) }
+    ensures least { IfOk result (λ found. IsLeastDeepType chain child (records types.now) found) }
+    ensures inside { IfOk result (λ found. IfSome found (λ i. i < length (records types.now))) }
+    ensures work { (t : Tables) → AreSpelled t (records types.now)
+        → work.new ≤ work.old + steps_work (steps chain) (terms_in t (records types.now)) }
+{
+    let graph = Types {
+        bytes: types,
+        starts,
+        child,
+        chain,
+    };
+    first_deep(alloc, &graph, work)
+}

@@ -1,0 +1,16 @@
+//! Chains of types that are too long: the first type of a dictionary that one begins at.
+#![tactic(auto)]
+
+mod chain;
+mod first;
+mod graph;
+mod place;
+mod search;
+mod starts;
+mod types;
+
+pub use chain::Chain;
+pub use first::{first_deep_counted, first_deep_type};
+pub use graph::Graph;
+pub use search::{LONGEST_CHAIN, first_deep};
+pub use starts::{Starts, record_starts};

@@ -1,0 +1,112 @@
+//! The first record that a chain of too many steps begins at.
+ghost use Rattle.std.specs.Prelude.{◌≡◌, ℕ, ◌+◌, ◌<◌, ◌≤◌, ◌⊎◌, length, IfOk, MatchOption, slice_index_or, IfSome};
+ghost use Rattle.ctf_model.specs.Chains.{longest_chain};
+ghost use Rattle.ctf_chains.specs.Deep.{IsLeastDeep};
+ghost use Rattle.ctf_chains.specs.Places.{steps_between, full_work};
+ghost use Rattle.ctf_chains.specs.Search.{Knows, OnWay, Answers, work_left};
+
+use crate::graph::Graph;
+use std::alloc::{AllocError, Global};
+
+/// The greatest number of steps that a chain may have.
+pub const LONGEST_CHAIN: u16 = 512;
+
+/// The mark of a record whose visit is under way.
+const BUSY: u16 = u16::MAX;
+
+/// The depth of a record that is known, if the budget is enough for it.
+fn within(depth: u16, budget: u16) -> Option<u16>
+    ensures { MatchOption result (budget < depth) (λ same. (same ≡ depth) × (depth ≤ budget)) }
+{
+    if depth <= budget { Some(depth) } else { None }
+}
+
+fn longer(a: u16, b: u16) -> u16
+    ensures both { a ≤ result × b ≤ result }
+    ensures one { (result ≡ a) ⊎ (result ≡ b) }
+{
+    if a < b { b } else { a }
+}
+
+/// The depth of record `i`, which is the length of the longest chain from it, if the budget is
+/// enough for that.
+///
+/// `known` has for each record 0, or `BUSY` while its visit is under way, or one more than its
+/// depth. A busy record that is met again is on a cycle.
+fn depth<G: Graph>(
+    graph: &G,
+    known: &mut [u16],
+    work: &mut u64,
+    i: usize,
+    budget: u16,
+) -> Option<u16>
+    requires same { length known.old ≡ length (G.places graph.now) }
+    requires record { i < length (G.places graph.now) }
+    requires budget { budget ≤ longest_chain }
+    requires knows { Knows (steps_between (G.places graph.now)) known.old }
+    requires on_way { OnWay (steps_between (G.places graph.now)) known.old i }
+    ensures knows { Knows (steps_between (G.places graph.now)) known.new }
+    ensures answer { Answers (steps_between (G.places graph.now)) budget i known.old known.new result }
+    ensures work { work.new + work_left (G.places graph.now) known.new
+        ≤ work.old + work_left (G.places graph.now) known.old }
+{
+    let before = known[i];
+    if before == BUSY {
+        return None;
+    }
+    if before != 0 {
+        return within(before - 1, budget);
+    }
+    known[i] = BUSY;
+    *work = work.saturating_add(1);
+    let mut longest = 0;
+    for k in 0..graph.place_count(i) {
+        *work = work.saturating_add(1);
+        if let Some(j) = graph.place(i, k) {
+            if budget == 0 {
+                return None;
+            }
+            let Some(below) = depth(graph, known, work, j, budget - 1) else {
+                return None;
+            };
+            longest = longer(longest, below + 1);
+        }
+    }
+    known[i] = longest + 1;
+    Some(longest)
+}
+
+/// Looks through the records in turn, with a table that knows nothing yet.
+fn first_of<G: Graph>(graph: &G, known: &mut [u16], work: &mut u64) -> Option<usize>
+    requires same { length known.old ≡ length (G.places graph.now) }
+    requires empty { (j : ℕ) → slice_index_or known.old j 0 ≡ 0 }
+    ensures least { IsLeastDeep (steps_between (G.places graph.now)) longest_chain result }
+    ensures inside { IfSome result (λ i. i < length (G.places graph.now)) }
+    ensures work { work.new ≤ work.old + full_work (G.places graph.now) }
+{
+    for i in 0..graph.len() {
+        if depth(graph, known, work, i, LONGEST_CHAIN).is_none() {
+            return Some(i);
+        }
+    }
+    None
+}
+
+/// The first record that a chain of more than `LONGEST_CHAIN` steps begins at, if there is one. A
+/// cycle of steps is a chain without end.
+///
+/// `work` grows by one for each record that is opened, and by one for each place that is read.
+/// Takes two bytes for each record while it runs.
+pub fn first_deep<G: Graph>(
+    alloc: Global,
+    graph: &G,
+    work: &mut u64,
+) -> Result<Option<usize>, AllocError>
+    ensures least { IfOk result (λ first.
+        IsLeastDeep (steps_between (G.places graph.now)) longest_chain first) }
+    ensures inside { IfOk result (λ first. IfSome first (λ i. i < length (G.places graph.now))) }
+    ensures work { work.new ≤ work.old + full_work (G.places graph.now) }
+{
+    let mut known = vec![in alloc; 0u16; graph.len()]?;
+    Ok(first_of(graph, known.as_mut_slice(), work))
+}

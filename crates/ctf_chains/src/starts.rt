@@ -1,0 +1,59 @@
+//! Where the records of a section begin.
+ghost use Rattle.std.specs.Prelude.{◌≡◌, ◌<◌, ◌^◌, length, slice_get, IfOk, Some, Ok, None};
+ghost use Rattle.ctf_model.specs.Faults.{walk_fault};
+ghost use Rattle.ctf_model.specs.Section.{records};
+ghost use Rattle.ctf_chains.specs.Starts.{starts_in};
+
+use ctf_records::{Record, Records, record_at};
+use std::alloc::{AllocError, Global};
+use std::marker::Model;
+
+/// The places at which the records of a section begin, in order. Each takes four bytes.
+#[derive(Drop)]
+pub struct Starts {
+    places: Vec<u32>,
+}
+
+impl Model for Starts {
+    ghost use Rattle.std.specs.Prelude.{ℕ, List};
+
+    ghost Value = { List ℕ };
+
+    ghost view = { λ s. s.places.items };
+}
+
+impl Starts {
+    ghost use Rattle.ctf_records.specs.RecordView.{piece};
+
+    pub fn len(&self) -> usize
+        ensures { result ≡ length self.now }
+    {
+        self.places.len()
+    }
+
+    /// The record with a number from 0, found without reading those before it.
+    pub fn record<'a>(&self, types: &'a [u8], i: usize) -> Record<'a>
+        requires whole { walk_fault (records types.now) ≡ None }
+        requires starts { self.now ≡ starts_in (records types.now) }
+        requires inside { i < length self.now }
+        ensures { slice_get (records types.now) i ≡ Some (Ok (piece result)) }
+    {
+        let at = self.places[i] as usize;
+        record_at(types, at, i as u64 + 1).unwrap()
+    }
+}
+
+/// Where the records of a section begin, of which there are `count`.
+pub fn record_starts(alloc: Global, types: &[u8], count: usize) -> Result<Starts, AllocError>
+    requires count { count ≡ length (records types.now) }
+    requires short { length types.now < 2 ^ 32 }
+    ensures { IfOk result (λ starts. starts ≡ starts_in (records types.now)) }
+{
+    let mut places = Vec::with_capacity(alloc, count)?;
+    for record in Records::new(types) {
+        if let Ok(record) = record {
+            places.push_reserved(record.place() as u32);
+        }
+    }
+    Ok(Starts { places })
+}
