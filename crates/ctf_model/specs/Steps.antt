@@ -1,5 +1,5 @@
 -- The reply to a request in the library of one session, and what the library is then. Source: ours.
-use Rattle.std.specs.Prelude.{ℕ, ◌+◌, ◌==◌, ◌&&◌, List, [], ◌∷◌, ◌++◌, length, Bool, Option, None, Some, Result, Ok, Err, unwrap_or, nat_lt, nat_le, if◌then◌else◌}
+use Rattle.std.specs.Prelude.{ℕ, ◌+◌, ◌==◌, ◌&&◌, List, [], ◌∷◌, ◌++◌, length, Bool, true, false, Option, None, Some, Result, Ok, Err, unwrap_or, nat_lt, nat_le, if◌then◌else◌}
 use Rattle.std.specs.Option.{option_map}
 use Rattle.ctf_model.specs.Answers.{Answer, Reply}
 use Rattle.ctf_model.specs.Answers as answers
@@ -123,6 +123,14 @@ abbrev pub resets : State → Outcome
 resets state = grants answers.done (record empty_state { published = state.published })
 
 -- ---- every request
+
+-- a question changes nothing; judging the staged lists isn't counted as one, since it may want memory
+abbrev pub is_question : Request → Bool
+is_question (DoPart list piece) = false
+is_question DoCheck = false
+is_question DoOpen = false
+is_question DoReset = false
+is_question _ = true
 
 -- what a take found is read by a take alone; no word takes yet
 unfoldable pub step : State → Request → Option Lists → Outcome

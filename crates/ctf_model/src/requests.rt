@@ -1,4 +1,5 @@
 //! What a session may ask.
+ghost use Rattle.std.specs.Prelude.{◌≡◌};
 
 use crate::bytes::Piece;
 use crate::numbers::{SlotNumber, TypeNum};
@@ -70,4 +71,18 @@ pub enum Request {
         d: SlotNumber,
         t: TypeNum,
     },
+}
+
+impl Request {
+    ghost use Rattle.ctf_model.specs.Steps.{is_question};
+
+    /// Whether it asks for something and changes nothing.
+    pub fn is_question(&self) -> bool
+        ensures { result ≡ is_question self.now }
+    {
+        match self {
+            Request::DoPart { .. } | Request::DoCheck | Request::DoOpen | Request::DoReset => false,
+            _ => true,
+        }
+    }
 }

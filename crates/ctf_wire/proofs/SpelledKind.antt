@@ -6,7 +6,7 @@ use Rattle.ctf_model.specs.Bytes.{u32_at}
 use Rattle.ctf_model.specs.Name.{Tables, name}
 use Rattle.ctf_model.specs.Record.{kind, is_root, field, size}
 use Rattle.ctf_model.specs.Spelling.{◌>>=◌, body_of, term_of, scalar, elements, tag, members, enumerators, arguments}
-use Rattle.ctf_model.specs.Steps.{kind_of}
+use Rattle.ctf_model.specs.Questions.{kind_of}
 use Rattle.ctf_model.specs.Term.{Body, Term}
 use Rattle.ctf_model.specs.Term as term
 use Rattle.ctf_model.specs.declared.kinds.Kind.{Kind}

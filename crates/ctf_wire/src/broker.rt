@@ -1,11 +1,14 @@
 //! The libraries of all sessions.
-ghost use Rattle.std.specs.Prelude.{◌≡◌, ◌≢◌, ℕ, IfOk, Some, OnErr};
+ghost use Rattle.std.specs.Prelude.{◌≡◌, ◌≢◌, ℕ, IfOk, None, Some, true, false, OnErr};
 ghost use Rattle.ctf_model.specs.Runs.{Steps};
 ghost use Rattle.ctf_model.specs.State.{empty_state};
+ghost use Rattle.ctf_model.specs.Steps.{step, is_question, outcome_of};
+ghost use Rattle.ctf_wire.specs.Seen.{outcome_seen, said_to};
 ghost use Rattle.ctf_wire.specs.Table.{library_at, place_of};
 
 use crate::library::Library;
-use ctf_model::{Fault, Reply, Request, placeless};
+use crate::replies::{Answer, Change};
+use ctf_model::{Fault, Request, placeless};
 use std::alloc::{AllocError, Global};
 use std::marker::Model;
 
@@ -48,30 +51,42 @@ impl Broker {
         self.alloc
     }
 
-    /// Answers a request of a session: the session's own library makes its step, and all others stay.
-    pub fn step(&mut self, session: u32, request: &Request) -> Reply
-        requires { session ≢ 0 }
-        ensures { Steps (library_at self.old) session request.now result (library_at self.new) }
+    /// Makes the step of a request that is no question: the session's own library makes it, and all
+    /// others stay.
+    pub fn step(&mut self, session: u32, request: &Request) -> Result<Change, Fault>
+        requires session { session ≢ 0 }
+        requires change { is_question request.now ≡ false }
+        ensures { Steps (library_at self.old) session request.now (said_to session result) (library_at self.new) }
     {
         step_in(self.alloc, &mut self.entries, session, request)
     }
+
+    /// Answers a question of a session. Names and lists are lent from its own library.
+    pub fn answer<'a>(&'a self, session: u32, question: &Request) -> Result<Answer<'a>, Fault>
+        requires { is_question question.now ≡ true }
+        ensures { step (library_at self.now session) question.now None ≡ outcome_of (outcome_seen result) (library_at self.now session) }
+    {
+        match find_place(&self.entries, session) {
+            Some(place) => self.entries[place].library.answer(question),
+            None => Err(placeless(Fault::NO_SLOT)),
+        }
+    }
 }
 
-fn step_in(alloc: Global, entries: &mut Vec<Entry>, session: u32, request: &Request) -> Reply
-    ensures { Steps (library_at entries.old.items) session request.now result (library_at entries.new.items) }
+fn step_in(
+    alloc: Global,
+    entries: &mut Vec<Entry>,
+    session: u32,
+    request: &Request,
+) -> Result<Change, Fault>
+    requires { is_question request.now ≡ false }
+    ensures { Steps (library_at entries.old.items) session request.now (said_to session result) (library_at entries.new.items) }
 {
     let Ok(place) = make_place(alloc, entries, session) else {
-        return Reply {
-            session,
-            outcome: Err(placeless(Fault::MEMORY)),
-        };
+        return Err(placeless(Fault::MEMORY));
     };
     let entry = &mut entries[place];
-    let reply = entry.library.step(request);
-    Reply {
-        session,
-        outcome: reply.outcome,
-    }
+    entry.library.step(request)
 }
 
 /// The place of a session, with an empty library if it is new.

@@ -1,6 +1,7 @@
 //! Lines of requests and replies, the sessions that they belong to, and the run over a reader and a writer.
 #![tactic(auto)]
 
+mod answering;
 mod broker;
 mod engine;
 mod feeding;
@@ -13,6 +14,7 @@ mod pending;
 mod pieces;
 mod readers;
 mod reading;
+mod replies;
 mod run_faults;
 mod sending;
 mod serving;
@@ -27,6 +29,7 @@ pub use library::Library;
 pub use lines::{FromLine, ToLine};
 pub use no_memory::memory_line;
 pub use readers::FromReader;
+pub use replies::{Answer, Change, Detail, Head, Reply};
 pub use run_faults::RunFault;
 pub use serving::{MOST_READS, serve, serve_bounded, serves_each_session_alone};
 pub use sinks::Sink;

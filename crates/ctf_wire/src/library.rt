@@ -1,17 +1,19 @@
 //! The library of one session.
-ghost use Rattle.std.specs.Prelude.{◌≡◌, ◌≢◌, ◌≤◌, ◌<◌, ◌+◌, ◌++◌, length, [], None, Some, Ok, Err, OnErr, IfOk, IfErr, false, unwrap_or, map, option_map, option_copied};
+ghost use Rattle.std.specs.Prelude.{◌≡◌, ◌≢◌, ◌≤◌, ◌<◌, ◌+◌, ◌++◌, length, [], None, Some, Ok, Err, true, OnErr, IfOk, IfErr, false, unwrap_or, map, option_map, option_copied};
 ghost use Rattle.ctf_model.specs.Ask.{placeless};
 ghost use Rattle.ctf_model.specs.Dictionary.{said_by};
 ghost use Rattle.ctf_model.specs.Faults.{first_fault};
 ghost use Rattle.ctf_model.specs.Runs.{Answered, is_no_memory};
 ghost use Rattle.ctf_model.specs.State.{empty_state};
-ghost use Rattle.ctf_model.specs.Steps.{step, slot_at, longest_list};
+ghost use Rattle.ctf_model.specs.Steps.{step, is_question, outcome_of, slot_at, longest_list};
+ghost use Rattle.ctf_wire.specs.Seen.{outcome_seen, said};
 ghost use Rattle.ctf_wire.specs.SlotView.{slot_of, without_symbols};
 ghost use Rattle.ctf_model.specs.declared.faults.TheConstants.Fault.{MEMORY, STAGE_FULL};
 
+use crate::replies::{Answer, Change};
 use crate::slots::{Slot, bytes_or_none, list_bytes};
 use ctf_check::check;
-use ctf_model::{Answer, Bytes, Fault, ListName, Reply, Request, SlotNumber, TypeNum, placeless};
+use ctf_model::{Bytes, Fault, ListName, Request, placeless};
 use std::alloc::Global;
 use std::marker::Model;
 
@@ -41,24 +43,6 @@ impl Model for Library {
     ghost view = { λ l. record { slots = map slot_of l.slots.items; next = l.next; stage = record { ctf = l.ctf; sym = None; strs = l.strs }; published = [] } };
 
     ghost invariant = { λ l. l.next ≤ 2 ^ 32 };
-}
-
-fn granted(answer: Answer) -> Reply
-    ensures { result ≡ record { session = 0; outcome = Ok answer } }
-{
-    Reply {
-        session: 0,
-        outcome: Ok(answer),
-    }
-}
-
-fn refused(fault: Fault) -> Reply
-    ensures { result ≡ record { session = 0; outcome = Err fault } }
-{
-    Reply {
-        session: 0,
-        outcome: Err(fault),
-    }
 }
 
 /// Adds a piece to the end of a staged list, and answers how long it is then.
@@ -134,46 +118,58 @@ impl Library {
         }
     }
 
-    /// Makes the step of a request. The reply names session 0. Want of memory changes nothing.
+    /// Makes the step of a request that is no question. Want of memory changes nothing.
     #[tactic(auto, unfolding(ctf_model::specs::Steps::step))]
-    pub fn step(&mut self, request: &Request) -> Reply
-        ensures { Answered self.old (step self.old request.now None) result self.new }
+    pub fn step(&mut self, request: &Request) -> Result<Change, Fault>
+        requires { is_question request.now ≡ false }
+        ensures { Answered self.old (step self.old request.now None) (said result) self.new }
     {
         match request {
             Request::DoPart { section, bytes } => self.part(*section, bytes.as_slice()),
+            Request::DoCheck => self.check(),
             Request::DoOpen => self.open(),
-            Request::DoKind { d, t } => self.kind(*d, *t),
             Request::DoReset => self.reset(),
+            _ => unreachable!(),
         }
     }
 
     #[tactic(auto, unfolding(ctf_model::specs::Steps::step))]
-    fn part(&mut self, list: ListName, piece: &[u8]) -> Reply
-        ensures { Answered self.old (step self.old (Request.DoPart list piece.now) None) result self.new }
+    fn part(&mut self, list: ListName, piece: &[u8]) -> Result<Change, Fault>
+        ensures { Answered self.old (step self.old (Request.DoPart list piece.now) None) (said result) self.new }
     {
         let added = match list {
             ListName::Ctf => add_piece(self.alloc, &mut self.ctf, piece),
             ListName::Str => add_piece(self.alloc, &mut self.strs, piece),
         };
         match added {
-            Ok(length) => granted(Answer::Length(length)),
-            Err(fault) => refused(fault),
+            Ok(length) => Ok(Change::Staged(length)),
+            Err(fault) => Err(fault),
         }
     }
 
     #[tactic(auto, unfolding(ctf_model::specs::Steps::step))]
-    fn open(&mut self) -> Reply
-        ensures { Answered self.old (step self.old Request.DoOpen None) result self.new }
+    fn check(&self) -> Result<Change, Fault>
+        ensures { Answered self.now (step self.now Request.DoCheck None) (said result) self.now }
+    {
+        match judge_staged(self.alloc, &self.ctf, &self.strs) {
+            Ok(_) => Ok(Change::Done),
+            Err(fault) => Err(fault),
+        }
+    }
+
+    #[tactic(auto, unfolding(ctf_model::specs::Steps::step))]
+    fn open(&mut self) -> Result<Change, Fault>
+        ensures { Answered self.old (step self.old Request.DoOpen None) (said result) self.new }
     {
         if self.slots.len() >= MOST_SLOTS || self.next > u64::from(u32::MAX) {
-            return refused(placeless(Fault::SLOTS_FULL));
+            return Err(placeless(Fault::SLOTS_FULL));
         }
         let types = match judge_staged(self.alloc, &self.ctf, &self.strs) {
             Ok(types) => types,
-            Err(fault) => return refused(fault),
+            Err(fault) => return Err(fault),
         };
         if self.slots.reserve(1).is_err() {
-            return refused(placeless(Fault::MEMORY));
+            return Err(placeless(Fault::MEMORY));
         }
         let number = self.next as u32;
         let ctf = match self.ctf.take() {
@@ -188,33 +184,41 @@ impl Library {
             types,
         });
         self.next += 1;
-        granted(Answer::Opened {
+        Ok(Change::Opened {
             d: number,
             types: types as u64,
         })
     }
 
     #[tactic(auto, unfolding(ctf_model::specs::Steps::step))]
-    fn kind(&self, d: SlotNumber, t: TypeNum) -> Reply
-        ensures { result ≡ (step self.now (Request.DoKind d t) None).reply }
-    {
-        match find_slot(&self.slots, d.get()) {
-            None => refused(placeless(Fault::NO_SLOT)),
-            Some(slot) => Reply {
-                session: 0,
-                outcome: slot.kind(t),
-            },
-        }
-    }
-
-    #[tactic(auto, unfolding(ctf_model::specs::Steps::step))]
-    fn reset(&mut self) -> Reply
-        ensures { Answered self.old (step self.old Request.DoReset None) result self.new }
+    fn reset(&mut self) -> Result<Change, Fault>
+        ensures { Answered self.old (step self.old Request.DoReset None) (said result) self.new }
     {
         self.slots.clear();
         self.next = 1;
         self.ctf = None;
         self.strs = None;
-        granted(Answer::Done)
+        Ok(Change::Done)
+    }
+
+    /// Answers a question. Names and lists are lent from the dictionary of its slot.
+    #[tactic(auto, unfolding(ctf_model::specs::Steps::step))]
+    pub fn answer<'a>(&'a self, question: &Request) -> Result<Answer<'a>, Fault>
+        requires { is_question question.now ≡ true }
+        ensures { step self.now question.now None ≡ outcome_of (outcome_seen result) self.now }
+    {
+        match question {
+            Request::DoKind { d, t }
+            | Request::DoRecord { d, t }
+            | Request::DoMembers { d, t, .. }
+            | Request::DoEnumerators { d, t, .. }
+            | Request::DoArgs { d, t }
+            | Request::DoArray { d, t }
+            | Request::DoEncoding { d, t } => match find_slot(&self.slots, d.get()) {
+                None => Err(placeless(Fault::NO_SLOT)),
+                Some(slot) => slot.answer(*t, question),
+            },
+            _ => unreachable!(),
+        }
     }
 }

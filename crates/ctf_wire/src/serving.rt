@@ -1,8 +1,12 @@
 //! Serves the lines of all sessions.
-ghost use Rattle.std.specs.Prelude.{◌≡◌, ◌≢◌, ℕ, ◌+◌, ◌<◌, ◌≤◌, ◌^◌, ◌++◌, List, true, false, OnOk, Err, vec_len, vec_capacity};
+ghost use Rattle.std.specs.Prelude.{◌≡◌, ◌≢◌, ℕ, ◌+◌, ◌<◌, ◌≤◌, ◌^◌, ◌++◌, ◌⊎◌, List, true, false, OnOk, Err, vec_len, vec_capacity};
 ghost use Rattle.std.specs.Io.KnownBytes.{Consumes, IsAtEnd};
 ghost use Rattle.ctf_model.specs.Lines.{all_lines, whole_lines};
 ghost use Rattle.ctf_model.specs.ReplyLines.{reply_line};
+ghost use Rattle.ctf_model.specs.Answers.{Reply as SaidReply};
+ghost use Rattle.ctf_model.specs.Runs.{Steps, no_memory};
+ghost use Rattle.ctf_wire.specs.Seen.{reply_seen, said_to};
+ghost use Rattle.ctf_wire.specs.Table.{library_at};
 ghost use Rattle.ctf_wire.specs.Pulls.{lines_read};
 ghost use Rattle.ctf_wire.specs.Serving.{BrokerStep, ServesAlone, WritesOut, BreaksOff};
 
@@ -10,20 +14,33 @@ use crate::broker::Broker;
 use crate::engine::answer_bounded;
 use crate::lines::FromLine;
 use crate::machines::Machine;
+use crate::replies::{Change, Reply};
 use crate::run_faults::RunFault;
 use crate::sinks::Sink;
 use crate::sources::Source;
-use crate::writing::write_reply;
-use ctf_model::{Fault, Reply, Request, placeless};
+use crate::writing::{write_change, write_reply};
+use ctf_model::{Fault, Request, placeless};
 use std::alloc::Global;
 
-/// Appends a reply where there is room for any.
-fn append_reply(out: &mut Vec<u8>, reply: &Reply)
+/// Appends the line of a short reply.
+fn append_short(out: &mut Vec<u8>, session: u32, outcome: Result<Change, Fault>)
     requires { vec_len out.old + 96 ≤ vec_capacity out.old }
-    ensures line { out.new.items ≡ out.old.items ++ reply_line reply.now }
+    ensures line { out.new.items ≡ out.old.items ++ reply_line (said_to session outcome) }
     ensures capacity { vec_capacity out.old ≤ vec_capacity out.new }
 {
-    let _ = write_reply(out, reply);
+    let _ = write_change(out, session, outcome);
+}
+
+/// Appends the line of the answer to a question, or that memory for it was refused.
+fn append_answer(out: &mut Vec<u8>, reply: &Reply<'_>)
+    requires { vec_len out.old + 96 ≤ vec_capacity out.old }
+    ensures line { (out.new.items ≡ out.old.items ++ reply_line (reply_seen reply.now))
+        ⊎ (out.new.items ≡ out.old.items ++ reply_line (no_memory reply.now.session)) }
+    ensures capacity { vec_capacity out.old ≤ vec_capacity out.new }
+{
+    if write_reply(out, reply).is_err() {
+        append_short(out, reply.session, Err(placeless(Fault::MEMORY)));
+    }
 }
 
 impl Machine for Broker {
@@ -31,28 +48,29 @@ impl Machine for Broker {
 
     fn step(&mut self, line: &[u8], out: &mut Vec<u8>) {
         match Request::read(self.allocator(), line) {
-            Ok((session, request)) => {
-                let reply = self.step(session, &request);
-                append_reply(out, &reply);
-            }
-            Err((session, fault)) => append_reply(
-                out,
-                &Reply {
-                    session,
-                    outcome: Err(fault),
-                },
-            ),
+            Ok((session, request)) => answer_request(self, session, &request, out),
+            Err((session, fault)) => append_short(out, session, Err(fault)),
         }
     }
 
     fn step_too_long(&mut self, out: &mut Vec<u8>) {
-        append_reply(
-            out,
-            &Reply {
-                session: 0,
-                outcome: Err(placeless(Fault::LONG_LINE)),
-            },
-        );
+        append_short(out, 0, Err(placeless(Fault::LONG_LINE)));
+    }
+}
+
+/// Answers a request of a session.
+fn answer_request(broker: &mut Broker, session: u32, request: &Request, out: &mut Vec<u8>)
+    requires session { session ≢ 0 }
+    requires room { vec_len out.old + 96 ≤ vec_capacity out.old }
+    ensures capacity { vec_capacity out.old ≤ vec_capacity out.new }
+    ensures reply { (reply : SaidReply) × Steps (library_at broker.old) session request.now reply (library_at broker.new) × (out.new.items ≡ out.old.items ++ reply_line reply) }
+{
+    if request.is_question() {
+        let outcome = broker.answer(session, request);
+        append_answer(out, &Reply { session, outcome });
+    } else {
+        let outcome = broker.step(session, request);
+        append_short(out, session, outcome);
     }
 }
 

@@ -2,15 +2,16 @@
 ghost use Rattle.std.specs.Prelude.{◌≡◌, length, None, Option, Ok, Err, Some, [], unwrap_or, option_copied};
 ghost use Rattle.ctf_model.specs.Dictionary.{said_by};
 ghost use Rattle.ctf_model.specs.Faults.{first_fault};
-ghost use Rattle.ctf_model.specs.Record.{kind as kind_in};
-ghost use Rattle.ctf_model.specs.Steps.{kind_said};
-ghost use Rattle.ctf_model.specs.TypeNumbers.{type_at, no_type, no_parent};
+ghost use Rattle.ctf_model.specs.Questions.{type_question};
+ghost use Rattle.ctf_wire.specs.Asked.{said_on};
+ghost use Rattle.ctf_wire.specs.Seen.{outcome_seen};
 ghost use Rattle.ctf_check.specs.CheckedView.{lists_of, dictionary_of};
 ghost use Rattle.ctf_check.specs.ListsView.{lists_in};
-ghost use Rattle.ctf_wire.specs.TypeIndex.{own_index, own_type, kind_or_no_type, kind_at};
 
+use crate::answering::answer_on;
+use crate::replies::Answer;
 use ctf_check::{Checked, LentLists};
-use ctf_model::{Answer, Bytes, Fault, Kind, TypeNum, placeless};
+use ctf_model::{Bytes, Fault, Request, TypeNum};
 
 /// A dictionary that was opened, under its number.
 #[derive(Drop)]
@@ -44,44 +45,9 @@ pub(crate) fn bytes_or_none(list: &Option<Bytes>) -> &[u8]
     }
 }
 
-/// The index of an own type, from 1 on, which may be past the last.
-fn index_of(child: bool, number: u16) -> Result<usize, Fault>
-    ensures { result ≡ own_index child number }
-{
-    if !child {
-        Ok(number as usize)
-    } else if number > 0x8000 {
-        Ok(number as usize - 0x8000)
-    } else if number == 0 || number == 0x8000 {
-        Err(placeless(Fault::NO_TYPE))
-    } else {
-        Err(placeless(Fault::NO_PARENT))
-    }
-}
-
-/// The kind of an own type.
-fn own_kind(dictionary: &Checked<'_>, index: usize) -> Result<Kind, Fault>
-    ensures { result ≡ kind_or_no_type (own_type (dictionary_of dictionary.now).terms index) }
-{
-    match dictionary.term(index) {
-        Some(record) => Ok(record.kind()),
-        None => Err(placeless(Fault::NO_TYPE)),
-    }
-}
-
-/// The kind of a type of a dictionary without a parent.
-fn kind_of(dictionary: &Checked<'_>, t: TypeNum) -> Result<Kind, Fault>
-    ensures { result ≡ kind_at (dictionary_of dictionary.now) t.0 }
-{
-    match index_of(dictionary.child(), t.0) {
-        Ok(index) => own_kind(dictionary, index),
-        Err(fault) => Err(fault),
-    }
-}
-
 impl Slot {
     ghost use Rattle.ctf_wire.specs.SlotView.{slot_of};
-    ghost use Rattle.ctf_model.specs.Steps.{kind_question};
+    ghost use Rattle.ctf_model.specs.Steps.{slot_type};
 
     /// The lists of its dictionary, lent.
     fn lists(&self) -> LentLists<'_>
@@ -94,21 +60,11 @@ impl Slot {
         }
     }
 
-    /// The kind of a type.
-    fn kind_of_type(&self, t: TypeNum) -> Result<Kind, Fault>
-        ensures { result ≡ kind_at (said_by (slot_of self.now).lists) t.0 }
+    /// What a question on a type is answered.
+    pub(crate) fn answer<'a>(&'a self, t: TypeNum, question: &Request) -> Result<Answer<'a>, Fault>
+        ensures { outcome_seen result ≡ type_question (said_on question.now) (slot_type t.0 (slot_of self.now)) }
     {
         let dictionary = Checked::again(self.lists(), self.types);
-        kind_of(&dictionary, t)
-    }
-
-    /// What a question for the kind of a type is answered.
-    pub(crate) fn kind(&self, t: TypeNum) -> Result<Answer, Fault>
-        ensures { result ≡ kind_question t.0 (slot_of self.now) }
-    {
-        match self.kind_of_type(t) {
-            Ok(kind) => Ok(Answer::Kind(kind)),
-            Err(fault) => Err(fault),
-        }
+        answer_on(dictionary, t, question)
     }
 }

@@ -1,9 +1,0 @@
-use Rattle.std.proofs.Common.{arith}
-use Rattle.ctf_wire.proofs.Short.{decimal_32, decimal_64}
-use Rattle.ctf_wire.proofs.writing.write_length.Goals as goal
-
-pub put_short_line-requires : goal.put_short_line-requires
-put_short_line-requires c =
-    let n = decimal_64 c.args.staged (omega arith) in
-    let s = decimal_32 c.from.result (omega arith) in
-    omega (arith, n, s)
