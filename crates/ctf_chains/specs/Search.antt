@@ -1,5 +1,5 @@
 -- What the search for long chains knows on its way. Source: ours.
-use Rattle.std.specs.Prelude.{◌≡◌, ℕ, zero, suc, ◌+◌, ◌-◌, ◌≤◌, ◌<◌, List, [], ◌∷◌, Option, slice_index_or, MatchOption}
+use Rattle.std.specs.Prelude.{◌≡◌, ℕ, zero, suc, ◌+◌, ◌-◌, ◌≤◌, ◌<◌, ◌^◌, min, List, [], ◌∷◌, Option, slice_index_or, MatchOption}
 use Rattle.std.specs.List.{AllByRecursion}
 use Rattle.ctf_model.specs.Chains.{IsWithin}
 use Rattle.ctf_chains.specs.Places.{Places, record_work}
@@ -38,21 +38,27 @@ pub record Leads (es : List (List ℕ)) (j i : ℕ) : Type 0 where
 pub record OnWay (es : List (List ℕ)) (known : List ℕ) (i : ℕ) : Type 0 where
   pub leads : (j : ℕ) → slice_index_or known j 0 ≡ busy → Leads es j i
 
--- every visit that is under way after was so before
-pub record NoneMoreBusy (before after : List ℕ) : Type 0 where
+-- every visit that is under way after was so before, and no entry is lost
+pub record GoesOn (before after : List ℕ) : Type 0 where
   pub was : (j : ℕ) → slice_index_or after j 0 ≡ busy → slice_index_or before j 0 ≡ busy
+  pub stays : (j : ℕ) → 1 ≤ slice_index_or before j 0 → 1 ≤ slice_index_or after j 0
 
 -- a visit of i that ended with its depth
 pub record Found (es : List (List ℕ)) (budget i : ℕ) (before after : List ℕ) (d : ℕ) : Type 0 where
   pub depth : IsDepth es i d
   pub affordable : d ≤ budget
-  pub ended : NoneMoreBusy before after
+  pub entered : 1 ≤ slice_index_or after i 0
+  pub ended : GoesOn before after
 
 -- what a visit of i answers: its depth, or none where that is more than the budget
 abbrev pub Answers : List (List ℕ) → ℕ → ℕ → List ℕ → List ℕ → Option ℕ → Type 0
 Answers es budget i before after found = MatchOption found (¬ IsWithin es budget i) (Found es budget i before after)
 
 -- ---- work
+
+-- a count that stops at the greatest number of 64 bits
+abbrev pub capped : ℕ → ℕ
+capped n = min n (2 ^ 64 - 1)
 
 -- what a record may still cost: nothing once the table has an entry for it
 abbrev pub owed : List (Option ℕ) → ℕ → ℕ

@@ -1,10 +1,11 @@
 //! The first type of a section that a chain of too many steps begins at.
-ghost use Rattle.std.specs.Prelude.{◌≡◌, ◌+◌, ◌≤◌, IfOk, None};
+ghost use Rattle.std.specs.Prelude.{◌≡◌, ◌+◌, ◌≤◌, IfOk, None, Ok};
 ghost use Rattle.ctf_model.specs.Dictionary.{terms_in};
 ghost use Rattle.ctf_model.specs.Faults.{walk_fault};
 ghost use Rattle.ctf_model.specs.Name.{Tables};
 ghost use Rattle.ctf_model.specs.Section.{records};
 ghost use Rattle.ctf_chains.specs.Deep.{IsLeastDeepType};
+ghost use Rattle.ctf_chains.specs.Search.{capped};
 ghost use Rattle.ctf_chains.specs.Starts.{starts_in};
 ghost use Rattle.ctf_chains.specs.Steps.{AreSpelled, steps, steps_work};
 
@@ -48,6 +49,8 @@ pub fn first_deep_counted(
     ensures least { IfOk result (λ found. IsLeastDeepType chain child (records types.now) found) }
     ensures work { (t : Tables) → AreSpelled t (records types.now)
         → work.new ≤ work.old + steps_work (steps chain) (terms_in t (records types.now)) }
+    ensures once { result ≡ Ok None → (t : Tables) → AreSpelled t (records types.now)
+        → capped work.new ≡ capped (work.old + steps_work (steps chain) (terms_in t (records types.now))) }
 {
     let graph = Types {
         bytes: types,
