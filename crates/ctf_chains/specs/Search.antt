@@ -1,5 +1,5 @@
 -- What the search for long chains knows on its way. Source: ours.
-use Rattle.std.specs.Prelude.{◌≡◌, ℕ, zero, suc, ◌+◌, ◌-◌, ◌≤◌, ◌<◌, ◌^◌, min, List, [], ◌∷◌, Option, slice_index_or, MatchOption}
+use Rattle.std.specs.Prelude.{◌≡◌, ℕ, zero, suc, ◌+◌, ◌-◌, ◌≤◌, ◌<◌, List, [], ◌∷◌, Option, slice_index_or, MatchOption}
 use Rattle.std.specs.List.{AllByRecursion}
 use Rattle.ctf_model.specs.Chains.{IsWithin}
 use Rattle.ctf_chains.specs.Places.{Places, record_work}
@@ -55,10 +55,6 @@ abbrev pub Answers : List (List ℕ) → ℕ → ℕ → List ℕ → List ℕ �
 Answers es budget i before after found = MatchOption found (¬ IsWithin es budget i) (Found es budget i before after)
 
 -- ---- work
-
--- a count that stops at the greatest number of 64 bits
-abbrev pub capped : ℕ → ℕ
-capped n = min n (2 ^ 64 - 1)
 
 -- what a record may still cost: nothing once the table has an entry for it
 abbrev pub owed : List (Option ℕ) → ℕ → ℕ

@@ -5,7 +5,7 @@ ghost use Rattle.ctf_model.specs.Faults.{walk_fault};
 ghost use Rattle.ctf_model.specs.Name.{Tables};
 ghost use Rattle.ctf_model.specs.Section.{records};
 ghost use Rattle.ctf_chains.specs.Deep.{IsLeastDeepType};
-ghost use Rattle.ctf_chains.specs.Search.{capped};
+ghost use Rattle.ctf_chains.specs.Places.{capped};
 ghost use Rattle.ctf_chains.specs.Starts.{starts_in};
 ghost use Rattle.ctf_chains.specs.Steps.{AreSpelled, steps, steps_work};
 

@@ -2,8 +2,8 @@
 ghost use Rattle.std.specs.Prelude.{◌≡◌, ℕ, ◌+◌, ◌<◌, ◌≤◌, ◌⊎◌, length, IfOk, IsSome, None, Ok, MatchOption, slice_index_or};
 ghost use Rattle.ctf_model.specs.Chains.{longest_chain};
 ghost use Rattle.ctf_chains.specs.Deep.{IsLeastDeep};
-ghost use Rattle.ctf_chains.specs.Places.{steps_between, full_work};
-ghost use Rattle.ctf_chains.specs.Search.{Knows, OnWay, Answers, capped, work_left};
+ghost use Rattle.ctf_chains.specs.Places.{capped, full_work, steps_between};
+ghost use Rattle.ctf_chains.specs.Search.{Knows, OnWay, Answers, work_left};
 
 use crate::graph::Graph;
 use std::alloc::{AllocError, Global};

@@ -6,6 +6,7 @@ ghost use Rattle.ctf_model.specs.Section.{records};
 use crate::{Chain, Graph, first_deep, first_deep_counted, first_deep_type, record_starts};
 use ctf_records::Records;
 use std::alloc::{AllocError, Global};
+use std::process::Abort;
 use std::test::Fail;
 
 const INTEGER: u16 = 1;
@@ -113,6 +114,7 @@ fn whole_count(types: &[u8]) -> Option<usize>
 
 /// The first type that a chain of a sort is too long from, and what it took to find it.
 fn first(
+    rt: &impl Abort,
     alloc: Global,
     section: &Section,
     child: bool,
@@ -120,17 +122,16 @@ fn first(
 ) -> Result<(Option<usize>, u64), Fail> {
     let types = section.bytes.as_slice();
     let Some(count) = whole_count(types) else {
-        return Err(Fail::from(AllocError));
+        panic!(rt; "each record is whole")
     };
-    if types.len() >= 0x1_0000_0000 {
-        return Err(Fail::from(AllocError));
-    }
+    assert!(rt; types.len() < 0x1_0000_0000);
     let starts = record_starts(alloc, types, count)?;
     let mut work = 0;
     let found = first_deep_counted(alloc, types, &starts, child, chain, &mut work)?;
-    if first_deep_type(alloc, types, &starts, child, chain)? != found {
-        return Err(Fail::from(AllocError));
-    }
+    assert_eq!(rt;
+        first_deep_type(alloc, types, &starts, child, chain)?,
+        found
+    );
     Ok((found, work))
 }
 
@@ -152,7 +153,7 @@ fn lines(rt: HostRuntime) -> Result<(), Fail> {
             section.line(kind, count, 1)?;
             section.integer()?;
             assert_eq!(rt;
-                first(rt.alloc(), &section, false, chain)?.0,
+                first(&rt, rt.alloc(), &section, false, chain)?.0,
                 found,
                 "kind {kind}, {count} steps"
             );
@@ -165,18 +166,18 @@ fn lines(rt: HostRuntime) -> Result<(), Fail> {
 fn no_steps(rt: HostRuntime) -> Result<(), Fail> {
     let empty = Section::new(rt.alloc());
     assert_eq!(rt;
-        first(rt.alloc(), &empty, false, Chain::ByValue)?,
+        first(&rt, rt.alloc(), &empty, false, Chain::ByValue)?,
         (None, 0)
     );
     // a line of pointers is no chain by value, and no type is behind its end
     let mut section = Section::new(rt.alloc());
     section.line(POINTER, 600, 1)?;
     assert_eq!(rt;
-        first(rt.alloc(), &section, false, Chain::ByValue)?,
+        first(&rt, rt.alloc(), &section, false, Chain::ByValue)?,
         (None, 600)
     );
     assert_eq!(rt;
-        first(rt.alloc(), &section, false, Chain::Declarator)?.0,
+        first(&rt, rt.alloc(), &section, false, Chain::Declarator)?.0,
         Some(0)
     );
     Ok(())
@@ -190,7 +191,7 @@ fn lines_against_the_order(rt: HostRuntime) -> Result<(), Fail> {
         section.head(TYPEDEF, 0, number)?;
     }
     assert_eq!(rt;
-        first(rt.alloc(), &section, false, Chain::ByValue)?,
+        first(&rt, rt.alloc(), &section, false, Chain::ByValue)?,
         (Some(513), 1028)
     );
     Ok(())
@@ -210,12 +211,12 @@ fn fans(rt: HostRuntime) -> Result<(), Fail> {
         section.line(CONST, count, 2)?;
         section.integer()?;
         assert_eq!(rt;
-            first(rt.alloc(), &section, false, Chain::ByValue)?.0,
+            first(&rt, rt.alloc(), &section, false, Chain::ByValue)?.0,
             found,
             "size {size}, {count} steps behind"
         );
         assert_eq!(rt;
-            first(rt.alloc(), &section, false, Chain::Declarator)?.0,
+            first(&rt, rt.alloc(), &section, false, Chain::Declarator)?.0,
             None
         );
     }
@@ -228,7 +229,7 @@ fn fans(rt: HostRuntime) -> Result<(), Fail> {
         section.line(POINTER, count, 1001)?;
         section.integer()?;
         assert_eq!(rt;
-            first(rt.alloc(), &section, false, Chain::Declarator)?.0,
+            first(&rt, rt.alloc(), &section, false, Chain::Declarator)?.0,
             found,
             "{count} steps behind"
         );
@@ -245,12 +246,12 @@ fn unions_of_two_members_a_level(rt: HostRuntime) -> Result<(), Fail> {
         section.composite(UNION, 4, &[number, number])?;
     }
     assert_eq!(rt;
-        first(rt.alloc(), &section, false, Chain::ByValue)?,
+        first(&rt, rt.alloc(), &section, false, Chain::ByValue)?,
         (None, 1537)
     );
     section.composite(UNION, 4, &[513, 513])?;
     assert_eq!(rt;
-        first(rt.alloc(), &section, false, Chain::ByValue)?.0,
+        first(&rt, rt.alloc(), &section, false, Chain::ByValue)?.0,
         Some(513)
     );
     Ok(())
@@ -269,7 +270,7 @@ fn cycles(rt: HostRuntime) -> Result<(), Fail> {
             section.line(kind, count, 2)?;
             section.head(kind, 0, 2)?;
             assert_eq!(rt;
-                first(rt.alloc(), &section, false, chain)?.0,
+                first(&rt, rt.alloc(), &section, false, chain)?.0,
                 Some(1),
                 "kind {kind}, {count}"
             );
@@ -281,7 +282,7 @@ fn cycles(rt: HostRuntime) -> Result<(), Fail> {
     section.head(CONST, 0, 3)?;
     section.head(TYPEDEF, 0, 3)?;
     assert_eq!(rt;
-        first(rt.alloc(), &section, false, Chain::ByValue)?.0,
+        first(&rt, rt.alloc(), &section, false, Chain::ByValue)?.0,
         Some(1)
     );
     Ok(())
@@ -294,11 +295,11 @@ fn cycles_through_arrays(rt: HostRuntime) -> Result<(), Fail> {
     section.composite(STRUCT, 8, &[1, 3])?;
     section.array(2, 1)?;
     assert_eq!(rt;
-        first(rt.alloc(), &section, false, Chain::ByValue)?.0,
+        first(&rt, rt.alloc(), &section, false, Chain::ByValue)?.0,
         Some(1)
     );
     assert_eq!(rt;
-        first(rt.alloc(), &section, false, Chain::Declarator)?.0,
+        first(&rt, rt.alloc(), &section, false, Chain::Declarator)?.0,
         None
     );
     // the index of an array is no step
@@ -306,11 +307,11 @@ fn cycles_through_arrays(rt: HostRuntime) -> Result<(), Fail> {
     indexed.integer()?;
     indexed.array(1, 2)?;
     assert_eq!(rt;
-        first(rt.alloc(), &indexed, false, Chain::ByValue)?,
+        first(&rt, rt.alloc(), &indexed, false, Chain::ByValue)?,
         (None, 3)
     );
     assert_eq!(rt;
-        first(rt.alloc(), &indexed, false, Chain::Declarator)?,
+        first(&rt, rt.alloc(), &indexed, false, Chain::Declarator)?,
         (None, 3)
     );
     Ok(())
@@ -321,9 +322,12 @@ fn cycles_through_pointers_and_functions(rt: HostRuntime) -> Result<(), Fail> {
     let mut section = Section::new(rt.alloc());
     section.head(TYPEDEF, 0, 2)?;
     section.head(POINTER, 0, 1)?;
-    assert_eq!(rt; first(rt.alloc(), &section, false, Chain::ByValue)?.0, None);
     assert_eq!(rt;
-        first(rt.alloc(), &section, false, Chain::Declarator)?.0,
+        first(&rt, rt.alloc(), &section, false, Chain::ByValue)?.0,
+        None
+    );
+    assert_eq!(rt;
+        first(&rt, rt.alloc(), &section, false, Chain::Declarator)?.0,
         Some(0)
     );
     // what a function returns is a step of a declarator, and its arguments are none
@@ -331,18 +335,18 @@ fn cycles_through_pointers_and_functions(rt: HostRuntime) -> Result<(), Fail> {
     returned.integer()?;
     returned.function(2, 1)?;
     assert_eq!(rt;
-        first(rt.alloc(), &returned, false, Chain::ByValue)?.0,
+        first(&rt, rt.alloc(), &returned, false, Chain::ByValue)?.0,
         None
     );
     assert_eq!(rt;
-        first(rt.alloc(), &returned, false, Chain::Declarator)?.0,
+        first(&rt, rt.alloc(), &returned, false, Chain::Declarator)?.0,
         Some(1)
     );
     let mut taken = Section::new(rt.alloc());
     taken.integer()?;
     taken.function(1, 2)?;
     assert_eq!(rt;
-        first(rt.alloc(), &taken, false, Chain::Declarator)?.0,
+        first(&rt, rt.alloc(), &taken, false, Chain::Declarator)?.0,
         None
     );
     Ok(())
@@ -353,21 +357,33 @@ fn numbers_of_a_child(rt: HostRuntime) -> Result<(), Fail> {
     // low numbers are a parent's
     let mut low = Section::new(rt.alloc());
     low.head(TYPEDEF, 0, 1)?;
-    assert_eq!(rt; first(rt.alloc(), &low, true, Chain::ByValue)?, (None, 2));
-    assert_eq!(rt; first(rt.alloc(), &low, false, Chain::ByValue)?.0, Some(0));
+    assert_eq!(rt;
+        first(&rt, rt.alloc(), &low, true, Chain::ByValue)?,
+        (None, 2)
+    );
+    assert_eq!(rt;
+        first(&rt, rt.alloc(), &low, false, Chain::ByValue)?.0,
+        Some(0)
+    );
     // its own begin at 0x8001, which is no type where there is no parent
     let mut own = Section::new(rt.alloc());
     own.integer()?;
     own.head(TYPEDEF, 0, 0x8002)?;
-    assert_eq!(rt; first(rt.alloc(), &own, true, Chain::ByValue)?.0, Some(1));
-    assert_eq!(rt; first(rt.alloc(), &own, false, Chain::ByValue)?.0, None);
+    assert_eq!(rt;
+        first(&rt, rt.alloc(), &own, true, Chain::ByValue)?.0,
+        Some(1)
+    );
+    assert_eq!(rt;
+        first(&rt, rt.alloc(), &own, false, Chain::ByValue)?.0,
+        None
+    );
     // 0x8000 is a parent's too, and 0x8003 is none's
     for number in [0, 0x8000, 0x8003, 0xffff] {
         let mut outside = Section::new(rt.alloc());
         outside.head(TYPEDEF, 0, number)?;
         outside.head(TYPEDEF, 0, 0x8001)?;
         assert_eq!(rt;
-            first(rt.alloc(), &outside, true, Chain::ByValue)?.0,
+            first(&rt, rt.alloc(), &outside, true, Chain::ByValue)?.0,
             None,
             "number {number}"
         );

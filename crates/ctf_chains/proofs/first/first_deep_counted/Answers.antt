@@ -4,8 +4,7 @@ use Rattle.ctf_model.specs.Chains.{longest_chain}
 use Rattle.ctf_model.specs.Section.{records}
 use Rattle.ctf_chains.specs.Deep.{IsLeastDeep, IsLeastDeepType}
 use Rattle.ctf_chains.specs.Numbers.{section_places}
-use Rattle.ctf_chains.specs.Places.{steps_between, full_work}
-use Rattle.ctf_chains.specs.Search.{capped}
+use Rattle.ctf_chains.specs.Places.{capped, full_work, steps_between}
 use Rattle.ctf_chains.proofs.Edges.{steps_are, work_is}
 use Rattle.ctf_chains.proofs.first.first_deep_counted.Goals as goal
 

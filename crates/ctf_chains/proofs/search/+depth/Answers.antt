@@ -1,4 +1,4 @@
-use Rattle.std.proofs.Common.{◌≡◌, ℕ, ◌+◌, ◌-◌, ◌≤◌, length, take, slice_index_or, slice_set, ◌++◌, ◌∷◌, [], refl, sym, ◌∙◌, rules, arith}
+use Rattle.std.proofs.Common.{◌≡◌, ℕ, ◌+◌, ◌-◌, ◌≤◌, length, take, slice_index_or, slice_set, ◌++◌, ◌∷◌, [], refl, rules, arith}
 use Rattle.std.proofs.lemmas.Grind.{get_or-set_at}
 use Rattle.std.proofs.Math.ListN.{length-set}
 use Rattle.ctf_chains.specs.Places.{places_at, led_to, steps_between}
@@ -59,7 +59,7 @@ loop-k-preserved g t c =
           }
       | in_default w ↦
           let seen : led_to (take (c.loop-k.k + 1) ps) ≡ led_to (take c.loop-k.k ps) =
-          led_same ps c.loop-k.k (search rules) (sym c.place.ensures.leads ∙ w.in_default.is) in
+          led_same ps c.loop-k.k (search rules) (search rules) in
           record {
             longest = rw (seen, w.longest-is) c.loop-k.invariant.longest;
             affordable = rw w.longest-is c.loop-k.invariant.affordable;

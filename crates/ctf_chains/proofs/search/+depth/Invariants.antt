@@ -1,6 +1,6 @@
 use Rattle.std.proofs.Common.{◌≡◌, ◌≤◌, ◌-◌, ◌+◌, length, take}
-use Rattle.ctf_chains.specs.Places.{places_at, led_to, steps_between}
-use Rattle.ctf_chains.specs.Search.{IsLongest, Knows, GoesOn, capped, work_left}
+use Rattle.ctf_chains.specs.Places.{capped, places_at, led_to, steps_between}
+use Rattle.ctf_chains.specs.Search.{IsLongest, Knows, GoesOn, work_left}
 use Rattle.ctf_chains.proofs.search.+depth.Given as goal
 
 abbrev pub decreases-depth : goal.decreases-depth

@@ -1,7 +1,7 @@
 use Rattle.std.proofs.Common.{◌≡◌, ℕ, ◌≤◌, ◌<◌, ◌+◌, slice_index_or}
 use Rattle.ctf_chains.specs.Deep.{AreWithinBefore}
-use Rattle.ctf_chains.specs.Places.{steps_between, full_work}
-use Rattle.ctf_chains.specs.Search.{Knows, busy, capped, work_left}
+use Rattle.ctf_chains.specs.Places.{capped, full_work, steps_between}
+use Rattle.ctf_chains.specs.Search.{Knows, busy, work_left}
 use Rattle.ctf_chains.proofs.search.first_of.Given as goal
 
 abbrev pub invariant-loop-i : goal.invariant-loop-i
