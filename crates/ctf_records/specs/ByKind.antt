@@ -1,4 +1,4 @@
--- Which kinds say what. Source: ctf(5), "The Type Section": cts_size or cts_type by kind, and what stands behind the head.
+-- Which kinds say what. Source: ctf(5), "The Type Section": whether ctt_size or ctt_type is meant, and what stands behind the head, go by kind.
 use Rattle.std.specs.Prelude.{ℕ, List, Option, Some, None}
 use Rattle.std.specs.Option.{option_and_then}
 use Rattle.ctf_model.specs.Record.{kind, field, size, vlen, variant_len}
@@ -42,25 +42,29 @@ listed_of_kind KUnion b = vlen b
 listed_of_kind KEnum b = vlen b
 listed_of_kind _ b = 0
 
--- ---- of a record
+-- ---- of the record that begins these bytes; none or 0 where its kind isn't known
 
-abbrev pub size_in : List ℕ → Option ℕ
-size_in b = option_and_then (λ k. size_of_kind k b) (kind b)
-
-abbrev pub reference_in : List ℕ → Option ℕ
-reference_in b = option_and_then (λ k. reference_of_kind k b) (kind b)
-
-abbrev pub declared_in : List ℕ → Option Tag
-declared_in b = option_and_then (λ k. declared_of_kind k b) (kind b)
-
--- 0 or what is listed
+-- what a function says of a kind
 abbrev pub at_kind : (Kind → ℕ) → Option Kind → ℕ
 at_kind f None = 0
 at_kind f (Some k) = f k
 
+-- its size, if its kind says one
+abbrev pub size_in : List ℕ → Option ℕ
+size_in b = option_and_then (λ k. size_of_kind k b) (kind b)
+
+-- the type that its head names, if its kind names one there
+abbrev pub reference_in : List ℕ → Option ℕ
+reference_in b = option_and_then (λ k. reference_of_kind k b) (kind b)
+
+-- what it declares, if it is a forward
+abbrev pub declared_in : List ℕ → Option Tag
+declared_in b = option_and_then (λ k. declared_of_kind k b) (kind b)
+
+-- how many arguments, members or enumerators it lists
 abbrev pub listed : List ℕ → ℕ
 listed b = at_kind (λ k. listed_of_kind k b) (kind b)
 
--- how many bytes stand behind the head
+-- how many bytes stand behind its head
 abbrev pub len_behind : List ℕ → ℕ
 len_behind b = at_kind (λ k. variant_len k (size b) (vlen b)) (kind b)

@@ -1,4 +1,4 @@
--- What a lent record shows.
+-- What a lent record shows. The words are ours; what its bytes say is in Record.antt of ctf_model.
 use Rattle.std.specs.Prelude.{ℕ, List, take, drop, Option, Result, Ok, Err}
 use Rattle.std.specs.Option.{option_map}
 use Rattle.ctf_model.specs.Section.{Piece, front_len}
@@ -16,6 +16,7 @@ index_of r = r.index
 abbrev pub at_of : Record → ℕ
 at_of r = r.at
 
+-- all its bytes, the head first
 abbrev pub bytes_of : Record → List ℕ
 bytes_of r = r.bytes.now
 
@@ -23,6 +24,7 @@ bytes_of r = r.bytes.now
 abbrev pub piece : Record → Piece
 piece r = record { index = r.index; at = r.at; bytes = r.bytes.now }
 
+-- a record or the fault that reading stops with
 abbrev pub result_piece : Result Record Fault → Result Piece Fault
 result_piece (Ok r) = Ok (piece r)
 result_piece (Err f) = Err f

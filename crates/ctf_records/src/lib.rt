@@ -6,6 +6,8 @@ mod front;
 mod place;
 mod record;
 mod tag;
+#[cfg(test)]
+mod tests;
 
 pub use cursor::{Records, record_numbered};
 pub use place::record_at;

@@ -135,6 +135,7 @@ impl<'a> Record<'a> {
         ensures bytes { result.now ≡ behind_head (bytes_of self.now) }
         ensures length { length result.now ≡ len_behind (bytes_of self.now) }
     {
-        self.bytes.split_at(head_len_of(self.bytes)).1
+        let (_, rest) = self.bytes.split_at(head_len_of(self.bytes));
+        rest
     }
 }

@@ -1,7 +1,5 @@
-use Rattle.std.proofs.Common.{◌≡◌, ◌≤◌, ◌+◌, ◌^◌, drop, length, refl, sym, ap, ◌∙◌, arith, rules}
-use Rattle.std.proofs.lemmas.List.{length-drop}
+use Rattle.std.proofs.Common.{refl, sym, ◌∙◌, arith}
 use Rattle.ctf_model.proofs.Walk.{front_len_range}
-use Rattle.ctf_model.specs.Section.{front_len}
 use Rattle.ctf_records.proofs.Whole.{none_past}
 use Rattle.ctf_records.proofs.place.record_at.Goals as goal
 
