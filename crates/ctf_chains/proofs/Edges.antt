@@ -8,7 +8,7 @@ use Rattle.std.proofs.lemmas.List.{length-map, get_or-map}
 use Rattle.std.proofs.lemmas.List.Sums.{sum_by-cons}
 use Rattle.std.proofs.lemmas.Option.{get_or_from_slice_get}
 use Rattle.ctf_model.specs.Chains.{base, own_index, edges}
-use Rattle.ctf_model.specs.Dictionary.{onto, terms_in}
+use Rattle.ctf_model.specs.Section.{onto, terms_in}
 use Rattle.ctf_model.specs.Faults.{walk_fault}
 use Rattle.ctf_model.specs.Name.{Tables}
 use Rattle.ctf_model.specs.Section.{Piece}

@@ -1,6 +1,6 @@
 //! The first type of a section that a chain of too many steps begins at.
-ghost use Rattle.std.specs.Prelude.{◌≡◌, ◌+◌, ◌≤◌, IfOk, None, Ok};
-ghost use Rattle.ctf_model.specs.Dictionary.{terms_in};
+ghost use Rattle.std.specs.Prelude.{◌≡◌, ◌+◌, ◌<◌, ◌≤◌, length, IfOk, IfSome, None, Ok};
+ghost use Rattle.ctf_model.specs.Section.{terms_in};
 ghost use Rattle.ctf_model.specs.Faults.{walk_fault};
 ghost use Rattle.ctf_model.specs.Name.{Tables};
 ghost use Rattle.ctf_model.specs.Section.{records};
@@ -28,7 +28,8 @@ pub fn first_deep_type(
 ) -> Result<Option<usize>, AllocError>
     requires whole { walk_fault (records types.now) ≡ None }
     requires starts { starts.now ≡ starts_in (records types.now) }
-    ensures { IfOk result (λ found. IsLeastDeepType chain child (records types.now) found) }
+    ensures least { IfOk result (λ found. IsLeastDeepType chain child (records types.now) found) }
+    ensures inside { IfOk result (λ found. IfSome found (λ i. i < length (records types.now))) }
 {
     let mut work = 0;
     first_deep_counted(alloc, types, starts, child, chain, &mut work)
@@ -47,6 +48,7 @@ pub fn first_deep_counted(
     requires whole { walk_fault (records types.now) ≡ None }
     requires starts { starts.now ≡ starts_in (records types.now) }
     ensures least { IfOk result (λ found. IsLeastDeepType chain child (records types.now) found) }
+    ensures inside { IfOk result (λ found. IfSome found (λ i. i < length (records types.now))) }
     ensures work { (t : Tables) → AreSpelled t (records types.now)
         → work.new ≤ work.old + steps_work (steps chain) (terms_in t (records types.now)) }
     ensures once { result ≡ Ok None → (t : Tables) → AreSpelled t (records types.now)

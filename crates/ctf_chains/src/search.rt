@@ -1,5 +1,5 @@
 //! The first record that a chain of too many steps begins at.
-ghost use Rattle.std.specs.Prelude.{◌≡◌, ℕ, ◌+◌, ◌<◌, ◌≤◌, ◌⊎◌, length, IfOk, IsSome, None, Ok, MatchOption, slice_index_or};
+ghost use Rattle.std.specs.Prelude.{◌≡◌, ℕ, ◌+◌, ◌<◌, ◌≤◌, ◌⊎◌, length, IfOk, IfSome, IsSome, None, Ok, MatchOption, slice_index_or};
 ghost use Rattle.ctf_model.specs.Chains.{longest_chain};
 ghost use Rattle.ctf_chains.specs.Deep.{IsLeastDeep};
 ghost use Rattle.ctf_chains.specs.Places.{capped, full_work, steps_between};
@@ -83,6 +83,7 @@ fn first_of<G: Graph>(graph: &G, known: &mut [u16], work: &mut u64) -> Option<us
     requires same { length known.old ≡ length (G.places graph.now) }
     requires empty { (j : ℕ) → slice_index_or known.old j 0 ≡ 0 }
     ensures least { IsLeastDeep (steps_between (G.places graph.now)) longest_chain result }
+    ensures inside { IfSome result (λ i. i < length (G.places graph.now)) }
     ensures work { work.new ≤ work.old + full_work (G.places graph.now) }
     ensures once { result ≡ None → capped work.new ≡ capped (work.old + full_work (G.places graph.now)) }
 {
@@ -106,6 +107,7 @@ pub fn first_deep<G: Graph>(
 ) -> Result<Option<usize>, AllocError>
     ensures least { IfOk result (λ first.
         IsLeastDeep (steps_between (G.places graph.now)) longest_chain first) }
+    ensures inside { IfOk result (λ first. IfSome first (λ i. i < length (G.places graph.now))) }
     ensures work { work.new ≤ work.old + full_work (G.places graph.now) }
     ensures once { result ≡ Ok None
         → capped work.new ≡ capped (work.old + full_work (G.places graph.now)) }

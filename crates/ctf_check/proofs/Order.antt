@@ -2,13 +2,13 @@
 use Rattle.std.proofs.Common.{◌≡◌, ℕ, zero, suc, ◌+◌, Bool, true, false, cond, eqb, ltb, drop, List, [], ◌∷◌, ◌++◌, length, Option, Some, None, Result, refl, sym, ap, subst, ◌∙◌, arith, ◌⊎◌, inl, inr}
 use Rattle.std.specs.Prelude.{map}
 use Rattle.std.specs.Option.{option_or}
-use Rattle.ctf_model.specs.Faults.{or_later, first_broken, header_rules, header_fault, on_ctf, walk_fault, types, place_of, truncated, bad_kind, too_many, bad_name, first_nameless, sites, rules, first_fault}
-use Rattle.ctf_model.specs.Header.{section}
+use Rattle.ctf_model.specs.Faults.{or_later, first_broken, header_rules, header_fault, on_ctf, walk_fault, types, place_of, truncated, bad_kind, too_many, bad_name, bad_reference, value_deep, decl_deep, edges_by, first_nameless, sites, rules, first_fault}
+use Rattle.ctf_model.specs.Header.{fields, is_child, section}
 use Rattle.ctf_model.specs.Lists.{Lists, tables}
 use Rattle.ctf_model.specs.Section.{Piece, step, walk, front_len, records}
 use Rattle.ctf_model.specs.declared.faults.Fault.{Fault}
 use Rattle.ctf_model.specs.declared.sections.Section.TheVariants.{STypes}
-use Rattle.ctf_check.specs.Stages.{records_fault}
+use Rattle.ctf_check.specs.Stages.{records_fault, types_fault}
 
 -- ---- one list of rules after the other
 
@@ -66,24 +66,32 @@ records_stage (Some f) many names h = by_code f (or_later 12 (cond many (Some 32
 
 -- ---- the stages
 
-stages : (s : Lists) → first_fault s ≡ option_or (header_fault s.ctf) (option_or (records_fault (types s.ctf)) (or_later 13 (bad_name s) None))
-unfolding first_fault rules
+-- the faults of types: their references, then their chains
+abbrev of_types : Lists → Option Fault
+of_types s = types_fault (tables s) (is_child (fields s.ctf)) (types s.ctf)
+
+-- the faults of names, then of types
+abbrev from_names : Lists → Option Fault
+from_names s = or_later 13 (bad_name s) (of_types s)
+
+stages : (s : Lists) → first_fault s ≡ option_or (header_fault s.ctf) (option_or (records_fault (types s.ctf)) (from_names s))
+unfolding first_fault rules bad_reference edges_by
 stages s =
-    first_append 1 (map on_ctf header_rules) (truncated ∷ bad_kind ∷ too_many ∷ bad_name ∷ []) s
-    ∙ ap (option_or (header_fault s.ctf)) (records_stage (walk_fault (types s.ctf)) (ltb 32766 (length (types s.ctf))) (or_later 13 (bad_name s) None) (types_stop s.ctf))
+    first_append 1 (map on_ctf header_rules) (truncated ∷ bad_kind ∷ too_many ∷ bad_name ∷ bad_reference ∷ value_deep ∷ decl_deep ∷ []) s
+    ∙ ap (option_or (header_fault s.ctf)) (records_stage (walk_fault (types s.ctf)) (ltb 32766 (length (types s.ctf))) (from_names s) (types_stop s.ctf))
 
 pub at_header : (s : Lists) (f : Fault) → header_fault s.ctf ≡ Some f → first_fault s ≡ Some f
-at_header s f e = stages s ∙ ap (λ (h : Option Fault). option_or h (option_or (records_fault (types s.ctf)) (or_later 13 (bad_name s) None))) e
+at_header s f e = stages s ∙ ap (λ (h : Option Fault). option_or h (option_or (records_fault (types s.ctf)) (from_names s))) e
 
-past_header : (s : Lists) → header_fault s.ctf ≡ None → first_fault s ≡ option_or (records_fault (types s.ctf)) (or_later 13 (bad_name s) None)
-past_header s e = stages s ∙ ap (λ (h : Option Fault). option_or h (option_or (records_fault (types s.ctf)) (or_later 13 (bad_name s) None))) e
+past_header : (s : Lists) → header_fault s.ctf ≡ None → first_fault s ≡ option_or (records_fault (types s.ctf)) (from_names s)
+past_header s e = stages s ∙ ap (λ (h : Option Fault). option_or h (option_or (records_fault (types s.ctf)) (from_names s))) e
 
 pub at_records : (s : Lists) (f : Fault) → header_fault s.ctf ≡ None → records_fault (types s.ctf) ≡ Some f → first_fault s ≡ Some f
-at_records s f e w = past_header s e ∙ ap (λ (r : Option Fault). option_or r (or_later 13 (bad_name s) None)) w
+at_records s f e w = past_header s e ∙ ap (λ (r : Option Fault). option_or r (from_names s)) w
 
-pub at_names : (s : Lists) (bad : Option ℕ) → header_fault s.ctf ≡ None → records_fault (types s.ctf) ≡ None → bad ≡ first_nameless (tables s) (sites s.ctf) → first_fault s ≡ or_later 13 bad None
+pub at_names : (s : Lists) (bad : Option ℕ) → header_fault s.ctf ≡ None → records_fault (types s.ctf) ≡ None → bad ≡ first_nameless (tables s) (sites s.ctf) → first_fault s ≡ or_later 13 bad (types_fault (tables s) (is_child (fields s.ctf)) (types s.ctf))
 unfolding bad_name
-at_names s bad e w b = past_header s e ∙ ap (λ (r : Option Fault). option_or r (or_later 13 (bad_name s) None)) w ∙ ap (λ (o : Option ℕ). or_later 13 o None) (sym b)
+at_names s bad e w b = past_header s e ∙ ap (λ (r : Option Fault). option_or r (from_names s)) w ∙ ap (λ (o : Option ℕ). or_later 13 o (of_types s)) (sym b)
 
 -- ---- where no rule is broken, no stage finds a fault
 
@@ -91,23 +99,29 @@ none_first : (a b : Option Fault) → option_or a b ≡ None → (a ≡ None) ×
 none_first None b e = (refl, e)
 none_first (Some f) b e = absurd cc
 
-none_place : (here : Option ℕ) → or_later 13 here None ≡ None → here ≡ None
-none_place None e = refl
-none_place (Some p) e = absurd cc
+none_place : (code : ℕ) (here : Option ℕ) (later : Option Fault) → or_later code here later ≡ None → here ≡ None
+none_place code None later e = refl
+none_place code (Some p) later e = absurd cc
 
 pub record Faultless (s : Lists) : Type 0 where
+  pub header : header_fault s.ctf ≡ None
   pub read : walk_fault (types s.ctf) ≡ None
   pub named : first_nameless (tables s) (sites s.ctf) ≡ None
 
 pub faultless : (s : Lists) → first_fault s ≡ None → Faultless s
 unfolding bad_name
 faultless s e =
-    let later = none_first (header_fault s.ctf) (option_or (records_fault (types s.ctf)) (or_later 13 (bad_name s) None)) (sym (stages s) ∙ e) in
-    let parts = none_first (records_fault (types s.ctf)) (or_later 13 (bad_name s) None) later.1 in
+    let parts = none_first (header_fault s.ctf) (option_or (records_fault (types s.ctf)) (from_names s)) (sym (stages s) ∙ e) in
+    let later = none_first (records_fault (types s.ctf)) (from_names s) parts.1 in
     record {
-      read = (none_first (walk_fault (types s.ctf)) _ parts.0).0;
-      named = none_place (bad_name s) parts.1;
+      header = parts.0;
+      read = (none_first (walk_fault (types s.ctf)) _ later.0).0;
+      named = none_place 13 (bad_name s) (of_types s) later.1;
     }
+
+-- records that are few enough are read to the end
+pub read_whole : (rs : List (Result Piece Fault)) → records_fault rs ≡ None → walk_fault rs ≡ None
+read_whole rs e = (none_first (walk_fault rs) _ e).0
 
 -- ---- the part that the code reads
 

@@ -1,13 +1,16 @@
 -- Names one after the other.
-use Rattle.std.proofs.Common.{◌≡◌, ℕ, suc, ◌+◌, ◌-◌, ◌*◌, ◌/◌, ◌<◌, ◌≤◌, Bool, true, false, cond, take, drop, List, [], ◌∷◌, ◌++◌, Option, Some, refl, ap, ◌∙◌, arith}
+use Rattle.std.proofs.Common.{◌≡◌, ℕ, suc, ◌+◌, ◌-◌, ◌*◌, ◌/◌, ◌<◌, ◌≤◌, Bool, true, false, cond, take, drop, List, [], ◌∷◌, ◌++◌, Option, Some, None, Result, Ok, Err, refl, sym, ap, ◌∙◌, arith}
 use Rattle.std.specs.Prelude.{is_none}
+use Rattle.std.proofs.Math.Nat.{mul-suc}
+use Rattle.std.proofs.lemmas.List.{drop-drop}
 use Rattle.std.specs.Option.{option_or}
 use Rattle.ctf_model.specs.Bytes.{u32_at}
-use Rattle.ctf_model.specs.Faults.{Site, label_sites, record_sites, first_nameless, sites, types}
+use Rattle.ctf_model.specs.Faults.{Site, label_sites, item_sites, record_sites, first_nameless, sites, types}
 use Rattle.ctf_model.specs.Header.{Fields, fields, range_of}
 use Rattle.ctf_model.specs.Name.{Tables, name}
-use Rattle.ctf_model.specs.Section.{records}
-use Rattle.ctf_check.specs.Stages.{header_sites}
+use Rattle.ctf_model.specs.Section.{Piece, records}
+use Rattle.ctf_check.specs.Stages.{header_sites, own_sites}
+use Rattle.ctf_model.specs.declared.faults.Fault.{Fault}
 use Rattle.ctf_model.specs.declared.sections.Section.TheVariants.{SLabels, STypes}
 
 pub label_sites_next : (ctf : List ℕ) (start count i : ℕ) → i < count
@@ -21,6 +24,21 @@ label_sites_next ctf start count i lt =
 pub label_sites_end : (ctf : List ℕ) (start count i : ℕ) → count ≤ i → label_sites ctf (start + 8 * i) (count - i) ≡ []
 unfolding label_sites
 label_sites_end ctf start count i le = let k : count - i ≡ 0 = omega arith in rw k refl
+
+pub item_sites_next : (start len count i : ℕ) (b : List ℕ) → i < count
+    → item_sites (start + len * i) len (count - i) (drop (len * i) b) ≡ record { place = start + len * i; reference = u32_at b (len * i) } ∷ item_sites (start + len * (i + 1)) len (count - (i + 1)) (drop (len * (i + 1)) b)
+unfolding item_sites
+item_sites_next start len count i b lt =
+    let k : count - i ≡ suc (count - (i + 1)) = omega arith in
+    let next_is : suc i ≡ i + 1 = omega arith in
+    let step : len * i + len ≡ len * (i + 1) = sym (mul-suc len i) ∙ ap (λ (m : ℕ). len * m) next_is in
+    let next : start + len * i + len ≡ start + len * (i + 1) = omega (arith, step) in
+    let behind : drop len (drop (len * i) b) ≡ drop (len * (i + 1)) b = drop-drop len (len * i) b ∙ ap (λ (m : ℕ). drop m b) step in
+    rw (k, next, behind) refl
+
+pub item_sites_end : (start len count i : ℕ) (b : List ℕ) → count ≤ i → item_sites (start + len * i) len (count - i) (drop (len * i) b) ≡ []
+unfolding item_sites
+item_sites_end start len count i b le = let k : count - i ≡ 0 = omega arith in rw k refl
 
 -- ---- the first name that is bad, part by part
 
@@ -62,3 +80,18 @@ pub record_part : (t : Tables) (ctf : List ℕ) (h : Fields) (r : ℕ × ℕ) �
     → first_nameless t (record_sites r.0 (records (take (r.1 - r.0) (drop r.0 ctf)))) ≡ first_nameless t (record_sites (36 + (fields ctf).typeoff) (types ctf))
 unfolding types
 record_part t ctf h r e f = rw (f, e) refl
+
+-- ---- records, one after the other
+
+pub record_then_rest : (t : Tables) (start : ℕ) (p : Piece) (rest : List (Result Piece Fault))
+    → first_nameless t (record_sites start (Ok p ∷ rest)) ≡ option_or (first_nameless t (own_sites (start + p.at) p.bytes)) (first_nameless t (record_sites start rest))
+unfolding record_sites
+record_then_rest t start p rest = nameless_append t (own_sites (start + p.at) p.bytes) (record_sites start rest)
+
+pub no_record : (t : Tables) (start : ℕ) (f : Fault) (rest : List (Result Piece Fault)) → first_nameless t (record_sites start (Err f ∷ rest)) ≡ None
+unfolding record_sites first_nameless
+no_record t start f rest = refl
+
+pub no_more_records : (t : Tables) (start : ℕ) → first_nameless t (record_sites start []) ≡ None
+unfolding record_sites first_nameless
+no_more_records t start = refl

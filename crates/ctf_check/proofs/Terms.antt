@@ -1,57 +1,74 @@
 -- What the records of a dictionary spell where no rule is broken.
-use Rattle.std.proofs.Common.{◌≡◌, ℕ, zero, suc, ◌+◌, ◌-◌, ◌/◌, ◌^◌, ◌<◌, ◌≤◌, Bool, true, false, cond, eqb, take, drop, List, [], ◌∷◌, ◌++◌, length, Option, Some, None, Result, Ok, Err, refl, sym, ap, subst, ◌∙◌, arith}
-use Rattle.std.specs.Prelude.{is_some, is_none, slice_get}
+use Rattle.std.proofs.Common.{◌≡◌, ℕ, zero, suc, ◌+◌, ◌-◌, ◌/◌, ◌<◌, ◌≤◌, Bool, true, false, cond, eqb, take, drop, List, [], ◌∷◌, ◌++◌, length, Option, Some, None, Result, Ok, Err, refl, sym, ap, subst, ◌∙◌, arith}
+use Rattle.std.specs.Prelude.{is_none, IsSome, slice_get}
 use Rattle.std.specs.List.{AllByRecursion}
-use Rattle.std.specs.Option.{option_or, option_and_then}
-use Rattle.std.proofs.lemmas.Bool.{eqb-true, eqb-false}
-use Rattle.ctf_model.proofs.Walk.{front_len_range}
+use Rattle.std.specs.Option.{option_or, option_map, option_and_then}
+use Rattle.std.proofs.lemmas.Bool.{eqb-true, eqb-false, false≢true}
+use Rattle.ctf_model.proofs.Cut.{front_whole}
+use Rattle.ctf_model.proofs.Spelled.{AreNamed, split_front, spelled}
 use Rattle.ctf_model.specs.Bytes.{u32_at}
-use Rattle.ctf_model.specs.Dictionary.{said_by, terms_in}
-use Rattle.ctf_model.specs.Faults.{Site, first_nameless, first_fault, label_sites, record_sites, sites, types, walk_fault}
+use Rattle.ctf_model.specs.Dictionary.{said_by}
+use Rattle.ctf_model.specs.Faults.{Site, first_nameless, first_fault, label_sites, list_sites, record_sites, sites, types, walk_fault}
 use Rattle.ctf_model.specs.Header.{fields}
 use Rattle.ctf_model.specs.Lists.{Lists, tables}
 use Rattle.ctf_model.specs.Name.{Tables, name}
-use Rattle.ctf_model.specs.Record.{info, is_root, kind, scalar, term_of}
-use Rattle.ctf_model.specs.Section.{Piece, front_len, step, walk}
-use Rattle.ctf_model.specs.Term.{Term}
-use Rattle.ctf_model.specs.Term as term
+use Rattle.ctf_model.specs.Record.{IsWhole, is_root, kind}
+use Rattle.ctf_model.specs.Spelling.{◌>>=◌, body_of, term_of}
+use Rattle.ctf_model.specs.Section.{Piece, front_len, step, terms_in, walk}
+use Rattle.ctf_model.specs.Term.{Body, Term}
 use Rattle.ctf_model.specs.declared.faults.Fault.{Fault}
-use Rattle.ctf_model.specs.declared.kinds.Kind.TheVariants.{KInteger}
-use Rattle.ctf_check.specs.Pieces.{piece_numbered}
+use Rattle.ctf_model.specs.declared.kinds.Kind.{Kind}
+use Rattle.ctf_chains.specs.Steps.{AreSpelled}
+use Rattle.ctf_records.specs.Pieces.{piece_numbered}
 use Rattle.ctf_check.specs.Stages.{header_sites}
 use Rattle.ctf_check.proofs.Order.{faultless}
-use Rattle.ctf_check.proofs.Reading.{front_known, kind_taken}
 use Rattle.ctf_check.proofs.Sites.{nameless_append}
 
 -- ---- one record
 
-known_is : (b : List ℕ) → is_some (kind b) ≡ true → kind b ≡ Some KInteger
-known_is b e = at (eqb (info b / 2 ^ 11) 1) e
+-- a test that does not pass leaves it to the later ones
+none_here : (bad : Bool) (place : ℕ) (later : Option ℕ) → cond bad (Some place) later ≡ None → (bad ≡ false) × (later ≡ None)
+none_here true place later e = absurd cc
+none_here false place later e = (refl, e)
+
+-- what is there is not missing
+not_none : {A : Type 0} (o : Option A) → is_none o ≡ false → o ≡ None → ⊥
+not_none None e n = absurd cc
+not_none (Some x) e n = absurd cc
+
+-- the name of a type that a record spells
+name_of : (t : Tables) (b : List ℕ) (x : Term) → term_of t b ≡ Some x → name t (u32_at b 0) ≡ Some x.name
+unfolding term_of
+name_of t b x e = by_kind (kind b) (name t (u32_at b 0)) e
   where
-    at : (t : Bool) → is_some (cond t (Some KInteger) None) ≡ true → cond t (Some KInteger) None ≡ Some KInteger
-    at true e = refl
-    at false e = absurd cc
+    by_body : (text : List ℕ) (said : Option Body) → said >>= (λ body. Some (record { name = text; root = is_root b; body = body })) ≡ Some x → Some text ≡ Some x.name
+    by_body text None e = absurd cc
+    by_body text (Some body) e = ap (λ (o : Option Term). option_map (λ y. y.name) o) e
 
-some_text : (o : Option (List ℕ)) → is_none o ≡ false → (x : List ℕ) × (o ≡ Some x)
-some_text None e = absurd cc
-some_text (Some x) e = (x, refl)
+    by_kind : (k : Option Kind) (text : Option (List ℕ)) → k >>= (λ k. text >>= (λ text. body_of t b k >>= (λ body. Some (record { name = text; root = is_root b; body = body })))) ≡ Some x → text ≡ Some x.name
+    by_kind None text e = absurd cc
+    by_kind (Some k) None e = absurd cc
+    by_kind (Some k) (Some text) e = by_body text (body_of t b k) e
 
--- a record whose kind is known and whose name is good spells a type of that name
+-- a record spells a type of a name that is there
 pub record Spelled (t : Tables) (b : List ℕ) : Type 0 where
   pub type : Term
   pub says : term_of t b ≡ Some type
   pub named : name t (u32_at b 0) ≡ Some type.name
 
-spelled_by : (t : Tables) (b text : List ℕ) → kind b ≡ Some KInteger → name t (u32_at b 0) ≡ Some text → Spelled t b
-unfolding term_of
-spelled_by t b text k n = record {
-  type = record { name = text; root = is_root b; body = term.integer (scalar b) };
-  says = rw (k, n) refl;
-  named = n;
-}
+-- where no site is nameless, all are named
+named_all : (t : Tables) (xs : List Site) → first_nameless t xs ≡ None → AreNamed t xs
+unfolding first_nameless
+named_all t [] e = tt
+named_all t (x ∷ xs) e =
+    let here = none_here (is_none (name t x.reference)) x.place (first_nameless t xs) e in
+    (not_none (name t x.reference) here.0, named_all t xs here.1)
 
-spelled : (t : Tables) (b : List ℕ) → is_some (kind b) ≡ true → is_none (name t (u32_at b 0)) ≡ false → Spelled t b
-spelled t b known good = let text = some_text (name t (u32_at b 0)) good in spelled_by t b text.0 (known_is b known) text.1
+-- a whole record whose names are good spells a type
+spelled_whole : (t : Tables) (b : List ℕ) (place : ℕ) (more : List Site) → IsWhole b → AreNamed t (record { place = place; reference = u32_at b 0 } ∷ (list_sites place b (kind b) ++ more)) → Spelled t b
+spelled_whole t b place more whole named =
+    let x = spelled t b place whole named.0 (split_front t (list_sites place b (kind b)) more named.1) in
+    record { type = x.0; says = x.1.says; named = name_of t b x.0 x.1.says }
 
 -- ---- all records
 
@@ -59,30 +76,12 @@ abbrev pub IsSpelled : Tables → Result Piece Fault → Type 0
 IsSpelled t (Ok p) = Spelled t p.bytes
 IsSpelled t (Err f) = ⊥
 
-abbrev AreSpelled : Tables → ℕ → List (Result Piece Fault) → Type 0
-AreSpelled t start xs = walk_fault xs ≡ None → first_nameless t (record_sites start xs) ≡ None → AllByRecursion (IsSpelled t) xs
+abbrev SpelledFrom : Tables → ℕ → List (Result Piece Fault) → Type 0
+SpelledFrom t start xs = walk_fault xs ≡ None → first_nameless t (record_sites start xs) ≡ None → AllByRecursion (IsSpelled t) xs
 
-spelled_cond : (t : Tables) (start : ℕ) (ended : Bool) (xs : List (Result Piece Fault)) → AreSpelled t start xs → AreSpelled t start (cond ended [] xs)
+spelled_cond : (t : Tables) (start : ℕ) (ended : Bool) (xs : List (Result Piece Fault)) → SpelledFrom t start xs → SpelledFrom t start (cond ended [] xs)
 spelled_cond t start true xs h = λ w n. tt
 spelled_cond t start false xs h = h
-
-none_here : (bad : Bool) (place : ℕ) (later : Option ℕ) → cond bad (Some place) later ≡ None → (bad ≡ false) × (later ≡ None)
-none_here true place later e = absurd cc
-none_here false place later e = (refl, e)
-
-spelled_step : (t : Tables) (start : ℕ) (b : List ℕ) (index at : ℕ) (later : ℕ → List (Result Piece Fault)) (r : Option ℕ) → front_len b ≡ r → ((n : ℕ) → AreSpelled t start (later n)) → AreSpelled t start (step b index at later r)
-unfolding first_nameless record_sites
-spelled_step t start b index at later None e h = λ w n. absurd cc
-spelled_step t start b index at later (Some n) e h = λ w names.
-    let range = front_len_range b n e in
-    let known : is_some (kind (take n b)) ≡ true = rw (kind_taken b n range.0 range.1) (front_known b n e) in
-    let good = none_here (is_none (name t (u32_at (take n b) 0))) (start + at) (first_nameless t (record_sites start (later n))) names in
-    (spelled t (take n b) known good.0, h n w good.1)
-
-walk_spelled : (t : Tables) (start bound index at : ℕ) (b : List ℕ) → AreSpelled t start (walk bound index at b)
-unfolding walk
-walk_spelled t start zero index at b = λ w n. tt
-walk_spelled t start (suc bound) index at b = spelled_cond t start (eqb (length b) 0) _ (spelled_step t start b index at _ (front_len b) refl (λ n. walk_spelled t start bound (index + 1) (at + n) (drop n b)))
 
 none_last : (a b : Option ℕ) → option_or a b ≡ None → b ≡ None
 none_last None b e = e
@@ -90,6 +89,23 @@ none_last (Some p) b e = absurd cc
 
 last_nameless : (t : Tables) (xs ys : List Site) → first_nameless t (xs ++ ys) ≡ None → first_nameless t ys ≡ None
 last_nameless t xs ys e = none_last (first_nameless t xs) (first_nameless t ys) (sym (nameless_append t xs ys) ∙ e)
+
+-- nor is one behind the sites of a record
+later_nameless : (t : Tables) (b : List ℕ) (place : ℕ) (more : List Site) → first_nameless t (record { place = place; reference = u32_at b 0 } ∷ (list_sites place b (kind b) ++ more)) ≡ None → first_nameless t more ≡ None
+unfolding first_nameless
+later_nameless t b place more e = last_nameless t (list_sites place b (kind b)) more (none_here (is_none (name t (u32_at b 0))) place (first_nameless t (list_sites place b (kind b) ++ more)) e).1
+
+spelled_step : (t : Tables) (start : ℕ) (b : List ℕ) (index at : ℕ) (later : ℕ → List (Result Piece Fault)) (r : Option ℕ) → front_len b ≡ r → ((n : ℕ) → SpelledFrom t start (later n)) → SpelledFrom t start (step b index at later r)
+unfolding record_sites
+spelled_step t start b index at later None e h = λ w n. absurd cc
+spelled_step t start b index at later (Some n) e h = λ w names.
+    let named = named_all t (record_sites start (Ok (record { index = index; at = at; bytes = take n b }) ∷ later n)) names in
+    (spelled_whole t (take n b) (start + at) (record_sites start (later n)) (front_whole b n e) named, h n w (later_nameless t (take n b) (start + at) (record_sites start (later n)) names))
+
+walk_spelled : (t : Tables) (start bound index at : ℕ) (b : List ℕ) → SpelledFrom t start (walk bound index at b)
+unfolding walk
+walk_spelled t start zero index at b = λ w n. tt
+walk_spelled t start (suc bound) index at b = spelled_cond t start (eqb (length b) 0) _ (spelled_step t start b index at _ (front_len b) refl (λ n. walk_spelled t start bound (index + 1) (at + n) (drop n b)))
 
 records_named : (t : Tables) (ctf : List ℕ) → first_nameless t (sites ctf) ≡ None → first_nameless t (record_sites (36 + (fields ctf).typeoff) (types ctf)) ≡ None
 unfolding sites
@@ -99,13 +115,36 @@ records_named t ctf e =
     let front = header_sites (fields ctf) in
     last_nameless t labels of_records (last_nameless t front (labels ++ of_records) e)
 
-pub all_spelled : (s : Lists) → first_fault s ≡ None → AllByRecursion (IsSpelled (tables s)) (types s.ctf)
+-- where records and names are good, each record spells a type
+pub spelled_from : (s : Lists) → walk_fault (types s.ctf) ≡ None → first_nameless (tables s) (sites s.ctf) ≡ None → AllByRecursion (IsSpelled (tables s)) (types s.ctf)
 unfolding types
-all_spelled s e = let f = faultless s e in walk_spelled (tables s) (36 + (fields s.ctf).typeoff) _ 1 0 _ f.read (records_named (tables s) s.ctf f.named)
+spelled_from s read named = walk_spelled (tables s) (36 + (fields s.ctf).typeoff) _ 1 0 _ read (records_named (tables s) s.ctf named)
+
+pub all_spelled : (s : Lists) → first_fault s ≡ None → AllByRecursion (IsSpelled (tables s)) (types s.ctf)
+all_spelled s e = let f = faultless s e in spelled_from s f.read f.named
+
+-- ---- the same in the words of ctf_chains
+
+type_there : (t : Tables) (b : List ℕ) → IsSome (term_of t b) → Spelled t b
+type_there t b h = at (term_of t b) refl h
+  where
+    at : (x : Option Term) → term_of t b ≡ x → IsSome x → Spelled t b
+    at None e h = absurd (false≢true h)
+    at (Some x) e h = record { type = x; says = e; named = name_of t b x e }
+
+pub each_spelled : (t : Tables) (xs : List (Result Piece Fault)) → walk_fault xs ≡ None → AreSpelled t xs → AllByRecursion (IsSpelled t) xs
+each_spelled t [] w a = tt
+each_spelled t (Ok p ∷ xs) w a = (type_there t p.bytes a.0, each_spelled t xs w a.1)
+each_spelled t (Err f ∷ xs) w a = absurd cc
+
+pub all_are_spelled : (t : Tables) (xs : List (Result Piece Fault)) → AllByRecursion (IsSpelled t) xs → AreSpelled t xs
+all_are_spelled t [] a = tt
+all_are_spelled t (Ok p ∷ xs) a = let says = a.0.says in ((rw says refl), all_are_spelled t xs a.1)
+all_are_spelled t (Err f ∷ xs) a = absurd a.0
 
 -- ---- their number
 
-terms_length : (t : Tables) (xs : List (Result Piece Fault)) → AllByRecursion (IsSpelled t) xs → length (terms_in t xs) ≡ length xs
+pub terms_length : (t : Tables) (xs : List (Result Piece Fault)) → AllByRecursion (IsSpelled t) xs → length (terms_in t xs) ≡ length xs
 unfolding terms_in
 terms_length t [] all = refl
 terms_length t (Ok p ∷ xs) all = rw all.0.says (ap suc (terms_length t xs all.1))

@@ -6,10 +6,10 @@ use Rattle.ctf_model.specs.Lists.{Lists, tables}
 use Rattle.ctf_model.specs.Name.{Tables}
 use Rattle.ctf_model.specs.Term.{Term}
 use Rattle.ctf_check.specs.ListsView.{lists_in}
-use Rattle.ctf_check.specs.Pieces.{piece_numbered}
-use Rattle.ctf_check.specs.RecordView.{piece}
+use Rattle.ctf_records.specs.Pieces.{piece_numbered}
+use Rattle.ctf_records.specs.RecordView.{piece}
 use Rattle.ctf_check.specs.declared.checked.Checked.{Checked}
-use Rattle.ctf_check.specs.declared.record.Record.{Record}
+use Rattle.ctf_records.specs.declared.record.Record.{Record}
 
 -- the lists that it was handed in as
 abbrev pub lists_of : Checked → Lists

@@ -1,6 +1,5 @@
 pub mod CheckedView
 pub mod EndsView
 pub mod ListsView
-pub mod Pieces
-pub mod RecordView
+pub mod Named
 pub mod Stages

@@ -1,11 +1,18 @@
--- The stages of the check behind the header: its records, and the parts of the rule of names.
-use Rattle.std.specs.Prelude.{List, [], ◌∷◌, length, nat_lt, Option, Some, None, Result, if◌then◌else◌}
+-- The stages of the check behind the header: its records, the parts of the rule of names, and its types.
+use Rattle.std.specs.Prelude.{ℕ, List, [], ◌∷◌, length, nat_lt, Bool, Option, Some, None, Result, if◌then◌else◌}
 use Rattle.std.specs.Option.{option_or}
-use Rattle.ctf_model.specs.Faults.{Site, walk_fault}
+use Rattle.ctf_model.specs.Bytes.{u32_at}
+use Rattle.ctf_model.specs.Chains.{edges}
+use Rattle.ctf_chains.specs.Steps.{steps}
+use Rattle.ctf_chains.specs.declared.chain.Chain.{Chain}
+use Rattle.ctf_chains.specs.declared.chain.Chain.TheVariants.{ByValue, Declarator}
+use Rattle.ctf_model.specs.Faults.{Site, list_sites, walk_fault, or_later, first_misnaming, first_deep}
 use Rattle.ctf_model.specs.Header.{Fields}
-use Rattle.ctf_model.specs.Section.{Piece}
+use Rattle.ctf_model.specs.Name.{Tables}
+use Rattle.ctf_model.specs.Record.{kind}
+use Rattle.ctf_model.specs.Section.{Piece, terms_in}
 use Rattle.ctf_model.specs.declared.faults.Fault.{Fault}
-use Rattle.ctf_model.specs.declared.faults.TheConstants.Fault.{TOO_MANY}
+use Rattle.ctf_model.specs.declared.faults.TheConstants.Fault.{MEMORY, TOO_MANY, BAD_REFERENCE, VALUE_DEEP, DECL_DEEP}
 
 -- the first fault of the records: where reading them stops, else that they are too many
 abbrev pub records_fault : List (Result Piece Fault) → Option Fault
@@ -14,3 +21,23 @@ records_fault rs = option_or (walk_fault rs) (if nat_lt 32766 (length rs) then S
 -- the sites of the names of a header
 abbrev pub header_sites : Fields → List Site
 header_sites h = record { place = 4; reference = h.parlabel } ∷ record { place = 8; reference = h.parname } ∷ []
+
+-- the sites of a record that begins at a place: its name, and those in its list
+abbrev pub own_sites : ℕ → List ℕ → List Site
+own_sites place b = record { place = place; reference = u32_at b 0 } ∷ list_sites place b (kind b)
+
+-- the first type that a chain of one sort of steps begins at which is too long, numbered from 1
+abbrev pub chain_place : Chain → Tables → Bool → List (Result Piece Fault) → Option ℕ
+chain_place chain t child rs = first_deep (edges (steps chain) child (terms_in t rs)) 0 (length rs)
+
+-- the first fault of chains: of steps by value, then of declarator steps
+abbrev pub chains_fault : Tables → Bool → List (Result Piece Fault) → Option Fault
+chains_fault t child rs = or_later VALUE_DEEP (chain_place ByValue t child rs) (or_later DECL_DEEP (chain_place Declarator t child rs) None)
+
+-- the first fault of the types of records: a reference to one that is not there, else a chain that is too long
+abbrev pub types_fault : Tables → Bool → List (Result Piece Fault) → Option Fault
+types_fault t child rs = or_later BAD_REFERENCE (first_misnaming t child (length rs) rs) (chains_fault t child rs)
+
+-- memory was refused
+abbrev pub want_of_memory : Fault
+want_of_memory = record { code = MEMORY; place = 0 }

@@ -4,17 +4,18 @@ ghost use Rattle.std.specs.Option.{option_map};
 ghost use Rattle.ctf_model.specs.Dictionary.{said_by, denoted, name_or_empty};
 ghost use Rattle.ctf_model.specs.Faults.{first_fault};
 ghost use Rattle.ctf_model.specs.Header.{fields};
-ghost use Rattle.ctf_model.specs.Record.{term_of};
+ghost use Rattle.ctf_model.specs.Spelling.{term_of};
 ghost use Rattle.ctf_sections.specs.StringsView.{tables};
 ghost use Rattle.ctf_check.specs.ListsView.{lists_in};
+ghost use Rattle.ctf_views.specs.Shown.{shown};
+ghost use Rattle.ctf_views.specs.VariantView.{seen};
 
-use crate::cursor::record_numbered;
 use crate::lists::LentLists;
-use crate::record::Record;
 use crate::sections::bytes_in;
 use ctf_model::Section;
-use ctf_sections::bytes::u32_at;
+use ctf_records::{Record, record_numbered};
 use ctf_sections::{Header, Strings};
+use ctf_views::{Variant, variant};
 
 /// A dictionary that breaks no rule. Each call answers from the lists that it was handed in as.
 #[derive(Clone, Copy)]
@@ -30,7 +31,25 @@ pub struct Checked<'a> {
 
 impl<'a> Checked<'a> {
     ghost use Rattle.ctf_check.specs.CheckedView.{lists_of, dictionary_of, tables_of, type_at, IsOwn};
-    ghost use Rattle.ctf_check.specs.RecordView.{index_of, bytes_of};
+    ghost use Rattle.ctf_records.specs.RecordView.{index_of, bytes_of};
+
+    /// A dictionary that was accepted before, without judging it again.
+    ///
+    /// `count` is the number of its own types. It takes constant time.
+    pub fn again(lists: LentLists<'a>, count: usize) -> Checked<'a>
+        requires faultless { first_fault (lists_in lists) ≡ None }
+        requires counted { count ≡ length (said_by (lists_in lists)).terms }
+        ensures { lists_of result ≡ lists_in lists.entry }
+    {
+        match Header::read(lists.ctf) {
+            Ok(header) => Checked {
+                lists,
+                header,
+                count,
+            },
+            Err(_) => unreachable!(),
+        }
+    }
 
     fn strings(&self) -> Strings<'a>
         ensures { tables result ≡ tables_of self.now }
@@ -98,7 +117,16 @@ impl<'a> Checked<'a> {
         ensures { option_map (λ x. x.name) (term_of (tables_of self.now) (bytes_of term.now))
             ≡ Some result.now }
     {
-        self.named(u32_at(term.bytes, 0))
+        self.named(term.name_ref())
+    }
+
+    /// What stands behind the head of a type of the dictionary.
+    pub fn variant(&self, term: &Record<'a>) -> Variant<'a>
+        requires own { IsOwn self.now term.now }
+        ensures { option_map (λ x. shown x.body) (term_of (tables_of self.now) (bytes_of term.now))
+            ≡ Some (seen result) }
+    {
+        variant(term, self.strings())
     }
 
     /// The lists that it was handed in as.

@@ -1,24 +1,30 @@
 //! The check: which rule a dictionary breaks first.
-ghost use Rattle.std.specs.Prelude.{◌≡◌, length, IfOk, IfErr, OnOk, IsNone, Some, None, option_copied};
-ghost use Rattle.ctf_model.specs.Faults.{first_fault};
+ghost use Rattle.std.specs.Prelude.{◌≡◌, ◌≤◌, ◌<◌, ◌^◌, ◌⊎◌, length, IfOk, IfErr, OnOk, IsNone, Some, None, option_copied};
+ghost use Rattle.ctf_model.specs.Faults.{first_fault, walk_fault};
+ghost use Rattle.ctf_chains.specs.Steps.{AreSpelled};
+ghost use Rattle.ctf_model.specs.Name.{Tables};
 ghost use Rattle.ctf_model.specs.Section.{records};
 ghost use Rattle.ctf_check.specs.CheckedView.{lists_of};
 ghost use Rattle.ctf_check.specs.ListsView.{given};
-ghost use Rattle.ctf_check.specs.Stages.{records_fault};
+ghost use Rattle.ctf_check.specs.Stages.{records_fault, types_fault, want_of_memory};
 
 use crate::checked::Checked;
-use crate::cursor::Records;
 use crate::ends::NameEnds;
+use crate::judging::judge_chains;
 use crate::lists::LentLists;
 use crate::names::bad_name;
+use crate::references::{Numbers, bad_reference};
 use crate::sections::bytes_in;
 use ctf_model::{Fault, Section};
+use ctf_records::Records;
 use ctf_sections::Header;
+use std::alloc::Global;
 
 /// How many records a section has.
 #[tactic(auto, using(crate::proofs::Reading::walk_len))]
 fn count_records(types: &[u8]) -> Result<usize, Fault>
     ensures count { IfOk result (λ n. n ≡ length (records types.now)) }
+    ensures few { IfOk result (λ n. n ≤ 32766) }
     ensures exact_ok { OnOk result (records_fault (records types.now) ≡ None) }
     ensures exact_err { IfErr result (λ f. records_fault (records types.now) ≡ Some f) }
 {
@@ -36,9 +42,33 @@ fn count_records(types: &[u8]) -> Result<usize, Fault>
     Ok(count)
 }
 
+/// Judges the types of records: what they name, and then their chains.
+///
+/// Takes eight bytes for each record while it runs.
+fn judge_types(alloc: Global, types: &[u8], numbers: Numbers) -> Result<(), Fault>
+    requires whole { walk_fault (records types.now) ≡ None }
+    requires count { numbers.count ≡ length (records types.now) }
+    requires short { length types.now < 2 ^ 32 }
+    ensures ok { OnOk result ((t : Tables) → AreSpelled t (records types.now) → types_fault t numbers.child (records types.now) ≡ None) }
+    ensures err { IfErr result (λ f. (f ≡ want_of_memory)
+        ⊎ ((t : Tables) → AreSpelled t (records types.now) → types_fault t numbers.child (records types.now) ≡ Some f)) }
+{
+    match bad_reference(types, numbers) {
+        Some(place) => Err(Fault {
+            code: Fault::BAD_REFERENCE,
+            place,
+        }),
+        None => judge_chains(alloc, types, numbers),
+    }
+}
+
 /// Judges a dictionary that is handed in as its CTF section and, where they are there, the program's
-/// symbol table and its strings. Its records are read once for their form and once for their names.
+/// symbol table and its strings.
+///
+/// Reads each record, member, enumerator and argument a bounded number of times, and takes eight
+/// bytes for each record while it runs. Where that is refused, the fault is `Memory`.
 pub fn check<'a>(
+    alloc: Global,
     ctf: &'a [u8],
     sym: Option<&'a [u8]>,
     strs: Option<&'a [u8]>,
@@ -48,11 +78,12 @@ pub fn check<'a>(
         ≡ given ctf.now (option_copied sym.entry) (option_copied strs.entry)) }
     ensures exact_ok { OnOk result (first_fault
         (given ctf.now (option_copied sym.entry) (option_copied strs.entry)) ≡ None) }
-    ensures exact_err { IfErr result (λ f. first_fault
-        (given ctf.now (option_copied sym.entry) (option_copied strs.entry)) ≡ Some f) }
+    ensures exact_err { IfErr result (λ f. (f ≡ want_of_memory) ⊎ (first_fault
+        (given ctf.now (option_copied sym.entry) (option_copied strs.entry)) ≡ Some f)) }
 {
     let header = Header::read(ctf)?;
-    let count = count_records(bytes_in(ctf, header, Section::STypes))?;
+    let types = bytes_in(ctf, header, Section::STypes);
+    let count = count_records(types)?;
     let ends = NameEnds::new(bytes_in(ctf, header, Section::SStrings), strs);
     if let Some(place) = bad_name(ctf, header, ends) {
         return Err(Fault {
@@ -60,6 +91,8 @@ pub fn check<'a>(
             place,
         });
     }
+    let child = header.parname() != 0;
+    judge_types(alloc, types, Numbers { child, count })?;
     Ok(Checked {
         lists: LentLists { ctf, sym, strs },
         header,

@@ -2,12 +2,12 @@
 #![tactic(auto)]
 
 mod checked;
-mod cursor;
 mod ends;
 mod judge;
+mod judging;
 mod lists;
 mod names;
-mod record;
+mod references;
 mod sections;
 #[cfg(test)]
 mod tests;
@@ -15,4 +15,3 @@ mod tests;
 pub use checked::Checked;
 pub use judge::check;
 pub use lists::LentLists;
-pub use record::Record;

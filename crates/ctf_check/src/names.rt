@@ -1,14 +1,17 @@
 //! The rule of names: each name reference names something.
-ghost use Rattle.std.specs.Prelude.{◌≡◌, ◌≤◌, ◌+◌, ◌*◌, ◌^◌, length};
+ghost use Rattle.std.specs.Prelude.{◌≡◌, ◌≤◌, ◌<◌, ◌+◌, ◌*◌, ◌^◌, length};
 ghost use Rattle.ctf_model.specs.Header.{fields};
-ghost use Rattle.ctf_model.specs.Faults.{first_nameless, label_sites, record_sites, sites};
+ghost use Rattle.ctf_model.specs.Faults.{first_nameless, label_sites, item_sites, list_sites, record_sites, sites};
+ghost use Rattle.ctf_model.specs.Record.{kind as kind_in};
 ghost use Rattle.ctf_model.specs.Section.{records};
+ghost use Rattle.ctf_records.specs.RecordView.{bytes_of};
 ghost use Rattle.ctf_check.specs.EndsView.{tables_in};
-ghost use Rattle.ctf_check.specs.Stages.{header_sites};
+ghost use Rattle.ctf_check.specs.Stages.{header_sites, own_sites};
 
-use crate::cursor::Records;
 use crate::ends::NameEnds;
-use ctf_model::Section;
+use crate::references::member_len_of;
+use ctf_model::{Kind, Section};
+use ctf_records::{Record, Records};
 use ctf_sections::Header;
 use ctf_sections::bytes::u32_at;
 
@@ -41,17 +44,72 @@ fn bad_in_labels(ctf: &[u8], start: usize, count: usize, ends: NameEnds<'_>) -> 
     None
 }
 
+/// The first of the names of `count` items of a list that is bad: its place in the dictionary, where
+/// the list begins at `start`.
+#[tactic(auto, using(crate::proofs::Sites::item_sites_next, crate::proofs::Sites::item_sites_end), unfolding(ctf_model::specs::Faults::first_nameless))]
+fn bad_in_items(
+    list: &[u8],
+    start: usize,
+    len: usize,
+    count: usize,
+    ends: NameEnds<'_>,
+) -> Option<u64>
+    requires named { 4 ≤ len × len ≤ 16 }
+    requires room { len * count ≤ length list.now }
+    requires near { start + length list.now < 2 ^ 64 }
+    ensures { result ≡ first_nameless (tables_in ends.entry) (item_sites start len count list.now) }
+{
+    for i in 0..count {
+        let at = len * i;
+        if ends.names_nothing(u32_at(list, at)) {
+            return Some((start + at) as u64);
+        }
+    }
+    None
+}
+
+/// The first of the names in the list of a record that is bad: its place in the dictionary, where
+/// the record begins at `start`.
+#[tactic(auto, unfolding(ctf_model::specs::Faults::first_nameless))]
+fn bad_in_list(term: &Record<'_>, start: usize, ends: NameEnds<'_>) -> Option<u64>
+    requires near { start + length (bytes_of term.now) < 2 ^ 64 }
+    ensures { result ≡ first_nameless (tables_in ends.entry) (list_sites start (bytes_of term.now) (kind_in (bytes_of term.now))) }
+{
+    let rest = term.rest();
+    let behind = start + (term.bytes().len() - rest.len());
+    match term.kind() {
+        Kind::KStruct | Kind::KUnion => {
+            bad_in_items(rest, behind, member_len_of(term.size()), term.vlen(), ends)
+        }
+        Kind::KEnum => bad_in_items(rest, behind, 8, term.vlen(), ends),
+        _ => None,
+    }
+}
+
+/// The first of the names of a record that is bad: its place in the dictionary, where the record
+/// begins at `start`.
+#[tactic(auto, unfolding(ctf_model::specs::Faults::first_nameless))]
+fn bad_in_record(term: &Record<'_>, start: usize, ends: NameEnds<'_>) -> Option<u64>
+    requires near { start + length (bytes_of term.now) < 2 ^ 64 }
+    ensures { result ≡ first_nameless (tables_in ends.entry) (own_sites start (bytes_of term.now)) }
+{
+    if ends.names_nothing(term.name_ref()) {
+        return Some(start as u64);
+    }
+    bad_in_list(term, start, ends)
+}
+
 /// The first of the names of records that is bad: its place in the dictionary, where their section
 /// begins at `start`.
-#[tactic(auto, unfolding(ctf_model::specs::Faults::first_nameless, ctf_model::specs::Faults::record_sites))]
+#[tactic(auto, using(crate::proofs::Sites::record_then_rest, crate::proofs::Sites::no_record, crate::proofs::Sites::no_more_records))]
 fn bad_in_records(types: &[u8], start: usize, ends: NameEnds<'_>) -> Option<u64>
-    requires { start ≤ 2 ^ 63 }
+    requires { start < 2 ^ 63 }
     ensures { result ≡ first_nameless (tables_in ends.entry) (record_sites start (records types.now)) }
 {
     for record in Records::new(types) {
         let Ok(record) = record else { return None };
-        if ends.names_nothing(u32_at(record.bytes, 0)) {
-            return Some((start + record.at) as u64);
+        if let Some(place) = bad_in_record(&record, start + record.place(), ends) {
+            return Some(place);
         }
     }
     None

@@ -1,5 +1,5 @@
 //! The bytes of a section of a dictionary.
-ghost use Rattle.std.specs.Prelude.{◌≡◌, ◌+◌, ◌≤◌, length};
+ghost use Rattle.std.specs.Prelude.{◌≡◌, ◌+◌, ◌≤◌, ◌<◌, ◌^◌, length};
 ghost use Rattle.ctf_model.specs.Header.{fields, section as bytes_of_section};
 
 use ctf_model::Section;
@@ -9,7 +9,8 @@ use ctf_sections::Header;
 pub fn bytes_in<'a>(ctf: &'a [u8], header: Header, section: Section) -> &'a [u8]
     requires fields { header ≡ fields ctf.now }
     requires inside { 36 + header.stroff + header.strlen ≤ length ctf.now }
-    ensures { result.now ≡ bytes_of_section ctf.now section }
+    ensures bytes { result.now ≡ bytes_of_section ctf.now section }
+    ensures short { length result.now < 2 ^ 32 }
 {
     let (start, end) = header.range(section);
     &ctf[start..end]

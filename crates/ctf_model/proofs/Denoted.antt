@@ -1,55 +1,35 @@
 -- Lists that keep every rule denote just one dictionary.
-use Rattle.std.proofs.Common.{◌≡◌, ℕ, zero, suc, ◌+◌, ◌-◌, ◌*◌, ◌/◌, ◌^◌, ◌<◌, ◌≤◌, Bool, true, false, cond, eqb, List, [], ◌∷◌, ◌++◌, length, take, drop, Option, Some, None, Result, refl, sym, ap, subst, ◌∙◌, arith}
+use Rattle.std.proofs.Common.{◌≡◌, ℕ, zero, suc, ◌+◌, ◌-◌, ◌*◌, ◌/◌, ◌<◌, ◌≤◌, Bool, List, [], ◌∷◌, ◌++◌, length, take, drop, Option, Some, None, Result, refl, sym, ap, subst, ◌∙◌, arith}
 use Rattle.std.specs.Prelude.{MatchOption, unwrap_or, ◌↔◌}
 use Rattle.std.specs.List.{concat, AllByRecursion}
 use Rattle.std.proofs.lemmas.List.{length-take, length-drop, take-take, drop-take, drop-drop, append_assoc, nil_from_length}
 use Rattle.std.proofs.lemmas.Option.{same_Some}
 use Rattle.ctf_model.specs.Bytes.{number, u32_at}
 use Rattle.ctf_model.specs.declared.faults.Fault.{Fault}
-use Rattle.ctf_model.specs.declared.kinds.Kind.{Kind}
-use Rattle.ctf_model.specs.declared.kinds.Kind.TheVariants.{KInteger}
 use Rattle.ctf_model.specs.declared.sections.Section.TheVariants.{SLabels, STypes}
-use Rattle.ctf_model.specs.Dictionary.{Dictionary, Label, Denotes, AreLabels, labels_in, terms_in, said_by, denoted, unless_fault}
-use Rattle.ctf_model.specs.Faults.{Site, first_fault, label_sites, record_sites, sites, types}
+use Rattle.ctf_model.specs.Dictionary.{Dictionary, Label, Denotes, AreLabels, labels_in, said_by, denoted, unless_fault}
+use Rattle.ctf_model.specs.Faults.{Site, first_fault, label_sites, list_sites, record_sites, sites, types}
 use Rattle.ctf_model.specs.Header.{fields, section}
 use Rattle.ctf_model.specs.Laws.{KeepsEveryRule, pieces}
 use Rattle.ctf_model.specs.Lists.{Lists, tables}
 use Rattle.ctf_model.specs.Name.{Tables, name}
-use Rattle.ctf_model.specs.Record.{IsWhole, IsWholeAt, Spells, term_of, kind, kind_numbered, info, is_root, scalar}
+use Rattle.ctf_model.specs.Record.{IsWhole, kind}
 use Rattle.ctf_model.specs.Rules.{IsFirstFault}
-use Rattle.ctf_model.specs.Section.{Section, Piece}
+use Rattle.ctf_model.specs.Section.{Section, Piece, terms_in}
 use Rattle.ctf_model.specs.Term.{Term}
-use Rattle.ctf_model.specs.Term as term
 use Rattle.ctf_model.proofs.Judge.{least_fault}
 use Rattle.ctf_model.proofs.HeaderRules.{kept_order, kept_end}
 use Rattle.ctf_model.proofs.NameRules.{IsNameless, any_here, any_there}
 use Rattle.ctf_model.proofs.RecordRules.{kept_records, types_cut}
+use Rattle.ctf_model.proofs.Spelled.{IsNamed, AreNamed, split_front, split_back, spelled}
 use Rattle.ctf_model.proofs.Unique.{one_list}
 
 -- ---- names that are good
-
--- the reference names something
-abbrev IsNamed : Tables → ℕ → Type 0
-IsNamed t reference = name t reference ≡ None → ⊥
-
--- the references of all sites name something
-abbrev AreNamed : Tables → List Site → Type 0
-AreNamed t xs = AllByRecursion (λ (site : Site). IsNamed t site.reference) xs
 
 -- where no site is nameless, all are named
 all_named : (t : Tables) (xs : List Site) → ((p : ℕ) → IsNameless t xs p → ⊥) → AreNamed t xs
 all_named t [] h = tt
 all_named t (site ∷ more) h = (λ e. h site.place (any_here _ site more (refl, e)), all_named t more (λ p a. h p (any_there _ site more a)))
-
--- of named sites the first ones are named
-split_front : (t : Tables) (xs ys : List Site) → AreNamed t (xs ++ ys) → AreNamed t xs
-split_front t [] ys h = tt
-split_front t (x ∷ xs) ys h = (h.0, split_front t xs ys h.1)
-
--- of named sites the last ones are named
-split_back : (t : Tables) (xs ys : List Site) → AreNamed t (xs ++ ys) → AreNamed t ys
-split_back t [] ys h = h
-split_back t (x ∷ xs) ys h = split_back t xs ys h.1
 
 -- what is there is the value
 the_value : (o : Option (List ℕ)) → (o ≡ None → ⊥) → o ≡ Some (unwrap_or o [])
@@ -74,34 +54,16 @@ labels_read t ctf (suc n) at len inside low high named =
 
 -- ---- types
 
--- the one kind that is known yet is the integer
-known : (n : ℕ) (k : Kind) → kind_numbered n ≡ Some k → k ≡ KInteger
-known n k e = at (eqb n 1) e
-  where
-    at : (b : Bool) → cond b (Some KInteger) None ≡ Some k → k ≡ KInteger
-    at true e = cc
-    at false e = absurd cc
-
--- a whole record with a good name spells a type
-spelled : (t : Tables) (b : List ℕ) → IsWhole b → IsNamed t (u32_at b 0) → (x : Term) × Spells t b x
-unfolding IsWhole term_of
-spelled t b whole named = at (kind b) refl whole (name t (u32_at b 0)) refl
-  where
-    at : (k : Option Kind) → kind b ≡ k → MatchOption k ⊥ (IsWholeAt b) → (n : Option (List ℕ)) → name t (u32_at b 0) ≡ n → (x : Term) × Spells t b x
-    at None e w n f = absurd w
-    at (Some k) e w None f = absurd (named f)
-    at (Some k) e w (Some text) f =
-        let integer = known (info b / 2 ^ 11) k e in
-        (record { name = text; root = is_root b; body = term.integer (scalar b) }, record { whole = whole; says = rw (e, integer, f) refl })
-
 -- the types that are read are those that the bytes spell, where their names are good
 terms_read : (t : Tables) (start : ℕ) (parts : List (List ℕ)) (rest b : List ℕ) (index at : ℕ) → b ≡ concat parts ++ rest → length rest ≡ 0 → AllByRecursion IsWhole parts → AreNamed t (record_sites start (pieces index at parts rest))
     → Section t b (terms_in t (pieces index at parts rest))
 unfolding record_sites terms_in
 terms_read t start [] rest b index at joined ends whole named = rw ends (joined ∙ nil_from_length rest ends)
 terms_read t start (part ∷ parts) rest b index at joined ends whole named =
-    let x = spelled t part whole.0 named.0 in
-    let later = terms_read t start parts rest (concat parts ++ rest) (index + 1) (at + length part) refl ends whole.1 named.1 in
+    let listed = list_sites (start + at) part (kind part) in
+    let others = record_sites start (pieces (index + 1) (at + length part) parts rest) in
+    let x = spelled t part (start + at) whole.0 named.0 (split_front t listed others named.1) in
+    let later = terms_read t start parts rest (concat parts ++ rest) (index + 1) (at + length part) refl ends whole.1 (split_back t listed others named.1) in
     rw x.1.says (part, concat parts ++ rest, joined ∙ append_assoc part (concat parts) rest, x.1, later)
 
 -- ---- a dictionary
@@ -130,8 +92,8 @@ section_len ctf a b le inside = omega (arith, length-take (b - a) (drop a ctf), 
 labels_said : (s : Lists) → KeepsEveryRule s → AreLabels (tables s) (section s.ctf SLabels) (labels_in (tables s) (length (section s.ctf SLabels) / 8) (section s.ctf SLabels))
 labels_said s keeps =
     let h = fields s.ctf in
-    let order = kept_order s 14 (omega arith) (λ rule lt. keeps rule) in
-    let inside = kept_end s 14 (omega arith) (λ rule lt. keeps rule) in
+    let order = kept_order s 17 (omega arith) (λ rule lt. keeps rule) in
+    let inside = kept_end s 17 (omega arith) (λ rule lt. keeps rule) in
     let objects = order.objects in
     let functions = order.functions in
     let before = order.types in
@@ -146,7 +108,7 @@ labels_said s keeps =
 -- the types that are said are those of the bytes
 terms_said : (s : Lists) → KeepsEveryRule s → Section (tables s) (section s.ctf STypes) (terms_in (tables s) (types s.ctf))
 terms_said s keeps =
-    let r = kept_records s 14 (omega arith) (λ rule lt. keeps rule) in
+    let r = kept_records s 17 (omega arith) (λ rule lt. keeps rule) in
     let same = types_cut s.ctf r.0 r.1 r.2 in
     let named = subst (λ (rs : List (Result Piece Fault)). AreNamed (tables s) (record_sites (36 + (fields s.ctf).typeoff) rs)) same (good s keeps).records in
     subst (λ (rs : List (Result Piece Fault)). Section (tables s) (section s.ctf STypes) (terms_in (tables s) rs)) (sym same)

@@ -1,11 +1,15 @@
+pub mod ChainRules
 pub mod Cut
 pub mod Denoted
 pub mod FirstFault
 pub mod HeaderRules
+pub mod Items
 pub mod Judge
 pub mod NameRules
 pub mod Nameless
 pub mod Prefix
 pub mod RecordRules
+pub mod ReferenceRules
+pub mod Spelled
 pub mod Unique
 pub mod Walk

@@ -1,13 +1,18 @@
 -- The rule of names agrees with its fact: the sites are listed by rising places.
-use Rattle.std.proofs.Common.{◌≡◌, ℕ, zero, suc, ◌+◌, ◌-◌, ◌*◌, ◌/◌, ◌<◌, ◌≤◌, Bool, true, false, cond, eqb, List, [], ◌∷◌, ◌++◌, length, Option, Some, None, Result, Err, refl, sym, subst, arith, ◌⊎◌, inl, inr}
-use Rattle.std.specs.Prelude.{is_none, Any, slice_index_or}
+use Rattle.std.proofs.Common.{◌≡◌, ℕ, zero, suc, ◌+◌, ◌-◌, ◌*◌, ◌/◌, ◌<◌, ◌≤◌, Bool, true, false, cond, eqb, List, [], ◌∷◌, ◌++◌, length, drop, Option, Some, None, Result, Err, refl, sym, subst, arith, ◌⊎◌, inl, inr}
+use Rattle.std.specs.Prelude.{is_none, Any, slice_index_or, MatchOption}
+use Rattle.std.specs.List.{AllByRecursion}
+use Rattle.std.proofs.Math.Nat.{mul-suc}
 use Rattle.ctf_model.specs.declared.faults.Fault.{Fault}
+use Rattle.ctf_model.specs.declared.kinds.Kind.{Kind}
+use Rattle.ctf_model.specs.declared.kinds.Kind.TheVariants.{KUnknown, KInteger, KFloat, KPointer, KArray, KFunction, KStruct, KUnion, KEnum, KForward, KTypedef, KVolatile, KConst, KRestrict}
 use Rattle.ctf_model.specs.declared.sections.Section.TheVariants.{STypes}
-use Rattle.ctf_model.specs.Faults.{Site, first_nameless, label_sites, record_sites, sites, bad_name, types}
+use Rattle.ctf_model.specs.Faults.{Site, first_nameless, label_sites, item_sites, list_sites, record_sites, sites, bad_name, types}
 use Rattle.ctf_model.specs.Header.{fields, section}
 use Rattle.ctf_model.specs.Laws.{pieces}
 use Rattle.ctf_model.specs.Lists.{Lists, tables}
 use Rattle.ctf_model.specs.Name.{Tables, name}
+use Rattle.ctf_model.specs.Record.{IsWhole, IsWholeAt, kind, size, vlen, head_len, member_len, behind_head}
 use Rattle.ctf_model.specs.Rules.{IsBroken, Keeps}
 use Rattle.ctf_model.specs.Section.{Piece, stop_code}
 use Rattle.ctf_model.proofs.Cut.{read}
@@ -26,7 +31,7 @@ pub any_there : {X : Type 0} (P : X → Type 0) (x : X) (xs : List X) → Any P 
 any_there P x xs a = let lt = a.2 in (suc a.0, a.1, omega arith, a.3, a.4)
 
 -- what holds of some holds of the first or of one of the rest
-any_split : {X : Type 0} (P : X → Type 0) (x : X) (xs : List X) → Any P (x ∷ xs) → P x ⊎ Any P xs
+pub any_split : {X : Type 0} (P : X → Type 0) (x : X) (xs : List X) → Any P (x ∷ xs) → P x ⊎ Any P xs
 any_split {X} P x xs a = at a.0 a.1 a.2 a.3 a.4
   where
     at : (k : ℕ) (y : X) → k < length (x ∷ xs) → slice_index_or (x ∷ xs) k y ≡ y → P y → P x ⊎ Any P xs
@@ -94,15 +99,50 @@ unfolding label_sites
 labels_rising ctf at zero low high more le end r = lower low high more (omega arith) r
 labels_rising ctf at (suc n) low high more le end r = (le, labels_rising ctf (at + 8) n at high more (omega arith) (omega arith) r)
 
+-- the sites of items rise, and then those behind them
+items_rising : (place len n : ℕ) (b : List ℕ) (low high : ℕ) (more : List Site) → low ≤ place → place + len * n ≤ high → IsRising high more → IsRising low (item_sites place len n b ++ more)
+unfolding item_sites
+items_rising place len zero b low high more le end r = lower low high more (omega arith) r
+items_rising place len (suc n) b low high more le end r = let total = mul-suc len n in (le, items_rising (place + len) len n (drop len b) place high more (omega arith) (omega arith) r)
+
+-- the sites in the list of a whole record rise, and then those behind it
+list_rising : (place : ℕ) (b : List ℕ) (more : List Site) → IsWhole b → IsRising (place + length b) more → IsRising place (list_sites place b (kind b) ++ more)
+unfolding IsWhole
+list_rising place b more whole r = at (kind b) whole
+  where
+    past : IsRising place more
+    past = lower place (place + length b) more (omega arith) r
+
+    listed : (len : ℕ) → length b ≡ head_len b + len * vlen b → IsRising place (item_sites (place + head_len b) len (vlen b) (behind_head b) ++ more)
+    listed len e = items_rising (place + head_len b) len (vlen b) (behind_head b) place (place + length b) more (omega arith) (omega arith) r
+
+    at : (k : Option Kind) → MatchOption k ⊥ (IsWholeAt b) → IsRising place (list_sites place b k ++ more)
+    at None w = absurd w
+    at (Some KUnknown) w = past
+    at (Some KInteger) w = past
+    at (Some KFloat) w = past
+    at (Some KPointer) w = past
+    at (Some KArray) w = past
+    at (Some KFunction) w = past
+    at (Some KStruct) w = listed (member_len (size b)) w.ends
+    at (Some KUnion) w = listed (member_len (size b)) w.ends
+    at (Some KEnum) w = listed 8 w.ends
+    at (Some KForward) w = past
+    at (Some KTypedef) w = past
+    at (Some KVolatile) w = past
+    at (Some KConst) w = past
+    at (Some KRestrict) w = past
+
 -- the sites of records rise
-records_rising : (start low : ℕ) (parts : List (List ℕ)) (rest : List ℕ) (index at : ℕ) → low ≤ start + at → IsRising low (record_sites start (pieces index at parts rest))
+records_rising : (start low : ℕ) (parts : List (List ℕ)) (rest : List ℕ) (index at : ℕ) → AllByRecursion IsWhole parts → low ≤ start + at → IsRising low (record_sites start (pieces index at parts rest))
 unfolding record_sites
-records_rising start low [] rest index at le = end (eqb (length rest) 0)
+records_rising start low [] rest index at whole le = end (eqb (length rest) 0)
   where
     end : (b : Bool) → IsRising low (record_sites start (cond b [] (Err (record { code = stop_code rest; place = index }) ∷ [])))
     end true = tt
     end false = tt
-records_rising start low (part ∷ parts) rest index at le = (le, records_rising start (start + at) parts rest (index + 1) (at + length part) (omega arith))
+records_rising start low (part ∷ parts) rest index at whole le =
+    (le, list_rising (start + at) part (record_sites start (pieces (index + 1) (at + length part) parts rest)) whole.0 (records_rising start (start + at + length part) parts rest (index + 1) (at + length part) whole.1 (omega arith)))
 
 -- where the sections are in order, all sites rise
 sites_rising : (s : Lists) → InOrder (fields s.ctf) → IsRising 0 (sites s.ctf)
@@ -110,7 +150,7 @@ unfolding sites
 sites_rising s ok =
     let h = fields s.ctf in
     let r = read (section s.ctf STypes) in
-    let places : IsRising (36 + h.typeoff) (record_sites (36 + h.typeoff) (pieces 1 0 r.0 r.1)) = records_rising (36 + h.typeoff) (36 + h.typeoff) r.0 r.1 1 0 (omega arith) in
+    let places : IsRising (36 + h.typeoff) (record_sites (36 + h.typeoff) (pieces 1 0 r.0 r.1)) = records_rising (36 + h.typeoff) (36 + h.typeoff) r.0 r.1 1 0 r.2.cut.whole (omega arith) in
     let found : IsRising (36 + h.typeoff) (record_sites (36 + h.typeoff) (types s.ctf)) = subst (λ (rs : List (Result Piece Fault)). IsRising (36 + h.typeoff) (record_sites (36 + h.typeoff) rs)) (sym (types_cut s.ctf r.0 r.1 r.2.cut)) places in
     let objects = ok.objects in
     let functions = ok.functions in

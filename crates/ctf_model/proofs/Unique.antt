@@ -7,7 +7,8 @@ use Rattle.std.proofs.lemmas.Option.{same_Some}
 use Rattle.ctf_model.specs.declared.kinds.Kind.{Kind}
 use Rattle.ctf_model.specs.Name.{Tables}
 use Rattle.ctf_model.specs.Term.{Term}
-use Rattle.ctf_model.specs.Record.{IsWhole, term_of, kind, IsWholeAt}
+use Rattle.ctf_model.specs.Record.{IsWhole, kind, IsWholeAt}
+use Rattle.ctf_model.specs.Spelling.{term_of}
 use Rattle.ctf_model.specs.Section.{Section}
 use Rattle.ctf_model.proofs.Prefix.{IsWhole-prefix}
 

@@ -1,12 +1,11 @@
 -- What the bytes of a dictionary denote. Source: ctf(5); a child is told by its parent's name (ours).
-use Rattle.std.specs.Prelude.{◌≡◌, ◌<◌, ◌≤◌, ℕ, zero, suc, ◌/◌, ◌==◌, not, Bool, List, [], ◌∷◌, length, drop, Option, Some, None, Result, Ok, Err, unwrap_or}
+use Rattle.std.specs.Prelude.{◌≡◌, ◌<◌, ◌≤◌, ℕ, zero, suc, ◌/◌, Bool, List, [], ◌∷◌, length, drop, Option, Some, None, unwrap_or}
 use Rattle.ctf_model.specs.Bytes.{u32_at}
 use Rattle.ctf_model.specs.Faults.{first_fault, types}
-use Rattle.ctf_model.specs.Header.{fields, section}
+use Rattle.ctf_model.specs.Header.{fields, is_child, section}
 use Rattle.ctf_model.specs.Lists.{Lists, tables}
 use Rattle.ctf_model.specs.Name.{Tables, name}
-use Rattle.ctf_model.specs.Spelling.{term_of}
-use Rattle.ctf_model.specs.Section.{Section, Piece}
+use Rattle.ctf_model.specs.Section.{Section, terms_in}
 use Rattle.ctf_model.specs.Term.{Term}
 use Rattle.ctf_model.specs.declared.faults.Fault.{Fault}
 use Rattle.ctf_model.specs.declared.sections.Section.TheVariants.{SLabels, STypes}
@@ -34,7 +33,7 @@ AreLabels t b (label ∷ labels) = (8 ≤ length b) × (name t (u32_at b 0) ≡ 
 -- the lists break no rule, and say this dictionary
 pub record Denotes (s : Lists) (d : Dictionary) : Type 0 where
   pub faultless : first_fault s ≡ None
-  pub child : d.child ≡ not ((fields s.ctf).parname == 0)
+  pub child : d.child ≡ is_child (fields s.ctf)
   pub parname : name (tables s) (fields s.ctf).parname ≡ Some d.parname
   pub parlabel : name (tables s) (fields s.ctf).parlabel ≡ Some d.parlabel
   pub labels : AreLabels (tables s) (section s.ctf SLabels) d.labels
@@ -50,24 +49,13 @@ unfoldable pub labels_in : Tables → ℕ → List ℕ → List Label
 labels_in t zero b = []
 labels_in t (suc n) b = record { name = name_or_empty t (u32_at b 0); last = u32_at b 4 } ∷ labels_in t n (drop 8 b)
 
--- x, where it is there, in front
-abbrev pub onto : Option Term → List Term → List Term
-onto None xs = xs
-onto (Some x) xs = x ∷ xs
-
--- the types that records spell
-unfoldable pub terms_in : Tables → List (Result Piece Fault) → List Term
-terms_in t [] = []
-terms_in t (Ok piece ∷ rest) = onto (term_of t piece.bytes) (terms_in t rest)
-terms_in t (Err f ∷ rest) = terms_in t rest
-
 -- what the lists say, where they break no rule
 unfoldable pub said_by : Lists → Dictionary
 said_by s =
     let t = tables s in
     let h = fields s.ctf in
     record {
-      child = not (h.parname == 0);
+      child = is_child h;
       parname = name_or_empty t h.parname;
       parlabel = name_or_empty t h.parlabel;
       labels = labels_in t (length (section s.ctf SLabels) / 8) (section s.ctf SLabels);

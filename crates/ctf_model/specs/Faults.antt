@@ -2,11 +2,14 @@
 -- The rules themselves are ours, over the layout of ctf(5); Rules.antt says them as facts.
 use Rattle.std.specs.Prelude.{ℕ, zero, suc, ◌+◌, ◌-◌, ◌/◌, ◌%◌, ◌++◌, Result, Ok, Err, is_none, ◌==◌, ◌||◌, ◌&&◌, not, nat_lt, Bool, List, [], ◌∷◌, length, map, drop, slice_index, Option, Some, None, if◌then◌else◌}
 use Rattle.ctf_model.specs.Bytes.{u16_at, u32_at}
-use Rattle.ctf_model.specs.Header.{Fields, fields, section}
+use Rattle.ctf_model.specs.Chains.{by_value, declarator, edges, longest_chain, within}
+use Rattle.ctf_model.specs.Header.{Fields, fields, is_child, section}
 use Rattle.ctf_model.specs.Lists.{Lists, tables}
 use Rattle.ctf_model.specs.Name.{Tables, name}
 use Rattle.ctf_model.specs.Record.{kind, size, vlen, head_len, member_len, behind_head}
-use Rattle.ctf_model.specs.Section.{Piece, records}
+use Rattle.ctf_model.specs.References.{is_misnaming}
+use Rattle.ctf_model.specs.Section.{Piece, records, terms_in}
+use Rattle.ctf_model.specs.Term.{Body}
 use Rattle.ctf_model.specs.declared.faults.Fault.{Fault}
 use Rattle.ctf_model.specs.declared.faults.TheConstants.Fault.{TRUNCATED, BAD_KIND}
 use Rattle.ctf_model.specs.declared.kinds.Kind.{Kind}
@@ -136,6 +139,35 @@ sites ctf =
 unfoldable pub bad_name : Lists → Option ℕ
 bad_name s = first_nameless (tables s) (sites s.ctf)
 
+-- ---- references and chains
+
+-- the first of the records that names a type which is not there
+unfoldable pub first_misnaming : Tables → Bool → ℕ → List (Result Piece Fault) → Option ℕ
+first_misnaming t child count [] = None
+first_misnaming t child count (Ok p ∷ rest) = if is_misnaming t child count p.bytes then Some p.index else first_misnaming t child count rest
+first_misnaming t child count (Err f ∷ rest) = None
+
+-- a record names a type that is not there
+unfoldable pub bad_reference : Lists → Option ℕ
+bad_reference s = first_misnaming (tables s) (is_child (fields s.ctf)) (length (types s.ctf)) (types s.ctf)
+
+-- the first of n types from type i on where a chain begins that is too long, numbered from 1
+unfoldable pub first_deep : List (List ℕ) → ℕ → ℕ → Option ℕ
+first_deep es i zero = None
+first_deep es i (suc n) = if within es longest_chain i then first_deep es (i + 1) n else Some (i + 1)
+
+-- where the types lead by such steps
+unfoldable pub edges_by : (Body → List ℕ) → Lists → List (List ℕ)
+edges_by steps s = edges steps (is_child (fields s.ctf)) (terms_in (tables s) (types s.ctf))
+
+-- a value is, or holds, values on and on
+abbrev pub value_deep : Lists → Option ℕ
+value_deep s = first_deep (edges_by by_value s) 0 (length (types s.ctf))
+
+-- a declaration goes on and on
+abbrev pub decl_deep : Lists → Option ℕ
+decl_deep s = first_deep (edges_by declarator s) 0 (length (types s.ctf))
+
 -- ---- the table
 
 -- the rules of the header, numbered from 1
@@ -147,7 +179,7 @@ on_ctf rule s = rule s.ctf
 
 -- all rules, numbered from 1
 unfoldable pub rules : List (Lists → Option ℕ)
-rules = map on_ctf header_rules ++ truncated ∷ bad_kind ∷ too_many ∷ bad_name ∷ []
+rules = map on_ctf header_rules ++ truncated ∷ bad_kind ∷ too_many ∷ bad_name ∷ bad_reference ∷ value_deep ∷ decl_deep ∷ []
 
 -- a fault at the place, if there is one, else what comes later
 abbrev pub or_later : ℕ → Option ℕ → Option Fault → Option Fault

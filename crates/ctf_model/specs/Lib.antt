@@ -10,6 +10,7 @@ pub mod Laws
 pub mod Faults
 pub mod Rules
 pub mod Dictionary
+pub mod References
 pub mod Chains
 pub mod TypeNumbers
 pub mod State
@@ -21,3 +22,4 @@ pub mod Ask
 pub mod ReplyLines
 pub mod Output
 pub mod Rows
+pub mod KindRows

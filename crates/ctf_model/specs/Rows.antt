@@ -105,7 +105,6 @@ pub record BytesHaveFaults : Type 0 where
   pub strings : first_fault (alone (header 0 0 0 0 0 1 ++ 105 ∷ [])) ≡ Some (fault 9 0)
   pub cut_record : first_fault (alone (header 0 0 0 0 8 0 ++ take 8 (integer_record 0))) ≡ Some (fault 10 1)
   pub cut_second : first_fault (alone (header 0 0 0 0 16 0 ++ integer_record 0 ++ 0 ∷ 0 ∷ 0 ∷ 0 ∷ [])) ≡ Some (fault 10 2)
-  pub pointer : first_fault (alone (header 0 0 0 0 8 0 ++ 0 ∷ 0 ∷ 0 ∷ 0 ∷ 0 ∷ 0x18 ∷ 1 ∷ 0 ∷ [])) ≡ Some (fault 11 1)
   pub no_table : first_fault (alone outer_bytes) ≡ Some (fault 13 36)
   pub parent_name : first_fault (alone (header 1 0 0 0 0 0)) ≡ Some (fault 13 8)
 

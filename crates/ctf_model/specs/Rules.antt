@@ -1,13 +1,18 @@
 -- The rules that a dictionary keeps, each as a fact about the whole lists. Source: ours, over the layout of ctf(5).
-use Rattle.std.specs.Prelude.{◌≡◌, ◌≢◌, ◌<◌, ◌≤◌, ℕ, ◌+◌, ◌%◌, List, [], ◌∷◌, length, slice_index, slice_index_or, None, Any, ◌⊎◌}
+use Rattle.std.specs.Prelude.{◌≡◌, ◌≢◌, ◌<◌, ◌≤◌, ℕ, ◌+◌, ◌%◌, List, [], ◌∷◌, length, slice_index, slice_index_or, Bool, true, false, None, Some, Result, Ok, Err, Any, ◌⊎◌}
 use Rattle.ctf_model.specs.Bytes.{u16_at}
-use Rattle.ctf_model.specs.Faults.{sites}
-use Rattle.ctf_model.specs.Header.{Fields, fields, section}
+use Rattle.ctf_model.specs.Chains.{by_value, declarator, longest_chain, IsWithin}
+use Rattle.ctf_model.specs.Faults.{sites, types, edges_by}
+use Rattle.ctf_model.specs.Header.{Fields, fields, is_child, section}
 use Rattle.ctf_model.specs.Lists.{Lists, tables}
-use Rattle.ctf_model.specs.Name.{name}
-use Rattle.ctf_model.specs.Record.{kind}
-use Rattle.ctf_model.specs.Section.{IsCut}
+use Rattle.ctf_model.specs.Name.{Tables, name}
+use Rattle.ctf_model.specs.Record.{kind, field}
+use Rattle.ctf_model.specs.References.{references}
+use Rattle.ctf_model.specs.Section.{IsCut, Piece}
+use Rattle.ctf_model.specs.Spelling.{term_of}
+use Rattle.ctf_model.specs.Term.{Term, Body}
 use Rattle.ctf_model.specs.declared.faults.Fault.{Fault}
+use Rattle.ctf_model.specs.declared.kinds.Kind.TheVariants.{KForward}
 use Rattle.ctf_model.specs.declared.sections.Section.TheVariants.{STypes, SStrings}
 
 -- ---- each rule, whatever the rules before it say: the lists break it at a place
@@ -65,6 +70,38 @@ TooMany s place = (parts : List (List ℕ)) × (rest : List ℕ) × IsCut (secti
 abbrev pub BadName : Lists → ℕ → Type 0
 BadName s place = Any (λ site. (site.place ≡ place) × (name (tables s) site.reference ≡ None)) (sites s.ctf)
 
+-- no type has the number
+abbrev pub IsMissing : Bool → ℕ → ℕ → Type 0
+IsMissing true count n = (n ≡ 0x8000) ⊎ (0x8000 + count < n)
+IsMissing false count n = count < n
+
+-- the record says a type that names one which is not there
+abbrev pub NamesMissing : Tables → Bool → ℕ → List ℕ → Type 0
+NamesMissing t child count b = (x : Term) × (term_of t b ≡ Some x) × Any (IsMissing child count) (references x.body)
+
+-- the record is a forward, and the mark of the long form stands where it has the kind that it declares
+abbrev pub HasLongTag : List ℕ → Type 0
+HasLongTag b = (kind b ≡ Some KForward) × (field b ≡ 0xffff)
+
+-- this is the record at the place, and it names a type that is not there
+abbrev pub Misnames : Lists → ℕ → Result Piece Fault → Type 0
+Misnames s place (Ok p) = (p.index ≡ place) × (HasLongTag p.bytes ⊎ NamesMissing (tables s) (is_child (fields s.ctf)) (length (types s.ctf)) p.bytes)
+Misnames s place (Err f) = ⊥
+
+-- the record at the place names a type that is not there
+abbrev pub BadReference : Lists → ℕ → Type 0
+BadReference s place = Any (Misnames s place) (types s.ctf)
+
+-- a chain of too many steps begins at the type of the place
+abbrev pub IsDeepBy : (Body → List ℕ) → Lists → ℕ → Type 0
+IsDeepBy steps s place = (i : ℕ) × (i < length (types s.ctf)) × (¬ IsWithin (edges_by steps s) longest_chain i) × (place ≡ i + 1)
+
+abbrev pub ValueDeep : Lists → ℕ → Type 0
+ValueDeep s place = IsDeepBy by_value s place
+
+abbrev pub DeclDeep : Lists → ℕ → Type 0
+DeclDeep s place = IsDeepBy declarator s place
+
 -- ---- the first fault
 
 -- no rule has the number 0
@@ -73,7 +110,7 @@ Never s place = ⊥
 
 -- the rules by their numbers
 abbrev pub rules : List (Lists → ℕ → Type 0)
-rules = Never ∷ TooShort ∷ BadMagic ∷ BadVersion ∷ IsCompressed ∷ ShortHeader ∷ BadOrder ∷ BadAlign ∷ PastEnd ∷ BadStrings ∷ Truncated ∷ BadKind ∷ TooMany ∷ BadName ∷ []
+rules = Never ∷ TooShort ∷ BadMagic ∷ BadVersion ∷ IsCompressed ∷ ShortHeader ∷ BadOrder ∷ BadAlign ∷ PastEnd ∷ BadStrings ∷ Truncated ∷ BadKind ∷ TooMany ∷ BadName ∷ BadReference ∷ ValueDeep ∷ DeclDeep ∷ []
 
 -- the rule of a number is broken at the place
 abbrev pub IsBroken : Lists → ℕ → ℕ → Type 0

@@ -7,7 +7,7 @@ use Rattle.ctf_model.specs.declared.faults.TheConstants.Fault.{TRUNCATED, BAD_KI
 use Rattle.ctf_model.specs.Name.{Tables}
 use Rattle.ctf_model.specs.Term.{Term}
 use Rattle.ctf_model.specs.Record.{IsWhole, head_len, variant_len, size, vlen, kind}
-use Rattle.ctf_model.specs.Spelling.{Spells}
+use Rattle.ctf_model.specs.Spelling.{Spells, term_of}
 
 -- the bytes are records, one after the other, that spell these types
 abbrev pub Section : Tables → List ℕ → List Term → Type 0
@@ -58,3 +58,16 @@ walk (suc bound) index at b = if length b == 0 then [] else step b index at (λ 
 
 abbrev pub records : List ℕ → List (Result Piece Fault)
 records b = walk (length b) 1 0 b
+
+-- ---- the types of a section
+
+-- x, where it is there, in front
+abbrev pub onto : Option Term → List Term → List Term
+onto None xs = xs
+onto (Some x) xs = x ∷ xs
+
+-- the types that records spell
+unfoldable pub terms_in : Tables → List (Result Piece Fault) → List Term
+terms_in t [] = []
+terms_in t (Ok piece ∷ rest) = onto (term_of t piece.bytes) (terms_in t rest)
+terms_in t (Err f ∷ rest) = terms_in t rest

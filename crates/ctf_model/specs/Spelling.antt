@@ -1,6 +1,6 @@
 -- Which type a record spells.
 -- Source: ctf(5), "The Type Section"; ctf_member_t, ctf_lmember_t, ctf_enum_t, ctf_array_t, CTF_INT_DATA of sys/ctf.h.
-use Rattle.std.specs.Prelude.{◌≡◌, ℕ, ℤ, zero, suc, ◌+◌, ◌*◌, ◌/◌, ◌%◌, ◌^◌, ◌==◌, List, [], ◌∷◌, drop, nat_lt, Option, Some, None, if◌then◌else◌}
+use Rattle.std.specs.Prelude.{◌≡◌, ℕ, zero, suc, ◌+◌, ◌*◌, ◌/◌, ◌%◌, ◌^◌, ◌==◌, List, [], ◌∷◌, drop, nat_lt, Option, Some, None, if◌then◌else◌}
 use Rattle.std.specs.Option.{option_map}
 use Rattle.std.specs.Int.{cast_signed, w32}
 use Rattle.ctf_model.specs.Bytes.{u16_at, u32_at}

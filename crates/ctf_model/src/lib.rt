@@ -24,7 +24,7 @@ pub use numbers::{SlotNumber, TypeNum};
 pub use replies::{Answer, Reply};
 pub use requests::{ListName, Request};
 pub use rows::{
-    bytes_denote, bytes_have_faults, lines_ask, lines_say, lists_are_long, numbers_name, output_is,
-    session_runs,
+    bytes_denote, bytes_have_faults, kinds_denote, kinds_have_faults, lines_ask, lines_say,
+    lists_are_long, numbers_name, output_is, session_runs,
 };
 pub use sections::Section;

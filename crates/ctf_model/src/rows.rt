@@ -1,4 +1,5 @@
 //! Worked rows: what the definitions say of small inputs. Each is the contract of a function that does nothing.
+ghost use Rattle.ctf_model.specs.KindRows.{KindsDenote, KindsHaveFaults};
 ghost use Rattle.ctf_model.specs.Rows.{BytesDenote, BytesHaveFaults, LinesAsk, LinesSay, ListsAreLong, NumbersName, OutputIs, SessionRuns};
 
 /// What bytes of a few types denote.
@@ -9,6 +10,16 @@ pub fn bytes_denote()
 /// The first fault of bytes, at its place.
 pub fn bytes_have_faults()
     ensures { BytesHaveFaults }
+{}
+
+/// What records of each kind denote.
+pub fn kinds_denote()
+    ensures { KindsDenote }
+{}
+
+/// The first fault of records of other kinds than integers.
+pub fn kinds_have_faults()
+    ensures { KindsHaveFaults }
 {}
 
 /// How long the lists behind heads are.

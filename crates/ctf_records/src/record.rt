@@ -1,5 +1,5 @@
 //! A whole type record, and what its head says.
-ghost use Rattle.std.specs.Prelude.{◌≡◌, ◌≤◌, ◌<◌, ◌^◌, length, IsTrue, is_some, Some};
+ghost use Rattle.std.specs.Prelude.{◌≡◌, ◌≤◌, ◌+◌, ◌^◌, length, IsTrue, is_some, Some};
 ghost use Rattle.std.specs.Option.{option_map};
 ghost use Rattle.ctf_model.specs.Record.{kind as kind_in, head_len, is_root, is_long as is_long_in, behind_head};
 ghost use Rattle.ctf_model.specs.Bytes.{u32_at as number32_at};
@@ -20,7 +20,7 @@ pub struct Record<'a> {
     pub ghost has_head: { 8 ≤ length bytes.now },
     pub ghost head_inside: { head_len bytes.now ≤ length bytes.now },
     pub ghost is_known: { IsTrue (is_some (kind_in bytes.now)) },
-    pub ghost is_near: { at < 2 ^ 63 },
+    pub ghost is_near: { at + length bytes.now ≤ 2 ^ 63 },
 }
 
 impl<'a> Record<'a> {

@@ -93,12 +93,16 @@ fn add_piece(alloc: Global, staged: &mut Option<Bytes>, piece: &[u8]) -> Result<
 
 /// Judges the staged lists, and counts the types of their dictionary.
 #[tactic(auto, using(crate::proofs::Faulting::first_fault_code))]
-fn judge_staged<'a>(ctf: &'a Option<Bytes>, strs: &'a Option<Bytes>) -> Result<usize, Fault>
+fn judge_staged<'a>(
+    alloc: Global,
+    ctf: &'a Option<Bytes>,
+    strs: &'a Option<Bytes>,
+) -> Result<usize, Fault>
     ensures ok { IfOk result (λ n. (first_fault (without_symbols ctf.now strs.now) ≡ None) × (n ≡ length (said_by (without_symbols ctf.now strs.now)).terms)) }
-    ensures err { IfErr result (λ f. first_fault (without_symbols ctf.now strs.now) ≡ Some f) }
-    ensures no_memory_asked { IfErr result (λ f. f.code ≢ MEMORY) }
+    ensures err { IfErr result (λ f. f.code ≢ MEMORY → first_fault (without_symbols ctf.now strs.now) ≡ Some f) }
+    ensures memory { IfErr result (λ f. f.code ≡ MEMORY → f ≡ placeless MEMORY) }
 {
-    match check(bytes_or_none(ctf), None, list_bytes(strs)) {
+    match check(alloc, bytes_or_none(ctf), None, list_bytes(strs)) {
         Ok(dictionary) => Ok(dictionary.count()),
         Err(fault) => Err(fault),
     }
@@ -164,7 +168,7 @@ impl Library {
         if self.slots.len() >= MOST_SLOTS || self.next > u64::from(u32::MAX) {
             return refused(placeless(Fault::SLOTS_FULL));
         }
-        let types = match judge_staged(&self.ctf, &self.strs) {
+        let types = match judge_staged(self.alloc, &self.ctf, &self.strs) {
             Ok(types) => types,
             Err(fault) => return refused(fault),
         };
@@ -177,7 +181,12 @@ impl Library {
             None => Bytes::new(self.alloc),
         };
         let strs = self.strs.take();
-        self.slots.push_reserved(Slot { number, ctf, strs });
+        self.slots.push_reserved(Slot {
+            number,
+            ctf,
+            strs,
+            types,
+        });
         self.next += 1;
         granted(Answer::Opened {
             d: number,

@@ -1,23 +1,27 @@
 //! A slot of a session: a dictionary that was opened, under its number.
-ghost use Rattle.std.specs.Prelude.{◌≡◌, None, Option, Ok, Err, Some, [], unwrap_or, option_copied};
+ghost use Rattle.std.specs.Prelude.{◌≡◌, length, None, Option, Ok, Err, Some, [], unwrap_or, option_copied};
 ghost use Rattle.ctf_model.specs.Dictionary.{said_by};
 ghost use Rattle.ctf_model.specs.Faults.{first_fault};
 ghost use Rattle.ctf_model.specs.Record.{kind as kind_in};
 ghost use Rattle.ctf_model.specs.Steps.{kind_said};
 ghost use Rattle.ctf_model.specs.TypeNumbers.{type_at, no_type, no_parent};
 ghost use Rattle.ctf_check.specs.CheckedView.{lists_of, dictionary_of};
+ghost use Rattle.ctf_check.specs.ListsView.{lists_in};
 ghost use Rattle.ctf_wire.specs.TypeIndex.{own_index, own_type, kind_or_no_type, kind_at};
 
-use ctf_check::{Checked, check};
+use ctf_check::{Checked, LentLists};
 use ctf_model::{Answer, Bytes, Fault, Kind, TypeNum, placeless};
 
-/// A dictionary that was opened, under its number. Its lists are checked again for each question.
+/// A dictionary that was opened, under its number.
 #[derive(Drop)]
 pub struct Slot {
     pub(crate) number: u32,
     pub(crate) ctf: Bytes,
     pub(crate) strs: Option<Bytes>,
+    /// The number of its own types.
+    pub(crate) types: usize,
     ghost faultless: { first_fault (record { ctf = ctf; sym = None; strs = strs }) ≡ None },
+    ghost counted: { types ≡ length (said_by (record { ctf = ctf; sym = None; strs = strs })).terms },
 }
 
 /// The bytes of a list, if it is there.
@@ -79,14 +83,23 @@ impl Slot {
     ghost use Rattle.ctf_wire.specs.SlotView.{slot_of};
     ghost use Rattle.ctf_model.specs.Steps.{kind_question};
 
+    /// The lists of its dictionary, lent.
+    fn lists(&self) -> LentLists<'_>
+        ensures { lists_in result ≡ (slot_of self.now).lists }
+    {
+        LentLists {
+            ctf: self.ctf.as_slice(),
+            sym: None,
+            strs: list_bytes(&self.strs),
+        }
+    }
+
     /// The kind of a type.
     fn kind_of_type(&self, t: TypeNum) -> Result<Kind, Fault>
         ensures { result ≡ kind_at (said_by (slot_of self.now).lists) t.0 }
     {
-        match check(self.ctf.as_slice(), None, list_bytes(&self.strs)) {
-            Ok(dictionary) => kind_of(&dictionary, t),
-            Err(_) => unreachable!(),
-        }
+        let dictionary = Checked::again(self.lists(), self.types);
+        kind_of(&dictionary, t)
     }
 
     /// What a question for the kind of a type is answered.

@@ -1,28 +1,31 @@
-use Rattle.std.proofs.Common.{◌≡◌, List, ℕ, Result, option_copied, refl, sym, ap, ◌∙◌, length}
+use Rattle.std.proofs.Common.{◌≡◌, eqb, List, ℕ, Result, option_copied, None, inr, refl, sym, ap, ◌∙◌, length}
+use Rattle.std.specs.Prelude.{not}
 use Rattle.std.proofs.lemmas.Result.{err_from_is_err_and}
 use Rattle.ctf_model.specs.Faults.{first_nameless, sites}
+use Rattle.ctf_model.specs.Header.{Fields, fields, is_child}
 use Rattle.ctf_model.specs.Lists.{Lists, tables as tables_of}
 use Rattle.ctf_model.specs.Name.{Tables}
-use Rattle.ctf_model.specs.Section.{Piece}
+use Rattle.ctf_model.specs.Section.{Piece, records}
 use Rattle.ctf_model.specs.declared.faults.Fault.{Fault}
 use Rattle.ctf_check.specs.ListsView.{given}
 use Rattle.ctf_check.specs.Stages.{records_fault}
-use Rattle.ctf_check.proofs.Order.{at_header, at_records, at_names, types_are}
+use Rattle.ctf_check.proofs.Order.{at_header, at_records, at_names, types_are, read_whole}
 use Rattle.ctf_check.proofs.Terms.{terms_count}
+use Rattle.ctf_check.proofs.TypeStages.{at_types, at_types_or_memory}
 use Rattle.ctf_check.proofs.judge.check.Goals as goal
 
 pub returns-in_err-header-clause-exact_err : goal.returns-in_err-header-clause-exact_err
 returns-in_err-header-clause-exact_err c =
     let p = err_from_is_err_and c.from_residual.result c.from_residual.ensures.1 in
     let s = given c.args.ctf.now (option_copied c.args.sym) (option_copied c.args.strs) in
-    rw (p.1, p.2) (at_header s c.in_err-header.field-0.0 c.in_err-header.ensures.exact_err)
+    rw (p.1, p.2) (inr (at_header s c.in_err-header.field-0.0 c.in_err-header.ensures.exact_err))
 
 pub returns-in_err-count-clause-exact_err : goal.returns-in_err-count-clause-exact_err
 returns-in_err-count-clause-exact_err c =
     let p = err_from_is_err_and c.from_residual-in_err-count.result c.from_residual-in_err-count.ensures.1 in
     let s = given c.args.ctf.now (option_copied c.args.sym) (option_copied c.args.strs) in
-    let part = types_are s.ctf c.bytes_in.result.now c.bytes_in.ensures in
-    rw (p.1, p.2) (at_records s c.in_err-count.field-0.0 c.in_ok-header.ensures.exact_ok (ap records_fault (sym part) ∙ c.in_err-count.ensures.exact_err))
+    let part = types_are s.ctf c.bytes_in-types.result.now c.bytes_in-types.ensures.bytes in
+    rw (p.1, p.2) (inr (at_records s c.in_err-count.field-0.0 c.in_ok-header.ensures.exact_ok (ap records_fault (sym part) ∙ c.in_err-count.ensures.exact_err)))
 
 -- the tables of names are those of the lists
 same_tables : (t : Tables) (s : Lists) (internal : List ℕ) → t ≡ record { internal = internal; elf = s.strs } → internal ≡ (tables_of s).internal → t ≡ tables_of s
@@ -31,20 +34,35 @@ same_tables t s internal e i = rw (e, i) refl
 pub returns-in-Some-clause-exact_err : goal.returns-in-Some-clause-exact_err
 returns-in-Some-clause-exact_err c =
     let s = given c.args.ctf.now (option_copied c.args.sym) (option_copied c.args.strs) in
-    let part = types_are s.ctf c.bytes_in.result.now c.bytes_in.ensures in
-    let same = same_tables _ s c.bytes_in-2.result.now c.new-ends.ensures c.bytes_in-2.ensures in
+    let part = types_are s.ctf c.bytes_in-types.result.now c.bytes_in-types.ensures.bytes in
+    let same = same_tables _ s c.bytes_in.result.now c.new-ends.ensures c.bytes_in.ensures.bytes in
     let bad = c.bad_name.ensures ∙ ap (λ (t : Tables). first_nameless t (sites s.ctf)) same in
     let all = at_names s c.bad_name.result c.in_ok-header.ensures.exact_ok (ap records_fault (sym part) ∙ c.in_ok-count.ensures.exact_ok) bad in
-    rw c.in-Some.is at all
+    inr (rw c.in-Some.is at all)
+
+-- a dictionary is a child by its parent's name
+same_child : (n : ℕ) (g h : Fields) → n ≡ g.parname → g ≡ h → not (eqb n 0) ≡ is_child h
+same_child n g h e f = rw (e, f) refl
+
+pub judge_types-requires : goal.judge_types-requires
+judge_types-requires c = record { whole = read_whole (records c.bytes_in-types.result.now) c.in_ok-count.ensures.exact_ok; count = c.in_ok-count.ensures.count; short = c.bytes_in-types.ensures.short }
+
+pub returns-in_err-judge_types-clause-exact_err : goal.returns-in_err-judge_types-clause-exact_err
+returns-in_err-judge_types-clause-exact_err c =
+    let p = err_from_is_err_and c.from_residual-in_err-judge_types.result c.from_residual-in_err-judge_types.ensures.1 in
+    let s = given c.args.ctf.now (option_copied c.args.sym) (option_copied c.args.strs) in
+    let part = types_are s.ctf c.bytes_in-types.result.now c.bytes_in-types.ensures.bytes in
+    let same = same_tables _ s c.bytes_in.result.now c.new-ends.ensures c.bytes_in.ensures.bytes in
+    let bad = c.bad_name.ensures ∙ ap (λ (t : Tables). first_nameless t (sites s.ctf)) same in
+    rw (p.1, p.2) (at_types_or_memory s c.bytes_in-types.result.now _ c.bad_name.result c.in_err-judge_types.field-0.0 c.in_ok-header.ensures.exact_ok part c.in_ok-count.ensures.exact_ok bad c.in_default.is (same_child c.parname-child.result c.in_ok-header.header (fields c.args.ctf.now) c.parname-child.ensures c.in_ok-header.ensures.fields) c.in_err-judge_types.ensures.err)
 
 pub invariant_of-result : goal.invariant_of-result
 invariant_of-result c =
     let s = given c.args.ctf.now (option_copied c.args.sym) (option_copied c.args.strs) in
-    let part = types_are s.ctf c.bytes_in.result.now c.bytes_in.ensures in
-    let same = same_tables _ s c.bytes_in-2.result.now c.new-ends.ensures c.bytes_in-2.ensures in
+    let part = types_are s.ctf c.bytes_in-types.result.now c.bytes_in-types.ensures.bytes in
+    let same = same_tables _ s c.bytes_in.result.now c.new-ends.ensures c.bytes_in.ensures.bytes in
     let bad = c.bad_name.ensures ∙ ap (λ (t : Tables). first_nameless t (sites s.ctf)) same in
-    let all = at_names s c.bad_name.result c.in_ok-header.ensures.exact_ok (ap records_fault (sym part) ∙ c.in_ok-count.ensures.exact_ok) bad in
-    let none = rw c.in_default.is at all in
+    let none = at_types s c.bytes_in-types.result.now _ c.bad_name.result None c.in_ok-header.ensures.exact_ok part c.in_ok-count.ensures.exact_ok bad c.in_default.is (same_child c.parname-child.result c.in_ok-header.header (fields c.args.ctf.now) c.parname-child.ensures c.in_ok-header.ensures.fields) c.in_ok-judge_types.ensures.ok in
     record {
       faultless = none;
       fits = c.in_ok-header.ensures.fields;

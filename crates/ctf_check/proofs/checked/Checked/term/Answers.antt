@@ -5,16 +5,16 @@ use Rattle.std.specs.Option.{option_map}
 use Rattle.std.specs.List.{AllByRecursion}
 use Rattle.ctf_model.specs.Faults.{types}
 use Rattle.ctf_model.specs.Name.{Tables}
-use Rattle.ctf_model.specs.Record.{term_of}
+use Rattle.ctf_model.specs.Spelling.{term_of}
 use Rattle.ctf_model.specs.Section.{Piece}
 use Rattle.ctf_model.specs.Term.{Term}
 use Rattle.ctf_model.specs.declared.faults.Fault.{Fault}
 use Rattle.ctf_check.proofs.Order.{types_are}
 use Rattle.ctf_check.proofs.Terms.{IsSpelled, all_spelled, numbered_index, numbered_spelled, spelled_at, type_is}
 use Rattle.ctf_check.specs.CheckedView.{lists_of, tables_of}
-use Rattle.ctf_check.specs.Pieces.{piece_numbered}
-use Rattle.ctf_check.specs.RecordView.{bytes_of, index_of, piece}
-use Rattle.ctf_check.specs.declared.record.Record.{Record}
+use Rattle.ctf_records.specs.Pieces.{piece_numbered}
+use Rattle.ctf_records.specs.RecordView.{bytes_of, index_of, piece}
+use Rattle.ctf_records.specs.declared.record.Record.{Record}
 use Rattle.ctf_check.proofs.checked.Checked.term.Goals as goal
 
 -- ---- over any list of records
@@ -46,14 +46,14 @@ own xs n (Some r) e = ap (piece_numbered xs) (numbered_index xs n (piece r) (sym
 pub returns-clause-exact : goal.returns-clause-exact
 returns-clause-exact c =
     let d = c.args.self.now in
-    let part = types_are d.lists.ctf.now c.bytes_in-types.result.now c.bytes_in-types.ensures in
+    let part = types_are d.lists.ctf.now c.bytes_in-types.result.now c.bytes_in-types.ensures.bytes in
     let found = c.record_numbered.ensures ∙ ap (λ (l : List (Result Piece Fault)). piece_numbered l c.args.index) part in
     some_iff (tables_of d) _ c.args.index _ _ (all_spelled (lists_of d) d.faultless) found (type_is (lists_of d) c.args.index d.faultless)
 
 pub returns-clause-spells : goal.returns-clause-spells
 returns-clause-spells c =
     let d = c.args.self.now in
-    let part = types_are d.lists.ctf.now c.bytes_in-types.result.now c.bytes_in-types.ensures in
+    let part = types_are d.lists.ctf.now c.bytes_in-types.result.now c.bytes_in-types.ensures.bytes in
     let found = c.record_numbered.ensures ∙ ap (λ (l : List (Result Piece Fault)). piece_numbered l c.args.index) part in
     said (tables_of d) _ c.args.index _ _ found (type_is (lists_of d) c.args.index d.faultless)
 
@@ -63,5 +63,5 @@ returns-clause-index c = numbered _ c.args.index _ c.record_numbered.ensures
 pub returns-clause-own : goal.returns-clause-own
 returns-clause-own c =
     let d = c.args.self.now in
-    let part = types_are d.lists.ctf.now c.bytes_in-types.result.now c.bytes_in-types.ensures in
+    let part = types_are d.lists.ctf.now c.bytes_in-types.result.now c.bytes_in-types.ensures.bytes in
     own (types d.lists.ctf.now) c.args.index _ (c.record_numbered.ensures ∙ ap (λ (l : List (Result Piece Fault)). piece_numbered l c.args.index) part)

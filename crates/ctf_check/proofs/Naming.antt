@@ -1,0 +1,128 @@
+-- The types that are read from the bytes of a record are those that its type names.
+use Rattle.std.proofs.Common.{◌≡◌, ℕ, zero, suc, Bool, true, false, cond, ltb, List, [], ◌∷◌, drop, map, Option, Some, None, Result, Ok, Err, refl, sym, ap, ◌∙◌}
+use Rattle.std.specs.Prelude.{◌||◌, ◌&&◌}
+use Rattle.std.proofs.Math.Bool.{or-false}
+use Rattle.std.specs.List.{list_any, AllByRecursion}
+use Rattle.std.specs.Option.{option_map}
+use Rattle.std.proofs.lemmas.Option.{same_Some}
+use Rattle.ctf_model.specs.Bytes.{u16_at, u32_at}
+use Rattle.ctf_model.specs.declared.faults.Fault.{Fault}
+use Rattle.ctf_model.specs.declared.kinds.Kind.{Kind}
+use Rattle.ctf_model.specs.declared.kinds.Kind.TheVariants.{KUnknown, KInteger, KFloat, KPointer, KArray, KFunction, KStruct, KUnion, KEnum, KForward, KTypedef, KVolatile, KConst, KRestrict}
+use Rattle.ctf_model.specs.Faults.{first_misnaming}
+use Rattle.ctf_model.specs.Name.{Tables, name}
+use Rattle.ctf_model.specs.Record.{kind, field, is_long, size, vlen, member_len, behind_head}
+use Rattle.ctf_model.specs.References.{references, is_missing, is_forward, is_misnaming}
+use Rattle.ctf_model.specs.Section.{Piece}
+use Rattle.ctf_model.specs.Spelling.{◌>>=◌, items, narrow_member, wide_member, member_of, argument_of, members, arguments, enumerators, scalar, elements, tag, body_of, term_of}
+use Rattle.ctf_model.specs.Term.{Member, Enumerator, Body, Term}
+use Rattle.ctf_model.specs.Term as term
+use Rattle.ctf_check.specs.Named.{numbers_in, named_types, kind_misnames, misnames, first_that_misnames}
+use Rattle.ctf_check.proofs.Terms.{IsSpelled}
+
+-- ---- lists
+
+-- what a reader of items leaves behind
+bind_some : {A B : Type 0} (o : Option A) (f : A → Option B) (y : B) → o >>= f ≡ Some y → (x : A) × (o ≡ Some x) × (f x ≡ Some y)
+bind_some None f y e = absurd cc
+bind_some (Some x) f y e = (x, refl, e)
+
+-- what is made of a value comes from it
+map_some : {A B : Type 0} (f : A → B) (o : Option A) (y : B) → option_map f o ≡ Some y → (x : A) × (o ≡ Some x) × (f x ≡ y)
+map_some f None y e = absurd cc
+map_some f (Some x) y e = (x, refl, let same : f x ≡ y = cc in same)
+
+-- the type of a member stands 4 bytes behind its beginning
+member_type : (size : ℕ) (t : Tables) (b : List ℕ) (m : Member) → member_of size t b ≡ Some m → m.tnum ≡ u16_at b 4
+member_type size t b m e = at (ltb size 8192) e
+  where
+    at : (narrow : Bool) → cond narrow (narrow_member t b) (wide_member t b) ≡ Some m → m.tnum ≡ u16_at b 4
+    at true e = let x = map_some _ (name t (u32_at b 0)) m e in ap (λ (y : Member). y.tnum) (sym x.2)
+    at false e = let x = map_some _ (name t (u32_at b 0)) m e in ap (λ (y : Member). y.tnum) (sym x.2)
+
+members_types : (size len : ℕ) (t : Tables) (n : ℕ) (b : List ℕ) (ms : List Member) → items (member_of size t) len n b ≡ Some ms → map (λ m. m.tnum) ms ≡ numbers_in len 4 n b
+unfolding numbers_in
+members_types size len t zero b ms e = let same : [] ≡ ms = cc in rw (← same) refl
+members_types size len t (suc n) b ms e =
+    let first = bind_some (member_of size t b) _ ms e in
+    let others = bind_some (items (member_of size t) len n (drop len b)) _ ms first.2 in
+    let whole : first.0 ∷ others.0 ≡ ms = cc in
+    rw (← whole, member_type size t b first.0 first.1, members_types size len t n (drop len b) others.0 others.1) refl
+
+arguments_types : (n : ℕ) (b : List ℕ) (xs : List ℕ) → items argument_of 2 n b ≡ Some xs → xs ≡ numbers_in 2 0 n b
+unfolding numbers_in
+arguments_types zero b xs e = let same : [] ≡ xs = cc in sym same
+arguments_types (suc n) b xs e =
+    let others = bind_some (items argument_of 2 n (drop 2 b)) _ xs e in
+    let whole : u16_at b 0 ∷ others.0 ≡ xs = cc in
+    rw (← whole, arguments_types n (drop 2 b) others.0 others.1) refl
+
+-- ---- one record
+
+-- a body that is there is the one that is named
+names_of_same : (x y : Body) → Some x ≡ Some y → references y ≡ references x
+names_of_same x y e = ap references (sym (same_Some x y e))
+
+-- the types that a body names are those that stand in its record
+body_names : (t : Tables) (b : List ℕ) (k : Kind) (x : Body) → body_of t b k ≡ Some x → references x ≡ named_types k b
+body_names t b KUnknown x e = names_of_same (term.unknown) x e
+body_names t b KInteger x e = names_of_same (term.integer (scalar b)) x e
+body_names t b KFloat x e = names_of_same (term.float (scalar b)) x e
+body_names t b KPointer x e = names_of_same (term.pointer (field b)) x e
+body_names t b KArray x e = names_of_same (term.array (elements b)) x e
+body_names t b KFunction x e = let xs = map_some (term.function (field b)) (arguments b) x e in rw (← xs.2) (ap (λ (ys : List ℕ). field b ∷ ys) (arguments_types (vlen b) (behind_head b) xs.0 xs.1))
+body_names t b KStruct x e = let ms = map_some (term.struct (size b)) (members t b) x e in rw (← ms.2) (members_types (size b) (member_len (size b)) t (vlen b) (behind_head b) ms.0 ms.1)
+body_names t b KUnion x e = let ms = map_some (term.union (size b)) (members t b) x e in rw (← ms.2) (members_types (size b) (member_len (size b)) t (vlen b) (behind_head b) ms.0 ms.1)
+body_names t b KEnum x e = let es = map_some (term.enum (size b)) (enumerators t b) x e in rw (← es.2) refl
+body_names t b KForward x e = names_of_same (term.forward (tag (field b))) x e
+body_names t b KTypedef x e = names_of_same (term.typedef (field b)) x e
+body_names t b KVolatile x e = names_of_same (term.volatile (field b)) x e
+body_names t b KConst x e = names_of_same (term.const (field b)) x e
+body_names t b KRestrict x e = names_of_same (term.restrict (field b)) x e
+
+-- a test of the type in the head and of those behind it is one of all of them, but for a forward
+all_misname : (child : Bool) (count : ℕ) (b : List ℕ) (k : Kind) → kind_misnames child count b k ≡ ((is_forward (Some k) && is_long b) || list_any (is_missing child count) (named_types k b))
+all_misname child count b KUnknown = refl
+all_misname child count b KInteger = refl
+all_misname child count b KFloat = refl
+all_misname child count b KPointer = refl
+all_misname child count b KArray = refl
+all_misname child count b KFunction = refl
+all_misname child count b KStruct = refl
+all_misname child count b KUnion = refl
+all_misname child count b KEnum = refl
+all_misname child count b KForward = sym (or-false (is_long b))
+all_misname child count b KTypedef = refl
+all_misname child count b KVolatile = refl
+all_misname child count b KConst = refl
+all_misname child count b KRestrict = refl
+
+-- what a record that spells a type has
+said_body : (t : Tables) (b : List ℕ) (x : Term) → term_of t b ≡ Some x → (k : Kind) × (kind b ≡ Some k) × (body_of t b k ≡ Some x.body)
+unfolding term_of
+said_body t b x e =
+    let k = bind_some (kind b) _ x e in
+    let text = bind_some (name t (u32_at b 0)) _ x k.2 in
+    let body = bind_some (body_of t b k.0) _ x text.2 in
+    (k.0, k.1, body.1 ∙ ap (λ (o : Option Term). option_map (λ y. y.body) o) body.2)
+
+-- where a record spells a type, the test of its bytes is that of the type
+misnames_said : (t : Tables) (child : Bool) (count : ℕ) (b : List ℕ) (x : Term) → term_of t b ≡ Some x → misnames child count b ≡ is_misnaming t child count b
+unfolding misnames is_misnaming
+misnames_said t child count b x e =
+    let k = said_body t b x e in
+    let same : references x.body ≡ named_types k.0 b = body_names t b k.0 x.body k.2 in
+    let kind_is = k.1 in
+    rw (kind_is, e, same) (all_misname child count b k.0)
+
+-- ---- all records
+
+-- the first record that misnames is the same by bytes and by types
+pub first_said : (t : Tables) (child : Bool) (count : ℕ) (xs : List (Result Piece Fault)) → AllByRecursion (IsSpelled t) xs → first_that_misnames child count xs ≡ first_misnaming t child count xs
+unfolding first_that_misnames first_misnaming
+first_said t child count [] all = refl
+first_said t child count (Ok p ∷ xs) all =
+    let here = misnames_said t child count p.bytes all.0.type all.0.says in
+    let later = first_said t child count xs all.1 in
+    rw (here, later) refl
+first_said t child count (Err f ∷ xs) all = refl

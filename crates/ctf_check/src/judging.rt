@@ -1,0 +1,70 @@
+//! The rules of chains: no chain of types is too long.
+ghost use Rattle.std.specs.Prelude.{◌≡◌, ◌<◌, ◌^◌, length, OnOk, IfErr, None, Some, ◌⊎◌};
+ghost use Rattle.ctf_model.specs.Faults.{walk_fault};
+ghost use Rattle.ctf_model.specs.Name.{Tables};
+ghost use Rattle.ctf_model.specs.Section.{records};
+ghost use Rattle.ctf_chains.specs.Starts.{starts_in};
+ghost use Rattle.ctf_chains.specs.Steps.{AreSpelled};
+ghost use Rattle.ctf_check.specs.Stages.{chain_place, chains_fault, want_of_memory};
+
+use crate::references::Numbers;
+use ctf_chains::{Chain, Starts, first_deep_type, record_starts};
+use ctf_model::{Fault, placeless};
+use std::alloc::Global;
+
+/// Judges the chains of one sort: the fault has the code.
+fn judge_chain(
+    alloc: Global,
+    types: &[u8],
+    starts: &Starts,
+    child: bool,
+    chain: Chain,
+    code: u16,
+) -> Result<(), Fault>
+    requires whole { walk_fault (records types.now) ≡ None }
+    requires starts { starts.now ≡ starts_in (records types.now) }
+    requires short { length (records types.now) < 2 ^ 32 }
+    ensures ok { OnOk result ((t : Tables) → AreSpelled t (records types.now) → chain_place chain t child (records types.now) ≡ None) }
+    ensures err { IfErr result (λ f. (f ≡ want_of_memory) ⊎ ((f.code ≡ code)
+        × ((t : Tables) → AreSpelled t (records types.now) → chain_place chain t child (records types.now) ≡ Some f.place))) }
+{
+    match first_deep_type(alloc, types, starts, child, chain) {
+        Ok(None) => Ok(()),
+        Ok(Some(i)) => Err(Fault {
+            code,
+            place: i as u64 + 1,
+        }),
+        Err(_) => Err(placeless(Fault::MEMORY)),
+    }
+}
+
+/// Judges the chains of the types of records: first those of steps by value, then those of
+/// declarator steps. Takes eight bytes for each record while it runs.
+pub fn judge_chains(alloc: Global, types: &[u8], numbers: Numbers) -> Result<(), Fault>
+    requires whole { walk_fault (records types.now) ≡ None }
+    requires count { numbers.count ≡ length (records types.now) }
+    requires short { length types.now < 2 ^ 32 }
+    ensures ok { OnOk result ((t : Tables) → AreSpelled t (records types.now) → chains_fault t numbers.child (records types.now) ≡ None) }
+    ensures err { IfErr result (λ f. (f ≡ want_of_memory)
+        ⊎ ((t : Tables) → AreSpelled t (records types.now) → chains_fault t numbers.child (records types.now) ≡ Some f)) }
+{
+    let Ok(starts) = record_starts(alloc, types, numbers.count) else {
+        return Err(placeless(Fault::MEMORY));
+    };
+    judge_chain(
+        alloc,
+        types,
+        &starts,
+        numbers.child,
+        Chain::ByValue,
+        Fault::VALUE_DEEP,
+    )?;
+    judge_chain(
+        alloc,
+        types,
+        &starts,
+        numbers.child,
+        Chain::Declarator,
+        Fault::DECL_DEEP,
+    )
+}

@@ -1,0 +1,76 @@
+-- The rules of chains agree with their facts.
+use Rattle.std.proofs.Common.{◌≡◌, ℕ, zero, suc, ◌+◌, ◌<◌, ◌≤◌, Bool, true, false, cond, eqb, List, [], ◌∷◌, length, Option, Some, None, refl, sym, subst, arith}
+use Rattle.std.specs.List.{list_all, AllByRecursion}
+use Rattle.std.proofs.lemmas.Bool.{eqb-true, eqb-false, and_parts}
+use Rattle.std.proofs.lemmas.List.{nil_from_length}
+use Rattle.ctf_model.specs.Chains.{by_value, declarator, targets, IsWithin, within, longest_chain}
+use Rattle.ctf_model.specs.Faults.{types, first_deep, edges_by, value_deep, decl_deep}
+use Rattle.ctf_model.specs.Lists.{Lists}
+use Rattle.ctf_model.specs.Rules.{IsBroken, IsDeepBy}
+use Rattle.ctf_model.specs.Term.{Body}
+use Rattle.ctf_model.proofs.FirstFault.{Agrees}
+
+-- ---- one type
+
+-- each passes the test, so the fact holds of each
+all_from : (test : ℕ → Bool) (P : ℕ → Type 0) → ((j : ℕ) → test j ≡ true → P j) → (xs : List ℕ) → list_all test xs ≡ true → AllByRecursion P xs
+all_from test P h [] e = tt
+all_from test P h (x ∷ xs) e = let both = and_parts (test x) (list_all test xs) e in (h x both.0, all_from test P h xs both.1)
+
+-- the fact holds of each, so each passes the test
+from_all : (test : ℕ → Bool) (P : ℕ → Type 0) → ((j : ℕ) → P j → test j ≡ true) → (xs : List ℕ) → AllByRecursion P xs → list_all test xs ≡ true
+from_all test P h [] a = refl
+from_all test P h (x ∷ xs) a = let first = h x a.0 in rw first (from_all test P h xs a.1)
+
+within_true : (es : List (List ℕ)) (k i : ℕ) → within es k i ≡ true → IsWithin es k i
+unfolding within IsWithin
+within_true es zero i e = nil_from_length (targets es i) (eqb-true (length (targets es i)) 0 e)
+within_true es (suc k) i e = all_from (within es k) (IsWithin es k) (within_true es k) (targets es i) e
+
+true_within : (es : List (List ℕ)) (k i : ℕ) → IsWithin es k i → within es k i ≡ true
+unfolding within IsWithin
+true_within es zero i h = rw h refl
+true_within es (suc k) i h = from_all (within es k) (IsWithin es k) (true_within es k) (targets es i) h
+
+-- ---- the types in order
+
+-- a chain of too many steps begins at the type of the place, one of n from type i on
+abbrev pub DeepFrom : List (List ℕ) → ℕ → ℕ → ℕ → Type 0
+DeepFrom es i n place = (j : ℕ) × (i ≤ j) × (j < i + n) × (¬ IsWithin es longest_chain j) × (place ≡ j + 1)
+
+pub deep_agrees : (es : List (List ℕ)) (i n : ℕ) → Agrees (first_deep es i n) (DeepFrom es i n)
+unfolding first_deep
+deep_agrees es i zero = λ p h. let low = h.1 in let high = h.2 in absurd (omega arith)
+deep_agrees es i (suc n) = at (within es longest_chain i) refl (first_deep es (i + 1) n) (deep_agrees es (i + 1) n)
+  where
+    later_only : (p : ℕ) → within es longest_chain i ≡ true → DeepFrom es i (suc n) p → DeepFrom es (i + 1) n p
+    later_only p e h = go (eqb h.0 i) refl
+      where
+        go : (b : Bool) → eqb h.0 i ≡ b → DeepFrom es (i + 1) n p
+        go true same = let is : h.0 ≡ i = eqb-true h.0 i same in absurd (h.3 (subst (IsWithin es longest_chain) (sym is) (within_true es longest_chain i e)))
+        go false other = let low = h.1 in let high = h.2 in let later = eqb-false h.0 i other in (h.0, omega (arith, later), omega arith, h.3, h.4)
+
+    at : (b : Bool) → within es longest_chain i ≡ b → (later : Option ℕ) → Agrees later (DeepFrom es (i + 1) n) → Agrees (cond b later (Some (i + 1))) (DeepFrom es i (suc n))
+    at false e later h = ((i, omega arith, omega arith, λ w. let hit = true_within es longest_chain i w in absurd cc, refl), λ q lt a. let low = a.1 in let is = a.4 in absurd (omega arith))
+    at true e None h = λ p a. h p (later_only p e a)
+    at true e (Some p) h = let low = h.0.1 in let high = h.0.2 in ((h.0.0, omega arith, omega arith, h.0.3, h.0.4), λ q lt a. h.1 q lt (later_only q e a))
+
+-- from the first type on it is the rule's fact
+whole_agrees : (steps : Body → List ℕ) (s : Lists) → Agrees (first_deep (edges_by steps s) 0 (length (types s.ctf))) (IsDeepBy steps s)
+whole_agrees steps s = at (first_deep (edges_by steps s) 0 (length (types s.ctf))) (deep_agrees (edges_by steps s) 0 (length (types s.ctf)))
+  where
+    to : (p : ℕ) → DeepFrom (edges_by steps s) 0 (length (types s.ctf)) p → IsDeepBy steps s p
+    to p h = let high = h.2 in (h.0, omega arith, h.3, h.4)
+
+    from : (p : ℕ) → IsDeepBy steps s p → DeepFrom (edges_by steps s) 0 (length (types s.ctf)) p
+    from p h = let high = h.1 in (h.0, omega arith, omega arith, h.2, h.3)
+
+    at : (r : Option ℕ) → Agrees r (DeepFrom (edges_by steps s) 0 (length (types s.ctf))) → Agrees r (IsDeepBy steps s)
+    at None h = λ p a. h p (from p a)
+    at (Some p) h = (to p h.0, λ q lt a. h.1 q lt (from q a))
+
+pub value_deep_agrees : (s : Lists) → Agrees (value_deep s) (IsBroken s 15)
+value_deep_agrees s = whole_agrees by_value s
+
+pub decl_deep_agrees : (s : Lists) → Agrees (decl_deep s) (IsBroken s 16)
+decl_deep_agrees s = whole_agrees declarator s

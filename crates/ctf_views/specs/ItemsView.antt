@@ -1,0 +1,12 @@
+-- What a lent member or enumerator shows. The words are ours; what bytes say is in Spelling.antt of ctf_model.
+use Rattle.ctf_model.specs.Term as term
+use Rattle.ctf_views.specs.declared.enumerators.Enumerator.{Enumerator}
+use Rattle.ctf_views.specs.declared.members.Member.{Member}
+
+-- its name, type and offset
+abbrev pub member : Member → term.Member
+member m = record { name = m.name.now; tnum = m.tnum.0; offset = m.offset }
+
+-- its name and value
+abbrev pub enumerator : Enumerator → term.Enumerator
+enumerator e = record { name = e.name.now; value = e.value }

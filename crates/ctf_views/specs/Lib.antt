@@ -1,0 +1,5 @@
+pub mod ItemsView
+pub mod Lists
+pub mod PartsView
+pub mod Shown
+pub mod VariantView

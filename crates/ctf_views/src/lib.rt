@@ -1,0 +1,19 @@
+//! The parts of a type, lent from the bytes of its record.
+#![tactic(auto)]
+
+mod args;
+mod enumerators;
+mod members;
+mod parts;
+mod reading;
+mod rows;
+mod shown;
+#[cfg(test)]
+mod tests;
+
+pub use args::Args;
+pub use enumerators::{Enumerator, Enumerators};
+pub use members::{Member, Members};
+pub use parts::{ArrayInfo, Encoding};
+pub use reading::variant;
+pub use shown::Variant;

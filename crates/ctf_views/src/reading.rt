@@ -1,0 +1,38 @@
+//! What stands behind the head of a record, by its kind.
+ghost use Rattle.std.specs.Prelude.{◌≡◌, IsSome, Some};
+ghost use Rattle.std.specs.Option.{option_map};
+ghost use Rattle.ctf_model.specs.Spelling.{term_of};
+ghost use Rattle.ctf_sections.specs.StringsView.{tables};
+ghost use Rattle.ctf_records.specs.RecordView.{bytes_of};
+ghost use Rattle.ctf_views.specs.Shown.{shown};
+ghost use Rattle.ctf_views.specs.VariantView.{seen};
+
+use crate::args::Args;
+use crate::enumerators::Enumerators;
+use crate::members::Members;
+use crate::parts::{ArrayInfo, Encoding};
+use crate::shown::Variant;
+use ctf_model::Kind;
+use ctf_records::Record;
+use ctf_sections::Strings;
+
+/// The parts of the type that a record spells, apart from its head.
+pub fn variant<'a>(record: &Record<'a>, strings: Strings<'a>) -> Variant<'a>
+    requires { IsSome (term_of (tables strings) (bytes_of «record».now)) }
+    ensures { option_map (λ x. shown x.body) (term_of (tables strings.entry) (bytes_of «record».now)) ≡ Some (seen result) }
+{
+    let rest = record.rest();
+    let count = record.vlen();
+    match record.kind() {
+        Kind::KStruct | Kind::KUnion => {
+            let size = record.size().unwrap();
+            Variant::Members(Members::new(rest, count, size, strings))
+        }
+        Kind::KEnum => Variant::Enumerators(Enumerators::new(rest, count, strings)),
+        Kind::KFunction => Variant::Args(Args::new(rest, count)),
+        Kind::KArray => Variant::Array(ArrayInfo::read(rest)),
+        Kind::KInteger | Kind::KFloat => Variant::Encoding(Encoding::read(rest)),
+        Kind::KForward => Variant::Tag(record.tag().unwrap()),
+        _ => Variant::Nothing,
+    }
+}
