@@ -1,12 +1,12 @@
 -- The table of depths and of visits under way.
-use Rattle.std.proofs.Common.{◌≡◌, ℕ, zero, suc, ◌+◌, ◌-◌, ◌≤◌, ◌<◌, ◌⊎◌, inl, inr, List, ◌∷◌, ◌++◌, length, take, drop, Option, Some, None, get_or, set, ◌≢◌, slice_index_or, slice_set, sym, subst, ◌∙◌, arith, is_some, IsTrue}
+use Rattle.std.proofs.Common.{◌≡◌, ℕ, zero, suc, ◌+◌, ◌-◌, ◌≤◌, ◌<◌, ◌⊎◌, inl, inr, List, ◌∷◌, ◌++◌, length, take, drop, Option, Some, None, get_or, set, ◌≢◌, slice_index_or, slice_set, refl, sym, subst, ◌∙◌, arith, is_some, IsTrue}
 use Rattle.std.specs.List.{AllByRecursion}
 use Rattle.std.proofs.lemmas.Grind.{get_or-set_at}
 use Rattle.std.proofs.lemmas.List.{get_or-set_other}
 use Rattle.ctf_model.specs.Chains.{targets, IsWithin}
 use Rattle.ctf_chains.specs.Deep.{AreWithinBefore}
 use Rattle.ctf_chains.specs.Places.{Places, places_at, led_to, steps_between}
-use Rattle.ctf_chains.specs.Search.{IsDepth, busy, Knows, Leads, OnWay, NoneMoreBusy, Answers}
+use Rattle.ctf_chains.specs.Search.{IsDepth, busy, Knows, Leads, OnWay, GoesOn, Answers}
 use Rattle.ctf_chains.proofs.Depths.{IsWithin-more, targets_are, led_at}
 use Rattle.ctf_chains.proofs.Lists.{All-at, not_empty, same_or_not}
 
@@ -64,7 +64,7 @@ leads_more es h i j a (inr b) = record {
 }
 
 -- while a record is visited, the visits under way lead to each record that it leads to
-pub on_way_more : (all : Places) (known now : List ℕ) (i k j : ℕ) → k < length (places_at all i) → slice_index_or (places_at all i) k None ≡ Some j → OnWay (steps_between all) known i → NoneMoreBusy (slice_set known i busy) now → OnWay (steps_between all) now j
+pub on_way_more : (all : Places) (known now : List ℕ) (i k j : ℕ) → k < length (places_at all i) → slice_index_or (places_at all i) k None ≡ Some j → OnWay (steps_between all) known i → GoesOn (slice_set known i busy) now → OnWay (steps_between all) now j
 on_way_more all known now i k j lt is a same = record {
   leads = λ h b. leads_more (steps_between all) h i j
       (record { on = step_leads (steps_between all) i (led_to (take k (places_at all i))) j (led_to (drop (suc k) (places_at all i))) (targets_are all i ∙ led_at (places_at all i) k j lt is) })
@@ -79,13 +79,27 @@ on_way_more all known now i k j lt is a same = record {
 pub on_way_none : (es : List (List ℕ)) (known : List ℕ) (i : ℕ) → ((j : ℕ) → slice_index_or known j 0 ≡ busy → ⊥) → OnWay es known i
 on_way_none es known i h = record { leads = λ j b. absurd (h j b) }
 
-pub none_more : (xs ys zs : List ℕ) → NoneMoreBusy xs ys → NoneMoreBusy ys zs → NoneMoreBusy xs zs
-none_more xs ys zs a b = record { was = λ j h. a.was j (b.was j h) }
+pub none_more : (xs ys zs : List ℕ) → GoesOn xs ys → GoesOn ys zs → GoesOn xs zs
+none_more xs ys zs a b = record { was = λ j h. a.was j (b.was j h); stays = λ j h. b.stays j (a.stays j h) }
 
--- a visit that ends leaves none under way that was not before
-pub ended : (known now : List ℕ) (i entry : ℕ) → i < length now → entry < busy → NoneMoreBusy (slice_set known i busy) now → NoneMoreBusy known (slice_set now i entry)
-ended known now i entry lt low a = record { was = λ j h. ended_at j (same_or_not j i) h }
+-- a visit that begins loses no entry
+pub begun : (known : List ℕ) (i : ℕ) → i < length known → 1 ≤ slice_index_or (slice_set known i busy) i 0
+begun known i lt = let e : get_or (set known i busy) i 0 ≡ busy = get_or-set_at known i i busy 0 refl lt in omega arith
+
+-- a visit that ends leaves none under way that was not before, and loses no entry
+pub ended : (known now : List ℕ) (i entry : ℕ) → i < length now → 1 ≤ entry → entry < busy → GoesOn (slice_set known i busy) now → GoesOn known (slice_set now i entry)
+ended known now i entry lt some low a = record { was = λ j h. ended_at j (same_or_not j i) h; stays = λ j h. stays_at j (same_or_not j i) h }
   where
+    stays_at : (j : ℕ) → (j ≡ i) ⊎ (j ≢ i) → 1 ≤ get_or known j 0 → 1 ≤ get_or (set now i entry) j 0
+    stays_at j (inl same) h =
+        let e : get_or (set now i entry) j 0 ≡ entry = get_or-set_at now i j entry 0 same lt in
+        omega arith
+    stays_at j (inr other) h =
+        let e : get_or (set now i entry) j 0 ≡ get_or now j 0 = get_or-set_other now i j entry 0 other in
+        let f : get_or (set known i busy) j 0 ≡ get_or known j 0 = get_or-set_other known i j busy 0 other in
+        let was : 1 ≤ get_or (set known i busy) j 0 = omega arith in
+        omega (arith, a.stays j was)
+
     ended_at : (j : ℕ) → (j ≡ i) ⊎ (j ≢ i) → get_or (set now i entry) j 0 ≡ busy → get_or known j 0 ≡ busy
     ended_at j (inl same) h =
         let e : get_or (set now i entry) j 0 ≡ entry = get_or-set_at now i j entry 0 same lt in
@@ -104,6 +118,14 @@ one_more_before es limit i a w = record { each = λ j lt. before_or_at j lt (sam
     before_or_at j lt (inr other) = a.each j (omega arith)
 
 -- what a visit with a depth says
-pub found : (es : List (List ℕ)) (budget i : ℕ) (before after : List ℕ) (r : Option ℕ) → IsTrue (is_some r) → Answers es budget i before after r → IsWithin es budget i × NoneMoreBusy before after
+pub found : (es : List (List ℕ)) (budget i : ℕ) (before after : List ℕ) (r : Option ℕ) → IsTrue (is_some r) → Answers es budget i before after r → IsWithin es budget i × GoesOn before after × (1 ≤ slice_index_or after i 0)
 found es budget i before after None some h = cc
-found es budget i before after (Some d) some h = (IsWithin-more es d budget i h.affordable h.depth.within, h.ended)
+found es budget i before after (Some d) some h = (IsWithin-more es d budget i h.affordable h.depth.within, h.ended, h.entered)
+
+-- the next record has an entry too
+pub one_more_entered : (known now : List ℕ) (i : ℕ) → ((j : ℕ) → j < i → 1 ≤ slice_index_or known j 0) → GoesOn known now → 1 ≤ slice_index_or now i 0 → (j : ℕ) → j < i + 1 → 1 ≤ slice_index_or now j 0
+one_more_entered known now i all a here j lt = before_or_at (same_or_not j i)
+  where
+    before_or_at : (j ≡ i) ⊎ (j ≢ i) → 1 ≤ get_or now j 0
+    before_or_at (inl same) = rw same here
+    before_or_at (inr other) = let was : j < i = omega arith in a.stays j (all j was)

@@ -1,5 +1,5 @@
 -- What the search may still cost.
-use Rattle.std.proofs.Common.{◌≡◌, ℕ, zero, suc, ◌+◌, ◌≤◌, ◌<◌, List, [], ◌∷◌, length, get_or, set, slice_index_or, slice_set, refl, subst, arith}
+use Rattle.std.proofs.Common.{◌≡◌, ℕ, zero, suc, ◌+◌, ◌≤◌, ◌<◌, List, [], ◌∷◌, length, Option, get_or, set, slice_index_or, slice_set, refl, subst, arith}
 use Rattle.ctf_chains.specs.Places.{Places, places_at, full_work}
 use Rattle.ctf_chains.specs.Search.{busy, owed, work_left}
 
@@ -17,13 +17,24 @@ work_opened all known i a b is =
     let h : work_left all (set known i busy) + (1 + length (places_at all i)) ≡ work_left all known + 0 = subst P is (work_set all known i busy a b) in
     omega arith
 
+owed_none : (places : List (Option ℕ)) (entry : ℕ) → 1 ≤ entry → owed places entry ≡ 0
+owed_none places zero some = absurd (omega arith)
+owed_none places (suc entry) some = refl
+
 -- to close it costs nothing
-pub work_closed : (all : Places) (known : List ℕ) (i d : ℕ) → i < length all → i < length known → work_left all (slice_set known i (d + 1)) ≤ work_left all known
-work_closed all known i d a b =
-    let P : ℕ → Type 0 = λ v. work_left all (set known i v) + owed (places_at all i) (get_or known i 0) ≡ work_left all known + owed (places_at all i) v in
-    let e : d + 1 ≡ suc d = omega arith in
-    let h : work_left all (set known i (suc d)) + owed (places_at all i) (get_or known i 0) ≡ work_left all known + 0 = work_set all known i (suc d) a b in
-    rw e (omega arith)
+pub work_closed : (all : Places) (known : List ℕ) (i entry : ℕ) → i < length all → i < length known → 1 ≤ slice_index_or known i 0 → 1 ≤ entry → work_left all (slice_set known i entry) ≡ work_left all known
+work_closed all known i entry a b was some =
+    omega (arith, work_set all known i entry a b, owed_none (places_at all i) (get_or known i 0) was, owed_none (places_at all i) entry some)
+
+-- a table with all entries leaves none
+pub none_left : (all : Places) (known : List ℕ) → ((j : ℕ) → j < length all → 1 ≤ slice_index_or known j 0) → work_left all known ≡ 0
+unfolding work_left
+none_left [] known h = refl
+none_left (places ∷ all) [] h = refl
+none_left (places ∷ all) (entry ∷ known) h =
+    let here : owed places entry ≡ 0 = owed_none places entry (h 0 (omega arith)) in
+    let rest : work_left all known ≡ 0 = none_left all known (λ j lt. h (suc j) (omega arith)) in
+    omega arith
 
 -- an empty table leaves all the work
 pub all_left : (all : Places) (known : List ℕ) → length known ≡ length all → ((j : ℕ) → slice_index_or known j 0 ≡ 0) → work_left all known ≡ full_work all

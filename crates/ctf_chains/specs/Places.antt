@@ -1,5 +1,5 @@
 -- Records that lead to each other, by their numbers from 0. Source: ours.
-use Rattle.std.specs.Prelude.{ℕ, ◌+◌, List, [], ◌∷◌, length, map, Option, slice_index_or}
+use Rattle.std.specs.Prelude.{ℕ, ◌+◌, ◌-◌, ◌^◌, min, List, [], ◌∷◌, length, map, Option, slice_index_or}
 use Rattle.std.specs.List.{filter_map}
 
 -- the places of each record, with the record that each leads to, or none
@@ -26,3 +26,7 @@ record_work places = 1 + length places
 abbrev pub full_work : Places → ℕ
 full_work [] = 0
 full_work (places ∷ all) = record_work places + full_work all
+
+-- a count that stops at the greatest number of 64 bits
+abbrev pub capped : ℕ → ℕ
+capped n = min n (2 ^ 64 - 1)

@@ -38,15 +38,17 @@ pub record Leads (es : List (List ℕ)) (j i : ℕ) : Type 0 where
 pub record OnWay (es : List (List ℕ)) (known : List ℕ) (i : ℕ) : Type 0 where
   pub leads : (j : ℕ) → slice_index_or known j 0 ≡ busy → Leads es j i
 
--- every visit that is under way after was so before
-pub record NoneMoreBusy (before after : List ℕ) : Type 0 where
+-- every visit that is under way after was so before, and no entry is lost
+pub record GoesOn (before after : List ℕ) : Type 0 where
   pub was : (j : ℕ) → slice_index_or after j 0 ≡ busy → slice_index_or before j 0 ≡ busy
+  pub stays : (j : ℕ) → 1 ≤ slice_index_or before j 0 → 1 ≤ slice_index_or after j 0
 
 -- a visit of i that ended with its depth
 pub record Found (es : List (List ℕ)) (budget i : ℕ) (before after : List ℕ) (d : ℕ) : Type 0 where
   pub depth : IsDepth es i d
   pub affordable : d ≤ budget
-  pub ended : NoneMoreBusy before after
+  pub entered : 1 ≤ slice_index_or after i 0
+  pub ended : GoesOn before after
 
 -- what a visit of i answers: its depth, or none where that is more than the budget
 abbrev pub Answers : List (List ℕ) → ℕ → ℕ → List ℕ → List ℕ → Option ℕ → Type 0

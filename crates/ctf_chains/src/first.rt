@@ -1,10 +1,11 @@
 //! The first type of a section that a chain of too many steps begins at.
-ghost use Rattle.std.specs.Prelude.{◌≡◌, ◌+◌, ◌<◌, ◌≤◌, length, IfOk, IfSome, None};
+ghost use Rattle.std.specs.Prelude.{◌≡◌, ◌+◌, ◌<◌, ◌≤◌, length, IfOk, IfSome, None, Ok};
 ghost use Rattle.ctf_model.specs.Section.{terms_in};
 ghost use Rattle.ctf_model.specs.Faults.{walk_fault};
 ghost use Rattle.ctf_model.specs.Name.{Tables};
 ghost use Rattle.ctf_model.specs.Section.{records};
 ghost use Rattle.ctf_chains.specs.Deep.{IsLeastDeepType};
+ghost use Rattle.ctf_chains.specs.Places.{capped};
 ghost use Rattle.ctf_chains.specs.Starts.{starts_in};
 ghost use Rattle.ctf_chains.specs.Steps.{AreSpelled, steps, steps_work};
 
@@ -50,6 +51,8 @@ pub fn first_deep_counted(
     ensures inside { IfOk result (λ found. IfSome found (λ i. i < length (records types.now))) }
     ensures work { (t : Tables) → AreSpelled t (records types.now)
         → work.new ≤ work.old + steps_work (steps chain) (terms_in t (records types.now)) }
+    ensures once { result ≡ Ok None → (t : Tables) → AreSpelled t (records types.now)
+        → capped work.new ≡ capped (work.old + steps_work (steps chain) (terms_in t (records types.now))) }
 {
     let graph = Types {
         bytes: types,

@@ -7,6 +7,8 @@ mod graph;
 mod place;
 mod search;
 mod starts;
+#[cfg(test)]
+mod tests;
 mod types;
 
 pub use chain::Chain;

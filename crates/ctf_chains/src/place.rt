@@ -13,7 +13,7 @@ use ctf_sections::bytes::u16_at;
 
 /// Where the numbers of the types stand.
 #[derive(Clone, Copy)]
-pub(crate) enum Spot {
+enum Spot {
     Nowhere,
     Head,
     Contents,

@@ -1,8 +1,8 @@
 //! The first record that a chain of too many steps begins at.
-ghost use Rattle.std.specs.Prelude.{◌≡◌, ℕ, ◌+◌, ◌<◌, ◌≤◌, ◌⊎◌, length, IfOk, MatchOption, slice_index_or, IfSome};
+ghost use Rattle.std.specs.Prelude.{◌≡◌, ℕ, ◌+◌, ◌<◌, ◌≤◌, ◌⊎◌, length, IfOk, IfSome, IsSome, None, Ok, MatchOption, slice_index_or};
 ghost use Rattle.ctf_model.specs.Chains.{longest_chain};
 ghost use Rattle.ctf_chains.specs.Deep.{IsLeastDeep};
-ghost use Rattle.ctf_chains.specs.Places.{steps_between, full_work};
+ghost use Rattle.ctf_chains.specs.Places.{capped, full_work, steps_between};
 ghost use Rattle.ctf_chains.specs.Search.{Knows, OnWay, Answers, work_left};
 
 use crate::graph::Graph;
@@ -49,6 +49,8 @@ fn depth<G: Graph>(
     ensures answer { Answers (steps_between (G.places graph.now)) budget i known.old known.new result }
     ensures work { work.new + work_left (G.places graph.now) known.new
         ≤ work.old + work_left (G.places graph.now) known.old }
+    ensures once { IsSome result → capped (work.new + work_left (G.places graph.now) known.new)
+        ≡ capped (work.old + work_left (G.places graph.now) known.old) }
 {
     let before = known[i];
     if before == BUSY {
@@ -83,6 +85,7 @@ fn first_of<G: Graph>(graph: &G, known: &mut [u16], work: &mut u64) -> Option<us
     ensures least { IsLeastDeep (steps_between (G.places graph.now)) longest_chain result }
     ensures inside { IfSome result (λ i. i < length (G.places graph.now)) }
     ensures work { work.new ≤ work.old + full_work (G.places graph.now) }
+    ensures once { result ≡ None → capped work.new ≡ capped (work.old + full_work (G.places graph.now)) }
 {
     for i in 0..graph.len() {
         if depth(graph, known, work, i, LONGEST_CHAIN).is_none() {
@@ -106,6 +109,8 @@ pub fn first_deep<G: Graph>(
         IsLeastDeep (steps_between (G.places graph.now)) longest_chain first) }
     ensures inside { IfOk result (λ first. IfSome first (λ i. i < length (G.places graph.now))) }
     ensures work { work.new ≤ work.old + full_work (G.places graph.now) }
+    ensures once { result ≡ Ok None
+        → capped work.new ≡ capped (work.old + full_work (G.places graph.now)) }
 {
     let mut known = vec![in alloc; 0u16; graph.len()]?;
     Ok(first_of(graph, known.as_mut_slice(), work))

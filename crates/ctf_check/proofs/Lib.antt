@@ -1,6 +1,7 @@
 pub mod LastNames
 pub mod LongChains
 pub mod Naming
+pub mod Needing
 pub mod Numbering
 pub mod Order
 pub mod Reading

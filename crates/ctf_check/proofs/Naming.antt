@@ -64,7 +64,7 @@ names_of_same : (x y : Body) → Some x ≡ Some y → references y ≡ referenc
 names_of_same x y e = ap references (sym (same_Some x y e))
 
 -- the types that a body names are those that stand in its record
-body_names : (t : Tables) (b : List ℕ) (k : Kind) (x : Body) → body_of t b k ≡ Some x → references x ≡ named_types k b
+pub body_names : (t : Tables) (b : List ℕ) (k : Kind) (x : Body) → body_of t b k ≡ Some x → references x ≡ named_types k b
 body_names t b KUnknown x e = names_of_same (term.unknown) x e
 body_names t b KInteger x e = names_of_same (term.integer (scalar b)) x e
 body_names t b KFloat x e = names_of_same (term.float (scalar b)) x e
@@ -98,7 +98,7 @@ all_misname child count b KConst = refl
 all_misname child count b KRestrict = refl
 
 -- what a record that spells a type has
-said_body : (t : Tables) (b : List ℕ) (x : Term) → term_of t b ≡ Some x → (k : Kind) × (kind b ≡ Some k) × (body_of t b k ≡ Some x.body)
+pub said_body : (t : Tables) (b : List ℕ) (x : Term) → term_of t b ≡ Some x → (k : Kind) × (kind b ≡ Some k) × (body_of t b k ≡ Some x.body)
 unfolding term_of
 said_body t b x e =
     let k = bind_some (kind b) _ x e in

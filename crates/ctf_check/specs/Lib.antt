@@ -2,4 +2,5 @@ pub mod CheckedView
 pub mod EndsView
 pub mod ListsView
 pub mod Named
+pub mod Needed
 pub mod Stages

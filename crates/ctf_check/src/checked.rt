@@ -4,6 +4,7 @@ ghost use Rattle.std.specs.Option.{option_map};
 ghost use Rattle.ctf_model.specs.Dictionary.{said_by, denoted, name_or_empty};
 ghost use Rattle.ctf_model.specs.Faults.{first_fault};
 ghost use Rattle.ctf_model.specs.Header.{fields};
+ghost use Rattle.ctf_model.specs.Needs.{needed};
 ghost use Rattle.ctf_model.specs.Spelling.{term_of};
 ghost use Rattle.ctf_sections.specs.StringsView.{tables};
 ghost use Rattle.ctf_check.specs.ListsView.{lists_in};
@@ -11,6 +12,7 @@ ghost use Rattle.ctf_views.specs.Shown.{shown};
 ghost use Rattle.ctf_views.specs.VariantView.{seen};
 
 use crate::lists::LentLists;
+use crate::needs::records_need;
 use crate::sections::bytes_in;
 use ctf_model::Section;
 use ctf_records::{Record, record_numbered};
@@ -109,6 +111,20 @@ impl<'a> Checked<'a> {
     {
         let types = bytes_in(self.lists.ctf, self.header, Section::STypes);
         record_numbered(types, index as u64)
+    }
+
+    /// The greatest number below 0x8000 that the types of a child name: so many types it needs in its
+    /// parent. It is 0 where there is none, and where the dictionary is not a child.
+    ///
+    /// Reads each member and argument once.
+    pub fn needs(&self) -> u16
+        ensures { result ≡ needed (dictionary_of self.now) }
+    {
+        if self.child() {
+            records_need(bytes_in(self.lists.ctf, self.header, Section::STypes))
+        } else {
+            0
+        }
     }
 
     /// The name of a type of the dictionary.

@@ -7,6 +7,7 @@ mod judge;
 mod judging;
 mod lists;
 mod names;
+mod needs;
 mod references;
 mod sections;
 #[cfg(test)]

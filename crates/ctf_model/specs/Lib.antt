@@ -12,6 +12,7 @@ pub mod Rules
 pub mod Dictionary
 pub mod References
 pub mod Chains
+pub mod Needs
 pub mod TypeNumbers
 pub mod State
 pub mod Answers

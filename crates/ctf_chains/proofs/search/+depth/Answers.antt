@@ -1,9 +1,10 @@
-use Rattle.std.proofs.Common.{◌≡◌, ℕ, ◌+◌, ◌-◌, ◌≤◌, length, take, slice_set, ◌++◌, ◌∷◌, [], sym, ◌∙◌, rules, arith}
+use Rattle.std.proofs.Common.{◌≡◌, ℕ, ◌+◌, ◌-◌, ◌≤◌, length, take, slice_index_or, slice_set, ◌++◌, ◌∷◌, [], refl, rules, arith}
+use Rattle.std.proofs.lemmas.Grind.{get_or-set_at}
 use Rattle.std.proofs.Math.ListN.{length-set}
 use Rattle.ctf_chains.specs.Places.{places_at, led_to, steps_between}
 use Rattle.ctf_chains.specs.Search.{IsDepth, busy, work_left}
 use Rattle.ctf_chains.proofs.Depths.{none_yet, one_more, led_more, led_same, is_depth, deep_target}
-use Rattle.ctf_chains.proofs.Visits.{knows_more, cycle_is_deep, on_way_more, none_more, ended}
+use Rattle.ctf_chains.proofs.Visits.{knows_more, cycle_is_deep, on_way_more, none_more, begun, ended}
 use Rattle.ctf_chains.proofs.WorkLeft.{work_opened, work_closed}
 use Rattle.ctf_chains.proofs.search.+depth.Goals as goal
 use Rattle.ctf_chains.proofs.search.+depth.Goals.{in-Some+else-budget-eq0+in-Some-depth, in_default}
@@ -20,7 +21,8 @@ loop-k-init g t c =
       longest = none_yet (steps_between (g.G.Graph.places c.args.graph.now));
       affordable = omega arith;
       knows = knows_more (steps_between (g.G.Graph.places c.args.graph.now)) c.args.known.now c.args.i busy (omega arith) c.requires.knows (λ low high. absurd (omega arith));
-      busy_as_before = record { was = λ j h. h };
+      busy_as_before = record { was = λ j h. h; stays = λ j h. h };
+      once = omega arith;
       work = omega arith;
     }
 
@@ -52,16 +54,18 @@ loop-k-preserved g t c =
             affordable = omega (arith, w.in-Some-depth.ensures.answer.affordable, w.longer-longest.ensures.one);
             knows = rw w.known-is w.in-Some-depth.ensures.knows;
             busy_as_before = rw w.known-is (none_more (slice_set c.args.known.now c.args.i busy) c.loop-k.known w.depth.new.known c.loop-k.invariant.busy_as_before w.in-Some-depth.ensures.answer.ended);
+            once = rw w.known-is (omega (arith, w.in-Some-depth.ensures.once refl));
             work = rw w.known-is (omega (arith, w.in-Some-depth.ensures.work));
           }
       | in_default w ↦
           let seen : led_to (take (c.loop-k.k + 1) ps) ≡ led_to (take c.loop-k.k ps) =
-          led_same ps c.loop-k.k (search rules) (sym c.place.ensures.leads ∙ w.in_default.is) in
+          led_same ps c.loop-k.k (search rules) (search rules) in
           record {
             longest = rw (seen, w.longest-is) c.loop-k.invariant.longest;
             affordable = rw w.longest-is c.loop-k.invariant.affordable;
             knows = rw w.known-is c.loop-k.invariant.knows;
             busy_as_before = rw w.known-is c.loop-k.invariant.busy_as_before;
+            once = rw w.known-is (omega arith);
             work = rw w.known-is (omega arith);
           }
     ]
@@ -77,11 +81,20 @@ pub returns-clause-answer : goal.returns-clause-answer
 returns-clause-answer g t c = record {
   depth = is_depth (g.G.Graph.places c.args.graph.now) c.args.i c.loop-k.k c.loop-k.longest (omega arith) c.loop-k.invariant.longest;
   affordable = omega arith;
-  ended = ended c.args.known.now c.loop-k.known c.args.i (c.loop-k.longest + 1) (omega (arith, length-set {A = ℕ})) (omega arith) c.loop-k.invariant.busy_as_before;
+  entered = omega (arith, get_or-set_at c.loop-k.known c.args.i c.args.i (c.loop-k.longest + 1) 0 refl (omega (arith, length-set {A = ℕ})));
+  ended = ended c.args.known.now c.loop-k.known c.args.i (c.loop-k.longest + 1) (omega (arith, length-set {A = ℕ})) (omega arith) (omega arith) c.loop-k.invariant.busy_as_before;
 }
 
 pub returns-clause-work : goal.returns-clause-work
 returns-clause-work g t c =
-    let closed : work_left (g.G.Graph.places c.args.graph.now) (slice_set c.loop-k.known c.args.i (c.loop-k.longest + 1)) ≤ work_left (g.G.Graph.places c.args.graph.now) c.loop-k.known =
-    work_closed (g.G.Graph.places c.args.graph.now) c.loop-k.known c.args.i c.loop-k.longest (omega arith) (omega (arith, length-set {A = ℕ})) in
+    let here : 1 ≤ slice_index_or c.loop-k.known c.args.i 0 = c.loop-k.invariant.busy_as_before.stays c.args.i (begun c.args.known.now c.args.i (omega arith)) in
+    let closed : work_left (g.G.Graph.places c.args.graph.now) (slice_set c.loop-k.known c.args.i (c.loop-k.longest + 1)) ≡ work_left (g.G.Graph.places c.args.graph.now) c.loop-k.known =
+    work_closed (g.G.Graph.places c.args.graph.now) c.loop-k.known c.args.i (c.loop-k.longest + 1) (omega arith) (omega (arith, length-set {A = ℕ})) here (omega arith) in
+    omega arith
+
+pub returns-clause-once : goal.returns-clause-once
+returns-clause-once g t c = λ some.
+    let here : 1 ≤ slice_index_or c.loop-k.known c.args.i 0 = c.loop-k.invariant.busy_as_before.stays c.args.i (begun c.args.known.now c.args.i (omega arith)) in
+    let closed : work_left (g.G.Graph.places c.args.graph.now) (slice_set c.loop-k.known c.args.i (c.loop-k.longest + 1)) ≡ work_left (g.G.Graph.places c.args.graph.now) c.loop-k.known =
+    work_closed (g.G.Graph.places c.args.graph.now) c.loop-k.known c.args.i (c.loop-k.longest + 1) (omega arith) (omega (arith, length-set {A = ℕ})) here (omega arith) in
     omega arith

@@ -1,6 +1,6 @@
-use Rattle.std.proofs.Common.{◌≤◌, ◌-◌, ◌+◌, length, take}
-use Rattle.ctf_chains.specs.Places.{places_at, led_to, steps_between}
-use Rattle.ctf_chains.specs.Search.{IsLongest, Knows, NoneMoreBusy, work_left}
+use Rattle.std.proofs.Common.{◌≡◌, ◌≤◌, ◌-◌, ◌+◌, length, take}
+use Rattle.ctf_chains.specs.Places.{capped, places_at, led_to, steps_between}
+use Rattle.ctf_chains.specs.Search.{IsLongest, Knows, GoesOn, work_left}
 use Rattle.ctf_chains.proofs.search.+depth.Given as goal
 
 abbrev pub decreases-depth : goal.decreases-depth
@@ -11,6 +11,7 @@ invariant-loop-k g l = record {
   longest : IsLongest (steps_between (g.G.Graph.places l.graph)) (led_to (take l.k (places_at (g.G.Graph.places l.graph) l.i))) l.longest;
   affordable : l.longest ≤ l.budget;
   knows : Knows (steps_between (g.G.Graph.places l.graph)) l.known;
-  busy_as_before : NoneMoreBusy l.initial.known l.known;
+  busy_as_before : GoesOn l.initial.known l.known;
+  once : capped (l.work + (length (places_at (g.G.Graph.places l.graph) l.i) - l.k) + work_left (g.G.Graph.places l.graph) l.known) ≡ capped (l.fn.work + work_left (g.G.Graph.places l.graph) l.fn.known);
   work : l.work + (length (places_at (g.G.Graph.places l.graph) l.i) - l.k) + work_left (g.G.Graph.places l.graph) l.known ≤ l.fn.work + work_left (g.G.Graph.places l.graph) l.fn.known;
 }

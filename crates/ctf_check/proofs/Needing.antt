@@ -1,0 +1,45 @@
+-- The greatest number of a parent's type in the bytes is the one that the types name.
+use Rattle.std.proofs.Common.{◌≡◌, ℕ, max, List, [], ◌∷◌, ◌++◌, Some, None, Result, Ok, Err, refl, sym, ap, arith}
+use Rattle.std.specs.List.{AllByRecursion, flat_map}
+use Rattle.ctf_model.specs.Dictionary.{said_by}
+use Rattle.ctf_model.specs.Faults.{first_fault, types}
+use Rattle.ctf_model.specs.Lists.{Lists, tables}
+use Rattle.ctf_model.specs.Name.{Tables}
+use Rattle.ctf_model.specs.Needs.{greatest_in_parent}
+use Rattle.ctf_model.specs.References.{references}
+use Rattle.ctf_model.specs.Section.{Piece, terms_in}
+use Rattle.ctf_model.specs.Spelling.{term_of}
+use Rattle.ctf_model.specs.Term.{Term}
+use Rattle.ctf_model.specs.declared.faults.Fault.{Fault}
+use Rattle.ctf_check.specs.Needed.{record_needs, records_need}
+use Rattle.ctf_check.proofs.Naming.{body_names, said_body}
+use Rattle.ctf_check.proofs.Terms.{IsSpelled, all_spelled}
+
+-- the greatest of two lists is that of one of them
+greatest_append : (xs ys : List ℕ) → greatest_in_parent (xs ++ ys) ≡ max (greatest_in_parent xs) (greatest_in_parent ys)
+unfolding greatest_in_parent
+greatest_append [] ys = omega arith
+greatest_append (x ∷ xs) ys = omega (arith, greatest_append xs ys)
+
+-- a record needs what the type that it spells names
+record_needs_said : (t : Tables) (b : List ℕ) (x : Term) → term_of t b ≡ Some x → record_needs b ≡ greatest_in_parent (references x.body)
+unfolding record_needs
+record_needs_said t b x e =
+    let k = said_body t b x e in
+    let kind_is = k.1 in
+    rw kind_is (ap greatest_in_parent (sym (body_names t b k.0 x.body k.2)))
+
+records_need_said : (t : Tables) (xs : List (Result Piece Fault)) → AllByRecursion (IsSpelled t) xs → records_need xs ≡ greatest_in_parent (flat_map (λ x. references x.body) (terms_in t xs))
+unfolding records_need terms_in greatest_in_parent
+records_need_said t [] all = refl
+records_need_said t (Ok p ∷ xs) all =
+    let x = all.0.type in
+    let here = record_needs_said t p.bytes x all.0.says in
+    let later = records_need_said t xs all.1 in
+    rw (all.0.says, here, later) (sym (greatest_append (references x.body) (flat_map (λ x. references x.body) (terms_in t xs))))
+records_need_said t (Err f ∷ xs) all = absurd all.0
+
+-- where no rule is broken, the records need what the types of the dictionary name
+pub types_need : (s : Lists) → first_fault s ≡ None → records_need (types s.ctf) ≡ greatest_in_parent (flat_map (λ x. references x.body) (said_by s).terms)
+unfolding said_by
+types_need s e = records_need_said (tables s) (types s.ctf) (all_spelled s e)
