@@ -10,7 +10,7 @@ use Rattle.ctf_model.specs.Runs.{Call, Steps, found_in, own_state, addressed, is
 use Rattle.ctf_model.specs.State.{State}
 use Rattle.ctf_model.specs.Steps.{step, Outcome}
 use Rattle.ctf_model.specs.declared.faults.Fault.{Fault}
-use Rattle.ctf_model.specs.declared.replies.Reply.{Reply}
+use Rattle.ctf_model.specs.Answers.{Reply}
 use Rattle.ctf_model.specs.declared.requests.Request.{Request}
 use Rattle.ctf_wire.proofs.Asking.{ask-long}
 use Rattle.ctf_wire.proofs.Places.{found_none}

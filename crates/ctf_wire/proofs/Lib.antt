@@ -1,5 +1,6 @@
 pub mod Asking
 pub mod Short
+pub mod TypeQuestions
 pub mod SpelledKind
 pub mod MemoryLine
 pub mod Places

@@ -8,7 +8,7 @@ use Rattle.ctf_wire.specs.declared.broker.Entry.{Entry}
 use Rattle.ctf_model.specs.Lists.{Lists}
 use Rattle.ctf_model.specs.Runs.{Steps, Answered, found_in, addressed, is_no_memory}
 use Rattle.ctf_model.specs.Steps.{step, Outcome}
-use Rattle.ctf_model.specs.declared.replies.Reply.{Reply}
+use Rattle.ctf_model.specs.Answers.{Reply}
 use Rattle.ctf_model.specs.declared.requests.Request.{Request}
 use Rattle.ctf_model.specs.declared.requests.Request.TheVariants.{DoPart, DoOpen, DoKind, DoReset}
 

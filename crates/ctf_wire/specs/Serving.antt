@@ -9,7 +9,7 @@ use Rattle.ctf_model.specs.Runs.{Steps, no_memory, own_state}
 use Rattle.ctf_model.specs.State.{State}
 use Rattle.ctf_model.specs.declared.faults.Fault.{Fault}
 use Rattle.ctf_model.specs.declared.faults.TheConstants.Fault.{LONG_LINE}
-use Rattle.ctf_model.specs.declared.replies.Reply.{Reply}
+use Rattle.ctf_model.specs.Answers.{Reply}
 use Rattle.ctf_model.specs.declared.requests.Request.{Request}
 use Rattle.ctf_wire.specs.Flushes.{Flushes, Delivers, DeliversThen}
 use Rattle.ctf_wire.specs.Served.{Answers, BeginsWith}

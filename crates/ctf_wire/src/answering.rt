@@ -12,11 +12,11 @@ use ctf_model::{Fault, Request, TypeNum};
 
 /// What a question on a type of a dictionary without a parent is answered.
 pub fn answer_on<'a>(
-    dictionary: Checked<'a>,
+    dictionary: &Checked<'a>,
     t: TypeNum,
     question: &Request,
 ) -> Result<Answer<'a>, Fault>
-    ensures { outcome_seen result ≡ type_question (said_on question.now) (type_at (dictionary_of dictionary.entry) None t.0) }
+    ensures { outcome_seen result ≡ type_question (said_on question.now) (type_at (dictionary_of dictionary.now) None t.0) }
 {
     unreachable!()
 }

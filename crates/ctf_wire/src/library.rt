@@ -6,6 +6,7 @@ ghost use Rattle.ctf_model.specs.Faults.{first_fault};
 ghost use Rattle.ctf_model.specs.Runs.{Answered, is_no_memory};
 ghost use Rattle.ctf_model.specs.State.{empty_state};
 ghost use Rattle.ctf_model.specs.Steps.{step, is_question, outcome_of, slot_at, longest_list};
+ghost use Rattle.ctf_wire.specs.Asked.{asked_about};
 ghost use Rattle.ctf_wire.specs.Seen.{outcome_seen, said};
 ghost use Rattle.ctf_wire.specs.SlotView.{slot_of, without_symbols};
 ghost use Rattle.ctf_model.specs.declared.faults.TheConstants.Fault.{MEMORY, STAGE_FULL};
@@ -13,7 +14,7 @@ ghost use Rattle.ctf_model.specs.declared.faults.TheConstants.Fault.{MEMORY, STA
 use crate::replies::{Answer, Change};
 use crate::slots::{Slot, bytes_or_none, list_bytes};
 use ctf_check::check;
-use ctf_model::{Bytes, Fault, ListName, Request, placeless};
+use ctf_model::{Bytes, Fault, ListName, Request, TypeNum, placeless};
 use std::alloc::Global;
 use std::marker::Model;
 
@@ -89,6 +90,32 @@ fn judge_staged<'a>(
     match check(alloc, bytes_or_none(ctf), None, list_bytes(strs)) {
         Ok(dictionary) => Ok(dictionary.count()),
         Err(fault) => Err(fault),
+    }
+}
+
+/// What a question is about: a type of a slot.
+#[derive(Clone, Copy)]
+struct About {
+    slot: u32,
+    t: TypeNum,
+}
+
+/// The slot and the type that a question is about.
+fn type_asked(question: &Request) -> Option<About>
+    ensures { option_map (λ about. (about.slot, about.t.0)) result ≡ asked_about question.now }
+{
+    match question {
+        Request::DoKind { d, t }
+        | Request::DoRecord { d, t }
+        | Request::DoMembers { d, t, .. }
+        | Request::DoEnumerators { d, t, .. }
+        | Request::DoArgs { d, t }
+        | Request::DoArray { d, t }
+        | Request::DoEncoding { d, t } => Some(About {
+            slot: d.get(),
+            t: *t,
+        }),
+        _ => None,
     }
 }
 
@@ -202,23 +229,16 @@ impl Library {
     }
 
     /// Answers a question. Names and lists are lent from the dictionary of its slot.
-    #[tactic(auto, unfolding(ctf_model::specs::Steps::step))]
     pub fn answer<'a>(&'a self, question: &Request) -> Result<Answer<'a>, Fault>
         requires { is_question question.now ≡ true }
         ensures { step self.now question.now None ≡ outcome_of (outcome_seen result) self.now }
     {
-        match question {
-            Request::DoKind { d, t }
-            | Request::DoRecord { d, t }
-            | Request::DoMembers { d, t, .. }
-            | Request::DoEnumerators { d, t, .. }
-            | Request::DoArgs { d, t }
-            | Request::DoArray { d, t }
-            | Request::DoEncoding { d, t } => match find_slot(&self.slots, d.get()) {
+        match type_asked(question) {
+            Some(about) => match find_slot(&self.slots, about.slot) {
+                Some(slot) => slot.answer(about.t, question),
                 None => Err(placeless(Fault::NO_SLOT)),
-                Some(slot) => slot.answer(*t, question),
             },
-            _ => unreachable!(),
+            None => unreachable!(),
         }
     }
 }
