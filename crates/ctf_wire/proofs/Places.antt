@@ -1,5 +1,5 @@
 -- Where a session's library stands among the entries.
-use Rattle.std.proofs.Common.{◌≡◌, ◌≢◌, ℕ, ◌+◌, ◌<◌, List, [], ◌∷◌, ◌++◌, length, get_or, set, Bool, true, false, Option, None, Some, eqb, refl, ◌∙◌, ap, sym, subst, arith, add-one, suc}
+use Rattle.std.proofs.Common.{◌≡◌, ◌≢◌, ℕ, ◌+◌, ◌<◌, List, [], ◌∷◌, ◌++◌, length, get_or, set, Bool, true, false, cond, Option, None, Some, eqb, refl, ◌∙◌, ap, sym, subst, arith, add-one, suc}
 use Rattle.std.specs.Prelude.{if◌then◌else◌, option_map}
 use Rattle.std.proofs.lemmas.Bool.Decides.{nat_tests}
 use Rattle.ctf_model.specs.State.{State, empty_state}
@@ -10,7 +10,6 @@ use Rattle.ctf_model.specs.Runs.{Steps, Answered, found_in, addressed, is_no_mem
 use Rattle.ctf_model.specs.Steps.{step, Outcome}
 use Rattle.ctf_model.specs.Answers.{Reply}
 use Rattle.ctf_model.specs.declared.requests.Request.{Request}
-use Rattle.ctf_model.specs.declared.requests.Request.TheVariants.{DoPart, DoOpen, DoKind, DoReset}
 
 pub library_at-push_empty : (es : List Entry) (e : Entry) (q : ℕ) → e.library ≡ empty_state → library_at (es ++ e ∷ []) q ≡ library_at es q
 library_at-push_empty [] e q h = elim (eqb e.session q) as (λ t. (if t then e.library else empty_state) ≡ empty_state) [ true ↦ h | false ↦ refl ]
@@ -80,10 +79,24 @@ is_place (x ∷ es) s i h = place_case x es s i h (λ k e. is_place es s k e) (e
 
 -- no word finds anything yet
 pub found_none : (libraries : ℕ → State) (request : Request) → found_in libraries request ≡ None
-found_none libraries (DoPart list piece) = refl
-found_none libraries DoOpen = refl
-found_none libraries (DoKind d t) = refl
-found_none libraries DoReset = refl
+found_none libraries request = refl
+
+-- the library at the place of a session is the session's
+pub library_found : (es : List Entry) (s i : ℕ) (e : Entry) → place_of es s ≡ Some i → e ≡ get_or es i e → e.library ≡ library_at es s
+library_found es s i e place e_is = let p = is_place es s i place in ap (λ (x : Entry). x.library) e_is ∙ p.library e
+
+-- a session without a place has an empty library
+pub no_library : (es : List Entry) (s : ℕ) → place_of es s ≡ None → library_at es s ≡ empty_state
+no_library [] s h = refl
+no_library (x ∷ es) s h = at (eqb x.session s) h (no_library es s)
+  where
+    at : (here : Bool) → cond here (Some 0) (option_map (λ i. i + 1) (place_of es s)) ≡ None → (place_of es s ≡ None → library_at es s ≡ empty_state) → cond here x.library (library_at es s) ≡ empty_state
+    at true h later = absurd cc
+    at false h later = later (none_of (place_of es s) h)
+      where
+        none_of : (o : Option ℕ) → option_map (λ i. i + 1) o ≡ None → o ≡ None
+        none_of None e = refl
+        none_of (Some i) e = absurd cc
 
 -- one answered call, in the entries
 pub stepped : (old es : List Entry) (s i : ℕ) (request : Request) (found : Option Lists) (said reply : Reply) (e e2 : Entry) → place_of es s ≡ Some i → ((q : ℕ) → library_at es q ≡ library_at old q)

@@ -1,12 +1,13 @@
 -- The step of a question on a type.
-use Rattle.std.proofs.Common.{◌≡◌, ℕ, Bool, true, false, Option, Some, None, Result, sym, ap, ◌∙◌}
+use Rattle.std.proofs.Common.{◌≡◌, ℕ, Bool, true, false, Option, Some, None, Result, Err, refl, sym, ap, ◌∙◌}
 use Rattle.std.proofs.lemmas.Option.{same_Some}
 use Rattle.ctf_model.specs.Answers.{Answer}
 use Rattle.ctf_model.specs.Questions.{type_question, kind_said, head_said, members_said, enumerators_said, arguments_said, array_said, encoding_said}
-use Rattle.ctf_model.specs.State.{State, Slot}
+use Rattle.ctf_model.specs.State.{State, Slot, empty_state}
 use Rattle.ctf_model.specs.Steps.{Outcome, step, asks, slot_type, slot_at, outcome_of, is_question}
 use Rattle.ctf_model.specs.Term.{Term}
 use Rattle.ctf_model.specs.declared.faults.Fault.{Fault}
+use Rattle.ctf_model.specs.declared.faults.TheConstants.Fault.{NO_SLOT}
 use Rattle.ctf_model.specs.declared.requests.Request.{Request}
 use Rattle.ctf_model.specs.declared.requests.Request.TheVariants.{DoPart, DoCheck, DoOpen, DoReset, DoKind, DoRecord, DoMembers, DoEnumerators, DoArgs, DoArray, DoEncoding}
 use Rattle.ctf_wire.specs.Asked.{asked_about, said_on}
@@ -51,3 +52,18 @@ about_something (DoEncoding n m) h e = absurd cc
 -- a question leaves the library as it is
 pub stays : (state : State) (outcome : Outcome) (said : Result Answer Fault) → outcome ≡ outcome_of said state → outcome.state ≡ state
 stays state outcome said e = ap (λ (o : Outcome). o.state) e
+
+-- where there is no slot a question is refused
+pub no_slots : (q : Request) → is_question q ≡ true → step empty_state q None ≡ outcome_of (Err (record { code = NO_SLOT; place = 0 })) empty_state
+unfolding step
+no_slots (DoPart list piece) h = absurd cc
+no_slots DoCheck h = absurd cc
+no_slots DoOpen h = absurd cc
+no_slots DoReset h = absurd cc
+no_slots (DoKind n m) h = refl
+no_slots (DoRecord n m) h = refl
+no_slots (DoMembers n m window) h = refl
+no_slots (DoEnumerators n m window) h = refl
+no_slots (DoArgs n m) h = refl
+no_slots (DoArray n m) h = refl
+no_slots (DoEncoding n m) h = refl

@@ -7,4 +7,4 @@ pub index_mut-entry-requires : goal.index_mut-entry-requires
 index_mut-entry-requires c = let p = is_place c.make_place.new.entries.items c.args.session c.in-Ok.place c.in-Ok.ensures.place in let w = p.within in grind (arith, w)
 
 pub returns : goal.returns
-returns c = stepped c.args.entries.now.items c.make_place.new.entries.items c.args.session c.in-Ok.place c.args.request.now None c.step-reply.result _ c.index_mut-entry.result.now _ c.in-Ok.ensures.place c.in-Ok.ensures.same (sym (found_none (library_at c.args.entries.now.items) c.args.request.now)) c.index_mut-entry.ensures.value refl c.step-reply.ensures refl
+returns c = stepped c.args.entries.now.items c.make_place.new.entries.items c.args.session c.in-Ok.place c.args.request.now None _ _ c.index_mut-entry.result.now _ c.in-Ok.ensures.place c.in-Ok.ensures.same (sym (found_none (library_at c.args.entries.now.items) c.args.request.now)) c.index_mut-entry.ensures.value refl c.step.ensures refl
