@@ -8,10 +8,9 @@ use Rattle.std.proofs.lemmas.List.{length-map, get_or-map}
 use Rattle.std.proofs.lemmas.List.Sums.{sum_by-cons}
 use Rattle.std.proofs.lemmas.Option.{get_or_from_slice_get}
 use Rattle.ctf_model.specs.Chains.{base, own_index, edges}
-use Rattle.ctf_model.specs.Section.{onto, terms_in}
 use Rattle.ctf_model.specs.Faults.{walk_fault}
 use Rattle.ctf_model.specs.Name.{Tables}
-use Rattle.ctf_model.specs.Section.{Piece}
+use Rattle.ctf_model.specs.Section.{Piece, onto, terms_in}
 use Rattle.ctf_model.specs.Spelling.{term_of}
 use Rattle.ctf_model.specs.Term.{Term}
 use Rattle.ctf_model.specs.declared.faults.Fault.{Fault}
@@ -25,14 +24,14 @@ use Rattle.ctf_chains.proofs.SpelledNumbers.{spelled_numbers}
 
 -- ---- one record
 
-led_more : (o : Option ℕ) (xs : List (Option ℕ)) (js : List ℕ) (h : ℕ → Option ℕ) (n : ℕ) (ns : List ℕ) → h n ≡ o → led_to xs ≡ filter_map h ns → led_to (o ∷ xs) ≡ filter_map h (n ∷ ns)
-led_more None xs js h n ns here e = rw here e
-led_more (Some i) xs js h n ns here e = rw here (ap (λ (is : List ℕ). i ∷ is) e)
+led_more : (o : Option ℕ) (xs : List (Option ℕ)) (h : ℕ → Option ℕ) (n : ℕ) (ns : List ℕ) → h n ≡ o → led_to xs ≡ filter_map h ns → led_to (o ∷ xs) ≡ filter_map h (n ∷ ns)
+led_more None xs h n ns here e = rw here e
+led_more (Some i) xs h n ns here e = rw here (ap (λ (is : List ℕ). i ∷ is) e)
 
 -- numbers lead to the own types that they name
 led_by_numbers : (h : ℕ → Option ℕ) (ns : List ℕ) → led_to (map h ns) ≡ filter_map h ns
 led_by_numbers h [] = refl
-led_by_numbers h (n ∷ ns) = led_more (h n) (map h ns) [] h n ns refl (led_by_numbers h ns)
+led_by_numbers h (n ∷ ns) = led_more (h n) (map h ns) h n ns refl (led_by_numbers h ns)
 
 -- a record leads where the type that it spells does
 led_by_type : (chain : Chain) (child : Bool) (count : ℕ) (t : Tables) (p : Piece) (x : Term) → term_of t p.bytes ≡ Some x → led_to (record_places chain child count (Ok p)) ≡ filter_map (own_index child count) (steps chain x.body)

@@ -32,12 +32,14 @@ spot Declarator KPointer = Head
 spot Declarator KFunction = Head
 spot _ _ = Nowhere
 
+-- the numbers that stand there in a record
 abbrev pub numbers_at : Spot → List ℕ → List ℕ
 numbers_at Nowhere b = []
 numbers_at Head b = field b ∷ []
 numbers_at Contents b = u16_at (behind_head b) 0 ∷ []
 numbers_at Members b = member_types (member_len (size b)) (vlen b) (behind_head b)
 
+-- the numbers of a record of a kind, if that is known
 abbrev pub numbers_of_kind : Chain → List ℕ → Option Kind → List ℕ
 numbers_of_kind chain b None = []
 numbers_of_kind chain b (Some k) = numbers_at (spot chain k) b

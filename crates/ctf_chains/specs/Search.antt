@@ -23,6 +23,7 @@ pub record IsDepth (es : List (List ℕ)) (i d : ℕ) : Type 0 where
 
 -- ---- the table: for each record 0, or busy while its visit is under way, or one more than its depth
 
+-- the mark of a record whose visit is under way
 abbrev pub busy : ℕ
 busy = 0xffff
 
