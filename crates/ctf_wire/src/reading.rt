@@ -1,7 +1,7 @@
 //! Reads the request of a line.
 ghost use Rattle.std.specs.Prelude.{◌≡◌, ◌≢◌, ◌≤◌, IfSome, Option, None, Some, IfOk, IfErr, Ok, Err, codes, option_map};
 ghost use Rattle.serde_json.specs.View.{view};
-ghost use Rattle.ctf_model.specs.Ask.{ask, placeless, number_in, text_in, list_named, bytes_spelled, not_too_many, slot_asked, type_asked, kind_asked, part_asked, word_asked, request_asked, value_asked};
+ghost use Rattle.ctf_model.specs.Ask.{ask, placeless, number_in, text_in, list_named, bytes_spelled, not_too_many, slot_asked, type_asked, about_type, part_asked, word_asked, request_asked, value_asked};
 ghost use Rattle.ctf_model.specs.declared.faults.TheConstants.Fault.{MEMORY};
 
 use crate::lines::FromLine;
@@ -99,7 +99,7 @@ fn type_number(value: &Value) -> Option<TypeNum>
 }
 
 fn read_kind(value: &Value) -> Option<Request>
-    ensures { result ≡ kind_asked (view value.now) }
+    ensures { result ≡ about_type (λ d t. DoKind d t) (view value.now) }
 {
     let d = slot(value)?;
     let t = type_number(value)?;

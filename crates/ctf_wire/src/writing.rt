@@ -49,7 +49,8 @@ pub fn write_change(
 /// Appends the line of a reply, straight from what it lends; where there is room, no memory is taken.
 pub fn write_reply(out: &mut Vec<u8>, reply: &Reply<'_>) -> Result<(), AllocError>
     ensures ok { OnOk result (out.new.items ≡ out.old.items ++ reply_line (reply_seen reply.now)) }
-    ensures err { OnErr result (out.new.items ≡ out.old.items) }
+    ensures err { OnErr result (out.new ≡ out.old) }
+    ensures capacity { vec_capacity out.old ≤ vec_capacity out.new }
     ensures room { vec_len out.old + length (reply_line (reply_seen reply.now)) ≤ vec_capacity out.old → IsOk result × (vec_capacity out.new ≡ vec_capacity out.old) }
 {
     unreachable!()
