@@ -1,6 +1,8 @@
 pub mod Asking
 pub mod Short
 pub mod TypeQuestions
+pub mod NeverMemory
+pub mod QuestionSteps
 pub mod SpelledKind
 pub mod MemoryLine
 pub mod Places
