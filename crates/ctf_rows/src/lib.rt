@@ -14,6 +14,8 @@ mod dictionaries;
 #[cfg(test)]
 mod first_run;
 #[cfg(test)]
+mod kinds;
+#[cfg(test)]
 mod request_lines;
 #[cfg(test)]
 mod runs;

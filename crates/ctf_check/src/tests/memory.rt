@@ -1,0 +1,36 @@
+//! Want of memory.
+//!
+//! With `rt try --test --fail-alloc N` these tests hold for every N: they say what may then be answered.
+
+use super::inputs::{INT, alone, changed, fault_of};
+use ctf_model::Fault;
+
+const WANT: Option<(u16, u64)> = Some((Fault::MEMORY, 0));
+
+#[test]
+fn takes_memory_for_chains(rt: HostRuntime) {
+    let fault = fault_of(rt.alloc(), alone(&INT));
+    assert!(rt; fault.is_none() || fault == WANT);
+    // a function that returns itself
+    let ctf = changed(&INT, &[(40, 1), (41, 0x28), (42, 1), (44, 0)]);
+    let fault = fault_of(rt.alloc(), alone(&ctf));
+    assert!(rt; fault == Some((Fault::DECL_DEEP, 1)) || fault == WANT);
+}
+
+#[test]
+fn takes_no_memory_before(rt: HostRuntime) {
+    let rows: [(&[(usize, u8)], u16, u64); 4] = [
+        (&[(31, 0xff)], Fault::PAST_END, 0),
+        (&[(41, 0x70)], Fault::BAD_KIND, 1),
+        (&[(36, 9)], Fault::BAD_NAME, 36),
+        // a function that returns type 4, of one
+        (&[(40, 1), (41, 0x28)], Fault::BAD_REFERENCE, 1),
+    ];
+    for (changes, code, place) in rows {
+        assert_eq!(rt;
+            fault_of(rt.alloc(), alone(&changed(&INT, changes))),
+            Some((code, place)),
+            "at {changes:?}"
+        );
+    }
+}
