@@ -1,6 +1,7 @@
 pub mod Asking
 pub mod Short
-pub mod SpelledKind
+pub mod SpelledHead
+pub mod TypeAnswers
 pub mod MemoryLine
 pub mod Places
 pub mod Faulting

@@ -65,6 +65,6 @@ impl Slot {
         ensures { outcome_seen result ≡ type_question (said_on question.now) (slot_type t.0 (slot_of self.now)) }
     {
         let dictionary = Checked::again(self.lists(), self.types);
-        answer_on(dictionary, t, question)
+        answer_on(&dictionary, t, question)
     }
 }
