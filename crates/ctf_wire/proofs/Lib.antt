@@ -3,7 +3,8 @@ pub mod Short
 pub mod TypeQuestions
 pub mod NeverMemory
 pub mod QuestionSteps
-pub mod SpelledKind
+pub mod SpelledHead
+pub mod TypeAnswers
 pub mod MemoryLine
 pub mod Places
 pub mod Faulting

@@ -5,6 +5,7 @@ mod answering;
 mod broker;
 mod engine;
 mod feeding;
+mod heads;
 mod library;
 mod lines;
 mod machines;
@@ -21,6 +22,7 @@ mod serving;
 mod sinks;
 mod slots;
 mod sources;
+mod variants;
 mod writers;
 mod writing;
 
