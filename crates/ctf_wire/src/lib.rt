@@ -8,6 +8,7 @@ mod feeding;
 mod library;
 mod lines;
 mod machines;
+mod names;
 mod no_memory;
 mod parts;
 mod pending;
@@ -21,6 +22,7 @@ mod serving;
 mod sinks;
 mod slots;
 mod sources;
+mod texts;
 mod writers;
 mod writing;
 
