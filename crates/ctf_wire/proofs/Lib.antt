@@ -1,4 +1,5 @@
 pub mod Asking
+pub mod NameText
 pub mod Short
 pub mod SpelledKind
 pub mod MemoryLine

@@ -5,6 +5,7 @@ mod answering;
 mod broker;
 mod engine;
 mod feeding;
+mod items;
 mod library;
 mod lines;
 mod machines;

@@ -1,0 +1,15 @@
+-- The items of a list that a line shows, as they stand in it.
+use Rattle.std.specs.Prelude.{ℕ, List, map, take, drop, decimal}
+use Rattle.ctf_model.specs.ReplyLines.{separated, member_text, enumerator_text}
+use Rattle.ctf_wire.specs.declared.items.Items.{Items}
+use Rattle.ctf_wire.specs.declared.items.Items.TheVariants.{Members, Enumerators, Arguments}
+
+-- the text of each item
+abbrev pub item_texts : Items → List (List ℕ)
+item_texts (Members ms) = map member_text ms.now
+item_texts (Enumerators es) = map enumerator_text es.now
+item_texts (Arguments args) = map decimal args.now
+
+-- count of them from one on, separated by commas
+abbrev pub span_text : Items → ℕ → ℕ → List ℕ
+span_text items from count = separated (λ text. text) (take count (drop from (item_texts items)))
