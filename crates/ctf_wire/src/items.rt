@@ -2,10 +2,11 @@
 ghost use Rattle.std.specs.Prelude.{◌≡◌, ◌+◌, ◌≤◌, ◌<◌, ◌++◌, [], length, get_or, min, vec_len, vec_capacity};
 ghost use Rattle.ctf_model.specs.ReplyLines.{member_text, enumerator_text};
 ghost use Rattle.ctf_views.specs.ItemsView.{member as member_seen, enumerator as enumerator_seen};
-ghost use Rattle.ctf_wire.specs.Items.{item_texts};
+ghost use Rattle.ctf_wire.specs.Items.{item_text, item_texts};
 
 use crate::names::{plus_name, put_name};
 use crate::texts::{TOO_LONG, number_len, plus, put, put_number, put_signed, signed_len};
+use ctf_model::TypeNum;
 use ctf_views::{Args, Enumerator, Enumerators, Member, Members};
 
 /// A list that a line shows items of.
@@ -14,6 +15,14 @@ pub enum Items<'a> {
     Members(&'a Members<'a>),
     Enumerators(&'a Enumerators<'a>),
     Arguments(&'a Args<'a>),
+}
+
+/// An item of one of them.
+#[derive(Clone, Copy)]
+pub enum Item<'a> {
+    Member(Member<'a>),
+    Enumerator(Enumerator<'a>),
+    Argument(TypeNum),
 }
 
 fn plus_member(len: usize, member: Member<'_>) -> usize
@@ -61,6 +70,31 @@ fn put_enumerator(out: &mut Vec<u8>, enumerator: Enumerator<'_>)
     put(out, b"}");
 }
 
+/// A length and the bytes of an item.
+pub fn plus_item(len: usize, item: Item<'_>) -> usize
+    ensures { result ≡ min (len + length (item_text item.entry)) TOO_LONG }
+{
+    match item {
+        Item::Member(member) => plus_member(len, member),
+        Item::Enumerator(enumerator) => plus_enumerator(len, enumerator),
+        Item::Argument(argument) => plus(len, number_len(u64::from(argument.0))),
+    }
+}
+
+/// Appends an item where there is room.
+pub fn put_item(out: &mut Vec<u8>, item: Item<'_>)
+    requires { vec_len out.old + length (item_text item) ≤ vec_capacity out.old }
+    ensures items { out.new.items ≡ out.old.items ++ item_text item.entry }
+    ensures len { vec_len out.new ≡ vec_len out.old + length (item_text item.entry) }
+    ensures capacity { vec_capacity out.new ≡ vec_capacity out.old }
+{
+    match item {
+        Item::Member(member) => put_member(out, member),
+        Item::Enumerator(enumerator) => put_enumerator(out, enumerator),
+        Item::Argument(argument) => put_number(out, u64::from(argument.0)),
+    }
+}
+
 impl<'a> Items<'a> {
     /// How many items the list has.
     pub fn len(self) -> usize
@@ -73,46 +107,15 @@ impl<'a> Items<'a> {
         }
     }
 
-    /// A length and the bytes of an item, of none past the end.
-    pub fn plus_item(self, len: usize, index: usize) -> usize
-        ensures { result ≡ min (len + length (get_or (item_texts self.entry) index [])) TOO_LONG }
+    /// The item with a number, from 0.
+    pub fn item(self, index: usize) -> Item<'a>
+        requires { index < length (item_texts self) }
+        ensures { item_text result ≡ get_or (item_texts self.entry) index [] }
     {
         match self {
-            Items::Members(members) => match members.get(index) {
-                Some(member) => plus_member(len, member),
-                None => plus(len, 0),
-            },
-            Items::Enumerators(enumerators) => match enumerators.get(index) {
-                Some(enumerator) => plus_enumerator(len, enumerator),
-                None => plus(len, 0),
-            },
-            Items::Arguments(args) => match args.get(index) {
-                Some(argument) => plus(len, number_len(u64::from(argument.0))),
-                None => plus(len, 0),
-            },
-        }
-    }
-
-    /// Appends an item where there is room.
-    pub fn put_item(self, out: &mut Vec<u8>, index: usize)
-        requires { vec_len out.old + length (get_or (item_texts self) index []) ≤ vec_capacity out.old }
-        ensures items { out.new.items ≡ out.old.items ++ get_or (item_texts self.entry) index [] }
-        ensures len { vec_len out.new ≡ vec_len out.old + length (get_or (item_texts self.entry) index []) }
-        ensures capacity { vec_capacity out.new ≡ vec_capacity out.old }
-    {
-        match self {
-            Items::Members(members) => match members.get(index) {
-                Some(member) => put_member(out, member),
-                None => {}
-            },
-            Items::Enumerators(enumerators) => match enumerators.get(index) {
-                Some(enumerator) => put_enumerator(out, enumerator),
-                None => {}
-            },
-            Items::Arguments(args) => match args.get(index) {
-                Some(argument) => put_number(out, u64::from(argument.0)),
-                None => {}
-            },
+            Items::Members(members) => Item::Member(members.get(index).unwrap()),
+            Items::Enumerators(enumerators) => Item::Enumerator(enumerators.get(index).unwrap()),
+            Items::Arguments(args) => Item::Argument(args.get(index).unwrap()),
         }
     }
 }
