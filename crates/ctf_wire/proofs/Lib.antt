@@ -1,4 +1,5 @@
 pub mod Asking
+pub mod Separated
 pub mod NameText
 pub mod Short
 pub mod SpelledKind

@@ -1,6 +1,6 @@
 -- The items of a list that a line shows, as they stand in it.
-use Rattle.std.specs.Prelude.{ℕ, List, map, take, drop, decimal}
-use Rattle.ctf_model.specs.ReplyLines.{separated, member_text, enumerator_text}
+use Rattle.std.specs.Prelude.{ℕ, nat_lt, List, [], ◌∷◌, map, decimal, if◌then◌else◌}
+use Rattle.ctf_model.specs.ReplyLines.{member_text, enumerator_text}
 use Rattle.ctf_views.specs.ItemsView.{member, enumerator}
 use Rattle.ctf_wire.specs.declared.items.Item.{Item}
 use Rattle.ctf_wire.specs.declared.items.Item.TheVariants.{Member, Enumerator, Argument}
@@ -19,6 +19,6 @@ item_texts (Members ms) = map member_text ms.now
 item_texts (Enumerators es) = map enumerator_text es.now
 item_texts (Arguments args) = map decimal args.now
 
--- count of them from one on, separated by commas
-abbrev pub span_text : Items → ℕ → ℕ → List ℕ
-span_text items from count = separated (λ text. text) (take count (drop from (item_texts items)))
+-- what stands before the item with a number, from 0
+abbrev pub comma_before : ℕ → List ℕ
+comma_before k = if nat_lt 0 k then 44 ∷ [] else []

@@ -1,5 +1,5 @@
 //! The items of the lists in a line.
-ghost use Rattle.std.specs.Prelude.{◌≡◌, ◌+◌, ◌≤◌, ◌<◌, ◌++◌, [], length, get_or, min, vec_len, vec_capacity};
+ghost use Rattle.std.specs.Prelude.{◌≡◌, ◌+◌, ◌≤◌, ◌<◌, ◌^◌, ◌++◌, [], length, get_or, min, vec_len, vec_capacity};
 ghost use Rattle.ctf_model.specs.ReplyLines.{member_text, enumerator_text};
 ghost use Rattle.ctf_views.specs.ItemsView.{member as member_seen, enumerator as enumerator_seen};
 ghost use Rattle.ctf_wire.specs.Items.{item_text, item_texts};
@@ -23,6 +23,16 @@ pub enum Item<'a> {
     Member(Member<'a>),
     Enumerator(Enumerator<'a>),
     Argument(TypeNum),
+}
+
+/// Some of its items: those from one on, as many as are shown.
+#[derive(Clone, Copy)]
+pub struct Span<'a> {
+    pub items: Items<'a>,
+    pub from: usize,
+    pub count: usize,
+    pub ghost inside: { from + count ≤ length (item_texts items) },
+    pub ghost fits: { from + count < 2 ^ 64 },
 }
 
 fn plus_member(len: usize, member: Member<'_>) -> usize

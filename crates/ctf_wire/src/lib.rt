@@ -23,6 +23,7 @@ mod serving;
 mod sinks;
 mod slots;
 mod sources;
+mod spans;
 mod texts;
 mod writers;
 mod writing;
