@@ -1,4 +1,5 @@
 pub mod Asking
+pub mod Shown
 pub mod Separated
 pub mod NameText
 pub mod Short

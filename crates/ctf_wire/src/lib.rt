@@ -1,6 +1,7 @@
 //! Lines of requests and replies, the sessions that they belong to, and the run over a reader and a writer.
 #![tactic(auto)]
 
+mod answer_parts;
 mod answering;
 mod broker;
 mod engine;
