@@ -1,4 +1,7 @@
 pub mod Asking
+pub mod Shown
+pub mod Separated
+pub mod NameText
 pub mod Short
 pub mod TypeQuestions
 pub mod NeverMemory

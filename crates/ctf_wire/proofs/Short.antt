@@ -1,13 +1,14 @@
--- How long the parts of a line are.
-use Rattle.std.proofs.Common.{◌≡◌, ℕ, ◌<◌, ◌≤◌, ◌^◌, Bool, true, false, eqb, leb, List, [], ◌∷◌, length, decimal, refl, arith, lit<, lit≤}
+-- How long the parts of a line are, and which lines are short.
+use Rattle.std.proofs.Common.{◌≡◌, ℕ, ◌+◌, ◌<◌, ◌≤◌, ◌^◌, Bool, true, false, eqb, leb, List, [], ◌∷◌, ◌++◌, length, length-append, codes, decimal, refl, ap, arith, lit<, lit≤}
 use Rattle.std.specs.Prelude.{◌&&◌, if◌then◌else◌}
-use Rattle.std.specs.List.{list_all}
-use Rattle.std.proofs.lemmas.Bool.{leb-true}
+use Rattle.std.specs.List.{list_all, concat}
+use Rattle.std.proofs.lemmas.Bool.{leb-true, le-leb, lt-leb}
 use Rattle.std.proofs.lemmas.Fmt.{length-decimal-le}
+use Rattle.ctf_model.specs.Answers as answers
 use Rattle.ctf_model.specs.FaultNames.{fault_names, name_beside, name_of_fault}
-use Rattle.ctf_model.specs.ReplyLines.{name_of_kind}
-use Rattle.ctf_model.specs.declared.kinds.Kind.{Kind}
-use Rattle.ctf_model.specs.declared.kinds.Kind.TheVariants.{KUnknown, KInteger, KFloat, KPointer, KArray, KFunction, KStruct, KUnion, KEnum, KForward, KTypedef, KVolatile, KConst, KRestrict}
+use Rattle.ctf_model.specs.ReplyLines.{answer_line, ends_for, fault_line, fitting_line}
+use Rattle.ctf_model.specs.declared.faults.Fault.{Fault}
+use Rattle.ctf_model.specs.declared.faults.TheConstants.Fault.{LONG_REPLY}
 
 pub decimal_16 : (n : ℕ) → n < 2 ^ 16 → length (decimal n) ≤ 5
 decimal_16 n h = length-decimal-le 5 n (lit< tt) (omega arith) (omega arith)
@@ -35,18 +36,48 @@ pub fault_name_short : (code : ℕ) → length (name_of_fault code) ≤ 13
 unfolding name_of_fault
 fault_name_short code = beside_short code fault_names refl
 
-pub kind_name_short : (kind : Kind) → length (name_of_kind kind) ≤ 8
-kind_name_short KUnknown = lit≤ tt
-kind_name_short KInteger = lit≤ tt
-kind_name_short KFloat = lit≤ tt
-kind_name_short KPointer = lit≤ tt
-kind_name_short KArray = lit≤ tt
-kind_name_short KFunction = lit≤ tt
-kind_name_short KStruct = lit≤ tt
-kind_name_short KUnion = lit≤ tt
-kind_name_short KEnum = lit≤ tt
-kind_name_short KForward = lit≤ tt
-kind_name_short KTypedef = lit≤ tt
-kind_name_short KVolatile = lit≤ tt
-kind_name_short KConst = lit≤ tt
-kind_name_short KRestrict = lit≤ tt
+abbrev total : List (List ℕ) → ℕ
+total [] = 0
+total (x ∷ xs) = length x + total xs
+
+length-concat : (xs : List (List ℕ)) → length (concat xs) ≡ total xs
+length-concat [] = refl
+length-concat (x ∷ xs) = let all = length-append x (concat xs) in let rest = length-concat xs in omega (arith, all, rest)
+
+-- a change's line
+pub done_short : (s : ℕ) → s < 2 ^ 32 → length (answer_line s answers.done) ≤ 96
+done_short s h = let a = decimal_32 s h in let all = length-concat (codes "{\"ok\":{" ∷ ends_for s) in omega (arith, a, all)
+
+pub staged_short : (s n : ℕ) → s < 2 ^ 32 → n < 2 ^ 64 → length (answer_line s (answers.staged n)) ≤ 96
+staged_short s n h k = let a = decimal_32 s h in let b = decimal_64 n k in let all = length-concat (codes "{\"ok\":{\"length\":" ∷ decimal n ∷ ends_for s) in omega (arith, a, b, all)
+
+pub opened_short : (s d types : ℕ) → s < 2 ^ 32 → d < 2 ^ 32 → types < 2 ^ 64 → length (answer_line s (answers.opened d types)) ≤ 96
+opened_short s d types h i k =
+    let a = decimal_32 s h in
+    let b = decimal_32 d i in
+    let e = decimal_64 types k in
+    let all = length-concat (codes "{\"ok\":{\"d\":" ∷ decimal d ∷ codes ",\"types\":" ∷ decimal types ∷ ends_for s) in
+    omega (arith, a, b, e, all)
+
+-- a refusal's line
+pub fault_short : (s : ℕ) (f : Fault) → s < 2 ^ 32 → f.code < 2 ^ 16 → f.place < 2 ^ 64 → length (fault_line s f) ≤ 96
+fault_short s f h i k =
+    let a = decimal_32 s h in
+    let b = decimal_16 f.code i in
+    let e = decimal_64 f.place k in
+    let name = fault_name_short f.code in
+    let all = length-concat (codes "{\"fault\":{\"code\":" ∷ decimal f.code ∷ codes ",\"name\":\"" ∷ name_of_fault f.code ∷ codes "\",\"place\":" ∷ decimal f.place ∷ ends_for s) in
+    omega (arith, a, b, e, name, all)
+
+-- a line that fits stands as it is
+pub fitting-fits : (s : ℕ) (line : List ℕ) → length line ≤ 4194305 → fitting_line s line ≡ line
+unfolding fitting_line
+fitting-fits s line h = rw (le-leb (length line) 4194305 h) refl
+
+-- and any other is refused
+pub fitting-long : (s : ℕ) (line : List ℕ) → 4194305 < length line → fitting_line s line ≡ fault_line s (record { code = LONG_REPLY; place = 0 })
+unfolding fitting_line
+fitting-long s line h = rw (lt-leb (length line) 4194305 h) refl
+
+pub fitting-short : (s : ℕ) (line : List ℕ) → length line ≤ 96 → length (fitting_line s line) ≤ 96
+fitting-short s line h = let same = ap length (fitting-fits s line (omega (arith, h))) in omega (arith, same, h)

@@ -1,14 +1,17 @@
 //! Lines of requests and replies, the sessions that they belong to, and the run over a reader and a writer.
 #![tactic(auto)]
 
+mod answer_parts;
 mod answering;
 mod broker;
 mod engine;
 mod feeding;
 mod heads;
+mod items;
 mod library;
 mod lines;
 mod machines;
+mod names;
 mod no_memory;
 mod parts;
 mod pending;
@@ -22,6 +25,8 @@ mod serving;
 mod sinks;
 mod slots;
 mod sources;
+mod spans;
+mod texts;
 mod variants;
 mod writers;
 mod writing;

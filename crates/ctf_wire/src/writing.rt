@@ -1,33 +1,85 @@
 //! Writes the line of a reply.
-ghost use Rattle.std.specs.Prelude.{◌≡◌, ◌+◌, ◌≤◌, ◌<◌, ◌++◌, length, take, drop, vec_len, vec_capacity, OnOk, OnErr, IsOk, Ok, Err};
-ghost use Rattle.ctf_model.specs.ReplyLines.{answer_line, fault_line, outcome_line, reply_line, name_of_kind};
-ghost use Rattle.ctf_wire.specs.Seen.{reply_seen, said_to};
+ghost use Rattle.std.specs.Prelude.{◌≡◌, ◌+◌, ◌≤◌, ◌++◌, length, vec_len, vec_capacity, OnOk, OnErr, IsOk, Ok, Err};
+ghost use Rattle.std.specs.List.{flat_map};
+ghost use Rattle.ctf_model.specs.ReplyLines.{answer_line, fault_line, fitting_line, reply_line};
+ghost use Rattle.ctf_wire.specs.Parts.{part_text};
+ghost use Rattle.ctf_wire.specs.Seen.{change_seen, reply_seen, said_to, seen};
 
+use crate::answer_parts::{
+    arguments_parts, array_parts, done_parts, encoding_parts, enumerators_parts, fault_parts,
+    head_parts, kind_parts, members_parts, opened_parts, staged_parts,
+};
 use crate::lines::ToLine;
-use crate::parts::{Part, SHORT_LINE, put_short_line};
-use crate::replies::{Change, Reply};
-use ctf_model::{Fault, Kind, fault_name};
+use crate::parts::{Part, SHORT_LINE, line_len, put_line, put_short_line};
+use crate::replies::{Answer, Change, Reply};
+use crate::texts::LONGEST_REPLY;
+use ctf_model::{Fault, placeless};
 use std::alloc::AllocError;
 
-/// The name of a kind, as replies show it.
-fn kind_name(kind: Kind) -> &'static str
-    ensures { result.now ≡ name_of_kind kind }
+/// Appends a refusal.
+fn write_fault(out: &mut Vec<u8>, session: u32, fault: Fault) -> Result<(), AllocError>
+    ensures ok { OnOk result (out.new.items ≡ out.old.items ++ fault_line session fault) }
+    ensures err { OnErr result (out.new ≡ out.old) }
+    ensures capacity { vec_capacity out.old ≤ vec_capacity out.new }
+    ensures room { vec_len out.old + length (fault_line session fault) ≤ vec_capacity out.old → IsOk result × (vec_capacity out.new ≡ vec_capacity out.old) }
+    ensures short { length (fault_line session fault) ≤ SHORT_LINE }
 {
-    match kind {
-        Kind::KUnknown => "unknown",
-        Kind::KInteger => "integer",
-        Kind::KFloat => "float",
-        Kind::KPointer => "pointer",
-        Kind::KArray => "array",
-        Kind::KFunction => "function",
-        Kind::KStruct => "struct",
-        Kind::KUnion => "union",
-        Kind::KEnum => "enum",
-        Kind::KForward => "forward",
-        Kind::KTypedef => "typedef",
-        Kind::KVolatile => "volatile",
-        Kind::KConst => "const",
-        Kind::KRestrict => "restrict",
+    put_short_line(out, &fault_parts(session, fault))
+}
+
+/// Appends a line, or the refusal of one that is too long.
+fn write_fitting(out: &mut Vec<u8>, session: u32, parts: &[Part<'_>]) -> Result<(), AllocError>
+    ensures ok { OnOk result (out.new.items ≡ out.old.items ++ fitting_line session (flat_map part_text parts.now)) }
+    ensures err { OnErr result (out.new ≡ out.old) }
+    ensures capacity { vec_capacity out.old ≤ vec_capacity out.new }
+    ensures room { vec_len out.old + length (fitting_line session (flat_map part_text parts.now)) ≤ vec_capacity out.old → IsOk result × (vec_capacity out.new ≡ vec_capacity out.old) }
+{
+    let len = line_len(parts);
+    if len <= LONGEST_REPLY + 1 {
+        put_line(out, len, parts)
+    } else {
+        write_fault(out, session, placeless(Fault::LONG_REPLY))
+    }
+}
+
+fn write_granted(out: &mut Vec<u8>, session: u32, change: Change) -> Result<(), AllocError>
+    ensures ok { OnOk result (out.new.items ≡ out.old.items ++ fitting_line session (answer_line session (change_seen change))) }
+    ensures err { OnErr result (out.new ≡ out.old) }
+    ensures capacity { vec_capacity out.old ≤ vec_capacity out.new }
+    ensures room { vec_len out.old + length (fitting_line session (answer_line session (change_seen change))) ≤ vec_capacity out.old → IsOk result × (vec_capacity out.new ≡ vec_capacity out.old) }
+    ensures short { length (fitting_line session (answer_line session (change_seen change))) ≤ SHORT_LINE }
+{
+    match change {
+        Change::Done => write_fitting(out, session, &done_parts(session)),
+        Change::Staged(staged) => write_fitting(out, session, &staged_parts(session, staged)),
+        Change::Opened { d, types } => {
+            write_fitting(out, session, &opened_parts(session, d, types))
+        }
+    }
+}
+
+fn write_answer(out: &mut Vec<u8>, session: u32, answer: &Answer<'_>) -> Result<(), AllocError>
+    ensures ok { OnOk result (out.new.items ≡ out.old.items ++ fitting_line session (answer_line session (seen answer.now))) }
+    ensures err { OnErr result (out.new ≡ out.old) }
+    ensures capacity { vec_capacity out.old ≤ vec_capacity out.new }
+    ensures room { vec_len out.old + length (fitting_line session (answer_line session (seen answer.now))) ≤ vec_capacity out.old → IsOk result × (vec_capacity out.new ≡ vec_capacity out.old) }
+{
+    match answer {
+        Answer::Changed(change) => write_granted(out, session, *change),
+        Answer::Kind(kind) => write_fitting(out, session, &kind_parts(session, *kind)),
+        Answer::Head(head) => write_fitting(out, session, &head_parts(session, *head)),
+        Answer::Members { members, window } => {
+            write_fitting(out, session, &members_parts(session, members, *window))
+        }
+        Answer::Enumerators {
+            enumerators,
+            window,
+        } => write_fitting(out, session, &enumerators_parts(session, enumerators, *window)),
+        Answer::Arguments { args, ret } => {
+            write_fitting(out, session, &arguments_parts(session, args, *ret))
+        }
+        Answer::Array(info) => write_fitting(out, session, &array_parts(session, *info)),
+        Answer::Encoding(info) => write_fitting(out, session, &encoding_parts(session, *info)),
     }
 }
 
@@ -39,11 +91,15 @@ pub fn write_change(
     outcome: Result<Change, Fault>,
 ) -> Result<(), AllocError>
     ensures ok { OnOk result (out.new.items ≡ out.old.items ++ reply_line (said_to session outcome)) }
-    ensures err { OnErr result (out.new.items ≡ out.old.items) }
+    ensures err { OnErr result (out.new ≡ out.old) }
+    ensures capacity { vec_capacity out.old ≤ vec_capacity out.new }
     ensures room { vec_len out.old + length (reply_line (said_to session outcome)) ≤ vec_capacity out.old → IsOk result × (vec_capacity out.new ≡ vec_capacity out.old) }
     ensures short { length (reply_line (said_to session outcome)) ≤ SHORT_LINE }
 {
-    unreachable!()
+    match outcome {
+        Ok(change) => write_granted(out, session, change),
+        Err(fault) => write_fault(out, session, fault),
+    }
 }
 
 /// Appends the line of a reply, straight from what it lends; where there is room, no memory is taken.
@@ -53,7 +109,10 @@ pub fn write_reply(out: &mut Vec<u8>, reply: &Reply<'_>) -> Result<(), AllocErro
     ensures capacity { vec_capacity out.old ≤ vec_capacity out.new }
     ensures room { vec_len out.old + length (reply_line (reply_seen reply.now)) ≤ vec_capacity out.old → IsOk result × (vec_capacity out.new ≡ vec_capacity out.old) }
 {
-    unreachable!()
+    match &reply.outcome {
+        Ok(answer) => write_answer(out, reply.session, answer),
+        Err(fault) => write_fault(out, reply.session, *fault),
+    }
 }
 
 impl<'a> ToLine for Reply<'a> {

@@ -4,10 +4,7 @@ use Rattle.ctf_wire.specs.Parts.{part_text}
 use Rattle.ctf_wire.proofs.parts.put_line.Given as goal
 
 abbrev pub invariant-loop-part : goal.invariant-loop-part
-invariant-loop-part l = l.need ≡ length (flat_map part_text (take l.part-index l.parts))
-
-abbrev pub invariant-loop-part-2 : goal.invariant-loop-part-2
-invariant-loop-part-2 l = record {
+invariant-loop-part l = record {
   added : l.out.items ≡ l.fn.out.items ++ flat_map part_text (take l.part-index l.parts);
   len : vec_len l.out ≡ vec_len l.fn.out + length (flat_map part_text (take l.part-index l.parts));
   capacity : vec_capacity l.out ≡ vec_capacity l.initial.out;

@@ -1,5 +1,5 @@
 use Rattle.std.proofs.Common.{◌≡◌, ◌++◌, ◌+◌, take, vec_capacity, vec_len}
-use Rattle.ctf_wire.proofs.parts.put.Given as goal
+use Rattle.ctf_wire.proofs.texts.put.Given as goal
 
 abbrev pub invariant-loop-byte : goal.invariant-loop-byte
 invariant-loop-byte l = record {

@@ -1,0 +1,67 @@
+//! Names in a line: their bytes are escaped where they aren't plain.
+ghost use Rattle.std.specs.Prelude.{◌≡◌, ◌+◌, ◌≤◌, ◌<◌, ◌++◌, length, min, vec_len, vec_capacity};
+ghost use Rattle.ctf_model.specs.Text.{is_plain as is_plain_byte, hex_digit as digit_of, text_of_byte, text_of};
+
+use crate::texts::{TOO_LONG, plus, put};
+
+/// Whether a byte stands as itself.
+fn is_plain(byte: u8) -> bool
+    ensures { result ≡ is_plain_byte byte }
+{
+    0x20 <= byte && byte <= 0x7e && byte != b'"' && byte != b'\\'
+}
+
+fn hex_digit(number: u8) -> u8
+    requires { number < 16 }
+    ensures { result ≡ digit_of number }
+{
+    if number < 10 { 48 + number } else { 87 + number }
+}
+
+fn byte_len(byte: u8) -> usize
+    ensures len { result ≡ length (text_of_byte byte) }
+    ensures short { result ≤ 5 }
+{
+    if is_plain(byte) { 1 } else { 5 }
+}
+
+/// A length and the bytes that a name takes; a name that is too long itself is not gone through.
+pub fn plus_name(len: usize, name: &[u8]) -> usize
+    ensures { result ≡ min (len + length (text_of name.now)) TOO_LONG }
+{
+    if TOO_LONG <= plus(len, name.len()) {
+        return TOO_LONG;
+    }
+    let mut name_len = 0;
+    for byte in name {
+        name_len += byte_len(*byte);
+    }
+    plus(len, name_len)
+}
+
+fn put_byte(out: &mut Vec<u8>, byte: u8)
+    requires { vec_len out.old + length (text_of_byte byte) ≤ vec_capacity out.old }
+    ensures items { out.new.items ≡ out.old.items ++ text_of_byte byte }
+    ensures len { vec_len out.new ≡ vec_len out.old + length (text_of_byte byte) }
+    ensures capacity { vec_capacity out.new ≡ vec_capacity out.old }
+{
+    if is_plain(byte) {
+        put(out, &[byte]);
+    } else {
+        let high = hex_digit(byte / 16);
+        let low = hex_digit(byte % 16);
+        put(out, &[b'\\', b'\\', b'x', high, low]);
+    }
+}
+
+/// Appends a name where there is room.
+pub fn put_name(out: &mut Vec<u8>, name: &[u8])
+    requires { vec_len out.old + length (text_of name.now) ≤ vec_capacity out.old }
+    ensures items { out.new.items ≡ out.old.items ++ text_of name.now }
+    ensures len { vec_len out.new ≡ vec_len out.old + length (text_of name.now) }
+    ensures capacity { vec_capacity out.new ≡ vec_capacity out.old }
+{
+    for byte in name {
+        put_byte(out, *byte);
+    }
+}
