@@ -61,7 +61,7 @@ pub fn line_len(parts: &[Part<'_>]) -> usize
 pub fn put_line(out: &mut Vec<u8>, len: usize, parts: &[Part<'_>]) -> Result<(), AllocError>
     requires { len ≡ length (flat_map part_text parts.now) }
     ensures ok { OnOk result (out.new.items ≡ out.old.items ++ flat_map part_text parts.now) }
-    ensures err { OnErr result (out.new ≡ out.old) }
+    ensures err { OnErr result ((out.new.items ≡ out.old.items) × (vec_len out.new ≡ vec_len out.old)) }
     ensures capacity { vec_capacity out.old ≤ vec_capacity out.new }
     // Where there is room no memory is taken.
     ensures room { vec_len out.old + length (flat_map part_text parts.now) ≤ vec_capacity out.old → IsOk result × (vec_capacity out.new ≡ vec_capacity out.old) }
@@ -80,7 +80,7 @@ pub const SHORT_LINE: usize = 96;
 pub fn put_short_line(out: &mut Vec<u8>, parts: &[Part<'_>]) -> Result<(), AllocError>
     requires { length (flat_map part_text parts.now) ≤ SHORT_LINE }
     ensures ok { OnOk result (out.new.items ≡ out.old.items ++ flat_map part_text parts.now) }
-    ensures err { OnErr result (out.new ≡ out.old) }
+    ensures err { OnErr result ((out.new.items ≡ out.old.items) × (vec_len out.new ≡ vec_len out.old)) }
     ensures capacity { vec_capacity out.old ≤ vec_capacity out.new }
     ensures room { vec_len out.old + length (flat_map part_text parts.now) ≤ vec_capacity out.old → IsOk result × (vec_capacity out.new ≡ vec_capacity out.old) }
 {

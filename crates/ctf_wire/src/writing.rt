@@ -19,7 +19,7 @@ use std::alloc::AllocError;
 /// Appends a refusal.
 fn write_fault(out: &mut Vec<u8>, session: u32, fault: Fault) -> Result<(), AllocError>
     ensures ok { OnOk result (out.new.items ≡ out.old.items ++ fault_line session fault) }
-    ensures err { OnErr result (out.new ≡ out.old) }
+    ensures err { OnErr result ((out.new.items ≡ out.old.items) × (vec_len out.new ≡ vec_len out.old)) }
     ensures capacity { vec_capacity out.old ≤ vec_capacity out.new }
     ensures room { vec_len out.old + length (fault_line session fault) ≤ vec_capacity out.old → IsOk result × (vec_capacity out.new ≡ vec_capacity out.old) }
     ensures short { length (fault_line session fault) ≤ SHORT_LINE }
@@ -30,7 +30,7 @@ fn write_fault(out: &mut Vec<u8>, session: u32, fault: Fault) -> Result<(), Allo
 /// Appends a line, or the refusal of one that is too long.
 fn write_fitting(out: &mut Vec<u8>, session: u32, parts: &[Part<'_>]) -> Result<(), AllocError>
     ensures ok { OnOk result (out.new.items ≡ out.old.items ++ fitting_line session (flat_map part_text parts.now)) }
-    ensures err { OnErr result (out.new ≡ out.old) }
+    ensures err { OnErr result ((out.new.items ≡ out.old.items) × (vec_len out.new ≡ vec_len out.old)) }
     ensures capacity { vec_capacity out.old ≤ vec_capacity out.new }
     ensures room { vec_len out.old + length (fitting_line session (flat_map part_text parts.now)) ≤ vec_capacity out.old → IsOk result × (vec_capacity out.new ≡ vec_capacity out.old) }
 {
@@ -44,7 +44,7 @@ fn write_fitting(out: &mut Vec<u8>, session: u32, parts: &[Part<'_>]) -> Result<
 
 fn write_granted(out: &mut Vec<u8>, session: u32, change: Change) -> Result<(), AllocError>
     ensures ok { OnOk result (out.new.items ≡ out.old.items ++ fitting_line session (answer_line session (change_seen change))) }
-    ensures err { OnErr result (out.new ≡ out.old) }
+    ensures err { OnErr result ((out.new.items ≡ out.old.items) × (vec_len out.new ≡ vec_len out.old)) }
     ensures capacity { vec_capacity out.old ≤ vec_capacity out.new }
     ensures room { vec_len out.old + length (fitting_line session (answer_line session (change_seen change))) ≤ vec_capacity out.old → IsOk result × (vec_capacity out.new ≡ vec_capacity out.old) }
     ensures short { length (fitting_line session (answer_line session (change_seen change))) ≤ SHORT_LINE }
@@ -60,7 +60,7 @@ fn write_granted(out: &mut Vec<u8>, session: u32, change: Change) -> Result<(), 
 
 fn write_answer(out: &mut Vec<u8>, session: u32, answer: &Answer<'_>) -> Result<(), AllocError>
     ensures ok { OnOk result (out.new.items ≡ out.old.items ++ fitting_line session (answer_line session (seen answer.now))) }
-    ensures err { OnErr result (out.new ≡ out.old) }
+    ensures err { OnErr result ((out.new.items ≡ out.old.items) × (vec_len out.new ≡ vec_len out.old)) }
     ensures capacity { vec_capacity out.old ≤ vec_capacity out.new }
     ensures room { vec_len out.old + length (fitting_line session (answer_line session (seen answer.now))) ≤ vec_capacity out.old → IsOk result × (vec_capacity out.new ≡ vec_capacity out.old) }
 {
@@ -74,7 +74,11 @@ fn write_answer(out: &mut Vec<u8>, session: u32, answer: &Answer<'_>) -> Result<
         Answer::Enumerators {
             enumerators,
             window,
-        } => write_fitting(out, session, &enumerators_parts(session, enumerators, *window)),
+        } => write_fitting(
+            out,
+            session,
+            &enumerators_parts(session, enumerators, *window),
+        ),
         Answer::Arguments { args, ret } => {
             write_fitting(out, session, &arguments_parts(session, args, *ret))
         }
@@ -91,7 +95,7 @@ pub fn write_change(
     outcome: Result<Change, Fault>,
 ) -> Result<(), AllocError>
     ensures ok { OnOk result (out.new.items ≡ out.old.items ++ reply_line (said_to session outcome)) }
-    ensures err { OnErr result (out.new ≡ out.old) }
+    ensures err { OnErr result ((out.new.items ≡ out.old.items) × (vec_len out.new ≡ vec_len out.old)) }
     ensures capacity { vec_capacity out.old ≤ vec_capacity out.new }
     ensures room { vec_len out.old + length (reply_line (said_to session outcome)) ≤ vec_capacity out.old → IsOk result × (vec_capacity out.new ≡ vec_capacity out.old) }
     ensures short { length (reply_line (said_to session outcome)) ≤ SHORT_LINE }
@@ -105,7 +109,7 @@ pub fn write_change(
 /// Appends the line of a reply, straight from what it lends; where there is room, no memory is taken.
 pub fn write_reply(out: &mut Vec<u8>, reply: &Reply<'_>) -> Result<(), AllocError>
     ensures ok { OnOk result (out.new.items ≡ out.old.items ++ reply_line (reply_seen reply.now)) }
-    ensures err { OnErr result (out.new ≡ out.old) }
+    ensures err { OnErr result ((out.new.items ≡ out.old.items) × (vec_len out.new ≡ vec_len out.old)) }
     ensures capacity { vec_capacity out.old ≤ vec_capacity out.new }
     ensures room { vec_len out.old + length (reply_line (reply_seen reply.now)) ≤ vec_capacity out.old → IsOk result × (vec_capacity out.new ≡ vec_capacity out.old) }
 {
