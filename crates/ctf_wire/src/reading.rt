@@ -1,11 +1,12 @@
 //! Reads the request of a line.
 ghost use Rattle.std.specs.Prelude.{◌≡◌, ◌≢◌, ◌≤◌, IfSome, Option, None, Some, IfOk, IfErr, Ok, Err, codes, option_map};
 ghost use Rattle.serde_json.specs.View.{view};
-ghost use Rattle.ctf_model.specs.Ask.{ask, placeless, number_in, text_in, list_named, bytes_spelled, not_too_many, slot_asked, type_asked, about_type, part_asked, word_asked, request_asked, value_asked};
+ghost use Rattle.ctf_model.specs.Ask.{ask, placeless, number_in, text_in, list_named, bytes_spelled, not_too_many, slot_asked, type_asked, about_type, from_asked, count_asked, window_asked, about_items, part_asked, request_asked, value_asked};
 ghost use Rattle.ctf_model.specs.declared.faults.TheConstants.Fault.{MEMORY};
+ghost use Rattle.ctf_model.specs.declared.requests.Request.TheVariants.{DoKind as kind, DoRecord as record_of, DoMembers as members, DoEnumerators as enumerators, DoArgs as args, DoArray as array, DoEncoding as encoding};
 
 use crate::lines::FromLine;
-use ctf_model::{Fault, LONGEST_PIECE, ListName, Piece, Request, SlotNumber, TypeNum, placeless};
+use ctf_model::{Fault, LONGEST_PIECE, ListName, Piece, Request, SlotNumber, TypeNum, Window, placeless};
 use hex::FromHexError;
 use serde_json::Value;
 use std::alloc::{AllocError, Global};
@@ -76,10 +77,17 @@ fn read_request(alloc: Global, value: &Value) -> Result<Option<Request>, AllocEr
     ensures { IfOk result (λ request. request ≡ request_asked (view value.now)) }
 {
     match text(value, "op") {
-        Some("kind") => Ok(read_kind(value)),
         Some("part") => read_part(alloc, value),
+        Some("check") => Ok(Some(Request::DoCheck)),
         Some("open") => Ok(Some(Request::DoOpen)),
         Some("reset") => Ok(Some(Request::DoReset)),
+        Some("kind") => Ok(read_kind(value)),
+        Some("record") => Ok(read_record(value)),
+        Some("members") => Ok(read_members(value)),
+        Some("enumerators") => Ok(read_enumerators(value)),
+        Some("args") => Ok(read_args(value)),
+        Some("array") => Ok(read_array(value)),
+        Some("encoding") => Ok(read_encoding(value)),
         _ => Ok(None),
     }
 }
@@ -98,12 +106,90 @@ fn type_number(value: &Value) -> Option<TypeNum>
     Some(TypeNum(number as u16))
 }
 
+/// The first item that is wanted, 0 where that isn't said.
+fn from(value: &Value) -> Option<u32>
+    ensures { result ≡ from_asked (view value.now) }
+{
+    match value.get("from") {
+        None => Some(0),
+        Some(_) => Some(number(value, "from", 0, u64::from(u32::MAX))? as u32),
+    }
+}
+
+/// How many items are wanted; all where that isn't said.
+fn count(value: &Value) -> Option<Option<u32>>
+    ensures { result ≡ count_asked (view value.now) }
+{
+    match value.get("count") {
+        None => Some(None),
+        Some(_) => Some(Some(number(value, "count", 0, u64::from(u32::MAX))? as u32)),
+    }
+}
+
+fn window(value: &Value) -> Option<Window>
+    ensures { result ≡ window_asked (view value.now) }
+{
+    let from = from(value)?;
+    let count = count(value)?;
+    Some(Window { from, count })
+}
+
 fn read_kind(value: &Value) -> Option<Request>
-    ensures { result ≡ about_type (λ d t. DoKind d t) (view value.now) }
+    ensures { result ≡ about_type (λ d t. kind d t) (view value.now) }
 {
     let d = slot(value)?;
     let t = type_number(value)?;
     Some(Request::DoKind { d, t })
+}
+
+fn read_record(value: &Value) -> Option<Request>
+    ensures { result ≡ about_type (λ d t. record_of d t) (view value.now) }
+{
+    let d = slot(value)?;
+    let t = type_number(value)?;
+    Some(Request::DoRecord { d, t })
+}
+
+fn read_members(value: &Value) -> Option<Request>
+    ensures { result ≡ about_items (λ d t window. members d t window) (view value.now) }
+{
+    let window = window(value)?;
+    let d = slot(value)?;
+    let t = type_number(value)?;
+    Some(Request::DoMembers { d, t, window })
+}
+
+fn read_enumerators(value: &Value) -> Option<Request>
+    ensures { result ≡ about_items (λ d t window. enumerators d t window) (view value.now) }
+{
+    let window = window(value)?;
+    let d = slot(value)?;
+    let t = type_number(value)?;
+    Some(Request::DoEnumerators { d, t, window })
+}
+
+fn read_args(value: &Value) -> Option<Request>
+    ensures { result ≡ about_type (λ d t. args d t) (view value.now) }
+{
+    let d = slot(value)?;
+    let t = type_number(value)?;
+    Some(Request::DoArgs { d, t })
+}
+
+fn read_array(value: &Value) -> Option<Request>
+    ensures { result ≡ about_type (λ d t. array d t) (view value.now) }
+{
+    let d = slot(value)?;
+    let t = type_number(value)?;
+    Some(Request::DoArray { d, t })
+}
+
+fn read_encoding(value: &Value) -> Option<Request>
+    ensures { result ≡ about_type (λ d t. encoding d t) (view value.now) }
+{
+    let d = slot(value)?;
+    let t = type_number(value)?;
+    Some(Request::DoEncoding { d, t })
 }
 
 fn list(name: &str) -> Option<ListName>

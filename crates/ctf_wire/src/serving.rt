@@ -38,8 +38,9 @@ fn append_answer(out: &mut Vec<u8>, reply: &Reply<'_>)
         ⊎ (out.new.items ≡ out.old.items ++ reply_line (no_memory reply.now.session)) }
     ensures capacity { vec_capacity out.old ≤ vec_capacity out.new }
 {
-    if write_reply(out, reply).is_err() {
-        append_short(out, reply.session, Err(placeless(Fault::MEMORY)));
+    match write_reply(out, reply) {
+        Ok(()) => {}
+        Err(_) => append_short(out, reply.session, Err(placeless(Fault::MEMORY))),
     }
 }
 
