@@ -16,6 +16,8 @@ mod first_run;
 #[cfg(test)]
 mod kinds;
 #[cfg(test)]
+mod questions;
+#[cfg(test)]
 mod request_lines;
 #[cfg(test)]
 mod runs;

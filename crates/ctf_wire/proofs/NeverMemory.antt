@@ -1,16 +1,16 @@
 -- A question is never refused for memory.
 use Rattle.std.proofs.Common.{◌≡◌, ℕ, Bool, true, false, cond, List, Option, Some, None, Result, Ok, Err, refl}
-use Rattle.std.specs.Prelude.{◌==◌, slice_get, nat_le, nat_lt}
+use Rattle.std.specs.Prelude.{◌==◌, nat_le, nat_lt}
 use Rattle.ctf_model.specs.Answers.{Answer}
 use Rattle.std.specs.Option.{option_map}
 use Rattle.ctf_model.specs.Dictionary.{Dictionary, said_by}
-use Rattle.ctf_model.specs.Questions.{type_question, wrong_kind, kind_said, head_said, members_of, enumerators_of, arguments_of, array_of, encoding_of, members_said, enumerators_said, arguments_said, array_said, encoding_said}
+use Rattle.ctf_model.specs.Questions.{type_question, kind_said, head_said, members_of, enumerators_of, arguments_of, array_of, encoding_of, members_said, enumerators_said, arguments_said, array_said, encoding_said}
 use Rattle.ctf_model.specs.Runs.{says_no_memory, is_no_memory}
 use Rattle.ctf_model.specs.State.{State, Slot}
 use Rattle.ctf_model.specs.Steps.{step, asks, slot_type, slot_at, is_question}
 use Rattle.ctf_model.specs.Term.{Body, Term}
 use Rattle.ctf_model.specs.Term as term
-use Rattle.ctf_model.specs.TypeNumbers.{or_no_type, no_type, no_parent, type_numbered, in_parent, type_in_child, type_at}
+use Rattle.ctf_model.specs.TypeNumbers.{or_no_type, type_numbered, in_parent, type_at}
 use Rattle.ctf_model.specs.declared.faults.Fault.{Fault}
 use Rattle.ctf_model.specs.declared.faults.TheConstants.Fault.{MEMORY}
 use Rattle.ctf_model.specs.declared.requests.Request.{Request}

@@ -1,5 +1,5 @@
 -- A question among the libraries of all sessions.
-use Rattle.std.proofs.Common.{◌≡◌, ◌≢◌, ℕ, List, ◌++◌, true, false, None, Result, refl, sym, ap, ◌∙◌, ◌⊎◌, inl, inr}
+use Rattle.std.proofs.Common.{◌≡◌, ℕ, List, ◌++◌, true, None, Result, refl, sym, ap, ◌∙◌, ◌⊎◌, inl, inr}
 use Rattle.ctf_model.specs.Answers.{Answer, Reply}
 use Rattle.ctf_model.specs.ReplyLines.{reply_line}
 use Rattle.ctf_model.specs.Runs.{Steps, is_no_memory, no_memory, addressed}

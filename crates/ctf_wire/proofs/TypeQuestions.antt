@@ -1,5 +1,5 @@
 -- The step of a question on a type.
-use Rattle.std.proofs.Common.{◌≡◌, ℕ, Bool, true, false, Option, Some, None, Result, Err, refl, sym, ap, ◌∙◌}
+use Rattle.std.proofs.Common.{◌≡◌, ℕ, true, Option, Some, None, Result, Err, refl, sym, ap, ◌∙◌}
 use Rattle.std.proofs.lemmas.Option.{same_Some}
 use Rattle.ctf_model.specs.Answers.{Answer}
 use Rattle.ctf_model.specs.Questions.{type_question, kind_said, head_said, members_said, enumerators_said, arguments_said, array_said, encoding_said}

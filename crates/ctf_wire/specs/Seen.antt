@@ -1,5 +1,5 @@
 -- What a lent reply shows.
-use Rattle.std.specs.Prelude.{ℕ, List, length, Result, Ok, Err}
+use Rattle.std.specs.Prelude.{ℕ, length, Result, Ok, Err}
 use Rattle.ctf_model.specs.Answers.{Answer, Detail, Head, Reply}
 use Rattle.ctf_model.specs.Answers as answers
 use Rattle.ctf_model.specs.Questions.{windowed, is_variadic, named_arguments}

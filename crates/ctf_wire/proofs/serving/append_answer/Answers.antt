@@ -1,4 +1,4 @@
-use Rattle.std.proofs.Common.{◌≡◌, ◌++◌, ℕ, List, Err, inr, ap, ◌∙◌}
+use Rattle.std.proofs.Common.{◌++◌, ℕ, List, Err, inr, ap, ◌∙◌}
 use Rattle.ctf_model.specs.ReplyLines.{reply_line}
 use Rattle.ctf_model.specs.declared.faults.Fault.{Fault}
 use Rattle.ctf_wire.specs.Seen.{said_to}
