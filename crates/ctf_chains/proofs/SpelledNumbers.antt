@@ -1,8 +1,9 @@
 -- The numbers that stand in a record are those of the type that it spells.
-use Rattle.std.proofs.Common.{◌≡◌, ℕ, zero, suc, ◌+◌, ◌*◌, ◌^◌, List, [], ◌∷◌, map, drop, Bool, true, false, cond, ltb, Option, Some, None, refl, sym, ap, ◌∙◌}
+use Rattle.std.proofs.Common.{◌≡◌, ℕ, List, [], ◌∷◌, map, Option, Some, None, refl, sym, ap, ◌∙◌}
 use Rattle.std.specs.Option.{option_map}
 use Rattle.std.proofs.lemmas.Option.{same_Some}
-use Rattle.ctf_model.specs.Bytes.{u16_at, u32_at}
+use Rattle.ctf_model.proofs.MemberTypes.{members_types}
+use Rattle.ctf_model.specs.Bytes.{u32_at}
 use Rattle.ctf_model.specs.Chains.{by_value, declarator}
 use Rattle.ctf_model.specs.Name.{Tables, name}
 use Rattle.ctf_model.specs.Record.{kind, is_root, field, size, vlen, member_len, behind_head}
@@ -18,42 +19,10 @@ use Rattle.ctf_chains.specs.declared.chain.Chain.TheVariants.{ByValue, Declarato
 
 -- ---- members
 
--- the type of a member of either form
-member_type : (width : ℕ) (t : Tables) (b : List ℕ) (m : Member) → member_of width t b ≡ Some m → m.tnum ≡ u16_at b 4
-member_type width t b m e = by_form (ltb width 8192) (name t (u32_at b 0)) e
-  where
-    numbered : (offset : ℕ) (text : Option (List ℕ)) → option_map (λ text. let x : Member = record { name = text; tnum = u16_at b 4; offset = offset } in x) text ≡ Some m → m.tnum ≡ u16_at b 4
-    numbered offset None e = absurd cc
-    numbered offset (Some text) e = ap (λ (x : Member). x.tnum) (sym (same_Some _ _ e))
-
-    by_form : (narrow : Bool) (text : Option (List ℕ)) → cond narrow (option_map (λ text. let x : Member = record { name = text; tnum = u16_at b 4; offset = u16_at b 6 } in x) text) (option_map (λ text. let x : Member = record { name = text; tnum = u16_at b 4; offset = 2 ^ 32 * u32_at b 8 + u32_at b 12 } in x) text) ≡ Some m → m.tnum ≡ u16_at b 4
-    by_form true text e = numbered (u16_at b 6) text e
-    by_form false text e = numbered (2 ^ 32 * u32_at b 8 + u32_at b 12) text e
-
--- the types of the members of a list, where those of the later members are known
-items_types_case : (width : ℕ) (t : Tables) (len n : ℕ) (b : List ℕ) (ms : List Member) → ((rest : List Member) → items (member_of width t) len n (drop len b) ≡ Some rest → map (λ m. m.tnum) rest ≡ member_types len n (drop len b)) → items (member_of width t) len (suc n) b ≡ Some ms → map (λ m. m.tnum) ms ≡ u16_at b 4 ∷ member_types len n (drop len b)
-items_types_case width t len n b ms more e = first (member_of width t b) refl (items (member_of width t) len n (drop len b)) refl e
-  where
-    joined : (m : Member) (rest : List Member) → member_of width t b ≡ Some m → items (member_of width t) len n (drop len b) ≡ Some rest → Some (m ∷ rest) ≡ Some ms → map (λ m. m.tnum) ms ≡ u16_at b 4 ∷ member_types len n (drop len b)
-    joined m rest here later e =
-        let same : m ∷ rest ≡ ms = same_Some _ _ e in
-        let front : m.tnum ≡ u16_at b 4 = member_type width t b m here in
-        let back : map (λ m. m.tnum) rest ≡ member_types len n (drop len b) = more rest later in
-        rw (← same, front, back) refl
-
-    then_rest : (m : Member) (o : Option (List Member)) → member_of width t b ≡ Some m → items (member_of width t) len n (drop len b) ≡ o → (o >>= λ rest. Some (m ∷ rest)) ≡ Some ms → map (λ m. m.tnum) ms ≡ u16_at b 4 ∷ member_types len n (drop len b)
-    then_rest m None here later e = absurd cc
-    then_rest m (Some rest) here later e = joined m rest here later e
-
-    first : (o : Option Member) → member_of width t b ≡ o → (p : Option (List Member)) → items (member_of width t) len n (drop len b) ≡ p → (o >>= λ m. (p >>= λ rest. Some (m ∷ rest))) ≡ Some ms → map (λ m. m.tnum) ms ≡ u16_at b 4 ∷ member_types len n (drop len b)
-    first None here p later e = absurd cc
-    first (Some m) here p later e = then_rest m p here later e
-
 -- the types of the members of a list
-items_types : (width : ℕ) (t : Tables) (len n : ℕ) (b : List ℕ) (ms : List Member) → items (member_of width t) len n b ≡ Some ms → map (λ m. m.tnum) ms ≡ member_types len n b
+items_types : (width : ℕ) (t : Tables) (n : ℕ) (b : List ℕ) (ms : List Member) → items (member_of width t) (member_len width) n b ≡ Some ms → map (λ m. m.tnum) ms ≡ member_types (member_len width) n b
 unfolding member_types
-items_types width t len zero b ms e = ap (λ (xs : List Member). map (λ m. m.tnum) xs) (sym (same_Some _ _ e))
-items_types width t len (suc n) b ms e = items_types_case width t len n b ms (λ rest h. items_types width t len n (drop len b) rest h) e
+items_types width t n b ms e = members_types (member_types (member_len width)) width (member_len width) t (λ b. refl) (λ n b. refl) n b ms e
 
 -- ---- bodies
 
@@ -70,8 +39,8 @@ body_numbers ByValue t b KFloat said e = ap by_value (sym (same_Some _ _ e))
 body_numbers ByValue t b KPointer said e = ap by_value (sym (same_Some _ _ e))
 body_numbers ByValue t b KArray said e = ap by_value (sym (same_Some _ _ e))
 body_numbers ByValue t b KFunction said e = listed by_value (term.function (field b)) (arguments b) [] said (λ xs h. refl) e
-body_numbers ByValue t b KStruct said e = listed by_value (term.struct (size b)) (members t b) _ said (λ ms h. items_types (size b) t (member_len (size b)) (vlen b) (behind_head b) ms h) e
-body_numbers ByValue t b KUnion said e = listed by_value (term.union (size b)) (members t b) _ said (λ ms h. items_types (size b) t (member_len (size b)) (vlen b) (behind_head b) ms h) e
+body_numbers ByValue t b KStruct said e = listed by_value (term.struct (size b)) (members t b) _ said (λ ms h. items_types (size b) t (vlen b) (behind_head b) ms h) e
+body_numbers ByValue t b KUnion said e = listed by_value (term.union (size b)) (members t b) _ said (λ ms h. items_types (size b) t (vlen b) (behind_head b) ms h) e
 body_numbers ByValue t b KEnum said e = listed by_value (term.enum (size b)) (enumerators t b) [] said (λ xs h. refl) e
 body_numbers ByValue t b KForward said e = ap by_value (sym (same_Some _ _ e))
 body_numbers ByValue t b KTypedef said e = ap by_value (sym (same_Some _ _ e))

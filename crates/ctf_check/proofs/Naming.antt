@@ -1,10 +1,11 @@
 -- The types that are read from the bytes of a record are those that its type names.
-use Rattle.std.proofs.Common.{◌≡◌, ℕ, zero, suc, Bool, true, false, cond, ltb, List, [], ◌∷◌, drop, map, Option, Some, None, Result, Ok, Err, refl, sym, ap, ◌∙◌}
+use Rattle.std.proofs.Common.{◌≡◌, ℕ, zero, suc, Bool, List, [], ◌∷◌, drop, map, Option, Some, None, Result, Ok, Err, refl, sym, ap, ◌∙◌}
 use Rattle.std.specs.Prelude.{◌||◌, ◌&&◌}
 use Rattle.std.proofs.Math.Bool.{or-false}
 use Rattle.std.specs.List.{list_any, AllByRecursion}
 use Rattle.std.specs.Option.{option_map}
 use Rattle.std.proofs.lemmas.Option.{same_Some}
+use Rattle.ctf_model.proofs.MemberTypes.{members_types as types_of_members}
 use Rattle.ctf_model.specs.Bytes.{u16_at, u32_at}
 use Rattle.ctf_model.specs.declared.faults.Fault.{Fault}
 use Rattle.ctf_model.specs.declared.kinds.Kind.{Kind}
@@ -14,7 +15,7 @@ use Rattle.ctf_model.specs.Name.{Tables, name}
 use Rattle.ctf_model.specs.Record.{kind, field, is_long, size, vlen, member_len, behind_head}
 use Rattle.ctf_model.specs.References.{references, is_missing, is_forward, is_misnaming}
 use Rattle.ctf_model.specs.Section.{Piece}
-use Rattle.ctf_model.specs.Spelling.{◌>>=◌, items, narrow_member, wide_member, member_of, argument_of, members, arguments, enumerators, scalar, elements, tag, body_of, term_of}
+use Rattle.ctf_model.specs.Spelling.{◌>>=◌, items, member_of, argument_of, members, arguments, enumerators, scalar, elements, tag, body_of, term_of}
 use Rattle.ctf_model.specs.Term.{Member, Enumerator, Body, Term}
 use Rattle.ctf_model.specs.Term as term
 use Rattle.ctf_check.specs.Named.{numbers_in, named_types, kind_misnames, misnames, first_that_misnames}
@@ -32,22 +33,9 @@ map_some : {A B : Type 0} (f : A → B) (o : Option A) (y : B) → option_map f 
 map_some f None y e = absurd cc
 map_some f (Some x) y e = (x, refl, let same : f x ≡ y = cc in same)
 
--- the type of a member stands 4 bytes behind its beginning
-member_type : (size : ℕ) (t : Tables) (b : List ℕ) (m : Member) → member_of size t b ≡ Some m → m.tnum ≡ u16_at b 4
-member_type size t b m e = at (ltb size 8192) e
-  where
-    at : (narrow : Bool) → cond narrow (narrow_member t b) (wide_member t b) ≡ Some m → m.tnum ≡ u16_at b 4
-    at true e = let x = map_some _ (name t (u32_at b 0)) m e in ap (λ (y : Member). y.tnum) (sym x.2)
-    at false e = let x = map_some _ (name t (u32_at b 0)) m e in ap (λ (y : Member). y.tnum) (sym x.2)
-
-members_types : (size len : ℕ) (t : Tables) (n : ℕ) (b : List ℕ) (ms : List Member) → items (member_of size t) len n b ≡ Some ms → map (λ m. m.tnum) ms ≡ numbers_in len 4 n b
+members_types : (size : ℕ) (t : Tables) (n : ℕ) (b : List ℕ) (ms : List Member) → items (member_of size t) (member_len size) n b ≡ Some ms → map (λ m. m.tnum) ms ≡ numbers_in (member_len size) 4 n b
 unfolding numbers_in
-members_types size len t zero b ms e = let same : [] ≡ ms = cc in rw (← same) refl
-members_types size len t (suc n) b ms e =
-    let first = bind_some (member_of size t b) _ ms e in
-    let others = bind_some (items (member_of size t) len n (drop len b)) _ ms first.2 in
-    let whole : first.0 ∷ others.0 ≡ ms = cc in
-    rw (← whole, member_type size t b first.0 first.1, members_types size len t n (drop len b) others.0 others.1) refl
+members_types size t n b ms e = types_of_members (numbers_in (member_len size) 4) size (member_len size) t (λ b. refl) (λ n b. refl) n b ms e
 
 arguments_types : (n : ℕ) (b : List ℕ) (xs : List ℕ) → items argument_of 2 n b ≡ Some xs → xs ≡ numbers_in 2 0 n b
 unfolding numbers_in
@@ -71,8 +59,8 @@ body_names t b KFloat x e = names_of_same (term.float (scalar b)) x e
 body_names t b KPointer x e = names_of_same (term.pointer (field b)) x e
 body_names t b KArray x e = names_of_same (term.array (elements b)) x e
 body_names t b KFunction x e = let xs = map_some (term.function (field b)) (arguments b) x e in rw (← xs.2) (ap (λ (ys : List ℕ). field b ∷ ys) (arguments_types (vlen b) (behind_head b) xs.0 xs.1))
-body_names t b KStruct x e = let ms = map_some (term.struct (size b)) (members t b) x e in rw (← ms.2) (members_types (size b) (member_len (size b)) t (vlen b) (behind_head b) ms.0 ms.1)
-body_names t b KUnion x e = let ms = map_some (term.union (size b)) (members t b) x e in rw (← ms.2) (members_types (size b) (member_len (size b)) t (vlen b) (behind_head b) ms.0 ms.1)
+body_names t b KStruct x e = let ms = map_some (term.struct (size b)) (members t b) x e in rw (← ms.2) (members_types (size b) t (vlen b) (behind_head b) ms.0 ms.1)
+body_names t b KUnion x e = let ms = map_some (term.union (size b)) (members t b) x e in rw (← ms.2) (members_types (size b) t (vlen b) (behind_head b) ms.0 ms.1)
 body_names t b KEnum x e = let es = map_some (term.enum (size b)) (enumerators t b) x e in rw (← es.2) refl
 body_names t b KForward x e = names_of_same (term.forward (tag (field b))) x e
 body_names t b KTypedef x e = names_of_same (term.typedef (field b)) x e

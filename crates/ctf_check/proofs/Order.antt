@@ -8,7 +8,7 @@ use Rattle.ctf_model.specs.Lists.{Lists, tables}
 use Rattle.ctf_model.specs.Section.{Piece, step, walk, front_len, records}
 use Rattle.ctf_model.specs.declared.faults.Fault.{Fault}
 use Rattle.ctf_model.specs.declared.sections.Section.TheVariants.{STypes}
-use Rattle.ctf_check.specs.Stages.{records_fault, types_fault}
+use Rattle.ctf_check.specs.Stages.{records_fault, types_fault, fault_before_chains}
 
 -- ---- one list of rules after the other
 
@@ -92,6 +92,15 @@ at_records s f e w = past_header s e ∙ ap (λ (r : Option Fault). option_or r 
 pub at_names : (s : Lists) (bad : Option ℕ) → header_fault s.ctf ≡ None → records_fault (types s.ctf) ≡ None → bad ≡ first_nameless (tables s) (sites s.ctf) → first_fault s ≡ or_later 13 bad (types_fault (tables s) (is_child (fields s.ctf)) (types s.ctf))
 unfolding bad_name
 at_names s bad e w b = past_header s e ∙ ap (λ (r : Option Fault). option_or r (from_names s)) w ∙ ap (λ (o : Option ℕ). or_later 13 o (of_types s)) (sym b)
+
+-- the rules in front of those of chains are kept where each stage in front of them finds no fault
+pub before_chains : (s : Lists) → header_fault s.ctf ≡ None → records_fault (types s.ctf) ≡ None → bad_name s ≡ None → bad_reference s ≡ None → fault_before_chains s ≡ None
+unfolding fault_before_chains rules
+before_chains s header few named there =
+    let last = or_later 13 (bad_name s) (or_later 14 (bad_reference s) None) in
+    let staged = first_append 1 (map on_ctf header_rules) (truncated ∷ bad_kind ∷ too_many ∷ bad_name ∷ bad_reference ∷ []) s
+    ∙ ap (option_or (header_fault s.ctf)) (records_stage (walk_fault (types s.ctf)) (ltb 32766 (length (types s.ctf))) last (types_stop s.ctf)) in
+    staged ∙ rw (header, few, named, there) refl
 
 -- ---- where no rule is broken, no stage finds a fault
 

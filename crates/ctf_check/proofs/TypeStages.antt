@@ -1,6 +1,7 @@
 -- The faults of types, stage by stage: references, then chains.
 use Rattle.std.proofs.Common.{◌≡◌, ℕ, Bool, List, length, Option, Some, None, Result, sym, ap, subst, ◌∙◌, ◌⊎◌, inl, inr}
-use Rattle.ctf_model.specs.Faults.{or_later, first_misnaming, first_nameless, first_fault, header_fault, sites, types, walk_fault}
+use Rattle.std.specs.List.{AllByRecursion}
+use Rattle.ctf_model.specs.Faults.{or_later, first_misnaming, first_nameless, first_fault, header_fault, bad_name, bad_reference, sites, types, walk_fault}
 use Rattle.ctf_model.specs.Header.{fields, is_child}
 use Rattle.ctf_model.specs.Lists.{Lists, tables}
 use Rattle.ctf_model.specs.Name.{Tables}
@@ -8,10 +9,10 @@ use Rattle.ctf_model.specs.Section.{Piece, records}
 use Rattle.ctf_model.specs.declared.faults.Fault.{Fault}
 use Rattle.ctf_chains.specs.Steps.{AreSpelled}
 use Rattle.ctf_check.specs.Named.{first_that_misnames}
-use Rattle.ctf_check.specs.Stages.{records_fault, chains_fault, types_fault, want_of_memory}
+use Rattle.ctf_check.specs.Stages.{records_fault, chains_fault, types_fault, fault_before_chains, want_of_memory}
 use Rattle.ctf_check.proofs.Naming.{first_said}
-use Rattle.ctf_check.proofs.Order.{at_names, read_whole}
-use Rattle.ctf_check.proofs.Terms.{each_spelled, all_are_spelled, spelled_from}
+use Rattle.ctf_check.proofs.Order.{at_names, before_chains, read_whole}
+use Rattle.ctf_check.proofs.Terms.{IsSpelled, each_spelled, all_are_spelled, spelled_from}
 
 -- the first fault, whichever tables name the types
 abbrev pub IsFaultOfTypes : Bool → List (Result Piece Fault) → Option Fault → Type 0
@@ -54,3 +55,15 @@ at_types s b child bad fault header part few named none same is =
 pub at_types_or_memory : (s : Lists) (b : List ℕ) (child : Bool) (bad : Option ℕ) (f : Fault) → header_fault s.ctf ≡ None → records b ≡ types s.ctf → records_fault (records b) ≡ None → bad ≡ first_nameless (tables s) (sites s.ctf) → bad ≡ None → child ≡ is_child (fields s.ctf) → (f ≡ want_of_memory) ⊎ IsFaultOfTypes child (records b) (Some f) → (f ≡ want_of_memory) ⊎ (first_fault s ≡ Some f)
 at_types_or_memory s b child bad f header part few named none same (inl e) = inl e
 at_types_or_memory s b child bad f header part few named none same (inr is) = inr (at_types s b child bad (Some f) header part few named none same is)
+
+-- the same of a fault that may stand for any of chains, where no type names one that is not there
+pub at_types_or_late : (s : Lists) (b : List ℕ) (child : Bool) (count : ℕ) (bad : Option ℕ) (f : Fault) → header_fault s.ctf ≡ None → records b ≡ types s.ctf → records_fault (records b) ≡ None → bad ≡ first_nameless (tables s) (sites s.ctf) → bad ≡ None → child ≡ is_child (fields s.ctf) → count ≡ length (records b) → (first_that_misnames child count (records b) ≡ None) ⊎ IsFaultOfTypes child (records b) (Some f) → (fault_before_chains s ≡ None) ⊎ (first_fault s ≡ Some f)
+unfolding bad_name bad_reference
+at_types_or_late s b child count bad f header part few named none same counted (inl there) =
+    let few' : records_fault (types s.ctf) ≡ None = ap records_fault (sym part) ∙ few in
+    let named' : first_nameless (tables s) (sites s.ctf) ≡ None = sym named ∙ none in
+    let all = spelled_from s (read_whole (types s.ctf) few') named' in
+    let is : first_misnaming (tables s) child count (records b) ≡ None = sym (first_said (tables s) child count (records b) (subst (AllByRecursion (IsSpelled (tables s))) (sym part) all)) ∙ there in
+    let parts : first_misnaming (tables s) (is_child (fields s.ctf)) (length (types s.ctf)) (types s.ctf) ≡ None = rw (← same, ← part, ← counted) is in
+    inl (before_chains s header few' named' parts)
+at_types_or_late s b child count bad f header part few named none same counted (inr is) = inr (at_types s b child bad (Some f) header part few named none same is)

@@ -1,13 +1,14 @@
 -- The stages of the check behind the header: its records, the parts of the rule of names, and its types.
-use Rattle.std.specs.Prelude.{ℕ, List, [], ◌∷◌, length, nat_lt, Bool, Option, Some, None, Result, if◌then◌else◌}
+use Rattle.std.specs.Prelude.{ℕ, List, [], ◌∷◌, length, take, nat_lt, Bool, Option, Some, None, Result, if◌then◌else◌}
 use Rattle.std.specs.Option.{option_or}
 use Rattle.ctf_model.specs.Bytes.{u32_at}
 use Rattle.ctf_model.specs.Chains.{edges}
 use Rattle.ctf_chains.specs.Steps.{steps}
 use Rattle.ctf_chains.specs.declared.chain.Chain.{Chain}
 use Rattle.ctf_chains.specs.declared.chain.Chain.TheVariants.{ByValue, Declarator}
-use Rattle.ctf_model.specs.Faults.{Site, list_sites, walk_fault, or_later, first_misnaming, first_deep}
+use Rattle.ctf_model.specs.Faults.{Site, list_sites, walk_fault, or_later, first_broken, first_misnaming, first_deep, rules}
 use Rattle.ctf_model.specs.Header.{Fields}
+use Rattle.ctf_model.specs.Lists.{Lists}
 use Rattle.ctf_model.specs.Name.{Tables}
 use Rattle.ctf_model.specs.Record.{kind}
 use Rattle.ctf_model.specs.Section.{Piece, terms_in}
@@ -37,6 +38,10 @@ chains_fault t child rs = or_later VALUE_DEEP (chain_place ByValue t child rs) (
 -- the first fault of the types of records: a reference to one that is not there, else a chain that is too long
 abbrev pub types_fault : Tables → Bool → List (Result Piece Fault) → Option Fault
 types_fault t child rs = or_later BAD_REFERENCE (first_misnaming t child (length rs) rs) (chains_fault t child rs)
+
+-- the first fault, leaving the rules of chains aside
+unfoldable pub fault_before_chains : Lists → Option Fault
+fault_before_chains s = first_broken 1 (take 14 rules) s
 
 -- memory was refused
 abbrev pub want_of_memory : Fault

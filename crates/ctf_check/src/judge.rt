@@ -6,7 +6,8 @@ ghost use Rattle.ctf_model.specs.Name.{Tables};
 ghost use Rattle.ctf_model.specs.Section.{records};
 ghost use Rattle.ctf_check.specs.CheckedView.{lists_of};
 ghost use Rattle.ctf_check.specs.ListsView.{given};
-ghost use Rattle.ctf_check.specs.Stages.{records_fault, types_fault, want_of_memory};
+ghost use Rattle.ctf_check.specs.Named.{first_that_misnames};
+ghost use Rattle.ctf_check.specs.Stages.{fault_before_chains, records_fault, types_fault, want_of_memory};
 
 use crate::checked::Checked;
 use crate::ends::NameEnds;
@@ -52,6 +53,8 @@ fn judge_types(alloc: Global, types: &[u8], numbers: Numbers) -> Result<(), Faul
     ensures ok { OnOk result ((t : Tables) → AreSpelled t (records types.now) → types_fault t numbers.child (records types.now) ≡ None) }
     ensures err { IfErr result (λ f. (f ≡ want_of_memory)
         ⊎ ((t : Tables) → AreSpelled t (records types.now) → types_fault t numbers.child (records types.now) ≡ Some f)) }
+    ensures late { IfErr result (λ f. (first_that_misnames numbers.child numbers.count (records types.now) ≡ None)
+        ⊎ ((t : Tables) → AreSpelled t (records types.now) → types_fault t numbers.child (records types.now) ≡ Some f)) }
 {
     match bad_reference(types, numbers) {
         Some(place) => Err(Fault {
@@ -66,7 +69,8 @@ fn judge_types(alloc: Global, types: &[u8], numbers: Numbers) -> Result<(), Faul
 /// symbol table and its strings.
 ///
 /// Reads each record, member, enumerator and argument a bounded number of times, and takes eight
-/// bytes for each record while it runs. Where that is refused, the fault is `Memory`.
+/// bytes for each record while it runs. Where that is refused, the fault is `Memory`: it may stand for
+/// a fault of chains, and for no other.
 pub fn check<'a>(
     alloc: Global,
     ctf: &'a [u8],
@@ -79,6 +83,9 @@ pub fn check<'a>(
     ensures exact_ok { OnOk result (first_fault
         (given ctf.now (option_copied sym.entry) (option_copied strs.entry)) ≡ None) }
     ensures exact_err { IfErr result (λ f. (f ≡ want_of_memory) ⊎ (first_fault
+        (given ctf.now (option_copied sym.entry) (option_copied strs.entry)) ≡ Some f)) }
+    ensures late { IfErr result (λ f. (fault_before_chains
+        (given ctf.now (option_copied sym.entry) (option_copied strs.entry)) ≡ None) ⊎ (first_fault
         (given ctf.now (option_copied sym.entry) (option_copied strs.entry)) ≡ Some f)) }
 {
     let header = Header::read(ctf)?;

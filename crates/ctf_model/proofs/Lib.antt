@@ -5,6 +5,7 @@ pub mod FirstFault
 pub mod HeaderRules
 pub mod Items
 pub mod Judge
+pub mod MemberTypes
 pub mod NameRules
 pub mod Nameless
 pub mod Prefix

@@ -11,11 +11,17 @@ use Rattle.ctf_check.specs.ListsView.{given}
 use Rattle.ctf_check.specs.Stages.{records_fault}
 use Rattle.ctf_check.proofs.Order.{at_header, at_records, at_names, types_are, read_whole}
 use Rattle.ctf_check.proofs.Terms.{terms_count}
-use Rattle.ctf_check.proofs.TypeStages.{at_types, at_types_or_memory}
+use Rattle.ctf_check.proofs.TypeStages.{at_types, at_types_or_memory, at_types_or_late}
 use Rattle.ctf_check.proofs.judge.check.Goals as goal
 
 pub returns-in_err-header-clause-exact_err : goal.returns-in_err-header-clause-exact_err
 returns-in_err-header-clause-exact_err c =
+    let p = err_from_is_err_and c.from_residual.result c.from_residual.ensures.1 in
+    let s = given c.args.ctf.now (option_copied c.args.sym) (option_copied c.args.strs) in
+    rw (p.1, p.2) (inr (at_header s c.in_err-header.field-0.0 c.in_err-header.ensures.exact_err))
+
+pub returns-in_err-header-clause-late : goal.returns-in_err-header-clause-late
+returns-in_err-header-clause-late c =
     let p = err_from_is_err_and c.from_residual.result c.from_residual.ensures.1 in
     let s = given c.args.ctf.now (option_copied c.args.sym) (option_copied c.args.strs) in
     rw (p.1, p.2) (inr (at_header s c.in_err-header.field-0.0 c.in_err-header.ensures.exact_err))
@@ -27,12 +33,28 @@ returns-in_err-count-clause-exact_err c =
     let part = types_are s.ctf c.bytes_in-types.result.now c.bytes_in-types.ensures.bytes in
     rw (p.1, p.2) (inr (at_records s c.in_err-count.field-0.0 c.in_ok-header.ensures.exact_ok (ap records_fault (sym part) ∙ c.in_err-count.ensures.exact_err)))
 
+pub returns-in_err-count-clause-late : goal.returns-in_err-count-clause-late
+returns-in_err-count-clause-late c =
+    let p = err_from_is_err_and c.from_residual-in_err-count.result c.from_residual-in_err-count.ensures.1 in
+    let s = given c.args.ctf.now (option_copied c.args.sym) (option_copied c.args.strs) in
+    let part = types_are s.ctf c.bytes_in-types.result.now c.bytes_in-types.ensures.bytes in
+    rw (p.1, p.2) (inr (at_records s c.in_err-count.field-0.0 c.in_ok-header.ensures.exact_ok (ap records_fault (sym part) ∙ c.in_err-count.ensures.exact_err)))
+
 -- the tables of names are those of the lists
 same_tables : (t : Tables) (s : Lists) (internal : List ℕ) → t ≡ record { internal = internal; elf = s.strs } → internal ≡ (tables_of s).internal → t ≡ tables_of s
 same_tables t s internal e i = rw (e, i) refl
 
 pub returns-in-Some-clause-exact_err : goal.returns-in-Some-clause-exact_err
 returns-in-Some-clause-exact_err c =
+    let s = given c.args.ctf.now (option_copied c.args.sym) (option_copied c.args.strs) in
+    let part = types_are s.ctf c.bytes_in-types.result.now c.bytes_in-types.ensures.bytes in
+    let same = same_tables _ s c.bytes_in.result.now c.new-ends.ensures c.bytes_in.ensures.bytes in
+    let bad = c.bad_name.ensures ∙ ap (λ (t : Tables). first_nameless t (sites s.ctf)) same in
+    let all = at_names s c.bad_name.result c.in_ok-header.ensures.exact_ok (ap records_fault (sym part) ∙ c.in_ok-count.ensures.exact_ok) bad in
+    inr (rw c.in-Some.is at all)
+
+pub returns-in-Some-clause-late : goal.returns-in-Some-clause-late
+returns-in-Some-clause-late c =
     let s = given c.args.ctf.now (option_copied c.args.sym) (option_copied c.args.strs) in
     let part = types_are s.ctf c.bytes_in-types.result.now c.bytes_in-types.ensures.bytes in
     let same = same_tables _ s c.bytes_in.result.now c.new-ends.ensures c.bytes_in.ensures.bytes in
@@ -55,6 +77,15 @@ returns-in_err-judge_types-clause-exact_err c =
     let same = same_tables _ s c.bytes_in.result.now c.new-ends.ensures c.bytes_in.ensures.bytes in
     let bad = c.bad_name.ensures ∙ ap (λ (t : Tables). first_nameless t (sites s.ctf)) same in
     rw (p.1, p.2) (at_types_or_memory s c.bytes_in-types.result.now _ c.bad_name.result c.in_err-judge_types.field-0.0 c.in_ok-header.ensures.exact_ok part c.in_ok-count.ensures.exact_ok bad c.in_default.is (same_child c.parname-child.result c.in_ok-header.header (fields c.args.ctf.now) c.parname-child.ensures c.in_ok-header.ensures.fields) c.in_err-judge_types.ensures.err)
+
+pub returns-in_err-judge_types-clause-late : goal.returns-in_err-judge_types-clause-late
+returns-in_err-judge_types-clause-late c =
+    let p = err_from_is_err_and c.from_residual-in_err-judge_types.result c.from_residual-in_err-judge_types.ensures.1 in
+    let s = given c.args.ctf.now (option_copied c.args.sym) (option_copied c.args.strs) in
+    let part = types_are s.ctf c.bytes_in-types.result.now c.bytes_in-types.ensures.bytes in
+    let same = same_tables _ s c.bytes_in.result.now c.new-ends.ensures c.bytes_in.ensures.bytes in
+    let bad = c.bad_name.ensures ∙ ap (λ (t : Tables). first_nameless t (sites s.ctf)) same in
+    rw (p.1, p.2) (at_types_or_late s c.bytes_in-types.result.now _ c.in_ok-count.count c.bad_name.result c.in_err-judge_types.field-0.0 c.in_ok-header.ensures.exact_ok part c.in_ok-count.ensures.exact_ok bad c.in_default.is (same_child c.parname-child.result c.in_ok-header.header (fields c.args.ctf.now) c.parname-child.ensures c.in_ok-header.ensures.fields) c.in_ok-count.ensures.count c.in_err-judge_types.ensures.late)
 
 pub invariant_of-result : goal.invariant_of-result
 invariant_of-result c =

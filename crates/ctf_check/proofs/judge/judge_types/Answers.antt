@@ -7,6 +7,9 @@ use Rattle.ctf_check.proofs.judge.judge_types.Goals as goal
 pub returns-in-Some-clause-err : goal.returns-in-Some-clause-err
 returns-in-Some-clause-err c = inr (at_reference c.args.numbers.child c.args.numbers.count (records c.args.types.now) c.in-Some.place (sym c.in-Some.is ∙ c.bad_reference.ensures) c.requires.count c.requires.whole)
 
+pub returns-in-Some-clause-late : goal.returns-in-Some-clause-late
+returns-in-Some-clause-late c = inr (at_reference c.args.numbers.child c.args.numbers.count (records c.args.types.now) c.in-Some.place (sym c.in-Some.is ∙ c.bad_reference.ensures) c.requires.count c.requires.whole)
+
 pub returns-in-None-clause-ok : goal.returns-in-None-clause-ok
 returns-in-None-clause-ok c =
     on_ok_weaker c.judge_chains.result
