@@ -24,12 +24,11 @@ fn lines_are_read_and_written(rt: HostRuntime) -> Result<(), Fail> {
     let mut broker = Broker::new(rt.alloc());
     let mut out = Vec::new(rt.alloc());
     if session > 0 && !request.is_question() {
-        let change = broker.step(session, &request);
-        Reply {
-            session,
-            outcome: change.map(Answer::Changed),
-        }
-        .write(&mut out)?;
+        let outcome = match broker.step(session, &request) {
+            Ok(change) => Ok(Answer::Changed(change)),
+            Err(fault) => Err(fault),
+        };
+        Reply { session, outcome }.write(&mut out)?;
     }
     assert_eq!(rt; out.as_slice(), b"{\"ok\":{},\"s\":7}\n".as_slice());
     Reply {
