@@ -27,3 +27,4 @@ pub mod ReplyLines
 pub mod Output
 pub mod Rows
 pub mod KindRows
+pub mod QuestionRows

@@ -23,6 +23,7 @@ pub use numbers::{SlotNumber, TypeNum};
 pub use requests::{ListName, Request, Window};
 pub use rows::{
     bytes_denote, bytes_have_faults, kinds_denote, kinds_have_faults, lines_ask, lines_say,
-    lists_are_long, numbers_name, output_is, session_runs,
+    lists_are_long, numbers_name, output_is, questions_are_answered, questions_are_lines,
+    session_runs,
 };
 pub use sections::Section;

@@ -1,5 +1,6 @@
 //! Worked rows: what the definitions say of small inputs. Each is the contract of a function that does nothing.
 ghost use Rattle.ctf_model.specs.KindRows.{KindsDenote, KindsHaveFaults};
+ghost use Rattle.ctf_model.specs.QuestionRows.{QuestionsAreAnswered, QuestionsAreLines};
 ghost use Rattle.ctf_model.specs.Rows.{BytesDenote, BytesHaveFaults, LinesAsk, LinesSay, ListsAreLong, NumbersName, OutputIs, SessionRuns};
 
 /// What bytes of a few types denote.
@@ -20,6 +21,16 @@ pub fn kinds_denote()
 /// The first fault of records of other kinds than integers.
 pub fn kinds_have_faults()
     ensures { KindsHaveFaults }
+{}
+
+/// What questions on types are answered.
+pub fn questions_are_answered()
+    ensures { QuestionsAreAnswered }
+{}
+
+/// How questions stand in lines, and their answers.
+pub fn questions_are_lines()
+    ensures { QuestionsAreLines }
 {}
 
 /// How long the lists behind heads are.

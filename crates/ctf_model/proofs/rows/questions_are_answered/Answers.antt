@@ -1,0 +1,14 @@
+use Rattle.std.proofs.Common.{refl}
+use Rattle.ctf_model.specs.Bytes.{number}
+use Rattle.ctf_model.specs.Chains.{edges, within}
+use Rattle.ctf_model.specs.Dictionary.{denoted, said_by, labels_in}
+use Rattle.ctf_model.specs.Faults.{first_fault, rules, types, first_nameless, label_sites, item_sites, record_sites, sites, bad_name, first_misnaming, bad_reference, first_deep, edges_by}
+use Rattle.ctf_model.specs.References.{is_misnaming}
+use Rattle.ctf_model.specs.Spelling.{term_of}
+use Rattle.ctf_model.specs.Section.{front_len, terms_in, walk}
+use Rattle.ctf_model.specs.Steps.{step}
+use Rattle.ctf_model.proofs.rows.questions_are_answered.Goals as goal
+
+pub returns : goal.returns
+unfolding number denoted said_by labels_in terms_in first_fault rules types first_nameless label_sites item_sites record_sites sites bad_name is_misnaming first_misnaming bad_reference first_deep edges_by edges within term_of front_len walk step
+returns c = record { one_argument = refl; more_may_follow = refl; no_function = refl; no_type = refl; no_slot = refl; all_members = refl; second_member = refl; no_members = refl; negative = refl; an_array = refl; a_float = refl; a_struct = refl; nothing_staged = refl }
