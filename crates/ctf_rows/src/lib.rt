@@ -16,6 +16,8 @@ mod first_run;
 #[cfg(test)]
 mod kinds;
 #[cfg(test)]
+mod long_replies;
+#[cfg(test)]
 mod questions;
 #[cfg(test)]
 mod request_lines;
