@@ -1,10 +1,11 @@
 #!/usr/bin/env python3
-"""Asks ctfd for the kinds of a dictionary's types, as a debugger's plug-in would.
+"""Asks ctfd for a dictionary's types, as a debugger's plug-in would.
 
-usage: client.py PROGRAM CTF [STRINGS]
+usage: client.py PROGRAM CTF [STRINGS [STRUCT]]
 
 PROGRAM is a built ctfd, CTF a file with the bytes of a CTF section, STRINGS one with the
-strings of the program's symbol table.
+strings of the program's symbol table. Prints the types, or the members of the struct or union
+named STRUCT: offset in bits, name, number of the type.
 """
 import json
 import subprocess
@@ -41,19 +42,35 @@ class Client:
         return self.service.wait()
 
 
-def main(program, ctf, strings=None):
+def print_types(types):
+    for number, said in types:
+        print(number, said["kind"], said["name"] or "(anon)", said.get("size", ""))
+
+
+def print_members(client, d, types, name):
+    for number, said in types:
+        if said["name"] == name and said["kind"] in ("struct", "union"):
+            for member in client.ask("members", d=d, t=number)["members"]:
+                print(member["offset"], member["name"], member["type"])
+
+
+def main(program, ctf, strings=None, name=None):
     client = Client(program)
     try:
         client.hand_in("ctf", ctf)
         if strings:
             client.hand_in("str", strings)
         opened = client.ask("open")
-        for number in range(1, opened["types"] + 1):
-            print(number, client.ask("kind", d=opened["d"], t=number)["kind"])
+        d = opened["d"]
+        types = ((number, client.ask("record", d=d, t=number)) for number in range(1, opened["types"] + 1))
+        if name:
+            print_members(client, d, types, name)
+        else:
+            print_types(types)
     except Refused as fault:
         print(f"refused: {fault}", file=sys.stderr)
     return client.close()
 
 
 if __name__ == "__main__":
-    sys.exit(main(*sys.argv[1:]) if len(sys.argv) in (3, 4) else __doc__)
+    sys.exit(main(*sys.argv[1:]) if len(sys.argv) in (3, 4, 5) else __doc__)
