@@ -1,5 +1,5 @@
 -- How long a name's text is.
-use Rattle.std.proofs.Common.{◌≡◌, ℕ, ◌+◌, ◌≤◌, List, [], ◌∷◌, ◌++◌, length, true, false, length-append, arith, lit≤}
+use Rattle.std.proofs.Common.{ℕ, ◌≤◌, List, [], ◌∷◌, length, true, false, length-append, arith, lit≤}
 use Rattle.std.specs.Prelude.{◌/◌, ◌%◌, if◌then◌else◌}
 use Rattle.ctf_model.specs.Text.{is_plain, hex_digit, text_of_byte, text_of}
 

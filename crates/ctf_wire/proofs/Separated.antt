@@ -1,10 +1,9 @@
 -- Items with commas between them, one more at a time.
-use Rattle.std.proofs.Common.{◌≡◌, ℕ, ◌+◌, ◌≤◌, ◌<◌, min, Bool, true, false, List, [], ◌∷◌, ◌++◌, map, length, get_or, take, drop, refl, ◌∙◌, ap, sym, append_assoc, append-nil, length-append, arith, suc, lit≤}
-use Rattle.std.specs.Prelude.{nat_lt, if◌then◌else◌}
-use Rattle.std.specs.List.{flat_map}
+use Rattle.std.proofs.Common.{◌≡◌, ℕ, ◌+◌, ◌≤◌, ◌<◌, true, List, [], ◌∷◌, ◌++◌, length, get_or, take, drop, ◌∙◌, ap, sym, append_assoc, append-nil, length-append, arith}
+use Rattle.std.specs.Prelude.{nat_lt}
 use Rattle.std.proofs.lemmas.Bool.{lt-ltb}
 use Rattle.std.proofs.lemmas.Grind.{flat_map-append}
-use Rattle.std.proofs.lemmas.List.{get_or-drop, get_or-take, take_more, length-take, length-drop, take-append-drop, flat_map_more}
+use Rattle.std.proofs.lemmas.List.{get_or-drop, get_or-take, take_more, length-take, length-drop, take-append-drop}
 use Rattle.ctf_model.specs.ReplyLines.{after_comma, separated}
 use Rattle.ctf_wire.specs.Items.{comma_before}
 

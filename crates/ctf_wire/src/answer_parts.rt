@@ -165,11 +165,7 @@ pub fn head_parts<'a>(session: u32, head: Head<'a>) -> [Part<'a>; 14]
 }
 
 /// Of members and how many there are in all.
-pub fn members_parts<'a>(
-    session: u32,
-    members: &'a Members<'a>,
-    window: Window,
-) -> [Part<'a>; 7]
+pub fn members_parts<'a>(session: u32, members: &'a Members<'a>, window: Window) -> [Part<'a>; 7]
     ensures { flat_map part_text result ≡ answer_line session (answers.members (windowed window members.now) (length members.now)) }
 {
     [

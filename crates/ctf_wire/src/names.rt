@@ -15,7 +15,11 @@ fn hex_digit(number: u8) -> u8
     requires { number < 16 }
     ensures { result ≡ digit_of number }
 {
-    if number < 10 { 48 + number } else { 87 + number }
+    if number < 10 {
+        48 + number
+    } else {
+        87 + number
+    }
 }
 
 fn byte_len(byte: u8) -> usize

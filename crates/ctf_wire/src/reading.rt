@@ -6,7 +6,9 @@ ghost use Rattle.ctf_model.specs.declared.faults.TheConstants.Fault.{MEMORY};
 ghost use Rattle.ctf_model.specs.declared.requests.Request.TheVariants.{DoKind as kind, DoRecord as record_of, DoMembers as members, DoEnumerators as enumerators, DoArgs as args, DoArray as array, DoEncoding as encoding};
 
 use crate::lines::FromLine;
-use ctf_model::{Fault, LONGEST_PIECE, ListName, Piece, Request, SlotNumber, TypeNum, Window, placeless};
+use ctf_model::{
+    Fault, LONGEST_PIECE, ListName, Piece, Request, SlotNumber, TypeNum, Window, placeless,
+};
 use hex::FromHexError;
 use serde_json::Value;
 use std::alloc::{AllocError, Global};

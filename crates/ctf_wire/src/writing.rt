@@ -70,7 +70,11 @@ fn write_answer(out: &mut Vec<u8>, session: u32, answer: &Answer<'_>) -> Result<
         Answer::Enumerators {
             enumerators,
             window,
-        } => write_fitting(out, session, &enumerators_parts(session, enumerators, *window)),
+        } => write_fitting(
+            out,
+            session,
+            &enumerators_parts(session, enumerators, *window),
+        ),
         Answer::Arguments { args, ret } => {
             write_fitting(out, session, &arguments_parts(session, args, *ret))
         }

@@ -1,4 +1,4 @@
-use Rattle.std.proofs.Common.{◌∙◌, refl, ap, decimal, List, ℕ}
+use Rattle.std.proofs.Common.{◌∙◌, refl, ap, decimal}
 use Rattle.ctf_model.specs.ReplyLines.{separated}
 use Rattle.ctf_wire.proofs.Shown.{separated-take}
 use Rattle.ctf_wire.proofs.answer_parts.arguments_parts.Goals as goal

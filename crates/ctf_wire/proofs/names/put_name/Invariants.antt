@@ -1,4 +1,4 @@
-use Rattle.std.proofs.Common.{◌≡◌, ◌++◌, ◌+◌, ◌≤◌, length, take, vec_capacity, vec_len}
+use Rattle.std.proofs.Common.{◌≡◌, ◌++◌, ◌+◌, length, take, vec_capacity, vec_len}
 use Rattle.ctf_model.specs.Text.{text_of}
 use Rattle.ctf_wire.proofs.names.put_name.Given as goal
 

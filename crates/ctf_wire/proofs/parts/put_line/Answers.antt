@@ -1,4 +1,4 @@
-use Rattle.std.proofs.Common.{arith, ap, length, []}
+use Rattle.std.proofs.Common.{arith, ap, length}
 use Rattle.std.proofs.lemmas.List.Folds.{length-flat_map-take}
 use Rattle.ctf_wire.specs.Parts.{part_text}
 use Rattle.ctf_wire.proofs.parts.put_line.Goals as goal

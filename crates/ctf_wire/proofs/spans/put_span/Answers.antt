@@ -54,11 +54,11 @@ loop-index-preserved c =
     let end_capacity = c.put_item.ensures.capacity in
     record {
       added =
-        c.put_item.ensures.items
-        ∙ ap (λ (t : List ℕ). c.put.new.out.items ++ t) c.item-item.ensures
-        ∙ ap (λ (t : List ℕ). t ++ item) (c.put.ensures.items ∙ ap (λ (t : List ℕ). c.loop-index.out.items ++ t) comma ∙ ap (λ (t : List ℕ). t ++ comma_before c.loop-index.index) added)
-        ∙ regroup
-        ∙ sym (ap (λ (t : List ℕ). c.args.out.now.items ++ t) next);
+          c.put_item.ensures.items
+          ∙ ap (λ (t : List ℕ). c.put.new.out.items ++ t) c.item-item.ensures
+          ∙ ap (λ (t : List ℕ). t ++ item) (c.put.ensures.items ∙ ap (λ (t : List ℕ). c.loop-index.out.items ++ t) comma ∙ ap (λ (t : List ℕ). t ++ comma_before c.loop-index.index) added)
+          ∙ regroup
+          ∙ sym (ap (λ (t : List ℕ). c.args.out.now.items ++ t) next);
       len = omega (arith, sum, last, len, comma_len, item_len, put_len, end_len);
       capacity = omega (arith, capacity, put_capacity, end_capacity);
     }

@@ -1,4 +1,4 @@
-use Rattle.std.proofs.Common.{◌≤◌, ap, length, arith}
+use Rattle.std.proofs.Common.{arith}
 use Rattle.ctf_wire.proofs.Short.{fault_short}
 use Rattle.ctf_wire.proofs.writing.write_fault.Goals as goal
 
