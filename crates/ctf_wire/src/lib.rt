@@ -44,4 +44,6 @@ pub use sources::Source;
 pub use writers::ToWriter;
 
 #[cfg(test)]
+mod line_tests;
+#[cfg(test)]
 mod tests;

@@ -27,10 +27,10 @@ pub fn number_len(number: u64) -> usize
     Buffer::new().format(number).len()
 }
 
-pub fn signed_len(number: i32) -> usize
-    ensures { result ≡ length (signed_decimal number) }
+pub fn signed_len(value: i32) -> usize
+    ensures { result ≡ length (signed_decimal value) }
 {
-    Buffer::new().format(number).len()
+    Buffer::new().format(value).len()
 }
 
 /// Appends bytes where there is room.
@@ -54,11 +54,11 @@ pub fn put_number(out: &mut Vec<u8>, number: u64)
     put(out, Buffer::new().format(number).as_bytes())
 }
 
-pub fn put_signed(out: &mut Vec<u8>, number: i32)
-    requires { vec_len out.old + length (signed_decimal number) ≤ vec_capacity out.old }
-    ensures items { out.new.items ≡ out.old.items ++ signed_decimal number }
-    ensures len { vec_len out.new ≡ vec_len out.old + length (signed_decimal number) }
+pub fn put_signed(out: &mut Vec<u8>, value: i32)
+    requires { vec_len out.old + length (signed_decimal value) ≤ vec_capacity out.old }
+    ensures items { out.new.items ≡ out.old.items ++ signed_decimal value }
+    ensures len { vec_len out.new ≡ vec_len out.old + length (signed_decimal value) }
     ensures capacity { vec_capacity out.new ≡ vec_capacity out.old }
 {
-    put(out, Buffer::new().format(number).as_bytes())
+    put(out, Buffer::new().format(value).as_bytes())
 }
