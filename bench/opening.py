@@ -9,63 +9,19 @@ is done once, and the instructions are counted by valgrind, for all types and fo
 the ratio of the two says how the cost grows, and 2 is linear.
 """
 import re
-import struct
 import subprocess
 import sys
 import tempfile
 
 import run
+from dictionaries import enumerators, mixed, parts, unions
 
 TIMES = 20
-PIECE = 500_000
-
-
-def record(name, kind, vlen, field, rest=b""):
-    return struct.pack("<IHH", name, kind << 11 | vlen, field) + rest
-
-
-def dictionary(types, strings=b""):
-    return b"\xf1\xcf\x02\x00" + struct.pack("<8I", 0, 0, 0, 0, 0, 0, len(types), len(strings)) + types + strings
-
-
-def mixed(count):
-    """Types of mixed kinds, most of them with members, that name types before them."""
-    types = [record(1, 1, 0, 4, struct.pack("<I", 0x01000020))]
-    for i in range(2, count + 1):
-        before = i - 1
-        if i % 4 == 0:
-            members = b"".join(struct.pack("<IHH", 1, 1, 32 * k) for k in range(14))
-            types.append(record(1, 6, 14, 56, members))
-        elif i % 4 == 1:
-            types.append(record(0, 3, 0, 1 if i % 64 else before))
-        elif i % 4 == 2:
-            types.append(record(0, 4, 0, 0, struct.pack("<HHI", 1, 1, 10)))
-        else:
-            types.append(record(0, 5, 3, 1, struct.pack("<4H", 1, 1, 0, 0)))
-    return dictionary(b"".join(types), b"\0int\0")
-
-
-def unions(count):
-    """Groups of an integer and 511 unions of two members, each of the type before it."""
-    types = []
-    for i in range(count):
-        if i % 512 == 0:
-            types.append(record(0, 1, 0, 4, struct.pack("<I", 0x01000020)))
-        else:
-            types.append(record(0, 7, 2, 4, struct.pack("<IHHIHH", 0, i, 0, 0, i, 0)))
-    return dictionary(b"".join(types))
-
-
-def enumerators(count):
-    """Enums of 1,023 enumerators each."""
-    items = b"".join(struct.pack("<Ii", 1, k) for k in range(1023))
-    return dictionary(count * record(1, 8, 1023, 4, items), b"\0name\0")
 
 
 def lines(ctf, word, times):
     for _ in range(times):
-        for at in range(0, len(ctf), PIECE):
-            yield '{"s":1,"op":"part","section":"ctf","bytes":"%s"}\n' % ctf[at : at + PIECE].hex()
+        yield from parts(1, ctf)
         yield '{"s":1,"op":"%s"}\n' % word
         yield '{"s":1,"op":"reset"}\n'
 

@@ -1,15 +1,20 @@
 #!/usr/bin/env python3
 """Writes a stream of requests to standard output; the same stream at each run.
 
-usage: streams.py kinds | large | line | sessions | again
+usage: streams.py kinds | large | line | sessions | again | kind | record | members
 
 kinds     an integer is handed in and opened once, and asked for its kind 100,000 times
 large     32,766 integers without names are opened once, and the last is asked for its kind 1,000 times
 line      20 requests of 1,048,576 bytes, resets padded with blanks
 sessions  10,000 sessions, each with one reset
 again     10,000 sessions as above, and then the last of them 10,000 times
+kind      20,000 types of mixed kinds are opened once, and 10,000 of them, spread over all, asked for their kind
+record    the same, asked for their kind, name and what goes with it
+members   the same dictionary, of whose 5,000 structs each is asked for its 14 members twice
 """
 import sys
+
+from dictionaries import mixed, parts
 
 INT = "f1cf0200" + 24 * "00" + "0c00000005000000" + "01000000000c040020000001" + "00696e7400"
 
@@ -45,7 +50,36 @@ def again():
         yield '{"s":10000,"op":"reset"}\n'
 
 
-STREAMS = {"kinds": kinds, "large": large, "line": line, "sessions": sessions, "again": again}
+def questions(word, step):
+    """Asks 10,000 types, each `step` before the last one asked, from the end on again where none is left."""
+    yield from parts(7, mixed(20_000))
+    yield '{"s":7,"op":"open"}\n'
+    for i in range(10_000):
+        yield '{"s":7,"op":"%s","d":1,"t":%d}\n' % (word, 20_000 - i * step % 20_000)
+
+
+def kind():
+    yield from questions("kind", 7_001)
+
+
+def record():
+    yield from questions("record", 7_001)
+
+
+def members():
+    yield from questions("members", 7_004)
+
+
+STREAMS = {
+    "kinds": kinds,
+    "large": large,
+    "line": line,
+    "sessions": sessions,
+    "again": again,
+    "kind": kind,
+    "record": record,
+    "members": members,
+}
 
 if __name__ == "__main__":
     if len(sys.argv) != 2 or sys.argv[1] not in STREAMS:
