@@ -4,18 +4,24 @@
 usage: client.py PROGRAM CTF [STRINGS [STRUCT]]
 
 PROGRAM is a built ctfd, CTF a file with the bytes of a CTF section, STRINGS one with the
-strings of the program's symbol table. Prints the types, or the members of the struct or union
-named STRUCT: offset in bits, name, number of the type.
+strings of the program's symbol table. Prints the types (number, kind, name, size in bytes as
+the record says it), or the members of each struct or union named STRUCT (offset in bits, name,
+number of the type). The status is 1 where ctfd refuses something or no type has the name.
 """
 import json
 import subprocess
 import sys
 
 PIECE = 262_144
+FIRST_OF_CHILD = 0x8001
 
 
 class Refused(Exception):
     """The service answered with a fault."""
+
+    def __init__(self, name, place):
+        super().__init__(f"{name} at {place}")
+        self.name = name
 
 
 class Client:
@@ -29,7 +35,7 @@ class Client:
         self.service.stdin.flush()
         reply = json.loads(self.service.stdout.readline())
         if "fault" in reply:
-            raise Refused("{name} at {place}".format(**reply["fault"]))
+            raise Refused(reply["fault"]["name"], reply["fault"]["place"])
         return reply["ok"]
 
     def hand_in(self, section, path):
@@ -37,9 +43,23 @@ class Client:
             while piece := file.read(PIECE):
                 self.ask("part", section=section, bytes=piece.hex())
 
+    def is_child(self, d):
+        try:
+            self.ask("kind", d=d, t=1)
+        except Refused as fault:
+            return fault.name == "NoParent"
+        return False
+
+    def types(self, opened):
+        """The own types of a slot, as pairs of number and record."""
+        d = opened["d"]
+        first = FIRST_OF_CHILD if self.is_child(d) else 1
+        for number in range(first, first + opened["types"]):
+            yield number, self.ask("record", d=d, t=number)
+
     def close(self):
         self.service.stdin.close()
-        return self.service.wait()
+        self.service.wait()
 
 
 def print_types(types):
@@ -48,10 +68,11 @@ def print_types(types):
 
 
 def print_members(client, d, types, name):
-    for number, said in types:
-        if said["name"] == name and said["kind"] in ("struct", "union"):
-            for member in client.ask("members", d=d, t=number)["members"]:
-                print(member["offset"], member["name"], member["type"])
+    named = [number for number, said in types if said["name"] == name and said["kind"] in ("struct", "union")]
+    for number in named:
+        for member in client.ask("members", d=d, t=number)["members"]:
+            print(member["offset"], member["name"], member["type"])
+    return f"no struct or union is named {name}" if not named else None
 
 
 def main(program, ctf, strings=None, name=None):
@@ -61,15 +82,12 @@ def main(program, ctf, strings=None, name=None):
         if strings:
             client.hand_in("str", strings)
         opened = client.ask("open")
-        d = opened["d"]
-        types = ((number, client.ask("record", d=d, t=number)) for number in range(1, opened["types"] + 1))
-        if name:
-            print_members(client, d, types, name)
-        else:
-            print_types(types)
+        types = client.types(opened)
+        return print_members(client, opened["d"], types, name) if name else print_types(types)
     except Refused as fault:
-        print(f"refused: {fault}", file=sys.stderr)
-    return client.close()
+        return f"refused: {fault}"
+    finally:
+        client.close()
 
 
 if __name__ == "__main__":
