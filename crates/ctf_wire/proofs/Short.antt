@@ -70,14 +70,14 @@ fault_short s f h i k =
     omega (arith, a, b, e, name, all)
 
 -- a line that fits stands as it is
-pub fitting-fits : (s : ℕ) (line : List ℕ) → length line ≤ 4194305 → fitting_line s line ≡ line
+pub fitting_fits : (s : ℕ) (line : List ℕ) → length line ≤ 4194305 → fitting_line s line ≡ line
 unfolding fitting_line
-fitting-fits s line h = rw (le-leb (length line) 4194305 h) refl
+fitting_fits s line h = rw (le-leb (length line) 4194305 h) refl
 
 -- and any other is refused
-pub fitting-long : (s : ℕ) (line : List ℕ) → 4194305 < length line → fitting_line s line ≡ fault_line s (record { code = LONG_REPLY; place = 0 })
+pub fitting_long : (s : ℕ) (line : List ℕ) → 4194305 < length line → fitting_line s line ≡ fault_line s (record { code = LONG_REPLY; place = 0 })
 unfolding fitting_line
-fitting-long s line h = rw (lt-leb (length line) 4194305 h) refl
+fitting_long s line h = rw (lt-leb (length line) 4194305 h) refl
 
-pub fitting-short : (s : ℕ) (line : List ℕ) → length line ≤ 96 → length (fitting_line s line) ≤ 96
-fitting-short s line h = let same = ap length (fitting-fits s line (omega (arith, h))) in omega (arith, same, h)
+pub fitting_short : (s : ℕ) (line : List ℕ) → length line ≤ 96 → length (fitting_line s line) ≤ 96
+fitting_short s line h = let same = ap length (fitting_fits s line (omega (arith, h))) in omega (arith, same, h)

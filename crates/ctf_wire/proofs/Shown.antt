@@ -19,9 +19,9 @@ windowed-map : {A : Type 0} (item : A → List ℕ) (window : Window) (xs : List
 windowed-map item window xs = ap (at_most window.count) (drop-map item window.from xs) ∙ at_most-map item window.count (drop window.from xs)
 
 -- a window of texts shows the texts of the window
-pub separated-windowed : {A : Type 0} (item : A → List ℕ) (window : Window) (xs : List A) → separated (λ text. text) (windowed window (map item xs)) ≡ separated item (windowed window xs)
-separated-windowed item window xs = ap (separated (λ text. text)) (windowed-map item window xs) ∙ separated-map item (windowed window xs)
+pub separated_windowed : {A : Type 0} (item : A → List ℕ) (window : Window) (xs : List A) → separated (λ text. text) (windowed window (map item xs)) ≡ separated item (windowed window xs)
+separated_windowed item window xs = ap (separated (λ text. text)) (windowed-map item window xs) ∙ separated-map item (windowed window xs)
 
 -- and so do the first ones
-pub separated-take : {A : Type 0} (item : A → List ℕ) (count : ℕ) (xs : List A) → separated (λ text. text) (take count (map item xs)) ≡ separated item (take count xs)
-separated-take item count xs = ap (separated (λ text. text)) (take-map item count xs) ∙ separated-map item (take count xs)
+pub separated_take : {A : Type 0} (item : A → List ℕ) (count : ℕ) (xs : List A) → separated (λ text. text) (take count (map item xs)) ≡ separated item (take count xs)
+separated_take item count xs = ap (separated (λ text. text)) (take-map item count xs) ∙ separated-map item (take count xs)

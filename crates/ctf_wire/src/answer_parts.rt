@@ -165,6 +165,7 @@ pub fn head_parts<'a>(session: u32, head: Head<'a>) -> [Part<'a>; 14]
 }
 
 /// Of members and how many there are in all.
+#[tactic(auto, using(crate::proofs::Shown::separated_windowed))]
 pub fn members_parts<'a>(session: u32, members: &'a Members<'a>, window: Window) -> [Part<'a>; 7]
     ensures { flat_map part_text result ≡ answer_line session (answers.members (windowed window members.now) (length members.now)) }
 {
@@ -180,6 +181,7 @@ pub fn members_parts<'a>(session: u32, members: &'a Members<'a>, window: Window)
 }
 
 /// Of enumerators and how many there are in all.
+#[tactic(auto, using(crate::proofs::Shown::separated_windowed))]
 pub fn enumerators_parts<'a>(
     session: u32,
     enumerators: &'a Enumerators<'a>,
@@ -225,6 +227,7 @@ fn named_count(args: &Args<'_>) -> usize
 }
 
 /// Of the arguments of a function and what it returns.
+#[tactic(auto, using(crate::proofs::Shown::separated_take))]
 pub fn arguments_parts<'a>(session: u32, args: &'a Args<'a>, ret: TypeNum) -> [Part<'a>; 9]
     ensures { flat_map part_text result ≡ answer_line session (answers.arguments (named_arguments args.now) ret.0 (ends_open args.now)) }
 {

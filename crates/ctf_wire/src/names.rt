@@ -50,7 +50,7 @@ fn put_byte(out: &mut Vec<u8>, byte: u8)
     ensures capacity { vec_capacity out.new ≡ vec_capacity out.old }
 {
     if is_plain(byte) {
-        put(out, &[byte]);
+        out.push_reserved(byte);
     } else {
         let high = hex_digit(byte / 16);
         let low = hex_digit(byte % 16);

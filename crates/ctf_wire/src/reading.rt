@@ -78,18 +78,21 @@ fn text<'a>(value: &'a Value, key: &str) -> Option<&'a str>
 fn read_request(alloc: Global, value: &Value) -> Result<Option<Request>, AllocError>
     ensures { IfOk result (λ request. request ≡ request_asked (view value.now)) }
 {
-    match text(value, "op") {
-        Some("part") => read_part(alloc, value),
-        Some("check") => Ok(Some(Request::DoCheck)),
-        Some("open") => Ok(Some(Request::DoOpen)),
-        Some("reset") => Ok(Some(Request::DoReset)),
-        Some("kind") => Ok(read_kind(value)),
-        Some("record") => Ok(read_record(value)),
-        Some("members") => Ok(read_members(value)),
-        Some("enumerators") => Ok(read_enumerators(value)),
-        Some("args") => Ok(read_args(value)),
-        Some("array") => Ok(read_array(value)),
-        Some("encoding") => Ok(read_encoding(value)),
+    let Some(word) = text(value, "op") else {
+        return Ok(None);
+    };
+    match word {
+        "part" => read_part(alloc, value),
+        "check" => Ok(Some(Request::DoCheck)),
+        "open" => Ok(Some(Request::DoOpen)),
+        "reset" => Ok(Some(Request::DoReset)),
+        "kind" => Ok(read_kind(value)),
+        "record" => Ok(read_record(value)),
+        "members" => Ok(read_members(value)),
+        "enumerators" => Ok(read_enumerators(value)),
+        "args" => Ok(read_args(value)),
+        "array" => Ok(read_array(value)),
+        "encoding" => Ok(read_encoding(value)),
         _ => Ok(None),
     }
 }

@@ -17,6 +17,7 @@ use ctf_model::{Fault, placeless};
 use std::alloc::AllocError;
 
 /// Appends a refusal.
+#[tactic(auto, using(crate::proofs::Short::fault_short))]
 fn write_fault(out: &mut Vec<u8>, session: u32, fault: Fault) -> Result<(), AllocError>
     ensures ok { OnOk result (out.new.items ≡ out.old.items ++ fault_line session fault) }
     ensures err { OnErr result ((out.new.items ≡ out.old.items) × (vec_len out.new ≡ vec_len out.old)) }
@@ -28,6 +29,7 @@ fn write_fault(out: &mut Vec<u8>, session: u32, fault: Fault) -> Result<(), Allo
 }
 
 /// Appends a line, or the refusal of one that is too long.
+#[tactic(auto, using(crate::proofs::Short::fitting_fits, crate::proofs::Short::fitting_long))]
 fn write_fitting(out: &mut Vec<u8>, session: u32, parts: &[Part<'_>]) -> Result<(), AllocError>
     ensures ok { OnOk result (out.new.items ≡ out.old.items ++ fitting_line session (flat_map part_text parts.now)) }
     ensures err { OnErr result ((out.new.items ≡ out.old.items) × (vec_len out.new ≡ vec_len out.old)) }
@@ -42,6 +44,7 @@ fn write_fitting(out: &mut Vec<u8>, session: u32, parts: &[Part<'_>]) -> Result<
     }
 }
 
+#[tactic(auto, using(crate::proofs::Short::fitting_short, crate::proofs::Short::done_short, crate::proofs::Short::staged_short, crate::proofs::Short::opened_short))]
 fn write_granted(out: &mut Vec<u8>, session: u32, change: Change) -> Result<(), AllocError>
     ensures ok { OnOk result (out.new.items ≡ out.old.items ++ fitting_line session (answer_line session (change_seen change))) }
     ensures err { OnErr result ((out.new.items ≡ out.old.items) × (vec_len out.new ≡ vec_len out.old)) }
