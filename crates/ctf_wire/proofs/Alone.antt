@@ -12,7 +12,7 @@ use Rattle.ctf_model.specs.Steps.{step, Outcome}
 use Rattle.ctf_model.specs.declared.faults.Fault.{Fault}
 use Rattle.ctf_model.specs.Answers.{Reply}
 use Rattle.ctf_model.specs.declared.requests.Request.{Request}
-use Rattle.ctf_wire.proofs.Asking.{ask-long}
+use Rattle.ctf_lines.proofs.Asking.{ask-long}
 use Rattle.ctf_wire.proofs.Places.{found_none}
 use Rattle.ctf_wire.specs.Served.{Answers}
 use Rattle.ctf_wire.specs.Serving.{ask_stored, LineSteps, BrokerStep, ServesAlone}

@@ -1,16 +1,6 @@
-pub mod Asking
-pub mod Shown
-pub mod Separated
-pub mod NameText
-pub mod Short
-pub mod TypeQuestions
 pub mod NeverMemory
 pub mod QuestionSteps
-pub mod SpelledHead
-pub mod TypeAnswers
-pub mod MemoryLine
 pub mod Places
-pub mod Faulting
 pub mod Cutting
 pub mod Passing
 pub mod Replying

@@ -3,11 +3,10 @@ ghost use Rattle.std.specs.Prelude.{◌≡◌, ◌≢◌, ℕ, IfOk, None, Some,
 ghost use Rattle.ctf_model.specs.Runs.{Steps};
 ghost use Rattle.ctf_model.specs.State.{empty_state};
 ghost use Rattle.ctf_model.specs.Steps.{step, is_question, outcome_of};
-ghost use Rattle.ctf_wire.specs.Seen.{outcome_seen, said_to};
+ghost use Rattle.ctf_library.specs.Seen.{outcome_seen, said_to};
 ghost use Rattle.ctf_wire.specs.Table.{library_at, place_of};
 
-use crate::library::Library;
-use crate::replies::{Answer, Change};
+use ctf_library::{Answer, Change, Library};
 use ctf_model::{Fault, Request, placeless};
 use std::alloc::{AllocError, Global};
 use std::marker::Model;

@@ -2,10 +2,9 @@
 ghost use Rattle.std.specs.Prelude.{◌≡◌, ◌↔◌, ℕ, ◌++◌, [], List, IfOk, IsTrue, IsSome, Some, is_none};
 ghost use Rattle.ctf_model.specs.Lines.{stored};
 
+use ctf_lines::LONGEST_LINE;
 use std::alloc::{AllocError, Global};
 use std::marker::Model;
-
-const LONGEST_LINE: usize = 1_048_576;
 
 /// The piece of a line that has come so far, as far as it can be stored.
 #[derive(Drop)]

@@ -5,20 +5,19 @@ ghost use Rattle.ctf_model.specs.Lines.{all_lines, whole_lines};
 ghost use Rattle.ctf_model.specs.ReplyLines.{reply_line};
 ghost use Rattle.ctf_model.specs.Answers.{Reply as SaidReply};
 ghost use Rattle.ctf_model.specs.Runs.{Steps, no_memory};
-ghost use Rattle.ctf_wire.specs.Seen.{reply_seen, said_to};
+ghost use Rattle.ctf_library.specs.Seen.{reply_seen, said_to};
 ghost use Rattle.ctf_wire.specs.Table.{library_at};
 ghost use Rattle.ctf_wire.specs.Pulls.{lines_read};
 ghost use Rattle.ctf_wire.specs.Serving.{BrokerStep, ServesAlone, WritesOut, BreaksOff};
 
 use crate::broker::Broker;
 use crate::engine::answer_bounded;
-use crate::lines::FromLine;
 use crate::machines::Machine;
-use crate::replies::{Change, Reply};
 use crate::run_faults::RunFault;
 use crate::sinks::Sink;
 use crate::sources::Source;
-use crate::writing::{write_change, write_reply};
+use ctf_library::{Change, Reply};
+use ctf_lines::{FromLine, ToLine, write_change};
 use ctf_model::{Fault, Request, placeless};
 use std::alloc::Global;
 
@@ -38,7 +37,7 @@ fn append_answer(out: &mut Vec<u8>, reply: &Reply<'_>)
         ⊎ (out.new.items ≡ out.old.items ++ reply_line (no_memory reply.now.session)) }
     ensures capacity { vec_capacity out.old ≤ vec_capacity out.new }
 {
-    match write_reply(out, reply) {
+    match reply.write(out) {
         Ok(()) => {}
         Err(_) => append_short(out, reply.session, Err(placeless(Fault::MEMORY))),
     }

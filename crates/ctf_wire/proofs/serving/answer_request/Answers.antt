@@ -1,5 +1,5 @@
 use Rattle.std.proofs.Common.{sym}
-use Rattle.ctf_wire.specs.Seen.{outcome_seen}
+use Rattle.ctf_library.specs.Seen.{outcome_seen}
 use Rattle.ctf_wire.specs.Table.{library_at}
 use Rattle.ctf_wire.proofs.QuestionSteps.{question_step}
 use Rattle.ctf_wire.proofs.serving.answer_request.Goals as goal

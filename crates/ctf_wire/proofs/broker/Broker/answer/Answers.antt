@@ -2,11 +2,11 @@ use Rattle.std.proofs.Common.{◌≡◌, List, None, get_or, Err, sym, ap, subst
 use Rattle.ctf_model.specs.State.{State}
 use Rattle.ctf_model.specs.Steps.{step, outcome_of}
 use Rattle.ctf_model.specs.declared.faults.Fault.{Fault}
-use Rattle.ctf_wire.specs.Seen.{outcome_seen}
+use Rattle.ctf_library.specs.Seen.{outcome_seen}
 use Rattle.ctf_wire.specs.Table.{place_of}
 use Rattle.ctf_wire.specs.declared.broker.Entry.{Entry}
 use Rattle.ctf_wire.proofs.Places.{is_place, library_found, no_library}
-use Rattle.ctf_wire.proofs.TypeQuestions.{no_slots}
+use Rattle.ctf_library.proofs.TypeQuestions.{no_slots}
 use Rattle.ctf_wire.proofs.broker.Broker.answer.Goals as goal
 
 pub index-requires : goal.index-requires

@@ -1,0 +1,4 @@
+pub mod TypeQuestions
+pub mod SpelledHead
+pub mod TypeAnswers
+pub mod Faulting

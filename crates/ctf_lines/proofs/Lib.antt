@@ -1,0 +1,6 @@
+pub mod Asking
+pub mod Shown
+pub mod Separated
+pub mod NameText
+pub mod Short
+pub mod MemoryLine

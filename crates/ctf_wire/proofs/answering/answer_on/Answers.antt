@@ -1,8 +1,0 @@
-use Rattle.std.proofs.Common.{ap, ◌∙◌}
-use Rattle.ctf_model.specs.Questions.{type_question}
-use Rattle.ctf_wire.proofs.TypeAnswers.{asked}
-use Rattle.ctf_wire.specs.Asked.{said_on}
-use Rattle.ctf_wire.proofs.answering.answer_on.Goals as goal
-
-pub returns-in-Ok : goal.returns-in-Ok
-returns-in-Ok c = asked _ _ _ c.answer_of.ensures ∙ ap (type_question (said_on c.args.question.now)) c.in-Ok.ensures.says
