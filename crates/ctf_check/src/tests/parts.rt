@@ -4,7 +4,8 @@ use super::inputs::dictionary;
 use crate::check;
 use ctf_model::{Kind, TypeNum};
 use ctf_records::Tag;
-use ctf_views::{ArrayInfo, Encoding, Enumerator, Member, Variant};
+use ctf_views::{Encoding, Enumerator, Member, Variant};
+use std::alloc::{AllocError, Global};
 use std::test::Fail;
 
 /// Two functions that return 3, of one argument and of two, and an integer.
@@ -152,9 +153,29 @@ const HEADS: [(Kind, Option<TypeNum>); 11] = [
     (Kind::KRestrict, Some(TypeNum(3))),
 ];
 
+/// The sorts of what stands behind their heads, and how many items it has.
+const SORTS: [(&str, usize); 11] = [
+    ("nothing", 0),
+    ("encoding", 0),
+    ("nothing", 0),
+    ("array", 0),
+    ("members", 1),
+    ("enumerators", 1),
+    ("tag", 0),
+    ("nothing", 0),
+    ("nothing", 0),
+    ("nothing", 0),
+    ("nothing", 0),
+];
+
+/// `OTHERS` in a dictionary; its one name is A.
+fn others(alloc: Global) -> Result<Vec<u8>, AllocError> {
+    dictionary(alloc, 0, OTHERS, b"\x00A\x00")
+}
+
 #[test]
-fn shows_the_other_kinds(rt: HostRuntime) -> Result<(), Fail> {
-    let ctf = dictionary(rt.alloc(), 0, OTHERS, b"\x00A\x00")?;
+fn shows_the_heads_of_other_kinds(rt: HostRuntime) -> Result<(), Fail> {
+    let ctf = others(rt.alloc())?;
     let Ok(checked) = check(rt.alloc(), &ctf, None, None) else {
         panic!(rt; "it breaks no rule")
     };
@@ -166,56 +187,103 @@ fn shows_the_other_kinds(rt: HostRuntime) -> Result<(), Fail> {
         assert_eq!(rt; (record.kind(), record.reference()), (kind, reference));
         let name: &[u8] = if kind == Kind::KTypedef { b"A" } else { b"" };
         assert_eq!(rt; checked.name(&record), name);
-        match checked.variant(&record) {
-            Variant::Encoding(said) => assert_eq!(rt;
-                (kind, said),
-                (
-                    Kind::KFloat,
-                    Encoding {
-                        encoding: 2,
-                        offset: 0,
-                        bits: 64
-                    }
-                )
-            ),
-            Variant::Array(said) => assert_eq!(rt;
-                (kind, said),
-                (
-                    Kind::KArray,
-                    ArrayInfo {
-                        contents: TypeNum(2),
-                        index: TypeNum(1),
-                        count: 10
-                    }
-                )
-            ),
-            Variant::Members(said) => assert_eq!(rt;
-                (kind, said.len(), said.get(0)),
-                (
-                    Kind::KUnion,
-                    1,
-                    Some(Member {
-                        name: b"",
-                        tnum: TypeNum(2),
-                        offset: 5
-                    })
-                )
-            ),
-            Variant::Enumerators(said) => assert_eq!(rt;
-                (kind, said.len(), said.get(0)),
-                (
-                    Kind::KEnum,
-                    1,
-                    Some(Enumerator {
-                        name: b"A",
-                        value: -1
-                    })
-                )
-            ),
-            Variant::Tag(said) => assert_eq!(rt; (kind, said), (Kind::KForward, Tag::Enum)),
-            Variant::Args(_) => panic!(rt; "none is a function"),
-            Variant::Nothing => assert!(rt; kind == Kind::KUnknown || reference.is_some()),
-        }
     }
+    Ok(())
+}
+
+/// What stands behind the head of a type of `OTHERS`, in a word.
+fn part_of(variant: Variant<'_>) -> (&'static str, usize) {
+    match variant {
+        Variant::Encoding(_) => ("encoding", 0),
+        Variant::Array(_) => ("array", 0),
+        Variant::Members(members) => ("members", members.len()),
+        Variant::Enumerators(enumerators) => ("enumerators", enumerators.len()),
+        Variant::Args(args) => ("args", args.len()),
+        Variant::Tag(_) => ("tag", 0),
+        Variant::Nothing => ("nothing", 0),
+    }
+}
+
+#[test]
+fn shows_the_sorts_of_other_kinds(rt: HostRuntime) -> Result<(), Fail> {
+    let ctf = others(rt.alloc())?;
+    let Ok(checked) = check(rt.alloc(), &ctf, None, None) else {
+        panic!(rt; "it breaks no rule")
+    };
+    for (i, want) in SORTS.into_iter().enumerate() {
+        let Some(record) = checked.term(i + 1) else {
+            panic!(rt; "the type is there")
+        };
+        assert_eq!(rt; part_of(checked.variant(&record)), want);
+    }
+    Ok(())
+}
+
+#[test]
+fn shows_a_float_and_an_array(rt: HostRuntime) -> Result<(), Fail> {
+    let ctf = others(rt.alloc())?;
+    let Ok(checked) = check(rt.alloc(), &ctf, None, None) else {
+        panic!(rt; "it breaks no rule")
+    };
+    let (Some(float), Some(array)) = (checked.term(2), checked.term(4)) else {
+        panic!(rt; "the types are there")
+    };
+    let Variant::Encoding(said) = checked.variant(&float) else {
+        panic!(rt; "it is a float")
+    };
+    assert_eq!(rt; (said.encoding, said.offset, said.bits), (2, 0, 64));
+    let Variant::Array(said) = checked.variant(&array) else {
+        panic!(rt; "it is an array")
+    };
+    assert_eq!(rt; (said.contents.0, said.index.0, said.count), (2, 1, 10));
+    Ok(())
+}
+
+#[test]
+fn shows_a_union_and_an_enum(rt: HostRuntime) -> Result<(), Fail> {
+    let ctf = others(rt.alloc())?;
+    let Ok(checked) = check(rt.alloc(), &ctf, None, None) else {
+        panic!(rt; "it breaks no rule")
+    };
+    let (Some(union), Some(named)) = (checked.term(5), checked.term(6)) else {
+        panic!(rt; "the types are there")
+    };
+    let Variant::Members(members) = checked.variant(&union) else {
+        panic!(rt; "it is a union")
+    };
+    assert_eq!(rt;
+        members.get(0),
+        Some(Member {
+            name: b"",
+            tnum: TypeNum(2),
+            offset: 5
+        })
+    );
+    let Variant::Enumerators(enumerators) = checked.variant(&named) else {
+        panic!(rt; "it is an enum")
+    };
+    assert_eq!(rt;
+        enumerators.get(0),
+        Some(Enumerator {
+            name: b"A",
+            value: -1
+        })
+    );
+    Ok(())
+}
+
+#[test]
+fn shows_a_forward(rt: HostRuntime) -> Result<(), Fail> {
+    let ctf = others(rt.alloc())?;
+    let Ok(checked) = check(rt.alloc(), &ctf, None, None) else {
+        panic!(rt; "it breaks no rule")
+    };
+    let Some(record) = checked.term(7) else {
+        panic!(rt; "the type is there")
+    };
+    let Variant::Tag(said) = checked.variant(&record) else {
+        panic!(rt; "it is a forward")
+    };
+    assert_eq!(rt; said, Tag::Enum);
     Ok(())
 }
