@@ -8,7 +8,7 @@ ghost use Rattle.ctf_model.specs.Needs.{needed};
 ghost use Rattle.ctf_model.specs.Spelling.{term_of};
 ghost use Rattle.ctf_sections.specs.StringsView.{tables};
 ghost use Rattle.ctf_check.specs.ListsView.{lists_in};
-ghost use Rattle.ctf_views.specs.Shown.{shown};
+ghost use Rattle.ctf_model.specs.Shown.{shown};
 ghost use Rattle.ctf_views.specs.VariantView.{seen};
 
 use crate::lists::LentLists;

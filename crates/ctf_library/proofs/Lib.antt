@@ -1,4 +1,4 @@
-pub mod TypeQuestions
 pub mod SpelledHead
-pub mod TypeAnswers
 pub mod Faulting
+pub mod Asked
+pub mod Described

@@ -2,32 +2,28 @@
 use Rattle.std.proofs.Common.{◌≡◌, ℕ, List, Option, Some, None, refl, sym, ap, subst, ◌∙◌}
 use Rattle.std.specs.Option.{option_map}
 use Rattle.std.proofs.lemmas.Option.{same_Some}
-use Rattle.ctf_model.proofs.Items.{items_length}
 use Rattle.ctf_model.specs.Bytes.{u32_at}
 use Rattle.ctf_model.specs.Name.{Tables, name}
-use Rattle.ctf_model.specs.Questions.{kind_of, detail_of, list_length, arguments_of}
+use Rattle.ctf_model.specs.Shown.{kind_of, size_of, reference_of, declared_by}
 use Rattle.ctf_model.specs.Record.{kind, is_root, field, size, vlen, member_len, behind_head}
 use Rattle.ctf_model.specs.Spelling.{◌>>=◌, body_of, term_of, scalar, elements, tag, members, enumerators, arguments, member_of, enumerator_of, argument_of}
 use Rattle.ctf_model.specs.Term.{Body, Term}
 use Rattle.ctf_model.specs.Term as term
 use Rattle.ctf_model.specs.declared.kinds.Kind.{Kind}
 use Rattle.ctf_model.specs.declared.kinds.Kind.TheVariants.{KUnknown, KInteger, KFloat, KPointer, KArray, KFunction, KStruct, KUnion, KEnum, KForward, KTypedef, KVolatile, KConst, KRestrict}
-use Rattle.ctf_records.specs.ByKind.{size_of_kind, reference_of_kind, declared_of_kind, listed_of_kind, reference_in, listed}
-use Rattle.ctf_views.specs.Shown.{shown}
-use Rattle.ctf_library.specs.ByShown.{arguments_shown}
-use Rattle.ctf_library.specs.HeadIn.{detail_by, detail_in}
+use Rattle.ctf_records.specs.ByKind.{size_of_kind, reference_of_kind, declared_of_kind, size_in, reference_in, declared_in}
 
 -- ---- a body, by kind
 
 -- what a record of a kind says of a body
 record SaysOf (b : List ℕ) (k : Kind) (x : Body) : Type 0 where
   pub kind_is : k ≡ kind_of x
-  pub detail_is : detail_by (size_of_kind k b) (reference_of_kind k b) (declared_of_kind k b) ≡ detail_of x
-  pub length_is : listed_of_kind k b ≡ list_length x
-  pub arguments_are : arguments_shown (reference_of_kind k b) (shown x) ≡ arguments_of x
+  pub size_is : size_of_kind k b ≡ size_of x
+  pub reference_is : reference_of_kind k b ≡ reference_of x
+  pub declares_is : declared_of_kind k b ≡ declared_by x
 
-says : (b : List ℕ) (k : Kind) (x : Body) → k ≡ kind_of x → detail_by (size_of_kind k b) (reference_of_kind k b) (declared_of_kind k b) ≡ detail_of x → listed_of_kind k b ≡ list_length x → arguments_shown (reference_of_kind k b) (shown x) ≡ arguments_of x → SaysOf b k x
-says b k x kind_is detail_is length_is arguments_are = record { kind_is = kind_is; detail_is = detail_is; length_is = length_is; arguments_are = arguments_are }
+says : (b : List ℕ) (k : Kind) (x : Body) → k ≡ kind_of x → size_of_kind k b ≡ size_of x → reference_of_kind k b ≡ reference_of x → declared_of_kind k b ≡ declared_by x → SaysOf b k x
+says b k x kind_is size_is reference_is declares_is = record { kind_is = kind_is; size_is = size_is; reference_is = reference_is; declares_is = declares_is }
 
 -- a body that is made is the one that is there
 made : (b : List ℕ) (k : Kind) (x y : Body) → SaysOf b k x → Some x ≡ Some y → SaysOf b k y
@@ -45,10 +41,10 @@ says_of t b KInteger x e = made b KInteger (term.integer (scalar b)) x (says b K
 says_of t b KFloat x e = made b KFloat (term.float (scalar b)) x (says b KFloat (term.float (scalar b)) refl refl refl refl) e
 says_of t b KPointer x e = made b KPointer (term.pointer (field b)) x (says b KPointer (term.pointer (field b)) refl refl refl refl) e
 says_of t b KArray x e = made b KArray (term.array (elements b)) x (says b KArray (term.array (elements b)) refl refl refl refl) e
-says_of t b KFunction x e = made_of b KFunction (term.function (field b)) (arguments b) x (λ xs f. says b KFunction ((term.function (field b)) xs) refl refl (sym (items_length argument_of 2 (vlen b) (behind_head b) xs f)) refl) e
-says_of t b KStruct x e = made_of b KStruct (term.struct (size b)) (members t b) x (λ xs f. says b KStruct ((term.struct (size b)) xs) refl refl (sym (items_length (member_of (size b) t) (member_len (size b)) (vlen b) (behind_head b) xs f)) refl) e
-says_of t b KUnion x e = made_of b KUnion (term.union (size b)) (members t b) x (λ xs f. says b KUnion ((term.union (size b)) xs) refl refl (sym (items_length (member_of (size b) t) (member_len (size b)) (vlen b) (behind_head b) xs f)) refl) e
-says_of t b KEnum x e = made_of b KEnum (term.enum (size b)) (enumerators t b) x (λ xs f. says b KEnum ((term.enum (size b)) xs) refl refl (sym (items_length (enumerator_of t) 8 (vlen b) (behind_head b) xs f)) refl) e
+says_of t b KFunction x e = made_of b KFunction (term.function (field b)) (arguments b) x (λ xs f. says b KFunction ((term.function (field b)) xs) refl refl refl refl) e
+says_of t b KStruct x e = made_of b KStruct (term.struct (size b)) (members t b) x (λ xs f. says b KStruct ((term.struct (size b)) xs) refl refl refl refl) e
+says_of t b KUnion x e = made_of b KUnion (term.union (size b)) (members t b) x (λ xs f. says b KUnion ((term.union (size b)) xs) refl refl refl refl) e
+says_of t b KEnum x e = made_of b KEnum (term.enum (size b)) (enumerators t b) x (λ xs f. says b KEnum ((term.enum (size b)) xs) refl refl refl refl) e
 says_of t b KForward x e = made b KForward (term.forward (tag (field b))) x (says b KForward (term.forward (tag (field b))) refl refl refl refl) e
 says_of t b KTypedef x e = made b KTypedef (term.typedef (field b)) x (says b KTypedef (term.typedef (field b)) refl refl refl refl) e
 says_of t b KVolatile x e = made b KVolatile (term.volatile (field b)) x (says b KVolatile (term.volatile (field b)) refl refl refl refl) e
@@ -61,9 +57,9 @@ says_of t b KRestrict x e = made b KRestrict (term.restrict (field b)) x (says b
 pub record HeadSays (b : List ℕ) (x : Term) : Type 0 where
   pub kind_is : kind b ≡ Some (kind_of x.body)
   pub root_is : is_root b ≡ x.root
-  pub detail_is : detail_in b ≡ detail_of x.body
-  pub length_is : listed b ≡ list_length x.body
-  pub arguments_are : arguments_shown (reference_in b) (shown x.body) ≡ arguments_of x.body
+  pub size_is : size_in b ≡ size_of x.body
+  pub reference_is : reference_in b ≡ reference_of x.body
+  pub declares_is : declared_in b ≡ declared_by x.body
 
 -- what a step that is made leaves behind
 bind_some : {A B : Type 0} (o : Option A) (f : A → Option B) (y : B) → o >>= f ≡ Some y → (x : A) × (o ≡ Some x) × (f x ≡ Some y)
@@ -99,7 +95,7 @@ head_says t b x e =
     record {
       kind_is = p.kind_there ∙ ap (λ (k : Kind). Some k) s.kind_is;
       root_is = p.root_is;
-      detail_is = rw there s.detail_is;
-      length_is = rw there s.length_is;
-      arguments_are = rw there s.arguments_are;
+      size_is = rw there s.size_is;
+      reference_is = rw there s.reference_is;
+      declares_is = rw there s.declares_is;
     }

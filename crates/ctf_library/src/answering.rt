@@ -1,20 +1,26 @@
 //! What questions on types of a dictionary are answered.
-ghost use Rattle.std.specs.Prelude.{◌≡◌, None, Some, Ok, Err, IfOk};
-ghost use Rattle.std.specs.Option.{option_map};
-ghost use Rattle.ctf_model.specs.Questions.{type_question};
+ghost use Rattle.std.specs.Prelude.{◌≡◌, ◌≤◌, length, map, take, None, Some, Ok, Err, IfOk, option_map, option_and_then};
+ghost use Rattle.ctf_model.specs.Answers.{number, word};
+ghost use Rattle.ctf_model.specs.KindNames.{name_of_tag};
+ghost use Rattle.ctf_model.specs.Questions.{or_wrong_kind, list_fields, said_on, type_said, record_fields, member_fields, enumerator_fields, argument_fields, array_fields, encoding_fields, reference_said, number_item, is_variadic as ends_open, named_arguments};
+ghost use Rattle.ctf_model.specs.Shown.{members_in, enumerators_in, arguments_in, array_in, encoding_in, list_length};
 ghost use Rattle.ctf_model.specs.TypeNumbers.{type_at};
+ghost use Rattle.ctf_answers.specs.Items.{items_of};
+ghost use Rattle.ctf_answers.specs.Singles.{single_of};
 ghost use Rattle.ctf_check.specs.CheckedView.{dictionary_of, IsOwn};
-ghost use Rattle.ctf_library.specs.Asked.{said_on};
-ghost use Rattle.ctf_library.specs.OwnRecord.{spelled, type_found};
-ghost use Rattle.ctf_library.specs.Seen.{outcome_seen};
+ghost use Rattle.ctf_records.specs.RecordView.{tag_of};
+ghost use Rattle.ctf_views.specs.VariantView.{seen};
+ghost use Rattle.ctf_library.specs.FactsView.{facts_seen};
+ghost use Rattle.ctf_library.specs.OwnRecord.{type_found};
 ghost use Rattle.ctf_library.specs.TypeIndex.{own_index};
 
-use crate::heads::head_of;
-use crate::replies::Answer;
-use crate::variants::{arguments_in, array_in, encoding_in, enumerators_in, members_in};
+use crate::facts::facts_of;
+use crate::types::Facts;
+use ctf_answers::{Answer, Items, Listed, Single, kind_name, tag_name};
 use ctf_check::Checked;
-use ctf_model::{Fault, Request, TypeNum, placeless};
-use ctf_records::Record;
+use ctf_model::{Fault, TypeNum, TypeQuestion, Window, placeless};
+use ctf_records::{Record, Tag};
+use ctf_views::{Args, Variant};
 
 /// The index of an own type, from 1 on, which may be past the last.
 fn index_of(child: bool, number: u16) -> Result<usize, Fault>
@@ -45,39 +51,191 @@ fn own_record<'a>(dictionary: &Checked<'a>, t: TypeNum) -> Result<Record<'a>, Fa
     }
 }
 
-/// What a question on the type of a record is answered.
-fn answer_of<'a>(
-    dictionary: &Checked<'a>,
-    term: &Record<'a>,
-    question: &Request,
-) -> Result<Answer<'a>, Fault>
-    requires own { IsOwn dictionary.now term.now }
-    ensures { option_map (said_on question.now) (spelled dictionary.now term.now) ≡ Some (outcome_seen result) }
+/// What a list answers that a type may have.
+fn listed<'a>(key: &'static str, items: Items<'a>, window: Window) -> Answer<'a>
+    ensures { result ≡ list_fields key.now window (items_of items.entry) }
 {
-    match question {
-        Request::DoKind { .. } => Ok(Answer::Kind(term.kind())),
-        Request::DoRecord { .. } => Ok(Answer::Head(head_of(dictionary, term))),
-        Request::DoMembers { window, .. } => members_in(dictionary.variant(term), *window),
-        Request::DoEnumerators { window, .. } => {
-            enumerators_in(dictionary.variant(term), *window)
-        }
-        Request::DoArgs { .. } => arguments_in(dictionary.variant(term), term.reference()),
-        Request::DoArray { .. } => array_in(dictionary.variant(term)),
-        Request::DoEncoding { .. } => encoding_in(dictionary.variant(term)),
+    let total = items.len() as u64;
+    Answer::done()
+        .with_list(key, Listed::new(items, window))
+        .with("total", Single::Number(total))
+}
+
+fn members<'a>(behind: Variant<'a>, window: Window) -> Result<Answer<'a>, Fault>
+    ensures { result ≡ or_wrong_kind (option_map (member_fields window) (members_in (seen behind.entry))) }
+{
+    match behind {
+        Variant::Members(members) => Ok(listed("members", Items::Members(members), window)),
         _ => Err(placeless(Fault::WRONG_KIND)),
     }
 }
 
+fn enumerators<'a>(behind: Variant<'a>, window: Window) -> Result<Answer<'a>, Fault>
+    ensures { result ≡ or_wrong_kind (option_map (enumerator_fields window) (enumerators_in (seen behind.entry))) }
+{
+    match behind {
+        Variant::Enumerators(enumerators) => {
+            Ok(listed("enumerators", Items::Enumerators(enumerators), window))
+        }
+        _ => Err(placeless(Fault::WRONG_KIND)),
+    }
+}
+
+/// Whether a function may take more arguments than are named.
+fn is_variadic(args: &Args<'_>) -> bool
+    ensures { result ≡ ends_open args.now }
+{
+    let len = args.len();
+    if len == 0 {
+        return false;
+    }
+    match args.get(len - 1) {
+        Some(last) => last.0 == 0,
+        None => false,
+    }
+}
+
+/// How many arguments are named: all but a last 0.
+#[tactic(auto, using(crate::proofs::Asked::take_numbers))]
+fn named_count(args: &Args<'_>) -> usize
+    ensures named { take result (map number_item args.now) ≡ map number_item (named_arguments args.now) }
+    ensures inside { result ≤ length args.now }
+{
+    if is_variadic(args) {
+        args.len() - 1
+    } else {
+        args.len()
+    }
+}
+
+fn arguments<'a>(behind: Variant<'a>, returned: Option<TypeNum>) -> Result<Answer<'a>, Fault>
+    ensures { result ≡ or_wrong_kind (option_and_then (λ ret. option_map (argument_fields ret) (arguments_in (seen behind.entry))) (option_map (λ t. t.0) returned)) }
+{
+    match (behind, returned) {
+        (Variant::Args(args), Some(ret)) => {
+            let varargs = is_variadic(&args);
+            let count = named_count(&args);
+            Ok(Answer::done()
+                .with_list("args", Listed::front(Items::Arguments(args), count))
+                .with("return", Single::Number(u64::from(ret.0)))
+                .with("varargs", Single::Truth(varargs)))
+        }
+        _ => Err(placeless(Fault::WRONG_KIND)),
+    }
+}
+
+fn a_number<'a>(n: Option<u64>) -> Option<Single<'a>>
+    ensures { option_map single_of result ≡ option_map number n }
+{
+    match n {
+        Some(n) => Some(Single::Number(n)),
+        None => None,
+    }
+}
+
+fn a_type<'a>(t: Option<TypeNum>) -> Option<Single<'a>>
+    ensures { option_map single_of result ≡ option_map number (option_map (λ t. t.0) t) }
+{
+    match t {
+        Some(t) => Some(Single::Number(u64::from(t.0))),
+        None => None,
+    }
+}
+
+fn a_tag<'a>(tag: Option<Tag>) -> Option<Single<'a>>
+    ensures { option_map single_of result ≡ option_map (λ tag. word (name_of_tag tag)) (option_map tag_of tag) }
+{
+    match tag {
+        Some(tag) => Some(Single::Word(tag_name(tag))),
+        None => None,
+    }
+}
+
+fn reference<'a>(x: Facts<'a>) -> Result<Answer<'a>, Fault>
+    ensures { result ≡ reference_said (facts_seen x.entry) }
+{
+    match (x.behind, x.reference) {
+        (Variant::Args(_), _) | (_, None) => Err(placeless(Fault::NOT_REFERENCE)),
+        (_, Some(t)) => Ok(Answer::done().with("t", Single::Number(u64::from(t.0)))),
+    }
+}
+
+/// How long the list of a type is.
+fn list_len(behind: &Variant<'_>) -> usize
+    ensures { result ≡ list_length (seen behind.now) }
+{
+    match behind {
+        Variant::Members(members) => members.len(),
+        Variant::Enumerators(enumerators) => enumerators.len(),
+        Variant::Args(args) => args.len(),
+        _ => 0,
+    }
+}
+
+fn array<'a>(behind: Variant<'a>) -> Result<Answer<'a>, Fault>
+    ensures { result ≡ or_wrong_kind (option_map array_fields (array_in (seen behind.entry))) }
+{
+    match behind {
+        Variant::Array(info) => Ok(Answer::done()
+            .with("contents", Single::Number(u64::from(info.contents.0)))
+            .with("count", Single::Number(u64::from(info.count)))
+            .with("index", Single::Number(u64::from(info.index.0)))),
+        _ => Err(placeless(Fault::WRONG_KIND)),
+    }
+}
+
+fn encoding<'a>(behind: Variant<'a>) -> Result<Answer<'a>, Fault>
+    ensures { result ≡ or_wrong_kind (option_map encoding_fields (encoding_in (seen behind.entry))) }
+{
+    match behind {
+        Variant::Encoding(info) => Ok(Answer::done()
+            .with("bits", Single::Number(u64::from(info.bits)))
+            .with("encoding", Single::Number(u64::from(info.encoding)))
+            .with("offset", Single::Number(u64::from(info.offset)))),
+        _ => Err(placeless(Fault::WRONG_KIND)),
+    }
+}
+
+/// A type without its list.
+fn record_of<'a>(x: Facts<'a>) -> Answer<'a>
+    ensures { result ≡ record_fields (facts_seen x.entry) }
+{
+    Answer::done()
+        .with("kind", Single::Word(kind_name(x.kind)))
+        .with("name", Single::Text(x.name))
+        .with("root", Single::Truth(x.root))
+        .with_some("size", a_number(x.size))
+        .with_some("tag", a_tag(x.declares))
+        .with_some("type", a_type(x.reference))
+        .with("vlen", Single::Number(list_len(&x.behind) as u64))
+}
+
+/// What a question on a type is answered.
+fn answer_of<'a>(x: Facts<'a>, question: TypeQuestion) -> Result<Answer<'a>, Fault>
+    ensures { result ≡ said_on question (facts_seen x.entry) }
+{
+    match question {
+        TypeQuestion::Kind => Ok(Answer::done().with("kind", Single::Word(kind_name(x.kind)))),
+        TypeQuestion::Record => Ok(record_of(x)),
+        TypeQuestion::Members(window) => members(x.behind, window),
+        TypeQuestion::Enumerators(window) => enumerators(x.behind, window),
+        TypeQuestion::Args => arguments(x.behind, x.reference),
+        TypeQuestion::Array => array(x.behind),
+        TypeQuestion::Encoding => encoding(x.behind),
+        TypeQuestion::Reference => reference(x),
+    }
+}
+
 /// What a question on a type of a dictionary without a parent is answered.
-pub fn answer_on<'a>(
+pub(crate) fn answer_on<'a>(
     dictionary: &Checked<'a>,
     t: TypeNum,
-    question: &Request,
+    question: TypeQuestion,
 ) -> Result<Answer<'a>, Fault>
-    ensures { outcome_seen result ≡ type_question (said_on question.now) (type_at (dictionary_of dictionary.now) None t.0) }
+    ensures { result ≡ type_said question (type_at (dictionary_of dictionary.now) None t.0) }
 {
     match own_record(dictionary, t) {
-        Ok(record) => answer_of(dictionary, &record, question),
+        Ok(record) => answer_of(facts_of(dictionary, &record), question),
         Err(fault) => Err(fault),
     }
 }

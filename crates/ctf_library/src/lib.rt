@@ -2,11 +2,9 @@
 #![tactic(auto)]
 
 mod answering;
-mod heads;
+mod facts;
 mod library;
-mod replies;
 mod slots;
-mod variants;
+mod types;
 
 pub use library::Library;
-pub use replies::{Answer, Change, Detail, Head, Reply};

@@ -5,16 +5,15 @@ ghost use Rattle.ctf_model.specs.Dictionary.{said_by};
 ghost use Rattle.ctf_model.specs.Faults.{first_fault};
 ghost use Rattle.ctf_model.specs.Runs.{Answered, is_no_memory};
 ghost use Rattle.ctf_model.specs.State.{empty_state};
-ghost use Rattle.ctf_model.specs.Steps.{step, is_question, outcome_of, slot_at, longest_list};
-ghost use Rattle.ctf_library.specs.Asked.{asked_about};
-ghost use Rattle.ctf_library.specs.Seen.{outcome_seen, said};
+ghost use Rattle.ctf_model.specs.Steps.{change_step, answer_to, is_quiet, MayAnswer, slot_at, longest_list};
+ghost use Rattle.ctf_answers.specs.Replies.{said};
 ghost use Rattle.ctf_library.specs.SlotView.{slot_of, without_symbols};
 ghost use Rattle.ctf_model.specs.declared.faults.TheConstants.Fault.{MEMORY, STAGE_FULL};
 
-use crate::replies::{Answer, Change};
+use ctf_answers::{Answer, Counts};
 use crate::slots::{Slot, bytes_or_none, list_bytes};
 use ctf_check::check;
-use ctf_model::{Bytes, Fault, ListName, Request, TypeNum, placeless};
+use ctf_model::{Bytes, Change, Fault, ListName, Question, SlotNumber, placeless};
 use std::alloc::Global;
 use std::marker::Model;
 
@@ -93,32 +92,6 @@ fn judge_staged<'a>(
     }
 }
 
-/// What a question is about: a type of a slot.
-#[derive(Clone, Copy)]
-struct About {
-    slot: u32,
-    t: TypeNum,
-}
-
-/// The slot and the type that a question is about.
-fn type_asked(question: &Request) -> Option<About>
-    ensures { option_map (λ about. (about.slot, about.t.0)) result ≡ asked_about question.now }
-{
-    match question {
-        Request::DoKind { d, t }
-        | Request::DoRecord { d, t }
-        | Request::DoMembers { d, t, .. }
-        | Request::DoEnumerators { d, t, .. }
-        | Request::DoArgs { d, t }
-        | Request::DoArray { d, t }
-        | Request::DoEncoding { d, t } => Some(About {
-            slot: d.get(),
-            t: *t,
-        }),
-        _ => None,
-    }
-}
-
 /// The slot of a number.
 fn find_slot(slots: &[Slot], number: u32) -> Option<&Slot>
     ensures { option_map slot_of (option_copied result) ≡ slot_at number (map slot_of slots.now) }
@@ -145,48 +118,46 @@ impl Library {
         }
     }
 
-    /// Makes the step of a request that is no question. Want of memory changes nothing.
-    #[tactic(auto, unfolding(ctf_model::specs::Steps::step))]
-    pub fn step(&mut self, request: &Request) -> Result<Change, Fault>
-        requires { is_question request.now ≡ false }
-        ensures { Answered self.old (step self.old request.now None) (said result) self.new }
+    /// Makes the step of a change. Want of memory changes nothing.
+    #[tactic(auto, unfolding(ctf_model::specs::Steps::change_step))]
+    pub fn step(&mut self, change: &Change) -> Result<Counts, Fault>
+        ensures { Answered self.old (change_step self.old change.now None) (said result) self.new }
     {
-        match request {
-            Request::DoPart { section, bytes } => self.part(*section, bytes.as_slice()),
-            Request::DoCheck => self.check(),
-            Request::DoOpen => self.open(),
-            Request::DoReset => self.reset(),
-            _ => unreachable!(),
+        match change {
+            Change::Part { section, bytes } => self.part(*section, bytes.as_slice()),
+            Change::Check => self.check(),
+            Change::Open => self.open(),
+            Change::Reset => self.reset(),
         }
     }
 
-    #[tactic(auto, unfolding(ctf_model::specs::Steps::step))]
-    fn part(&mut self, list: ListName, piece: &[u8]) -> Result<Change, Fault>
-        ensures { Answered self.old (step self.old (Request.DoPart list piece.now) None) (said result) self.new }
+    #[tactic(auto, unfolding(ctf_model::specs::Steps::change_step))]
+    fn part(&mut self, list: ListName, piece: &[u8]) -> Result<Counts, Fault>
+        ensures { Answered self.old (change_step self.old (Change.Part list piece.now) None) (said result) self.new }
     {
         let added = match list {
             ListName::Ctf => add_piece(self.alloc, &mut self.ctf, piece),
             ListName::Str => add_piece(self.alloc, &mut self.strs, piece),
         };
         match added {
-            Ok(length) => Ok(Change::Staged(length)),
+            Ok(length) => Ok(Counts::one("length", length)),
             Err(fault) => Err(fault),
         }
     }
 
-    #[tactic(auto, unfolding(ctf_model::specs::Steps::step))]
-    fn check(&self) -> Result<Change, Fault>
-        ensures { Answered self.now (step self.now Request.DoCheck None) (said result) self.now }
+    #[tactic(auto, unfolding(ctf_model::specs::Steps::change_step))]
+    fn check(&self) -> Result<Counts, Fault>
+        ensures { Answered self.now (change_step self.now Change.Check None) (said result) self.now }
     {
         match judge_staged(self.alloc, &self.ctf, &self.strs) {
-            Ok(_) => Ok(Change::Done),
+            Ok(_) => Ok(Counts::done()),
             Err(fault) => Err(fault),
         }
     }
 
-    #[tactic(auto, unfolding(ctf_model::specs::Steps::step))]
-    fn open(&mut self) -> Result<Change, Fault>
-        ensures { Answered self.old (step self.old Request.DoOpen None) (said result) self.new }
+    #[tactic(auto, unfolding(ctf_model::specs::Steps::change_step))]
+    fn open(&mut self) -> Result<Counts, Fault>
+        ensures { Answered self.old (change_step self.old Change.Open None) (said result) self.new }
     {
         if self.slots.len() >= MOST_SLOTS || self.next > u64::from(u32::MAX) {
             return Err(placeless(Fault::SLOTS_FULL));
@@ -211,34 +182,35 @@ impl Library {
             types,
         });
         self.next += 1;
-        Ok(Change::Opened {
-            d: number,
-            types: types as u64,
-        })
+        Ok(Counts::two("d", u64::from(number), "types", types as u64))
     }
 
-    #[tactic(auto, unfolding(ctf_model::specs::Steps::step))]
-    fn reset(&mut self) -> Result<Change, Fault>
-        ensures { Answered self.old (step self.old Request.DoReset None) (said result) self.new }
+    #[tactic(auto, unfolding(ctf_model::specs::Steps::change_step))]
+    fn reset(&mut self) -> Result<Counts, Fault>
+        ensures { Answered self.old (change_step self.old Change.Reset None) (said result) self.new }
     {
         self.slots.clear();
         self.next = 1;
         self.ctf = None;
         self.strs = None;
-        Ok(Change::Done)
+        Ok(Counts::done())
     }
 
-    /// Answers a question. Names and lists are lent from the dictionary of its slot.
-    pub fn answer<'a>(&'a self, question: &Request) -> Result<Answer<'a>, Fault>
-        requires { is_question question.now ≡ true }
-        ensures { step self.now question.now None ≡ outcome_of (outcome_seen result) self.now }
+    /// Answers a question to a slot. Names and lists are lent from its dictionary.
+    pub fn answer<'a>(&'a self, d: SlotNumber, question: &Question) -> Result<Answer<'a>, Fault>
+        ensures answer { MayAnswer (answer_to d question.now self.now) result }
+        // These take no memory.
+        ensures quiet { is_quiet question.now ≡ true → result ≡ answer_to d question.now self.now }
     {
-        match type_asked(question) {
-            Some(about) => match find_slot(&self.slots, about.slot) {
-                Some(slot) => slot.answer(about.t, question),
-                None => Err(placeless(Fault::NO_SLOT)),
-            },
-            None => unreachable!(),
+        self.answer_now(d, question)
+    }
+
+    fn answer_now<'a>(&'a self, d: SlotNumber, question: &Question) -> Result<Answer<'a>, Fault>
+        ensures { result ≡ answer_to d question.now self.now }
+    {
+        match find_slot(&self.slots, d.get()) {
+            Some(slot) => slot.answer(question),
+            None => Err(placeless(Fault::NO_SLOT)),
         }
     }
 }

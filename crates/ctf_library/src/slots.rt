@@ -2,16 +2,13 @@
 ghost use Rattle.std.specs.Prelude.{◌≡◌, length, None, Option, Ok, Err, Some, [], unwrap_or, option_copied};
 ghost use Rattle.ctf_model.specs.Dictionary.{said_by};
 ghost use Rattle.ctf_model.specs.Faults.{first_fault};
-ghost use Rattle.ctf_model.specs.Questions.{type_question};
-ghost use Rattle.ctf_library.specs.Asked.{said_on};
-ghost use Rattle.ctf_library.specs.Seen.{outcome_seen};
 ghost use Rattle.ctf_check.specs.CheckedView.{lists_of, dictionary_of};
 ghost use Rattle.ctf_check.specs.ListsView.{lists_in};
 
 use crate::answering::answer_on;
-use crate::replies::Answer;
+use ctf_answers::Answer;
 use ctf_check::{Checked, LentLists};
-use ctf_model::{Bytes, Fault, Request, TypeNum};
+use ctf_model::{Bytes, Fault, Question};
 
 /// A dictionary that was opened, under its number.
 #[derive(Drop)]
@@ -47,7 +44,7 @@ pub(crate) fn bytes_or_none(list: &Option<Bytes>) -> &[u8]
 
 impl Slot {
     ghost use Rattle.ctf_library.specs.SlotView.{slot_of};
-    ghost use Rattle.ctf_model.specs.Steps.{slot_type};
+    ghost use Rattle.ctf_model.specs.Steps.{slot_said};
 
     /// The lists of its dictionary, lent.
     fn lists(&self) -> LentLists<'_>
@@ -60,11 +57,13 @@ impl Slot {
         }
     }
 
-    /// What a question on a type is answered.
-    pub(crate) fn answer<'a>(&'a self, t: TypeNum, question: &Request) -> Result<Answer<'a>, Fault>
-        ensures { outcome_seen result ≡ type_question (said_on question.now) (slot_type t.0 (slot_of self.now)) }
+    /// What a question is answered.
+    pub(crate) fn answer<'a>(&'a self, question: &Question) -> Result<Answer<'a>, Fault>
+        ensures { result ≡ slot_said question.now (slot_of self.now) }
     {
         let dictionary = Checked::again(self.lists(), self.types);
-        answer_on(&dictionary, t, question)
+        match question {
+            Question::OfType { t, question } => answer_on(&dictionary, *t, *question),
+        }
     }
 }

@@ -1,5 +1,4 @@
 pub mod Asking
-pub mod Shown
 pub mod Separated
 pub mod NameText
 pub mod Short

@@ -1,12 +1,16 @@
 -- How long the parts of a line are, and which lines are short.
-use Rattle.std.proofs.Common.{◌≡◌, ℕ, ◌+◌, ◌<◌, ◌≤◌, ◌^◌, Bool, true, false, eqb, leb, List, [], ◌∷◌, length, length-append, codes, decimal, refl, ap, arith, lit<, lit≤}
+use Rattle.std.proofs.Common.{◌≡◌, ℕ, ◌+◌, ◌<◌, ◌≤◌, ◌^◌, Bool, true, false, eqb, leb, List, [], ◌∷◌, ◌++◌, map, Option, Some, None, length, length-append, codes, decimal, refl, ap, arith, lit<, lit≤}
 use Rattle.std.specs.Prelude.{◌&&◌, if◌then◌else◌}
 use Rattle.std.specs.List.{list_all, concat}
 use Rattle.std.proofs.lemmas.Bool.{leb-true, le-leb, lt-leb}
 use Rattle.std.proofs.lemmas.Fmt.{length-decimal-le}
+use Rattle.ctf_model.specs.Answers.{Field, says}
 use Rattle.ctf_model.specs.Answers as answers
+use Rattle.ctf_answers.specs.Counts.{count_said, counts_said}
+use Rattle.ctf_answers.specs.declared.count.Count.{Count}
+use Rattle.ctf_answers.specs.declared.counts.Counts.{Counts}
 use Rattle.ctf_model.specs.FaultNames.{fault_names, name_beside, name_of_fault}
-use Rattle.ctf_model.specs.ReplyLines.{answer_line, ends_for, fault_line, fitting_line}
+use Rattle.ctf_model.specs.ReplyLines.{after_commas, separated, key_text, quoted, field_text, object_line, answer_line, fault_fields, fault_line, fitting_line}
 use Rattle.ctf_model.specs.declared.faults.Fault.{Fault}
 use Rattle.ctf_model.specs.declared.faults.TheConstants.Fault.{LONG_REPLY}
 
@@ -44,30 +48,63 @@ length-concat : (xs : List (List ℕ)) → length (concat xs) ≡ total xs
 length-concat [] = refl
 length-concat (x ∷ xs) = let all = length-append x (concat xs) in let rest = length-concat xs in omega (arith, all, rest)
 
--- a change's line
-pub done_short : (s : ℕ) → s < 2 ^ 32 → length (answer_line s answers.done) ≤ 96
-done_short s h = let a = decimal_32 s h in let all = length-concat (codes "{\"ok\":{" ∷ ends_for s) in omega (arith, a, all)
+total_after : (texts : List (List ℕ)) → length (after_commas texts) ≡ total texts + length texts
+total_after [] = refl
+total_after (x ∷ xs) = let all = length-append x (after_commas xs) in let rest = total_after xs in omega (arith, all, rest)
 
-pub staged_short : (s n : ℕ) → s < 2 ^ 32 → n < 2 ^ 64 → length (answer_line s (answers.staged n)) ≤ 96
-staged_short s n h k = let a = decimal_32 s h in let b = decimal_64 n k in let all = length-concat (codes "{\"ok\":{\"length\":" ∷ decimal n ∷ ends_for s) in omega (arith, a, b, all)
+total-separated : (texts : List (List ℕ)) → length (separated texts) ≤ total texts + length texts
+total-separated [] = lit≤ tt
+total-separated (x ∷ xs) = let all = length-append x (after_commas xs) in let rest = total_after xs in omega (arith, all, rest)
 
-pub opened_short : (s d types : ℕ) → s < 2 ^ 32 → d < 2 ^ 32 → types < 2 ^ 64 → length (answer_line s (answers.opened d types)) ≤ 96
-opened_short s d types h i k =
+-- the line of an object
+length-object : (under : List ℕ) (s : ℕ) (fields : List Field) → s < 2 ^ 32 → length (object_line under s fields) ≤ length under + 23 + (total (map field_text fields) + length (map field_text fields))
+length-object under s fields h =
     let a = decimal_32 s h in
-    let b = decimal_32 d i in
-    let e = decimal_64 types k in
-    let all = length-concat (codes "{\"ok\":{\"d\":" ∷ decimal d ∷ codes ",\"types\":" ∷ decimal types ∷ ends_for s) in
-    omega (arith, a, b, e, all)
+    let b = total-separated (map field_text fields) in
+    let all = length-concat (codes "{\"" ∷ under ∷ codes "\":{" ∷ separated (map field_text fields) ∷ codes "},\"s\":" ∷ decimal s ∷ codes "}\n" ∷ []) in
+    omega (arith, a, b, all)
+
+-- a field of a number
+length-number : (key : List ℕ) (n : ℕ) → n < 2 ^ 64 → length (field_text (says key (answers.number n))) ≤ length key + 23
+length-number key n h =
+    let a = decimal_64 n h in
+    let all = length-append (key_text key) (decimal n) in
+    let front = length-concat (codes "\"" ∷ key ∷ codes "\":" ∷ []) in
+    omega (arith, a, all, front)
+
+-- and of a word
+length-word : (key w : List ℕ) → length (field_text (says key (answers.word w))) ≤ length key + 5 + length w
+length-word key w =
+    let all = length-append (key_text key) (quoted w) in
+    let front = length-concat (codes "\"" ∷ key ∷ codes "\":" ∷ []) in
+    let back = length-concat (codes "\"" ∷ w ∷ codes "\"" ∷ []) in
+    omega (arith, all, front, back)
+
+-- a field of a change's answer
+length-count : (a : Count) → length (field_text (says a.key.now (answers.number a.number))) ≤ 29
+length-count a = let one = length-number a.key.now a.number a.fits in let short = a.short in omega (arith, one, short)
+
+-- and all of them
+counts_total : (a b : Option Count) → total (map field_text (count_said a ++ count_said b)) + length (map field_text (count_said a ++ count_said b)) ≤ 60
+counts_total None None = lit≤ tt
+counts_total None (Some b) = let one = length-count b in omega (arith, one)
+counts_total (Some a) None = let one = length-count a in omega (arith, one)
+counts_total (Some a) (Some b) = let one = length-count a in let other = length-count b in omega (arith, one, other)
 
 -- a refusal's line
 pub fault_short : (s : ℕ) (f : Fault) → s < 2 ^ 32 → f.code < 2 ^ 16 → f.place < 2 ^ 64 → length (fault_line s f) ≤ 96
 fault_short s f h i k =
-    let a = decimal_32 s h in
-    let b = decimal_16 f.code i in
-    let e = decimal_64 f.place k in
     let name = fault_name_short f.code in
-    let all = length-concat (codes "{\"fault\":{\"code\":" ∷ decimal f.code ∷ codes ",\"name\":\"" ∷ name_of_fault f.code ∷ codes "\",\"place\":" ∷ decimal f.place ∷ ends_for s) in
-    omega (arith, a, b, e, name, all)
+    let a = decimal_16 f.code i in
+    let e = decimal_64 f.place k in
+    let g = decimal_32 s h in
+    let code = length-append (key_text (codes "code")) (decimal f.code) in
+    let word = length-append (key_text (codes "name")) (quoted (name_of_fault f.code)) in
+    let in_quotes = length-concat (codes "\"" ∷ name_of_fault f.code ∷ codes "\"" ∷ []) in
+    let place = length-append (key_text (codes "place")) (decimal f.place) in
+    let fields = total-separated (map field_text (fault_fields f)) in
+    let all = length-concat (codes "{\"" ∷ codes "fault" ∷ codes "\":{" ∷ separated (map field_text (fault_fields f)) ∷ codes "},\"s\":" ∷ decimal s ∷ codes "}\n" ∷ []) in
+    omega (arith, a, e, g, name, code, word, in_quotes, place, fields, all)
 
 -- a line that fits stands as it is
 pub fitting_fits : (s : ℕ) (line : List ℕ) → length line ≤ 4194305 → fitting_line s line ≡ line
@@ -81,3 +118,10 @@ fitting_long s line h = rw (lt-leb (length line) 4194305 h) refl
 
 pub fitting_short : (s : ℕ) (line : List ℕ) → length line ≤ 96 → length (fitting_line s line) ≤ 96
 fitting_short s line h = let same = ap length (fitting_fits s line (omega (arith, h))) in omega (arith, same, h)
+
+-- a change's line
+pub counts_short : (s : ℕ) (c : Counts) → s < 2 ^ 32 → length (fitting_line s (answer_line s (counts_said c))) ≤ 96
+counts_short s c h =
+    let line = length-object (codes "ok") s (counts_said c) h in
+    let fields = counts_total c.first c.second in
+    fitting_short s (answer_line s (counts_said c)) (omega (arith, line, fields))

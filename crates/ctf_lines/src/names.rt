@@ -1,6 +1,6 @@
 //! Names in a line: their bytes are escaped where they aren't plain.
 ghost use Rattle.std.specs.Prelude.{◌≡◌, ◌+◌, ◌≤◌, ◌<◌, ◌++◌, length, min, vec_len, vec_capacity};
-ghost use Rattle.ctf_model.specs.Text.{is_plain as is_plain_byte, hex_digit as digit_of, text_of_byte, text_of};
+ghost use Rattle.ctf_model.specs.Text.{is_plain as is_plain_byte, hex_digit as digit_of, text_of_byte, text_of, hex_of_byte, hex_of};
 
 use crate::texts::{TOO_LONG, plus, put};
 
@@ -68,4 +68,35 @@ pub fn put_name(out: &mut Vec<u8>, name: &[u8])
     for byte in name {
         put_byte(out, *byte);
     }
+}
+
+/// A length and the digits of bytes.
+#[tactic(auto, using(crate::proofs::NameText::hex_of_twice))]
+pub fn plus_hex(len: usize, bytes: &[u8]) -> usize
+    ensures { result ≡ min (len + length (hex_of bytes.now)) TOO_LONG }
+{
+    plus(plus(len, bytes.len()), bytes.len())
+}
+
+/// Appends the digits of bytes where there is room.
+pub fn put_hex(out: &mut Vec<u8>, bytes: &[u8])
+    requires { vec_len out.old + length (hex_of bytes.now) ≤ vec_capacity out.old }
+    ensures items { out.new.items ≡ out.old.items ++ hex_of bytes.now }
+    ensures len { vec_len out.new ≡ vec_len out.old + length (hex_of bytes.now) }
+    ensures capacity { vec_capacity out.new ≡ vec_capacity out.old }
+{
+    for byte in bytes {
+        put_digits(out, *byte);
+    }
+}
+
+/// Appends the two digits of a byte where there is room.
+fn put_digits(out: &mut Vec<u8>, byte: u8)
+    requires { vec_len out.old + 2 ≤ vec_capacity out.old }
+    ensures items { out.new.items ≡ out.old.items ++ hex_of_byte byte }
+    ensures len { vec_len out.new ≡ vec_len out.old + 2 }
+    ensures capacity { vec_capacity out.new ≡ vec_capacity out.old }
+{
+    out.push_reserved(hex_digit(byte / 16));
+    out.push_reserved(hex_digit(byte % 16));
 }

@@ -3,7 +3,7 @@ ghost use Rattle.std.specs.Prelude.{◌≡◌, ◌+◌, ◌≤◌, ◌++◌, len
 ghost use Rattle.ctf_model.specs.ReplyLines.{reply_line};
 ghost use Rattle.ctf_model.specs.Runs.{no_memory};
 
-use crate::parts::SHORT_LINE;
+use crate::writing::SHORT_LINE;
 use itoa::Buffer;
 
 /// Writes a text over the bytes from a place on, and answers where it ends.

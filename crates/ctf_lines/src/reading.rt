@@ -1,13 +1,14 @@
 //! Reads the request of a line.
 ghost use Rattle.std.specs.Prelude.{◌≡◌, ◌≢◌, ◌≤◌, IfSome, Option, None, Some, IfOk, IfErr, Ok, Err, codes, option_map};
 ghost use Rattle.serde_json.specs.View.{view};
-ghost use Rattle.ctf_model.specs.Ask.{ask, placeless, number_in, text_in, list_named, bytes_spelled, not_too_many, slot_asked, type_asked, about_type, from_asked, count_asked, window_asked, about_items, part_asked, request_asked, value_asked};
+ghost use Rattle.ctf_model.specs.Ask.{ask, placeless, number_in, text_in, list_named, bytes_spelled, not_too_many, slot_asked, type_asked, about_type as type_question_asked, from_asked, count_asked, window_asked, part_asked, word_asked, asked_with, request_asked, value_asked};
 ghost use Rattle.ctf_model.specs.declared.faults.TheConstants.Fault.{MEMORY};
-ghost use Rattle.ctf_model.specs.declared.requests.Request.TheVariants.{DoKind as kind, DoRecord as record_of, DoMembers as members, DoEnumerators as enumerators, DoArgs as args, DoArray as array, DoEncoding as encoding};
+ghost use Rattle.ctf_model.specs.declared.questions.TypeQuestion.TheVariants as about;
 
 use crate::lines::FromLine;
 use ctf_model::{
-    Fault, LONGEST_PIECE, ListName, Piece, Request, SlotNumber, TypeNum, Window, placeless,
+    Change, Fault, LONGEST_PIECE, ListName, Piece, Question, Request, SlotNumber, TypeNum,
+    TypeQuestion, Window, Word, placeless,
 };
 use hex::FromHexError;
 use serde_json::Value;
@@ -78,22 +79,36 @@ fn text<'a>(value: &'a Value, key: &str) -> Option<&'a str>
 fn read_request(alloc: Global, value: &Value) -> Result<Option<Request>, AllocError>
     ensures { IfOk result (λ request. request ≡ request_asked (view value.now)) }
 {
-    let Some(word) = text(value, "op") else {
+    let Some(word) = word(value) else {
         return Ok(None);
     };
+    read_word(alloc, value, word)
+}
+
+/// The word of a line.
+fn word(value: &Value) -> Option<Word>
+    ensures { result ≡ word_asked (view value.now) }
+{
+    Word::named(text(value, "op")?)
+}
+
+/// What a word asks, with its fields.
+fn read_word(alloc: Global, value: &Value, word: Word) -> Result<Option<Request>, AllocError>
+    ensures { IfOk result (λ request. request ≡ asked_with (view value.now) word) }
+{
     match word {
-        "part" => read_part(alloc, value),
-        "check" => Ok(Some(Request::DoCheck)),
-        "open" => Ok(Some(Request::DoOpen)),
-        "reset" => Ok(Some(Request::DoReset)),
-        "kind" => Ok(read_kind(value)),
-        "record" => Ok(read_record(value)),
-        "members" => Ok(read_members(value)),
-        "enumerators" => Ok(read_enumerators(value)),
-        "args" => Ok(read_args(value)),
-        "array" => Ok(read_array(value)),
-        "encoding" => Ok(read_encoding(value)),
-        _ => Ok(None),
+        Word::DoPart => read_part(alloc, value),
+        Word::DoCheck => Ok(Some(Request::Changes(Change::Check))),
+        Word::DoOpen => Ok(Some(Request::Changes(Change::Open))),
+        Word::DoReset => Ok(Some(Request::Changes(Change::Reset))),
+        Word::DoKind => Ok(about_type(value, Some(TypeQuestion::Kind))),
+        Word::DoRecord => Ok(about_type(value, Some(TypeQuestion::Record))),
+        Word::DoMembers => Ok(about_type(value, members(value))),
+        Word::DoEnumerators => Ok(about_type(value, enumerators(value))),
+        Word::DoArgs => Ok(about_type(value, Some(TypeQuestion::Args))),
+        Word::DoArray => Ok(about_type(value, Some(TypeQuestion::Array))),
+        Word::DoEncoding => Ok(about_type(value, Some(TypeQuestion::Encoding))),
+        Word::DoReference => Ok(about_type(value, Some(TypeQuestion::Reference))),
     }
 }
 
@@ -139,62 +154,29 @@ fn window(value: &Value) -> Option<Window>
     Some(Window { from, count })
 }
 
-fn read_kind(value: &Value) -> Option<Request>
-    ensures { result ≡ about_type (λ d t. kind d t) (view value.now) }
+fn members(value: &Value) -> Option<TypeQuestion>
+    ensures { result ≡ option_map (λ window. about.Members window) (window_asked (view value.now)) }
 {
-    let d = slot(value)?;
-    let t = type_number(value)?;
-    Some(Request::DoKind { d, t })
+    Some(TypeQuestion::Members(window(value)?))
 }
 
-fn read_record(value: &Value) -> Option<Request>
-    ensures { result ≡ about_type (λ d t. record_of d t) (view value.now) }
+fn enumerators(value: &Value) -> Option<TypeQuestion>
+    ensures { result ≡ option_map (λ window. about.Enumerators window) (window_asked (view value.now)) }
 {
-    let d = slot(value)?;
-    let t = type_number(value)?;
-    Some(Request::DoRecord { d, t })
+    Some(TypeQuestion::Enumerators(window(value)?))
 }
 
-fn read_members(value: &Value) -> Option<Request>
-    ensures { result ≡ about_items (λ d t window. members d t window) (view value.now) }
+/// A question on a type of a slot, where its own fields are good.
+fn about_type(value: &Value, question: Option<TypeQuestion>) -> Option<Request>
+    ensures { result ≡ type_question_asked question (view value.now) }
 {
-    let window = window(value)?;
+    let question = question?;
     let d = slot(value)?;
     let t = type_number(value)?;
-    Some(Request::DoMembers { d, t, window })
-}
-
-fn read_enumerators(value: &Value) -> Option<Request>
-    ensures { result ≡ about_items (λ d t window. enumerators d t window) (view value.now) }
-{
-    let window = window(value)?;
-    let d = slot(value)?;
-    let t = type_number(value)?;
-    Some(Request::DoEnumerators { d, t, window })
-}
-
-fn read_args(value: &Value) -> Option<Request>
-    ensures { result ≡ about_type (λ d t. args d t) (view value.now) }
-{
-    let d = slot(value)?;
-    let t = type_number(value)?;
-    Some(Request::DoArgs { d, t })
-}
-
-fn read_array(value: &Value) -> Option<Request>
-    ensures { result ≡ about_type (λ d t. array d t) (view value.now) }
-{
-    let d = slot(value)?;
-    let t = type_number(value)?;
-    Some(Request::DoArray { d, t })
-}
-
-fn read_encoding(value: &Value) -> Option<Request>
-    ensures { result ≡ about_type (λ d t. encoding d t) (view value.now) }
-{
-    let d = slot(value)?;
-    let t = type_number(value)?;
-    Some(Request::DoEncoding { d, t })
+    Some(Request::Asks {
+        d,
+        question: Question::OfType { t, question },
+    })
 }
 
 fn list(name: &str) -> Option<ListName>
@@ -231,7 +213,7 @@ fn read_part(alloc: Global, value: &Value) -> Result<Option<Request>, AllocError
         return Ok(None);
     };
     match piece(alloc, digits)? {
-        Some(bytes) => Ok(Some(Request::DoPart { section, bytes })),
+        Some(bytes) => Ok(Some(Request::Changes(Change::Part { section, bytes }))),
         None => Ok(None),
     }
 }

@@ -1,20 +1,72 @@
 //! Writes the line of a reply.
-ghost use Rattle.std.specs.Prelude.{◌≡◌, ◌+◌, ◌≤◌, ◌++◌, length, vec_len, vec_capacity, OnOk, OnErr, IsOk, Ok, Err};
-ghost use Rattle.std.specs.List.{flat_map};
-ghost use Rattle.ctf_model.specs.ReplyLines.{answer_line, fault_line, fitting_line, reply_line};
-ghost use Rattle.ctf_lines.specs.Parts.{part_text};
-ghost use Rattle.ctf_library.specs.Seen.{change_seen, reply_seen, said_to, seen};
+ghost use Rattle.std.specs.Prelude.{◌≡◌, ◌+◌, ◌≤◌, ◌++◌, length, min, vec_len, vec_capacity, codes, OnOk, OnErr, IsOk, Ok, Err};
+ghost use Rattle.ctf_model.specs.ReplyLines.{answer_line, fault_fields, fault_line, fitting_line, object_line, reply_line};
+ghost use Rattle.ctf_answers.specs.Counts.{counts_said};
+ghost use Rattle.ctf_answers.specs.Replies.{reply_of, said_to};
 
-use crate::answer_parts::{
-    arguments_parts, array_parts, done_parts, encoding_parts, enumerators_parts, fault_parts,
-    head_parts, kind_parts, members_parts, opened_parts, staged_parts,
-};
 use crate::lines::ToLine;
-use crate::parts::{Part, SHORT_LINE, line_len, put_line, put_short_line};
-use crate::texts::LONGEST_REPLY;
-use ctf_library::{Answer, Change, Reply};
-use ctf_model::{Fault, placeless};
+use crate::series::{plus_series, put_series};
+use crate::texts::{LONGEST_REPLY, TOO_LONG, number_len, plus, put, put_number};
+use ctf_answers::{Answer, Counts, Reply, Single};
+use ctf_model::{Fault, fault_name, placeless};
 use std::alloc::AllocError;
+
+/// The greatest length of the line of a refusal, or of a reply to a change.
+pub const SHORT_LINE: usize = 96;
+
+/// The length of the line of an object, newline included; `TOO_LONG` for any that is longer than a
+/// reply's may be.
+fn object_len(under: &str, session: u32, fields: &Answer<'_>) -> usize
+    ensures { result ≡ min (length (object_line under.now session fields.now)) TOO_LONG }
+{
+    let len = plus(plus(5, under.len()), number_len(u64::from(session)));
+    plus_series(plus(len, 8), fields)
+}
+
+/// Appends the line of an object where there is room.
+fn put_object(out: &mut Vec<u8>, under: &str, session: u32, fields: &Answer<'_>)
+    requires { vec_len out.old + length (object_line under.now session fields.now) ≤ vec_capacity out.old }
+    ensures items { out.new.items ≡ out.old.items ++ object_line under.now session fields.now }
+    ensures capacity { vec_capacity out.new ≡ vec_capacity out.old }
+{
+    put(out, b"{\"");
+    put(out, under.as_bytes());
+    put(out, b"\":{");
+    put_series(out, fields);
+    put(out, b"},\"s\":");
+    put_number(out, u64::from(session));
+    put(out, b"}\n");
+}
+
+/// Appends the line of an object that has a length, or nothing where memory is refused.
+fn write_object(
+    out: &mut Vec<u8>,
+    len: usize,
+    under: &str,
+    session: u32,
+    fields: &Answer<'_>,
+) -> Result<(), AllocError>
+    requires { len ≡ length (object_line under.now session fields.now) }
+    ensures ok { OnOk result (out.new.items ≡ out.old.items ++ object_line under.now session fields.now) }
+    ensures err { OnErr result ((out.new.items ≡ out.old.items) × (vec_len out.new ≡ vec_len out.old)) }
+    ensures capacity { vec_capacity out.old ≤ vec_capacity out.new }
+    // Where there is room no memory is taken.
+    ensures room { vec_len out.old + length (object_line under.now session fields.now) ≤ vec_capacity out.old → IsOk result × (vec_capacity out.new ≡ vec_capacity out.old) }
+{
+    out.reserve_exact(len)?;
+    put_object(out, under, session, fields);
+    Ok(())
+}
+
+/// The fields of a refusal.
+fn fault_answer<'a>(fault: Fault) -> Answer<'a>
+    ensures { result ≡ fault_fields fault }
+{
+    Answer::done()
+        .with("code", Single::Number(u64::from(fault.code)))
+        .with("name", Single::Word(fault_name(fault.code)))
+        .with("place", Single::Number(fault.place))
+}
 
 /// Appends a refusal.
 #[tactic(auto, using(crate::proofs::Short::fault_short))]
@@ -25,77 +77,43 @@ fn write_fault(out: &mut Vec<u8>, session: u32, fault: Fault) -> Result<(), Allo
     ensures room { vec_len out.old + length (fault_line session fault) ≤ vec_capacity out.old → IsOk result × (vec_capacity out.new ≡ vec_capacity out.old) }
     ensures short { length (fault_line session fault) ≤ SHORT_LINE }
 {
-    put_short_line(out, &fault_parts(session, fault))
+    let fields = fault_answer(fault);
+    let len = object_len("fault", session, &fields);
+    write_object(out, len, "fault", session, &fields)
 }
 
-/// Appends a line, or the refusal of one that is too long.
+/// Appends an answer, or the refusal of one that is too long.
 #[tactic(auto, using(crate::proofs::Short::fitting_fits, crate::proofs::Short::fitting_long))]
-fn write_fitting(out: &mut Vec<u8>, session: u32, parts: &[Part<'_>]) -> Result<(), AllocError>
-    ensures ok { OnOk result (out.new.items ≡ out.old.items ++ fitting_line session (flat_map part_text parts.now)) }
+fn write_answer(out: &mut Vec<u8>, session: u32, answer: &Answer<'_>) -> Result<(), AllocError>
+    ensures ok { OnOk result (out.new.items ≡ out.old.items ++ fitting_line session (answer_line session answer.now)) }
     ensures err { OnErr result ((out.new.items ≡ out.old.items) × (vec_len out.new ≡ vec_len out.old)) }
     ensures capacity { vec_capacity out.old ≤ vec_capacity out.new }
-    ensures room { vec_len out.old + length (fitting_line session (flat_map part_text parts.now)) ≤ vec_capacity out.old → IsOk result × (vec_capacity out.new ≡ vec_capacity out.old) }
+    ensures room { vec_len out.old + length (fitting_line session (answer_line session answer.now)) ≤ vec_capacity out.old → IsOk result × (vec_capacity out.new ≡ vec_capacity out.old) }
 {
-    let len = line_len(parts);
+    let len = object_len("ok", session, answer);
     if len <= LONGEST_REPLY + 1 {
-        put_line(out, len, parts)
+        write_object(out, len, "ok", session, answer)
     } else {
         write_fault(out, session, placeless(Fault::LONG_REPLY))
     }
 }
 
-#[tactic(auto, using(crate::proofs::Short::fitting_short, crate::proofs::Short::done_short, crate::proofs::Short::staged_short, crate::proofs::Short::opened_short))]
-fn write_granted(out: &mut Vec<u8>, session: u32, change: Change) -> Result<(), AllocError>
-    ensures ok { OnOk result (out.new.items ≡ out.old.items ++ fitting_line session (answer_line session (change_seen change))) }
+#[tactic(auto, using(crate::proofs::Short::counts_short))]
+fn write_counts(out: &mut Vec<u8>, session: u32, counts: Counts) -> Result<(), AllocError>
+    ensures ok { OnOk result (out.new.items ≡ out.old.items ++ fitting_line session (answer_line session (counts_said counts))) }
     ensures err { OnErr result ((out.new.items ≡ out.old.items) × (vec_len out.new ≡ vec_len out.old)) }
     ensures capacity { vec_capacity out.old ≤ vec_capacity out.new }
-    ensures room { vec_len out.old + length (fitting_line session (answer_line session (change_seen change))) ≤ vec_capacity out.old → IsOk result × (vec_capacity out.new ≡ vec_capacity out.old) }
-    ensures short { length (fitting_line session (answer_line session (change_seen change))) ≤ SHORT_LINE }
+    ensures room { vec_len out.old + length (fitting_line session (answer_line session (counts_said counts))) ≤ vec_capacity out.old → IsOk result × (vec_capacity out.new ≡ vec_capacity out.old) }
+    ensures short { length (fitting_line session (answer_line session (counts_said counts))) ≤ SHORT_LINE }
 {
-    match change {
-        Change::Done => write_fitting(out, session, &done_parts(session)),
-        Change::Staged(staged) => write_fitting(out, session, &staged_parts(session, staged)),
-        Change::Opened { d, types } => {
-            write_fitting(out, session, &opened_parts(session, d, types))
-        }
-    }
+    write_answer(out, session, &counts.answer())
 }
 
-fn write_answer(out: &mut Vec<u8>, session: u32, answer: &Answer<'_>) -> Result<(), AllocError>
-    ensures ok { OnOk result (out.new.items ≡ out.old.items ++ fitting_line session (answer_line session (seen answer.now))) }
-    ensures err { OnErr result ((out.new.items ≡ out.old.items) × (vec_len out.new ≡ vec_len out.old)) }
-    ensures capacity { vec_capacity out.old ≤ vec_capacity out.new }
-    ensures room { vec_len out.old + length (fitting_line session (answer_line session (seen answer.now))) ≤ vec_capacity out.old → IsOk result × (vec_capacity out.new ≡ vec_capacity out.old) }
-{
-    match answer {
-        Answer::Changed(change) => write_granted(out, session, *change),
-        Answer::Kind(kind) => write_fitting(out, session, &kind_parts(session, *kind)),
-        Answer::Head(head) => write_fitting(out, session, &head_parts(session, *head)),
-        Answer::Members { members, window } => {
-            write_fitting(out, session, &members_parts(session, members, *window))
-        }
-        Answer::Enumerators {
-            enumerators,
-            window,
-        } => write_fitting(
-            out,
-            session,
-            &enumerators_parts(session, enumerators, *window),
-        ),
-        Answer::Arguments { args, ret } => {
-            write_fitting(out, session, &arguments_parts(session, args, *ret))
-        }
-        Answer::Array(info) => write_fitting(out, session, &array_parts(session, *info)),
-        Answer::Encoding(info) => write_fitting(out, session, &encoding_parts(session, *info)),
-    }
-}
-
-/// Appends the line of a reply that lends nothing; where there is room for a short line, no memory is
-/// taken.
+/// Appends the line of a reply to a change; where there is room for a short line, no memory is taken.
 pub fn write_change(
     out: &mut Vec<u8>,
     session: u32,
-    outcome: Result<Change, Fault>,
+    outcome: Result<Counts, Fault>,
 ) -> Result<(), AllocError>
     ensures ok { OnOk result (out.new.items ≡ out.old.items ++ reply_line (said_to session outcome)) }
     ensures err { OnErr result ((out.new.items ≡ out.old.items) × (vec_len out.new ≡ vec_len out.old)) }
@@ -104,17 +122,17 @@ pub fn write_change(
     ensures short { length (reply_line (said_to session outcome)) ≤ SHORT_LINE }
 {
     match outcome {
-        Ok(change) => write_granted(out, session, change),
+        Ok(counts) => write_counts(out, session, counts),
         Err(fault) => write_fault(out, session, fault),
     }
 }
 
 /// Appends the line of a reply, straight from what it lends; where there is room, no memory is taken.
 pub fn write_reply(out: &mut Vec<u8>, reply: &Reply<'_>) -> Result<(), AllocError>
-    ensures ok { OnOk result (out.new.items ≡ out.old.items ++ reply_line (reply_seen reply.now)) }
+    ensures ok { OnOk result (out.new.items ≡ out.old.items ++ reply_line (reply_of reply.now)) }
     ensures err { OnErr result ((out.new.items ≡ out.old.items) × (vec_len out.new ≡ vec_len out.old)) }
     ensures capacity { vec_capacity out.old ≤ vec_capacity out.new }
-    ensures room { vec_len out.old + length (reply_line (reply_seen reply.now)) ≤ vec_capacity out.old → IsOk result × (vec_capacity out.new ≡ vec_capacity out.old) }
+    ensures room { vec_len out.old + length (reply_line (reply_of reply.now)) ≤ vec_capacity out.old → IsOk result × (vec_capacity out.new ≡ vec_capacity out.old) }
 {
     match &reply.outcome {
         Ok(answer) => write_answer(out, reply.session, answer),
@@ -123,7 +141,7 @@ pub fn write_reply(out: &mut Vec<u8>, reply: &Reply<'_>) -> Result<(), AllocErro
 }
 
 impl<'a> ToLine for Reply<'a> {
-    ghost line = { λ reply. reply_line (reply_seen reply) };
+    ghost line = { λ reply. reply_line (reply_of reply) };
 
     fn write(&self, out: &mut Vec<u8>) -> Result<(), AllocError> {
         write_reply(out, self)

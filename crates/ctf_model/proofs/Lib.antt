@@ -14,3 +14,4 @@ pub mod ReferenceRules
 pub mod Spelled
 pub mod Unique
 pub mod Walk
+pub mod KeyOrder

@@ -16,12 +16,15 @@ use Rattle.ctf_model.specs.declared.numbers.TypeNum.{TypeNum}
 use Rattle.ctf_model.specs.declared.requests.ListName.{ListName}
 use Rattle.ctf_model.specs.declared.requests.ListName.TheVariants.{Ctf, Str}
 use Rattle.ctf_model.specs.declared.requests.Request.{Request}
-use Rattle.ctf_model.specs.declared.requests.Request.TheVariants.{DoPart, DoCheck, DoOpen, DoReset, DoKind, DoRecord, DoMembers, DoEnumerators, DoArgs, DoArray, DoEncoding}
-use Rattle.ctf_model.specs.declared.requests.Window.{Window}
-
--- two texts are the same
-abbrev pub is_word : List ℕ → List ℕ → Bool
-is_word w v = pointwise nat_eq w v
+use Rattle.ctf_model.specs.declared.requests.Request.TheVariants.{Changes, Asks}
+use Rattle.ctf_model.specs.declared.requests.Change.TheVariants as change
+use Rattle.ctf_model.specs.declared.questions.Question.TheVariants.{OfType}
+use Rattle.ctf_model.specs.declared.questions.TypeQuestion.{TypeQuestion}
+use Rattle.ctf_model.specs.declared.questions.TypeQuestion.TheVariants as about
+use Rattle.ctf_model.specs.declared.words.Word.{Word}
+use Rattle.ctf_model.specs.declared.words.Word.TheVariants.{DoPart, DoCheck, DoOpen, DoReset, DoKind, DoRecord, DoMembers, DoEnumerators, DoArgs, DoArray, DoEncoding, DoReference}
+use Rattle.ctf_model.specs.Words.{words, word_named, is_text}
+use Rattle.ctf_model.specs.declared.questions.Window.{Window}
 
 -- ---- fields
 
@@ -46,7 +49,7 @@ abbrev pub bytes_spelled : List ℕ → Option (List ℕ)
 bytes_spelled digits = option_and_then not_too_many (result_ok (decode_of digits))
 
 abbrev pub list_named : List ℕ → Option ListName
-list_named w = if is_word w (codes "ctf") then Some Ctf else if is_word w (codes "str") then Some Str else None
+list_named w = if is_text w (codes "ctf") then Some Ctf else if is_text w (codes "str") then Some Str else None
 
 -- ---- words, each with its fields
 
@@ -56,9 +59,10 @@ slot_asked line = number_in 1 4294967295 (codes "d") line
 abbrev pub type_asked : Data → Option TypeNum
 type_asked line = option_map (λ t. record { 0 = t }) (number_in 0 65535 (codes "t") line)
 
--- a question on a type of a slot
-abbrev pub about_type : (ℕ → TypeNum → Request) → Data → Option Request
-about_type make line = option_and_then (λ d. option_map (λ t. make d t) (type_asked line)) (slot_asked line)
+-- a question on a type of a slot, where its own fields are good
+abbrev pub about_type : Option TypeQuestion → Data → Option Request
+about_type question line =
+    option_and_then (λ q. option_and_then (λ d. option_map (λ t. Asks d (OfType t q)) (type_asked line)) (slot_asked line)) question
 
 -- the first item that is wanted, 0 where that isn't said
 abbrev pub from_asked : Data → Option ℕ
@@ -71,30 +75,30 @@ count_asked line = if is_none (get (codes "count") line) then Some None else opt
 abbrev pub window_asked : Data → Option Window
 window_asked line = option_and_then (λ from. option_map (λ count. record { from = from; count = count }) (count_asked line)) (from_asked line)
 
--- a question on the items of a type of a slot
-abbrev pub about_items : (ℕ → TypeNum → Window → Request) → Data → Option Request
-about_items make line = option_and_then (λ window. about_type (λ d t. make d t window) line) (window_asked line)
-
 abbrev pub part_asked : Data → Option Request
-part_asked line = option_and_then (λ list. option_map (λ bytes. DoPart list bytes) (option_and_then bytes_spelled (text_in (codes "bytes") line))) (option_and_then list_named (text_in (codes "section") line))
+part_asked line = option_and_then (λ list. option_map (λ bytes. Changes (change.Part list bytes)) (option_and_then bytes_spelled (text_in (codes "bytes") line))) (option_and_then list_named (text_in (codes "section") line))
 
-abbrev pub word_asked : List ℕ → Data → Option Request
-word_asked w line =
-    if is_word w (codes "part") then part_asked line
-    else if is_word w (codes "check") then Some DoCheck
-    else if is_word w (codes "open") then Some DoOpen
-    else if is_word w (codes "reset") then Some DoReset
-    else if is_word w (codes "kind") then about_type (λ d t. DoKind d t) line
-    else if is_word w (codes "record") then about_type (λ d t. DoRecord d t) line
-    else if is_word w (codes "members") then about_items (λ d t window. DoMembers d t window) line
-    else if is_word w (codes "enumerators") then about_items (λ d t window. DoEnumerators d t window) line
-    else if is_word w (codes "args") then about_type (λ d t. DoArgs d t) line
-    else if is_word w (codes "array") then about_type (λ d t. DoArray d t) line
-    else if is_word w (codes "encoding") then about_type (λ d t. DoEncoding d t) line
-    else None
+-- what a word asks, with its fields
+abbrev pub asked_with : Data → Word → Option Request
+asked_with line DoPart = part_asked line
+asked_with line DoCheck = Some (Changes change.Check)
+asked_with line DoOpen = Some (Changes change.Open)
+asked_with line DoReset = Some (Changes change.Reset)
+asked_with line DoKind = about_type (Some about.Kind) line
+asked_with line DoRecord = about_type (Some about.Record) line
+asked_with line DoMembers = about_type (option_map (λ window. about.Members window) (window_asked line)) line
+asked_with line DoEnumerators = about_type (option_map (λ window. about.Enumerators window) (window_asked line)) line
+asked_with line DoArgs = about_type (Some about.Args) line
+asked_with line DoArray = about_type (Some about.Array) line
+asked_with line DoEncoding = about_type (Some about.Encoding) line
+asked_with line DoReference = about_type (Some about.Reference) line
+
+-- the word of a line
+abbrev pub word_asked : Data → Option Word
+word_asked line = option_and_then (λ w. word_named w words) (text_in (codes "op") line)
 
 abbrev pub request_asked : Data → Option Request
-request_asked line = option_and_then (λ w. word_asked w line) (text_in (codes "op") line)
+request_asked line = option_and_then (asked_with line) (word_asked line)
 
 -- ---- lines
 

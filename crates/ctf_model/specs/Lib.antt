@@ -16,6 +16,9 @@ pub mod Needs
 pub mod TypeNumbers
 pub mod State
 pub mod Answers
+pub mod Shown
+pub mod KindNames
+pub mod Words
 pub mod Questions
 pub mod Text
 pub mod Steps
@@ -28,3 +31,4 @@ pub mod Output
 pub mod Rows
 pub mod KindRows
 pub mod QuestionRows
+pub mod KeyOrder

@@ -1,73 +1,31 @@
 -- What a question on a type is answered. Source: libctf(3LIB), ctf_type_kind, ctf_member_iter, ctf_enum_iter, ctf_func_args, ctf_array_info, ctf_type_encoding; the form of answers is ours.
-use Rattle.std.specs.Prelude.{ℕ, ◌-◌, ◌&&◌, ◌==◌, nat_lt, Bool, List, length, take, drop, slice_index, Option, Some, None, Result, Ok, Err, if◌then◌else◌}
-use Rattle.ctf_model.specs.Answers.{Answer, Detail}
-use Rattle.ctf_model.specs.Answers as answers
-use Rattle.ctf_model.specs.Term.{Scalar, Body, Term}
-use Rattle.ctf_model.specs.Term as term
+use Rattle.std.specs.Prelude.{ℕ, ◌-◌, ◌&&◌, ◌==◌, ◌++◌, nat_lt, is_none, Bool, List, [], ◌∷◌, length, map, take, drop, slice_index, option_and_then, Option, Some, None, Result, Ok, Err, codes, if◌then◌else◌}
+use Rattle.std.specs.Option.{option_map}
+use Rattle.ctf_model.specs.Answers.{Answer, Item, says, may_say, lists, entry, number, signed, truth, word, text, bare, object}
+use Rattle.ctf_model.specs.KindNames.{name_of_kind, name_of_tag}
+use Rattle.ctf_model.specs.Shown.{ArrayParts, EncodingParts, Facts, facts, members_in, enumerators_in, arguments_in, array_in, encoding_in, list_length}
+use Rattle.ctf_model.specs.Term.{Member, Enumerator, Term}
 use Rattle.ctf_model.specs.declared.faults.Fault.{Fault}
-use Rattle.ctf_model.specs.declared.faults.TheConstants.Fault.{WRONG_KIND}
-use Rattle.ctf_model.specs.declared.kinds.Kind.{Kind}
-use Rattle.ctf_model.specs.declared.kinds.Kind.TheVariants.{KUnknown, KInteger, KFloat, KPointer, KArray, KFunction, KStruct, KUnion, KEnum, KForward, KTypedef, KVolatile, KConst, KRestrict}
-use Rattle.ctf_model.specs.declared.requests.Window.{Window}
+use Rattle.ctf_model.specs.declared.faults.TheConstants.Fault.{NOT_REFERENCE, WRONG_KIND}
+use Rattle.ctf_model.specs.declared.questions.TypeQuestion.{TypeQuestion}
+use Rattle.ctf_model.specs.declared.questions.TypeQuestion.TheVariants as ask
+use Rattle.ctf_model.specs.declared.questions.Window.{Window}
 
--- the answer on a type, if the number names one
-abbrev pub type_question : (Term → Result Answer Fault) → Result Term Fault → Result Answer Fault
-type_question answer (Ok x) = answer x
-type_question answer (Err fault) = Err fault
+-- ---- answers, field by field
 
--- the question isn't one for this kind
-abbrev pub wrong_kind : Fault
-wrong_kind = record { code = WRONG_KIND; place = 0 }
+abbrev pub kind_fields : Facts → Answer
+kind_fields x = says (codes "kind") (word (name_of_kind x.kind)) ∷ []
 
--- ---- kind and head
-
-abbrev pub kind_of : Body → Kind
-kind_of term.unknown = KUnknown
-kind_of (term.integer scalar) = KInteger
-kind_of (term.float scalar) = KFloat
-kind_of (term.pointer t) = KPointer
-kind_of (term.array elements) = KArray
-kind_of (term.function ret args) = KFunction
-kind_of (term.struct size members) = KStruct
-kind_of (term.union size members) = KUnion
-kind_of (term.enum size enumerators) = KEnum
-kind_of (term.forward tag) = KForward
-kind_of (term.typedef t) = KTypedef
-kind_of (term.volatile t) = KVolatile
-kind_of (term.const t) = KConst
-kind_of (term.restrict t) = KRestrict
-
-abbrev pub kind_said : Term → Result Answer Fault
-kind_said x = Ok (answers.kind (kind_of x.body))
-
-abbrev pub detail_of : Body → Detail
-detail_of term.unknown = answers.nothing
-detail_of (term.integer scalar) = answers.size scalar.size
-detail_of (term.float scalar) = answers.size scalar.size
-detail_of (term.pointer t) = answers.names t
-detail_of (term.array elements) = answers.size elements.size
-detail_of (term.function ret args) = answers.names ret
-detail_of (term.struct size members) = answers.size size
-detail_of (term.union size members) = answers.size size
-detail_of (term.enum size enumerators) = answers.size size
-detail_of (term.forward tag) = answers.declares tag
-detail_of (term.typedef t) = answers.names t
-detail_of (term.volatile t) = answers.names t
-detail_of (term.const t) = answers.names t
-detail_of (term.restrict t) = answers.names t
-
--- how long its list is; 0 where it has none
-abbrev pub list_length : Body → ℕ
-list_length (term.function ret args) = length args
-list_length (term.struct size members) = length members
-list_length (term.union size members) = length members
-list_length (term.enum size enumerators) = length enumerators
-list_length _ = 0
-
-abbrev pub head_said : Term → Result Answer Fault
-head_said x = Ok (answers.head (record { kind = kind_of x.body; name = x.name; root = x.root; detail = detail_of x.body; vlen = list_length x.body }))
-
--- ---- lists
+-- a type without its list
+abbrev pub record_fields : Facts → Answer
+record_fields x =
+    says (codes "kind") (word (name_of_kind x.kind))
+    ∷ says (codes "name") (text x.name)
+    ∷ says (codes "root") (truth x.root)
+    ∷ (may_say (codes "size") (option_map number x.size)
+    ++ (may_say (codes "tag") (option_map (λ tag. word (name_of_tag tag)) x.declares)
+    ++ (may_say (codes "type") (option_map number x.reference)
+    ++ says (codes "vlen") (number (list_length x.behind)) ∷ [])))
 
 -- as many as are wanted, or all
 abbrev pub at_most : {A : Type 0} → Option ℕ → List A → List A
@@ -78,20 +36,21 @@ at_most (Some count) xs = take count xs
 abbrev pub windowed : {A : Type 0} → Window → List A → List A
 windowed window xs = at_most window.count (drop window.from xs)
 
-abbrev pub members_of : Window → Body → Result Answer Fault
-members_of window (term.struct size members) = Ok (answers.members (windowed window members) (length members))
-members_of window (term.union size members) = Ok (answers.members (windowed window members) (length members))
-members_of window _ = Err wrong_kind
+-- some items of a list, and how many there are in all
+abbrev pub list_fields : List ℕ → Window → List Item → Answer
+list_fields key window items = lists key (windowed window items) ∷ says (codes "total") (number (length items)) ∷ []
 
-abbrev pub members_said : Window → Term → Result Answer Fault
-members_said window x = members_of window x.body
+abbrev pub member_item : Member → Item
+member_item m = object (entry (codes "name") (text m.name) ∷ entry (codes "offset") (number m.offset) ∷ entry (codes "type") (number m.tnum) ∷ [])
 
-abbrev pub enumerators_of : Window → Body → Result Answer Fault
-enumerators_of window (term.enum size enumerators) = Ok (answers.enumerators (windowed window enumerators) (length enumerators))
-enumerators_of window _ = Err wrong_kind
+abbrev pub member_fields : Window → List Member → Answer
+member_fields window items = list_fields (codes "members") window (map member_item items)
 
-abbrev pub enumerators_said : Window → Term → Result Answer Fault
-enumerators_said window x = enumerators_of window x.body
+abbrev pub enumerator_item : Enumerator → Item
+enumerator_item e = object (entry (codes "name") (text e.name) ∷ entry (codes "value") (signed e.value) ∷ [])
+
+abbrev pub enumerator_fields : Window → List Enumerator → Answer
+enumerator_fields window items = list_fields (codes "enumerators") window (map enumerator_item items)
 
 -- a last argument 0 says that more arguments may follow, and isn't one itself
 abbrev pub is_variadic : List ℕ → Bool
@@ -100,29 +59,49 @@ is_variadic args = nat_lt 0 (length args) && slice_index args (length args - 1) 
 abbrev pub named_arguments : List ℕ → List ℕ
 named_arguments args = if is_variadic args then take (length args - 1) args else args
 
-abbrev pub arguments_of : Body → Result Answer Fault
-arguments_of (term.function ret args) = Ok (answers.arguments (named_arguments args) ret (is_variadic args))
-arguments_of _ = Err wrong_kind
+abbrev pub number_item : ℕ → Item
+number_item n = bare (number n)
 
-abbrev pub arguments_said : Term → Result Answer Fault
-arguments_said x = arguments_of x.body
+abbrev pub argument_fields : ℕ → List ℕ → Answer
+argument_fields ret args = lists (codes "args") (map number_item (named_arguments args)) ∷ says (codes "return") (number ret) ∷ says (codes "varargs") (truth (is_variadic args)) ∷ []
 
--- ---- arrays and scalars
+abbrev pub array_fields : ArrayParts → Answer
+array_fields a = says (codes "contents") (number a.contents) ∷ says (codes "count") (number a.count) ∷ says (codes "index") (number a.index) ∷ []
 
-abbrev pub array_of : Body → Result Answer Fault
-array_of (term.array elements) = Ok (answers.array elements.contents elements.index elements.count)
-array_of _ = Err wrong_kind
+abbrev pub encoding_fields : EncodingParts → Answer
+encoding_fields e = says (codes "bits") (number e.bits) ∷ says (codes "encoding") (number e.encoding) ∷ says (codes "offset") (number e.offset) ∷ []
 
-abbrev pub array_said : Term → Result Answer Fault
-array_said x = array_of x.body
+-- the type that is pointed to, renamed or qualified
+abbrev pub reference_fields : ℕ → Answer
+reference_fields t = says (codes "t") (number t) ∷ []
 
-abbrev pub encoding_of_scalar : Scalar → Answer
-encoding_of_scalar scalar = answers.encoding scalar.encoding scalar.offset scalar.bits
+-- ---- questions
 
-abbrev pub encoding_of : Body → Result Answer Fault
-encoding_of (term.integer scalar) = Ok (encoding_of_scalar scalar)
-encoding_of (term.float scalar) = Ok (encoding_of_scalar scalar)
-encoding_of _ = Err wrong_kind
+-- an answer, if there is one
+abbrev pub or_refused : ℕ → Option Answer → Result Answer Fault
+or_refused code None = Err (record { code = code; place = 0 })
+or_refused code (Some answer) = Ok answer
 
-abbrev pub encoding_said : Term → Result Answer Fault
-encoding_said x = encoding_of x.body
+-- what a part is answered as, if the kind has it
+abbrev pub or_wrong_kind : Option Answer → Result Answer Fault
+or_wrong_kind said = or_refused WRONG_KIND said
+
+-- what a function returns isn't referred to
+abbrev pub reference_said : Facts → Result Answer Fault
+reference_said x = if is_none (arguments_in x.behind) then or_refused NOT_REFERENCE (option_map reference_fields x.reference) else Err (record { code = NOT_REFERENCE; place = 0 })
+
+-- each question on a type
+abbrev pub said_on : TypeQuestion → Facts → Result Answer Fault
+said_on ask.Kind x = Ok (kind_fields x)
+said_on ask.Record x = Ok (record_fields x)
+said_on (ask.Members window) x = or_wrong_kind (option_map (member_fields window) (members_in x.behind))
+said_on (ask.Enumerators window) x = or_wrong_kind (option_map (enumerator_fields window) (enumerators_in x.behind))
+said_on ask.Args x = or_wrong_kind (option_and_then (λ ret. option_map (argument_fields ret) (arguments_in x.behind)) x.reference)
+said_on ask.Array x = or_wrong_kind (option_map array_fields (array_in x.behind))
+said_on ask.Encoding x = or_wrong_kind (option_map encoding_fields (encoding_in x.behind))
+said_on ask.Reference x = reference_said x
+
+-- what a question is answered, if its number names a type
+abbrev pub type_said : TypeQuestion → Result Term Fault → Result Answer Fault
+type_said question (Ok x) = said_on question (facts x)
+type_said question (Err fault) = Err fault

@@ -1,32 +1,12 @@
 -- The line of a reply: compact JSON, its keys in byte order, and a newline. Source: ours.
-use Rattle.std.specs.Prelude.{ℕ, ℤ, pos, negsuc, ◌+◌, ◌++◌, nat_le, Bool, true, false, List, [], ◌∷◌, length, Result, Ok, Err, codes, decimal, if◌then◌else◌}
+use Rattle.std.specs.Prelude.{ℕ, ℤ, pos, negsuc, ◌+◌, ◌++◌, nat_le, Bool, true, false, List, [], ◌∷◌, length, map, Result, Ok, Err, codes, decimal, if◌then◌else◌}
 use Rattle.std.specs.List.{concat, flat_map}
-use Rattle.ctf_model.specs.Answers.{Answer, Detail, Reply}
+use Rattle.ctf_model.specs.Answers.{Answer, Single, Entry, Item, Value, Field, Reply, says}
 use Rattle.ctf_model.specs.Answers as answers
 use Rattle.ctf_model.specs.FaultNames.{name_of_fault}
-use Rattle.ctf_model.specs.Term.{Tag, Member, Enumerator}
-use Rattle.ctf_model.specs.Term as term
-use Rattle.ctf_model.specs.Text.{text_of}
+use Rattle.ctf_model.specs.Text.{text_of, hex_of}
 use Rattle.ctf_model.specs.declared.faults.Fault.{Fault}
 use Rattle.ctf_model.specs.declared.faults.TheConstants.Fault.{LONG_REPLY}
-use Rattle.ctf_model.specs.declared.kinds.Kind.{Kind}
-use Rattle.ctf_model.specs.declared.kinds.Kind.TheVariants.{KUnknown, KInteger, KFloat, KPointer, KArray, KFunction, KStruct, KUnion, KEnum, KForward, KTypedef, KVolatile, KConst, KRestrict}
-
-abbrev pub name_of_kind : Kind → List ℕ
-name_of_kind KUnknown = codes "unknown"
-name_of_kind KInteger = codes "integer"
-name_of_kind KFloat = codes "float"
-name_of_kind KPointer = codes "pointer"
-name_of_kind KArray = codes "array"
-name_of_kind KFunction = codes "function"
-name_of_kind KStruct = codes "struct"
-name_of_kind KUnion = codes "union"
-name_of_kind KEnum = codes "enum"
-name_of_kind KForward = codes "forward"
-name_of_kind KTypedef = codes "typedef"
-name_of_kind KVolatile = codes "volatile"
-name_of_kind KConst = codes "const"
-name_of_kind KRestrict = codes "restrict"
 
 abbrev pub truth : Bool → List ℕ
 truth true = codes "true"
@@ -36,56 +16,66 @@ abbrev pub signed_decimal : ℤ → List ℕ
 signed_decimal (pos n) = decimal n
 signed_decimal (negsuc n) = 45 ∷ decimal (n + 1)
 
--- ---- lists, their items separated by commas
+-- ---- texts with commas between them
 
-abbrev pub after_comma : {A : Type 0} → (A → List ℕ) → List A → List ℕ
-after_comma item xs = flat_map (λ x. 44 ∷ item x) xs
+abbrev pub after_commas : List (List ℕ) → List ℕ
+after_commas texts = flat_map (λ text. 44 ∷ text) texts
 
-abbrev pub separated : {A : Type 0} → (A → List ℕ) → List A → List ℕ
-separated item [] = []
-separated item (x ∷ xs) = item x ++ after_comma item xs
+abbrev pub separated : List (List ℕ) → List ℕ
+separated [] = []
+separated (text ∷ texts) = text ++ after_commas texts
 
-abbrev pub member_text : Member → List ℕ
-member_text m = concat (codes "{\"name\":\"" ∷ text_of m.name ∷ codes "\",\"offset\":" ∷ decimal m.offset ∷ codes ",\"type\":" ∷ decimal m.tnum ∷ codes "}" ∷ [])
+-- ---- values and fields
 
-abbrev pub enumerator_text : Enumerator → List ℕ
-enumerator_text e = concat (codes "{\"name\":\"" ∷ text_of e.name ∷ codes "\",\"value\":" ∷ signed_decimal e.value ∷ codes "}" ∷ [])
+abbrev pub quoted : List ℕ → List ℕ
+quoted w = concat (codes "\"" ∷ w ∷ codes "\"" ∷ [])
 
--- ---- the head of a type
+abbrev pub single_text : Single → List ℕ
+single_text (answers.number n) = decimal n
+single_text (answers.signed i) = signed_decimal i
+single_text (answers.truth b) = truth b
+single_text (answers.word w) = quoted w
+single_text (answers.text name) = quoted (text_of name)
+single_text (answers.bytes bs) = quoted (hex_of bs)
 
-abbrev pub name_of_tag : Tag → List ℕ
-name_of_tag term.struct_tag = codes "struct"
-name_of_tag term.union_tag = codes "union"
-name_of_tag term.enum_tag = codes "enum"
+abbrev pub key_text : List ℕ → List ℕ
+key_text key = concat (codes "\"" ∷ key ∷ codes "\":" ∷ [])
 
-abbrev pub detail_text : Detail → List ℕ
-detail_text (answers.size n) = concat (codes ",\"size\":" ∷ decimal n ∷ [])
-detail_text (answers.names t) = concat (codes ",\"type\":" ∷ decimal t ∷ [])
-detail_text (answers.declares tag) = concat (codes ",\"tag\":\"" ∷ name_of_tag tag ∷ codes "\"" ∷ [])
-detail_text answers.nothing = []
+abbrev pub entry_text : Entry → List ℕ
+entry_text e = key_text e.key ++ single_text e.value
 
--- ---- answers
+abbrev pub object_text : List Entry → List ℕ
+object_text entries = concat (codes "{" ∷ separated (map entry_text entries) ∷ codes "}" ∷ [])
 
--- what every line of an answer ends with
-abbrev pub ends_for : ℕ → List (List ℕ)
-ends_for s = codes "},\"s\":" ∷ decimal s ∷ codes "}\n" ∷ []
+abbrev pub item_text : Item → List ℕ
+item_text (answers.bare value) = single_text value
+item_text (answers.object entries) = object_text entries
 
--- the lines of answers
+abbrev pub list_text : List Item → List ℕ
+list_text items = concat (codes "[" ∷ separated (map item_text items) ∷ codes "]" ∷ [])
+
+abbrev pub value_text : Value → List ℕ
+value_text (answers.one value) = single_text value
+value_text (answers.many items) = list_text items
+
+abbrev pub field_text : Field → List ℕ
+field_text f = key_text f.key ++ value_text f.value
+
+-- ---- answers and refusals
+
+-- the line of an object under a word, for a session
+abbrev pub object_line : List ℕ → ℕ → List Field → List ℕ
+object_line under s fields = concat (codes "{\"" ∷ under ∷ codes "\":{" ∷ separated (map field_text fields) ∷ codes "},\"s\":" ∷ decimal s ∷ codes "}\n" ∷ [])
+
 abbrev pub answer_line : ℕ → Answer → List ℕ
-answer_line s answers.done = concat (codes "{\"ok\":{" ∷ ends_for s)
-answer_line s (answers.staged n) = concat (codes "{\"ok\":{\"length\":" ∷ decimal n ∷ ends_for s)
-answer_line s (answers.opened d types) = concat (codes "{\"ok\":{\"d\":" ∷ decimal d ∷ codes ",\"types\":" ∷ decimal types ∷ ends_for s)
-answer_line s (answers.kind kind) = concat (codes "{\"ok\":{\"kind\":\"" ∷ name_of_kind kind ∷ codes "\"" ∷ ends_for s)
-answer_line s (answers.head h) = concat (codes "{\"ok\":{\"kind\":\"" ∷ name_of_kind h.kind ∷ codes "\",\"name\":\"" ∷ text_of h.name ∷ codes "\",\"root\":" ∷ truth h.root ∷ detail_text h.detail ∷ codes ",\"vlen\":" ∷ decimal h.vlen ∷ ends_for s)
-answer_line s (answers.members ms total) = concat (codes "{\"ok\":{\"members\":[" ∷ separated member_text ms ∷ codes "],\"total\":" ∷ decimal total ∷ ends_for s)
-answer_line s (answers.enumerators es total) = concat (codes "{\"ok\":{\"enumerators\":[" ∷ separated enumerator_text es ∷ codes "],\"total\":" ∷ decimal total ∷ ends_for s)
-answer_line s (answers.arguments args ret varargs) = concat (codes "{\"ok\":{\"args\":[" ∷ separated decimal args ∷ codes "],\"return\":" ∷ decimal ret ∷ codes ",\"varargs\":" ∷ truth varargs ∷ ends_for s)
-answer_line s (answers.array contents index count) = concat (codes "{\"ok\":{\"contents\":" ∷ decimal contents ∷ codes ",\"count\":" ∷ decimal count ∷ codes ",\"index\":" ∷ decimal index ∷ ends_for s)
-answer_line s (answers.encoding encoding offset bits) = concat (codes "{\"ok\":{\"bits\":" ∷ decimal bits ∷ codes ",\"encoding\":" ∷ decimal encoding ∷ codes ",\"offset\":" ∷ decimal offset ∷ ends_for s)
+answer_line s fields = object_line (codes "ok") s fields
+
+abbrev pub fault_fields : Fault → List Field
+fault_fields f = says (codes "code") (answers.number f.code) ∷ says (codes "name") (answers.word (name_of_fault f.code)) ∷ says (codes "place") (answers.number f.place) ∷ []
 
 -- the line of a refusal
 abbrev pub fault_line : ℕ → Fault → List ℕ
-fault_line s f = concat (codes "{\"fault\":{\"code\":" ∷ decimal f.code ∷ codes ",\"name\":\"" ∷ name_of_fault f.code ∷ codes "\",\"place\":" ∷ decimal f.place ∷ ends_for s)
+fault_line s f = object_line (codes "fault") s (fault_fields f)
 
 -- ---- replies
 

@@ -1,6 +1,6 @@
 -- Worked rows: what the definitions say of small inputs. The values were worked out by hand from the format.
 use Rattle.std.specs.Prelude.{◌≡◌, ℕ, ◌/◌, ◌%◌, ◌^◌, true, false, List, [], ◌∷◌, ◌++◌, take, drop, slice_set, Some, None, Result, Ok, Err, codes}
-use Rattle.ctf_model.specs.Answers.{Answer, Reply}
+use Rattle.ctf_model.specs.Answers.{Answer, Reply, says}
 use Rattle.ctf_model.specs.Answers as answers
 use Rattle.ctf_model.specs.Ask.{ask}
 use Rattle.ctf_model.specs.Dictionary.{Dictionary, denoted}
@@ -20,7 +20,10 @@ use Rattle.ctf_model.specs.declared.faults.Fault.{Fault}
 use Rattle.ctf_model.specs.declared.kinds.Kind.TheVariants.{KInteger, KFloat, KPointer, KArray, KFunction, KStruct, KUnion, KEnum}
 use Rattle.ctf_model.specs.declared.requests.ListName.TheVariants.{Ctf}
 use Rattle.ctf_model.specs.declared.requests.Request.{Request}
-use Rattle.ctf_model.specs.declared.requests.Request.TheVariants.{DoPart, DoOpen, DoKind, DoReset}
+use Rattle.ctf_model.specs.declared.requests.Request.TheVariants.{Changes, Asks}
+use Rattle.ctf_model.specs.declared.requests.Change.TheVariants.{Part, Open, Reset}
+use Rattle.ctf_model.specs.declared.questions.Question.TheVariants.{OfType}
+use Rattle.ctf_model.specs.declared.questions.TypeQuestion.TheVariants as about
 
 -- ---- inputs
 
@@ -144,19 +147,23 @@ pub record NumbersName : Type 0 where
 abbrev pub asked : Request → Given
 asked request = record { request = request; found = None }
 
+-- the kind of a type of a slot
+abbrev pub kind_asked : ℕ → ℕ → Request
+kind_asked d t = Asks d (OfType (record { 0 = t }) about.Kind)
+
 -- what a session asks, the newest first: it stages an int in two parts, opens it, asks for types, and lets it go
 abbrev pub questions : List Given
-questions = asked (DoKind 1 (record { 0 = 2 })) ∷ asked (DoKind 2 (record { 0 = 1 })) ∷ asked (DoKind 1 (record { 0 = 1 })) ∷ asked DoOpen ∷ asked (DoPart Ctf (drop 40 int_bytes)) ∷ asked (DoPart Ctf (take 40 int_bytes)) ∷ []
+questions = asked (kind_asked 1 2) ∷ asked (kind_asked 2 1) ∷ asked (kind_asked 1 1) ∷ asked (Changes Open) ∷ asked (Changes (Part Ctf (drop 40 int_bytes))) ∷ asked (Changes (Part Ctf (take 40 int_bytes))) ∷ []
 
-abbrev pub says : Result Answer Fault → Reply
-says outcome = record { session = 0; outcome = outcome }
+abbrev pub replied : Result Answer Fault → Reply
+replied outcome = record { session = 0; outcome = outcome }
 
 pub record SessionRuns : Type 0 where
-  pub replies : private_replies empty_state (asked DoReset ∷ questions)
-      ≡ says (Ok answers.done) ∷ says (Err (fault 24 0)) ∷ says (Err (fault 49 0)) ∷ says (Ok (answers.kind KInteger)) ∷ says (Ok (answers.opened 1 1)) ∷ says (Ok (answers.staged 53)) ∷ says (Ok (answers.staged 40)) ∷ []
+  pub replies : private_replies empty_state (asked (Changes Reset) ∷ questions)
+      ≡ replied (Ok []) ∷ replied (Err (fault 24 0)) ∷ replied (Err (fault 49 0)) ∷ replied (Ok (says (codes "kind") (answers.word (codes "integer")) ∷ [])) ∷ replied (Ok (says (codes "d") (answers.number 1) ∷ says (codes "types") (answers.number 1) ∷ [])) ∷ replied (Ok (says (codes "length") (answers.number 53) ∷ [])) ∷ replied (Ok (says (codes "length") (answers.number 40) ∷ [])) ∷ []
   pub opened : private_state empty_state questions ≡ record empty_state { slots = record { number = 1; lists = alone int_bytes; parent = None } ∷ []; next = 2 }
-  pub reset : private_state empty_state (asked DoReset ∷ questions) ≡ empty_state
-  pub refused : private_replies empty_state (asked DoOpen ∷ []) ≡ says (Err (fault 1 0)) ∷ []
+  pub reset : private_state empty_state (asked (Changes Reset) ∷ questions) ≡ empty_state
+  pub refused : private_replies empty_state (asked (Changes Open) ∷ []) ≡ replied (Err (fault 1 0)) ∷ []
 
 -- ---- lines
 
@@ -164,10 +171,10 @@ abbrev pub answers_of : ℕ → Result Answer Fault → List ℕ
 answers_of s outcome = reply_line (record { session = s; outcome = outcome })
 
 pub record LinesSay : Type 0 where
-  pub length : answers_of 7 (Ok (answers.staged 53)) ≡ codes "{\"ok\":{\"length\":53},\"s\":7}\n"
-  pub opened : answers_of 7 (Ok (answers.opened 1 20)) ≡ codes "{\"ok\":{\"d\":1,\"types\":20},\"s\":7}\n"
-  pub kind : answers_of 7 (Ok (answers.kind KInteger)) ≡ codes "{\"ok\":{\"kind\":\"integer\"},\"s\":7}\n"
-  pub done : answers_of 7 (Ok answers.done) ≡ codes "{\"ok\":{},\"s\":7}\n"
+  pub length : answers_of 7 (Ok (says (codes "length") (answers.number 53) ∷ [])) ≡ codes "{\"ok\":{\"length\":53},\"s\":7}\n"
+  pub opened : answers_of 7 (Ok (says (codes "d") (answers.number 1) ∷ says (codes "types") (answers.number 20) ∷ [])) ≡ codes "{\"ok\":{\"d\":1,\"types\":20},\"s\":7}\n"
+  pub kind : answers_of 7 (Ok (says (codes "kind") (answers.word (codes "integer")) ∷ [])) ≡ codes "{\"ok\":{\"kind\":\"integer\"},\"s\":7}\n"
+  pub done : answers_of 7 (Ok []) ≡ codes "{\"ok\":{},\"s\":7}\n"
   pub refusal : answers_of 7 (Err (fault 49 0)) ≡ codes "{\"fault\":{\"code\":49,\"name\":\"NoSlot\",\"place\":0},\"s\":7}\n"
   pub at_place : fault_line 0 (fault 13 36) ≡ codes "{\"fault\":{\"code\":13,\"name\":\"BadName\",\"place\":36},\"s\":0}\n"
   pub cut : all_lines (codes "ab\n\nc") ≡ codes "ab" ∷ [] ∷ codes "c" ∷ []
@@ -177,10 +184,10 @@ pub record LinesSay : Type 0 where
 -- ---- what lines ask
 
 pub record LinesAsk : Type 0 where
-  pub reset : ask (codes "{\"s\":7,\"op\":\"reset\"}") ≡ Ok (7, DoReset)
-  pub opens : ask (codes " {\"op\":\"open\", \"s\":4294967295, \"x\":[]}") ≡ Ok (4294967295, DoOpen)
-  pub kind : ask (codes "{\"s\":1,\"op\":\"kind\",\"d\":2,\"t\":65535}") ≡ Ok (1, DoKind 2 (record { 0 = 65535 }))
-  pub part : ask (codes "{\"s\":1,\"op\":\"part\",\"section\":\"ctf\",\"bytes\":\"F1cf\"}") ≡ Ok (1, DoPart Ctf (0xf1 ∷ 0xcf ∷ []))
+  pub reset : ask (codes "{\"s\":7,\"op\":\"reset\"}") ≡ Ok (7, Changes Reset)
+  pub opens : ask (codes " {\"op\":\"open\", \"s\":4294967295, \"x\":[]}") ≡ Ok (4294967295, Changes Open)
+  pub kind : ask (codes "{\"s\":1,\"op\":\"kind\",\"d\":2,\"t\":65535}") ≡ Ok (1, kind_asked 2 65535)
+  pub part : ask (codes "{\"s\":1,\"op\":\"part\",\"section\":\"ctf\",\"bytes\":\"F1cf\"}") ≡ Ok (1, Changes (Part Ctf (0xf1 ∷ 0xcf ∷ [])))
   pub not_json : ask [] ≡ Err (0, fault 57 0)
   pub no_object : ask (codes "5") ≡ Err (0, fault 58 0)
   pub no_session : ask (codes "{\"s\":0,\"op\":\"reset\"}") ≡ Err (0, fault 58 0)

@@ -1,5 +1,5 @@
 -- Runs of one session by itself, and of many sessions together. Source: ours. A history is a list, the newest first.
-use Rattle.std.specs.Prelude.{◌≡◌, ◌≢◌, ℕ, ◌==◌, List, [], ◌∷◌, Bool, true, false, Option, None, Result, Ok, Err, if◌then◌else◌}
+use Rattle.std.specs.Prelude.{◌≡◌, ◌≢◌, ◌⊎◌, ℕ, ◌==◌, List, [], ◌∷◌, Bool, true, false, Option, None, Result, Ok, Err, if◌then◌else◌}
 use Rattle.ctf_model.specs.Answers.{Answer, Reply}
 use Rattle.ctf_model.specs.Lists.{Lists}
 use Rattle.ctf_model.specs.State.{State}
@@ -69,8 +69,15 @@ pub record Answered (old : State) (outcome : Outcome) (reply : Reply) (new : Sta
   pub granted : is_no_memory reply ≡ false → (reply ≡ outcome.reply) × (new ≡ outcome.state)
   pub refused : is_no_memory reply ≡ true → (reply ≡ no_memory 0) × (new ≡ old)
 
--- only the caller's library changes, by its own step; where memory was refused, it stays too
+-- the step of the caller's own library was made
+abbrev pub IsGranted : (ℕ → State) → ℕ → Request → Reply → (ℕ → State) → Type 0
+IsGranted old s request reply new = (reply ≡ addressed s (step (old s) request (found_in old request)).reply) × (new s ≡ (step (old s) request (found_in old request)).state)
+
+-- memory was refused, and the caller's library stays
+abbrev pub IsRefused : (ℕ → State) → ℕ → Reply → (ℕ → State) → Type 0
+IsRefused old s reply new = (reply ≡ no_memory s) × (new s ≡ old s)
+
+-- one of the two, and all other libraries stay
 pub record Steps (old : ℕ → State) (s : ℕ) (request : Request) (reply : Reply) (new : ℕ → State) : Type 0 where
-  pub granted : is_no_memory reply ≡ false → (reply ≡ addressed s (step (old s) request (found_in old request)).reply) × (new s ≡ (step (old s) request (found_in old request)).state)
-  pub refused : is_no_memory reply ≡ true → (reply ≡ no_memory s) × (new s ≡ old s)
+  pub own : IsGranted old s request reply new ⊎ IsRefused old s reply new
   pub others : (other : ℕ) → other ≢ s → new other ≡ old other

@@ -1,21 +1,27 @@
 -- The reply to a request in the library of one session, and what the library is then. Source: ours.
-use Rattle.std.specs.Prelude.{ℕ, ◌+◌, ◌==◌, ◌&&◌, List, [], ◌∷◌, ◌++◌, length, Bool, true, false, Option, None, Some, Result, Ok, Err, unwrap_or, nat_lt, nat_le, if◌then◌else◌}
+use Rattle.std.specs.Prelude.{◌≡◌, ◌⊎◌, ℕ, ◌+◌, ◌==◌, ◌&&◌, List, [], ◌∷◌, ◌++◌, length, Bool, true, false, Option, None, Some, Result, Ok, Err, unwrap_or, nat_lt, nat_le, codes, if◌then◌else◌}
 use Rattle.std.specs.Option.{option_map}
-use Rattle.ctf_model.specs.Answers.{Answer, Reply}
+use Rattle.ctf_model.specs.Answers.{Answer, Reply, says}
 use Rattle.ctf_model.specs.Answers as answers
 use Rattle.ctf_model.specs.Dictionary.{said_by}
 use Rattle.ctf_model.specs.Faults.{first_fault}
 use Rattle.ctf_model.specs.Lists.{Lists}
 use Rattle.ctf_model.specs.State.{State, Slot, Stage, empty_state, empty_stage}
-use Rattle.ctf_model.specs.Questions.{type_question, kind_said, head_said, members_said, enumerators_said, arguments_said, array_said, encoding_said}
+use Rattle.ctf_model.specs.Questions.{type_said}
 use Rattle.ctf_model.specs.Term.{Term}
 use Rattle.ctf_model.specs.TypeNumbers.{type_at}
 use Rattle.ctf_model.specs.declared.faults.Fault.{Fault}
-use Rattle.ctf_model.specs.declared.faults.TheConstants.Fault.{NO_SLOT, SLOTS_FULL, STAGE_FULL}
+use Rattle.ctf_model.specs.declared.faults.TheConstants.Fault.{MEMORY, NO_SLOT, SLOTS_FULL, STAGE_FULL}
 use Rattle.ctf_model.specs.declared.requests.ListName.{ListName}
 use Rattle.ctf_model.specs.declared.requests.ListName.TheVariants.{Ctf, Str}
 use Rattle.ctf_model.specs.declared.requests.Request.{Request}
-use Rattle.ctf_model.specs.declared.requests.Request.TheVariants.{DoPart, DoCheck, DoOpen, DoReset, DoKind, DoRecord, DoMembers, DoEnumerators, DoArgs, DoArray, DoEncoding}
+use Rattle.ctf_model.specs.declared.questions.TypeQuestion.{TypeQuestion}
+use Rattle.ctf_model.specs.declared.questions.TypeQuestion.TheVariants as about
+use Rattle.ctf_model.specs.declared.questions.Question.{Question}
+use Rattle.ctf_model.specs.declared.questions.Question.TheVariants.{OfType}
+use Rattle.ctf_model.specs.declared.requests.Change.{Change}
+use Rattle.ctf_model.specs.declared.requests.Change.TheVariants as change
+use Rattle.ctf_model.specs.declared.requests.Request.TheVariants.{Changes, Asks}
 
 -- the reply, not yet addressed to its session, and the library after it
 pub record Outcome : Type 0 where
@@ -50,7 +56,7 @@ with_staged Str bytes stage = record stage { strs = Some bytes }
 abbrev pub stages : ListName → List ℕ → State → Outcome
 stages list bytes state =
     if nat_lt longest_list (length bytes) then refuses STAGE_FULL state
-    else grants (answers.staged (length bytes)) (record state { stage = with_staged list bytes state.stage })
+    else grants (says (codes "length") (answers.number (length bytes)) ∷ []) (record state { stage = with_staged list bytes state.stage })
 
 -- a piece goes to the end of a list, which is staged from then on
 abbrev pub parts : ListName → List ℕ → State → Outcome
@@ -75,7 +81,7 @@ staged_lists stage = record { ctf = unwrap_or stage.ctf []; sym = stage.sym; str
 -- a new slot for a dictionary, under the next number
 abbrev pub adds_slot : Lists → State → Outcome
 adds_slot lists state =
-    grants (answers.opened state.next (length (said_by lists).terms))
+    grants (says (codes "d") (answers.number state.next) ∷ says (codes "types") (answers.number (length (said_by lists).terms)) ∷ [])
     (record state { slots = state.slots ++ record { number = state.next; lists = lists; parent = None } ∷ []; next = state.next + 1 })
 
 -- an accepted dictionary leaves the stage empty
@@ -90,7 +96,7 @@ opens lists state = if has_room state then opens_unless (first_fault lists) list
 
 -- the staged lists are judged, and nothing changes
 abbrev pub accepts_unless : Option Fault → State → Outcome
-accepts_unless None state = grants answers.done state
+accepts_unless None state = grants [] state
 accepts_unless (Some fault) state = outcome_of (Err fault) state
 
 abbrev pub checks : State → Outcome
@@ -103,45 +109,53 @@ abbrev pub slot_at : ℕ → List Slot → Option Slot
 slot_at number [] = None
 slot_at number (slot ∷ slots) = if slot.number == number then Some slot else slot_at number slots
 
--- a question to a slot leaves the library as it was
-abbrev pub asks : (Slot → Result Answer Fault) → Option Slot → State → Outcome
-asks question None state = refuses NO_SLOT state
-asks question (Some slot) state = outcome_of (question slot) state
-
 -- the type of a number in a slot
 abbrev pub slot_type : ℕ → Slot → Result Term Fault
 slot_type t slot = type_at (said_by slot.lists) (option_map said_by slot.parent) t
 
--- a question on a type of a slot
-abbrev pub asks_type : (Term → Result Answer Fault) → ℕ → ℕ → State → Outcome
-asks_type answer d t state = asks (λ slot. type_question answer (slot_type t slot)) (slot_at d state.slots) state
+-- what a slot answers
+abbrev pub slot_said : Question → Slot → Result Answer Fault
+slot_said (OfType t question) slot = type_said question (slot_type t.0 slot)
+
+abbrev pub said_by_slot : Question → Option Slot → Result Answer Fault
+said_by_slot question None = Err (record { code = NO_SLOT; place = 0 })
+said_by_slot question (Some slot) = slot_said question slot
+
+-- what a question to a slot is answered
+abbrev pub answer_to : ℕ → Question → State → Result Answer Fault
+answer_to d question state = said_by_slot question (slot_at d state.slots)
+
+-- a question that takes no memory
+abbrev pub is_quiet_on : TypeQuestion → Bool
+is_quiet_on about.Kind = true
+is_quiet_on about.Array = true
+is_quiet_on about.Encoding = true
+is_quiet_on about.Reference = true
+is_quiet_on _ = false
+
+abbrev pub is_quiet : Question → Bool
+is_quiet (OfType t question) = is_quiet_on question
+
+-- the answer to a question, or memory for it was refused
+abbrev pub MayAnswer : Result Answer Fault → Result Answer Fault → Type 0
+MayAnswer said result = (result ≡ said) ⊎ (result ≡ Err (record { code = MEMORY; place = 0 }))
 
 -- ---- reset
 
 -- what is published stays
 abbrev pub resets : State → Outcome
-resets state = grants answers.done (record empty_state { published = state.published })
+resets state = grants [] (record empty_state { published = state.published })
 
 -- ---- every request
 
--- a question changes nothing; judging the staged lists isn't counted as one, since it may want memory
-abbrev pub is_question : Request → Bool
-is_question (DoPart list piece) = false
-is_question DoCheck = false
-is_question DoOpen = false
-is_question DoReset = false
-is_question _ = true
-
 -- what a take found is read by a take alone; no word takes yet
-unfoldable pub step : State → Request → Option Lists → Outcome
-step state (DoPart list piece) found = parts list piece state
-step state DoCheck found = checks state
-step state DoOpen found = opens (staged_lists state.stage) state
-step state DoReset found = resets state
-step state (DoKind d t) found = asks_type kind_said d t.0 state
-step state (DoRecord d t) found = asks_type head_said d t.0 state
-step state (DoMembers d t window) found = asks_type (members_said window) d t.0 state
-step state (DoEnumerators d t window) found = asks_type (enumerators_said window) d t.0 state
-step state (DoArgs d t) found = asks_type arguments_said d t.0 state
-step state (DoArray d t) found = asks_type array_said d t.0 state
-step state (DoEncoding d t) found = asks_type encoding_said d t.0 state
+unfoldable pub change_step : State → Change → Option Lists → Outcome
+change_step state (change.Part list piece) found = parts list piece state
+change_step state change.Check found = checks state
+change_step state change.Open found = opens (staged_lists state.stage) state
+change_step state change.Reset found = resets state
+
+-- a question leaves the library as it was
+abbrev pub step : State → Request → Option Lists → Outcome
+step state (Changes change) found = change_step state change found
+step state (Asks d question) found = outcome_of (answer_to d question state) state

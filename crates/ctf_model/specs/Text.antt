@@ -17,3 +17,10 @@ text_of_byte b = if is_plain b then b ∷ [] else 0x5c ∷ 0x5c ∷ 0x78 ∷ hex
 -- the bytes of a name
 abbrev pub text_of : List ℕ → List ℕ
 text_of name = flat_map text_of_byte name
+
+-- a byte as two digits
+abbrev pub hex_of_byte : ℕ → List ℕ
+hex_of_byte b = hex_digit (b / 16) ∷ hex_digit (b % 16) ∷ []
+
+abbrev pub hex_of : List ℕ → List ℕ
+hex_of bs = flat_map hex_of_byte bs

@@ -1,4 +1,5 @@
 //! Laws over the definitions alone. Each is the contract of a function that does nothing.
+ghost use Rattle.ctf_model.specs.KeyOrder.{KeysRise};
 ghost use Rattle.ctf_model.specs.Laws.{
   ComputesWhatIsDenoted,
   DenotesOne,
@@ -36,4 +37,9 @@ pub fn faultless_exactly_where_denoted()
     ensures denoted { FaultlessWhereDenoted }
     ensures one { DenotesOne }
     ensures computed { ComputesWhatIsDenoted }
+{}
+
+/// The keys of each answer on a type stand in byte order.
+pub fn keys_rise()
+    ensures { KeysRise }
 {}

@@ -1,16 +1,16 @@
 //! The first run by the calls below `serve`.
 
-use ctf_model::{Fault, Kind, Request, placeless};
-use ctf_wire::{Answer, Broker, Change, FromLine, Library, Reply, ToLine, memory_line};
+use ctf_model::{Change, Fault, Request, placeless};
+use ctf_wire::{Answer, Broker, FromLine, Library, Reply, Single, ToLine, memory_line};
 use std::test::Fail;
 
 #[test]
 fn a_library_makes_its_steps(rt: HostRuntime) {
     let mut library = Library::new(rt.alloc());
-    let too_short = Err(placeless(Fault::TOO_SHORT));
-    assert!(rt; library.step(&Request::DoOpen) == too_short);
-    assert!(rt; library.step(&Request::DoCheck) == too_short);
-    assert!(rt; library.step(&Request::DoReset) == Ok(Change::Done));
+    let too_short = placeless(Fault::TOO_SHORT);
+    assert!(rt; library.step(&Change::Open).err() == Some(too_short));
+    assert!(rt; library.step(&Change::Check).err() == Some(too_short));
+    assert!(rt; library.step(&Change::Reset).is_ok());
 }
 
 #[test]
@@ -23,17 +23,19 @@ fn lines_are_read_and_written(rt: HostRuntime) -> Result<(), Fail> {
     assert_eq!(rt; session, 7);
     let mut broker = Broker::new(rt.alloc());
     let mut out = Vec::new(rt.alloc());
-    if session > 0 && !request.is_question() {
-        let outcome = match broker.step(session, &request) {
-            Ok(change) => Ok(Answer::Changed(change)),
-            Err(fault) => Err(fault),
-        };
-        Reply { session, outcome }.write(&mut out)?;
+    if let Request::Changes(change) = &request {
+        if session > 0 {
+            let outcome = match broker.step(session, change) {
+                Ok(counts) => Ok(counts.answer()),
+                Err(fault) => Err(fault),
+            };
+            Reply { session, outcome }.write(&mut out)?;
+        }
     }
     assert_eq!(rt; out.as_slice(), b"{\"ok\":{},\"s\":7}\n".as_slice());
     Reply {
         session: 9,
-        outcome: Ok(Answer::Kind(Kind::KTypedef)),
+        outcome: Ok(Answer::done().with("kind", Single::Word("typedef"))),
     }
     .write(&mut out)?;
     let want = b"{\"ok\":{},\"s\":7}\n{\"ok\":{\"kind\":\"typedef\"},\"s\":9}\n";

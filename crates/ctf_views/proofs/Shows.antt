@@ -15,8 +15,8 @@ use Rattle.ctf_records.specs.RecordView.{tag_of}
 use Rattle.ctf_records.specs.declared.tag.Tag.{Tag}
 use Rattle.ctf_views.specs.Lists.{AreGood}
 use Rattle.ctf_views.specs.PartsView.{array_in, encoding_in}
-use Rattle.ctf_views.specs.Shown.{Shown, ArrayParts, EncodingParts, shown}
-use Rattle.ctf_views.specs.Shown as show
+use Rattle.ctf_model.specs.Shown.{Shown, ArrayParts, EncodingParts, shown}
+use Rattle.ctf_model.specs.Shown as show
 
 -- what is shown of the type that bytes spell
 abbrev pub shown_by : Tables → List ℕ → Option Shown

@@ -1,5 +1,4 @@
 pub mod ItemsView
 pub mod Lists
 pub mod PartsView
-pub mod Shown
 pub mod VariantView

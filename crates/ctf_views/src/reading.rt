@@ -4,7 +4,7 @@ ghost use Rattle.std.specs.Option.{option_map};
 ghost use Rattle.ctf_model.specs.Spelling.{term_of};
 ghost use Rattle.ctf_sections.specs.StringsView.{tables};
 ghost use Rattle.ctf_records.specs.RecordView.{bytes_of};
-ghost use Rattle.ctf_views.specs.Shown.{shown};
+ghost use Rattle.ctf_model.specs.Shown.{shown};
 ghost use Rattle.ctf_views.specs.VariantView.{seen};
 
 use crate::args::Args;

@@ -1,12 +1,12 @@
 -- What a broker answers to lines is what each session's own run answers: by induction on the lines.
-use Rattle.std.proofs.Common.{◌≡◌, ◌≢◌, ℕ, List, [], ◌∷◌, length, Bool, true, false, Ok, Err, Result, eqb, leb, refl, ◌∙◌, ap, sym, subst, arith, inl, inr}
+use Rattle.std.proofs.Common.{◌≡◌, ◌≢◌, ℕ, List, [], ◌∷◌, length, Bool, true, false, Ok, Err, Result, eqb, leb, refl, ◌∙◌, ap, sym, subst, arith, ◌⊎◌, inl, inr}
 use Rattle.std.proofs.lemmas.Bool.{leb-false}
 use Rattle.std.proofs.lemmas.Bool.Decides.{nat_tests}
 use Rattle.ctf_model.specs.Ask.{ask}
 use Rattle.ctf_model.specs.Lines.{stored}
 use Rattle.ctf_model.specs.Output.{Mark, answered, refused, unread, line_out, calls_after, out, calls_made}
 use Rattle.ctf_model.specs.ReplyLines.{reply_line}
-use Rattle.ctf_model.specs.Runs.{Call, Steps, found_in, own_state, addressed, is_no_memory}
+use Rattle.ctf_model.specs.Runs.{Call, Steps, IsGranted, IsRefused, found_in, own_state, addressed}
 use Rattle.ctf_model.specs.State.{State}
 use Rattle.ctf_model.specs.Steps.{step, Outcome}
 use Rattle.ctf_model.specs.declared.faults.Fault.{Fault}
@@ -41,7 +41,7 @@ own_step start now calls s request held =
     ap (λ (l : State). step l request (found_in now request)) (held s) ∙ ap (step (own_state start calls s) request) (found_same now (own_state start calls) request)
 
 -- a granted call joins the history
-granted_holds : (start old new : ℕ → State) (calls : List Call) (s : ℕ) (request : Request) (reply : Reply) → Holds start calls old → Steps old s request reply new → is_no_memory reply ≡ false
+granted_holds : (start old new : ℕ → State) (calls : List Call) (s : ℕ) (request : Request) (reply : Reply) → Holds start calls old → Steps old s request reply new → IsGranted old s request reply new
     → (q : ℕ) (t : Bool) → eqb s q ≡ t → new q ≡ own_state start (record { session = s; request = request } ∷ calls) q
 granted_holds start old new calls s request reply held st m q false t =
     let other : q ≢ s = λ e. let hit : eqb s s ≡ false = subst (λ (x : ℕ). eqb s x ≡ false) e t in grind (arith, nat_tests, hit) in
@@ -49,15 +49,15 @@ granted_holds start old new calls s request reply held st m q false t =
 granted_holds start old new calls s request reply held st m q true t =
     let same : s ≡ q = grind (arith, nat_tests, t) in
     let here : new q ≡ (step (own_state start calls s) request (found_in (own_state start calls) request)).state =
-    ap new (sym same) ∙ (st.granted m).1 ∙ ap (λ (o : Outcome). o.state) (own_step start old calls s request held) in
+    ap new (sym same) ∙ m.1 ∙ ap (λ (o : Outcome). o.state) (own_step start old calls s request held) in
     rw t (here ∙ ap (λ (x : ℕ). (step (own_state start calls x) request (found_in (own_state start calls) request)).state) same)
 
 -- memory was refused to a call: all libraries stay
-refused_stays : (old new : ℕ → State) (s : ℕ) (request : Request) (reply : Reply) → Steps old s request reply new → is_no_memory reply ≡ true → (q : ℕ) (t : Bool) → eqb s q ≡ t → new q ≡ old q
+refused_stays : (old new : ℕ → State) (s : ℕ) (request : Request) (reply : Reply) → Steps old s request reply new → IsRefused old s reply new → (q : ℕ) (t : Bool) → eqb s q ≡ t → new q ≡ old q
 refused_stays old new s request reply st m q true t =
     let same : s ≡ q = grind (arith, nat_tests, t) in
     let P : ℕ → Type 0 = λ x. new x ≡ old x in
-    subst P same (st.refused m).1
+    subst P same m.1
 refused_stays old new s request reply st m q false t =
     let other : q ≢ s = λ e. let hit : eqb s s ≡ false = subst (λ (x : ℕ). eqb s x ≡ false) e t in grind (arith, nat_tests, hit) in
     st.others q other
@@ -69,22 +69,22 @@ record Done (start : ℕ → State) (calls : List Call) (said : Result (ℕ × R
   pub holds : Holds start (calls_after calls mark said) new
 
 request_done : (start old new : ℕ → State) (calls : List Call) (s : ℕ) (request : Request) (reply : Reply) (written : List ℕ) → Holds start calls old → written ≡ reply_line reply → Steps old s request reply new
-    → (m : Bool) → is_no_memory reply ≡ m → Done start calls (Ok (s, request)) written new
-request_done start old new calls s request reply written held w st true m = record {
+    → IsGranted old s request reply new ⊎ IsRefused old s reply new → Done start calls (Ok (s, request)) written new
+request_done start old new calls s request reply written held w st (inr m) = record {
   mark = refused;
-  wrote = w ∙ ap reply_line (st.refused m).0;
+  wrote = w ∙ ap reply_line m.0;
   holds = λ q. refused_stays old new s request reply st m q (eqb s q) refl ∙ held q;
 }
-request_done start old new calls s request reply written held w st false m = record {
+request_done start old new calls s request reply written held w st (inl m) = record {
   mark = answered;
-  wrote = w ∙ ap reply_line ((st.granted m).0 ∙ ap (λ (o : Outcome). addressed s o.reply) (own_step start old calls s request held));
+  wrote = w ∙ ap reply_line (m.0 ∙ ap (λ (o : Outcome). addressed s o.reply) (own_step start old calls s request held));
   holds = λ q. granted_holds start old new calls s request reply held st m q (eqb s q) refl;
 }
 
 line_done : (start old new : ℕ → State) (calls : List Call) (said : Result (ℕ × Request) (ℕ × Fault)) (written : List ℕ) → Holds start calls old → LineSteps old said written new → Done start calls said written new
 line_done start old new calls said written held (inl none) = record { mark = unread; wrote = none.0; holds = λ q. none.1 q ∙ held q }
 line_done start old new calls (Err refusal) written held (inr told) = record { mark = answered; wrote = told.0; holds = λ q. told.1 q ∙ held q }
-line_done start old new calls (Ok said) written held (inr told) = request_done start old new calls said.0 said.1 told.0 written held told.1 told.2 (is_no_memory told.0) refl
+line_done start old new calls (Ok said) written held (inr told) = request_done start old new calls said.0 said.1 told.0 written held told.1 told.2 told.2.own
 
 -- after a history, the same for all that follows
 record RunsOn (start : ℕ → State) (calls : List Call) (lines replies : List (List ℕ)) (new : ℕ → State) : Type 0 where

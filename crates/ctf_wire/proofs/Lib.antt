@@ -1,4 +1,3 @@
-pub mod NeverMemory
 pub mod QuestionSteps
 pub mod Places
 pub mod Cutting

@@ -1,12 +1,12 @@
 -- Where a session's library stands among the entries.
-use Rattle.std.proofs.Common.{◌≡◌, ◌≢◌, ℕ, ◌+◌, ◌<◌, List, [], ◌∷◌, ◌++◌, length, get_or, set, Bool, true, false, cond, Option, None, Some, eqb, refl, ◌∙◌, ap, sym, subst, arith, add-one, suc}
+use Rattle.std.proofs.Common.{◌≡◌, ◌≢◌, ℕ, ◌+◌, ◌<◌, List, [], ◌∷◌, ◌++◌, length, get_or, set, Bool, true, false, cond, Option, None, Some, eqb, refl, ◌∙◌, ap, sym, subst, arith, add-one, suc, ◌⊎◌, inl, inr}
 use Rattle.std.specs.Prelude.{if◌then◌else◌, option_map}
 use Rattle.std.proofs.lemmas.Bool.Decides.{nat_tests}
 use Rattle.ctf_model.specs.State.{State, empty_state}
 use Rattle.ctf_wire.specs.Table.{library_at, place_of}
 use Rattle.ctf_wire.specs.declared.broker.Entry.{Entry}
 use Rattle.ctf_model.specs.Lists.{Lists}
-use Rattle.ctf_model.specs.Runs.{Steps, Answered, found_in, addressed, is_no_memory}
+use Rattle.ctf_model.specs.Runs.{Steps, IsGranted, IsRefused, Answered, found_in, addressed, is_no_memory}
 use Rattle.ctf_model.specs.Steps.{step, Outcome}
 use Rattle.ctf_model.specs.Answers.{Reply}
 use Rattle.ctf_model.specs.declared.requests.Request.{Request}
@@ -98,6 +98,11 @@ no_library (x ∷ es) s h = at (eqb x.session s) h (no_library es s)
         none_of None e = refl
         none_of (Some i) e = absurd cc
 
+-- one of two, by a test
+either : {A B : Type 0} (b : Bool) → (b ≡ false → A) → (b ≡ true → B) → A ⊎ B
+either false f g = inl (f refl)
+either true f g = inr (g refl)
+
 -- one answered call, in the entries
 pub stepped : (old es : List Entry) (s i : ℕ) (request : Request) (found : Option Lists) (said reply : Reply) (e e2 : Entry) → place_of es s ≡ Some i → ((q : ℕ) → library_at es q ≡ library_at old q)
     → found ≡ found_in (library_at old) request → e ≡ get_or es i e → e2.session ≡ e.session → Answered e.library (step e.library request found) said e2.library → reply ≡ addressed s said → Steps (library_at old) s request reply (library_at (set es i e2))
@@ -106,9 +111,11 @@ stepped old es s i request found said reply e e2 place same found_is e_is sessio
     let own : e.library ≡ library_at old s = ap (λ (x : Entry). x.library) e_is ∙ p.library e ∙ same s in
     let named : e2.session ≡ s = session ∙ ap (λ (x : Entry). x.session) e_is ∙ p.session e in
     let out : step e.library request found ≡ step (library_at old s) request (found_in (library_at old) request) = ap (λ l. step l request found) own ∙ ap (step (library_at old s) request) found_is in
-    let memory : is_no_memory reply ≡ is_no_memory said = ap is_no_memory sent in
+    let granted : is_no_memory said ≡ false → IsGranted (library_at old) s request reply (library_at (set es i e2)) =
+    λ m. let g = a.granted m in (sent ∙ ap (addressed s) (g.0 ∙ ap (λ (o : Outcome). o.reply) out), p.own e2 named ∙ g.1 ∙ ap (λ (o : Outcome). o.state) out) in
+    let refused : is_no_memory said ≡ true → IsRefused (library_at old) s reply (library_at (set es i e2)) =
+    λ m. let g = a.refused m in (sent ∙ ap (addressed s) g.0, p.own e2 named ∙ g.1 ∙ own) in
     record {
-      granted = λ m. let g = a.granted (sym memory ∙ m) in (sent ∙ ap (addressed s) (g.0 ∙ ap (λ (o : Outcome). o.reply) out), p.own e2 named ∙ g.1 ∙ ap (λ (o : Outcome). o.state) out);
-      refused = λ m. let g = a.refused (sym memory ∙ m) in (sent ∙ ap (addressed s) g.0, p.own e2 named ∙ g.1 ∙ own);
+      own = either (is_no_memory said) granted refused;
       others = λ q ne. p.others e2 q named ne ∙ same q;
     }

@@ -1,33 +1,26 @@
 -- A question among the libraries of all sessions.
-use Rattle.std.proofs.Common.{◌≡◌, ℕ, List, ◌++◌, true, None, Result, refl, sym, ap, ◌∙◌, ◌⊎◌, inl, inr}
+use Rattle.std.proofs.Common.{◌≡◌, ℕ, List, ◌++◌, Result, refl, ap, ◌⊎◌, inl, inr}
 use Rattle.ctf_model.specs.Answers.{Answer, Reply}
 use Rattle.ctf_model.specs.ReplyLines.{reply_line}
-use Rattle.ctf_model.specs.Runs.{Steps, is_no_memory, no_memory, addressed}
+use Rattle.ctf_model.specs.Runs.{Steps, IsGranted, IsRefused, no_memory}
 use Rattle.ctf_model.specs.State.{State}
-use Rattle.ctf_model.specs.Steps.{Outcome, step, outcome_of, is_question}
+use Rattle.ctf_model.specs.Steps.{answer_to, MayAnswer}
 use Rattle.ctf_model.specs.declared.faults.Fault.{Fault}
+use Rattle.ctf_model.specs.declared.questions.Question.{Question}
 use Rattle.ctf_model.specs.declared.requests.Request.{Request}
-use Rattle.ctf_wire.proofs.NeverMemory.{question_granted}
+use Rattle.ctf_model.specs.declared.requests.Request.TheVariants.{Asks}
 
--- an answer that is the step's is a step which changes nothing
-answered : (old : ℕ → State) (s : ℕ) (q : Request) (said : Result Answer Fault) → is_question q ≡ true → step (old s) q None ≡ outcome_of said (old s) → Steps old s q (record { session = s; outcome = said }) old
-answered old s q said question e = record {
-  granted = λ m. (sym (ap (λ (o : Outcome). addressed s o.reply) e), sym (ap (λ (o : Outcome). o.state) e));
-  refused = λ m. let never = question_granted (old s) q question in let clash = sym (ap (λ (o : Outcome). is_no_memory o.reply) e) ∙ never in absurd cc;
-  others = λ other ne. refl;
-}
+abbrev reply_to : ℕ → Result Answer Fault → Reply
+reply_to s outcome = record { session = s; outcome = outcome }
 
--- so is the refusal of memory
-refused : (old : ℕ → State) (s : ℕ) (q : Request) → Steps old s q (no_memory s) old
-refused old s q = record {
-  granted = λ m. absurd cc;
-  refused = λ m. (refl, refl);
-  others = λ other ne. refl;
-}
+-- a question changes nothing, however it is answered
+stays : (old : ℕ → State) (s : ℕ) (request : Request) (reply : Reply) → IsGranted old s request reply old ⊎ IsRefused old s reply old → Steps old s request reply old
+stays old s request reply own = record { own = own; others = λ other ne. refl }
 
 -- whichever line was written
-pub question_step : (old : ℕ → State) (s : ℕ) (q : Request) (said : Result Answer Fault) (before after : List ℕ) → is_question q ≡ true → step (old s) q None ≡ outcome_of said (old s)
-    → (after ≡ before ++ reply_line (record { session = s; outcome = said })) ⊎ (after ≡ before ++ reply_line (no_memory s))
-    → (reply : Reply) × Steps old s q reply old × (after ≡ before ++ reply_line reply)
-question_step old s q said before after question e (inl line) = (record { session = s; outcome = said }, answered old s q said question e, line)
-question_step old s q said before after question e (inr line) = (no_memory s, refused old s q, line)
+pub question_step : (old : ℕ → State) (s d : ℕ) (q : Question) (result : Result Answer Fault) (before after : List ℕ) → MayAnswer (answer_to d q (old s)) result
+    → (after ≡ before ++ reply_line (reply_to s result)) ⊎ (after ≡ before ++ reply_line (no_memory s))
+    → (reply : Reply) × Steps old s (Asks d q) reply old × (after ≡ before ++ reply_line reply)
+question_step old s d q result before after may (inr line) = (no_memory s, stays old s (Asks d q) (no_memory s) (inr (refl, refl)), line)
+question_step old s d q result before after (inl said) (inl line) = (reply_to s result, stays old s (Asks d q) (reply_to s result) (inl (ap (reply_to s) said, refl)), line)
+question_step old s d q result before after (inr none) (inl line) = (reply_to s result, stays old s (Asks d q) (reply_to s result) (inr (ap (reply_to s) none, refl)), line)

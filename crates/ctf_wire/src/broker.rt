@@ -2,12 +2,14 @@
 ghost use Rattle.std.specs.Prelude.{◌≡◌, ◌≢◌, ℕ, IfOk, None, Some, true, false, OnErr};
 ghost use Rattle.ctf_model.specs.Runs.{Steps};
 ghost use Rattle.ctf_model.specs.State.{empty_state};
-ghost use Rattle.ctf_model.specs.Steps.{step, is_question, outcome_of};
-ghost use Rattle.ctf_library.specs.Seen.{outcome_seen, said_to};
+ghost use Rattle.ctf_model.specs.Steps.{answer_to, MayAnswer};
+ghost use Rattle.ctf_answers.specs.Replies.{said_to};
+ghost use Rattle.ctf_model.specs.declared.requests.Request.TheVariants.{Changes};
 ghost use Rattle.ctf_wire.specs.Table.{library_at, place_of};
 
-use ctf_library::{Answer, Change, Library};
-use ctf_model::{Fault, Request, placeless};
+use ctf_answers::{Answer, Counts};
+use ctf_library::Library;
+use ctf_model::{Change, Fault, Question, SlotNumber, placeless};
 use std::alloc::{AllocError, Global};
 use std::marker::Model;
 
@@ -50,23 +52,26 @@ impl Broker {
         self.alloc
     }
 
-    /// Makes the step of a request that is no question: the session's own library makes it, and all
+    /// Makes the step of a change: the session's own library makes it, and all
     /// others stay.
-    pub fn step(&mut self, session: u32, request: &Request) -> Result<Change, Fault>
+    pub fn step(&mut self, session: u32, change: &Change) -> Result<Counts, Fault>
         requires session { session ≢ 0 }
-        requires change { is_question request.now ≡ false }
-        ensures { Steps (library_at self.old) session request.now (said_to session result) (library_at self.new) }
+        ensures { Steps (library_at self.old) session (Changes change.now) (said_to session result) (library_at self.new) }
     {
-        step_in(self.alloc, &mut self.entries, session, request)
+        step_in(self.alloc, &mut self.entries, session, change)
     }
 
     /// Answers a question of a session. Names and lists are lent from its own library.
-    pub fn answer<'a>(&'a self, session: u32, question: &Request) -> Result<Answer<'a>, Fault>
-        requires { is_question question.now ≡ true }
-        ensures { step (library_at self.now session) question.now None ≡ outcome_of (outcome_seen result) (library_at self.now session) }
+    pub fn answer<'a>(
+        &'a self,
+        session: u32,
+        d: SlotNumber,
+        question: &Question,
+    ) -> Result<Answer<'a>, Fault>
+        ensures { MayAnswer (answer_to d question.now (library_at self.now session)) result }
     {
         match find_place(&self.entries, session) {
-            Some(place) => self.entries[place].library.answer(question),
+            Some(place) => self.entries[place].library.answer(d, question),
             None => Err(placeless(Fault::NO_SLOT)),
         }
     }
@@ -76,16 +81,15 @@ fn step_in(
     alloc: Global,
     entries: &mut Vec<Entry>,
     session: u32,
-    request: &Request,
-) -> Result<Change, Fault>
-    requires { is_question request.now ≡ false }
-    ensures { Steps (library_at entries.old.items) session request.now (said_to session result) (library_at entries.new.items) }
+    change: &Change,
+) -> Result<Counts, Fault>
+    ensures { Steps (library_at entries.old.items) session (Changes change.now) (said_to session result) (library_at entries.new.items) }
 {
     let Ok(place) = make_place(alloc, entries, session) else {
         return Err(placeless(Fault::MEMORY));
     };
     let entry = &mut entries[place];
-    entry.library.step(request)
+    entry.library.step(change)
 }
 
 /// The place of a session, with an empty library if it is new.

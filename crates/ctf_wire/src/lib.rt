@@ -16,7 +16,8 @@ mod sources;
 mod writers;
 
 pub use broker::Broker;
-pub use ctf_library::{Answer, Change, Detail, Head, Library, Reply};
+pub use ctf_answers::{Answer, Counts, Reply, Single};
+pub use ctf_library::Library;
 pub use ctf_lines::{FromLine, ToLine, memory_line};
 pub use readers::FromReader;
 pub use run_faults::RunFault;
@@ -25,5 +26,3 @@ pub use sinks::Sink;
 pub use sources::Source;
 pub use writers::ToWriter;
 
-#[cfg(test)]
-mod tests;

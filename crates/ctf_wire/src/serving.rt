@@ -5,7 +5,7 @@ ghost use Rattle.ctf_model.specs.Lines.{all_lines, whole_lines};
 ghost use Rattle.ctf_model.specs.ReplyLines.{reply_line};
 ghost use Rattle.ctf_model.specs.Answers.{Reply as SaidReply};
 ghost use Rattle.ctf_model.specs.Runs.{Steps, no_memory};
-ghost use Rattle.ctf_library.specs.Seen.{reply_seen, said_to};
+ghost use Rattle.ctf_answers.specs.Replies.{reply_of, said_to};
 ghost use Rattle.ctf_wire.specs.Table.{library_at};
 ghost use Rattle.ctf_wire.specs.Pulls.{lines_read};
 ghost use Rattle.ctf_wire.specs.Serving.{BrokerStep, ServesAlone, WritesOut, BreaksOff};
@@ -16,13 +16,13 @@ use crate::machines::Machine;
 use crate::run_faults::RunFault;
 use crate::sinks::Sink;
 use crate::sources::Source;
-use ctf_library::{Change, Reply};
+use ctf_answers::{Counts, Reply};
 use ctf_lines::{FromLine, ToLine, write_change};
 use ctf_model::{Fault, Request, placeless};
 use std::alloc::Global;
 
 /// Appends the line of a short reply.
-fn append_short(out: &mut Vec<u8>, session: u32, outcome: Result<Change, Fault>)
+fn append_short(out: &mut Vec<u8>, session: u32, outcome: Result<Counts, Fault>)
     requires { vec_len out.old + 96 ≤ vec_capacity out.old }
     ensures line { out.new.items ≡ out.old.items ++ reply_line (said_to session outcome) }
     ensures capacity { vec_capacity out.old ≤ vec_capacity out.new }
@@ -33,7 +33,7 @@ fn append_short(out: &mut Vec<u8>, session: u32, outcome: Result<Change, Fault>)
 /// Appends the line of the answer to a question, or that memory for it was refused.
 fn append_answer(out: &mut Vec<u8>, reply: &Reply<'_>)
     requires { vec_len out.old + 96 ≤ vec_capacity out.old }
-    ensures line { (out.new.items ≡ out.old.items ++ reply_line (reply_seen reply.now))
+    ensures line { (out.new.items ≡ out.old.items ++ reply_line (reply_of reply.now))
         ⊎ (out.new.items ≡ out.old.items ++ reply_line (no_memory reply.now.session)) }
     ensures capacity { vec_capacity out.old ≤ vec_capacity out.new }
 {
@@ -65,12 +65,15 @@ fn answer_request(broker: &mut Broker, session: u32, request: &Request, out: &mu
     ensures capacity { vec_capacity out.old ≤ vec_capacity out.new }
     ensures reply { (reply : SaidReply) × Steps (library_at broker.old) session request.now reply (library_at broker.new) × (out.new.items ≡ out.old.items ++ reply_line reply) }
 {
-    if request.is_question() {
-        let outcome = broker.answer(session, request);
-        append_answer(out, &Reply { session, outcome });
-    } else {
-        let outcome = broker.step(session, request);
-        append_short(out, session, outcome);
+    match request {
+        Request::Asks { d, question } => {
+            let outcome = broker.answer(session, *d, question);
+            append_answer(out, &Reply { session, outcome });
+        }
+        Request::Changes(change) => {
+            let outcome = broker.step(session, change);
+            append_short(out, session, outcome);
+        }
     }
 }
 

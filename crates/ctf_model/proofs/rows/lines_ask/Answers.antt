@@ -3,8 +3,9 @@ use Rattle.std.specs.Str.{is_utf8, chars}
 use Rattle.hex.proofs.OnLiterals.{hex_on_literals}
 use Rattle.serde_json.proofs.OnLiterals.{serde_json_on_literals}
 use Rattle.ctf_model.specs.Ask.{ask}
+use Rattle.ctf_model.specs.Words.{words}
 use Rattle.ctf_model.proofs.rows.lines_ask.Goals as goal
 
 pub returns : goal.returns
-unfolding ask is_utf8 chars hex_on_literals serde_json_on_literals
+unfolding ask words is_utf8 chars hex_on_literals serde_json_on_literals
 returns c = record { reset = refl; opens = refl; kind = refl; part = refl; not_json = refl; no_object = refl; no_session = refl; no_word = refl; great_type = refl; odd_digits = refl }

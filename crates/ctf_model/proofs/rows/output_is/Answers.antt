@@ -5,10 +5,11 @@ use Rattle.hex.proofs.OnLiterals.{hex_on_literals}
 use Rattle.serde_json.proofs.OnLiterals.{serde_json_on_literals}
 use Rattle.ctf_model.specs.FaultNames.{name_of_fault}
 use Rattle.ctf_model.specs.Ask.{ask}
-use Rattle.ctf_model.specs.Steps.{step}
+use Rattle.ctf_model.specs.Words.{words}
+use Rattle.ctf_model.specs.Steps.{change_step}
 use Rattle.ctf_model.specs.ReplyLines.{fitting_line}
 use Rattle.ctf_model.proofs.rows.output_is.Goals as goal
 
 pub returns : goal.returns
-unfolding digits ask is_utf8 chars hex_on_literals serde_json_on_literals step name_of_fault fitting_line
+unfolding digits ask words is_utf8 chars hex_on_literals serde_json_on_literals change_step name_of_fault fitting_line
 returns c = record { written = refl }

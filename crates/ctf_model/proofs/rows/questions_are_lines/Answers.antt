@@ -3,11 +3,12 @@ use Rattle.std.specs.Str.{is_utf8, chars}
 use Rattle.hex.proofs.OnLiterals.{hex_on_literals}
 use Rattle.serde_json.proofs.OnLiterals.{serde_json_on_literals}
 use Rattle.ctf_model.specs.Ask.{ask}
+use Rattle.ctf_model.specs.Words.{words}
 use Rattle.std.specs.Fmt.{digits}
 use Rattle.ctf_model.specs.FaultNames.{name_of_fault}
 use Rattle.ctf_model.specs.ReplyLines.{fitting_line}
 use Rattle.ctf_model.proofs.rows.questions_are_lines.Goals as goal
 
 pub returns : goal.returns
-unfolding digits name_of_fault fitting_line ask is_utf8 chars hex_on_literals serde_json_on_literals
-returns c = record { window = refl; no_window = refl; null_window = refl; great_count = refl; check = refl; plain = refl; escaped = refl; two_members = refl; no_members = refl; enumerators = refl; arguments = refl; array = refl; encoding = refl; sized = refl; naming = refl; declaring = refl; bare = refl }
+unfolding digits name_of_fault fitting_line ask words is_utf8 chars hex_on_literals serde_json_on_literals
+returns c = record { window = refl; no_window = refl; null_window = refl; great_count = refl; check = refl; plain = refl; escaped = refl; enumerators = refl; naming = refl; declaring = refl; bare = refl }

@@ -6,9 +6,9 @@ use Rattle.ctf_model.specs.Faults.{first_fault, rules, types, first_nameless, la
 use Rattle.ctf_model.specs.References.{is_misnaming}
 use Rattle.ctf_model.specs.Spelling.{term_of}
 use Rattle.ctf_model.specs.Section.{front_len, terms_in, walk}
-use Rattle.ctf_model.specs.Steps.{step}
+use Rattle.ctf_model.specs.Steps.{change_step}
 use Rattle.ctf_model.proofs.rows.session_runs.Goals as goal
 
 pub returns : goal.returns
-unfolding number denoted said_by labels_in terms_in first_fault rules types first_nameless label_sites item_sites record_sites sites bad_name is_misnaming first_misnaming bad_reference first_deep edges_by edges within term_of front_len walk step
+unfolding number denoted said_by labels_in terms_in first_fault rules types first_nameless label_sites item_sites record_sites sites bad_name is_misnaming first_misnaming bad_reference first_deep edges_by edges within term_of front_len walk change_step
 returns c = record { replies = refl; opened = refl; reset = refl; refused = refl }

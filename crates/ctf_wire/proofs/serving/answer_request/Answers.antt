@@ -1,10 +1,7 @@
-use Rattle.std.proofs.Common.{sym}
-use Rattle.ctf_library.specs.Seen.{outcome_seen}
 use Rattle.ctf_wire.specs.Table.{library_at}
 use Rattle.ctf_wire.proofs.QuestionSteps.{question_step}
 use Rattle.ctf_wire.proofs.serving.answer_request.Goals as goal
 
-pub returns-then-is_question-clause-reply : goal.returns-then-is_question-clause-reply
-returns-then-is_question-clause-reply c =
-    question_step (library_at c.args.broker.now) c.args.session c.args.request.now (outcome_seen c.answer-outcome.result) c.args.out.now.items c.append_answer.new.out.items
-    (sym c.if-is_question.ensures) c.answer-outcome.ensures c.append_answer.ensures.line
+pub returns-in-Asks-clause-reply : goal.returns-in-Asks-clause-reply
+returns-in-Asks-clause-reply c =
+    rw c.in-Asks.is (question_step (library_at c.args.broker.now) c.args.session _ _ c.answer-outcome.result c.args.out.now.items c.append_answer.new.out.items c.answer-outcome.ensures c.append_answer.ensures.line)

@@ -1,7 +1,7 @@
 use Rattle.std.proofs.Common.{◌++◌, ℕ, List, Err, inr, ap, ◌∙◌}
 use Rattle.ctf_model.specs.ReplyLines.{reply_line}
 use Rattle.ctf_model.specs.declared.faults.Fault.{Fault}
-use Rattle.ctf_library.specs.Seen.{said_to}
+use Rattle.ctf_answers.specs.Replies.{said_to}
 use Rattle.ctf_wire.proofs.serving.append_answer.Goals as goal
 
 pub returns-in-Err-clause-line : goal.returns-in-Err-clause-line

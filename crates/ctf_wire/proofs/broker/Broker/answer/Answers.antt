@@ -1,12 +1,10 @@
-use Rattle.std.proofs.Common.{◌≡◌, List, None, get_or, Err, sym, ap, subst, ◌∙◌, arith}
+use Rattle.std.proofs.Common.{◌≡◌, List, get_or, Err, sym, ap, subst, ◌∙◌, arith, inl}
 use Rattle.ctf_model.specs.State.{State}
-use Rattle.ctf_model.specs.Steps.{step, outcome_of}
+use Rattle.ctf_model.specs.Steps.{answer_to, MayAnswer}
 use Rattle.ctf_model.specs.declared.faults.Fault.{Fault}
-use Rattle.ctf_library.specs.Seen.{outcome_seen}
 use Rattle.ctf_wire.specs.Table.{place_of}
 use Rattle.ctf_wire.specs.declared.broker.Entry.{Entry}
 use Rattle.ctf_wire.proofs.Places.{is_place, library_found, no_library}
-use Rattle.ctf_library.proofs.TypeQuestions.{no_slots}
 use Rattle.ctf_wire.proofs.broker.Broker.answer.Goals as goal
 
 pub index-requires : goal.index-requires
@@ -22,12 +20,11 @@ returns-in-Some c =
     let placed = ap (λ (es : List Entry). place_of es c.args.session) (sym same) ∙ sym c.in-Some.ensures in
     let entry = c.index.result.now in
     let own = library_found entries c.args.session c.in-Some.place entry placed (c.index.ensures ∙ ap (λ (es : List Entry). get_or es c.in-Some.place entry) c.self.view_is) in
-    subst (λ (l : State). step l c.args.question.now None ≡ outcome_of (outcome_seen c.answer.result) l) own c.answer.ensures
+    subst (λ (l : State). MayAnswer (answer_to c.args.d c.args.question.now l) c.answer.result) own c.answer.ensures.answer
 
 pub returns-in-None : goal.returns-in-None
 returns-in-None c =
-    let entries = c.args.self.now in
     let same = c.deref.ensures.value ∙ c.self.view_is in
     let placed = ap (λ (es : List Entry). place_of es c.args.session) (sym same) ∙ sym c.in-None.ensures in
-    let own = no_library entries c.args.session placed in
-    subst (λ (l : State). step l c.args.question.now None ≡ outcome_of (Err c.placeless.result) l) (sym own) (no_slots c.args.question.now c.requires ∙ ap (λ (f : Fault). outcome_of (Err f) _) (sym c.placeless.ensures))
+    let own = no_library c.args.self.now c.args.session placed in
+    subst (λ (l : State). MayAnswer (answer_to c.args.d c.args.question.now l) (Err c.placeless.result)) (sym own) (inl (ap (λ (f : Fault). Err f) c.placeless.ensures))

@@ -1,0 +1,13 @@
+-- What lent fields show.
+use Rattle.ctf_model.specs.Answers as answers
+use Rattle.ctf_answers.specs.Singles.{single_of}
+use Rattle.ctf_answers.specs.declared.fields.Value.{Value}
+use Rattle.ctf_answers.specs.declared.fields.Value.TheVariants.{One, Many}
+use Rattle.ctf_answers.specs.declared.fields.Field.{Field}
+
+abbrev pub value_of : Value → answers.Value
+value_of (One value) = answers.one (single_of value)
+value_of (Many items) = answers.many items
+
+abbrev pub field_of : Field → answers.Field
+field_of f = record { key = f.key.now; value = value_of f.value }

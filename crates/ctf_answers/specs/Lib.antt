@@ -1,0 +1,5 @@
+pub mod Singles
+pub mod Items
+pub mod Fields
+pub mod Counts
+pub mod Replies

@@ -1,0 +1,22 @@
+-- What lent replies show, and those of changes.
+use Rattle.std.specs.Prelude.{ℕ, Result, Ok, Err}
+use Rattle.ctf_model.specs.Answers as answers
+use Rattle.ctf_model.specs.declared.faults.Fault.{Fault}
+use Rattle.ctf_answers.specs.Counts.{counts_said}
+use Rattle.ctf_answers.specs.declared.counts.Counts.{Counts}
+use Rattle.ctf_answers.specs.declared.replies.Reply.{Reply}
+
+abbrev pub reply_of : Reply → answers.Reply
+reply_of r = record { session = r.session; outcome = r.outcome }
+
+abbrev pub changed : Result Counts Fault → Result answers.Answer Fault
+changed (Ok counts) = Ok (counts_said counts)
+changed (Err fault) = Err fault
+
+-- the reply to a change
+abbrev pub said_to : ℕ → Result Counts Fault → answers.Reply
+said_to session outcome = record { session = session; outcome = changed outcome }
+
+-- the same, not yet addressed to its session
+abbrev pub said : Result Counts Fault → answers.Reply
+said outcome = said_to 0 outcome

@@ -1,0 +1,64 @@
+//! What a change is answered: few numbers, owned.
+ghost use Rattle.std.specs.Prelude.{◌≡◌, ◌≤◌, [], ◌∷◌, length};
+ghost use Rattle.ctf_model.specs.Answers.{says, number as number_said};
+ghost use Rattle.ctf_answers.specs.Counts.{counts_said};
+
+use crate::answers::Answer;
+use crate::count::Count;
+use crate::singles::Single;
+
+/// What a granted change is answered: nothing but that it is done, or one or two numbers.
+#[derive(Clone, Copy)]
+pub struct Counts {
+    pub first: Option<Count>,
+    pub second: Option<Count>,
+}
+
+impl Counts {
+    pub fn done() -> Counts
+        ensures { counts_said result ≡ [] }
+    {
+        Counts {
+            first: None,
+            second: None,
+        }
+    }
+
+    pub fn one(key: &'static str, number: u64) -> Counts
+        requires { length key.now ≤ 6 }
+        ensures { counts_said result ≡ says key.now (number_said number) ∷ [] }
+    {
+        Counts {
+            first: Some(Count { key, number }),
+            second: None,
+        }
+    }
+
+    pub fn two(key: &'static str, number: u64, key2: &'static str, number2: u64) -> Counts
+        requires first { length key.now ≤ 6 }
+        requires second { length key2.now ≤ 6 }
+        ensures { counts_said result ≡ says key.now (number_said number) ∷ says key2.now (number_said number2) ∷ [] }
+    {
+        Counts {
+            first: Some(Count { key, number }),
+            second: Some(Count {
+                key: key2,
+                number: number2,
+            }),
+        }
+    }
+
+    /// The answer that says so.
+    pub fn answer<'a>(self) -> Answer<'a>
+        ensures { result ≡ counts_said self }
+    {
+        let mut answer = Answer::done();
+        if let Some(count) = self.first {
+            answer = answer.with(count.key, Single::Number(count.number));
+        }
+        if let Some(count) = self.second {
+            answer = answer.with(count.key, Single::Number(count.number));
+        }
+        answer
+    }
+}

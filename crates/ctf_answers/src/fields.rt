@@ -1,0 +1,27 @@
+//! The fields of an answer.
+
+use crate::listed::Listed;
+use crate::singles::Single;
+
+/// The value of a field.
+#[derive(Drop)]
+pub enum Value<'a> {
+    One(Single<'a>),
+    Many(Listed<'a>),
+}
+
+/// A key and its value.
+#[derive(Drop)]
+pub struct Field<'a> {
+    pub key: &'static str,
+    pub value: Value<'a>,
+}
+
+impl<'a> Default for Field<'a> {
+    fn default() -> Field<'a> {
+        Field {
+            key: "",
+            value: Value::One(Single::Number(0)),
+        }
+    }
+}

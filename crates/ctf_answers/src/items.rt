@@ -1,0 +1,77 @@
+//! Lists, and their items.
+ghost use Rattle.std.specs.Prelude.{◌≡◌, ◌<◌, length, Some, slice_get};
+ghost use Rattle.ctf_model.specs.Answers.{entry as said_entry};
+ghost use Rattle.ctf_model.specs.Questions.{member_item as said_member, enumerator_item as said_enumerator};
+ghost use Rattle.ctf_views.specs.ItemsView.{member as member_seen, enumerator as enumerator_seen};
+ghost use Rattle.ctf_answers.specs.Singles.{single_of, entry_of};
+ghost use Rattle.ctf_answers.specs.Items.{item_of, items_of};
+
+use crate::singles::{Entry, Single};
+use ctf_views::{Args, Enumerator, Enumerators, Member, Members};
+
+/// An item of a list: a value by itself, or an object of two or three parts.
+#[derive(Clone, Copy)]
+pub enum Item<'a> {
+    Bare(Single<'a>),
+    Two(Entry<'a>, Entry<'a>),
+    Three(Entry<'a>, Entry<'a>, Entry<'a>),
+}
+
+/// All items of a list.
+#[derive(Drop)]
+pub enum Items<'a> {
+    Members(Members<'a>),
+    Enumerators(Enumerators<'a>),
+    Arguments(Args<'a>),
+}
+
+fn entry<'a>(key: &'static str, value: Single<'a>) -> Entry<'a>
+    ensures { entry_of result ≡ said_entry key.now (single_of value.entry) }
+{
+    Entry { key, value }
+}
+
+fn member_item<'a>(member: Member<'a>) -> Item<'a>
+    ensures { item_of result ≡ said_member (member_seen member.entry) }
+{
+    Item::Three(
+        entry("name", Single::Text(member.name)),
+        entry("offset", Single::Number(member.offset)),
+        entry("type", Single::Number(u64::from(member.tnum.0))),
+    )
+}
+
+fn enumerator_item<'a>(enumerator: Enumerator<'a>) -> Item<'a>
+    ensures { item_of result ≡ said_enumerator (enumerator_seen enumerator.entry) }
+{
+    Item::Two(
+        entry("name", Single::Text(enumerator.name)),
+        entry("value", Single::Signed(enumerator.value)),
+    )
+}
+
+impl<'a> Items<'a> {
+    pub fn len(&self) -> usize
+        ensures { result ≡ length (items_of self.now) }
+    {
+        match self {
+            Items::Members(members) => members.len(),
+            Items::Enumerators(enumerators) => enumerators.len(),
+            Items::Arguments(args) => args.len(),
+        }
+    }
+
+    /// The item with a number, from 0.
+    pub(crate) fn get(&self, index: usize) -> Item<'a>
+        requires { index < length (items_of self.now) }
+        ensures { Some (item_of result) ≡ slice_get (items_of self.now) index }
+    {
+        match self {
+            Items::Members(members) => member_item(members.get(index).unwrap()),
+            Items::Enumerators(enumerators) => enumerator_item(enumerators.get(index).unwrap()),
+            Items::Arguments(args) => {
+                Item::Bare(Single::Number(u64::from(args.get(index).unwrap().0)))
+            }
+        }
+    }
+}

@@ -1,0 +1,22 @@
+//! What a session is answered: fields of single values and of lists, lent from its dictionaries.
+#![tactic(auto)]
+
+mod answers;
+mod count;
+mod counts;
+mod fields;
+mod items;
+mod listed;
+mod names;
+mod replies;
+mod singles;
+
+pub use answers::Answer;
+pub use count::Count;
+pub use counts::Counts;
+pub use fields::{Field, Value};
+pub use items::{Item, Items};
+pub use listed::Listed;
+pub use names::{kind_name, tag_name};
+pub use replies::Reply;
+pub use singles::{Entry, Single};

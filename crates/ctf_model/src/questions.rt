@@ -1,0 +1,43 @@
+//! What a session may ask, without changing anything.
+
+use crate::numbers::TypeNum;
+
+/// Which items of a list are asked for.
+#[derive(Clone, Copy, Debug, PartialEq, Eq)]
+pub struct Window {
+    /// The first of them, from 0.
+    pub from: u32,
+    /// At most how many; all from there on where it is `None`.
+    pub count: Option<u32>,
+}
+
+/// A question on a type.
+#[derive(Clone, Copy, Debug, PartialEq, Eq)]
+pub enum TypeQuestion {
+    /// Its kind.
+    Kind,
+    /// What it is, without its list.
+    Record,
+    /// Members of a struct or union.
+    Members(Window),
+    /// Enumerators of an enum.
+    Enumerators(Window),
+    /// The arguments of a function, and what it returns.
+    Args,
+    /// The contents, the index and the count of an array.
+    Array,
+    /// How the value of an integer or a float is encoded.
+    Encoding,
+    /// The type that it points to, renames or qualifies.
+    Reference,
+}
+
+/// A question to a slot.
+#[derive(Drop)]
+pub enum Question {
+    /// On a type of its dictionary.
+    OfType {
+        t: TypeNum,
+        question: TypeQuestion,
+    },
+}
