@@ -15,6 +15,7 @@ pub mod Chains
 pub mod Needs
 pub mod TypeNumbers
 pub mod State
+pub mod OwnedLists
 pub mod Answers
 pub mod Shown
 pub mod KindNames

@@ -39,7 +39,7 @@ pub fn faultless_exactly_where_denoted()
     ensures computed { ComputesWhatIsDenoted }
 {}
 
-/// The keys of each answer on a type stand in byte order.
+/// The keys of each answer, and of each object in it, stand in byte order, whatever was asked of which library.
 pub fn keys_rise()
     ensures { KeysRise }
 {}
