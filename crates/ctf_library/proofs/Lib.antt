@@ -1,4 +1,3 @@
 pub mod SpelledHead
-pub mod Faulting
-pub mod Asked
+pub mod SaidOfFacts
 pub mod Described

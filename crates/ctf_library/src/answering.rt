@@ -96,7 +96,7 @@ fn is_variadic(args: &Args<'_>) -> bool
 }
 
 /// How many arguments are named: all but a last 0.
-#[tactic(auto, using(crate::proofs::Asked::take_numbers))]
+#[tactic(auto, using(crate::proofs::SaidOfFacts::take_numbers))]
 fn named_count(args: &Args<'_>) -> usize
     ensures named { take result (map number_item args.now) ≡ map number_item (named_arguments args.now) }
     ensures inside { result ≤ length args.now }

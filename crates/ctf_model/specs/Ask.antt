@@ -9,6 +9,7 @@ use Rattle.serde_json.specs.Data.{Data}
 use Rattle.serde_json.specs.Find.{get, as_number, as_u64, as_str}
 use Rattle.serde_json.specs.Read.{read}
 use Rattle.ctf_model.specs.Lines.{longest_line}
+use Rattle.ctf_model.specs.Refusals.{placeless}
 use Rattle.ctf_model.specs.declared.faults.Fault.{Fault}
 use Rattle.ctf_model.specs.declared.faults.TheConstants.Fault.{NOT_JSON, BAD_REQUEST, LONG_LINE}
 use Rattle.ctf_model.specs.declared.numbers.TypeNum.{TypeNum}
@@ -104,9 +105,6 @@ abbrev pub request_asked : Data → Option Request
 request_asked line = option_and_then (asked_with line) (word_asked line)
 
 -- ---- lines
-
-abbrev pub placeless : ℕ → Fault
-placeless code = record { code = code; place = 0 }
 
 abbrev pub or_bad_request : ℕ → Option Request → Result (ℕ × Request) (ℕ × Fault)
 or_bad_request s None = Err (s, placeless BAD_REQUEST)

@@ -14,6 +14,7 @@ pub mod References
 pub mod Chains
 pub mod Needs
 pub mod TypeNumbers
+pub mod Refusals
 pub mod State
 pub mod OwnedLists
 pub mod Answers

@@ -6,12 +6,13 @@ use Rattle.ctf_model.specs.Answers as answers
 use Rattle.ctf_model.specs.Dictionary.{said_by}
 use Rattle.ctf_model.specs.Faults.{first_fault}
 use Rattle.ctf_model.specs.Lists.{Lists}
+use Rattle.ctf_model.specs.Refusals.{placeless, want_of_memory}
 use Rattle.ctf_model.specs.State.{State, Slot, empty_state, empty_stage}
 use Rattle.ctf_model.specs.Questions.{type_said}
 use Rattle.ctf_model.specs.Term.{Term}
 use Rattle.ctf_model.specs.TypeNumbers.{type_at}
 use Rattle.ctf_model.specs.declared.faults.Fault.{Fault}
-use Rattle.ctf_model.specs.declared.faults.TheConstants.Fault.{MEMORY, NO_SLOT, SLOTS_FULL, STAGE_FULL}
+use Rattle.ctf_model.specs.declared.faults.TheConstants.Fault.{NO_SLOT, SLOTS_FULL, STAGE_FULL}
 use Rattle.ctf_model.specs.declared.requests.ListName.{ListName}
 use Rattle.ctf_model.specs.declared.requests.ListName.TheVariants.{Ctf, Str}
 use Rattle.ctf_model.specs.declared.requests.Request.{Request}
@@ -36,7 +37,7 @@ grants answer state = outcome_of (Ok answer) state
 
 -- a refusal leaves the library as it was
 abbrev pub refuses : ℕ → State → Outcome
-refuses code state = outcome_of (Err (record { code = code; place = 0 })) state
+refuses code state = outcome_of (Err (placeless code)) state
 
 -- ---- part
 
@@ -116,7 +117,7 @@ abbrev pub slot_said : Question → Slot → Result Answer Fault
 slot_said (OfType t question) slot = type_said question (slot_type t.0 slot)
 
 abbrev pub said_by_slot : Question → Option Slot → Result Answer Fault
-said_by_slot question None = Err (record { code = NO_SLOT; place = 0 })
+said_by_slot question None = Err (placeless NO_SLOT)
 said_by_slot question (Some slot) = slot_said question slot
 
 -- what a question to a slot is answered
@@ -136,7 +137,7 @@ is_quiet (OfType t question) = is_quiet_on question
 
 -- the answer to a question, or memory for it was refused
 abbrev pub MayAnswer : Result Answer Fault → Result Answer Fault → Type 0
-MayAnswer said result = (result ≡ said) ⊎ (result ≡ Err (record { code = MEMORY; place = 0 }))
+MayAnswer said result = (result ≡ said) ⊎ (result ≡ Err want_of_memory)
 
 -- ---- reset
 
