@@ -15,3 +15,4 @@ pub mod Spelled
 pub mod Unique
 pub mod Walk
 pub mod KeyOrder
+pub mod Asking

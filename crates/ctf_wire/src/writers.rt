@@ -25,11 +25,7 @@ impl<W> ToWriter<W> {
 }
 
 impl<W: Write> Sink for ToWriter<W> {
-    ghost contents = { λ s. W.contents s.writer };
-
-    ghost flushes = { λ s. None };
-
-    ghost has_failed = { λ s. s.failed };
+    ghost pushed = { λ s. record { contents = W.contents s.writer; flushes = None; failed = s.failed } };
 
     fn push(&mut self, bytes: &[u8]) -> Option<usize> {
         match self.writer.write(bytes) {
