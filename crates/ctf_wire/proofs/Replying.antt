@@ -86,14 +86,14 @@ BrokenOff-more {S} Step start new lines all a c more b = record {
 
 -- no bytes came
 pub Feeds-none : {S : Type 0} (Step : S → Option (List ℕ) → List ℕ → S → Type 0) (machine : S) (held : Option (List ℕ)) (sink : Pushed) → Feeds Step machine held sink [] true machine held sink
-Feeds-none {S} Step machine held sink start a read s =
+Feeds-none {S} Step machine held sink = λ start a read s.
     let P : List ℕ → Type 0 = λ bs. Stands Step start a bs machine held sink in
     subst P (sym (append-nil read)) s
 
 -- a piece without newline came
 pub Feeds-piece : {S : Type 0} (Step : S → Option (List ℕ) → List ℕ → S → Type 0) (machine : S) (held now : Option (List ℕ)) (sink : Pushed) (piece : List ℕ)
     → whole_lines piece ≡ [] → ((bs : List ℕ) → held ≡ stored bs → now ≡ stored (bs ++ piece)) → Feeds Step machine held sink piece true machine now sink
-Feeds-piece {S} Step machine held now sink piece none joined start a read s =
+Feeds-piece {S} Step machine held now sink piece none joined = λ start a read s.
     let P : List (List ℕ) → Type 0 = λ lines. Serves Step start lines machine a sink in
     record {
       served = subst P (sym (whole_lines-piece read piece none)) s.served;
@@ -104,7 +104,7 @@ Feeds-piece {S} Step machine held now sink piece none joined start a read s =
 pub Feeds-line : {S : Type 0} (Step : S → Option (List ℕ) → List ℕ → S → Type 0) (old new : S) (held joined now : Option (List ℕ)) (b c : Pushed) (piece reply : List ℕ)
     → whole_lines piece ≡ [] → ((bs : List ℕ) → held ≡ stored bs → joined ≡ stored (bs ++ piece)) → Step old joined reply new → Sends b reply true c → now ≡ Some []
     → Feeds Step old held b (piece ++ 10 ∷ []) true new now c
-Feeds-line {S} Step old new held joined now b c piece reply none joins step sent cleared start a read s =
+Feeds-line {S} Step old new held joined now b c piece reply none joins step sent cleared = λ start a read s.
     let P : List (List ℕ) → Type 0 = λ lines. Serves Step start lines new a c in
     let Q : Option (List ℕ) → Type 0 = λ o. Step old o reply new in
     record {
@@ -116,7 +116,7 @@ Feeds-line {S} Step old new held joined now b c piece reply none joins step sent
 pub Feeds-cut : {S : Type 0} (Step : S → Option (List ℕ) → List ℕ → S → Type 0) (old new : S) (held joined now : Option (List ℕ)) (b c : Pushed) (piece reply : List ℕ)
     → whole_lines piece ≡ [] → ((bs : List ℕ) → held ≡ stored bs → joined ≡ stored (bs ++ piece)) → Step old joined reply new → Sends b reply false c
     → Feeds Step old held b (piece ++ 10 ∷ []) false new now c
-Feeds-cut {S} Step old new held joined now b c piece reply none joins step sent start a read s =
+Feeds-cut {S} Step old new held joined now b c piece reply none joins step sent = λ start a read s.
     let P : List (List ℕ) → Type 0 = λ lines. BrokenOff Step start lines new a c in
     let Q : Option (List ℕ) → Type 0 = λ o. Step old o reply new in
     subst P (sym (whole_lines-line read piece none)) (Serves-cut Step start old new (whole_lines read) (last_piece read ++ piece) reply a b c s.served (subst Q (joins (last_piece read) s.holds) step) sent)
@@ -124,17 +124,17 @@ Feeds-cut {S} Step old new held joined now b c piece reply none joins step sent 
 -- more came behind what came
 pub Feeds-more : {S : Type 0} (Step : S → Option (List ℕ) → List ℕ → S → Type 0) (old mid new : S) (held between now : Option (List ℕ)) (b c d : Pushed) (bytes more : List ℕ) (done : Bool)
     → Feeds Step old held b bytes true mid between c → Feeds Step mid between c more done new now d → Feeds Step old held b (bytes ++ more) done new now d
-Feeds-more {S} Step old mid new held between now b c d bytes more true p q start a read s =
+Feeds-more {S} Step old mid new held between now b c d bytes more true p q = λ start a read s.
     let P : List ℕ → Type 0 = λ bs. Stands Step start a bs new now d in
     subst P (append_assoc read bytes more) (q start a (read ++ bytes) (p start a read s))
-Feeds-more {S} Step old mid new held between now b c d bytes more false p q start a read s =
+Feeds-more {S} Step old mid new held between now b c d bytes more false p q = λ start a read s.
     let P : List ℕ → Type 0 = λ bs. BrokenOff Step start (whole_lines bs) new a d in
     subst P (append_assoc read bytes more) (q start a (read ++ bytes) (p start a read s))
 
 -- what broke off stays so, whatever would have come
 pub Feeds-broken : {S : Type 0} (Step : S → Option (List ℕ) → List ℕ → S → Type 0) (old new : S) (held now later : Option (List ℕ)) (b c : Pushed) (bytes more : List ℕ)
     → Feeds Step old held b bytes false new now c → Feeds Step old held b (bytes ++ more) false new later c
-Feeds-broken {S} Step old new held now later b c bytes more p start a read s =
+Feeds-broken {S} Step old new held now later b c bytes more p = λ start a read s.
     let P : List ℕ → Type 0 = λ bs. BeginsWith (whole_lines bs) (whole_lines (read ++ bytes)) in
     BrokenOff-more Step start new (whole_lines (read ++ bytes)) (whole_lines (read ++ (bytes ++ more))) a c (subst P (append_assoc read bytes more) (whole_lines-front (read ++ bytes) more)) (p start a read s)
 
@@ -151,7 +151,7 @@ all_lines-last read h = ap (λ lines. whole_lines read ++ lines) (some-held (las
 -- the last piece is answered
 pub Finishes-line : {S : Type 0} (Step : S → Option (List ℕ) → List ℕ → S → Type 0) (old new : S) (held : Option (List ℕ)) (b c : Pushed) (reply : List ℕ)
     → held ≢ Some [] → Step old held reply new → Sends b reply true c → Finishes Step old held b true new c
-Finishes-line {S} Step old new held b c reply some step sent start a read s =
+Finishes-line {S} Step old new held b c reply some step sent = λ start a read s.
     let P : Option (List ℕ) → Type 0 = λ o. Step old o reply new in
     let Q : List (List ℕ) → Type 0 = λ lines. Serves Step start lines new a c in
     subst Q (all_lines-last read (λ e. some (s.holds ∙ e))) (Serves-push Step start old new (whole_lines read) (last_piece read) reply a b c s.served (subst P s.holds step) sent)
@@ -159,7 +159,7 @@ Finishes-line {S} Step old new held b c reply some step sent start a read s =
 -- the reply to the last piece is cut
 pub Finishes-cut : {S : Type 0} (Step : S → Option (List ℕ) → List ℕ → S → Type 0) (old new : S) (held : Option (List ℕ)) (b c : Pushed) (reply : List ℕ)
     → held ≢ Some [] → Step old held reply new → Sends b reply false c → Finishes Step old held b false new c
-Finishes-cut {S} Step old new held b c reply some step sent start a read s =
+Finishes-cut {S} Step old new held b c reply some step sent = λ start a read s.
     let P : Option (List ℕ) → Type 0 = λ o. Step old o reply new in
     let Q : List (List ℕ) → Type 0 = λ lines. BrokenOff Step start lines new a c in
     subst Q (all_lines-last read (λ e. some (s.holds ∙ e))) (Serves-cut Step start old new (whole_lines read) (last_piece read) reply a b c s.served (subst P s.holds step) sent)
@@ -170,7 +170,7 @@ nothing_held piece false h = absurd cc
 
 -- no piece is left
 pub Finishes-none : {S : Type 0} (Step : S → Option (List ℕ) → List ℕ → S → Type 0) (machine : S) (held : Option (List ℕ)) (sink : Pushed) → held ≡ Some [] → Finishes Step machine held sink true machine sink
-Finishes-none {S} Step machine held sink none start a read s =
+Finishes-none {S} Step machine held sink none = λ start a read s.
     let empty : last_piece read ≡ [] = nothing_held (last_piece read) (leb (length (last_piece read)) 1048576) (sym s.holds ∙ none) in
     let same : all_lines read ≡ whole_lines read = ap (λ piece. whole_lines read ++ if_not_empty piece) empty ∙ append-nil (whole_lines read) in
     let P : List (List ℕ) → Type 0 = λ lines. Serves Step start lines machine a sink in
