@@ -1,12 +1,15 @@
+pub mod Anywhere
 pub mod ChainRules
 pub mod Cut
 pub mod Denoted
 pub mod FirstFault
+pub mod GoodNames
 pub mod HeaderRules
 pub mod Items
 pub mod Judge
 pub mod MemberTypes
 pub mod NameRules
+pub mod NameSites
 pub mod Nameless
 pub mod Prefix
 pub mod RecordRules

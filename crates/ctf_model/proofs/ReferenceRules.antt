@@ -22,9 +22,9 @@ use Rattle.ctf_model.specs.Term.{Term}
 use Rattle.ctf_model.specs.TypePlaces.{place}
 use Rattle.ctf_model.specs.declared.numbers.Place.{Place}
 use Rattle.ctf_model.specs.declared.numbers.Place.TheVariants.{Nowhere, Own, Parents}
+use Rattle.ctf_model.proofs.Anywhere.{any_here, any_there, any_split}
 use Rattle.ctf_model.proofs.Cut.{read}
 use Rattle.ctf_model.proofs.FirstFault.{Agrees}
-use Rattle.ctf_model.proofs.NameRules.{any_here, any_there, any_split}
 use Rattle.ctf_model.proofs.RecordRules.{types_cut}
 
 -- ---- tests and facts

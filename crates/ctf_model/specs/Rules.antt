@@ -1,11 +1,12 @@
 -- The rules that a dictionary keeps, each as a fact about the whole lists. Source: ours, over the layout of ctf(5).
 use Rattle.std.specs.Prelude.{◌≡◌, ◌≢◌, ◌<◌, ◌≤◌, ℕ, ◌+◌, ◌%◌, List, [], ◌∷◌, length, slice_index, slice_index_or, Bool, None, Some, Result, Ok, Err, Any, ◌⊎◌}
-use Rattle.ctf_model.specs.Bytes.{u16_at}
+use Rattle.ctf_model.specs.Bytes.{u16_at, u32_at}
 use Rattle.ctf_model.specs.Chains.{by_value, declarator, longest_chain, IsWithin}
-use Rattle.ctf_model.specs.Faults.{sites, types, edges_by}
+use Rattle.ctf_model.specs.Faults.{types, edges_by}
 use Rattle.ctf_model.specs.Header.{Fields, fields, is_child, section}
 use Rattle.ctf_model.specs.Lists.{Lists, tables}
 use Rattle.ctf_model.specs.Name.{Tables, name}
+use Rattle.ctf_model.specs.NamePlaces.{NameStandsAt}
 use Rattle.ctf_model.specs.Record.{kind, field}
 use Rattle.ctf_model.specs.References.{references}
 use Rattle.ctf_model.specs.Section.{IsCut, Piece}
@@ -69,9 +70,9 @@ BadKind s place = (parts : List (List ℕ)) × (rest : List ℕ) × IsCut (secti
 abbrev pub TooMany : Lists → ℕ → Type 0
 TooMany s place = (parts : List (List ℕ)) × (rest : List ℕ) × IsCut (section s.ctf STypes) parts rest × (32766 < length parts) × (place ≡ 32767)
 
--- a name reference that stands at the place names nothing
+-- a name stands at the place, and its reference names nothing
 abbrev pub BadName : Lists → ℕ → Type 0
-BadName s place = Any (λ site. (site.place ≡ place) × (name (tables s) site.reference ≡ None)) (sites s.ctf)
+BadName s place = NameStandsAt s.ctf place × (name (tables s) (u32_at s.ctf place) ≡ None)
 
 -- among so many own types, none stands at the place of the number; 0 asks for none
 abbrev pub IsMissingAt : ℕ → ℕ → Place → Type 0
