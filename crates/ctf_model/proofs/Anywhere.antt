@@ -1,6 +1,7 @@
--- What holds of some element of a list.
+-- What holds of some element of a list, or of each.
 use Rattle.std.proofs.Common.{◌≡◌, ℕ, zero, suc, ◌<◌, List, [], ◌∷◌, ◌++◌, length, refl, sym, subst, arith, ◌⊎◌, inl, inr}
 use Rattle.std.specs.Prelude.{Any, slice_index_or}
+use Rattle.std.specs.List.{AllByRecursion}
 
 -- what holds of the first holds of some
 pub any_here : {X : Type 0} (P : X → Type 0) (x : X) (xs : List X) → P x → Any P (x ∷ xs)
@@ -42,3 +43,8 @@ any_left P (x ∷ xs) ys a = at (any_split P x xs a) (any_left P xs ys)
 pub any_right : {X : Type 0} (P : X → Type 0) (xs ys : List X) → Any P ys → Any P (xs ++ ys)
 any_right P [] ys a = a
 any_right P (x ∷ xs) ys a = any_there P x (xs ++ ys) (any_right P xs ys a)
+
+-- what follows for each holds of each
+pub all_map : {X : Type 0} (P Q : X → Type 0) → ((x : X) → P x → Q x) → (xs : List X) → AllByRecursion P xs → AllByRecursion Q xs
+all_map P Q f [] a = tt
+all_map P Q f (x ∷ xs) a = (f x a.0, all_map P Q f xs a.1)

@@ -1,27 +1,24 @@
 -- Lists that keep every rule denote just one dictionary.
-use Rattle.std.proofs.Common.{◌≡◌, ℕ, zero, suc, ◌+◌, ◌-◌, ◌*◌, ◌/◌, ◌<◌, ◌≤◌, Bool, List, [], ◌∷◌, ◌++◌, length, take, drop, Option, Some, None, Result, refl, sym, ap, subst, ◌∙◌, arith}
+use Rattle.std.proofs.Common.{◌≡◌, ℕ, zero, suc, ◌+◌, ◌-◌, ◌*◌, ◌/◌, ◌<◌, ◌≤◌, Bool, List, [], ◌∷◌, length, take, drop, Option, Some, None, refl, sym, ap, subst, ◌∙◌, arith}
 use Rattle.std.specs.Prelude.{MatchOption, ◌↔◌}
-use Rattle.std.specs.List.{concat, AllByRecursion}
-use Rattle.std.proofs.lemmas.List.{length-take, length-drop, take-take, drop-take, drop-drop, append_assoc, nil_from_length}
+use Rattle.std.proofs.lemmas.List.{length-take, length-drop, take-take, drop-take, drop-drop}
 use Rattle.std.proofs.lemmas.Option.{same_Some}
 use Rattle.ctf_model.specs.Bytes.{number, u32_at}
 use Rattle.ctf_model.specs.declared.faults.Fault.{Fault}
 use Rattle.ctf_model.specs.declared.sections.Section.TheVariants.{SLabels, STypes}
 use Rattle.ctf_model.specs.Dictionary.{Dictionary, Label, Denotes, AreLabels, labels_in, said_by, denoted, unless_fault}
-use Rattle.ctf_model.specs.Faults.{first_fault, label_sites, list_sites, record_sites, types}
+use Rattle.ctf_model.specs.Faults.{first_fault, label_sites}
 use Rattle.ctf_model.specs.Header.{fields, section}
-use Rattle.ctf_model.specs.Laws.{KeepsEveryRule, pieces}
+use Rattle.ctf_model.specs.Laws.{KeepsEveryRule}
 use Rattle.ctf_model.specs.Lists.{Lists, tables}
 use Rattle.ctf_model.specs.Name.{Tables, name}
-use Rattle.ctf_model.specs.Record.{IsWhole, kind}
 use Rattle.ctf_model.specs.Rules.{IsFirstFault}
-use Rattle.ctf_model.specs.Section.{Section, Piece, terms_in}
 use Rattle.ctf_model.specs.Term.{Term}
 use Rattle.ctf_model.proofs.GoodNames.{the_value, good}
 use Rattle.ctf_model.proofs.Judge.{least_fault}
 use Rattle.ctf_model.proofs.HeaderRules.{kept_order, kept_end}
-use Rattle.ctf_model.proofs.RecordRules.{kept_records, types_cut}
-use Rattle.ctf_model.proofs.Spelled.{IsNamed, AreNamed, split_front, split_back, spelled}
+use Rattle.ctf_model.proofs.SpelledSection.{section_spelled}
+use Rattle.ctf_model.proofs.Spelled.{IsNamed, AreNamed}
 use Rattle.ctf_model.proofs.Unique.{one_list}
 
 -- ---- labels
@@ -39,20 +36,6 @@ labels_read t ctf (suc n) at len inside low high named =
     let behind : drop 8 (take len (drop at ctf)) ≡ take (len - 8) (drop (at + 8) ctf) = ap (λ (m : ℕ). drop 8 (take m (drop at ctf))) (sym less) ∙ drop-take 8 (len - 8) (drop at ctf) ∙ ap (take (len - 8)) (drop-drop 8 at ctf) in
     let later = labels_read t ctf n (at + 8) (len - 8) (omega arith) (omega arith) (omega arith) named.1 in
     (long, the_value (name t (u32_at (take len (drop at ctf)) 0)) good, refl, subst (λ (r : List ℕ). AreLabels t r (labels_in t n r)) (sym behind) later)
-
--- ---- types
-
--- the types that are read are those that the bytes spell, where their names are good
-terms_read : (t : Tables) (start : ℕ) (parts : List (List ℕ)) (rest b : List ℕ) (index at : ℕ) → b ≡ concat parts ++ rest → length rest ≡ 0 → AllByRecursion IsWhole parts → AreNamed t (record_sites start (pieces index at parts rest))
-    → Section t b (terms_in t (pieces index at parts rest))
-unfolding record_sites terms_in
-terms_read t start [] rest b index at joined ends whole named = rw ends (joined ∙ nil_from_length rest ends)
-terms_read t start (part ∷ parts) rest b index at joined ends whole named =
-    let listed = list_sites (start + at) part (kind part) in
-    let others = record_sites start (pieces (index + 1) (at + length part) parts rest) in
-    let x = spelled t part (start + at) whole.0 named.0 (split_front t listed others named.1) in
-    let later = terms_read t start parts rest (concat parts ++ rest) (index + 1) (at + length part) refl ends whole.1 (split_back t listed others named.1) in
-    rw x.1.says (part, concat parts ++ rest, joined ∙ append_assoc part (concat parts) rest, x.1, later)
 
 -- ---- a dictionary
 
@@ -77,15 +60,6 @@ labels_said s keeps =
     let found = labels_read (tables s) s.ctf n (36 + h.lbloff) (h.objtoff - h.lbloff) (omega arith) (omega arith) (omega arith) (good s 17 (omega arith) (λ rule lt. keeps rule)).labels in
     rw (len, size) found
 
--- the types that are said are those of the bytes
-terms_said : (s : Lists) → KeepsEveryRule s → Section (tables s) (section s.ctf STypes) (terms_in (tables s) (types s.ctf))
-terms_said s keeps =
-    let r = kept_records s 17 (omega arith) (λ rule lt. keeps rule) in
-    let same = types_cut s.ctf r.0 r.1 r.2 in
-    let named = subst (λ (rs : List (Result Piece Fault)). AreNamed (tables s) (record_sites (36 + (fields s.ctf).typeoff) rs)) same (good s 17 (omega arith) (λ rule lt. keeps rule)).records in
-    subst (λ (rs : List (Result Piece Fault)). Section (tables s) (section s.ctf STypes) (terms_in (tables s) rs)) (sym same)
-    (terms_read (tables s) (36 + (fields s.ctf).typeoff) r.0 r.1 (section s.ctf STypes) 1 0 r.2.joined r.3 r.2.whole named)
-
 -- without a first fault every rule is kept
 keeps_from : (s : Lists) → first_fault s ≡ None → KeepsEveryRule s
 keeps_from s e = subst (λ (f : Option Fault). MatchOption f (KeepsEveryRule s) (IsFirstFault s)) e (least_fault s)
@@ -102,7 +76,7 @@ denotes_said s e =
       parname = the_value (name (tables s) (fields s.ctf).parname) named.parname;
       parlabel = the_value (name (tables s) (fields s.ctf).parlabel) named.parlabel;
       labels = labels_said s keeps;
-      terms = terms_said s keeps;
+      terms = (section_spelled s 17 (omega arith) (λ rule lt. keeps rule)).0;
     }
 
 -- ---- only one dictionary

@@ -15,6 +15,7 @@ pub mod Prefix
 pub mod RecordRules
 pub mod ReferenceRules
 pub mod Spelled
+pub mod SpelledSection
 pub mod Unique
 pub mod Walk
 pub mod KeyOrder
