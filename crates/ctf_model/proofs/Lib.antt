@@ -1,5 +1,6 @@
 pub mod Anywhere
 pub mod ChainRules
+pub mod ChainSteps
 pub mod Cut
 pub mod Denoted
 pub mod FirstFault

@@ -1,15 +1,14 @@
 -- The rules that a dictionary keeps, each as a fact about the whole lists. Source: ours, over the layout of ctf(5).
 use Rattle.std.specs.Prelude.{◌≡◌, ◌≢◌, ◌<◌, ◌≤◌, ℕ, ◌+◌, ◌%◌, List, [], ◌∷◌, ◌++◌, length, slice_index, slice_index_or, Bool, None, Any, ◌⊎◌}
 use Rattle.ctf_model.specs.Bytes.{u16_at, u32_at}
-use Rattle.ctf_model.specs.Chains.{by_value, declarator, longest_chain, IsWithin}
-use Rattle.ctf_model.specs.Faults.{types, edges_by}
+use Rattle.ctf_model.specs.Chains.{by_value, declarator, longest_chain, BeginsChain}
 use Rattle.ctf_model.specs.Header.{Fields, fields, is_child, section}
 use Rattle.ctf_model.specs.Lists.{Lists, tables}
 use Rattle.ctf_model.specs.Name.{Tables, name}
 use Rattle.ctf_model.specs.NamePlaces.{NameStandsAt}
 use Rattle.ctf_model.specs.Record.{kind}
 use Rattle.ctf_model.specs.References.{references}
-use Rattle.ctf_model.specs.Section.{IsCut, RecordOf}
+use Rattle.ctf_model.specs.Section.{Section, IsCut, RecordOf}
 use Rattle.ctf_model.specs.Spelling.{HasStrayMark, Spells}
 use Rattle.ctf_model.specs.Term.{Term, Body}
 use Rattle.ctf_model.specs.TypePlaces.{place}
@@ -97,9 +96,11 @@ BadReference s place =
     (r : RecordOf (section s.ctf STypes)) × (place ≡ length r.front + 1)
     × Misnames (tables s) (is_child (fields s.ctf)) (length (r.front ++ r.part ∷ r.back)) r.part
 
--- a chain of too many steps begins at the type of the place
+-- of the types that the section spells, a chain of too many steps begins at that of the place
 abbrev pub IsDeepBy : (Body → List ℕ) → Lists → ℕ → Type 0
-IsDeepBy steps s place = (i : ℕ) × (i < length (types s.ctf)) × (¬ IsWithin (edges_by steps s) longest_chain i) × (place ≡ i + 1)
+IsDeepBy steps s place =
+    (types : List Term) × Section (tables s) (section s.ctf STypes) types
+    × (i : ℕ) × BeginsChain steps (is_child (fields s.ctf)) types (longest_chain + 1) i × (place ≡ i + 1)
 
 abbrev pub ValueDeep : Lists → ℕ → Type 0
 ValueDeep s place = IsDeepBy by_value s place
