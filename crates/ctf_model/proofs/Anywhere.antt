@@ -3,6 +3,14 @@ use Rattle.std.proofs.Common.{◌≡◌, ℕ, zero, suc, ◌<◌, List, [], ◌�
 use Rattle.std.specs.Prelude.{Any, slice_index_or}
 use Rattle.std.specs.List.{AllByRecursion}
 
+-- there is none of none
+pub any_none : {X : Type 0} (P : X → Type 0) → Any P [] → ⊥
+any_none P a = let lt = a.2 in absurd (omega arith)
+
+-- what follows for each holds of one of them
+pub any_map : {X : Type 0} (P Q : X → Type 0) → ((x : X) → P x → Q x) → (xs : List X) → Any P xs → Any Q xs
+any_map P Q f xs a = (a.0, a.1, a.2, a.3, f a.1 a.4)
+
 -- what holds of the first holds of some
 pub any_here : {X : Type 0} (P : X → Type 0) (x : X) (xs : List X) → P x → Any P (x ∷ xs)
 any_here P x xs p = (0, x, omega arith, refl, p)
@@ -33,7 +41,7 @@ any_append P (x ∷ xs) ys a = at (any_split P x (xs ++ ys) a) (any_append P xs 
     at (inr b) more = later (more b)
 
 pub any_left : {X : Type 0} (P : X → Type 0) (xs ys : List X) → Any P xs → Any P (xs ++ ys)
-any_left P [] ys a = let lt = a.2 in absurd (omega arith)
+any_left P [] ys a = absurd (any_none P a)
 any_left P (x ∷ xs) ys a = at (any_split P x xs a) (any_left P xs ys)
   where
     at : P x ⊎ Any P xs → (Any P xs → Any P (xs ++ ys)) → Any P (x ∷ (xs ++ ys))

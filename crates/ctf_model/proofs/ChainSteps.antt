@@ -1,23 +1,23 @@
 -- Chains of types that name each other are the chains of their edges.
-use Rattle.std.proofs.Common.{◌≡◌, ℕ, zero, suc, ◌<◌, ◌≤◌, Bool, true, false, cond, eqb, ltb, List, [], ◌∷◌, length, map, Option, Some, None, refl, sym, ap, subst, ◌∙◌, arith, ◌⊎◌, inl, inr, ⊎_elim}
+use Rattle.std.proofs.Common.{◌≡◌, ℕ, zero, suc, ◌<◌, ◌≤◌, Bool, true, false, eqb, ltb, List, [], ◌∷◌, length, map, Option, Some, None, refl, sym, ap, subst, ◌∙◌, arith, ◌⊎◌, inl, inr, ⊎_elim}
 use Rattle.std.specs.Prelude.{◌&&◌, Any, slice_get}
 use Rattle.std.specs.List.{cons_option, filter_map, list_all, AllByRecursion}
 use Rattle.std.proofs.Math.ListN.{get_or-eq_default}
 use Rattle.std.proofs.lemmas.Bool.{ltb-true, lt-ltb}
 use Rattle.std.proofs.lemmas.List.{get_or-map, length-map}
-use Rattle.std.proofs.lemmas.Option.{same_Some, slice_get_within, slice_get_cases, get_or_from_slice_get}
+use Rattle.std.proofs.lemmas.Option.{same_Some, cond_some, slice_get_within, slice_get_cases, get_or_from_slice_get}
 use Rattle.ctf_model.specs.Chains.{edges, own_index, own_index_at, targets, IsWithin, Leads, BeginsChain, within}
 use Rattle.ctf_model.specs.declared.numbers.Place.{Place}
 use Rattle.ctf_model.specs.declared.numbers.Place.TheVariants.{Nowhere, Own, Parents}
 use Rattle.ctf_model.specs.Term.{Body, Term}
 use Rattle.ctf_model.specs.TypePlaces.{place}
-use Rattle.ctf_model.proofs.Anywhere.{any_here, any_there, any_split}
+use Rattle.ctf_model.proofs.Anywhere.{any_none, any_here, any_there, any_split}
 
 -- ---- steps
 
 -- among the own types that some numbers name is this one
 names_own : (child : Bool) (count j : ℕ) (ns : List ℕ) (P : ℕ → Type 0) → j < count → Any (λ n. place child n ≡ Own j) ns → AllByRecursion P (filter_map (own_index child count) ns) → P j
-names_own child count j [] P inside a all = let lt = a.2 in absurd (omega arith)
+names_own child count j [] P inside a all = absurd (any_none _ a)
 names_own child count j (n ∷ ns) P inside a all = at (any_split _ n ns a) (names_own child count j ns P inside) (own_index child count n) refl all
   where
     at : (place child n ≡ Own j) ⊎ Any (λ m. place child m ≡ Own j) ns → (Any (λ m. place child m ≡ Own j) ns → AllByRecursion P (filter_map (own_index child count) ns) → P j) → (o : Option ℕ) → own_index child count n ≡ o → AllByRecursion P (cons_option o (filter_map (own_index child count) ns)) → P j
@@ -30,13 +30,9 @@ names_own child count j (n ∷ ns) P inside a all = at (any_split _ n ns a) (nam
 own_named : (child : Bool) (count n j : ℕ) → own_index child count n ≡ Some j → (place child n ≡ Own j) × (j < count)
 own_named child count n j e = at (place child n) refl e
   where
-    inside : (i : ℕ) → place child n ≡ Own i → (t : Bool) → ltb i count ≡ t → cond t (Some i) None ≡ Some j → (place child n ≡ Own j) × (j < count)
-    inside i is true test e = let same : i ≡ j = same_Some i j e in (is ∙ ap Own same, subst (λ (k : ℕ). k < count) same (ltb-true i count test))
-    inside i is false test e = absurd cc
-
     at : (p : Place) → place child n ≡ p → own_index_at count p ≡ Some j → (place child n ≡ Own j) × (j < count)
     at Nowhere is e = absurd cc
-    at (Own i) is e = inside i is (ltb i count) refl e
+    at (Own i) is e = let both = cond_some (ltb i count) i j e in (is ∙ ap Own both.1, subst (λ (k : ℕ). k < count) both.1 (ltb-true i count both.0))
     at (Parents i) is e = absurd cc
 
 -- an own type that fails a test, and a number that names it

@@ -16,7 +16,7 @@ use Rattle.ctf_model.specs.Rules.{IsFirstFault}
 use Rattle.ctf_model.specs.Term.{Term}
 use Rattle.ctf_model.proofs.GoodNames.{the_value, good}
 use Rattle.ctf_model.proofs.Judge.{least_fault}
-use Rattle.ctf_model.proofs.HeaderRules.{kept_order, kept_end}
+use Rattle.ctf_model.proofs.HeaderRules.{kept_order, kept_end, section_len}
 use Rattle.ctf_model.proofs.SpelledSection.{section_spelled}
 use Rattle.ctf_model.proofs.Spelled.{IsNamed, AreNamed}
 use Rattle.ctf_model.proofs.Unique.{one_list}
@@ -38,10 +38,6 @@ labels_read t ctf (suc n) at len inside low high named =
     (long, the_value (name t (u32_at (take len (drop at ctf)) 0)) good, refl, subst (λ (r : List ℕ). AreLabels t r (labels_in t n r)) (sym behind) later)
 
 -- ---- a dictionary
-
--- a part inside has its length
-section_len : (ctf : List ℕ) (a b : ℕ) → a ≤ b → b ≤ length ctf → length (take (b - a) (drop a ctf)) ≡ b - a
-section_len ctf a b le inside = omega (arith, length-take (b - a) (drop a ctf), length-drop a ctf)
 
 -- the labels that are said are those of the bytes
 labels_said : (s : Lists) → KeepsEveryRule s → AreLabels (tables s) (section s.ctf SLabels) (labels_in (tables s) (length (section s.ctf SLabels) / 8) (section s.ctf SLabels))

@@ -15,7 +15,7 @@ use Rattle.ctf_model.specs.Name.{Tables, name}
 use Rattle.ctf_model.specs.Record.{IsWhole, IsWholeAt, kind, size, vlen, head_len, member_len, behind_head}
 use Rattle.ctf_model.specs.Rules.{IsBroken, Keeps}
 use Rattle.ctf_model.specs.Section.{Piece, stop_code}
-use Rattle.ctf_model.proofs.Anywhere.{any_here, any_there, any_split}
+use Rattle.ctf_model.proofs.Anywhere.{any_none, any_here, any_there, any_split}
 use Rattle.ctf_model.proofs.Cut.{read}
 use Rattle.ctf_model.proofs.FirstFault.{Agrees, agrees_as}
 use Rattle.ctf_model.proofs.HeaderRules.{InOrder, kept_order}
@@ -40,7 +40,7 @@ IsNameless t xs p = Any (λ site. (site.place ≡ p) × (name t site.reference �
 
 -- no nameless site stands below the lowest place
 none_below : (t : Tables) (xs : List Site) (low p : ℕ) → IsRising low xs → IsNameless t xs p → low ≤ p
-none_below t [] low p r a = let lt = a.2 in absurd (omega arith)
+none_below t [] low p r a = absurd (any_none _ a)
 none_below t (site ∷ more) low p r a = at (any_split _ site more a) (λ later. none_below t more site.place p r.1 later)
   where
     at : ((site.place ≡ p) × (name t site.reference ≡ None)) ⊎ IsNameless t more p → (IsNameless t more p → site.place ≤ p) → low ≤ p
@@ -60,7 +60,7 @@ not_here (Some x) e n = absurd cc
 -- the first nameless site stands at the least place of all nameless ones
 nameless_agrees : (t : Tables) (xs : List Site) (low : ℕ) → IsRising low xs → Agrees (first_nameless t xs) (IsNameless t xs)
 unfolding first_nameless
-nameless_agrees t [] low r = λ p a. let lt = a.2 in absurd (omega arith)
+nameless_agrees t [] low r = λ p a. any_none _ a
 nameless_agrees t (site ∷ more) low r = at (is_none (name t site.reference)) refl (first_nameless t more) (nameless_agrees t more site.place r.1)
   where
     rest : is_none (name t site.reference) ≡ false → (p : ℕ) → IsNameless t (site ∷ more) p → IsNameless t more p

@@ -19,7 +19,7 @@ use Rattle.ctf_model.specs.NamePlaces.{InList, InRecord, NameStandsAt}
 use Rattle.ctf_model.specs.Record.{IsWhole, IsWholeAt, kind, size, vlen, head_len, member_len, behind_head}
 use Rattle.ctf_model.specs.Rules.{BadName}
 use Rattle.ctf_model.specs.Section.{Piece, IsCut, stop_code}
-use Rattle.ctf_model.proofs.Anywhere.{any_here, any_there, any_split, any_append, any_left, any_right}
+use Rattle.ctf_model.proofs.Anywhere.{any_none, any_here, any_there, any_split, any_append, any_left, any_right}
 use Rattle.ctf_model.proofs.Cut.{read}
 use Rattle.ctf_model.proofs.Prefix.{u32-append, has_head}
 use Rattle.ctf_model.proofs.RecordRules.{types_cut}
@@ -60,10 +60,6 @@ section_stands ctf start n j le =
 abbrev SiteAt : (ℕ → Type 0) → List Site → ℕ → Type 0
 SiteAt N xs p = Any (λ (site : Site). (site.place ≡ p) × N site.reference) xs
 
--- no site is none of none
-no_site : (N : ℕ → Type 0) (p : ℕ) → SiteAt N [] p → ⊥
-no_site N p a = let lt = a.2 in absurd (omega arith)
-
 -- ---- labels
 
 -- a label's place, with such a reference
@@ -72,7 +68,7 @@ LabelAt N ctf at n p = (i : ℕ) × (i < n) × (p ≡ at + 8 * i) × N (u32_at c
 
 label_stands : (N : ℕ → Type 0) (ctf : List ℕ) (at n p : ℕ) → SiteAt N (label_sites ctf at n) p → LabelAt N ctf at n p
 unfolding label_sites
-label_stands N ctf at zero p a = absurd (no_site N p a)
+label_stands N ctf at zero p a = absurd (any_none _ a)
 label_stands N ctf at (suc n) p a = go (any_split _ _ _ a) (label_stands N ctf (at + 8) n p)
   where
     go : ((at ≡ p) × N (u32_at ctf at)) ⊎ SiteAt N (label_sites ctf (at + 8) n) p → (SiteAt N (label_sites ctf (at + 8) n) p → LabelAt N ctf (at + 8) n p) → LabelAt N ctf at (suc n) p
@@ -93,7 +89,7 @@ ItemAt N ctf place len n p = (k : ℕ) × (k < n) × (p ≡ place + len * k) × 
 
 item_stands : (N : ℕ → Type 0) (ctf : List ℕ) (place len n : ℕ) (b : List ℕ) (p : ℕ) → 4 ≤ len → len * n ≤ length b → StandAt ctf place b → SiteAt N (item_sites place len n b) p → ItemAt N ctf place len n p
 unfolding item_sites
-item_stands N ctf place len zero b p low room h a = absurd (no_site N p a)
+item_stands N ctf place len zero b p low room h a = absurd (any_none _ a)
 item_stands N ctf place len (suc n) b p low room h a =
     let total = mul-suc len n in
     go (any_split _ _ _ a) (item_stands N ctf (place + len) len n (drop len b) p low (omega (arith, total, length-drop len b)) (drop_stands ctf place len b (omega (arith, total)) h))
@@ -146,20 +142,20 @@ list_stands N ctf place b p whole h a = at (kind b) whole a
 
     at : (k : Option Kind) → MatchOption k ⊥ (IsWholeAt b) → SiteAt N (list_sites place b k) p → HasNameAt N ctf place (InList b k) p
     at None w a = absurd w
-    at (Some KUnknown) w a = absurd (no_site N p a)
-    at (Some KInteger) w a = absurd (no_site N p a)
-    at (Some KFloat) w a = absurd (no_site N p a)
-    at (Some KPointer) w a = absurd (no_site N p a)
-    at (Some KArray) w a = absurd (no_site N p a)
-    at (Some KFunction) w a = absurd (no_site N p a)
+    at (Some KUnknown) w a = absurd (any_none _ a)
+    at (Some KInteger) w a = absurd (any_none _ a)
+    at (Some KFloat) w a = absurd (any_none _ a)
+    at (Some KPointer) w a = absurd (any_none _ a)
+    at (Some KArray) w a = absurd (any_none _ a)
+    at (Some KFunction) w a = absurd (any_none _ a)
     at (Some KStruct) w a = listed (member_len (size b)) (wide_enough (size b)) w.ends a
     at (Some KUnion) w a = listed (member_len (size b)) (wide_enough (size b)) w.ends a
     at (Some KEnum) w a = listed 8 (omega arith) w.ends a
-    at (Some KForward) w a = absurd (no_site N p a)
-    at (Some KTypedef) w a = absurd (no_site N p a)
-    at (Some KVolatile) w a = absurd (no_site N p a)
-    at (Some KConst) w a = absurd (no_site N p a)
-    at (Some KRestrict) w a = absurd (no_site N p a)
+    at (Some KForward) w a = absurd (any_none _ a)
+    at (Some KTypedef) w a = absurd (any_none _ a)
+    at (Some KVolatile) w a = absurd (any_none _ a)
+    at (Some KConst) w a = absurd (any_none _ a)
+    at (Some KRestrict) w a = absurd (any_none _ a)
 
 list_site : (N : ℕ → Type 0) (ctf : List ℕ) (place : ℕ) (b : List ℕ) (p : ℕ) → IsWhole b → StandAt ctf place b → HasNameAt N ctf place (InList b (kind b)) p → SiteAt N (list_sites place b (kind b)) p
 unfolding IsWhole
@@ -223,8 +219,8 @@ unfolding record_sites
 records_stand N ctf start [] rest index at p whole h a = absurd (none (eqb (length rest) 0) a)
   where
     none : (b : Bool) → SiteAt N (record_sites start (cond b [] (Err (record { code = stop_code rest; place = index }) ∷ []))) p → ⊥
-    none true a = no_site N p a
-    none false a = no_site N p a
+    none true a = any_none _ a
+    none false a = any_none _ a
 records_stand N ctf start (part ∷ parts) rest index at p whole h a =
     go (any_split _ _ _ a) (records_stand N ctf start parts rest (index + 1) (at + length part) p whole.1 (subst (λ (q : ℕ). StandAt ctf q (concat parts ++ rest)) far (back_stands ctf (start + at) part (concat parts ++ rest) here)))
   where

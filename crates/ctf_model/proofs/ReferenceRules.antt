@@ -4,7 +4,7 @@ use Rattle.std.specs.Prelude.{◌||◌, Any}
 use Rattle.std.specs.Bool.{Decides}
 use Rattle.std.specs.List.{list_any, AllByRecursion}
 use Rattle.std.specs.Option.{option_map}
-use Rattle.std.proofs.lemmas.Bool.{eqb-true, eqb-false, ne_eqb, not-true, leb-true, le-leb, and_parts}
+use Rattle.std.proofs.lemmas.Bool.{eqb-true, eqb-false, ne_eqb, not-true, leb-true, le-leb, and_parts, or_cases, or_right}
 use Rattle.std.proofs.lemmas.List.Folds.{Any-from_list_any, list_any-from_Any}
 use Rattle.std.proofs.lemmas.Option.{same_Some}
 use Rattle.ctf_model.specs.Bytes.{u32_at}
@@ -27,7 +27,7 @@ use Rattle.ctf_model.specs.Spelling.{◌>>=◌, arguments, body_of, term_of, is_
 use Rattle.ctf_model.specs.Term.{Body, Term}
 use Rattle.ctf_model.specs.Term as term
 use Rattle.ctf_model.specs.TypePlaces.{place}
-use Rattle.ctf_model.proofs.Anywhere.{all_map}
+use Rattle.ctf_model.proofs.Anywhere.{any_map, all_map}
 use Rattle.ctf_model.proofs.Cut.{one_cut}
 use Rattle.ctf_model.proofs.FirstFault.{Agrees, agrees_as}
 use Rattle.ctf_model.proofs.RecordRules.{kept_records, length_all, types_cut}
@@ -35,20 +35,6 @@ use Rattle.ctf_model.proofs.Spelled.{Says}
 use Rattle.ctf_model.proofs.SpelledSection.{parts_said, few_records}
 
 -- ---- tests and facts
-
--- one of two tests passes
-or_either : (a b : Bool) → (a || b) ≡ true → (a ≡ true) ⊎ (b ≡ true)
-or_either true b e = inl refl
-or_either false b e = inr e
-
--- the second of two tests is enough
-or_second : (a b : Bool) → b ≡ true → (a || b) ≡ true
-or_second true b e = refl
-or_second false b e = e
-
--- what follows for each holds of one of them
-any_map : {X : Type 0} (P Q : X → Type 0) → ((x : X) → P x → Q x) → (xs : List X) → Any P xs → Any Q xs
-any_map P Q f xs a = (a.0, a.1, a.2, a.3, f a.1 a.4)
 
 missing_true : (child : Bool) (count n : ℕ) → is_missing child count n ≡ true → IsMissing child count n
 missing_true child count n e = at (place child n) e
@@ -156,14 +142,14 @@ stray_misnames t child count b x few e h = at (first_reference t b x h.of h.shor
     at (inr first) =
         let here = ap (list_any (is_missing child count)) first.1 in
         let missing = ap (is_missing child count) h.mark ∙ mark_missing child count few in
-        or_second (has_long_tag b) (list_any (is_missing child count) (references x.body)) (here ∙ (rw missing refl))
+        or_right (has_long_tag b) (list_any (is_missing child count) (references x.body)) (here ∙ (rw missing refl))
 
 -- ---- one record
 
 -- the test of a record that says a type decides its fact
 misnaming_decides : (t : Tables) (child : Bool) (count : ℕ) (b : List ℕ) (x : Term) → count ≤ 32766 → Says t b x → Decides (is_misnaming t child count b) (Misnames t child count b)
 unfolding is_misnaming
-misnaming_decides t child count b x few said = let says = said.says in rw says (λ e. to (or_either (has_long_tag b) (list_any (is_missing child count) (references x.body)) e), from)
+misnaming_decides t child count b x few said = let says = said.says in rw says (λ e. to (or_cases (has_long_tag b) (list_any (is_missing child count) (references x.body)) e), from)
   where
     missing : list_any (is_missing child count) (references x.body) ≡ true → HasStrayMark b ⊎ (¬ HasStrayMark b) → Misnames t child count b
     missing e (inl stray) = inl stray
@@ -178,7 +164,7 @@ misnaming_decides t child count b x few said = let says = said.says in rw says (
     from (inr m) =
         let same : m.0 ≡ x = same_Some m.0 x (sym m.1.says ∙ said.says) in
         let any = subst (λ (y : Term). Any (IsMissing child count) (references y.body)) same m.2 in
-        or_second (has_long_tag b) (list_any (is_missing child count) (references x.body)) (list_any-from_Any (is_missing child count) (references x.body) (any_map (IsMissing child count) _ (true_missing child count) (references x.body) any))
+        or_right (has_long_tag b) (list_any (is_missing child count) (references x.body)) (list_any-from_Any (is_missing child count) (references x.body) (any_map (IsMissing child count) _ (true_missing child count) (references x.body) any))
 
 -- ---- the records in order
 

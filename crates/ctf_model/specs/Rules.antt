@@ -102,9 +102,11 @@ IsDeepBy steps s place =
     (types : List Term) × Section (tables s) (section s.ctf STypes) types
     × (i : ℕ) × BeginsChain steps (is_child (fields s.ctf)) types (longest_chain + 1) i × (place ≡ i + 1)
 
+-- a value is, or holds, values on and on
 abbrev pub ValueDeep : Lists → ℕ → Type 0
 ValueDeep s place = IsDeepBy by_value s place
 
+-- a declaration goes on and on
 abbrev pub DeclDeep : Lists → ℕ → Type 0
 DeclDeep s place = IsDeepBy declarator s place
 
