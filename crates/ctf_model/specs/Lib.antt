@@ -5,6 +5,7 @@ pub mod Term
 pub mod Record
 pub mod Spelling
 pub mod Section
+pub mod NamePlaces
 pub mod Lists
 pub mod Laws
 pub mod Faults
@@ -13,6 +14,7 @@ pub mod Dictionary
 pub mod References
 pub mod Chains
 pub mod Needs
+pub mod TypePlaces
 pub mod TypeNumbers
 pub mod Refusals
 pub mod State

@@ -11,8 +11,6 @@ mod questions;
 mod requests;
 mod rows;
 mod sections;
-#[cfg(test)]
-mod tests;
 mod words;
 
 pub use bytes::{Bytes, LONGEST_PIECE, Piece};
@@ -23,7 +21,7 @@ pub use laws::{
     records_are_a_cut, section_spells_one_list,
 };
 pub use lists::{Parts, no_parts};
-pub use numbers::{SlotNumber, TypeNum};
+pub use numbers::{Place, SlotNumber, TypeNum};
 pub use questions::{Question, TypeQuestion, Window};
 pub use requests::{Change, ListName, Request};
 pub use rows::{
