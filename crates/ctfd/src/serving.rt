@@ -22,9 +22,6 @@ pub fn serve_lines<R: Read + Drop, W: Write + Drop>(
 pub fn run(rt: &HostRuntime) -> u8 {
     match serve_lines(rt.alloc(), rt.reader(), io::writer(rt)) {
         Ok(()) => status::DONE,
-        Err(fault) => {
-            let _ = eprintln!(rt; "ctfd: {fault}");
-            status::status_of(fault)
-        }
+        Err(fault) => status::end_with(rt, fault),
     }
 }
