@@ -41,11 +41,11 @@ fn parse(rt: &HostRuntime) -> Result<(), Error> {
 /// Prints help, the version or what is wrong with the words, and answers the exit status.
 fn tell(rt: &HostRuntime, error: &Error) -> u8 {
     if error.kind() == ErrorKind::OutOfMemory {
-        return status::end_with(rt, RunFault::Memory);
+        return status::end(rt, Err(RunFault::Memory));
     }
     match error.print(rt) {
         Ok(()) => status::status_told(error.kind()),
-        Err(_) => status::end_with(rt, RunFault::Write),
+        Err(_) => status::end(rt, Err(RunFault::Write)),
     }
 }
 

@@ -1,5 +1,5 @@
 //! How the program ends: exit statuses, and the text of a fault.
-ghost use Rattle.std.specs.Prelude.{◌≡◌};
+ghost use Rattle.std.specs.Prelude.{◌≡◌, IfErr, OnOk};
 ghost use Rattle.ctfd.specs.Status.{status_after, status_beside};
 
 use clap::error::ErrorKind;
@@ -38,10 +38,14 @@ pub fn status_told(kind: ErrorKind) -> u8
     }
 }
 
-/// Says on standard error which fault ended the run, and answers the exit status.
-pub fn end_with(rt: &HostRuntime, fault: RunFault) -> u8
-    ensures { result ≡ status_after fault }
+/// Says on standard error which fault ended a run, if one did, and answers the exit status.
+pub fn end(rt: &HostRuntime, outcome: Result<(), RunFault>) -> u8
+    ensures done { OnOk outcome (result ≡ 0) }
+    ensures fault { IfErr outcome (λ f. result ≡ status_after f) }
 {
+    let Err(fault) = outcome else {
+        return DONE;
+    };
     let _ = eprintln!(rt; "ctfd: {fault}");
     status_of(fault)
 }
