@@ -60,6 +60,19 @@ ends "$first" serve;            expect "the first run" 0 '^{"ok":{"kind":"intege
 fills /dev/null serve;          expect "no lines, and a full output" 0 '' ''
 fills "$first" serve;           expect "the first run, and a full output" 3 '' '^ctfd: Write$'
 ends . serve;                   expect "a folder as input" 3 '' '^ctfd: Read$'
+
+# One line is written and its reply awaited, for at most ten seconds, before the input ends.
+mkfifo "$work/pipe"
+"$program" serve < "$work/pipe" > "$work/all" 2> "$work/err" &
+service=$!
+exec 3> "$work/pipe"
+head -n 1 "$first" >&3
+for _ in $(seq 100); do [ -s "$work/all" ] && break; sleep 0.1; done
+cp "$work/all" "$work/out"
+exec 3>&-
+wait $service
+status=$?;                      expect "a reply before the next line" 0 '^{"ok":{"length":53},"s":7}$' ''
+
 yes '{"s":7,"op":"reset"}' | head -n 200000 > "$work/many"
 { "$program" serve < "$work/many" 2> "$work/err"; echo $? > "$work/status"; } | head -n 1 > "$work/out"
 status=$(cat "$work/status");   expect "a reader that leaves" 3 '^{"ok":{},"s":7}$' '^ctfd: Write$'
