@@ -1,8 +1,8 @@
 -- The rule of references agrees with its fact.
-use Rattle.std.proofs.Common.{◌≡◌, ℕ, ◌+◌, ◌<◌, ◌≤◌, Bool, true, false, cond, eqb, ltb, List, [], ◌∷◌, length, Option, Some, None, Result, Ok, Err, refl, sym, subst, arith, ◌⊎◌, inl, inr}
+use Rattle.std.proofs.Common.{◌≡◌, ℕ, ◌+◌, ◌≤◌, Bool, true, false, cond, eqb, List, [], ◌∷◌, length, Option, Some, None, Result, Ok, Err, refl, sym, subst, arith, ◌⊎◌, inl, inr}
 use Rattle.std.specs.Prelude.{◌||◌, Any}
 use Rattle.std.specs.Bool.{Decides}
-use Rattle.std.proofs.lemmas.Bool.{eqb-true, ltb-true, lt-ltb, and_parts}
+use Rattle.std.proofs.lemmas.Bool.{eqb-true, eqb-false, ne_eqb, not-true, leb-true, le-leb, and_parts}
 use Rattle.std.proofs.lemmas.List.Folds.{Any-from_list_any, list_any-from_Any}
 use Rattle.ctf_model.specs.declared.faults.Fault.{Fault}
 use Rattle.ctf_model.specs.declared.kinds.Kind.{Kind}
@@ -14,11 +14,14 @@ use Rattle.ctf_model.specs.Laws.{pieces}
 use Rattle.ctf_model.specs.Lists.{Lists, tables}
 use Rattle.ctf_model.specs.Name.{Tables}
 use Rattle.ctf_model.specs.Record.{kind, field, is_long}
-use Rattle.ctf_model.specs.References.{references, is_missing, is_forward, has_long_tag, names_missing, is_misnaming}
-use Rattle.ctf_model.specs.Rules.{IsBroken, IsMissing, NamesMissing, HasLongTag}
+use Rattle.ctf_model.specs.References.{references, is_missing, is_missing_at, is_forward, has_long_tag, names_missing, is_misnaming}
+use Rattle.ctf_model.specs.Rules.{IsBroken, IsMissing, IsMissingAt, NamesMissing, HasLongTag}
 use Rattle.ctf_model.specs.Section.{Piece, stop_code}
 use Rattle.ctf_model.specs.Spelling.{term_of}
 use Rattle.ctf_model.specs.Term.{Term}
+use Rattle.ctf_model.specs.TypePlaces.{place}
+use Rattle.ctf_model.specs.declared.numbers.Place.{Place}
+use Rattle.ctf_model.specs.declared.numbers.Place.TheVariants.{Nowhere, Own, Parents}
 use Rattle.ctf_model.proofs.Cut.{read}
 use Rattle.ctf_model.proofs.FirstFault.{Agrees}
 use Rattle.ctf_model.proofs.NameRules.{any_here, any_there, any_split}
@@ -41,17 +44,20 @@ any_map : {X : Type 0} (P Q : X → Type 0) → ((x : X) → P x → Q x) → (x
 any_map P Q f xs a = (a.0, a.1, a.2, a.3, f a.1 a.4)
 
 missing_true : (child : Bool) (count n : ℕ) → is_missing child count n ≡ true → IsMissing child count n
-missing_true false count n e = ltb-true count n e
-missing_true true count n e = at (or_either (eqb n 0x8000) (ltb (0x8000 + count) n) e)
+missing_true child count n e = at (place child n) e
   where
-    at : (eqb n 0x8000 ≡ true) ⊎ (ltb (0x8000 + count) n ≡ true) → (n ≡ 0x8000) ⊎ (0x8000 + count < n)
-    at (inl h) = inl (eqb-true n 0x8000 h)
-    at (inr h) = inr (ltb-true (0x8000 + count) n h)
+    at : (p : Place) → is_missing_at count n p ≡ true → IsMissingAt count n p
+    at Nowhere e = eqb-false n 0 (not-true (eqb n 0) e)
+    at (Own i) e = leb-true count i e
+    at (Parents i) e = absurd cc
 
 true_missing : (child : Bool) (count n : ℕ) → IsMissing child count n → is_missing child count n ≡ true
-true_missing false count n h = lt-ltb count n h
-true_missing true count n (inl h) = rw h refl
-true_missing true count n (inr h) = or_second (eqb n 0x8000) (ltb (0x8000 + count) n) (lt-ltb (0x8000 + count) n h)
+true_missing child count n h = at (place child n) h
+  where
+    at : (p : Place) → IsMissingAt count n p → is_missing_at count n p ≡ true
+    at Nowhere h = let e = ne_eqb n 0 h in rw e refl
+    at (Own i) h = le-leb count i h
+    at (Parents i) h = absurd h
 
 forward_true : (k : Option Kind) → is_forward k ≡ true → k ≡ Some KForward
 forward_true None e = absurd cc

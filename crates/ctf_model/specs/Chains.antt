@@ -1,8 +1,11 @@
 -- Chains of types that lead to each other: how long they may be. Source: ours; ctf(5) says only which types a type names.
-use Rattle.std.specs.Prelude.{◌≡◌, ℕ, zero, suc, ◌+◌, ◌-◌, ◌&&◌, ◌==◌, nat_lt, nat_le, Bool, List, [], ◌∷◌, length, map, Option, Some, None, slice_index_or, if◌then◌else◌}
+use Rattle.std.specs.Prelude.{◌≡◌, ℕ, zero, suc, ◌==◌, nat_lt, Bool, List, [], ◌∷◌, length, map, Option, Some, None, slice_index_or, if◌then◌else◌}
 use Rattle.std.specs.List.{filter_map, list_all, AllByRecursion}
 use Rattle.ctf_model.specs.Term.{Term, Body}
 use Rattle.ctf_model.specs.Term as term
+use Rattle.ctf_model.specs.TypePlaces.{place}
+use Rattle.ctf_model.specs.declared.numbers.Place.{Place}
+use Rattle.ctf_model.specs.declared.numbers.Place.TheVariants.{Own}
 
 -- ---- steps, by the numbers that a type names
 
@@ -30,13 +33,14 @@ declarator _ = []
 
 -- ---- chains
 
--- the number before that of the first own type: a child's own types count from 0x8001, others from 1
-abbrev pub base : Bool → ℕ
-base child = if child then 0x8000 else 0
+-- the own type at a place, from 0, where that many are there
+abbrev pub own_index_at : ℕ → Place → Option ℕ
+own_index_at count (Own i) = if nat_lt i count then Some i else None
+own_index_at count _ = None
 
--- the own type that a number names, from 0, where that many are there
+-- the own type that a number names
 abbrev pub own_index : Bool → ℕ → ℕ → Option ℕ
-own_index child count n = if nat_lt (base child) n && nat_le n (base child + count) then Some (n - base child - 1) else None
+own_index child count n = own_index_at count (place child n)
 
 -- the own types that each type leads to
 unfoldable pub edges : (Body → List ℕ) → Bool → List Term → List (List ℕ)

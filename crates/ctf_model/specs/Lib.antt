@@ -13,6 +13,7 @@ pub mod Dictionary
 pub mod References
 pub mod Chains
 pub mod Needs
+pub mod TypePlaces
 pub mod TypeNumbers
 pub mod State
 pub mod Answers

@@ -1,12 +1,20 @@
--- Which types of its parent a child names. Source: CTF_TYPE_ISPARENT, CTF_MAX_PTYPE of sys/ctf.h: the numbers below 0x8000 are the parent's.
-use Rattle.std.specs.Prelude.{ℕ, max, nat_lt, List, [], ◌∷◌, if◌then◌else◌}
+-- Which types of its parent a child names. Source: ctf(5), of parents and children; CTF_TYPE_ISPARENT of sys/ctf.h.
+use Rattle.std.specs.Prelude.{ℕ, ◌+◌, max, true, List, [], ◌∷◌, if◌then◌else◌}
 use Rattle.std.specs.List.{flat_map}
 use Rattle.ctf_model.specs.Dictionary.{Dictionary}
 use Rattle.ctf_model.specs.References.{references}
+use Rattle.ctf_model.specs.TypePlaces.{place}
+use Rattle.ctf_model.specs.declared.numbers.Place.{Place}
+use Rattle.ctf_model.specs.declared.numbers.Place.TheVariants.{Parents}
 
--- the number that a type has in the parent; 0 where it is one of the child's own, or no type
+-- the number that the type of a place has in the parent; 0 where it is one of the child's own, or no type
+abbrev pub parents_number : Place → ℕ
+parents_number (Parents i) = i + 1
+parents_number _ = 0
+
+-- the same of the type that a child names by a number
 abbrev pub number_in_parent : ℕ → ℕ
-number_in_parent n = if nat_lt n 0x8000 then n else 0
+number_in_parent n = parents_number (place true n)
 
 -- the greatest of such numbers; 0 where there is none
 unfoldable pub greatest_in_parent : List ℕ → ℕ

@@ -1,13 +1,16 @@
 -- Which types a type names, and which of these are not there. Source: ctf(5); what is accepted is ours.
-use Rattle.std.specs.Prelude.{ℕ, ◌+◌, ◌==◌, ◌||◌, ◌&&◌, nat_lt, Bool, true, false, List, [], ◌∷◌, map, Option, Some, None}
+use Rattle.std.specs.Prelude.{ℕ, ◌==◌, ◌||◌, ◌&&◌, not, nat_le, Bool, true, false, List, [], ◌∷◌, map, Option, Some, None}
 use Rattle.std.specs.List.{list_any}
 use Rattle.ctf_model.specs.Name.{Tables}
 use Rattle.ctf_model.specs.Record.{kind, is_long}
 use Rattle.ctf_model.specs.Spelling.{term_of}
 use Rattle.ctf_model.specs.Term.{Term, Body}
 use Rattle.ctf_model.specs.Term as term
+use Rattle.ctf_model.specs.TypePlaces.{place}
 use Rattle.ctf_model.specs.declared.kinds.Kind.{Kind}
 use Rattle.ctf_model.specs.declared.kinds.Kind.TheVariants.{KForward}
+use Rattle.ctf_model.specs.declared.numbers.Place.{Place}
+use Rattle.ctf_model.specs.declared.numbers.Place.TheVariants.{Nowhere, Own, Parents}
 
 -- the types that a type names
 abbrev pub references : Body → List ℕ
@@ -22,11 +25,16 @@ references (term.const t) = t ∷ []
 references (term.restrict t) = t ∷ []
 references _ = []
 
--- no type has the number: in a child one of its own that is not there, else one above the count.
--- 0 is no type; a child's numbers below 0x8000 are judged where it meets its parent
+-- among so many own types, none stands at the place of the number. The number 0 asks for none, and those
+-- of a parent are judged where the child meets it
+abbrev pub is_missing_at : ℕ → ℕ → Place → Bool
+is_missing_at count n Nowhere = not (n == 0)
+is_missing_at count n (Own i) = nat_le count i
+is_missing_at count n (Parents i) = false
+
+-- no type has the number
 abbrev pub is_missing : Bool → ℕ → ℕ → Bool
-is_missing true count n = n == 0x8000 || nat_lt (0x8000 + count) n
-is_missing false count n = nat_lt count n
+is_missing child count n = is_missing_at count n (place child n)
 
 abbrev pub is_forward : Option Kind → Bool
 is_forward (Some KForward) = true

@@ -1,5 +1,5 @@
 -- The rules that a dictionary keeps, each as a fact about the whole lists. Source: ours, over the layout of ctf(5).
-use Rattle.std.specs.Prelude.{◌≡◌, ◌≢◌, ◌<◌, ◌≤◌, ℕ, ◌+◌, ◌%◌, List, [], ◌∷◌, length, slice_index, slice_index_or, Bool, true, false, None, Some, Result, Ok, Err, Any, ◌⊎◌}
+use Rattle.std.specs.Prelude.{◌≡◌, ◌≢◌, ◌<◌, ◌≤◌, ℕ, ◌+◌, ◌%◌, List, [], ◌∷◌, length, slice_index, slice_index_or, Bool, None, Some, Result, Ok, Err, Any, ◌⊎◌}
 use Rattle.ctf_model.specs.Bytes.{u16_at}
 use Rattle.ctf_model.specs.Chains.{by_value, declarator, longest_chain, IsWithin}
 use Rattle.ctf_model.specs.Faults.{sites, types, edges_by}
@@ -11,8 +11,11 @@ use Rattle.ctf_model.specs.References.{references}
 use Rattle.ctf_model.specs.Section.{IsCut, Piece}
 use Rattle.ctf_model.specs.Spelling.{term_of}
 use Rattle.ctf_model.specs.Term.{Term, Body}
+use Rattle.ctf_model.specs.TypePlaces.{place}
 use Rattle.ctf_model.specs.declared.faults.Fault.{Fault}
 use Rattle.ctf_model.specs.declared.kinds.Kind.TheVariants.{KForward}
+use Rattle.ctf_model.specs.declared.numbers.Place.{Place}
+use Rattle.ctf_model.specs.declared.numbers.Place.TheVariants.{Nowhere, Own, Parents}
 use Rattle.ctf_model.specs.declared.sections.Section.TheVariants.{STypes, SStrings}
 
 -- ---- each rule, whatever the rules before it say: the lists break it at a place
@@ -70,10 +73,15 @@ TooMany s place = (parts : List (List ℕ)) × (rest : List ℕ) × IsCut (secti
 abbrev pub BadName : Lists → ℕ → Type 0
 BadName s place = Any (λ site. (site.place ≡ place) × (name (tables s) site.reference ≡ None)) (sites s.ctf)
 
+-- among so many own types, none stands at the place of the number; 0 asks for none
+abbrev pub IsMissingAt : ℕ → ℕ → Place → Type 0
+IsMissingAt count n Nowhere = n ≢ 0
+IsMissingAt count n (Own i) = count ≤ i
+IsMissingAt count n (Parents i) = ⊥
+
 -- no type has the number
 abbrev pub IsMissing : Bool → ℕ → ℕ → Type 0
-IsMissing true count n = (n ≡ 0x8000) ⊎ (0x8000 + count < n)
-IsMissing false count n = count < n
+IsMissing child count n = IsMissingAt count n (place child n)
 
 -- the record says a type that names one which is not there
 abbrev pub NamesMissing : Tables → Bool → ℕ → List ℕ → Type 0

@@ -1,9 +1,12 @@
--- Which type a number names. Source: ctf(5); CTF_TYPE_TO_INDEX, CTF_TYPE_ISPARENT, CTF_MAX_PTYPE of sys/ctf.h.
-use Rattle.std.specs.Prelude.{ℕ, ◌-◌, ◌==◌, nat_le, nat_lt, List, Option, Some, None, Result, Ok, Err, slice_get, if◌then◌else◌}
+-- Which type a number names. Source: ctf(5); ctf_lookup_by_id of libctf.
+use Rattle.std.specs.Prelude.{ℕ, Option, Some, None, Result, Ok, Err, slice_get}
 use Rattle.ctf_model.specs.Dictionary.{Dictionary}
 use Rattle.ctf_model.specs.Term.{Term}
+use Rattle.ctf_model.specs.TypePlaces.{place}
 use Rattle.ctf_model.specs.declared.faults.Fault.{Fault}
 use Rattle.ctf_model.specs.declared.faults.TheConstants.Fault.{NO_TYPE, NO_PARENT}
+use Rattle.ctf_model.specs.declared.numbers.Place.{Place}
+use Rattle.ctf_model.specs.declared.numbers.Place.TheVariants.{Nowhere, Own, Parents}
 
 -- no type has the number
 abbrev pub no_type : Fault
@@ -17,23 +20,13 @@ abbrev pub or_no_type : Option Term → Result Term Fault
 or_no_type None = Err no_type
 or_no_type (Some x) = Ok x
 
--- the type with a number of a dictionary that isn't a child: they count from 1
-abbrev pub type_numbered : List Term → ℕ → Result Term Fault
-type_numbered terms n = if nat_le 1 n then or_no_type (slice_get terms (n - 1)) else Err no_type
+-- the type that stands at a place of a dictionary with its imported parent, or none
+abbrev pub type_in : Dictionary → Option Dictionary → Place → Result Term Fault
+type_in d parent Nowhere = Err no_type
+type_in d parent (Own i) = or_no_type (slice_get d.terms i)
+type_in d None (Parents i) = Err no_parent
+type_in d (Some parent) (Parents i) = or_no_type (slice_get parent.terms i)
 
--- the same in the imported parent
-abbrev pub in_parent : Option Dictionary → ℕ → Result Term Fault
-in_parent None n = Err no_parent
-in_parent (Some parent) n = type_numbered parent.terms n
-
--- in a child: its own types count from 0x8001, and the numbers below 0x8000 are the parent's
-abbrev pub type_in_child : List Term → Option Dictionary → ℕ → Result Term Fault
-type_in_child own parent n =
-    if nat_lt 0x8000 n then or_no_type (slice_get own (n - 0x8001))
-    else if n == 0x8000 then Err no_type
-    else if n == 0 then Err no_type
-    else in_parent parent n
-
--- the type that a number names in a dictionary with its imported parent, or none
+-- the type that a number names
 abbrev pub type_at : Dictionary → Option Dictionary → ℕ → Result Term Fault
-type_at d parent n = if d.child then type_in_child d.terms parent n else type_numbered d.terms n
+type_at d parent n = type_in d parent (place d.child n)

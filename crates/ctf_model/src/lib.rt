@@ -21,7 +21,7 @@ pub use laws::{
     faultless_exactly_where_denoted, first_fault_is_the_least, keys_rise, no_record_begins_another,
     records_are_a_cut, section_spells_one_list,
 };
-pub use numbers::{SlotNumber, TypeNum};
+pub use numbers::{Place, SlotNumber, TypeNum};
 pub use questions::{Question, TypeQuestion, Window};
 pub use requests::{Change, ListName, Request};
 pub use rows::{
