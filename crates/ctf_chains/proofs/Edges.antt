@@ -1,13 +1,16 @@
 -- The places of a section's records lead where the steps of its types do.
-use Rattle.std.proofs.Common.{◌≡◌, ℕ, suc, ◌+◌, ◌-◌, ◌<◌, ◌≤◌, Bool, true, false, cond, ltb, leb, List, [], ◌∷◌, length, map, Option, Some, None, Result, Ok, Err, get_or, refl, sym, ap, ◌∙◌, arith}
-use Rattle.std.specs.Prelude.{IsSome, slice_get, slice_index, slice_index_or, MatchOption, ◌&&◌}
+use Rattle.std.proofs.Common.{◌≡◌, ℕ, suc, ◌+◌, ◌<◌, Bool, true, false, cond, ltb, List, [], ◌∷◌, length, map, Option, Some, None, Result, Ok, Err, get_or, refl, sym, ap, ◌∙◌}
+use Rattle.std.specs.Prelude.{IsSome, slice_get, slice_index, slice_index_or, MatchOption}
 use Rattle.std.specs.List.{filter_map}
 use Rattle.std.proofs.Math.ListN as listn
-use Rattle.std.proofs.lemmas.Bool.{and_parts, ltb-true, leb-true}
+use Rattle.std.proofs.lemmas.Bool.{ltb-true}
 use Rattle.std.proofs.lemmas.List.{length-map, get_or-map}
 use Rattle.std.proofs.lemmas.List.Sums.{sum_by-cons}
 use Rattle.std.proofs.lemmas.Option.{get_or_from_slice_get}
-use Rattle.ctf_model.specs.Chains.{base, own_index, edges}
+use Rattle.ctf_model.specs.Chains.{own_index_at, own_index, edges}
+use Rattle.ctf_model.specs.TypePlaces.{place}
+use Rattle.ctf_model.specs.declared.numbers.Place.{Place}
+use Rattle.ctf_model.specs.declared.numbers.Place.TheVariants.{Nowhere, Own, Parents}
 use Rattle.ctf_model.specs.Faults.{walk_fault}
 use Rattle.ctf_model.specs.Name.{Tables}
 use Rattle.ctf_model.specs.Section.{Piece, onto, terms_in}
@@ -118,12 +121,13 @@ places_count chain child rs starts whole begin = ap length begin ∙ starts_coun
 
 -- an own type is one of those that are there
 pub own_inside : (child : Bool) (count n : ℕ) → MatchOption (own_index child count n) (Unit {0}) (λ j. j < count)
-own_inside child count n = at (ltb (base child) n && leb n (base child + count)) refl
+own_inside child count n = at (place child n)
   where
-    at : (test : Bool) → (ltb (base child) n && leb n (base child + count)) ≡ test → MatchOption (cond test (Some (n - base child - 1)) None) (Unit {0}) (λ j. j < count)
-    at false e = tt
-    at true e =
-        let both = and_parts (ltb (base child) n) (leb n (base child + count)) e in
-        let low : base child < n = ltb-true (base child) n both.0 in
-        let high : n ≤ base child + count = leb-true n (base child + count) both.1 in
-        omega arith
+    at : (p : Place) → MatchOption (own_index_at count p) (Unit {0}) (λ j. j < count)
+    at Nowhere = tt
+    at (Parents i) = tt
+    at (Own i) = there i (ltb i count) refl
+      where
+        there : (i : ℕ) (test : Bool) → ltb i count ≡ test → MatchOption (cond test (Some i) None) (Unit {0}) (λ j. j < count)
+        there i false e = tt
+        there i true e = ltb-true i count e

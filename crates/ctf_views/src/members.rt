@@ -8,6 +8,7 @@ ghost use Rattle.ctf_views.specs.ItemsView.{member};
 use crate::row::Row;
 use crate::rows::Rows;
 use ctf_model::TypeNum;
+use ctf_records::{WIDE_MEMBERS, member_len};
 use ctf_sections::Strings;
 use ctf_sections::bytes::{u16_at, u32_at};
 use std::marker::Model;
@@ -32,8 +33,8 @@ impl Model for SpelledMember {
     ghost view = { λ _. record { name = []; tnum = 0; offset = 0 } };
 }
 
-/// A member has the reference to its name, its type and its offset. A struct or union of 8192 bytes
-/// or more calls for the form with wide offsets.
+/// A member has the reference to its name, its type and its offset, which is wide where the size of
+/// its struct or union calls for that.
 #[derive(Clone, Copy)]
 pub struct MemberRow<'a> {
     pub(crate) size: u64,
@@ -52,14 +53,14 @@ impl<'a> Row for MemberRow<'a> {
     ghost seen = { member };
 
     fn len(&self) -> usize {
-        if self.size < 8192 { 8 } else { 16 }
+        member_len(self.size)
     }
 
     fn first(&self, bytes: &[u8]) -> Member<'a> {
         Member {
             name: self.strings.name(u32_at(bytes, 0)).unwrap(),
             tnum: TypeNum(u16_at(bytes, 4)),
-            offset: if self.size < 8192 {
+            offset: if self.size < WIDE_MEMBERS {
                 u16_at(bytes, 6) as u64
             } else {
                 u32_at(bytes, 8) as u64 * 0x1_0000_0000 + u32_at(bytes, 12) as u64

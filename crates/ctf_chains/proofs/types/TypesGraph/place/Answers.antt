@@ -29,7 +29,7 @@ returns-clause-leads c =
     let listed : c.args.k < length (numbers g.chain (bytes_of c.record-record.result)) = omega arith in
     let count : c.len.result ≡ length rs = c.len.ensures ∙ ap length g.begin ∙ starts_count rs g.whole in
     c.own_index.ensures
-    ∙ ap (λ (n : ℕ). own_index g.child n c.place_number-number.result) count
+    ∙ ap (λ (n : ℕ). own_index g.child n c.place_number-number.result.0) count
     ∙ ap (own_index g.child (length rs)) c.place_number-number.ensures
     ∙ sym (place_is g.chain g.child rs c.args.i c.args.k (piece c.record-record.result) c.record-record.ensures listed)
 
@@ -37,6 +37,6 @@ pub returns-clause-inside : goal.returns-clause-inside
 returns-clause-inside c =
     let g = c.args.self.now in
     let count : c.len.result ≡ length (section_places g.chain g.child (records g.bytes.now)) = c.len.ensures ∙ places_count g.chain g.child (records g.bytes.now) g.starts.now g.whole g.begin in
-    let own = own_inside g.child c.len.result c.place_number-number.result in
+    let own = own_inside g.child c.len.result c.place_number-number.result.0 in
     let P : Option ℕ → Type 0 = λ o. MatchOption o (Unit {0}) (λ j. j < length (section_places g.chain g.child (records g.bytes.now))) in
-    subst P (sym c.own_index.ensures) (subst (λ (n : ℕ). MatchOption (own_index g.child c.len.result c.place_number-number.result) (Unit {0}) (λ j. j < n)) count own)
+    subst P (sym c.own_index.ensures) (subst (λ (n : ℕ). MatchOption (own_index g.child c.len.result c.place_number-number.result.0) (Unit {0}) (λ j. j < n)) count own)
