@@ -104,14 +104,9 @@ places_are chain child rs i p e =
     let here : get_or rs i none ≡ Ok p = get_or_from_slice_get rs i (Ok p) none e in
     listn.get_or-map (record_places chain child (length rs)) rs i none ∙ ap (record_places chain child (length rs)) here
 
-pub place_count_is : (chain : Chain) (child : Bool) (rs : List (Result Piece Fault)) (i : ℕ) (p : Piece) → slice_get rs i ≡ Some (Ok p) → length (places_at (section_places chain child rs) i) ≡ length (numbers chain p.bytes)
-place_count_is chain child rs i p e = ap length (places_are chain child rs i p e) ∙ length-map (numbers chain p.bytes) (own_index child (length rs))
-
 -- the place with a number
-pub place_is : (chain : Chain) (child : Bool) (rs : List (Result Piece Fault)) (i k : ℕ) (p : Piece) → slice_get rs i ≡ Some (Ok p) → k < length (numbers chain p.bytes) → slice_index_or (places_at (section_places chain child rs) i) k None ≡ own_index child (length rs) (slice_index (numbers chain p.bytes) k)
-place_is chain child rs i k p e lt =
-    ap (λ (ps : List (Option ℕ)). get_or ps k None) (places_are chain child rs i p e)
-    ∙ get_or-map (own_index child (length rs)) (numbers chain p.bytes) k 0 None lt
+pub place_in : (child : Bool) (count : ℕ) (ns : List ℕ) (k : ℕ) → k < length ns → slice_index_or (map (own_index child count) ns) k None ≡ own_index child count (slice_index ns k)
+place_in child count ns k lt = get_or-map (own_index child count) ns k 0 None lt
 
 -- ---- as many as there are types
 
