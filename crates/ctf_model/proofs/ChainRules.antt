@@ -1,14 +1,21 @@
 -- The rules of chains agree with their facts.
 use Rattle.std.proofs.Common.{◌≡◌, ℕ, zero, suc, ◌+◌, ◌<◌, ◌≤◌, Bool, true, false, cond, eqb, List, [], ◌∷◌, length, Option, Some, None, refl, sym, subst, arith}
 use Rattle.std.specs.List.{list_all, AllByRecursion}
-use Rattle.std.proofs.lemmas.Bool.{eqb-true, eqb-false, and_parts}
+use Rattle.std.proofs.lemmas.Bool.{eqb-true, eqb-false, false_from_ne_true, and_parts}
 use Rattle.std.proofs.lemmas.List.{nil_from_length}
-use Rattle.ctf_model.specs.Chains.{by_value, declarator, targets, IsWithin, within, longest_chain}
+use Rattle.ctf_model.specs.Chains.{by_value, declarator, edges, targets, IsWithin, BeginsChain, within, longest_chain}
+use Rattle.ctf_model.specs.declared.sections.Section.TheVariants.{STypes}
 use Rattle.ctf_model.specs.Faults.{types, first_deep, edges_by, value_deep, decl_deep}
-use Rattle.ctf_model.specs.Lists.{Lists}
-use Rattle.ctf_model.specs.Rules.{IsBroken, IsDeepBy}
-use Rattle.ctf_model.specs.Term.{Body}
-use Rattle.ctf_model.proofs.FirstFault.{Agrees}
+use Rattle.ctf_model.specs.Header.{fields, is_child, section}
+use Rattle.ctf_model.specs.Lists.{Lists, tables}
+use Rattle.ctf_model.specs.Rules.{IsBroken, IsDeepBy, Keeps}
+use Rattle.ctf_model.specs.Section.{terms_in}
+use Rattle.ctf_model.specs.Term.{Body, Term}
+use Rattle.ctf_model.specs.TypePlaces.{place}
+use Rattle.ctf_model.proofs.ChainSteps.{chain_begins, chain_past, chain_inside}
+use Rattle.ctf_model.proofs.FirstFault.{Agrees, agrees_as}
+use Rattle.ctf_model.proofs.SpelledSection.{section_spelled}
+use Rattle.ctf_model.proofs.Unique.{one_list}
 
 -- ---- one type
 
@@ -31,6 +38,10 @@ true_within : (es : List (List ℕ)) (k i : ℕ) → IsWithin es k i → within 
 unfolding within IsWithin
 true_within es zero i h = rw h refl
 true_within es (suc k) i h = from_all (within es k) (IsWithin es k) (true_within es k) (targets es i) h
+
+-- where the fact fails, so does the test
+deep_false : (es : List (List ℕ)) (k i : ℕ) → ¬ IsWithin es k i → within es k i ≡ false
+deep_false es k i deep = false_from_ne_true (within es k i) (λ e. deep (within_true es k i e))
 
 -- ---- the types in order
 
@@ -55,22 +66,32 @@ deep_agrees es i (suc n) = at (within es longest_chain i) refl (first_deep es (i
     at true e None h = λ p a. h p (later_only p e a)
     at true e (Some p) h = let low = h.0.1 in let high = h.0.2 in ((h.0.0, omega arith, omega arith, h.0.3, h.0.4), λ q lt a. h.1 q lt (later_only q e a))
 
--- from the first type on it is the rule's fact
-whole_agrees : (steps : Body → List ℕ) (s : Lists) → Agrees (first_deep (edges_by steps s) 0 (length (types s.ctf))) (IsDeepBy steps s)
-whole_agrees steps s = at (first_deep (edges_by steps s) 0 (length (types s.ctf))) (deep_agrees (edges_by steps s) 0 (length (types s.ctf)))
+-- ---- the rules
+
+-- where the rules before it are kept, a rule of chains agrees with its fact
+whole_agrees : (steps : Body → List ℕ) (s : Lists) (n : ℕ) → 14 < n → Keeps s n → Agrees (first_deep (edges_by steps s) 0 (length (types s.ctf))) (IsDeepBy steps s)
+unfolding edges_by
+whole_agrees steps s n lt keeps = agrees_as _ (DeepFrom es 0 (length (types s.ctf))) (IsDeepBy steps s) to from (deep_agrees es 0 (length (types s.ctf)))
   where
-    to : (p : ℕ) → DeepFrom (edges_by steps s) 0 (length (types s.ctf)) p → IsDeepBy steps s p
-    to p h = let high = h.2 in (h.0, omega arith, h.3, h.4)
+    all : List Term
+    all = terms_in (tables s) (types s.ctf)
 
-    from : (p : ℕ) → IsDeepBy steps s p → DeepFrom (edges_by steps s) 0 (length (types s.ctf)) p
-    from p h = let high = h.1 in (h.0, omega arith, omega arith, h.2, h.3)
+    es : List (List ℕ)
+    es = edges steps (is_child (fields s.ctf)) all
 
-    at : (r : Option ℕ) → Agrees r (DeepFrom (edges_by steps s) 0 (length (types s.ctf))) → Agrees r (IsDeepBy steps s)
-    at None h = λ p a. h p (from p a)
-    at (Some p) h = (to p h.0, λ q lt a. h.1 q lt (from q a))
+    to : (p : ℕ) → DeepFrom es 0 (length (types s.ctf)) p → IsDeepBy steps s p
+    to p h = (all, (section_spelled s n lt keeps).0, h.0, chain_begins steps (is_child (fields s.ctf)) all longest_chain h.0 (deep_false es longest_chain h.0 h.3), h.4)
 
-pub value_deep_agrees : (s : Lists) → Agrees (value_deep s) (IsBroken s 15)
-value_deep_agrees s = whole_agrees by_value s
+    from : (p : ℕ) → IsDeepBy steps s p → DeepFrom es 0 (length (types s.ctf)) p
+    from p h =
+        let spelled = section_spelled s n lt keeps in
+        let same : h.0 ≡ all = one_list (tables s) (section s.ctf STypes) (section s.ctf STypes) h.0 all refl h.1 spelled.0 in
+        let chain = subst (λ (xs : List Term). BeginsChain steps (is_child (fields s.ctf)) xs (suc longest_chain) h.2) same h.3 in
+        let inside = chain_inside steps (is_child (fields s.ctf)) all longest_chain h.2 chain in
+        (h.2, omega arith, omega (arith, spelled.1), chain_past steps (is_child (fields s.ctf)) all longest_chain h.2 chain, h.4)
 
-pub decl_deep_agrees : (s : Lists) → Agrees (decl_deep s) (IsBroken s 16)
-decl_deep_agrees s = whole_agrees declarator s
+pub value_deep_agrees : (s : Lists) → Keeps s 15 → Agrees (value_deep s) (IsBroken s 15)
+value_deep_agrees s keeps = whole_agrees by_value s 15 (omega arith) keeps
+
+pub decl_deep_agrees : (s : Lists) → Keeps s 16 → Agrees (decl_deep s) (IsBroken s 16)
+decl_deep_agrees s keeps = whole_agrees declarator s 16 (omega arith) keeps

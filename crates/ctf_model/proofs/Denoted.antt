@@ -1,40 +1,25 @@
 -- Lists that keep every rule denote just one dictionary.
-use Rattle.std.proofs.Common.{◌≡◌, ℕ, zero, suc, ◌+◌, ◌-◌, ◌*◌, ◌/◌, ◌<◌, ◌≤◌, Bool, List, [], ◌∷◌, ◌++◌, length, take, drop, Option, Some, None, Result, refl, sym, ap, subst, ◌∙◌, arith}
-use Rattle.std.specs.Prelude.{MatchOption, unwrap_or, ◌↔◌}
-use Rattle.std.specs.List.{concat, AllByRecursion}
-use Rattle.std.proofs.lemmas.List.{length-take, length-drop, take-take, drop-take, drop-drop, append_assoc, nil_from_length}
+use Rattle.std.proofs.Common.{◌≡◌, ℕ, zero, suc, ◌+◌, ◌-◌, ◌*◌, ◌/◌, ◌<◌, ◌≤◌, Bool, List, [], ◌∷◌, length, take, drop, Option, Some, None, refl, sym, ap, subst, ◌∙◌, arith}
+use Rattle.std.specs.Prelude.{MatchOption, ◌↔◌}
+use Rattle.std.proofs.lemmas.List.{length-take, length-drop, take-take, drop-take, drop-drop}
 use Rattle.std.proofs.lemmas.Option.{same_Some}
 use Rattle.ctf_model.specs.Bytes.{number, u32_at}
 use Rattle.ctf_model.specs.declared.faults.Fault.{Fault}
 use Rattle.ctf_model.specs.declared.sections.Section.TheVariants.{SLabels, STypes}
 use Rattle.ctf_model.specs.Dictionary.{Dictionary, Label, Denotes, AreLabels, labels_in, said_by, denoted, unless_fault}
-use Rattle.ctf_model.specs.Faults.{Site, first_fault, label_sites, list_sites, record_sites, sites, types}
+use Rattle.ctf_model.specs.Faults.{first_fault, label_sites}
 use Rattle.ctf_model.specs.Header.{fields, section}
-use Rattle.ctf_model.specs.Laws.{KeepsEveryRule, pieces}
+use Rattle.ctf_model.specs.Laws.{KeepsEveryRule}
 use Rattle.ctf_model.specs.Lists.{Lists, tables}
 use Rattle.ctf_model.specs.Name.{Tables, name}
-use Rattle.ctf_model.specs.Record.{IsWhole, kind}
 use Rattle.ctf_model.specs.Rules.{IsFirstFault}
-use Rattle.ctf_model.specs.Section.{Section, Piece, terms_in}
 use Rattle.ctf_model.specs.Term.{Term}
+use Rattle.ctf_model.proofs.GoodNames.{the_value, good}
 use Rattle.ctf_model.proofs.Judge.{least_fault}
-use Rattle.ctf_model.proofs.HeaderRules.{kept_order, kept_end}
-use Rattle.ctf_model.proofs.NameRules.{IsNameless, any_here, any_there}
-use Rattle.ctf_model.proofs.RecordRules.{kept_records, types_cut}
-use Rattle.ctf_model.proofs.Spelled.{IsNamed, AreNamed, split_front, split_back, spelled}
+use Rattle.ctf_model.proofs.HeaderRules.{kept_order, kept_end, section_len}
+use Rattle.ctf_model.proofs.SpelledSection.{section_spelled}
+use Rattle.ctf_model.proofs.Spelled.{IsNamed, AreNamed}
 use Rattle.ctf_model.proofs.Unique.{one_list}
-
--- ---- names that are good
-
--- where no site is nameless, all are named
-all_named : (t : Tables) (xs : List Site) → ((p : ℕ) → IsNameless t xs p → ⊥) → AreNamed t xs
-all_named t [] h = tt
-all_named t (site ∷ more) h = (λ e. h site.place (any_here _ site more (refl, e)), all_named t more (λ p a. h p (any_there _ site more a)))
-
--- what is there is the value
-the_value : (o : Option (List ℕ)) → (o ≡ None → ⊥) → o ≡ Some (unwrap_or o [])
-the_value None h = absurd (h refl)
-the_value (Some x) h = refl
 
 -- ---- labels
 
@@ -52,41 +37,7 @@ labels_read t ctf (suc n) at len inside low high named =
     let later = labels_read t ctf n (at + 8) (len - 8) (omega arith) (omega arith) (omega arith) named.1 in
     (long, the_value (name t (u32_at (take len (drop at ctf)) 0)) good, refl, subst (λ (r : List ℕ). AreLabels t r (labels_in t n r)) (sym behind) later)
 
--- ---- types
-
--- the types that are read are those that the bytes spell, where their names are good
-terms_read : (t : Tables) (start : ℕ) (parts : List (List ℕ)) (rest b : List ℕ) (index at : ℕ) → b ≡ concat parts ++ rest → length rest ≡ 0 → AllByRecursion IsWhole parts → AreNamed t (record_sites start (pieces index at parts rest))
-    → Section t b (terms_in t (pieces index at parts rest))
-unfolding record_sites terms_in
-terms_read t start [] rest b index at joined ends whole named = rw ends (joined ∙ nil_from_length rest ends)
-terms_read t start (part ∷ parts) rest b index at joined ends whole named =
-    let listed = list_sites (start + at) part (kind part) in
-    let others = record_sites start (pieces (index + 1) (at + length part) parts rest) in
-    let x = spelled t part (start + at) whole.0 named.0 (split_front t listed others named.1) in
-    let later = terms_read t start parts rest (concat parts ++ rest) (index + 1) (at + length part) refl ends whole.1 (split_back t listed others named.1) in
-    rw x.1.says (part, concat parts ++ rest, joined ∙ append_assoc part (concat parts) rest, x.1, later)
-
 -- ---- a dictionary
-
--- all names of a dictionary are good
-record Good (s : Lists) : Type 0 where
-  parlabel : IsNamed (tables s) (fields s.ctf).parlabel
-  parname : IsNamed (tables s) (fields s.ctf).parname
-  labels : AreNamed (tables s) (label_sites s.ctf (36 + (fields s.ctf).lbloff) (((fields s.ctf).objtoff - (fields s.ctf).lbloff) / 8))
-  records : AreNamed (tables s) (record_sites (36 + (fields s.ctf).typeoff) (types s.ctf))
-
--- where every rule is kept, all names are good
-good : (s : Lists) → KeepsEveryRule s → Good s
-unfolding sites
-good s keeps =
-    let all = all_named (tables s) (sites s.ctf) (λ p a. keeps 13 p a) in
-    let labels = label_sites s.ctf (36 + (fields s.ctf).lbloff) (((fields s.ctf).objtoff - (fields s.ctf).lbloff) / 8) in
-    let records = record_sites (36 + (fields s.ctf).typeoff) (types s.ctf) in
-    record { parlabel = all.0; parname = all.1.0; labels = split_front (tables s) labels records all.1.1; records = split_back (tables s) labels records all.1.1 }
-
--- a part inside has its length
-section_len : (ctf : List ℕ) (a b : ℕ) → a ≤ b → b ≤ length ctf → length (take (b - a) (drop a ctf)) ≡ b - a
-section_len ctf a b le inside = omega (arith, length-take (b - a) (drop a ctf), length-drop a ctf)
 
 -- the labels that are said are those of the bytes
 labels_said : (s : Lists) → KeepsEveryRule s → AreLabels (tables s) (section s.ctf SLabels) (labels_in (tables s) (length (section s.ctf SLabels) / 8) (section s.ctf SLabels))
@@ -102,17 +53,8 @@ labels_said s keeps =
     let size : (36 + h.objtoff) - (36 + h.lbloff) ≡ h.objtoff - h.lbloff = omega arith in
     let len : length (section s.ctf SLabels) ≡ h.objtoff - h.lbloff = section_len s.ctf (36 + h.lbloff) (36 + h.objtoff) (omega arith) (omega arith) ∙ size in
     let n = (h.objtoff - h.lbloff) / 8 in
-    let found = labels_read (tables s) s.ctf n (36 + h.lbloff) (h.objtoff - h.lbloff) (omega arith) (omega arith) (omega arith) (good s keeps).labels in
+    let found = labels_read (tables s) s.ctf n (36 + h.lbloff) (h.objtoff - h.lbloff) (omega arith) (omega arith) (omega arith) (good s 17 (omega arith) (λ rule lt. keeps rule)).labels in
     rw (len, size) found
-
--- the types that are said are those of the bytes
-terms_said : (s : Lists) → KeepsEveryRule s → Section (tables s) (section s.ctf STypes) (terms_in (tables s) (types s.ctf))
-terms_said s keeps =
-    let r = kept_records s 17 (omega arith) (λ rule lt. keeps rule) in
-    let same = types_cut s.ctf r.0 r.1 r.2 in
-    let named = subst (λ (rs : List (Result Piece Fault)). AreNamed (tables s) (record_sites (36 + (fields s.ctf).typeoff) rs)) same (good s keeps).records in
-    subst (λ (rs : List (Result Piece Fault)). Section (tables s) (section s.ctf STypes) (terms_in (tables s) rs)) (sym same)
-    (terms_read (tables s) (36 + (fields s.ctf).typeoff) r.0 r.1 (section s.ctf STypes) 1 0 r.2.joined r.3 r.2.whole named)
 
 -- without a first fault every rule is kept
 keeps_from : (s : Lists) → first_fault s ≡ None → KeepsEveryRule s
@@ -123,14 +65,14 @@ pub denotes_said : (s : Lists) → first_fault s ≡ None → Denotes s (said_by
 unfolding said_by
 denotes_said s e =
     let keeps = keeps_from s e in
-    let named = good s keeps in
+    let named = good s 17 (omega arith) (λ rule lt. keeps rule) in
     record {
       faultless = e;
       child = refl;
       parname = the_value (name (tables s) (fields s.ctf).parname) named.parname;
       parlabel = the_value (name (tables s) (fields s.ctf).parlabel) named.parlabel;
       labels = labels_said s keeps;
-      terms = terms_said s keeps;
+      terms = (section_spelled s 17 (omega arith) (λ rule lt. keeps rule)).0;
     }
 
 -- ---- only one dictionary

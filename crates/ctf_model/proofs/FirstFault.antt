@@ -17,6 +17,11 @@ use Rattle.ctf_model.specs.declared.faults.Fault.{Fault}
 abbrev pub Agrees : Option ℕ → (ℕ → Type 0) → Type 0
 Agrees here Fact = MatchOption here ((p : ℕ) → Fact p → ⊥) (λ p. Fact p × ((q : ℕ) → q < p → Fact q → ⊥))
 
+-- a fact that says the same agrees too
+pub agrees_as : (here : Option ℕ) (Fact Other : ℕ → Type 0) → ((p : ℕ) → Fact p → Other p) → ((p : ℕ) → Other p → Fact p) → Agrees here Fact → Agrees here Other
+agrees_as None Fact Other to from h = λ p f. h p (from p f)
+agrees_as (Some p) Fact Other to from h = (to p h.0, λ q lt f. h.1 q lt (from q f))
+
 -- the fact holds at the computed place alone
 abbrev pub IsExactly : Option ℕ → (ℕ → Type 0) → Type 0
 IsExactly here Fact = ((p : ℕ) → Fact p → here ≡ Some p) × ((p : ℕ) → here ≡ Some p → Fact p)

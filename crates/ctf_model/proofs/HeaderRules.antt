@@ -1,7 +1,8 @@
 -- Each rule of the header agrees with its fact.
-use Rattle.std.proofs.Common.{◌≡◌, ◌≢◌, ℕ, ◌+◌, ◌-◌, ◌%◌, ◌<◌, ◌≤◌, Bool, eqb, ltb, List, length, drop, refl, sym, ap, ◌∙◌, arith, true, false, ◌⊎◌, inl, inr, ⊎_elim}
+use Rattle.std.proofs.Common.{◌≡◌, ◌≢◌, ℕ, ◌+◌, ◌-◌, ◌%◌, ◌<◌, ◌≤◌, Bool, eqb, ltb, List, length, take, drop, refl, sym, ap, ◌∙◌, arith, true, false, ◌⊎◌, inl, inr, ⊎_elim}
 use Rattle.std.specs.Prelude.{slice_index, not, ◌&&◌, ◌||◌}
 use Rattle.std.specs.Bool.{Decides}
+use Rattle.std.proofs.Math.Bool.{or_assoc}
 use Rattle.std.proofs.lemmas.Bool.{cases_lt, false≢true}
 use Rattle.std.proofs.lemmas.Bool.Decides.{Decides-eqb, Decides-ltb, Decides-not, Decides-or, Decides-and, Decides-like, Decides-at}
 use Rattle.std.proofs.lemmas.List.{length-take, length-drop, get_or-take, get_or-drop}
@@ -29,14 +30,12 @@ pub short_header_agrees : (s : Lists) → Agrees (short_header s.ctf) (IsBroken 
 short_header_agrees s = test_agrees _ _ (Decides-ltb (length s.ctf) 36)
 
 -- four tests, from the left or from the right
-or_right : (a b c d : Bool) → (((a || b) || c) || d) ≡ (a || (b || (c || d)))
-or_right true b c d = refl
-or_right false true c d = refl
-or_right false false c d = refl
+from_right : (a b c d : Bool) → (((a || b) || c) || d) ≡ (a || (b || (c || d)))
+from_right a b c d = or_assoc (a || b) c d ∙ or_assoc a b (c || d)
 
 -- one of four facts holds where one of their tests passes
 four_decided : {A B C D : Type 0} (a b c d : Bool) → Decides a A → Decides b B → Decides c C → Decides d D → Decides (((a || b) || c) || d) (A ⊎ (B ⊎ (C ⊎ D)))
-four_decided a b c d p q r t = Decides-at _ _ (or_right a b c d) (Decides-or a _ p (Decides-or b _ q (Decides-or c d r t)))
+four_decided a b c d p q r t = Decides-at _ _ (from_right a b c d) (Decides-or a _ p (Decides-or b _ q (Decides-or c d r t)))
 
 -- the test of order decides its fact
 order_decided : (h : Fields) → Decides (is_out_of_order h) (IsOutOfOrder h)
@@ -85,6 +84,10 @@ kept_order s n lt keeps = in_order (fields s.ctf) (λ o. keeps 6 lt 0 (refl, o))
 pub kept_end : (s : Lists) (n : ℕ) → 8 < n → Keeps s n → 36 + (fields s.ctf).stroff + (fields s.ctf).strlen ≤ length s.ctf
 kept_end s n lt keeps = from_not (length s.ctf) (36 + (fields s.ctf).stroff + (fields s.ctf).strlen) (λ o. keeps 8 lt 0 (refl, o))
 
+-- a section that ends inside has its length
+pub section_len : (ctf : List ℕ) (a b : ℕ) → a ≤ b → b ≤ length ctf → length (take (b - a) (drop a ctf)) ≡ b - a
+section_len ctf a b le inside = omega (arith, length-take (b - a) (drop a ctf), length-drop a ctf)
+
 -- ---- the string section
 
 -- where the strings begin
@@ -93,7 +96,7 @@ start ctf = 36 + (fields ctf).stroff
 
 -- strings inside have the length that the header says
 strings_len : (ctf : List ℕ) → start ctf + (fields ctf).strlen ≤ length ctf → length (section ctf SStrings) ≡ (fields ctf).strlen
-strings_len ctf h = omega (arith, length-take (start ctf + (fields ctf).strlen - start ctf) (drop (start ctf) ctf), length-drop (start ctf) ctf)
+strings_len ctf h = omega (arith, section_len ctf (start ctf) (start ctf + (fields ctf).strlen) (omega arith) h)
 
 -- their first byte stands where the header says
 strings_first : (ctf : List ℕ) → 0 < (fields ctf).strlen → slice_index (section ctf SStrings) 0 ≡ slice_index ctf (start ctf)

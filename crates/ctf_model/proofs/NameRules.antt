@@ -1,6 +1,6 @@
 -- The rule of names agrees with its fact: the sites are listed by rising places.
-use Rattle.std.proofs.Common.{◌≡◌, ℕ, zero, suc, ◌+◌, ◌-◌, ◌*◌, ◌/◌, ◌<◌, ◌≤◌, Bool, true, false, cond, eqb, List, [], ◌∷◌, ◌++◌, length, drop, Option, Some, None, Result, Err, refl, sym, subst, arith, ◌⊎◌, inl, inr}
-use Rattle.std.specs.Prelude.{is_none, Any, slice_index_or, MatchOption}
+use Rattle.std.proofs.Common.{◌≡◌, ℕ, zero, suc, ◌+◌, ◌-◌, ◌*◌, ◌/◌, ◌≤◌, Bool, true, false, cond, eqb, List, [], ◌∷◌, ◌++◌, length, drop, Option, Some, None, Result, Err, refl, sym, subst, arith, ◌⊎◌, inl, inr}
+use Rattle.std.specs.Prelude.{is_none, Any, MatchOption}
 use Rattle.std.specs.List.{AllByRecursion}
 use Rattle.std.proofs.Math.Nat.{mul-suc}
 use Rattle.ctf_model.specs.declared.faults.Fault.{Fault}
@@ -15,28 +15,12 @@ use Rattle.ctf_model.specs.Name.{Tables, name}
 use Rattle.ctf_model.specs.Record.{IsWhole, IsWholeAt, kind, size, vlen, head_len, member_len, behind_head}
 use Rattle.ctf_model.specs.Rules.{IsBroken, Keeps}
 use Rattle.ctf_model.specs.Section.{Piece, stop_code}
+use Rattle.ctf_model.proofs.Anywhere.{any_none, any_here, any_there, any_split}
 use Rattle.ctf_model.proofs.Cut.{read}
-use Rattle.ctf_model.proofs.FirstFault.{Agrees}
+use Rattle.ctf_model.proofs.FirstFault.{Agrees, agrees_as}
 use Rattle.ctf_model.proofs.HeaderRules.{InOrder, kept_order}
+use Rattle.ctf_model.proofs.NameSites.{name_stands, name_site}
 use Rattle.ctf_model.proofs.RecordRules.{types_cut}
-
--- ---- one of a list
-
--- what holds of the first holds of some
-pub any_here : {X : Type 0} (P : X → Type 0) (x : X) (xs : List X) → P x → Any P (x ∷ xs)
-any_here P x xs p = (0, x, omega arith, refl, p)
-
--- what holds of one of the rest holds of some
-pub any_there : {X : Type 0} (P : X → Type 0) (x : X) (xs : List X) → Any P xs → Any P (x ∷ xs)
-any_there P x xs a = let lt = a.2 in (suc a.0, a.1, omega arith, a.3, a.4)
-
--- what holds of some holds of the first or of one of the rest
-pub any_split : {X : Type 0} (P : X → Type 0) (x : X) (xs : List X) → Any P (x ∷ xs) → P x ⊎ Any P xs
-any_split {X} P x xs a = at a.0 a.1 a.2 a.3 a.4
-  where
-    at : (k : ℕ) (y : X) → k < length (x ∷ xs) → slice_index_or (x ∷ xs) k y ≡ y → P y → P x ⊎ Any P xs
-    at zero y lt e p = inl (subst P (sym e) p)
-    at (suc k) y lt e p = inr (k, y, omega arith, e, p)
 
 -- ---- sites by rising places
 
@@ -56,7 +40,7 @@ IsNameless t xs p = Any (λ site. (site.place ≡ p) × (name t site.reference �
 
 -- no nameless site stands below the lowest place
 none_below : (t : Tables) (xs : List Site) (low p : ℕ) → IsRising low xs → IsNameless t xs p → low ≤ p
-none_below t [] low p r a = let lt = a.2 in absurd (omega arith)
+none_below t [] low p r a = absurd (any_none _ a)
 none_below t (site ∷ more) low p r a = at (any_split _ site more a) (λ later. none_below t more site.place p r.1 later)
   where
     at : ((site.place ≡ p) × (name t site.reference ≡ None)) ⊎ IsNameless t more p → (IsNameless t more p → site.place ≤ p) → low ≤ p
@@ -76,7 +60,7 @@ not_here (Some x) e n = absurd cc
 -- the first nameless site stands at the least place of all nameless ones
 nameless_agrees : (t : Tables) (xs : List Site) (low : ℕ) → IsRising low xs → Agrees (first_nameless t xs) (IsNameless t xs)
 unfolding first_nameless
-nameless_agrees t [] low r = λ p a. let lt = a.2 in absurd (omega arith)
+nameless_agrees t [] low r = λ p a. any_none _ a
 nameless_agrees t (site ∷ more) low r = at (is_none (name t site.reference)) refl (first_nameless t more) (nameless_agrees t more site.place r.1)
   where
     rest : is_none (name t site.reference) ≡ false → (p : ℕ) → IsNameless t (site ∷ more) p → IsNameless t more p
@@ -159,4 +143,4 @@ sites_rising s ok =
 
 pub bad_name_agrees : (s : Lists) → Keeps s 13 → Agrees (bad_name s) (IsBroken s 13)
 unfolding bad_name
-bad_name_agrees s keeps = nameless_agrees (tables s) (sites s.ctf) 0 (sites_rising s (kept_order s 13 (omega arith) keeps))
+bad_name_agrees s keeps = agrees_as (bad_name s) (IsNameless (tables s) (sites s.ctf)) (IsBroken s 13) (name_stands s) (name_site s) (nameless_agrees (tables s) (sites s.ctf) 0 (sites_rising s (kept_order s 13 (omega arith) keeps)))

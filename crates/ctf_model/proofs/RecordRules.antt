@@ -48,7 +48,7 @@ length_at_least [] rest index at = omega arith
 length_at_least (part ∷ parts) rest index at = let more = length_at_least parts rest (index + 1) (at + length part) in omega arith
 
 -- where the rest is empty, the pieces are the records
-length_all : (parts : List (List ℕ)) (rest : List ℕ) (index at : ℕ) → length rest ≡ 0 → length (pieces index at parts rest) ≡ length parts
+pub length_all : (parts : List (List ℕ)) (rest : List ℕ) (index at : ℕ) → length rest ≡ 0 → length (pieces index at parts rest) ≡ length parts
 length_all [] rest index at e = rw e refl
 length_all (part ∷ parts) rest index at e = ap suc (length_all parts rest (index + 1) (at + length part) e)
 

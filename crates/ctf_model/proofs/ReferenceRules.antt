@@ -1,47 +1,40 @@
 -- The rule of references agrees with its fact.
-use Rattle.std.proofs.Common.{◌≡◌, ℕ, ◌+◌, ◌≤◌, Bool, true, false, cond, eqb, List, [], ◌∷◌, length, Option, Some, None, Result, Ok, Err, refl, sym, subst, arith, ◌⊎◌, inl, inr}
+use Rattle.std.proofs.Common.{◌≡◌, ℕ, ◌+◌, ◌≤◌, Bool, true, false, cond, eqb, List, [], ◌∷◌, ◌++◌, length, Option, Some, None, Result, Err, refl, sym, ap, subst, ◌∙◌, arith, ◌⊎◌, inl, inr}
 use Rattle.std.specs.Prelude.{◌||◌, Any}
 use Rattle.std.specs.Bool.{Decides}
-use Rattle.std.proofs.lemmas.Bool.{eqb-true, eqb-false, ne_eqb, not-true, leb-true, le-leb, and_parts}
+use Rattle.std.specs.List.{list_any, AllByRecursion}
+use Rattle.std.specs.Option.{option_map}
+use Rattle.std.proofs.lemmas.Bool.{eqb-true, eqb-false, ne_eqb, not-true, leb-true, le-leb, and_parts, or_cases, or_right}
 use Rattle.std.proofs.lemmas.List.Folds.{Any-from_list_any, list_any-from_Any}
+use Rattle.std.proofs.lemmas.Option.{same_Some}
+use Rattle.ctf_model.specs.Bytes.{u32_at}
 use Rattle.ctf_model.specs.declared.faults.Fault.{Fault}
 use Rattle.ctf_model.specs.declared.kinds.Kind.{Kind}
 use Rattle.ctf_model.specs.declared.kinds.Kind.TheVariants.{KUnknown, KInteger, KFloat, KPointer, KArray, KFunction, KStruct, KUnion, KEnum, KForward, KTypedef, KVolatile, KConst, KRestrict}
+use Rattle.ctf_model.specs.declared.numbers.Place.{Place}
+use Rattle.ctf_model.specs.declared.numbers.Place.TheVariants.{Nowhere, Own, Parents}
 use Rattle.ctf_model.specs.declared.sections.Section.TheVariants.{STypes}
 use Rattle.ctf_model.specs.Faults.{first_misnaming, bad_reference, types}
 use Rattle.ctf_model.specs.Header.{fields, is_child, section}
 use Rattle.ctf_model.specs.Laws.{pieces}
 use Rattle.ctf_model.specs.Lists.{Lists, tables}
-use Rattle.ctf_model.specs.Name.{Tables}
-use Rattle.ctf_model.specs.Record.{kind, field, is_long}
-use Rattle.ctf_model.specs.References.{references, is_missing, is_missing_at, is_forward, has_long_tag, names_missing, is_misnaming}
-use Rattle.ctf_model.specs.Rules.{IsBroken, IsMissing, IsMissingAt, NamesMissing, HasLongTag}
-use Rattle.ctf_model.specs.Section.{Piece, stop_code}
-use Rattle.ctf_model.specs.Spelling.{term_of}
-use Rattle.ctf_model.specs.Term.{Term}
+use Rattle.ctf_model.specs.Name.{Tables, name}
+use Rattle.ctf_model.specs.Record.{kind, field, is_long, is_root}
+use Rattle.ctf_model.specs.References.{references, is_missing, is_missing_at, is_forward, has_long_tag, is_misnaming}
+use Rattle.ctf_model.specs.Rules.{IsBroken, Keeps, IsMissing, IsMissingAt, Misnames, BadReference}
+use Rattle.ctf_model.specs.Section.{Piece, IsCut, stop_code}
+use Rattle.ctf_model.specs.Spelling.{◌>>=◌, arguments, body_of, term_of, is_short_kind, HasStrayMark}
+use Rattle.ctf_model.specs.Term.{Body, Term}
+use Rattle.ctf_model.specs.Term as term
 use Rattle.ctf_model.specs.TypePlaces.{place}
-use Rattle.ctf_model.specs.declared.numbers.Place.{Place}
-use Rattle.ctf_model.specs.declared.numbers.Place.TheVariants.{Nowhere, Own, Parents}
-use Rattle.ctf_model.proofs.Cut.{read}
-use Rattle.ctf_model.proofs.FirstFault.{Agrees}
-use Rattle.ctf_model.proofs.NameRules.{any_here, any_there, any_split}
-use Rattle.ctf_model.proofs.RecordRules.{types_cut}
+use Rattle.ctf_model.proofs.Anywhere.{any_map, all_map}
+use Rattle.ctf_model.proofs.Cut.{one_cut}
+use Rattle.ctf_model.proofs.FirstFault.{Agrees, agrees_as}
+use Rattle.ctf_model.proofs.RecordRules.{kept_records, length_all, types_cut}
+use Rattle.ctf_model.proofs.Spelled.{Says}
+use Rattle.ctf_model.proofs.SpelledSection.{parts_said, few_records}
 
 -- ---- tests and facts
-
--- one of two tests passes
-or_either : (a b : Bool) → (a || b) ≡ true → (a ≡ true) ⊎ (b ≡ true)
-or_either true b e = inl refl
-or_either false b e = inr e
-
--- the second of two tests is enough
-or_second : (a b : Bool) → b ≡ true → (a || b) ≡ true
-or_second true b e = refl
-or_second false b e = e
-
--- what follows for each holds of one of them
-any_map : {X : Type 0} (P Q : X → Type 0) → ((x : X) → P x → Q x) → (xs : List X) → Any P xs → Any Q xs
-any_map P Q f xs a = (a.0, a.1, a.2, a.3, f a.1 a.4)
 
 missing_true : (child : Bool) (count n : ℕ) → is_missing child count n ≡ true → IsMissing child count n
 missing_true child count n e = at (place child n) e
@@ -76,100 +69,183 @@ forward_true (Some KVolatile) e = absurd cc
 forward_true (Some KConst) e = absurd cc
 forward_true (Some KRestrict) e = absurd cc
 
-long_tag_true : (b : List ℕ) → has_long_tag b ≡ true → HasLongTag b
-long_tag_true b e = let both = and_parts (is_forward (kind b)) (is_long b) e in (forward_true (kind b) both.0, eqb-true (field b) 0xffff both.1)
+-- ---- the mark of the long form where it has no place
 
-true_long_tag : (b : List ℕ) → HasLongTag b → has_long_tag b ≡ true
-true_long_tag b h = rw (h.0, h.1) refl
-
-missing_of : (t : Tables) (child : Bool) (count : ℕ) (b : List ℕ) → names_missing child count (term_of t b) ≡ true → NamesMissing t child count b
-missing_of t child count b e = at (term_of t b) refl e
+-- a record has it or not
+stray_decided : (b : List ℕ) → HasStrayMark b ⊎ (¬ HasStrayMark b)
+stray_decided b = at (kind b) refl
   where
-    at : (x : Option Term) → term_of t b ≡ x → names_missing child count x ≡ true → NamesMissing t child count b
-    at None same e = absurd cc
-    at (Some x) same e = (x, same, any_map _ (IsMissing child count) (missing_true child count) (references x.body) (Any-from_list_any (is_missing child count) (references x.body) e))
+    short : (k : Kind) → kind b ≡ Some k → (s : Bool) → is_short_kind k ≡ s → (m : Bool) → eqb (field b) 0xffff ≡ m → HasStrayMark b ⊎ (¬ HasStrayMark b)
+    short k e true is true mark = inl (record { of = k; known = e; short = is; mark = eqb-true (field b) 0xffff mark })
+    short k e true is false mark = inr (λ h. eqb-false (field b) 0xffff mark h.mark)
+    short k e false is m mark = inr (λ h. let same : k ≡ h.of = same_Some k h.of (sym e ∙ h.known) in let short : is_short_kind k ≡ true = ap is_short_kind same ∙ h.short in absurd cc)
 
-of_missing : (t : Tables) (child : Bool) (count : ℕ) (b : List ℕ) → NamesMissing t child count b → names_missing child count (term_of t b) ≡ true
-of_missing t child count b h =
-    let e = h.1 in
-    rw e (list_any-from_Any (is_missing child count) (references h.0.body) (any_map (IsMissing child count) _ (true_missing child count) (references h.0.body) h.2))
+    at : (o : Option Kind) → kind b ≡ o → HasStrayMark b ⊎ (¬ HasStrayMark b)
+    at None e = inr (λ h. let known = h.known in absurd cc)
+    at (Some k) e = short k e (is_short_kind k) refl (eqb (field b) 0xffff) refl
 
--- the test of a record decides its fact
-misnaming_decides : (t : Tables) (child : Bool) (count : ℕ) (b : List ℕ) → Decides (is_misnaming t child count b) (HasLongTag b ⊎ NamesMissing t child count b)
+-- where a forward has it, the test of its tag passes
+stray_forward : (b : List ℕ) → kind b ≡ Some KForward → field b ≡ 0xffff → has_long_tag b ≡ true
+stray_forward b e mark = rw (e, mark) refl
+
+forward_stray : (b : List ℕ) → has_long_tag b ≡ true → HasStrayMark b
+forward_stray b e =
+    let both = and_parts (is_forward (kind b)) (is_long b) e in
+    record { of = KForward; known = forward_true (kind b) both.0; short = refl; mark = eqb-true (field b) 0xffff both.1 }
+
+-- the type in the field comes first of those that a type names
+abbrev FirstOf : List ℕ → Term → Type 0
+FirstOf b x = (more : List ℕ) × (references x.body ≡ field b ∷ more)
+
+-- what a record of a kind says, with its name
+abbrev said_with : List ℕ → Option (List ℕ) → Option Body → Option Term
+said_with b text body = text >>= (λ n. body >>= (λ said. Some (record { name = n; root = is_root b; body = said })))
+
+first_named : (b : List ℕ) (x : Term) (text : Option (List ℕ)) (body : Body) → said_with b text (Some body) ≡ Some x → (more : List ℕ) → references body ≡ field b ∷ more → FirstOf b x
+first_named b x None body e more first = absurd cc
+first_named b x (Some n) body e more first = let same = same_Some _ x e in (more, ap (λ (y : Term). references y.body) (sym same) ∙ first)
+
+first_of_function : (b : List ℕ) (x : Term) (text : Option (List ℕ)) (args : Option (List ℕ)) → said_with b text (option_map (term.function (field b)) args) ≡ Some x → FirstOf b x
+first_of_function b x None None e = absurd cc
+first_of_function b x (Some n) None e = absurd cc
+first_of_function b x text (Some ns) e = first_named b x text (term.function (field b) ns) e ns refl
+
+-- a kind with the short form alone is a forward, or names the type in its field first
+first_reference : (t : Tables) (b : List ℕ) (x : Term) (k : Kind) → is_short_kind k ≡ true → said_with b (name t (u32_at b 0)) (body_of t b k) ≡ Some x → (k ≡ KForward) ⊎ FirstOf b x
+first_reference t b x KUnknown short e = absurd cc
+first_reference t b x KInteger short e = absurd cc
+first_reference t b x KFloat short e = absurd cc
+first_reference t b x KPointer short e = inr (first_named b x (name t (u32_at b 0)) (term.pointer (field b)) e [] refl)
+first_reference t b x KArray short e = absurd cc
+first_reference t b x KFunction short e = inr (first_of_function b x (name t (u32_at b 0)) (arguments b) e)
+first_reference t b x KStruct short e = absurd cc
+first_reference t b x KUnion short e = absurd cc
+first_reference t b x KEnum short e = absurd cc
+first_reference t b x KForward short e = inl refl
+first_reference t b x KTypedef short e = inr (first_named b x (name t (u32_at b 0)) (term.typedef (field b)) e [] refl)
+first_reference t b x KVolatile short e = inr (first_named b x (name t (u32_at b 0)) (term.volatile (field b)) e [] refl)
+first_reference t b x KConst short e = inr (first_named b x (name t (u32_at b 0)) (term.const (field b)) e [] refl)
+first_reference t b x KRestrict short e = inr (first_named b x (name t (u32_at b 0)) (term.restrict (field b)) e [] refl)
+
+-- no dictionary has so many types that the mark names one
+mark_missing : (child : Bool) (count : ℕ) → count ≤ 32766 → is_missing child count 0xffff ≡ true
+mark_missing false count few = le-leb count 65534 (omega arith)
+mark_missing true count few = le-leb count 32766 few
+
+-- so the mark passes the test
+stray_misnames : (t : Tables) (child : Bool) (count : ℕ) (b : List ℕ) (x : Term) → count ≤ 32766 → term_of t b ≡ Some x → HasStrayMark b → (has_long_tag b || list_any (is_missing child count) (references x.body)) ≡ true
+unfolding term_of
+stray_misnames t child count b x few e h = at (first_reference t b x h.of h.short (let known = h.known in rw known at e))
+  where
+    at : (h.of ≡ KForward) ⊎ FirstOf b x → (has_long_tag b || list_any (is_missing child count) (references x.body)) ≡ true
+    at (inl forward) = let tag = stray_forward b (h.known ∙ ap (λ (k : Kind). Some k) forward) h.mark in rw tag refl
+    at (inr first) =
+        let here = ap (list_any (is_missing child count)) first.1 in
+        let missing = ap (is_missing child count) h.mark ∙ mark_missing child count few in
+        or_right (has_long_tag b) (list_any (is_missing child count) (references x.body)) (here ∙ (rw missing refl))
+
+-- ---- one record
+
+-- the test of a record that says a type decides its fact
+misnaming_decides : (t : Tables) (child : Bool) (count : ℕ) (b : List ℕ) (x : Term) → count ≤ 32766 → Says t b x → Decides (is_misnaming t child count b) (Misnames t child count b)
 unfolding is_misnaming
-misnaming_decides t child count b = (λ e. to (or_either (has_long_tag b) (names_missing child count (term_of t b)) e), from)
+misnaming_decides t child count b x few said = let says = said.says in rw says (λ e. to (or_cases (has_long_tag b) (list_any (is_missing child count) (references x.body)) e), from)
   where
-    to : (has_long_tag b ≡ true) ⊎ (names_missing child count (term_of t b) ≡ true) → HasLongTag b ⊎ NamesMissing t child count b
-    to (inl e) = inl (long_tag_true b e)
-    to (inr e) = inr (missing_of t child count b e)
+    missing : list_any (is_missing child count) (references x.body) ≡ true → HasStrayMark b ⊎ (¬ HasStrayMark b) → Misnames t child count b
+    missing e (inl stray) = inl stray
+    missing e (inr form) = inr (x, record { whole = said.whole; form = form; says = said.says }, any_map _ (IsMissing child count) (missing_true child count) (references x.body) (Any-from_list_any (is_missing child count) (references x.body) e))
 
-    from : HasLongTag b ⊎ NamesMissing t child count b → (has_long_tag b || names_missing child count (term_of t b)) ≡ true
-    from (inl h) = rw (true_long_tag b h) refl
-    from (inr h) = or_second (has_long_tag b) (names_missing child count (term_of t b)) (of_missing t child count b h)
+    to : (has_long_tag b ≡ true) ⊎ (list_any (is_missing child count) (references x.body) ≡ true) → Misnames t child count b
+    to (inl e) = inl (forward_stray b e)
+    to (inr e) = missing e (stray_decided b)
+
+    from : Misnames t child count b → (has_long_tag b || list_any (is_missing child count) (references x.body)) ≡ true
+    from (inl stray) = stray_misnames t child count b x few said.says stray
+    from (inr m) =
+        let same : m.0 ≡ x = same_Some m.0 x (sym m.1.says ∙ said.says) in
+        let any = subst (λ (y : Term). Any (IsMissing child count) (references y.body)) same m.2 in
+        or_right (has_long_tag b) (list_any (is_missing child count) (references x.body)) (list_any-from_Any (is_missing child count) (references x.body) (any_map (IsMissing child count) _ (true_missing child count) (references x.body) any))
 
 -- ---- the records in order
 
--- this is the record at the place, and it names a type that is not there
-abbrev MisnamesAt : Tables → Bool → ℕ → ℕ → Result Piece Fault → Type 0
-MisnamesAt t child count place (Ok p) = (p.index ≡ place) × (HasLongTag p.bytes ⊎ NamesMissing t child count p.bytes)
-MisnamesAt t child count place (Err f) = ⊥
+-- the record of a number is one of these, and its fact holds
+pub record IsAmong (Fact : List ℕ → Type 0) (parts : List (List ℕ)) (index p : ℕ) : Type 0 where
+  pub front : List (List ℕ)
+  pub part : List ℕ
+  pub back : List (List ℕ)
+  pub all : parts ≡ front ++ part ∷ back
+  pub number : p ≡ index + length front
+  pub fact : Fact part
 
--- the rest of a cut has no record
-none_in_rest : (t : Tables) (child : Bool) (count index : ℕ) (rest : List ℕ) (p : ℕ) → Any (MisnamesAt t child count p) (pieces index 0 [] rest) → ⊥
-none_in_rest t child count index rest p a = at (eqb (length rest) 0) a
+-- there is none of none
+none_among : (Fact : List ℕ → Type 0) (index p : ℕ) → IsAmong Fact [] index p → ⊥
+none_among Fact index p a = at a.front a.all
   where
-    at : (b : Bool) → Any (MisnamesAt t child count p) (cond b [] (Err (record { code = stop_code rest; place = index }) ∷ [])) → ⊥
-    at true a = let lt = a.2 in absurd (omega arith)
-    at false a = go (any_split _ (Err (record { code = stop_code rest; place = index })) [] a)
-      where
-        go : MisnamesAt t child count p (Err (record { code = stop_code rest; place = index })) ⊎ Any (MisnamesAt t child count p) [] → ⊥
-        go (inl h) = h
-        go (inr b) = let lt = b.2 in absurd (omega arith)
+    at : (front : List (List ℕ)) → [] ≡ front ++ a.part ∷ a.back → ⊥
+    at [] e = absurd cc
+    at (f ∷ fs) e = absurd cc
 
--- no record stands below the first number
-none_below : (t : Tables) (child : Bool) (count : ℕ) (parts : List (List ℕ)) (rest : List ℕ) (index at p : ℕ) → Any (MisnamesAt t child count p) (pieces index at parts rest) → index ≤ p
-none_below t child count [] rest index at p a = absurd (none_in_rest t child count index rest p a)
-none_below t child count (part ∷ parts) rest index at p a = go (any_split _ _ _ a) (none_below t child count parts rest (index + 1) (at + length part) p)
+-- it is the first, or one of the others
+split_among : (Fact : List ℕ → Type 0) (part : List ℕ) (parts : List (List ℕ)) (index p : ℕ) → IsAmong Fact (part ∷ parts) index p → Fact part ⊎ IsAmong Fact parts (index + 1) p
+split_among Fact part parts index p a = at a.front a.all a.number
   where
-    go : MisnamesAt t child count p (Ok (record { index = index; at = at; bytes = part })) ⊎ Any (MisnamesAt t child count p) (pieces (index + 1) (at + length part) parts rest) → (Any (MisnamesAt t child count p) (pieces (index + 1) (at + length part) parts rest) → index + 1 ≤ p) → index ≤ p
-    go (inl h) next = let same = h.0 in omega arith
-    go (inr b) next = let le = next b in omega arith
+    at : (front : List (List ℕ)) → part ∷ parts ≡ front ++ a.part ∷ a.back → p ≡ index + length front → Fact part ⊎ IsAmong Fact parts (index + 1) p
+    at [] e is = let same : a.part ≡ part = cc in inl (subst Fact same a.fact)
+    at (f ∷ fs) e is = let rest : parts ≡ fs ++ a.part ∷ a.back = cc in inr (record { front = fs; part = a.part; back = a.back; all = rest; number = omega arith; fact = a.fact })
+
+later_among : (Fact : List ℕ → Type 0) (part : List ℕ) (parts : List (List ℕ)) (index p : ℕ) → IsAmong Fact parts (index + 1) p → IsAmong Fact (part ∷ parts) index p
+later_among Fact part parts index p a = let is = a.number in record { front = part ∷ a.front; part = a.part; back = a.back; all = ap (λ (ps : List (List ℕ)). part ∷ ps) a.all; number = omega arith; fact = a.fact }
 
 -- the first record that misnames stands at the least place of all that do
-misnaming_agrees : (t : Tables) (child : Bool) (count : ℕ) (parts : List (List ℕ)) (rest : List ℕ) (index at : ℕ) → Agrees (first_misnaming t child count (pieces index at parts rest)) (λ p. Any (MisnamesAt t child count p) (pieces index at parts rest))
+misnaming_agrees : (t : Tables) (child : Bool) (count : ℕ) (parts : List (List ℕ)) (rest : List ℕ) (index at : ℕ) → AllByRecursion (λ part. Decides (is_misnaming t child count part) (Misnames t child count part)) parts → Agrees (first_misnaming t child count (pieces index at parts rest)) (IsAmong (Misnames t child count) parts index)
 unfolding first_misnaming
-misnaming_agrees t child count [] rest index at = go (eqb (length rest) 0) (none_in_rest t child count index rest)
+misnaming_agrees t child count [] rest index at d = go (eqb (length rest) 0)
   where
-    go : (b : Bool) → ((p : ℕ) → Any (MisnamesAt t child count p) (cond b [] (Err (record { code = stop_code rest; place = index }) ∷ [])) → ⊥) → Agrees (first_misnaming t child count (cond b [] (Err (record { code = stop_code rest; place = index }) ∷ []))) (λ p. Any (MisnamesAt t child count p) (cond b [] (Err (record { code = stop_code rest; place = index }) ∷ [])))
-    go true h = h
-    go false h = h
-misnaming_agrees t child count (part ∷ parts) rest index at = go (is_misnaming t child count part) (misnaming_decides t child count part) (first_misnaming t child count more) (misnaming_agrees t child count parts rest (index + 1) (at + length part))
+    go : (b : Bool) → Agrees (first_misnaming t child count (cond b [] (Err (record { code = stop_code rest; place = index }) ∷ []))) (IsAmong (Misnames t child count) [] index)
+    go true = none_among (Misnames t child count) index
+    go false = none_among (Misnames t child count) index
+misnaming_agrees t child count (part ∷ parts) rest index at d = go (is_misnaming t child count part) d.0 (first_misnaming t child count (pieces (index + 1) (at + length part) parts rest)) (misnaming_agrees t child count parts rest (index + 1) (at + length part) d.1)
   where
-    more : List (Result Piece Fault)
-    more = pieces (index + 1) (at + length part) parts rest
+    Fact : List ℕ → Type 0
+    Fact = Misnames t child count
 
-    here : Result Piece Fault
-    here = Ok (record { index = index; at = at; bytes = part })
-
-    later_only : (p : ℕ) → ((HasLongTag part ⊎ NamesMissing t child count part) → ⊥) → Any (MisnamesAt t child count p) (here ∷ more) → Any (MisnamesAt t child count p) more
-    later_only p no_fact a = split (any_split _ here more a)
+    later_only : (p : ℕ) → (Fact part → ⊥) → IsAmong Fact (part ∷ parts) index p → IsAmong Fact parts (index + 1) p
+    later_only p no_fact a = split (split_among Fact part parts index p a)
       where
-        split : MisnamesAt t child count p here ⊎ Any (MisnamesAt t child count p) more → Any (MisnamesAt t child count p) more
-        split (inl h) = absurd (no_fact h.1)
+        split : Fact part ⊎ IsAmong Fact parts (index + 1) p → IsAmong Fact parts (index + 1) p
+        split (inl h) = absurd (no_fact h)
         split (inr b) = b
 
-    go : (b : Bool) → Decides b (HasLongTag part ⊎ NamesMissing t child count part) → (later : Option ℕ) → Agrees later (λ p. Any (MisnamesAt t child count p) more) → Agrees (cond b (Some index) later) (λ p. Any (MisnamesAt t child count p) (here ∷ more))
-    go true d later h = (any_here _ here more (refl, d.0 refl), λ q lt a. let le = none_below t child count (part ∷ parts) rest index at q a in absurd (omega arith))
+    go : (b : Bool) → Decides b (Fact part) → (later : Option ℕ) → Agrees later (IsAmong Fact parts (index + 1)) → Agrees (cond b (Some index) later) (IsAmong Fact (part ∷ parts) index)
+    go true d later h = (record { front = []; part = part; back = parts; all = refl; number = omega arith; fact = d.0 refl }, λ q lt a. let is = a.number in absurd (omega arith))
     go false d None h = λ p a. h p (later_only p (λ fact. let e = d.1 fact in absurd cc) a)
-    go false d (Some p) h = (any_there _ here more h.0, λ q lt a. h.1 q lt (later_only q (λ fact. let e = d.1 fact in absurd cc) a))
+    go false d (Some p) h = (later_among Fact part parts index p h.0, λ q lt a. h.1 q lt (later_only q (λ fact. let e = d.1 fact in absurd cc) a))
 
-pub bad_reference_agrees : (s : Lists) → Agrees (bad_reference s) (IsBroken s 14)
+-- where the rules before it are kept, the rule agrees with its fact
+pub bad_reference_agrees : (s : Lists) → Keeps s 14 → Agrees (bad_reference s) (IsBroken s 14)
 unfolding bad_reference
-bad_reference_agrees s =
-    let r = read (section s.ctf STypes) in
-    let same = sym (types_cut s.ctf r.0 r.1 r.2.cut) in
-    let t = tables s in
-    let child = is_child (fields s.ctf) in
-    let count = length (types s.ctf) in
-    let found = misnaming_agrees t child count r.0 r.1 1 0 in
-    subst (λ (rs : List (Result Piece Fault)). Agrees (first_misnaming t child count rs) (λ p. Any (MisnamesAt t child count p) rs)) same found
+bad_reference_agrees s keeps = by_cut (kept_records s 14 (omega arith) keeps)
+  where
+    Fact : ℕ → List ℕ → Type 0
+    Fact count = Misnames (tables s) (is_child (fields s.ctf)) count
+
+    by_cut : ((parts : List (List ℕ)) × (rest : List ℕ) × IsCut (section s.ctf STypes) parts rest × (length rest ≡ 0)) → Agrees (first_misnaming (tables s) (is_child (fields s.ctf)) (length (types s.ctf)) (types s.ctf)) (IsBroken s 14)
+    by_cut r =
+        let same = types_cut s.ctf r.0 r.1 r.2 in
+        let count : length (types s.ctf) ≡ length r.0 = ap (λ (rs : List (Result Piece Fault)). length rs) same ∙ length_all r.0 r.1 1 0 r.3 in
+        let few : length r.0 ≤ 32766 = few_records s 14 (omega arith) keeps r.0 r.1 r.2 in
+        let decided = all_map _ _ (λ part said. misnaming_decides (tables s) (is_child (fields s.ctf)) (length r.0) part said.0 few said.1) r.0 (parts_said s 14 (omega arith) keeps r.0 r.1 r.2) in
+        let found = misnaming_agrees (tables s) (is_child (fields s.ctf)) (length r.0) r.0 r.1 1 0 decided in
+        rw (count, same) (agrees_as _ (IsAmong (Fact (length r.0)) r.0 1) (IsBroken s 14) (to r.0 r.1 r.2) (from r.0 r.1 r.2) found)
+      where
+        to : (parts : List (List ℕ)) (rest : List ℕ) → IsCut (section s.ctf STypes) parts rest → (p : ℕ) → IsAmong (Fact (length parts)) parts 1 p → BadReference s p
+        to parts rest cut p a =
+            let is = a.number in
+            (record { front = a.front; part = a.part; back = a.back; rest = rest; cut = subst (λ (ps : List (List ℕ)). IsCut (section s.ctf STypes) ps rest) a.all cut }, omega arith, subst (λ (ps : List (List ℕ)). Fact (length ps) a.part) a.all a.fact)
+
+        from : (parts : List (List ℕ)) (rest : List ℕ) → IsCut (section s.ctf STypes) parts rest → (p : ℕ) → BadReference s p → IsAmong (Fact (length parts)) parts 1 p
+        from parts rest cut p h =
+            let r = h.0 in
+            let is = h.1 in
+            let all = (one_cut parts (r.front ++ r.part ∷ r.back) (section s.ctf STypes) (section s.ctf STypes) rest r.rest refl cut r.cut).0 in
+            record { front = r.front; part = r.part; back = r.back; all = all; number = omega arith; fact = subst (λ (ps : List (List ℕ)). Fact (length ps) r.part) (sym all) h.2 }

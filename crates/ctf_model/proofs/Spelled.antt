@@ -1,4 +1,4 @@
--- A whole record whose names are good spells a type.
+-- A whole record whose names are good says a type.
 use Rattle.std.proofs.Common.{◌≡◌, ℕ, zero, suc, ◌+◌, ◌*◌, ◌^◌, Bool, true, false, cond, ltb, List, [], ◌∷◌, ◌++◌, drop, Option, Some, None, refl, ap}
 use Rattle.std.specs.Prelude.{MatchOption}
 use Rattle.std.specs.List.{AllByRecursion}
@@ -10,7 +10,7 @@ use Rattle.ctf_model.specs.declared.kinds.Kind.TheVariants.{KUnknown, KInteger, 
 use Rattle.ctf_model.specs.Faults.{Site, item_sites, list_sites}
 use Rattle.ctf_model.specs.Name.{Tables, name}
 use Rattle.ctf_model.specs.Record.{IsWhole, IsWholeAt, kind, is_root, field, size, vlen, head_len, member_len, behind_head}
-use Rattle.ctf_model.specs.Spelling.{items, member_of, narrow_member, wide_member, enumerator_of, argument_of, scalar, elements, tag, body_of, term_of, Spells}
+use Rattle.ctf_model.specs.Spelling.{items, member_of, narrow_member, wide_member, enumerator_of, argument_of, scalar, elements, tag, body_of, term_of}
 use Rattle.ctf_model.specs.Term.{Member, Enumerator, Body, Term}
 use Rattle.ctf_model.specs.Term as term
 
@@ -86,12 +86,17 @@ said t b place KVolatile named = (term.volatile (field b), refl)
 said t b place KConst named = (term.const (field b), refl)
 said t b place KRestrict named = (term.restrict (field b), refl)
 
--- a whole record with good names spells a type
-pub spelled : (t : Tables) (b : List ℕ) (place : ℕ) → IsWhole b → IsNamed t (u32_at b 0) → AreNamed t (list_sites place b (kind b)) → (x : Term) × Spells t b x
+-- a whole record says this type
+pub record Says (t : Tables) (b : List ℕ) (x : Term) : Type 0 where
+  pub whole : IsWhole b
+  pub says : term_of t b ≡ Some x
+
+-- a whole record with good names says a type
+pub spelled : (t : Tables) (b : List ℕ) (place : ℕ) → IsWhole b → IsNamed t (u32_at b 0) → AreNamed t (list_sites place b (kind b)) → (x : Term) × Says t b x
 unfolding IsWhole term_of
 spelled t b place whole named listed = at (kind b) refl whole listed (name t (u32_at b 0)) refl
   where
-    at : (k : Option Kind) → kind b ≡ k → MatchOption k ⊥ (IsWholeAt b) → AreNamed t (list_sites place b k) → (n : Option (List ℕ)) → name t (u32_at b 0) ≡ n → (x : Term) × Spells t b x
+    at : (k : Option Kind) → kind b ≡ k → MatchOption k ⊥ (IsWholeAt b) → AreNamed t (list_sites place b k) → (n : Option (List ℕ)) → name t (u32_at b 0) ≡ n → (x : Term) × Says t b x
     at None e w l n f = absurd w
     at (Some k) e w l None f = absurd (named f)
     at (Some k) e w l (Some text) f =

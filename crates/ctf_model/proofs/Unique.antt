@@ -2,7 +2,7 @@
 use Rattle.std.proofs.Common.{◌≡◌, ℕ, ◌+◌, ◌≤◌, List, [], ◌∷◌, ◌++◌, length, take, drop, Option, Some, None, refl, sym, ap, subst, ◌∙◌, arith, ⊎_elim}
 use Rattle.std.specs.Prelude.{MatchOption}
 use Rattle.std.proofs.lemmas.Bool.{cases_lt}
-use Rattle.std.proofs.lemmas.List.{take-append-le, take-append-drop, drop_at, take_at, append-nil, length-append}
+use Rattle.std.proofs.lemmas.List.{take-append-le, take-append-drop, append_cancel_left, take_at, append-nil, length-append}
 use Rattle.std.proofs.lemmas.Option.{same_Some}
 use Rattle.ctf_model.specs.declared.kinds.Kind.{Kind}
 use Rattle.ctf_model.specs.Name.{Tables}
@@ -31,12 +31,12 @@ one_front a b x y p q e = ⊎_elim (λ lt. longer a b x y p q e (omega arith)) (
 
 -- what stands behind them is the same
 pub one_rest : (a b x y : List ℕ) → a ≡ b → a ++ x ≡ b ++ y → x ≡ y
-one_rest a b x y same e = sym (drop_at a x (length a) refl) ∙ ap (drop (length a)) e ∙ (rw same (drop_at b y (length b) refl))
+one_rest a b x y same e = append_cancel_left b x y (ap (λ (f : List ℕ). f ++ x) (sym same) ∙ e)
 
 -- a whole record is not empty
-not_empty : (a x : List ℕ) → IsWhole a → a ++ x ≡ [] → ⊥
+not_nothing : (a x : List ℕ) → IsWhole a → a ++ x ≡ [] → ⊥
 unfolding IsWhole
-not_empty a x p e = at (kind a) p
+not_nothing a x p e = at (kind a) p
   where
     at : (k : Option Kind) → MatchOption k ⊥ (IsWholeAt a) → ⊥
     at None p = p
@@ -45,8 +45,8 @@ not_empty a x p e = at (kind a) p
 -- a section spells one list
 pub one_list : (t : Tables) (b c : List ℕ) (xs ys : List Term) → b ≡ c → Section t b xs → Section t c ys → xs ≡ ys
 one_list t b c [] [] same p q = refl
-one_list t b c [] (y ∷ ys) same p q = absurd (not_empty q.0 q.1 q.3.whole (sym q.2 ∙ sym same ∙ p))
-one_list t b c (x ∷ xs) [] same p q = absurd (not_empty p.0 p.1 p.3.whole (sym p.2 ∙ same ∙ q))
+one_list t b c [] (y ∷ ys) same p q = absurd (not_nothing q.0 q.1 q.3.whole (sym q.2 ∙ sym same ∙ p))
+one_list t b c (x ∷ xs) [] same p q = absurd (not_nothing p.0 p.1 p.3.whole (sym p.2 ∙ same ∙ q))
 one_list t b c (x ∷ xs) (y ∷ ys) same p q =
     let e : p.0 ++ p.1 ≡ q.0 ++ q.1 = sym p.2 ∙ same ∙ q.2 in
     let front = one_front p.0 q.0 p.1 q.1 p.3.whole q.3.whole e in

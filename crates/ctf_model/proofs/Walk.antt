@@ -2,7 +2,8 @@
 use Rattle.std.proofs.Common.{◌≡◌, ℕ, zero, suc, ◌+◌, ◌<◌, ◌≤◌, Bool, true, false, cond, eqb, ltb, leb, List, [], ◌∷◌, length, take, drop, Option, Some, None, Result, Ok, Err, refl, sym, ap, ◌∙◌, arith, lit≤}
 use Rattle.std.specs.Option.{option_and_then}
 use Rattle.std.proofs.lemmas.List.{length-drop}
-use Rattle.std.proofs.lemmas.Bool.{leb-true, eqb-true, eqb-false, false_from_ne_true}
+use Rattle.std.proofs.lemmas.Option.{cond_some}
+use Rattle.std.proofs.lemmas.Bool.{leb-true, eqb-false, ne_eqb}
 use Rattle.ctf_model.specs.declared.faults.Fault.{Fault}
 use Rattle.ctf_model.specs.declared.kinds.Kind.{Kind}
 use Rattle.ctf_model.specs.Record.{head_len, is_long, variant_len, size, vlen, kind}
@@ -10,11 +11,7 @@ use Rattle.ctf_model.specs.Section.{Piece, front_len, fitting, step, stop_code, 
 
 -- what fits is in range
 pub fitting_range : (room m n : ℕ) → fitting room m ≡ Some n → (m ≡ n) × (n ≤ room)
-fitting_range room m n e = at (leb m room) refl e
-  where
-    at : (b : Bool) → leb m room ≡ b → cond b (Some m) None ≡ Some n → (m ≡ n) × (n ≤ room)
-    at true test e = let same : m ≡ n = cc in (same, let le : m ≤ room = leb-true m room test in omega arith)
-    at false test e = absurd cc
+fitting_range room m n e = let both = cond_some (leb m room) m n e in let le : m ≤ room = leb-true m room both.0 in (both.1, omega (arith, both.1))
 
 -- a head has 8 bytes or more
 head_low : (x : Bool) → 8 ≤ cond x 16 8
@@ -36,7 +33,7 @@ front_len_range b n e = by_len (ltb (length b) 8) refl e
 
 -- bytes that are there fail the test for none
 not_empty : (b : List ℕ) → 0 < length b → eqb (length b) 0 ≡ false
-not_empty b h = false_from_ne_true _ (λ hit. absurd (omega (arith, eqb-true (length b) 0 hit)))
+not_empty b h = ne_eqb (length b) 0 (λ e. absurd (omega arith))
 
 -- bytes that fail it are there
 pub nonempty : (b : List ℕ) → eqb (length b) 0 ≡ false → 0 < length b

@@ -1,5 +1,5 @@
 -- Chains of types that lead to each other: how long they may be. Source: ours; ctf(5) says only which types a type names.
-use Rattle.std.specs.Prelude.{◌≡◌, ℕ, zero, suc, ◌==◌, nat_lt, Bool, List, [], ◌∷◌, length, map, Option, Some, None, slice_index_or, if◌then◌else◌}
+use Rattle.std.specs.Prelude.{◌≡◌, ◌<◌, ℕ, zero, suc, ◌==◌, nat_lt, Bool, List, [], ◌∷◌, length, map, Any, Option, Some, None, slice_get, slice_index_or, if◌then◌else◌}
 use Rattle.std.specs.List.{filter_map, list_all, AllByRecursion}
 use Rattle.ctf_model.specs.Term.{Term, Body}
 use Rattle.ctf_model.specs.Term as term
@@ -33,6 +33,24 @@ declarator _ = []
 
 -- ---- chains
 
+-- a step leads from one own type to another, where the one names the other
+pub record Leads (steps : Body → List ℕ) (child : Bool) (types : List Term) (i j : ℕ) : Type 0 where
+  pub from : Term
+  pub stands : slice_get types i ≡ Some from
+  pub names : Any (λ n. place child n ≡ Own j) (steps from.body)
+  pub inside : j < length types
+
+-- a chain of so many steps begins at own type i; in a circle there are chains of any length
+unfoldable pub BeginsChain : (Body → List ℕ) → Bool → List Term → ℕ → ℕ → Type 0
+BeginsChain steps child types zero i = Unit {0}
+BeginsChain steps child types (suc k) i = (j : ℕ) × Leads steps child types i j × BeginsChain steps child types k j
+
+-- the greatest number of steps that a chain may have
+abbrev pub longest_chain : ℕ
+longest_chain = 512
+
+-- ---- the same, computed
+
 -- the own type at a place, from 0, where that many are there
 abbrev pub own_index_at : ℕ → Place → Option ℕ
 own_index_at count (Own i) = if nat_lt i count then Some i else None
@@ -53,12 +71,6 @@ targets es i = slice_index_or es i []
 unfoldable pub IsWithin : List (List ℕ) → ℕ → ℕ → Type 0
 IsWithin es zero i = targets es i ≡ []
 IsWithin es (suc k) i = AllByRecursion (IsWithin es k) (targets es i)
-
--- the greatest number of steps that a chain may have
-abbrev pub longest_chain : ℕ
-longest_chain = 512
-
--- ---- the same, computed
 
 unfoldable pub within : List (List ℕ) → ℕ → ℕ → Bool
 within es zero i = length (targets es i) == 0

@@ -1,7 +1,9 @@
 -- Worked rows for the kinds of types. The values were worked out by hand from the format.
-use Rattle.std.specs.Prelude.{◌≡◌, ℕ, ◌+◌, ◌*◌, ◌^◌, ◌/◌, ◌%◌, negsuc, false, List, [], ◌∷◌, ◌++◌, Some, None, codes}
+use Rattle.std.specs.Prelude.{◌≡◌, ℕ, ◌+◌, ◌*◌, ◌^◌, ◌/◌, ◌%◌, negsuc, true, false, map, List, [], ◌∷◌, ◌++◌, Some, None, codes}
 use Rattle.ctf_model.specs.Dictionary.{denoted}
 use Rattle.ctf_model.specs.Faults.{first_fault}
+use Rattle.ctf_model.specs.Record.{kinds}
+use Rattle.ctf_model.specs.Spelling.{is_short_kind}
 use Rattle.ctf_model.specs.Rows.{word, header, integer_record, alone, fault, int, of_types}
 use Rattle.ctf_model.specs.Term.{Scalar, Elements, Member, Enumerator, Body, Term}
 use Rattle.ctf_model.specs.Term as term
@@ -62,6 +64,8 @@ other_types =
     ∷ []
 
 pub record KindsDenote : Type 0 where
+  -- pointer, function and forward to restrict say no size
+  pub short_alone : map is_short_kind kinds ≡ false ∷ false ∷ false ∷ true ∷ false ∷ true ∷ false ∷ false ∷ false ∷ true ∷ true ∷ true ∷ true ∷ true ∷ []
   pub function : denoted (alone functions) ≡ Some (of_types (hidden [] (term.function 3 (3 ∷ [])) ∷ hidden [] (term.function 3 (3 ∷ 0 ∷ [])) ∷ int ∷ []))
   pub struct : denoted (alone structs) ≡ Some (of_types (int ∷ hidden [] (term.struct 8191 (members 32)) ∷ hidden [] (term.struct 8192 (members (2 ^ 32 + 32))) ∷ []))
   pub other : denoted (alone others) ≡ Some (of_types other_types)

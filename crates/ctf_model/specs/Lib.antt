@@ -5,6 +5,7 @@ pub mod Term
 pub mod Record
 pub mod Spelling
 pub mod Section
+pub mod NamePlaces
 pub mod Lists
 pub mod Laws
 pub mod Faults

@@ -1,19 +1,18 @@
 -- The rules that a dictionary keeps, each as a fact about the whole lists. Source: ours, over the layout of ctf(5).
-use Rattle.std.specs.Prelude.{◌≡◌, ◌≢◌, ◌<◌, ◌≤◌, ℕ, ◌+◌, ◌%◌, List, [], ◌∷◌, length, slice_index, slice_index_or, Bool, None, Some, Result, Ok, Err, Any, ◌⊎◌}
-use Rattle.ctf_model.specs.Bytes.{u16_at}
-use Rattle.ctf_model.specs.Chains.{by_value, declarator, longest_chain, IsWithin}
-use Rattle.ctf_model.specs.Faults.{sites, types, edges_by}
+use Rattle.std.specs.Prelude.{◌≡◌, ◌≢◌, ◌<◌, ◌≤◌, ℕ, ◌+◌, ◌%◌, List, [], ◌∷◌, ◌++◌, length, slice_index, slice_index_or, Bool, None, Any, ◌⊎◌}
+use Rattle.ctf_model.specs.Bytes.{u16_at, u32_at}
+use Rattle.ctf_model.specs.Chains.{by_value, declarator, longest_chain, BeginsChain}
 use Rattle.ctf_model.specs.Header.{Fields, fields, is_child, section}
 use Rattle.ctf_model.specs.Lists.{Lists, tables}
 use Rattle.ctf_model.specs.Name.{Tables, name}
-use Rattle.ctf_model.specs.Record.{kind, field}
+use Rattle.ctf_model.specs.NamePlaces.{NameStandsAt}
+use Rattle.ctf_model.specs.Record.{kind}
 use Rattle.ctf_model.specs.References.{references}
-use Rattle.ctf_model.specs.Section.{IsCut, Piece}
-use Rattle.ctf_model.specs.Spelling.{term_of}
+use Rattle.ctf_model.specs.Section.{Section, IsCut, RecordOf}
+use Rattle.ctf_model.specs.Spelling.{HasStrayMark, Spells}
 use Rattle.ctf_model.specs.Term.{Term, Body}
 use Rattle.ctf_model.specs.TypePlaces.{place}
 use Rattle.ctf_model.specs.declared.faults.Fault.{Fault}
-use Rattle.ctf_model.specs.declared.kinds.Kind.TheVariants.{KForward}
 use Rattle.ctf_model.specs.declared.numbers.Place.{Place}
 use Rattle.ctf_model.specs.declared.numbers.Place.TheVariants.{Nowhere, Own, Parents}
 use Rattle.ctf_model.specs.declared.sections.Section.TheVariants.{STypes, SStrings}
@@ -69,9 +68,9 @@ BadKind s place = (parts : List (List ℕ)) × (rest : List ℕ) × IsCut (secti
 abbrev pub TooMany : Lists → ℕ → Type 0
 TooMany s place = (parts : List (List ℕ)) × (rest : List ℕ) × IsCut (section s.ctf STypes) parts rest × (32766 < length parts) × (place ≡ 32767)
 
--- a name reference that stands at the place names nothing
+-- a name stands at the place, and its reference names nothing
 abbrev pub BadName : Lists → ℕ → Type 0
-BadName s place = Any (λ site. (site.place ≡ place) × (name (tables s) site.reference ≡ None)) (sites s.ctf)
+BadName s place = NameStandsAt s.ctf place × (name (tables s) (u32_at s.ctf place) ≡ None)
 
 -- among so many own types, none stands at the place of the number; 0 asks for none
 abbrev pub IsMissingAt : ℕ → ℕ → Place → Type 0
@@ -83,30 +82,31 @@ IsMissingAt count n (Parents i) = ⊥
 abbrev pub IsMissing : Bool → ℕ → ℕ → Type 0
 IsMissing child count n = IsMissingAt count n (place child n)
 
--- the record says a type that names one which is not there
+-- the record spells a type that names one which is not there
 abbrev pub NamesMissing : Tables → Bool → ℕ → List ℕ → Type 0
-NamesMissing t child count b = (x : Term) × (term_of t b ≡ Some x) × Any (IsMissing child count) (references x.body)
+NamesMissing t child count b = (x : Term) × Spells t b x × Any (IsMissing child count) (references x.body)
 
--- the record is a forward, and the mark of the long form stands where it has the kind that it declares
-abbrev pub HasLongTag : List ℕ → Type 0
-HasLongTag b = (kind b ≡ Some KForward) × (field b ≡ 0xffff)
+-- the record names a type that is not there, or has the mark of the long form where it should name or declare one
+abbrev pub Misnames : Tables → Bool → ℕ → List ℕ → Type 0
+Misnames t child count b = HasStrayMark b ⊎ NamesMissing t child count b
 
--- this is the record at the place, and it names a type that is not there
-abbrev pub Misnames : Lists → ℕ → Result Piece Fault → Type 0
-Misnames s place (Ok p) = (p.index ≡ place) × (HasLongTag p.bytes ⊎ NamesMissing (tables s) (is_child (fields s.ctf)) (length (types s.ctf)) p.bytes)
-Misnames s place (Err f) = ⊥
-
--- the record at the place names a type that is not there
+-- the record of the place does so, among all that the section is cut into
 abbrev pub BadReference : Lists → ℕ → Type 0
-BadReference s place = Any (Misnames s place) (types s.ctf)
+BadReference s place =
+    (r : RecordOf (section s.ctf STypes)) × (place ≡ length r.front + 1)
+    × Misnames (tables s) (is_child (fields s.ctf)) (length (r.front ++ r.part ∷ r.back)) r.part
 
--- a chain of too many steps begins at the type of the place
+-- of the types that the section spells, a chain of too many steps begins at that of the place
 abbrev pub IsDeepBy : (Body → List ℕ) → Lists → ℕ → Type 0
-IsDeepBy steps s place = (i : ℕ) × (i < length (types s.ctf)) × (¬ IsWithin (edges_by steps s) longest_chain i) × (place ≡ i + 1)
+IsDeepBy steps s place =
+    (types : List Term) × Section (tables s) (section s.ctf STypes) types
+    × (i : ℕ) × BeginsChain steps (is_child (fields s.ctf)) types (longest_chain + 1) i × (place ≡ i + 1)
 
+-- a value is, or holds, values on and on
 abbrev pub ValueDeep : Lists → ℕ → Type 0
 ValueDeep s place = IsDeepBy by_value s place
 
+-- a declaration goes on and on
 abbrev pub DeclDeep : Lists → ℕ → Type 0
 DeclDeep s place = IsDeepBy declarator s place
 

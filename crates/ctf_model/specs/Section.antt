@@ -26,6 +26,14 @@ pub record IsCut (b : List ℕ) (parts : List (List ℕ)) (rest : List ℕ) : Ty
   pub whole : AllByRecursion IsWhole parts
   pub stops : Stops rest
 
+-- one of the records that bytes are cut into, with those in front of it and those behind it
+pub record RecordOf (b : List ℕ) : Type 0 where
+  pub front : List (List ℕ)
+  pub part : List ℕ
+  pub back : List (List ℕ)
+  pub rest : List ℕ
+  pub cut : IsCut b (front ++ part ∷ back) rest
+
 -- ---- the same, computed: what reading record by record gives
 
 -- n, where there is room for it

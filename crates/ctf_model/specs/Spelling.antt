@@ -1,6 +1,6 @@
 -- Which type a record spells.
 -- Source: ctf(5), "The Type Section"; ctf_member_t, ctf_lmember_t, ctf_enum_t, ctf_array_t, CTF_INT_DATA of sys/ctf.h.
-use Rattle.std.specs.Prelude.{◌≡◌, ℕ, zero, suc, ◌+◌, ◌*◌, ◌/◌, ◌%◌, ◌^◌, ◌==◌, List, [], ◌∷◌, drop, nat_lt, Option, Some, None, if◌then◌else◌}
+use Rattle.std.specs.Prelude.{◌≡◌, ℕ, zero, suc, ◌+◌, ◌*◌, ◌/◌, ◌%◌, ◌^◌, ◌==◌, Bool, true, false, List, [], ◌∷◌, drop, nat_lt, Option, Some, None, if◌then◌else◌}
 use Rattle.std.specs.Option.{option_map}
 use Rattle.std.specs.Int.{cast_signed, w32}
 use Rattle.ctf_model.specs.Bytes.{u16_at, u32_at}
@@ -97,7 +97,26 @@ term_of t b = do
   said ← body_of t b k
   Some (record { name = text; root = is_root b; body = said })
 
--- these bytes are one whole record, and it says this type
+-- the field of these kinds is a type, or what a forward declares, and no size: they have the short form alone (ours)
+abbrev pub is_short_kind : Kind → Bool
+is_short_kind KPointer = true
+is_short_kind KFunction = true
+is_short_kind KForward = true
+is_short_kind KTypedef = true
+is_short_kind KVolatile = true
+is_short_kind KConst = true
+is_short_kind KRestrict = true
+is_short_kind _ = false
+
+-- the mark of the long form stands in the field of such a kind
+pub record HasStrayMark (b : List ℕ) : Type 0 where
+  pub of : Kind
+  pub known : kind b ≡ Some of
+  pub short : is_short_kind of ≡ true
+  pub mark : field b ≡ 0xffff
+
+-- these bytes are one whole record in a form that its kind has, and it says this type
 pub record Spells (t : Tables) (b : List ℕ) (x : Term) : Type 0 where
   pub whole : IsWhole b
+  pub form : ¬ HasStrayMark b
   pub says : term_of t b ≡ Some x

@@ -10,4 +10,4 @@ use Rattle.ctf_model.proofs.rows.kinds_denote.Goals as goal
 
 pub returns : goal.returns
 unfolding number denoted said_by labels_in terms_in first_fault rules types first_nameless label_sites item_sites record_sites sites bad_name is_misnaming first_misnaming bad_reference first_deep edges_by edges within term_of front_len walk
-returns c = record { function = refl; struct = refl; other = refl; long_unknown = refl; long_struct = refl }
+returns c = record { short_alone = refl; function = refl; struct = refl; other = refl; long_unknown = refl; long_struct = refl }
