@@ -1,13 +1,16 @@
 -- The places of a section's records lead where the steps of its types do.
-use Rattle.std.proofs.Common.{◌≡◌, ℕ, suc, ◌+◌, ◌-◌, ◌<◌, ◌≤◌, Bool, true, false, cond, ltb, leb, List, [], ◌∷◌, length, map, Option, Some, None, Result, Ok, Err, get_or, refl, sym, ap, ◌∙◌, arith}
-use Rattle.std.specs.Prelude.{IsSome, slice_get, slice_index, slice_index_or, MatchOption, ◌&&◌}
+use Rattle.std.proofs.Common.{◌≡◌, ℕ, suc, ◌+◌, ◌<◌, Bool, true, false, cond, ltb, List, [], ◌∷◌, length, map, Option, Some, None, Result, Ok, Err, get_or, refl, sym, ap, ◌∙◌}
+use Rattle.std.specs.Prelude.{IsSome, slice_get, slice_index, slice_index_or, MatchOption}
 use Rattle.std.specs.List.{filter_map}
 use Rattle.std.proofs.Math.ListN as listn
-use Rattle.std.proofs.lemmas.Bool.{and_parts, ltb-true, leb-true}
+use Rattle.std.proofs.lemmas.Bool.{ltb-true}
 use Rattle.std.proofs.lemmas.List.{length-map, get_or-map}
 use Rattle.std.proofs.lemmas.List.Sums.{sum_by-cons}
 use Rattle.std.proofs.lemmas.Option.{get_or_from_slice_get}
-use Rattle.ctf_model.specs.Chains.{base, own_index, edges}
+use Rattle.ctf_model.specs.Chains.{own_index_at, own_index, edges}
+use Rattle.ctf_model.specs.TypePlaces.{place}
+use Rattle.ctf_model.specs.declared.numbers.Place.{Place}
+use Rattle.ctf_model.specs.declared.numbers.Place.TheVariants.{Nowhere, Own, Parents}
 use Rattle.ctf_model.specs.Faults.{walk_fault}
 use Rattle.ctf_model.specs.Name.{Tables}
 use Rattle.ctf_model.specs.Section.{Piece, onto, terms_in}
@@ -101,14 +104,9 @@ places_are chain child rs i p e =
     let here : get_or rs i none ≡ Ok p = get_or_from_slice_get rs i (Ok p) none e in
     listn.get_or-map (record_places chain child (length rs)) rs i none ∙ ap (record_places chain child (length rs)) here
 
-pub place_count_is : (chain : Chain) (child : Bool) (rs : List (Result Piece Fault)) (i : ℕ) (p : Piece) → slice_get rs i ≡ Some (Ok p) → length (places_at (section_places chain child rs) i) ≡ length (numbers chain p.bytes)
-place_count_is chain child rs i p e = ap length (places_are chain child rs i p e) ∙ length-map (numbers chain p.bytes) (own_index child (length rs))
-
 -- the place with a number
-pub place_is : (chain : Chain) (child : Bool) (rs : List (Result Piece Fault)) (i k : ℕ) (p : Piece) → slice_get rs i ≡ Some (Ok p) → k < length (numbers chain p.bytes) → slice_index_or (places_at (section_places chain child rs) i) k None ≡ own_index child (length rs) (slice_index (numbers chain p.bytes) k)
-place_is chain child rs i k p e lt =
-    ap (λ (ps : List (Option ℕ)). get_or ps k None) (places_are chain child rs i p e)
-    ∙ get_or-map (own_index child (length rs)) (numbers chain p.bytes) k 0 None lt
+pub place_in : (child : Bool) (count : ℕ) (ns : List ℕ) (k : ℕ) → k < length ns → slice_index_or (map (own_index child count) ns) k None ≡ own_index child count (slice_index ns k)
+place_in child count ns k lt = get_or-map (own_index child count) ns k 0 None lt
 
 -- ---- as many as there are types
 
@@ -118,12 +116,13 @@ places_count chain child rs starts whole begin = ap length begin ∙ starts_coun
 
 -- an own type is one of those that are there
 pub own_inside : (child : Bool) (count n : ℕ) → MatchOption (own_index child count n) (Unit {0}) (λ j. j < count)
-own_inside child count n = at (ltb (base child) n && leb n (base child + count)) refl
+own_inside child count n = at (place child n)
   where
-    at : (test : Bool) → (ltb (base child) n && leb n (base child + count)) ≡ test → MatchOption (cond test (Some (n - base child - 1)) None) (Unit {0}) (λ j. j < count)
-    at false e = tt
-    at true e =
-        let both = and_parts (ltb (base child) n) (leb n (base child + count)) e in
-        let low : base child < n = ltb-true (base child) n both.0 in
-        let high : n ≤ base child + count = leb-true n (base child + count) both.1 in
-        omega arith
+    at : (p : Place) → MatchOption (own_index_at count p) (Unit {0}) (λ j. j < count)
+    at Nowhere = tt
+    at (Parents i) = tt
+    at (Own i) = there i (ltb i count) refl
+      where
+        there : (i : ℕ) (test : Bool) → ltb i count ≡ test → MatchOption (cond test (Some i) None) (Unit {0}) (λ j. j < count)
+        there i false e = tt
+        there i true e = ltb-true i count e

@@ -12,7 +12,8 @@ use Rattle.ctf_model.specs.Term.{Member, Enumerator, Body, Term}
 use Rattle.ctf_model.specs.Term as term
 use Rattle.ctf_model.specs.declared.kinds.Kind.{Kind}
 use Rattle.ctf_model.specs.declared.kinds.Kind.TheVariants.{KUnknown, KInteger, KFloat, KPointer, KArray, KFunction, KStruct, KUnion, KEnum, KForward, KTypedef, KVolatile, KConst, KRestrict}
-use Rattle.ctf_chains.specs.Numbers.{member_types, numbers_of_kind, numbers}
+use Rattle.ctf_records.specs.ListedTypes.{numbers_in}
+use Rattle.ctf_chains.specs.Numbers.{numbers_of_kind, numbers}
 use Rattle.ctf_chains.specs.Steps.{steps}
 use Rattle.ctf_chains.specs.declared.chain.Chain.{Chain}
 use Rattle.ctf_chains.specs.declared.chain.Chain.TheVariants.{ByValue, Declarator}
@@ -20,9 +21,9 @@ use Rattle.ctf_chains.specs.declared.chain.Chain.TheVariants.{ByValue, Declarato
 -- ---- members
 
 -- the types of the members of a list
-items_types : (width : ℕ) (t : Tables) (n : ℕ) (b : List ℕ) (ms : List Member) → items (member_of width t) (member_len width) n b ≡ Some ms → map (λ m. m.tnum) ms ≡ member_types (member_len width) n b
-unfolding member_types
-items_types width t n b ms e = members_types (member_types (member_len width)) width (member_len width) t (λ b. refl) (λ n b. refl) n b ms e
+items_types : (width : ℕ) (t : Tables) (n : ℕ) (b : List ℕ) (ms : List Member) → items (member_of width t) (member_len width) n b ≡ Some ms → map (λ m. m.tnum) ms ≡ numbers_in (member_len width) 4 n b
+unfolding numbers_in
+items_types width t n b ms e = members_types (numbers_in (member_len width) 4) width (member_len width) t (λ b. refl) (λ n b. refl) n b ms e
 
 -- ---- bodies
 

@@ -1,12 +1,14 @@
 -- The table of depths and of visits under way.
-use Rattle.std.proofs.Common.{◌≡◌, ℕ, zero, suc, ◌+◌, ◌-◌, ◌≤◌, ◌<◌, ◌⊎◌, inl, inr, List, ◌∷◌, ◌++◌, length, take, drop, Option, Some, None, get_or, set, ◌≢◌, slice_index_or, slice_set, refl, sym, subst, ◌∙◌, arith, is_some, IsTrue}
+use Rattle.std.proofs.Common.{◌≡◌, ℕ, zero, suc, ◌+◌, ◌-◌, ◌≤◌, ◌<◌, ◌⊎◌, inl, inr, List, ◌∷◌, ◌++◌, length, take, drop, Option, Some, None, get_or, set, ◌≢◌, slice_index_or, slice_set, refl, sym, subst, ◌∙◌, arith, is_some, IsTrue, Bool, true, false, cond, eqb}
 use Rattle.std.specs.List.{AllByRecursion}
+use Rattle.std.proofs.lemmas.Bool.{eqb-true}
 use Rattle.std.proofs.lemmas.Grind.{get_or-set_at}
 use Rattle.std.proofs.lemmas.List.{get_or-set_other}
 use Rattle.ctf_model.specs.Chains.{targets, IsWithin}
 use Rattle.ctf_chains.specs.Deep.{AreWithinBefore}
 use Rattle.ctf_chains.specs.Places.{Places, places_at, led_to, steps_between}
-use Rattle.ctf_chains.specs.Search.{IsDepth, busy, Knows, Leads, OnWay, GoesOn, Answers}
+use Rattle.ctf_chains.specs.Search.{IsDepth, busy, entry_in, Knows, Leads, OnWay, GoesOn, Answers}
+use Rattle.ctf_chains.specs.declared.entry.Entry.TheVariants.{Unvisited, Busy, Depth}
 use Rattle.ctf_chains.proofs.Depths.{IsWithin-more, targets_are, led_at}
 use Rattle.ctf_chains.proofs.Lists.{All-at, not_empty, same_or_not}
 
@@ -33,6 +35,15 @@ pub empty_knows : (es : List (List ℕ)) (known : List ℕ) → ((j : ℕ) → s
 empty_knows es known h = record { right = λ j l u. absurd (omega (arith, h j)) }
 
 -- ---- visits under way
+
+-- only the mark stands for a visit that is under way
+pub busy_is : (n : ℕ) → Busy ≡ entry_in n → n ≡ busy
+busy_is n e = at (eqb n 0) (eqb n busy) refl e
+  where
+    at : (none way : Bool) → eqb n busy ≡ way → Busy ≡ cond none Unvisited (cond way Busy (Depth (n - 1))) → n ≡ busy
+    at true way h e = absurd cc
+    at false true h e = eqb-true n busy h
+    at false false h e = absurd cc
 
 descends : (es : List (List ℕ)) (i n k : ℕ) → Leads es i i → k < n → IsWithin es k i → ⊥
 descends es i zero k a lt w = omega arith

@@ -1,9 +1,9 @@
 -- The type numbers that steps lead to, as they stand in records.
 -- Source: ctf(5), "The Type Section"; ctf_stype_t, ctf_member_t, ctf_lmember_t, ctf_array_t of sys/ctf.h.
-use Rattle.std.specs.Prelude.{ℕ, zero, suc, Bool, List, [], ◌∷◌, length, map, drop, Option, Some, None, Result, Ok, Err}
+use Rattle.std.specs.Prelude.{ℕ, Bool, List, [], ◌∷◌, length, map, Option, Some, None, Result, Ok, Err}
 use Rattle.ctf_model.specs.Bytes.{u16_at}
 use Rattle.ctf_model.specs.Chains.{own_index}
-use Rattle.ctf_model.specs.Record.{kind, field, size, vlen, member_len, behind_head}
+use Rattle.ctf_model.specs.Record.{kind, field, behind_head}
 use Rattle.ctf_model.specs.Section.{Piece}
 use Rattle.ctf_model.specs.declared.faults.Fault.{Fault}
 use Rattle.ctf_model.specs.declared.kinds.Kind.{Kind}
@@ -12,12 +12,8 @@ use Rattle.ctf_chains.specs.declared.chain.Chain.{Chain}
 use Rattle.ctf_chains.specs.declared.chain.Chain.TheVariants.{ByValue, Declarator}
 use Rattle.ctf_chains.specs.declared.place.Spot.{Spot}
 use Rattle.ctf_chains.specs.declared.place.Spot.TheVariants.{Nowhere, Head, Contents, Members}
+use Rattle.ctf_records.specs.ListedTypes.{member_types}
 use Rattle.ctf_chains.specs.Places.{Places}
-
--- the types of so many members of a length: each stands behind the four bytes of a name
-unfoldable pub member_types : ℕ → ℕ → List ℕ → List ℕ
-member_types len zero b = []
-member_types len (suc n) b = u16_at b 4 ∷ member_types len n (drop len b)
 
 -- where the numbers of a kind stand
 abbrev pub spot : Chain → Kind → Spot
@@ -37,7 +33,7 @@ abbrev pub numbers_at : Spot → List ℕ → List ℕ
 numbers_at Nowhere b = []
 numbers_at Head b = field b ∷ []
 numbers_at Contents b = u16_at (behind_head b) 0 ∷ []
-numbers_at Members b = member_types (member_len (size b)) (vlen b) (behind_head b)
+numbers_at Members b = member_types b
 
 -- the numbers of a record of a kind, if that is known
 abbrev pub numbers_of_kind : Chain → List ℕ → Option Kind → List ℕ

@@ -1,8 +1,10 @@
 -- What the search for long chains knows on its way. Source: ours.
-use Rattle.std.specs.Prelude.{◌≡◌, ℕ, zero, suc, ◌+◌, ◌-◌, ◌≤◌, ◌<◌, List, [], ◌∷◌, Option, slice_index_or, MatchOption}
+use Rattle.std.specs.Prelude.{◌≡◌, ℕ, zero, suc, ◌+◌, ◌-◌, ◌==◌, ◌≤◌, ◌<◌, List, [], ◌∷◌, Option, slice_index_or, MatchOption, if◌then◌else◌}
 use Rattle.std.specs.List.{AllByRecursion}
 use Rattle.ctf_model.specs.Chains.{IsWithin}
 use Rattle.ctf_chains.specs.Places.{Places, record_work}
+use Rattle.ctf_chains.specs.declared.entry.Entry.{Entry}
+use Rattle.ctf_chains.specs.declared.entry.Entry.TheVariants.{Unvisited, Busy, Depth}
 
 -- ---- depths
 
@@ -26,6 +28,10 @@ pub record IsDepth (es : List (List ℕ)) (i d : ℕ) : Type 0 where
 -- the mark of a record whose visit is under way
 abbrev pub busy : ℕ
 busy = 0xffff
+
+-- what a number of the table stands for
+abbrev pub entry_in : ℕ → Entry
+entry_in n = if n == 0 then Unvisited else if n == busy then Busy else Depth (n - 1)
 
 -- the depths in the table are right
 pub record Knows (es : List (List ℕ)) (known : List ℕ) : Type 0 where

@@ -4,15 +4,17 @@ ghost use Rattle.ctf_model.specs.Faults.{walk_fault};
 ghost use Rattle.ctf_model.specs.Name.{Tables};
 ghost use Rattle.ctf_model.specs.Section.{records, terms_in};
 ghost use Rattle.ctf_chains.specs.Deep.{IsLeastDeepType};
-ghost use Rattle.ctf_chains.specs.Places.{capped};
 ghost use Rattle.ctf_chains.specs.Starts.{starts_in};
 ghost use Rattle.ctf_chains.specs.Steps.{AreSpelled, steps, steps_work};
 
 use crate::chain::Chain;
 use crate::search::first_deep;
 use crate::starts::Starts;
+use crate::ticks::Ticks;
 use crate::types::Types;
 use std::alloc::{AllocError, Global};
+use std::marker::Brand;
+use std::sync::ledger::{Blank, Ledger};
 
 /// The first own type, from 0, that a chain of more than `LONGEST_CHAIN` steps begins at, if there
 /// is one.
@@ -30,19 +32,39 @@ pub fn first_deep_type(
     ensures least { IfOk result (λ found. IsLeastDeepType chain child (records types.now) found) }
     ensures inside { IfOk result (λ found. IfSome found (λ i. i < length (records types.now))) }
 {
-    let mut work = 0;
-    first_deep_counted(alloc, types, starts, child, chain, &mut work)
+    first_deep_with::<Brand>(alloc, types, starts, child, chain, Blank::new(1))
 }
 
-/// The same, with what it costs added to `work`: one for each record that it opens, and one for
-/// each type number that it reads.
-pub fn first_deep_counted(
+/// The same in a ledger of its own, which nobody reads.
+fn first_deep_with<L: Ledger>(
     alloc: Global,
     types: &[u8],
     starts: &Starts,
     child: bool,
     chain: Chain,
-    work: &mut u64,
+    blank: Blank,
+) -> Result<Option<usize>, AllocError>
+    requires whole { walk_fault (records types.now) ≡ None }
+    requires starts { starts.now ≡ starts_in (records types.now) }
+    requires name { blank.name ≡ L.name }
+    requires parts { blank.parts ≡ L.parts }
+    requires some { 0 < blank.parts }
+    ensures least { IfOk result (λ found. IsLeastDeepType chain child (records types.now) found) }
+    ensures inside { IfOk result (λ found. IfSome found (λ i. i < length (records types.now))) }
+{
+    let mut work = Ticks::<L>::new(blank);
+    first_deep_counted(alloc, types, starts, child, chain, &mut work)
+}
+
+/// The same, with what it costs in `work`: a tick for each record that is opened, and one for each
+/// type number that is read.
+pub fn first_deep_counted<L: Ledger>(
+    alloc: Global,
+    types: &[u8],
+    starts: &Starts,
+    child: bool,
+    chain: Chain,
+    work: &mut Ticks<L>,
 ) -> Result<Option<usize>, AllocError>
     requires whole { walk_fault (records types.now) ≡ None }
     requires starts { starts.now ≡ starts_in (records types.now) }
@@ -51,7 +73,7 @@ pub fn first_deep_counted(
     ensures work { (t : Tables) → AreSpelled t (records types.now)
         → work.new ≤ work.old + steps_work (steps chain) (terms_in t (records types.now)) }
     ensures once { result ≡ Ok None → (t : Tables) → AreSpelled t (records types.now)
-        → capped work.new ≡ capped (work.old + steps_work (steps chain) (terms_in t (records types.now))) }
+        → work.new ≡ work.old + steps_work (steps chain) (terms_in t (records types.now)) }
 {
     let graph = Types {
         bytes: types,

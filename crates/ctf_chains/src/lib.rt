@@ -2,6 +2,7 @@
 #![tactic(auto)]
 
 mod chain;
+mod entry;
 mod first;
 mod graph;
 mod place;
@@ -9,6 +10,7 @@ mod search;
 mod starts;
 #[cfg(test)]
 mod tests;
+mod ticks;
 mod types;
 
 pub use chain::Chain;
@@ -16,3 +18,4 @@ pub use first::{first_deep_counted, first_deep_type};
 pub use graph::Graph;
 pub use search::{LONGEST_CHAIN, first_deep};
 pub use starts::{Starts, record_starts};
+pub use ticks::Ticks;

@@ -1,15 +1,12 @@
 //! Where in its bytes a record says the types that its steps lead to.
-ghost use Rattle.std.specs.Prelude.{◌≡◌, ◌<◌, ◌*◌, length, slice_index, Some};
+ghost use Rattle.std.specs.Prelude.{◌≡◌, ◌<◌, length, slice_index};
 ghost use Rattle.ctf_model.specs.Chains.{own_index as own_index_of};
-ghost use Rattle.ctf_model.specs.Record.{kind as kind_in, size, vlen, member_len as member_len_of, behind_head};
-ghost use Rattle.ctf_records.specs.ByKind.{size_in, len_behind};
 ghost use Rattle.ctf_records.specs.RecordView.{bytes_of};
-ghost use Rattle.ctf_chains.specs.Numbers.{member_types, numbers, spot};
+ghost use Rattle.ctf_chains.specs.Numbers.{numbers, spot};
 
 use crate::chain::Chain;
-use ctf_model::Kind;
+use ctf_model::{Kind, Place, TypeNum};
 use ctf_records::Record;
-use ctf_sections::bytes::u16_at;
 
 /// Where the numbers of the types stand.
 #[derive(Clone, Copy)]
@@ -32,25 +29,6 @@ fn spot_of(chain: Chain, kind: Kind) -> Spot
     }
 }
 
-fn member_len(size: u64) -> usize
-    ensures { result ≡ member_len_of size }
-{
-    if size < 8192 { 8 } else { 16 }
-}
-
-/// The type of a member, which stands behind the four bytes of its name.
-fn member_type(source: &Record<'_>, k: usize) -> u16
-    requires size { size_in (bytes_of source.now) ≡ Some (size (bytes_of source.now)) }
-    requires list { len_behind (bytes_of source.now)
-        ≡ member_len_of (size (bytes_of source.now)) * vlen (bytes_of source.now) }
-    requires member { k < vlen (bytes_of source.now) }
-    ensures { result ≡ slice_index (member_types (member_len_of (size (bytes_of source.now)))
-        (vlen (bytes_of source.now)) (behind_head (bytes_of source.now))) k }
-{
-    let len = member_len(source.size().unwrap_or(0));
-    u16_at(source.rest(), len * k + 4)
-}
-
 /// How many types the steps from a record lead to, counted as often as it names them.
 pub(crate) fn place_count(source: &Record<'_>, chain: Chain) -> usize
     ensures { result ≡ length (numbers chain (bytes_of source.now)) }
@@ -58,32 +36,28 @@ pub(crate) fn place_count(source: &Record<'_>, chain: Chain) -> usize
     match spot_of(chain, source.kind()) {
         Spot::Nowhere => 0,
         Spot::Head | Spot::Contents => 1,
-        Spot::Members => source.vlen(),
+        Spot::Members => source.listed_count(),
     }
 }
 
 /// The number of the type that one of the steps from a record leads to.
-pub(crate) fn place_number(source: &Record<'_>, chain: Chain, k: usize) -> u16
+pub(crate) fn place_number(source: &Record<'_>, chain: Chain, k: usize) -> TypeNum
     requires { k < length (numbers chain (bytes_of source.now)) }
-    ensures { result ≡ slice_index (numbers chain (bytes_of source.now)) k }
+    ensures { result.0 ≡ slice_index (numbers chain (bytes_of source.now)) k }
 {
     match spot_of(chain, source.kind()) {
-        Spot::Nowhere => 0,
-        Spot::Head => source.reference().map_or(0, |number| number.0),
-        Spot::Contents => u16_at(source.rest(), 0),
-        Spot::Members => member_type(source, k),
+        Spot::Nowhere => TypeNum(0),
+        Spot::Head => source.reference().unwrap_or(TypeNum(0)),
+        Spot::Contents | Spot::Members => source.listed_type(k),
     }
 }
 
 /// The own type that a number names, from 0, where there are that many.
-pub(crate) fn own_index(child: bool, count: usize, number: u16) -> Option<usize>
-    ensures { result ≡ own_index_of child count number }
+pub(crate) fn own_index(child: bool, count: usize, number: TypeNum) -> Option<usize>
+    ensures { result ≡ own_index_of child count number.0 }
 {
-    let base = if child { 0x8000 } else { 0 };
-    let number = number as usize;
-    if number > base && number - base <= count {
-        Some(number - base - 1)
-    } else {
-        None
+    match number.place(child) {
+        Place::Own(i) if i < count => Some(i),
+        _ => None,
     }
 }

@@ -2,17 +2,17 @@
 ghost use Rattle.std.specs.Prelude.{◌≡◌, ℕ, ◌+◌, ◌<◌, ◌≤◌, ◌⊎◌, length, IfOk, IfSome, IsSome, None, Ok, MatchOption, slice_index_or};
 ghost use Rattle.ctf_model.specs.Chains.{longest_chain};
 ghost use Rattle.ctf_chains.specs.Deep.{IsLeastDeep};
-ghost use Rattle.ctf_chains.specs.Places.{capped, full_work, steps_between};
+ghost use Rattle.ctf_chains.specs.Places.{full_work, steps_between};
 ghost use Rattle.ctf_chains.specs.Search.{Knows, OnWay, Answers, work_left};
 
+use crate::entry::{BUSY, Entry, entry_of};
 use crate::graph::Graph;
+use crate::ticks::Ticks;
 use std::alloc::{AllocError, Global};
+use std::sync::ledger::Ledger;
 
 /// The greatest number of steps that a chain may have.
 pub const LONGEST_CHAIN: u16 = 512;
-
-/// The mark of a record whose visit is under way.
-const BUSY: u16 = u16::MAX;
 
 /// The depth of a record that is known, if the budget is enough for it.
 fn within(depth: u16, budget: u16) -> Option<u16>
@@ -33,10 +33,10 @@ fn longer(a: u16, b: u16) -> u16
 ///
 /// `known` has for each record 0, or `BUSY` while its visit is under way, or one more than its
 /// depth. A busy record that is met again is on a cycle.
-fn depth<G: Graph>(
+fn depth<L: Ledger, G: Graph<L>>(
     graph: &G,
     known: &mut [u16],
-    work: &mut u64,
+    work: &mut Ticks<L>,
     i: usize,
     budget: u16,
 ) -> Option<u16>
@@ -49,22 +49,19 @@ fn depth<G: Graph>(
     ensures answer { Answers (steps_between (G.places graph.now)) budget i known.old known.new result }
     ensures work { work.new + work_left (G.places graph.now) known.new
         ≤ work.old + work_left (G.places graph.now) known.old }
-    ensures once { IsSome result → capped (work.new + work_left (G.places graph.now) known.new)
-        ≡ capped (work.old + work_left (G.places graph.now) known.old) }
+    ensures once { IsSome result → work.new + work_left (G.places graph.now) known.new
+        ≡ work.old + work_left (G.places graph.now) known.old }
 {
-    let before = known[i];
-    if before == BUSY {
-        return None;
-    }
-    if before != 0 {
-        return within(before - 1, budget);
+    match entry_of(known[i]) {
+        Entry::Busy => return None,
+        Entry::Depth(depth) => return within(depth, budget),
+        Entry::Unvisited => {}
     }
     known[i] = BUSY;
-    *work = work.saturating_add(1);
+    let opened = graph.open(i, work);
     let mut longest = 0;
-    for k in 0..graph.place_count(i) {
-        *work = work.saturating_add(1);
-        if let Some(j) = graph.place(i, k) {
+    for k in 0..graph.place_count(opened) {
+        if let Some(j) = graph.place(opened, k, work) {
             if budget == 0 {
                 return None;
             }
@@ -79,13 +76,17 @@ fn depth<G: Graph>(
 }
 
 /// Looks through the records in turn, with a table that knows nothing yet.
-fn first_of<G: Graph>(graph: &G, known: &mut [u16], work: &mut u64) -> Option<usize>
+fn first_of<L: Ledger, G: Graph<L>>(
+    graph: &G,
+    known: &mut [u16],
+    work: &mut Ticks<L>,
+) -> Option<usize>
     requires same { length known.old ≡ length (G.places graph.now) }
     requires empty { (j : ℕ) → slice_index_or known.old j 0 ≡ 0 }
     ensures least { IsLeastDeep (steps_between (G.places graph.now)) longest_chain result }
     ensures inside { IfSome result (λ i. i < length (G.places graph.now)) }
     ensures work { work.new ≤ work.old + full_work (G.places graph.now) }
-    ensures once { result ≡ None → capped work.new ≡ capped (work.old + full_work (G.places graph.now)) }
+    ensures once { result ≡ None → work.new ≡ work.old + full_work (G.places graph.now) }
 {
     for i in 0..graph.len() {
         if depth(graph, known, work, i, LONGEST_CHAIN).is_none() {
@@ -98,19 +99,18 @@ fn first_of<G: Graph>(graph: &G, known: &mut [u16], work: &mut u64) -> Option<us
 /// The first record that a chain of more than `LONGEST_CHAIN` steps begins at, if there is one. A
 /// cycle of steps is a chain without end.
 ///
-/// `work` grows by one for each record that is opened, and by one for each place that is read.
+/// Nothing of the graph can be seen but by its ticks, so that these bound what the search looks at.
 /// Takes two bytes for each record while it runs.
-pub fn first_deep<G: Graph>(
+pub fn first_deep<L: Ledger, G: Graph<L>>(
     alloc: Global,
     graph: &G,
-    work: &mut u64,
+    work: &mut Ticks<L>,
 ) -> Result<Option<usize>, AllocError>
     ensures least { IfOk result (λ first.
         IsLeastDeep (steps_between (G.places graph.now)) longest_chain first) }
     ensures inside { IfOk result (λ first. IfSome first (λ i. i < length (G.places graph.now))) }
     ensures work { work.new ≤ work.old + full_work (G.places graph.now) }
-    ensures once { result ≡ Ok None
-        → capped work.new ≡ capped (work.old + full_work (G.places graph.now)) }
+    ensures once { result ≡ Ok None → work.new ≡ work.old + full_work (G.places graph.now) }
 {
     let mut known = vec![in alloc; 0u16; graph.len()]?;
     Ok(first_of(graph, known.as_mut_slice(), work))

@@ -1,14 +1,19 @@
 //! The types of a section as records that lead to each other.
-ghost use Rattle.std.specs.Prelude.{◌≡◌, None};
+ghost use Rattle.std.specs.Prelude.{◌≡◌, None, length, map};
+ghost use Rattle.ctf_model.specs.Chains.{own_index as own_index_of};
 ghost use Rattle.ctf_model.specs.Faults.{walk_fault};
 ghost use Rattle.ctf_model.specs.Section.{records};
-ghost use Rattle.ctf_chains.specs.Numbers.{section_places};
+ghost use Rattle.ctf_chains.specs.Numbers.{numbers, section_places};
 ghost use Rattle.ctf_chains.specs.Starts.{starts_in};
+ghost use Rattle.ctf_records.specs.RecordView.{bytes_of};
 
 use crate::chain::Chain;
 use crate::graph::Graph;
 use crate::place::{own_index, place_count, place_number};
 use crate::starts::Starts;
+use crate::ticks::Ticks;
+use ctf_records::Record;
+use std::sync::ledger::Ledger;
 
 /// The types of a section, and the steps of one sort between them.
 #[derive(Clone, Copy)]
@@ -21,20 +26,29 @@ pub(crate) struct Types<'a> {
     ghost begin: { starts.now ≡ starts_in (records bytes.now) },
 }
 
-impl<'a> Graph for Types<'a> {
+impl<'a, L: Ledger> Graph<L> for Types<'a> {
+    type Opened = Record<'a>;
+
     ghost places = { λ g. section_places g.chain g.child (records g.bytes.now) };
+
+    ghost places_of = { λ g r. map (own_index_of g.child (length (records g.bytes.now))) (numbers g.chain (bytes_of r)) };
 
     fn len(&self) -> usize {
         self.starts.len()
     }
 
-    fn place_count(&self, i: usize) -> usize {
-        place_count(&self.starts.record(self.bytes, i), self.chain)
+    fn open(&self, i: usize, work: &mut Ticks<L>) -> Record<'a> {
+        work.tick();
+        self.starts.record(self.bytes, i)
     }
 
-    fn place(&self, i: usize, k: usize) -> Option<usize> {
-        let record = self.starts.record(self.bytes, i);
-        let number = place_number(&record, self.chain, k);
+    fn place_count(&self, opened: Record<'a>) -> usize {
+        place_count(&opened, self.chain)
+    }
+
+    fn place(&self, opened: Record<'a>, k: usize, work: &mut Ticks<L>) -> Option<usize> {
+        work.tick();
+        let number = place_number(&opened, self.chain, k);
         own_index(self.child, self.starts.len(), number)
     }
 }

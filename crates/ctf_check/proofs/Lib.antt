@@ -1,8 +1,8 @@
 pub mod LastNames
+pub mod Listed
 pub mod LongChains
 pub mod Naming
 pub mod Needing
-pub mod Numbering
 pub mod Order
 pub mod Reading
 pub mod Sites

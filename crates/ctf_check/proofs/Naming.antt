@@ -1,9 +1,7 @@
 -- The types that are read from the bytes of a record are those that its type names.
-use Rattle.std.proofs.Common.{◌≡◌, ℕ, zero, suc, Bool, List, [], ◌∷◌, drop, map, Option, Some, None, Result, Ok, Err, refl, sym, ap, ◌∙◌}
-use Rattle.std.specs.Prelude.{◌||◌, ◌&&◌}
-use Rattle.std.proofs.Math.Bool.{or-false}
-use Rattle.std.specs.List.{list_any, AllByRecursion}
-use Rattle.std.specs.Option.{option_map}
+use Rattle.std.proofs.Common.{◌≡◌, ℕ, zero, suc, Bool, List, [], ◌∷◌, ◌++◌, drop, map, Option, Some, None, Result, Ok, Err, refl, sym, ap, ◌∙◌}
+use Rattle.std.specs.List.{AllByRecursion}
+use Rattle.std.specs.Option.{option_map, option_and_then}
 use Rattle.std.proofs.lemmas.Option.{same_Some}
 use Rattle.ctf_model.proofs.MemberTypes.{members_types as types_of_members}
 use Rattle.ctf_model.specs.Bytes.{u16_at, u32_at}
@@ -12,13 +10,15 @@ use Rattle.ctf_model.specs.declared.kinds.Kind.{Kind}
 use Rattle.ctf_model.specs.declared.kinds.Kind.TheVariants.{KUnknown, KInteger, KFloat, KPointer, KArray, KFunction, KStruct, KUnion, KEnum, KForward, KTypedef, KVolatile, KConst, KRestrict}
 use Rattle.ctf_model.specs.Faults.{first_misnaming}
 use Rattle.ctf_model.specs.Name.{Tables, name}
-use Rattle.ctf_model.specs.Record.{kind, field, is_long, size, vlen, member_len, behind_head}
-use Rattle.ctf_model.specs.References.{references, is_missing, is_forward, is_misnaming}
+use Rattle.ctf_model.specs.Record.{kind, field, size, vlen, member_len, behind_head}
+use Rattle.ctf_model.specs.References.{references, is_misnaming}
 use Rattle.ctf_model.specs.Section.{Piece}
 use Rattle.ctf_model.specs.Spelling.{◌>>=◌, items, member_of, argument_of, members, arguments, enumerators, scalar, elements, tag, body_of, term_of}
 use Rattle.ctf_model.specs.Term.{Member, Enumerator, Body, Term}
 use Rattle.ctf_model.specs.Term as term
-use Rattle.ctf_check.specs.Named.{numbers_in, named_types, kind_misnames, misnames, first_that_misnames}
+use Rattle.ctf_records.specs.ByKind.{reference_of_kind}
+use Rattle.ctf_records.specs.ListedTypes.{numbers_in, listed_types_of_kind, listed_types_at}
+use Rattle.ctf_check.specs.Named.{in_head, named_types, misnames, first_that_misnames}
 use Rattle.ctf_check.proofs.Terms.{IsSpelled}
 
 -- ---- lists
@@ -51,8 +51,11 @@ arguments_types (suc n) b xs e =
 names_of_same : (x y : Body) → Some x ≡ Some y → references y ≡ references x
 names_of_same x y e = ap references (sym (same_Some x y e))
 
+abbrev named_by_kind : Kind → List ℕ → List ℕ
+named_by_kind k b = in_head (reference_of_kind k b) ++ listed_types_of_kind k b
+
 -- the types that a body names are those that stand in its record
-pub body_names : (t : Tables) (b : List ℕ) (k : Kind) (x : Body) → body_of t b k ≡ Some x → references x ≡ named_types k b
+body_names : (t : Tables) (b : List ℕ) (k : Kind) (x : Body) → body_of t b k ≡ Some x → references x ≡ named_by_kind k b
 body_names t b KUnknown x e = names_of_same (term.unknown) x e
 body_names t b KInteger x e = names_of_same (term.integer (scalar b)) x e
 body_names t b KFloat x e = names_of_same (term.float (scalar b)) x e
@@ -68,23 +71,6 @@ body_names t b KVolatile x e = names_of_same (term.volatile (field b)) x e
 body_names t b KConst x e = names_of_same (term.const (field b)) x e
 body_names t b KRestrict x e = names_of_same (term.restrict (field b)) x e
 
--- a test of the type in the head and of those behind it is one of all of them, but for a forward
-all_misname : (child : Bool) (count : ℕ) (b : List ℕ) (k : Kind) → kind_misnames child count b k ≡ ((is_forward (Some k) && is_long b) || list_any (is_missing child count) (named_types k b))
-all_misname child count b KUnknown = refl
-all_misname child count b KInteger = refl
-all_misname child count b KFloat = refl
-all_misname child count b KPointer = refl
-all_misname child count b KArray = refl
-all_misname child count b KFunction = refl
-all_misname child count b KStruct = refl
-all_misname child count b KUnion = refl
-all_misname child count b KEnum = refl
-all_misname child count b KForward = sym (or-false (is_long b))
-all_misname child count b KTypedef = refl
-all_misname child count b KVolatile = refl
-all_misname child count b KConst = refl
-all_misname child count b KRestrict = refl
-
 -- what a record that spells a type has
 pub said_body : (t : Tables) (b : List ℕ) (x : Term) → term_of t b ≡ Some x → (k : Kind) × (kind b ≡ Some k) × (body_of t b k ≡ Some x.body)
 unfolding term_of
@@ -94,14 +80,16 @@ said_body t b x e =
     let body = bind_some (body_of t b k.0) _ x text.2 in
     (k.0, k.1, body.1 ∙ ap (λ (o : Option Term). option_map (λ y. y.body) o) body.2)
 
+-- the types that it names are those that stand in the record
+pub record_names : (t : Tables) (b : List ℕ) (x : Term) → term_of t b ≡ Some x → references x.body ≡ named_types b
+record_names t b x e =
+    let k = said_body t b x e in
+    body_names t b k.0 x.body k.2 ∙ ap (λ (o : Option Kind). in_head (option_and_then (λ k. reference_of_kind k b) o) ++ listed_types_at o b) (sym k.1)
+
 -- where a record spells a type, the test of its bytes is that of the type
 misnames_said : (t : Tables) (child : Bool) (count : ℕ) (b : List ℕ) (x : Term) → term_of t b ≡ Some x → misnames child count b ≡ is_misnaming t child count b
 unfolding misnames is_misnaming
-misnames_said t child count b x e =
-    let k = said_body t b x e in
-    let same : references x.body ≡ named_types k.0 b = body_names t b k.0 x.body k.2 in
-    let kind_is = k.1 in
-    rw (kind_is, e, same) (all_misname child count b k.0)
+misnames_said t child count b x e = rw (e, record_names t b x e) refl
 
 -- ---- all records
 

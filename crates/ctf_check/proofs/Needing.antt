@@ -12,7 +12,7 @@ use Rattle.ctf_model.specs.Spelling.{term_of}
 use Rattle.ctf_model.specs.Term.{Term}
 use Rattle.ctf_model.specs.declared.faults.Fault.{Fault}
 use Rattle.ctf_check.specs.Needed.{record_needs, records_need}
-use Rattle.ctf_check.proofs.Naming.{body_names, said_body}
+use Rattle.ctf_check.proofs.Naming.{record_names}
 use Rattle.ctf_check.proofs.Terms.{IsSpelled, all_spelled}
 
 -- the greatest of two lists is that of one of them
@@ -24,10 +24,7 @@ greatest_append (x ∷ xs) ys = omega (arith, greatest_append xs ys)
 -- a record needs what the type that it spells names
 record_needs_said : (t : Tables) (b : List ℕ) (x : Term) → term_of t b ≡ Some x → record_needs b ≡ greatest_in_parent (references x.body)
 unfolding record_needs
-record_needs_said t b x e =
-    let k = said_body t b x e in
-    let kind_is = k.1 in
-    rw kind_is (ap greatest_in_parent (sym (body_names t b k.0 x.body k.2)))
+record_needs_said t b x e = ap greatest_in_parent (sym (record_names t b x e))
 
 records_need_said : (t : Tables) (xs : List (Result Piece Fault)) → AllByRecursion (IsSpelled t) xs → records_need xs ≡ greatest_in_parent (flat_map (λ x. references x.body) (terms_in t xs))
 unfolding records_need terms_in greatest_in_parent

@@ -1,14 +1,12 @@
 -- The greatest number of a parent's type that records name, read from their bytes.
 use Rattle.std.specs.Prelude.{ℕ, max, List, [], ◌∷◌, Result, Ok, Err}
-use Rattle.std.specs.Option.{option_map_or}
 use Rattle.ctf_model.specs.Needs.{greatest_in_parent}
-use Rattle.ctf_model.specs.Record.{kind}
 use Rattle.ctf_model.specs.Section.{Piece}
 use Rattle.ctf_check.specs.Named.{named_types}
 use Rattle.ctf_model.specs.declared.faults.Fault.{Fault}
 
 unfoldable pub record_needs : List ℕ → ℕ
-record_needs b = option_map_or (λ k. greatest_in_parent (named_types k b)) (kind b) 0
+record_needs b = greatest_in_parent (named_types b)
 
 unfoldable pub records_need : List (Result Piece Fault) → ℕ
 records_need [] = 0

@@ -9,7 +9,6 @@ ghost use Rattle.ctf_check.specs.EndsView.{tables_in};
 ghost use Rattle.ctf_check.specs.Stages.{header_sites, own_sites};
 
 use crate::ends::NameEnds;
-use crate::references::member_len_of;
 use ctf_model::{Kind, Section};
 use ctf_records::{Record, Records};
 use ctf_sections::Header;
@@ -79,7 +78,7 @@ fn bad_in_list(term: &Record<'_>, start: usize, ends: NameEnds<'_>) -> Option<u6
     let behind = start + (term.bytes().len() - rest.len());
     match term.kind() {
         Kind::KStruct | Kind::KUnion => {
-            bad_in_items(rest, behind, member_len_of(term.size()), term.vlen(), ends)
+            bad_in_items(rest, behind, term.member_len(), term.vlen(), ends)
         }
         Kind::KEnum => bad_in_items(rest, behind, 8, term.vlen(), ends),
         _ => None,

@@ -1,2 +1,3 @@
+pub mod ListedNumbers
 pub mod Reading
 pub mod Whole

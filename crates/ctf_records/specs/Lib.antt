@@ -1,3 +1,4 @@
 pub mod ByKind
+pub mod ListedTypes
 pub mod Pieces
 pub mod RecordView

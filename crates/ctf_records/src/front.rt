@@ -3,6 +3,7 @@ ghost use Rattle.std.specs.Prelude.{◌≡◌, ◌≤◌, length, slice_get};
 ghost use Rattle.ctf_model.specs.Record.{kinds, kind, size, vlen, head_len, variant_len};
 ghost use Rattle.ctf_model.specs.Section.{front_len as front_of};
 
+use crate::listed::member_len;
 use ctf_model::Kind;
 use ctf_sections::bytes::{u16_at, u32_at};
 
@@ -69,12 +70,11 @@ fn variant_len_of(kind: Kind, size: u64, vlen: usize) -> usize
     ensures length { result ≡ variant_len kind size vlen }
     ensures short { result ≤ 16368 }
 {
-    let member = if size < 8192 { 8 } else { 16 };
     match kind {
         Kind::KInteger | Kind::KFloat => 4,
         Kind::KArray => 8,
         Kind::KFunction => 2 * (vlen + vlen % 2),
-        Kind::KStruct | Kind::KUnion => member * vlen,
+        Kind::KStruct | Kind::KUnion => member_len(size) * vlen,
         Kind::KEnum => 8 * vlen,
         _ => 0,
     }

@@ -3,6 +3,7 @@
 
 mod cursor;
 mod front;
+mod listed;
 mod place;
 mod record;
 mod tag;
@@ -10,6 +11,7 @@ mod tag;
 mod tests;
 
 pub use cursor::{Records, record_numbered};
+pub use listed::{WIDE_MEMBERS, member_len};
 pub use place::record_at;
 pub use record::Record;
 pub use tag::Tag;

@@ -6,6 +6,7 @@ mod enumerators;
 mod members;
 mod parts;
 mod reading;
+mod row;
 mod rows;
 mod shown;
 #[cfg(test)]
@@ -16,4 +17,6 @@ pub use enumerators::{Enumerator, Enumerators};
 pub use members::{Member, Members};
 pub use parts::{ArrayInfo, Encoding};
 pub use reading::variant;
+pub use row::Row;
+pub use rows::Rows;
 pub use shown::Variant;

@@ -1,19 +1,16 @@
 //! The members of a struct or union.
-ghost use Rattle.std.specs.Prelude.{◌≡◌, ◌≤◌, length, IfSome, IsSome, Some, slice_get};
-ghost use Rattle.std.specs.Option.{option_map};
-ghost use Rattle.std.specs.Iterator.{YieldsFirstBy, YieldsLastBy, item_count, UpTo, at_most};
-ghost use Rattle.std.specs.Iterator.SizeHint.{IsWithinCount};
+ghost use Rattle.std.specs.Prelude.{◌≡◌};
 ghost use Rattle.ctf_model.specs.Record.{member_len as len_of_member};
-ghost use Rattle.ctf_model.specs.Spelling.{items, member_of};
+ghost use Rattle.ctf_model.specs.Spelling.{member_of};
 ghost use Rattle.ctf_sections.specs.StringsView.{tables};
-ghost use Rattle.ctf_views.specs.Lists.{AreGood};
 ghost use Rattle.ctf_views.specs.ItemsView.{member};
 
-use crate::rows::from_row;
+use crate::row::Row;
+use crate::rows::Rows;
 use ctf_model::TypeNum;
+use ctf_records::{WIDE_MEMBERS, member_len};
 use ctf_sections::Strings;
 use ctf_sections::bytes::{u16_at, u32_at};
-use std::iter::FusedIterator;
 use std::marker::Model;
 
 /// A member: its name, its type, and where it begins in its struct or union, in bits.
@@ -24,125 +21,53 @@ pub struct Member<'a> {
     pub offset: u64,
 }
 
-/// The members of a struct or union that are left.
-#[derive(Drop)]
-pub struct Members<'a> {
-    bytes: &'a [u8],
-    count: usize,
-    size: u64,
-    strings: Strings<'a>,
+/// Stands in contracts for a member of the definitions. No value of it is made.
+pub struct SpelledMember(());
+
+impl Model for SpelledMember {
+    ghost use Rattle.std.specs.Prelude.{[]};
+    ghost use Rattle.ctf_model.specs.Term.{Member as Spelled};
+
+    ghost Value = { Spelled };
+
+    ghost view = { λ _. record { name = []; tnum = 0; offset = 0 } };
 }
 
-impl<'a> Model for Members<'a> {
-    ghost use Rattle.std.specs.Prelude.{List};
-    ghost use Rattle.ctf_model.specs.Record.{member_len as len_of_member};
-    ghost use Rattle.ctf_model.specs.Spelling.{member_of};
-    ghost use Rattle.ctf_model.specs.Term.{Member as SpelledMember};
-    ghost use Rattle.ctf_sections.specs.StringsView.{tables};
-    ghost use Rattle.ctf_views.specs.Lists.{items_in, AreGood};
-
-    ghost Value = { List SpelledMember };
-
-    ghost view = { λ it. items_in (member_of it.size (tables it.strings)) (len_of_member it.size) it.count it.bytes.now };
-
-    ghost invariant = { λ it. AreGood (member_of it.size (tables it.strings)) (len_of_member it.size) it.count it.bytes.now };
+/// A member has the reference to its name, its type and its offset, which is wide where the size of
+/// its struct or union calls for that.
+#[derive(Clone, Copy)]
+pub struct MemberRow<'a> {
+    pub(crate) size: u64,
+    pub(crate) strings: Strings<'a>,
 }
 
-/// The length of each member of a struct or union of a size: it calls for the form with wide offsets
-/// from 8192 bytes on.
-fn member_len(size: u64) -> usize
-    ensures { result ≡ len_of_member size }
-{
-    if size < 8192 { 8 } else { 16 }
-}
-
-/// The member that begins some bytes.
-fn first_member<'a>(bytes: &[u8], size: u64, strings: Strings<'a>) -> Member<'a>
-    requires inside { len_of_member size ≤ length bytes.now }
-    requires named { IsSome (member_of size (tables strings) bytes.now) }
-    ensures { member_of size (tables strings.entry) bytes.now ≡ Some (member result) }
-{
-    Member {
-        name: strings.name(u32_at(bytes, 0)).unwrap(),
-        tnum: TypeNum(u16_at(bytes, 4)),
-        offset: if size < 8192 {
-            u16_at(bytes, 6) as u64
-        } else {
-            u32_at(bytes, 8) as u64 * 0x1_0000_0000 + u32_at(bytes, 12) as u64
-        },
-    }
-}
-
-impl<'a> Members<'a> {
-    pub(crate) fn new(bytes: &'a [u8], count: usize, size: u64, strings: Strings<'a>) -> Members<'a>
-        requires { AreGood (member_of size (tables strings)) (len_of_member size) count bytes.now }
-        ensures { items (member_of size (tables strings.entry)) (len_of_member size) count bytes.now ≡ Some result }
-    {
-        Members {
-            bytes,
-            count,
-            size,
-            strings,
-        }
-    }
-
-    /// The member with a number, from 0.
-    pub fn get(&self, index: usize) -> Option<Member<'a>>
-        ensures { option_map member result ≡ slice_get self.now index }
-    {
-        if index < self.count {
-            let row = from_row(self.bytes, member_len(self.size), index);
-            Some(first_member(row, self.size, self.strings))
-        } else {
-            None
-        }
-    }
-}
-
-impl<'a> Iterator for Members<'a> {
+impl<'a> Row for MemberRow<'a> {
     type Item = Member<'a>;
 
-    ghost next_gives = { YieldsFirstBy member (λ rest. rest) };
+    type Shown = SpelledMember;
 
-    ghost remaining = { item_count (λ rest. rest) };
+    ghost row_len = { λ row. len_of_member row.size };
 
-    fn next(&mut self) -> Option<Member<'a>> {
-        if self.count == 0 {
-            return None;
-        }
-        let first = first_member(self.bytes, self.size, self.strings);
-        self.bytes = from_row(self.bytes, member_len(self.size), 1);
-        self.count -= 1;
-        Some(first)
-    }
+    ghost item_of = { λ row. member_of row.size (tables row.strings) };
 
-    fn size_hint(&self) -> (usize, Option<usize>)
-        ensures lower { IsWithinCount result.0 (at_most (length self.now)) }
-        ensures upper { IfSome result.1 (UpTo (at_most (length self.now))) }
-        ensures exact { result ≡ (length self.now, Some (length self.now)) }
-    {
-        let len = self.len();
-        (len, Some(len))
-    }
-}
+    ghost seen = { member };
 
-impl<'a> DoubleEndedIterator for Members<'a> {
-    ghost next_back_gives = { YieldsLastBy member (λ rest. rest) };
-
-    fn next_back(&mut self) -> Option<Member<'a>> {
-        if self.count == 0 {
-            return None;
-        }
-        self.count -= 1;
-        let row = from_row(self.bytes, member_len(self.size), self.count);
-        Some(first_member(row, self.size, self.strings))
-    }
-}
-
-impl<'a> ExactSizeIterator for Members<'a> {
     fn len(&self) -> usize {
-        self.count
+        member_len(self.size)
+    }
+
+    fn first(&self, bytes: &[u8]) -> Member<'a> {
+        Member {
+            name: self.strings.name(u32_at(bytes, 0)).unwrap(),
+            tnum: TypeNum(u16_at(bytes, 4)),
+            offset: if self.size < WIDE_MEMBERS {
+                u16_at(bytes, 6) as u64
+            } else {
+                u32_at(bytes, 8) as u64 * 0x1_0000_0000 + u32_at(bytes, 12) as u64
+            },
+        }
     }
 }
 
-impl<'a> FusedIterator for Members<'a> {}
+/// The members of a struct or union that are left.
+pub type Members<'a> = Rows<'a, MemberRow<'a>>;

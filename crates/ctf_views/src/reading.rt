@@ -7,10 +7,11 @@ ghost use Rattle.ctf_records.specs.RecordView.{bytes_of};
 ghost use Rattle.ctf_model.specs.Shown.{shown};
 ghost use Rattle.ctf_views.specs.VariantView.{seen};
 
-use crate::args::Args;
-use crate::enumerators::Enumerators;
-use crate::members::Members;
+use crate::args::arguments;
+use crate::enumerators::EnumeratorRow;
+use crate::members::MemberRow;
 use crate::parts::{ArrayInfo, Encoding};
+use crate::rows::Rows;
 use crate::shown::Variant;
 use ctf_model::Kind;
 use ctf_records::Record;
@@ -26,10 +27,10 @@ pub fn variant<'a>(record: &Record<'a>, strings: Strings<'a>) -> Variant<'a>
     match record.kind() {
         Kind::KStruct | Kind::KUnion => {
             let size = record.size().unwrap();
-            Variant::Members(Members::new(rest, count, size, strings))
+            Variant::Members(Rows::new(rest, count, MemberRow { size, strings }))
         }
-        Kind::KEnum => Variant::Enumerators(Enumerators::new(rest, count, strings)),
-        Kind::KFunction => Variant::Args(Args::new(rest, count)),
+        Kind::KEnum => Variant::Enumerators(Rows::new(rest, count, EnumeratorRow { strings })),
+        Kind::KFunction => Variant::Args(arguments(rest, count)),
         Kind::KArray => Variant::Array(ArrayInfo::read(rest)),
         Kind::KInteger | Kind::KFloat => Variant::Encoding(Encoding::read(rest)),
         Kind::KForward => Variant::Tag(record.tag().unwrap()),

@@ -1,10 +1,107 @@
-//! Rows of equal length, one after the other in bytes.
-ghost use Rattle.std.specs.Prelude.{◌≡◌, ◌*◌, ◌≤◌, length, drop};
+//! Lists of items that stand one after the other in bytes, each in a row of one length.
+ghost use Rattle.std.specs.Prelude.{◌≡◌, ◌*◌, ◌≤◌, length, drop, IfSome, Some, slice_get};
+ghost use Rattle.std.specs.Option.{option_map};
+ghost use Rattle.std.specs.Iterator.{YieldsFirstBy, YieldsLastBy, item_count, UpTo, at_most};
+ghost use Rattle.std.specs.Iterator.SizeHint.{IsWithinCount};
+ghost use Rattle.ctf_model.specs.Spelling.{items};
+ghost use Rattle.ctf_views.specs.Lists.{AreGood};
+
+use crate::row::Row;
+use std::iter::FusedIterator;
+use std::marker::Model;
+
+/// The items of a list that are left.
+#[derive(Drop)]
+pub struct Rows<'a, R: Row> {
+    bytes: &'a [u8],
+    count: usize,
+    row: R,
+}
+
+impl<'a, R: Row> Model for Rows<'a, R> {
+    ghost use Rattle.std.specs.Prelude.{List};
+    ghost use Rattle.ctf_views.specs.Lists.{items_in, AreGood};
+
+    ghost Value = { List R.Shown };
+
+    ghost view = { λ it. items_in (R.item_of it.row) (R.row_len it.row) it.count it.bytes.now };
+
+    ghost invariant = { λ it. AreGood (R.item_of it.row) (R.row_len it.row) it.count it.bytes.now };
+}
 
 /// The bytes from a row on, counted from 0.
-pub(crate) fn from_row(bytes: &[u8], len: usize, row: usize) -> &[u8]
+fn from_row(bytes: &[u8], len: usize, row: usize) -> &[u8]
     requires { len * row ≤ length bytes.now }
     ensures { result.now ≡ drop (len * row) bytes.now }
 {
     &bytes[len * row..]
 }
+
+impl<'a, R: Row> Rows<'a, R> {
+    pub(crate) fn new(bytes: &'a [u8], count: usize, row: R) -> Rows<'a, R>
+        requires { AreGood (R.item_of row) (R.row_len row) count bytes.now }
+        ensures { items (R.item_of row) (R.row_len row) count bytes.now ≡ Some result }
+    {
+        Rows { bytes, count, row }
+    }
+
+    /// The item with a number, from 0.
+    pub fn get(&self, index: usize) -> Option<R::Item>
+        ensures { option_map R.seen result ≡ slice_get self.now index }
+    {
+        if index < self.count {
+            let row = from_row(self.bytes, self.row.len(), index);
+            Some(self.row.first(row))
+        } else {
+            None
+        }
+    }
+}
+
+impl<'a, R: Row> Iterator for Rows<'a, R> {
+    type Item = R::Item;
+
+    ghost next_gives = { YieldsFirstBy R.seen (λ rest. rest) };
+
+    ghost remaining = { item_count (λ rest. rest) };
+
+    fn next(&mut self) -> Option<R::Item> {
+        if self.count == 0 {
+            return None;
+        }
+        let first = self.row.first(self.bytes);
+        self.bytes = from_row(self.bytes, self.row.len(), 1);
+        self.count -= 1;
+        Some(first)
+    }
+
+    fn size_hint(&self) -> (usize, Option<usize>)
+        ensures lower { IsWithinCount result.0 (at_most (length self.now)) }
+        ensures upper { IfSome result.1 (UpTo (at_most (length self.now))) }
+        ensures exact { result ≡ (length self.now, Some (length self.now)) }
+    {
+        let len = self.len();
+        (len, Some(len))
+    }
+}
+
+impl<'a, R: Row> DoubleEndedIterator for Rows<'a, R> {
+    ghost next_back_gives = { YieldsLastBy R.seen (λ rest. rest) };
+
+    fn next_back(&mut self) -> Option<R::Item> {
+        if self.count == 0 {
+            return None;
+        }
+        self.count -= 1;
+        let row = from_row(self.bytes, self.row.len(), self.count);
+        Some(self.row.first(row))
+    }
+}
+
+impl<'a, R: Row> ExactSizeIterator for Rows<'a, R> {
+    fn len(&self) -> usize {
+        self.count
+    }
+}
+
+impl<'a, R: Row> FusedIterator for Rows<'a, R> {}

@@ -4,12 +4,12 @@ use Rattle.ctf_model.specs.Chains.{longest_chain}
 use Rattle.ctf_model.specs.Section.{records}
 use Rattle.ctf_chains.specs.Deep.{IsLeastDeep, IsLeastDeepType}
 use Rattle.ctf_chains.specs.Numbers.{section_places}
-use Rattle.ctf_chains.specs.Places.{capped, full_work, steps_between}
+use Rattle.ctf_chains.specs.Places.{full_work, steps_between}
 use Rattle.ctf_chains.proofs.Edges.{steps_are, work_is}
 use Rattle.ctf_chains.proofs.first.first_deep_counted.Goals as goal
 
 pub returns-clause-least : goal.returns-clause-least
-returns-clause-least c =
+returns-clause-least g c =
     let rs = records c.args.types.now in
     let P : Option ℕ → Type 0 = IsLeastDeep (steps_between (section_places c.args.chain c.args.child rs)) longest_chain in
     let Q : Option ℕ → Type 0 = IsLeastDeepType c.args.chain c.args.child rs in
@@ -18,11 +18,11 @@ returns-clause-least c =
     c.first_deep.ensures.least
 
 pub returns-clause-work : goal.returns-clause-work
-returns-clause-work c = λ t spelled.
+returns-clause-work g c = λ t spelled.
     let bound : c.first_deep.new.work ≤ c.args.work.now + full_work (section_places c.args.chain c.args.child (records c.args.types.now)) = c.first_deep.ensures.work in
     omega (arith, work_is c.args.chain c.args.child t (records c.args.types.now) c.requires.whole spelled)
 
 pub returns-clause-once : goal.returns-clause-once
-returns-clause-once c = λ none t spelled.
-    let exact : capped c.first_deep.new.work ≡ capped (c.args.work.now + full_work (section_places c.args.chain c.args.child (records c.args.types.now))) = c.first_deep.ensures.once none in
+returns-clause-once g c = λ none t spelled.
+    let exact : c.first_deep.new.work ≡ c.args.work.now + full_work (section_places c.args.chain c.args.child (records c.args.types.now)) = c.first_deep.ensures.once none in
     omega (arith, work_is c.args.chain c.args.child t (records c.args.types.now) c.requires.whole spelled)

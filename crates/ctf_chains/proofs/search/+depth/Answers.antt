@@ -1,23 +1,25 @@
-use Rattle.std.proofs.Common.{◌≡◌, ℕ, ◌+◌, ◌-◌, ◌≤◌, length, take, slice_index_or, slice_set, ◌++◌, ◌∷◌, [], refl, rules, arith}
+use Rattle.std.proofs.Common.{◌≡◌, ℕ, ◌+◌, ◌-◌, ◌≤◌, length, take, slice_index_or, slice_set, ◌++◌, ◌∷◌, [], refl, ap, rules, arith}
 use Rattle.std.proofs.lemmas.Grind.{get_or-set_at}
 use Rattle.std.proofs.Math.ListN.{length-set}
 use Rattle.ctf_chains.specs.Places.{places_at, led_to, steps_between}
 use Rattle.ctf_chains.specs.Search.{IsDepth, busy, work_left}
 use Rattle.ctf_chains.proofs.Depths.{none_yet, one_more, led_more, led_same, is_depth, deep_target}
-use Rattle.ctf_chains.proofs.Visits.{knows_more, cycle_is_deep, on_way_more, none_more, begun, ended}
+use Rattle.ctf_chains.proofs.Visits.{knows_more, busy_is, cycle_is_deep, on_way_more, none_more, begun, ended}
 use Rattle.ctf_chains.proofs.WorkLeft.{work_opened, work_closed}
 use Rattle.ctf_chains.proofs.search.+depth.Goals as goal
 use Rattle.ctf_chains.proofs.search.+depth.Goals.{in-Some+else-budget-eq0+in-Some-depth, in_default}
 
-pub returns-then-before-clause-answer : goal.returns-then-before-clause-answer
-returns-then-before-clause-answer g t c =
-    cycle_is_deep (steps_between (g.G.Graph.places c.args.graph.now)) c.args.known.now c.args.i c.args.budget c.requires.on_way (search rules)
+pub returns-in-Busy-clause-answer : goal.returns-in-Busy-clause-answer
+returns-in-Busy-clause-answer g t c =
+    cycle_is_deep (steps_between (g.G.Graph.places c.args.graph.now)) c.args.known.now c.args.i c.args.budget c.requires.on_way (busy_is (slice_index_or c.args.known.now c.args.i 0) (search rules))
 
 pub loop-k-init : goal.loop-k-init
 loop-k-init g t c =
     let opened : work_left (g.G.Graph.places c.args.graph.now) (slice_set c.args.known.now c.args.i busy) + (1 + length (places_at (g.G.Graph.places c.args.graph.now) c.args.i)) ≡ work_left (g.G.Graph.places c.args.graph.now) c.args.known.now =
     work_opened (g.G.Graph.places c.args.graph.now) c.args.known.now c.args.i (omega arith) (omega arith) (search rules) in
     record {
+      opened = c.open-opened.ensures.opened;
+      count = ap length c.open-opened.ensures.opened;
       longest = none_yet (steps_between (g.G.Graph.places c.args.graph.now));
       affordable = omega arith;
       knows = knows_more (steps_between (g.G.Graph.places c.args.graph.now)) c.args.known.now c.args.i busy (omega arith) c.requires.knows (λ low high. absurd (omega arith));
@@ -33,7 +35,7 @@ returns-then-budget-eq0-clause-answer g t c =
 
 pub depth-requires : goal.depth-requires
 depth-requires g t c κs within =
-    (omega arith, (within, (omega (arith, length-set {A = ℕ}), (c.in-Some.ensures.inside, (omega arith, (c.loop-k.invariant.knows, on_way_more (g.G.Graph.places c.args.graph.now) c.args.known.now c.loop-k.known c.args.i c.loop-k.k c.in-Some.j (search rules) (search rules) c.requires.on_way c.loop-k.invariant.busy_as_before))))))
+    (omega arith, (within.0, (within.1.0, (within.1.1, (omega (arith, length-set {A = ℕ}), (c.in-Some.ensures.inside, (omega arith, (c.loop-k.invariant.knows, on_way_more (g.G.Graph.places c.args.graph.now) c.args.known.now c.loop-k.known c.args.i c.loop-k.k c.in-Some.j (search rules) (search rules) c.requires.on_way c.loop-k.invariant.busy_as_before))))))))
 
 pub returns-in_default-depth-clause-answer : goal.returns-in_default-depth-clause-answer
 returns-in_default-depth-clause-answer g t c =
@@ -49,6 +51,8 @@ loop-k-preserved g t c =
           let seen : led_to (take (c.loop-k.k + 1) ps) ≡ led_to (take c.loop-k.k ps) ++ (w.in-Some.j ∷ []) =
           led_more ps c.loop-k.k w.in-Some.j (search rules) (search rules) in
           record {
+            opened = c.loop-k.invariant.opened;
+            count = c.loop-k.invariant.count;
             longest = rw (seen, w.longest-is) (one_more es (led_to (take c.loop-k.k ps)) w.in-Some.j w.in-Some-depth.below c.loop-k.longest w.longer-longest.result
                 c.loop-k.invariant.longest w.in-Some-depth.ensures.answer.depth w.longer-longest.ensures.both.0 w.longer-longest.ensures.both.1 w.longer-longest.ensures.one);
             affordable = omega (arith, w.in-Some-depth.ensures.answer.affordable, w.longer-longest.ensures.one);
@@ -61,6 +65,8 @@ loop-k-preserved g t c =
           let seen : led_to (take (c.loop-k.k + 1) ps) ≡ led_to (take c.loop-k.k ps) =
           led_same ps c.loop-k.k (search rules) (search rules) in
           record {
+            opened = c.loop-k.invariant.opened;
+            count = c.loop-k.invariant.count;
             longest = rw (seen, w.longest-is) c.loop-k.invariant.longest;
             affordable = rw w.longest-is c.loop-k.invariant.affordable;
             knows = rw w.known-is c.loop-k.invariant.knows;

@@ -1,5 +1,5 @@
 use Rattle.std.proofs.Common.{◌≡◌, ◌≤◌, ◌-◌, ◌+◌, length, take}
-use Rattle.ctf_chains.specs.Places.{capped, places_at, led_to, steps_between}
+use Rattle.ctf_chains.specs.Places.{places_at, led_to, steps_between}
 use Rattle.ctf_chains.specs.Search.{IsLongest, Knows, GoesOn, work_left}
 use Rattle.ctf_chains.proofs.search.+depth.Given as goal
 
@@ -8,10 +8,12 @@ decreases-depth g l = l.budget
 
 abbrev pub invariant-loop-k : goal.invariant-loop-k
 invariant-loop-k g l = record {
+  opened : g.G.Graph.places_of l.graph l.opened ≡ places_at (g.G.Graph.places l.graph) l.i;
+  count : length (g.G.Graph.places_of l.graph l.opened) ≡ length (places_at (g.G.Graph.places l.graph) l.i);
   longest : IsLongest (steps_between (g.G.Graph.places l.graph)) (led_to (take l.k (places_at (g.G.Graph.places l.graph) l.i))) l.longest;
   affordable : l.longest ≤ l.budget;
   knows : Knows (steps_between (g.G.Graph.places l.graph)) l.known;
   busy_as_before : GoesOn l.initial.known l.known;
-  once : capped (l.work + (length (places_at (g.G.Graph.places l.graph) l.i) - l.k) + work_left (g.G.Graph.places l.graph) l.known) ≡ capped (l.fn.work + work_left (g.G.Graph.places l.graph) l.fn.known);
+  once : l.work + (length (places_at (g.G.Graph.places l.graph) l.i) - l.k) + work_left (g.G.Graph.places l.graph) l.known ≡ l.fn.work + work_left (g.G.Graph.places l.graph) l.fn.known;
   work : l.work + (length (places_at (g.G.Graph.places l.graph) l.i) - l.k) + work_left (g.G.Graph.places l.graph) l.known ≤ l.fn.work + work_left (g.G.Graph.places l.graph) l.fn.known;
 }

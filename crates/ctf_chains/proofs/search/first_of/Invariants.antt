@@ -1,6 +1,6 @@
 use Rattle.std.proofs.Common.{◌≡◌, ℕ, ◌≤◌, ◌<◌, ◌+◌, slice_index_or}
 use Rattle.ctf_chains.specs.Deep.{AreWithinBefore}
-use Rattle.ctf_chains.specs.Places.{capped, full_work, steps_between}
+use Rattle.ctf_chains.specs.Places.{full_work, steps_between}
 use Rattle.ctf_chains.specs.Search.{Knows, busy, work_left}
 use Rattle.ctf_chains.proofs.search.first_of.Given as goal
 
@@ -10,6 +10,6 @@ invariant-loop-i g l = record {
   knows : Knows (steps_between (g.G.Graph.places l.graph)) l.known;
   none_busy : (j : ℕ) → slice_index_or l.known j 0 ≡ busy → ⊥;
   entered : (j : ℕ) → j < l.i → 1 ≤ slice_index_or l.known j 0;
-  once : capped (l.work + work_left (g.G.Graph.places l.graph) l.known) ≡ capped (l.fn.work + full_work (g.G.Graph.places l.graph));
+  once : l.work + work_left (g.G.Graph.places l.graph) l.known ≡ l.fn.work + full_work (g.G.Graph.places l.graph);
   work : l.work + work_left (g.G.Graph.places l.graph) l.known ≤ l.fn.work + full_work (g.G.Graph.places l.graph);
 }

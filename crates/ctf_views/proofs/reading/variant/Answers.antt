@@ -27,7 +27,7 @@ pub returns-in-KEnum : goal.returns-in-KEnum
 returns-in-KEnum c = enumerators_seen (tables c.args.strings) (bytes_of c.args.record.now) _ _ _ (c.kind.ensures ∙ ap Some c.in-KEnum.is) c.requires c.rest-rest.ensures.bytes c.vlen-count.ensures.number c.new-in-KEnum.ensures
 
 pub returns-in-KFunction : goal.returns-in-KFunction
-returns-in-KFunction c = arguments_seen (tables c.args.strings) (bytes_of c.args.record.now) _ _ _ (c.kind.ensures ∙ ap Some c.in-KFunction.is) c.requires c.rest-rest.ensures.bytes c.vlen-count.ensures.number c.new-in-KFunction.ensures
+returns-in-KFunction c = arguments_seen (tables c.args.strings) (bytes_of c.args.record.now) _ _ _ (c.kind.ensures ∙ ap Some c.in-KFunction.is) c.requires c.rest-rest.ensures.bytes c.vlen-count.ensures.number c.arguments.ensures
 
 pub returns-in-KArray : goal.returns-in-KArray
 returns-in-KArray c = array_seen (tables c.args.strings) (bytes_of c.args.record.now) _ _ (c.kind.ensures ∙ ap Some c.in-KArray.is) c.requires c.rest-rest.ensures.bytes c.read.ensures

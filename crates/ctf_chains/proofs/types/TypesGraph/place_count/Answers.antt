@@ -1,15 +1,12 @@
-use Rattle.std.proofs.Common.{sym, ◌∙◌, arith}
+use Rattle.std.proofs.Common.{length, sym, ◌∙◌}
+use Rattle.std.proofs.lemmas.List.{length-map}
+use Rattle.ctf_model.specs.Chains.{own_index}
 use Rattle.ctf_model.specs.Section.{records}
-use Rattle.ctf_records.specs.RecordView.{piece}
-use Rattle.ctf_chains.proofs.Edges.{places_count, place_count_is}
+use Rattle.ctf_records.specs.RecordView.{bytes_of}
+use Rattle.ctf_chains.specs.Numbers.{numbers}
 use Rattle.ctf_chains.proofs.types.TypesGraph.place_count.Goals as goal
 
-pub record-requires-clause-inside : goal.record-requires-clause-inside
-record-requires-clause-inside c =
-    let g = c.args.self.now in
-    omega (arith, places_count g.chain g.child (records g.bytes.now) g.starts.now g.whole g.begin)
-
 pub returns : goal.returns
-returns c =
+returns l c =
     let g = c.args.self.now in
-    c.place_count.ensures ∙ sym (place_count_is g.chain g.child (records g.bytes.now) c.args.i (piece c.record.result) c.record.ensures)
+    c.place_count.ensures ∙ sym (length-map (numbers g.chain (bytes_of c.args.opened)) (own_index g.child (length (records g.bytes.now))))

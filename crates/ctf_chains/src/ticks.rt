@@ -1,0 +1,57 @@
+//! A count of work that nothing but a tick changes.
+ghost use Rattle.std.specs.Prelude.{◌≡◌, ◌+◌, ◌<◌};
+ghost use Rattle.ctf_chains.specs.Places.{capped};
+
+use std::marker::Model;
+use std::sync::ledger::{Blank, Book, Ledger, Share};
+
+/// How many ticks there were in a ledger. Whoever is handed one can neither set it back nor make a
+/// second one of the same ledger.
+#[derive(Drop)]
+pub struct Ticks<L: Ledger> {
+    count: u64,
+    book: Book<L>,
+    share: Share<L>,
+}
+
+impl<L: Ledger> Model for Ticks<L> {
+    ghost use Rattle.std.specs.Prelude.{ℕ, ◌≡◌, ◌<◌};
+    ghost use Rattle.ctf_chains.specs.Places.{capped};
+
+    ghost Value = { ℕ };
+
+    ghost view = { λ t. t.book.total };
+
+    ghost invariant = { λ t. (0 < t.share.parts) × (t.count ≡ capped t.book.total) };
+}
+
+impl<L: Ledger> Ticks<L> {
+    /// None yet, in a ledger that no type stands for before.
+    pub fn new(blank: Blank) -> Ticks<L>
+        requires name { blank.name ≡ L.name }
+        requires parts { blank.parts ≡ L.parts }
+        requires some { 0 < blank.parts }
+        ensures { result ≡ 0 }
+    {
+        let (book, share) = blank.open::<L>();
+        Ticks {
+            count: 0,
+            book,
+            share,
+        }
+    }
+
+    pub fn tick(&mut self)
+        ensures { self.new ≡ self.old + 1 }
+    {
+        self.book.add(&mut self.share, 1);
+        self.count = self.count.saturating_add(1);
+    }
+
+    /// The number, as far as 64 bits go.
+    pub fn count(&self) -> u64
+        ensures { result ≡ capped self.now }
+    {
+        self.count
+    }
+}

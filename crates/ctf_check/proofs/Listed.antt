@@ -1,0 +1,20 @@
+-- The types that a record lists, one after the other.
+use Rattle.std.proofs.Common.{◌≡◌, ℕ, ◌+◌, ◌<◌, ◌≤◌, max, Bool, false, List, length, drop, ap}
+use Rattle.std.specs.Prelude.{slice_index, ◌||◌}
+use Rattle.std.specs.List.{list_any}
+use Rattle.std.proofs.lemmas.List.{drop_more, drop_all}
+use Rattle.ctf_model.specs.Needs.{greatest_in_parent, number_in_parent}
+
+pub any_next : (p : ℕ → Bool) (ns : List ℕ) (i n : ℕ) → i < length ns → n ≡ slice_index ns i → list_any p (drop i ns) ≡ (p n || list_any p (drop (i + 1) ns))
+any_next p ns i n lt e = rw e (ap (list_any p) (drop_more ns i 0 lt))
+
+pub any_end : (p : ℕ → Bool) (ns : List ℕ) (i : ℕ) → length ns ≤ i → list_any p (drop i ns) ≡ false
+any_end p ns i le = ap (list_any p) (drop_all i ns le)
+
+pub greatest_next : (ns : List ℕ) (i n : ℕ) → i < length ns → n ≡ slice_index ns i → greatest_in_parent (drop i ns) ≡ max (number_in_parent n) (greatest_in_parent (drop (i + 1) ns))
+unfolding greatest_in_parent
+greatest_next ns i n lt e = rw e (ap greatest_in_parent (drop_more ns i 0 lt))
+
+pub greatest_end : (ns : List ℕ) (i : ℕ) → length ns ≤ i → greatest_in_parent (drop i ns) ≡ 0
+unfolding greatest_in_parent
+greatest_end ns i le = ap greatest_in_parent (drop_all i ns le)
