@@ -12,42 +12,27 @@ ghost use Rattle.ctf_records.specs.RecordView.{tag_of};
 ghost use Rattle.ctf_views.specs.VariantView.{seen};
 ghost use Rattle.ctf_library.specs.FactsView.{facts_seen};
 ghost use Rattle.ctf_library.specs.OwnRecord.{type_found};
-ghost use Rattle.ctf_library.specs.TypeIndex.{own_index};
 
 use crate::facts::facts_of;
 use crate::types::Facts;
 use ctf_answers::{Answer, Items, Listed, Single, kind_name, tag_name};
 use ctf_check::Checked;
-use ctf_model::{Fault, TypeNum, TypeQuestion, Window, placeless};
+use ctf_model::{Fault, Place, TypeNum, TypeQuestion, Window, placeless};
 use ctf_records::{Record, Tag};
 use ctf_views::{Args, Variant};
-
-/// The index of an own type, from 1 on, which may be past the last.
-fn index_of(child: bool, number: u16) -> Result<usize, Fault>
-    ensures { result ≡ own_index child number }
-{
-    if !child {
-        Ok(number as usize)
-    } else if number > 0x8000 {
-        Ok(number as usize - 0x8000)
-    } else if number == 0 || number == 0x8000 {
-        Err(placeless(Fault::NO_TYPE))
-    } else {
-        Err(placeless(Fault::NO_PARENT))
-    }
-}
 
 /// The record of a type of a dictionary without a parent.
 fn own_record<'a>(dictionary: &Checked<'a>, t: TypeNum) -> Result<Record<'a>, Fault>
     ensures says { type_found dictionary.now result ≡ type_at (dictionary_of dictionary.now) None t.0 }
     ensures own { IfOk result (λ r. IsOwn dictionary.now r) }
 {
-    match index_of(dictionary.child(), t.0) {
-        Ok(index) => match dictionary.term(index) {
+    match t.place(dictionary.child()) {
+        Place::Own(i) => match dictionary.term(i + 1) {
             Some(record) => Ok(record),
             None => Err(placeless(Fault::NO_TYPE)),
         },
-        Err(fault) => Err(fault),
+        Place::Parents(_) => Err(placeless(Fault::NO_PARENT)),
+        Place::Nowhere => Err(placeless(Fault::NO_TYPE)),
     }
 }
 
