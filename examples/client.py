@@ -7,6 +7,7 @@ width). The status is 1 where ctfd refuses something or no type has the name.
 """
 import argparse
 import json
+import signal
 import subprocess
 import sys
 
@@ -95,6 +96,7 @@ def main():
     parser.add_argument("name", nargs="?", help="the name of a struct or union")
     parser.add_argument("--strings", metavar="FILE", help="the strings of the program's symbol table")
     words = parser.parse_args()
+    signal.signal(signal.SIGPIPE, signal.SIG_DFL)  # so that a reader such as head may leave
     client = Client(words.program)
     try:
         client.hand_in("ctf", words.ctf)

@@ -55,6 +55,9 @@ ends /dev/null --version;       expect "version" 0 '^ctfd [0-9]*\.[0-9]*\.[0-9]*
 ends /dev/null -V;              expect "version, by its letter" 0 '^ctfd [0-9]*\.[0-9]*\.[0-9]*$' ''
 fills /dev/null --help;         expect "help, and a full output" 3 '' '^ctfd: Write$'
 fills /dev/null --version;      expect "version, and a full output" 3 '' '^ctfd: Write$'
+: > "$work/err"
+"$program" bad < /dev/null > "$work/out" 2> /dev/full
+status=$?;                      expect "usage, and a full standard error" 3 '' ''
 ends /dev/null serve;           expect "no lines" 0 '' ''
 ends "$first" serve;            expect "the first run" 0 '^{"ok":{"kind":"integer"},"s":7}$' ''
 fills /dev/null serve;          expect "no lines, and a full output" 0 '' ''
