@@ -1,3 +1,4 @@
 pub mod SlotView
 pub mod OwnRecord
 pub mod FactsView
+pub mod Stepping

@@ -23,7 +23,8 @@ use ctf_views::{Args, Variant};
 
 /// The record of a type of a dictionary without a parent.
 fn own_record<'a>(dictionary: &Checked<'a>, t: TypeNum) -> Result<Record<'a>, Fault>
-    ensures says { type_found dictionary.now result ≡ type_at (dictionary_of dictionary.now) None t.0 }
+    ensures says { type_found dictionary.now result
+        ≡ type_at (dictionary_of dictionary.now) None t.0 }
     ensures own { IfOk result (λ r. IsOwn dictionary.now r) }
 {
     match t.place(dictionary.child()) {
@@ -47,7 +48,8 @@ fn listed<'a>(key: &'static str, items: Items<'a>, window: Window) -> Answer<'a>
 }
 
 fn members<'a>(behind: Variant<'a>, window: Window) -> Result<Answer<'a>, Fault>
-    ensures { result ≡ or_wrong_kind (option_map (member_fields window) (members_in (seen behind.entry))) }
+    ensures { result
+        ≡ or_wrong_kind (option_map (member_fields window) (members_in (seen behind.entry))) }
 {
     match behind {
         Variant::Members(members) => Ok(listed("members", Items::Members(members), window)),
@@ -56,7 +58,8 @@ fn members<'a>(behind: Variant<'a>, window: Window) -> Result<Answer<'a>, Fault>
 }
 
 fn enumerators<'a>(behind: Variant<'a>, window: Window) -> Result<Answer<'a>, Fault>
-    ensures { result ≡ or_wrong_kind (option_map (enumerator_fields window) (enumerators_in (seen behind.entry))) }
+    ensures { result
+        ≡ or_wrong_kind (option_map (enumerator_fields window) (enumerators_in (seen behind.entry))) }
 {
     match behind {
         Variant::Enumerators(enumerators) => {
@@ -83,7 +86,8 @@ fn is_variadic(args: &Args<'_>) -> bool
 /// How many arguments are named: all but a last 0.
 #[tactic(auto, using(crate::proofs::SaidOfFacts::take_numbers))]
 fn named_count(args: &Args<'_>) -> usize
-    ensures named { take result (map number_item args.now) ≡ map number_item (named_arguments args.now) }
+    ensures named { take result (map number_item args.now)
+        ≡ map number_item (named_arguments args.now) }
     ensures inside { result ≤ length args.now }
 {
     if is_variadic(args) {
@@ -94,16 +98,19 @@ fn named_count(args: &Args<'_>) -> usize
 }
 
 fn arguments<'a>(behind: Variant<'a>, returned: Option<TypeNum>) -> Result<Answer<'a>, Fault>
-    ensures { result ≡ or_wrong_kind (option_and_then (λ ret. option_map (argument_fields ret) (arguments_in (seen behind.entry))) (option_map (λ t. t.0) returned)) }
+    ensures { let args = arguments_in (seen behind.entry) in result ≡ or_wrong_kind
+        (option_and_then (λ ret. option_map (argument_fields ret) args) (option_map (λ t. t.0) returned)) }
 {
     match (behind, returned) {
         (Variant::Args(args), Some(ret)) => {
             let varargs = is_variadic(&args);
             let count = named_count(&args);
-            Ok(Answer::done()
-                .with_list("args", Listed::front(Items::Arguments(args), count))
-                .with("return", Single::Number(u64::from(ret.0)))
-                .with("varargs", Single::Truth(varargs)))
+            Ok(
+                Answer::done()
+                    .with_list("args", Listed::front(Items::Arguments(args), count))
+                    .with("return", Single::Number(u64::from(ret.0)))
+                    .with("varargs", Single::Truth(varargs)),
+            )
         }
         _ => Err(placeless(Fault::WRONG_KIND)),
     }
@@ -128,7 +135,8 @@ fn a_type<'a>(t: Option<TypeNum>) -> Option<Single<'a>>
 }
 
 fn a_tag<'a>(tag: Option<Tag>) -> Option<Single<'a>>
-    ensures { option_map single_of result ≡ option_map (λ tag. word (name_of_tag tag)) (option_map tag_of tag) }
+    ensures { option_map single_of result
+        ≡ option_map (λ tag. word (name_of_tag tag)) (option_map tag_of tag) }
 {
     match tag {
         Some(tag) => Some(Single::Word(tag_name(tag))),
@@ -161,22 +169,27 @@ fn array<'a>(behind: Variant<'a>) -> Result<Answer<'a>, Fault>
     ensures { result ≡ or_wrong_kind (option_map array_fields (array_in (seen behind.entry))) }
 {
     match behind {
-        Variant::Array(info) => Ok(Answer::done()
-            .with("contents", Single::Number(u64::from(info.contents.0)))
-            .with("count", Single::Number(u64::from(info.count)))
-            .with("index", Single::Number(u64::from(info.index.0)))),
+        Variant::Array(info) => Ok(
+            Answer::done()
+                .with("contents", Single::Number(u64::from(info.contents.0)))
+                .with("count", Single::Number(u64::from(info.count)))
+                .with("index", Single::Number(u64::from(info.index.0))),
+        ),
         _ => Err(placeless(Fault::WRONG_KIND)),
     }
 }
 
 fn encoding<'a>(behind: Variant<'a>) -> Result<Answer<'a>, Fault>
-    ensures { result ≡ or_wrong_kind (option_map encoding_fields (encoding_in (seen behind.entry))) }
+    ensures { result
+        ≡ or_wrong_kind (option_map encoding_fields (encoding_in (seen behind.entry))) }
 {
     match behind {
-        Variant::Encoding(info) => Ok(Answer::done()
-            .with("bits", Single::Number(u64::from(info.bits)))
-            .with("encoding", Single::Number(u64::from(info.encoding)))
-            .with("offset", Single::Number(u64::from(info.offset)))),
+        Variant::Encoding(info) => Ok(
+            Answer::done()
+                .with("bits", Single::Number(u64::from(info.bits)))
+                .with("encoding", Single::Number(u64::from(info.encoding)))
+                .with("offset", Single::Number(u64::from(info.offset))),
+        ),
         _ => Err(placeless(Fault::WRONG_KIND)),
     }
 }

@@ -6,9 +6,10 @@ ghost use Rattle.ctf_model.specs.OwnedLists.{lists_owned};
 ghost use Rattle.ctf_model.specs.Refusals.{placeless, want_of_memory};
 ghost use Rattle.ctf_model.specs.Runs.{Answered};
 ghost use Rattle.ctf_model.specs.State.{empty_state, empty_stage};
-ghost use Rattle.ctf_model.specs.Steps.{change_step, adds_slot, has_room, answer_to, is_quiet, MayAnswer, slot_at, longest_list};
+ghost use Rattle.ctf_model.specs.Steps.{adds_slot, has_room, answer_to, is_quiet, MayAnswer, slot_at, longest_list};
 ghost use Rattle.ctf_answers.specs.Replies.{said};
 ghost use Rattle.ctf_library.specs.SlotView.{slot_of};
+ghost use Rattle.ctf_library.specs.Stepping.{Makes};
 ghost use Rattle.ctf_model.specs.declared.faults.TheConstants.Fault.{STAGE_FULL};
 
 use crate::slots::{Slot, lent};
@@ -42,7 +43,12 @@ impl Model for Library {
 
     ghost Value = { State };
 
-    ghost view = { λ l. record { slots = map slot_of l.slots.items; next = l.next; stage = lists_owned l.stage; published = [] } };
+    ghost view = { λ l. record {
+      slots = map slot_of l.slots.items;
+      next = l.next;
+      stage = lists_owned l.stage;
+      published = [];
+    } };
 
     ghost invariant = { λ l. (l.next ≤ 2 ^ 32) × (l.stage.sym ≡ None) };
 }
@@ -65,11 +71,7 @@ fn add_piece(list: &mut Bytes, piece: &[u8]) -> Result<u64, Fault>
 }
 
 /// The same for a list that may not be there yet: it is from then on.
-fn add_first_piece(
-    alloc: Global,
-    list: &mut Option<Bytes>,
-    piece: &[u8],
-) -> Result<u64, Fault>
+fn add_first_piece(alloc: Global, list: &mut Option<Bytes>, piece: &[u8]) -> Result<u64, Fault>
     ensures ok { IfOk result (λ n. (list.new ≡ Some (unwrap_or list.old [] ++ piece.now))
         × (n ≡ length (unwrap_or list.old [] ++ piece.now))) }
     ensures fits { OnOk result (length (unwrap_or list.old [] ++ piece.now) ≤ longest_list) }
@@ -131,7 +133,7 @@ impl Library {
     /// Makes the step of a change. Want of memory changes nothing.
     #[tactic(auto, unfolding(ctf_model::specs::Steps::change_step))]
     pub fn step(&mut self, change: &Change) -> Result<Counts, Fault>
-        ensures { Answered self.old (change_step self.old change.now None) (said result) self.new }
+        ensures { Makes self.old change.now result self.new }
     {
         match change {
             Change::Part { section, bytes } => self.part(*section, bytes.as_slice()),
@@ -143,7 +145,7 @@ impl Library {
 
     #[tactic(auto, unfolding(ctf_model::specs::Steps::change_step))]
     fn part(&mut self, list: ListName, piece: &[u8]) -> Result<Counts, Fault>
-        ensures { Answered self.old (change_step self.old (Change.Part list piece.now) None) (said result) self.new }
+        ensures { Makes self.old (Change.Part list piece.now) result self.new }
     {
         let added = match list {
             ListName::Ctf => add_piece(&mut self.stage.ctf, piece),
@@ -157,7 +159,7 @@ impl Library {
 
     #[tactic(auto, unfolding(ctf_model::specs::Steps::change_step))]
     fn check(&self) -> Result<Counts, Fault>
-        ensures { Answered self.now (change_step self.now Change.Check None) (said result) self.now }
+        ensures { Makes self.now Change.Check result self.now }
     {
         match judge(self.alloc, &self.stage) {
             Ok(_) => Ok(Counts::done()),
@@ -167,7 +169,7 @@ impl Library {
 
     #[tactic(auto, unfolding(ctf_model::specs::Steps::change_step))]
     fn open(&mut self) -> Result<Counts, Fault>
-        ensures { Answered self.old (change_step self.old Change.Open None) (said result) self.new }
+        ensures { Makes self.old Change.Open result self.new }
     {
         if self.slots.len() >= MOST_SLOTS || self.next > u64::from(u32::MAX) {
             return Err(placeless(Fault::SLOTS_FULL));
@@ -183,7 +185,8 @@ impl Library {
         requires room { has_room self.old ≡ true }
         requires faultless { first_fault self.old.stage ≡ None }
         requires counted { types ≡ length (said_by self.old.stage).terms }
-        ensures { Answered self.old (adds_slot self.old.stage (record self.old { stage = empty_stage })) (said result) self.new }
+        ensures { let opened = record self.old { stage = empty_stage } in
+            Answered self.old (adds_slot self.old.stage opened) (said result) self.new }
     {
         if self.slots.reserve(1).is_err() {
             return Err(placeless(Fault::MEMORY));
@@ -201,7 +204,7 @@ impl Library {
 
     #[tactic(auto, unfolding(ctf_model::specs::Steps::change_step))]
     fn reset(&mut self) -> Result<Counts, Fault>
-        ensures { Answered self.old (change_step self.old Change.Reset None) (said result) self.new }
+        ensures { Makes self.old Change.Reset result self.new }
     {
         self.slots.clear();
         self.next = 1;

@@ -47,7 +47,8 @@ fn put_two(out: &mut Vec<u8>, a: Entry<'_>, b: Entry<'_>)
 
 fn put_three(out: &mut Vec<u8>, a: Entry<'_>, b: Entry<'_>, c: Entry<'_>)
     requires { HasRoom out.old (object_text (entry_of a ∷ entry_of b ∷ entry_of c ∷ [])) }
-    ensures { Appended out.old out.new (object_text (entry_of a.entry ∷ entry_of b.entry ∷ entry_of c.entry ∷ [])) }
+    ensures { Appended out.old out.new
+        (object_text (entry_of a.entry ∷ entry_of b.entry ∷ entry_of c.entry ∷ [])) }
 {
     put(out, b"{");
     put_entry(out, a);

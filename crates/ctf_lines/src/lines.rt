@@ -11,16 +11,19 @@ pub trait FromLine: Sized {
     ghost use Rattle.ctf_model.specs.declared.faults.TheConstants.Fault.{MEMORY};
     ghost use Rattle.ctf_model.specs.Refusals.{placeless};
 
-    /// The session of a line and what it asks, or its session (0 where it has none) and the refusal.
+    /// The session of a line and what it asks, or its session (0 where it has none) and the
+    /// refusal.
     ghost asked: { List ℕ → Result (ℕ × Self) (ℕ × Fault) };
 
     /// Reads a line, given without its newline.
     fn read(alloc: Global, line: &[u8]) -> Result<(u32, Self), (u32, Fault)>
         ensures ok { IfOk result (λ said. asked line.now ≡ Ok said) }
         ensures session { IfOk result (λ said. said.0 ≢ 0) }
-        ensures refused { IfErr result (λ refusal. refusal.1.code ≢ MEMORY → asked line.now ≡ Err refusal) }
+        ensures refused { IfErr result (λ refusal. refusal.1.code ≢ MEMORY
+            → asked line.now ≡ Err refusal) }
         // Where memory was refused, no session is said.
-        ensures memory { IfErr result (λ refusal. refusal.1.code ≡ MEMORY → refusal ≡ (0, placeless MEMORY)) };
+        ensures memory { IfErr result (λ refusal. refusal.1.code ≡ MEMORY
+            → refusal ≡ (0, placeless MEMORY)) };
 }
 
 /// What has a line.

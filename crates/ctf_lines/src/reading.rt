@@ -44,8 +44,10 @@ impl FromLine for Request {
 fn read_value(alloc: Global, value: &Value) -> Result<(u32, Request), (u32, Fault)>
     ensures ok { IfOk result (λ said. value_asked (Some (view value.now)) ≡ Ok said) }
     ensures session { IfOk result (λ said. said.0 ≢ 0) }
-    ensures refused { IfErr result (λ refusal. refusal.1.code ≢ MEMORY → value_asked (Some (view value.now)) ≡ Err refusal) }
-    ensures memory { IfErr result (λ refusal. refusal.1.code ≡ MEMORY → refusal ≡ (0, placeless MEMORY)) }
+    ensures refused { IfErr result (λ refusal. refusal.1.code ≢ MEMORY
+        → value_asked (Some (view value.now)) ≡ Err refusal) }
+    ensures memory { IfErr result (λ refusal. refusal.1.code ≡ MEMORY
+        → refusal ≡ (0, placeless MEMORY)) }
 {
     let Some(session) = number(value, "s", 1, u64::from(u32::MAX)) else {
         return Err((0, placeless(Fault::BAD_REQUEST)));
@@ -162,7 +164,8 @@ fn members(value: &Value) -> Option<TypeQuestion>
 }
 
 fn enumerators(value: &Value) -> Option<TypeQuestion>
-    ensures { result ≡ option_map (λ window. about.Enumerators window) (window_asked (view value.now)) }
+    ensures { result
+        ≡ option_map (λ window. about.Enumerators window) (window_asked (view value.now)) }
 {
     Some(TypeQuestion::Enumerators(window(value)?))
 }

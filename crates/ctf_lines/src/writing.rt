@@ -1,6 +1,6 @@
 //! Writes the line of a reply.
 ghost use Rattle.std.specs.Prelude.{◌≡◌, ◌≤◌, length};
-ghost use Rattle.ctf_model.specs.ReplyLines.{answer_line, fault_fields, fault_line, fitting_line, object_line, reply_line};
+ghost use Rattle.ctf_model.specs.ReplyLines.{fault_fields, fault_line, fitting_answer, object_line, reply_line};
 ghost use Rattle.ctf_answers.specs.Counts.{counts_said};
 ghost use Rattle.ctf_answers.specs.Replies.{reply_of, said_to};
 ghost use Rattle.ctf_lines.specs.Appending.{Appended, HasRoom, Writes, and_text};
@@ -68,7 +68,7 @@ fn fault_answer<'a>(fault: Fault) -> Answer<'a>
 #[tactic(auto, using(crate::proofs::Short::fault_short))]
 fn write_fault(out: &mut Vec<u8>, session: u32, fault: Fault) -> Result<(), AllocError>
     ensures written { Writes out.old (fault_line session fault) result out.new }
-    ensures short { length (fault_line session fault) ≤ SHORT_LINE }
+    ensures short { length (fault_line session fault) ≤ 96 }
 {
     let fields = fault_answer(fault);
     let len = object_len("fault", session, &fields);
@@ -78,7 +78,7 @@ fn write_fault(out: &mut Vec<u8>, session: u32, fault: Fault) -> Result<(), Allo
 /// Appends an answer, or the refusal of one that is too long.
 #[tactic(auto, using(crate::proofs::Short::fitting_fits, crate::proofs::Short::fitting_long))]
 fn write_answer(out: &mut Vec<u8>, session: u32, answer: &Answer<'_>) -> Result<(), AllocError>
-    ensures { Writes out.old (fitting_line session (answer_line session answer.now)) result out.new }
+    ensures { Writes out.old (fitting_answer session answer.now) result out.new }
 {
     let len = object_len("ok", session, answer);
     if len <= LONGEST_REPLY + 1 {
@@ -90,20 +90,21 @@ fn write_answer(out: &mut Vec<u8>, session: u32, answer: &Answer<'_>) -> Result<
 
 #[tactic(auto, using(crate::proofs::Short::counts_short))]
 fn write_counts(out: &mut Vec<u8>, session: u32, counts: Counts) -> Result<(), AllocError>
-    ensures written { Writes out.old (fitting_line session (answer_line session (counts_said counts))) result out.new }
-    ensures short { length (fitting_line session (answer_line session (counts_said counts))) ≤ SHORT_LINE }
+    ensures written { Writes out.old (fitting_answer session (counts_said counts)) result out.new }
+    ensures short { length (fitting_answer session (counts_said counts)) ≤ 96 }
 {
     write_answer(out, session, &counts.answer())
 }
 
-/// Appends the line of a reply to a change; where there is room for a short line, no memory is taken.
+/// Appends the line of a reply to a change; where there is room for a short line, no memory is
+/// taken.
 pub fn write_change(
     out: &mut Vec<u8>,
     session: u32,
     outcome: Result<Counts, Fault>,
 ) -> Result<(), AllocError>
     ensures written { Writes out.old (reply_line (said_to session outcome)) result out.new }
-    ensures short { length (reply_line (said_to session outcome)) ≤ SHORT_LINE }
+    ensures short { length (reply_line (said_to session outcome)) ≤ 96 }
 {
     match outcome {
         Ok(counts) => write_counts(out, session, counts),
@@ -111,7 +112,8 @@ pub fn write_change(
     }
 }
 
-/// Appends the line of a reply, straight from what it lends; where there is room, no memory is taken.
+/// Appends the line of a reply, straight from what it lends; where there is room, no memory is
+/// taken.
 pub fn write_reply(out: &mut Vec<u8>, reply: &Reply<'_>) -> Result<(), AllocError>
     ensures { Writes out.old (reply_line (reply_of reply.now)) result out.new }
 {

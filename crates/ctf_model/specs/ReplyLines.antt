@@ -88,8 +88,12 @@ longest_reply = 4194304
 unfoldable pub fitting_line : ℕ → List ℕ → List ℕ
 fitting_line s line = if nat_le (length line) (longest_reply + 1) then line else fault_line s (placeless LONG_REPLY)
 
+-- the line of an answer, if it may be so long
+abbrev pub fitting_answer : ℕ → Answer → List ℕ
+fitting_answer s answer = fitting_line s (answer_line s answer)
+
 abbrev pub outcome_line : ℕ → Result Answer Fault → List ℕ
-outcome_line s (Ok answer) = fitting_line s (answer_line s answer)
+outcome_line s (Ok answer) = fitting_answer s answer
 outcome_line s (Err f) = fault_line s f
 
 abbrev pub reply_line : Reply → List ℕ

@@ -31,10 +31,10 @@ pub fn answer_bounded<M: Machine, S: Source, K: Sink>(
     reads: u64,
 ) -> Result<(), RunFault>
     requires { IsReady (S.pulled source.old) (K.pushed sink.old) reads }
-    ensures ends { EndsBy
-        (λ lines. Serves M.Step machine.old lines machine.new (K.pushed sink.old) (K.pushed sink.new))
-        (λ lines. BrokenOff M.Step machine.old lines machine.new (K.pushed sink.old) (K.pushed sink.new))
-        reads (S.pulled source.old) (S.pulled source.new) (K.pushed sink.new) result }
+    ensures ends { let before = K.pushed sink.old in let after = K.pushed sink.new in EndsBy
+        (λ lines. Serves M.Step machine.old lines machine.new before after)
+        (λ lines. BrokenOff M.Step machine.old lines machine.new before after)
+        reads (S.pulled source.old) (S.pulled source.new) after result }
     ensures memory { result ≡ Err RunFault.Memory →
         (source.new ≡ source.old) × (sink.new ≡ sink.old) × (machine.new ≡ machine.old) }
     ensures pulls { PullsAtMost reads (S.pulled source.old) (S.pulled source.new) }

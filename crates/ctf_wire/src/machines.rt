@@ -4,7 +4,8 @@ ghost use Rattle.ctf_wire.specs.Room.{HasShortRoom, Replies};
 
 /// Answers one line at a time, each with one reply.
 pub trait Machine {
-    /// From old, the line (none: one that was too long to be stored) may have this reply and leave new.
+    /// From old, the line (none: one that was too long to be stored) may have this reply and
+    /// leave new.
     ghost Step: { Self → Option (List ℕ) → List ℕ → Self → Type 0 };
 
     /// Answers a line. The reply stands in `out` after what was there.
