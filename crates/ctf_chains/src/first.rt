@@ -77,7 +77,7 @@ pub fn first_deep_counted<L: Ledger>(
 {
     let graph = Types {
         bytes: types,
-        starts,
+        starts: starts.as_slice(),
         child,
         chain,
     };

@@ -17,5 +17,5 @@ pub use chain::Chain;
 pub use first::{first_deep_counted, first_deep_type};
 pub use graph::Graph;
 pub use search::{LONGEST_CHAIN, first_deep};
-pub use starts::{Starts, record_starts};
+pub use starts::{Starts, record_started, record_starts};
 pub use ticks::Ticks;

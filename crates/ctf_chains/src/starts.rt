@@ -3,6 +3,7 @@ ghost use Rattle.std.specs.Prelude.{◌≡◌, ◌<◌, ◌^◌, length, slice_g
 ghost use Rattle.ctf_model.specs.Faults.{walk_fault};
 ghost use Rattle.ctf_model.specs.Section.{records};
 ghost use Rattle.ctf_chains.specs.Starts.{starts_in};
+ghost use Rattle.ctf_records.specs.RecordView.{piece};
 
 use ctf_records::{Record, Records, record_at};
 use std::alloc::{AllocError, Global};
@@ -23,24 +24,23 @@ impl Model for Starts {
 }
 
 impl Starts {
-    ghost use Rattle.ctf_records.specs.RecordView.{piece};
-
-    pub fn len(&self) -> usize
-        ensures { result ≡ length self.now }
+    /// The places themselves.
+    pub fn as_slice(&self) -> &[u32]
+        ensures { result.now ≡ self.now }
     {
-        self.places.len()
+        self.places.as_slice()
     }
+}
 
-    /// The record with a number from 0, found without reading those before it.
-    pub fn record<'a>(&self, types: &'a [u8], i: usize) -> Record<'a>
-        requires whole { walk_fault (records types.now) ≡ None }
-        requires starts { self.now ≡ starts_in (records types.now) }
-        requires inside { i < length self.now }
-        ensures { slice_get (records types.now) i ≡ Some (Ok (piece result)) }
-    {
-        let at = self.places[i] as usize;
-        record_at(types, at, i as u64 + 1).unwrap()
-    }
+/// The record with a number from 0, found without reading those before it by the places at which
+/// all begin.
+pub fn record_started<'a>(types: &'a [u8], places: &[u32], i: usize) -> Record<'a>
+    requires whole { walk_fault (records types.now) ≡ None }
+    requires starts { places.now ≡ starts_in (records types.now) }
+    requires inside { i < length places.now }
+    ensures { slice_get (records types.now) i ≡ Some (Ok (piece result)) }
+{
+    record_at(types, places[i] as usize, i as u64 + 1).unwrap()
 }
 
 /// Where the records of a section begin, of which there are `count`.

@@ -10,7 +10,7 @@ ghost use Rattle.ctf_records.specs.RecordView.{bytes_of};
 use crate::chain::Chain;
 use crate::graph::Graph;
 use crate::place::{own_index, place_count, place_number};
-use crate::starts::Starts;
+use crate::starts::record_started;
 use crate::ticks::Ticks;
 use ctf_records::Record;
 use std::sync::ledger::Ledger;
@@ -19,7 +19,7 @@ use std::sync::ledger::Ledger;
 #[derive(Clone, Copy)]
 pub(crate) struct Types<'a> {
     pub(crate) bytes: &'a [u8],
-    pub(crate) starts: &'a Starts,
+    pub(crate) starts: &'a [u32],
     pub(crate) child: bool,
     pub(crate) chain: Chain,
     ghost whole: { walk_fault (records bytes.now) ≡ None },
@@ -39,7 +39,7 @@ impl<'a, L: Ledger> Graph<L> for Types<'a> {
 
     fn open(&self, i: usize, work: &mut Ticks<L>) -> Record<'a> {
         work.tick();
-        self.starts.record(self.bytes, i)
+        record_started(self.bytes, self.starts, i)
     }
 
     fn place_count(&self, opened: Record<'a>) -> usize {

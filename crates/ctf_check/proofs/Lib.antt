@@ -1,6 +1,7 @@
 pub mod LastNames
 pub mod Listed
 pub mod LongChains
+pub mod Indexed
 pub mod Naming
 pub mod Needing
 pub mod Order

@@ -4,3 +4,4 @@ pub mod ListsView
 pub mod Named
 pub mod Needed
 pub mod Stages
+pub mod TypedView

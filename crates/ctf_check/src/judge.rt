@@ -100,9 +100,6 @@ pub fn check<'a>(
     }
     let child = header.parname() != 0;
     judge_types(alloc, types, Numbers { child, count })?;
-    Ok(Checked {
-        lists: LentLists { ctf, sym, strs },
-        header,
-        count,
-    })
+    let lists = LentLists { ctf, sym, strs };
+    Ok(Checked::accepted(lists, header, count, None))
 }

@@ -12,7 +12,9 @@ mod references;
 mod sections;
 #[cfg(test)]
 mod tests;
+mod typed;
 
 pub use checked::Checked;
 pub use judge::check;
 pub use lists::LentLists;
+pub use typed::Typed;

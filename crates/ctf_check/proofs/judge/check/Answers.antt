@@ -87,8 +87,8 @@ returns-in_err-judge_types-clause-late c =
     let bad = c.bad_name.ensures ∙ ap (λ (t : Tables). first_nameless t (sites s.ctf)) same in
     rw (p.1, p.2) (at_types_or_late s c.bytes_in-types.result.now _ c.in_ok-count.count c.bad_name.result c.in_err-judge_types.field-0.0 c.in_ok-header.ensures.exact_ok part c.in_ok-count.ensures.exact_ok bad c.in_default.is (same_child c.parname-child.result c.in_ok-header.header (fields c.args.ctf.now) c.parname-child.ensures c.in_ok-header.ensures.fields) c.in_ok-count.ensures.count c.in_err-judge_types.ensures.late)
 
-pub invariant_of-result : goal.invariant_of-result
-invariant_of-result c =
+pub accepted-requires : goal.accepted-requires
+accepted-requires c =
     let s = given c.args.ctf.now (option_copied c.args.sym) (option_copied c.args.strs) in
     let part = types_are s.ctf c.bytes_in-types.result.now c.bytes_in-types.ensures.bytes in
     let same = same_tables _ s c.bytes_in.result.now c.new-ends.ensures c.bytes_in.ensures.bytes in
@@ -99,4 +99,5 @@ invariant_of-result c =
       fits = c.in_ok-header.ensures.fields;
       inside = c.in_ok-header.ensures.inside;
       counted = c.in_ok-count.ensures.count ∙ ap (λ (l : List (Result Piece Fault)). length l) part ∙ sym (terms_count s none);
+      begin = λ s e. absurd cc;
     }

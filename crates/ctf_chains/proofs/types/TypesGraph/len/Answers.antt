@@ -1,4 +1,3 @@
-use Rattle.std.proofs.Common.{◌∙◌}
 use Rattle.ctf_model.specs.Section.{records}
 use Rattle.ctf_chains.proofs.Edges.{places_count}
 use Rattle.ctf_chains.proofs.types.TypesGraph.len.Goals as goal
@@ -6,4 +5,4 @@ use Rattle.ctf_chains.proofs.types.TypesGraph.len.Goals as goal
 pub returns : goal.returns
 returns l c =
     let g = c.args.self.now in
-    c.len.ensures ∙ places_count g.chain g.child (records g.bytes.now) g.starts.now g.whole g.begin
+    places_count g.chain g.child (records g.bytes.now) g.starts.now g.whole g.begin

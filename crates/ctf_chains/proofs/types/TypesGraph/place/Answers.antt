@@ -21,7 +21,7 @@ returns-clause-leads l c =
     let rs = records g.bytes.now in
     let ns = numbers g.chain (bytes_of c.args.opened) in
     let inside : c.args.k < length (map (own_index g.child (length rs)) ns) = c.requires in
-    let count : c.len.result ≡ length rs = c.len.ensures ∙ ap length g.begin ∙ starts_count rs g.whole in
+    let count : length g.starts.now ≡ length rs = ap length g.begin ∙ starts_count rs g.whole in
     c.own_index.ensures
     ∙ ap (λ (n : ℕ). own_index g.child n c.place_number-number.result.0) count
     ∙ ap (own_index g.child (length rs)) c.place_number-number.ensures
@@ -30,7 +30,7 @@ returns-clause-leads l c =
 pub returns-clause-inside : goal.returns-clause-inside
 returns-clause-inside l c =
     let g = c.args.self.now in
-    let count : c.len.result ≡ length (section_places g.chain g.child (records g.bytes.now)) = c.len.ensures ∙ places_count g.chain g.child (records g.bytes.now) g.starts.now g.whole g.begin in
-    let own = own_inside g.child c.len.result c.place_number-number.result.0 in
+    let count : length g.starts.now ≡ length (section_places g.chain g.child (records g.bytes.now)) = places_count g.chain g.child (records g.bytes.now) g.starts.now g.whole g.begin in
+    let own = own_inside g.child (length g.starts.now) c.place_number-number.result.0 in
     let P : Option ℕ → Type 0 = λ o. MatchOption o (Unit {0}) (λ j. j < length (section_places g.chain g.child (records g.bytes.now))) in
-    subst P (sym c.own_index.ensures) (subst (λ (n : ℕ). MatchOption (own_index g.child c.len.result c.place_number-number.result.0) (Unit {0}) (λ j. j < n)) count own)
+    subst P (sym c.own_index.ensures) (subst (λ (n : ℕ). MatchOption (own_index g.child (length g.starts.now) c.place_number-number.result.0) (Unit {0}) (λ j. j < n)) count own)

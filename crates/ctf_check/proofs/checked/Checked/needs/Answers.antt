@@ -8,6 +8,6 @@ use Rattle.ctf_check.proofs.checked.Checked.needs.Goals as goal
 pub returns-then-child : goal.returns-then-child
 returns-then-child c =
     let d = c.args.self.now in
-    let part = types_are d.lists.ctf.now c.bytes_in.result.now c.bytes_in.ensures.bytes in
+    let part = types_are d.lists.ctf.now d.types.now d.part in
     let child_is = c.if-child.ensures in
     rw (← child_is) (c.records_need.ensures ∙ ap records_need part ∙ types_need (lists_of d) d.faultless)

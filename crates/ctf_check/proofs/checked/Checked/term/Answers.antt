@@ -3,13 +3,14 @@ use Rattle.std.specs.Prelude.{IfSome}
 use Rattle.std.proofs.lemmas.Bool.{false≢true}
 use Rattle.std.specs.Option.{option_map}
 use Rattle.std.specs.List.{AllByRecursion}
-use Rattle.ctf_model.specs.Faults.{types}
+use Rattle.ctf_chains.specs.Starts.{starts_in}
+use Rattle.ctf_model.specs.Faults.{types, walk_fault}
 use Rattle.ctf_model.specs.Name.{Tables}
 use Rattle.ctf_model.specs.Spelling.{term_of}
 use Rattle.ctf_model.specs.Section.{Piece}
 use Rattle.ctf_model.specs.Term.{Term}
 use Rattle.ctf_model.specs.declared.faults.Fault.{Fault}
-use Rattle.ctf_check.proofs.Order.{types_are}
+use Rattle.ctf_check.proofs.Order.{faultless, types_are}
 use Rattle.ctf_check.proofs.Terms.{IsSpelled, all_spelled, numbered_index, numbered_spelled, spelled_at, type_is}
 use Rattle.ctf_check.specs.CheckedView.{lists_of, tables_of}
 use Rattle.ctf_records.specs.Pieces.{piece_numbered}
@@ -46,22 +47,34 @@ own xs n (Some r) e = ap (piece_numbered xs) (numbered_index xs n (piece r) (sym
 pub returns-clause-exact : goal.returns-clause-exact
 returns-clause-exact c =
     let d = c.args.self.now in
-    let part = types_are d.lists.ctf.now c.bytes_in-types.result.now c.bytes_in-types.ensures.bytes in
-    let found = c.record_numbered.ensures ∙ ap (λ (l : List (Result Piece Fault)). piece_numbered l c.args.index) part in
+    let part = types_are d.lists.ctf.now d.types.now d.part in
+    let found = c.find.ensures ∙ ap (λ (l : List (Result Piece Fault)). piece_numbered l c.args.index) part in
     some_iff (tables_of d) _ c.args.index _ _ (all_spelled (lists_of d) d.faultless) found (type_is (lists_of d) c.args.index d.faultless)
 
 pub returns-clause-spells : goal.returns-clause-spells
 returns-clause-spells c =
     let d = c.args.self.now in
-    let part = types_are d.lists.ctf.now c.bytes_in-types.result.now c.bytes_in-types.ensures.bytes in
-    let found = c.record_numbered.ensures ∙ ap (λ (l : List (Result Piece Fault)). piece_numbered l c.args.index) part in
+    let part = types_are d.lists.ctf.now d.types.now d.part in
+    let found = c.find.ensures ∙ ap (λ (l : List (Result Piece Fault)). piece_numbered l c.args.index) part in
     said (tables_of d) _ c.args.index _ _ found (type_is (lists_of d) c.args.index d.faultless)
 
 pub returns-clause-index : goal.returns-clause-index
-returns-clause-index c = numbered _ c.args.index _ c.record_numbered.ensures
+returns-clause-index c = numbered _ c.args.index _ c.find.ensures
 
 pub returns-clause-own : goal.returns-clause-own
 returns-clause-own c =
     let d = c.args.self.now in
-    let part = types_are d.lists.ctf.now c.bytes_in-types.result.now c.bytes_in-types.ensures.bytes in
-    own (types d.lists.ctf.now) c.args.index _ (c.record_numbered.ensures ∙ ap (λ (l : List (Result Piece Fault)). piece_numbered l c.args.index) part)
+    let part = types_are d.lists.ctf.now d.types.now d.part in
+    own (types d.lists.ctf.now) c.args.index _ (c.find.ensures ∙ ap (λ (l : List (Result Piece Fault)). piece_numbered l c.args.index) part)
+
+pub find-requires-clause-whole : goal.find-requires-clause-whole
+find-requires-clause-whole c =
+    let d = c.args.self.now in
+    let part = types_are d.lists.ctf.now d.types.now d.part in
+    ap walk_fault part ∙ (faultless (lists_of d) d.faultless).read
+
+pub find-requires-clause-begin : goal.find-requires-clause-begin
+find-requires-clause-begin c =
+    let d = c.args.self.now in
+    let part = types_are d.lists.ctf.now d.types.now d.part in
+    λ s e. d.begin s e ∙ ap starts_in (sym part)

@@ -1,7 +1,7 @@
 use Rattle.std.proofs.Common.{sym, ◌∙◌}
 use Rattle.ctf_check.specs.ListsView.{lists_in}
 use Rattle.ctf_check.proofs.Order.{faultless}
-use Rattle.ctf_check.proofs.checked.Checked.again.Goals as goal
+use Rattle.ctf_check.proofs.checked.header_of.Goals as goal
 
 pub unreachable-requires : goal.unreachable-requires
 unreachable-requires c =

@@ -1,0 +1,69 @@
+//! A type that was found in a dictionary.
+ghost use Rattle.std.specs.Prelude.{◌≡◌, ◌↔◌, IsSome, IfSome, Some};
+ghost use Rattle.std.specs.Option.{option_map};
+ghost use Rattle.ctf_model.specs.Shown.{shown};
+ghost use Rattle.ctf_records.specs.RecordView.{index_of};
+ghost use Rattle.ctf_views.specs.VariantView.{seen};
+ghost use Rattle.ctf_check.specs.CheckedView.{dictionary_of, type_at, IsOwn};
+
+use crate::checked::Checked;
+use ctf_records::Record;
+use ctf_views::Variant;
+
+/// A type of a dictionary: its record, beside the dictionary that has it. A bare record does not know
+/// which tables name it.
+#[derive(Clone, Copy)]
+pub struct Typed<'a> {
+    dictionary: Checked<'a>,
+    source: Record<'a>,
+    ghost own: { IsOwn dictionary source },
+}
+
+impl<'a> Checked<'a> {
+    ghost use Rattle.ctf_check.specs.TypedView.{dictionary_in, record_in, spelled};
+
+    /// An own type; they count from 1.
+    pub fn typed(&self, index: usize) -> Option<Typed<'a>>
+        ensures exact { IsSome result ↔ IsSome (type_at (dictionary_of self.now) index) }
+        ensures spells { IfSome result (λ x. spelled x ≡ type_at (dictionary_of self.now) index) }
+        ensures index { IfSome result (λ x. index_of (record_in x) ≡ index) }
+        ensures of { IfSome result (λ x. dictionary_in x ≡ self.now) }
+    {
+        let source = self.term(index)?;
+        Some(Typed {
+            dictionary: *self,
+            source,
+        })
+    }
+}
+
+impl<'a> Typed<'a> {
+    ghost use Rattle.ctf_check.specs.TypedView.{dictionary_in, record_in, spelled};
+
+    /// The dictionary that has it.
+    pub fn dictionary(&self) -> Checked<'a>
+        ensures { result ≡ dictionary_in self.now }
+    {
+        self.dictionary
+    }
+
+    /// Its record, which says its kind, its size and what it refers to.
+    pub fn record(&self) -> Record<'a>
+        ensures { result ≡ record_in self.now }
+    {
+        self.source
+    }
+
+    pub fn name(&self) -> &'a [u8]
+        ensures { option_map (λ x. x.name) (spelled self.now) ≡ Some result.now }
+    {
+        self.dictionary.name(&self.source)
+    }
+
+    /// What stands behind its head: members, enumerators, arguments and the like.
+    pub fn variant(&self) -> Variant<'a>
+        ensures { option_map (λ x. shown x.body) (spelled self.now) ≡ Some (seen result) }
+    {
+        self.dictionary.variant(&self.source)
+    }
+}
