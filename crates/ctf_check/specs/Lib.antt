@@ -5,3 +5,4 @@ pub mod Named
 pub mod Needed
 pub mod Stages
 pub mod TypedView
+pub mod FactsView

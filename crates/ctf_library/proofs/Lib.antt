@@ -1,3 +1,1 @@
-pub mod SpelledHead
 pub mod SaidOfFacts
-pub mod Described

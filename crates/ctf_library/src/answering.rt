@@ -7,29 +7,25 @@ ghost use Rattle.ctf_model.specs.Shown.{members_in, enumerators_in, arguments_in
 ghost use Rattle.ctf_model.specs.TypeNumbers.{type_at};
 ghost use Rattle.ctf_answers.specs.Items.{items_of};
 ghost use Rattle.ctf_answers.specs.Singles.{single_of};
-ghost use Rattle.ctf_check.specs.CheckedView.{dictionary_of, IsOwn};
+ghost use Rattle.ctf_check.specs.CheckedView.{dictionary_of};
+ghost use Rattle.ctf_check.specs.FactsView.{facts_seen};
 ghost use Rattle.ctf_records.specs.RecordView.{tag_of};
 ghost use Rattle.ctf_views.specs.VariantView.{seen};
-ghost use Rattle.ctf_library.specs.FactsView.{facts_seen};
-ghost use Rattle.ctf_library.specs.OwnRecord.{type_found};
+ghost use Rattle.ctf_library.specs.Found.{type_found};
 
-use crate::facts::facts_of;
-use crate::types::Facts;
 use ctf_answers::{Answer, Items, Listed, Single, kind_name, tag_name};
-use ctf_check::Checked;
+use ctf_check::{Checked, Facts, Typed};
 use ctf_model::{Fault, Place, TypeNum, TypeQuestion, Window, placeless};
-use ctf_records::{Record, Tag};
+use ctf_records::Tag;
 use ctf_views::{Args, Variant};
 
-/// The record of a type of a dictionary without a parent.
-fn own_record<'a>(dictionary: &Checked<'a>, t: TypeNum) -> Result<Record<'a>, Fault>
-    ensures says { type_found dictionary.now result
-        ≡ type_at (dictionary_of dictionary.now) None t.0 }
-    ensures own { IfOk result (λ r. IsOwn dictionary.now r) }
+/// The type with a number of a dictionary without a parent.
+fn find_type<'a>(dictionary: &Checked<'a>, t: TypeNum) -> Result<Typed<'a>, Fault>
+    ensures { type_found result ≡ type_at (dictionary_of dictionary.now) None t.0 }
 {
     match t.place(dictionary.child()) {
-        Place::Own(i) => match dictionary.term(i + 1) {
-            Some(record) => Ok(record),
+        Place::Own(i) => match dictionary.typed(i + 1) {
+            Some(found) => Ok(found),
             None => Err(placeless(Fault::NO_TYPE)),
         },
         Place::Parents(_) => Err(placeless(Fault::NO_PARENT)),
@@ -232,8 +228,8 @@ pub(crate) fn answer_on<'a>(
 ) -> Result<Answer<'a>, Fault>
     ensures { result ≡ type_said question (type_at (dictionary_of dictionary.now) None t.0) }
 {
-    match own_record(dictionary, t) {
-        Ok(record) => answer_of(facts_of(dictionary, &record), question),
+    match find_type(dictionary, t) {
+        Ok(found) => answer_of(found.facts(), question),
         Err(fault) => Err(fault),
     }
 }

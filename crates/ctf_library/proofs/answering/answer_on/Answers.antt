@@ -4,4 +4,4 @@ use Rattle.ctf_library.proofs.SaidOfFacts.{said_of_facts}
 use Rattle.ctf_library.proofs.answering.answer_on.Goals as goal
 
 pub returns-in-Ok : goal.returns-in-Ok
-returns-in-Ok c = c.answer_of.ensures ∙ said_of_facts c.args.question _ _ c.facts_of.ensures ∙ ap (type_said c.args.question) c.in-Ok.ensures.says
+returns-in-Ok c = c.answer_of.ensures ∙ said_of_facts c.args.question _ _ c.facts.ensures ∙ ap (type_said c.args.question) c.in-Ok.ensures
