@@ -10,8 +10,6 @@ mod questions;
 mod requests;
 mod rows;
 mod sections;
-#[cfg(test)]
-mod tests;
 mod words;
 
 pub use bytes::{Bytes, LONGEST_PIECE, Piece};
