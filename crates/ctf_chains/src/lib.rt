@@ -8,8 +8,6 @@ mod graph;
 mod place;
 mod search;
 mod starts;
-#[cfg(test)]
-mod tests;
 mod ticks;
 mod types;
 

@@ -31,7 +31,8 @@ impl<'a, L: Ledger> Graph<L> for Types<'a> {
 
     ghost places = { λ g. section_places g.chain g.child (records g.bytes.now) };
 
-    ghost places_of = { λ g r. map (own_index_of g.child (length (records g.bytes.now))) (numbers g.chain (bytes_of r)) };
+    ghost places_of = { λ g r. map (own_index_of g.child (length (records g.bytes.now)))
+        (numbers g.chain (bytes_of r)) };
 
     fn len(&self) -> usize {
         self.starts.len()

@@ -1,9 +1,9 @@
 -- The stages of the check behind the header: its records, the parts of the rule of names, and its types.
-use Rattle.std.specs.Prelude.{ℕ, List, [], ◌∷◌, length, take, nat_lt, Bool, Option, Some, None, Result, if◌then◌else◌}
+use Rattle.std.specs.Prelude.{◌≡◌, ℕ, List, [], ◌∷◌, length, take, nat_lt, Bool, Option, Some, None, Result, if◌then◌else◌}
 use Rattle.std.specs.Option.{option_or}
 use Rattle.ctf_model.specs.Bytes.{u32_at}
 use Rattle.ctf_model.specs.Chains.{edges}
-use Rattle.ctf_chains.specs.Steps.{steps}
+use Rattle.ctf_chains.specs.Steps.{AreSpelled, steps}
 use Rattle.ctf_chains.specs.declared.chain.Chain.{Chain}
 use Rattle.ctf_chains.specs.declared.chain.Chain.TheVariants.{ByValue, Declarator}
 use Rattle.ctf_model.specs.Faults.{Site, list_sites, walk_fault, or_later, first_broken, first_misnaming, first_deep, rules}
@@ -38,6 +38,22 @@ chains_fault t child rs = or_later VALUE_DEEP (chain_place ByValue t child rs) (
 -- the first fault of the types of records: a reference to one that is not there, else a chain that is too long
 abbrev pub types_fault : Tables → Bool → List (Result Piece Fault) → Option Fault
 types_fault t child rs = or_later BAD_REFERENCE (first_misnaming t child (length rs) rs) (chains_fault t child rs)
+
+-- ---- the same by whichever tables of names the records spell their types
+
+-- the first type that a chain of one sort begins at which is too long stands at this place, or there is none
+abbrev pub IsChainPlace : Chain → Bool → List (Result Piece Fault) → Option ℕ → Type 0
+IsChainPlace chain child rs place = (t : Tables) → AreSpelled t rs → chain_place chain t child rs ≡ place
+
+-- this is the first fault of chains, or there is none
+abbrev pub IsChainsFault : Bool → List (Result Piece Fault) → Option Fault → Type 0
+IsChainsFault child rs fault = (t : Tables) → AreSpelled t rs → chains_fault t child rs ≡ fault
+
+-- this is the first fault of the types of records, or there is none
+abbrev pub IsTypesFault : Bool → List (Result Piece Fault) → Option Fault → Type 0
+IsTypesFault child rs fault = (t : Tables) → AreSpelled t rs → types_fault t child rs ≡ fault
+
+-- ---- all
 
 -- the first fault, leaving the rules of chains aside
 unfoldable pub fault_before_chains : Lists → Option Fault

@@ -192,8 +192,8 @@ impl<'a> Checked<'a> {
         self.named(self.parlabel)
     }
 
-    /// The record of an own type; they count from 1. Where the places of the types were kept it takes
-    /// constant time, else it is looked for from the first record on.
+    /// The record of an own type; they count from 1. Where the places of the types were kept it
+    /// takes constant time, else it is looked for from the first record on.
     pub fn term(&self, index: usize) -> Option<Record<'a>>
         ensures exact { IsSome result ↔ IsSome (type_at (dictionary_of self.now) index) }
         ensures spells { IfSome result (λ r. term_of (tables_of self.now) (bytes_of r)
@@ -204,8 +204,8 @@ impl<'a> Checked<'a> {
         find(self.types, self.starts, index)
     }
 
-    /// The greatest number below 0x8000 that the types of a child name: so many types it needs in its
-    /// parent. It is 0 where there is none, and where the dictionary is not a child.
+    /// The greatest number below 0x8000 that the types of a child name: so many types it needs in
+    /// its parent. It is 0 where there is none, and where the dictionary is not a child.
     ///
     /// Reads each member and argument once.
     pub fn needs(&self) -> u16

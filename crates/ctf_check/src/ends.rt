@@ -1,7 +1,8 @@
 //! Which references name something, told by where names end, without reading the names.
-ghost use Rattle.std.specs.Prelude.{◌≡◌, ℕ, Some, is_none, nat_le};
-ghost use Rattle.ctf_model.specs.Name.{name, text_at};
+ghost use Rattle.std.specs.Prelude.{◌≡◌, Some, is_none};
+ghost use Rattle.ctf_model.specs.Name.{name};
 ghost use Rattle.ctf_sections.specs.StringsView.{tables};
+ghost use Rattle.ctf_check.specs.TableEnds.{EndsAt};
 
 use ctf_sections::Strings;
 use memchr::memrchr;
@@ -9,7 +10,7 @@ use memchr::memrchr;
 /// The place behind the last zero byte of a table: what begins before it is a name, what begins
 /// there or later is none.
 fn end_of_names(table: &[u8]) -> usize
-    ensures { (at : ℕ) → is_none (text_at (Some table.now) at) ≡ nat_le result at }
+    ensures { EndsAt (Some table.now) result }
 {
     match memrchr(0, table) {
         Some(last) => last + 1,
@@ -23,8 +24,8 @@ pub struct NameEnds<'a> {
     strings: Strings<'a>,
     internal_end: usize,
     elf_end: usize,
-    ghost internal: { (at : ℕ) → is_none (text_at (Some (tables strings).internal) at) ≡ nat_le internal_end at },
-    ghost elf: { (at : ℕ) → is_none (text_at (tables strings).elf at) ≡ nat_le elf_end at },
+    ghost internal: { EndsAt (Some (tables strings).internal) internal_end },
+    ghost elf: { EndsAt (tables strings).elf elf_end },
 }
 
 impl<'a> NameEnds<'a> {
@@ -32,7 +33,8 @@ impl<'a> NameEnds<'a> {
     ghost use Rattle.ctf_check.specs.EndsView.{tables_in};
 
     pub fn new(internal: &'a [u8], elf: Option<&'a [u8]>) -> NameEnds<'a>
-        ensures { tables_in result ≡ record { internal = internal.now; elf = option_copied elf.entry } }
+        ensures { tables_in result
+            ≡ record { internal = internal.now; elf = option_copied elf.entry } }
     {
         let elf_end = match elf {
             Some(table) => end_of_names(table),

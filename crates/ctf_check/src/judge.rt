@@ -1,13 +1,11 @@
 //! The check: which rule a dictionary breaks first.
 ghost use Rattle.std.specs.Prelude.{◌≡◌, ◌≤◌, ◌<◌, ◌^◌, ◌⊎◌, length, IfOk, IfErr, OnOk, IsNone, Some, None, option_copied};
 ghost use Rattle.ctf_model.specs.Faults.{first_fault, walk_fault};
-ghost use Rattle.ctf_chains.specs.Steps.{AreSpelled};
-ghost use Rattle.ctf_model.specs.Name.{Tables};
 ghost use Rattle.ctf_model.specs.Section.{records};
 ghost use Rattle.ctf_check.specs.CheckedView.{lists_of};
 ghost use Rattle.ctf_check.specs.ListsView.{given};
 ghost use Rattle.ctf_check.specs.Named.{first_that_misnames};
-ghost use Rattle.ctf_check.specs.Stages.{fault_before_chains, records_fault, types_fault, want_of_memory};
+ghost use Rattle.ctf_check.specs.Stages.{IsTypesFault, fault_before_chains, records_fault, want_of_memory};
 
 use crate::checked::Checked;
 use crate::ends::NameEnds;
@@ -50,11 +48,12 @@ fn judge_types(alloc: Global, types: &[u8], numbers: Numbers) -> Result<(), Faul
     requires whole { walk_fault (records types.now) ≡ None }
     requires count { numbers.count ≡ length (records types.now) }
     requires short { length types.now < 2 ^ 32 }
-    ensures ok { OnOk result ((t : Tables) → AreSpelled t (records types.now) → types_fault t numbers.child (records types.now) ≡ None) }
+    ensures ok { OnOk result (IsTypesFault numbers.child (records types.now) None) }
     ensures err { IfErr result (λ f. (f ≡ want_of_memory)
-        ⊎ ((t : Tables) → AreSpelled t (records types.now) → types_fault t numbers.child (records types.now) ≡ Some f)) }
-    ensures late { IfErr result (λ f. (first_that_misnames numbers.child numbers.count (records types.now) ≡ None)
-        ⊎ ((t : Tables) → AreSpelled t (records types.now) → types_fault t numbers.child (records types.now) ≡ Some f)) }
+        ⊎ IsTypesFault numbers.child (records types.now) (Some f)) }
+    ensures late { IfErr result (λ f.
+        (first_that_misnames numbers.child numbers.count (records types.now) ≡ None)
+        ⊎ IsTypesFault numbers.child (records types.now) (Some f)) }
 {
     match bad_reference(types, numbers) {
         Some(place) => Err(Fault {
@@ -65,12 +64,12 @@ fn judge_types(alloc: Global, types: &[u8], numbers: Numbers) -> Result<(), Faul
     }
 }
 
-/// Judges a dictionary that is handed in as its CTF section and, where they are there, the program's
-/// symbol table and its strings.
+/// Judges a dictionary that is handed in as its CTF section and, where they are there, the
+/// program's symbol table and its strings.
 ///
 /// Reads each record, member, enumerator and argument a bounded number of times, and takes eight
-/// bytes for each record while it runs. Where that is refused, the fault is `Memory`: it may stand for
-/// a fault of chains, and for no other.
+/// bytes for each record while it runs. Where that is refused, the fault is `Memory`: it may stand
+/// for a fault of chains, and for no other.
 pub fn check<'a>(
     alloc: Global,
     ctf: &'a [u8],

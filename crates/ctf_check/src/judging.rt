@@ -1,11 +1,9 @@
 //! The rules of chains: no chain of types is too long.
 ghost use Rattle.std.specs.Prelude.{◌≡◌, ◌<◌, ◌^◌, length, OnOk, IfErr, None, Some, ◌⊎◌};
 ghost use Rattle.ctf_model.specs.Faults.{walk_fault};
-ghost use Rattle.ctf_model.specs.Name.{Tables};
 ghost use Rattle.ctf_model.specs.Section.{records};
 ghost use Rattle.ctf_chains.specs.Starts.{starts_in};
-ghost use Rattle.ctf_chains.specs.Steps.{AreSpelled};
-ghost use Rattle.ctf_check.specs.Stages.{chain_place, chains_fault, want_of_memory};
+ghost use Rattle.ctf_check.specs.Stages.{IsChainPlace, IsChainsFault, want_of_memory};
 
 use crate::references::Numbers;
 use ctf_chains::{Chain, Starts, first_deep_type, record_starts};
@@ -24,9 +22,9 @@ fn judge_chain(
     requires whole { walk_fault (records types.now) ≡ None }
     requires starts { starts.now ≡ starts_in (records types.now) }
     requires short { length (records types.now) < 2 ^ 32 }
-    ensures ok { OnOk result ((t : Tables) → AreSpelled t (records types.now) → chain_place chain t child (records types.now) ≡ None) }
-    ensures err { IfErr result (λ f. (f ≡ want_of_memory) ⊎ ((f.code ≡ code)
-        × ((t : Tables) → AreSpelled t (records types.now) → chain_place chain t child (records types.now) ≡ Some f.place))) }
+    ensures ok { OnOk result (IsChainPlace chain child (records types.now) None) }
+    ensures err { IfErr result (λ f. (f ≡ want_of_memory)
+        ⊎ ((f.code ≡ code) × IsChainPlace chain child (records types.now) (Some f.place))) }
 {
     match first_deep_type(alloc, types, starts, child, chain) {
         Ok(None) => Ok(()),
@@ -44,9 +42,9 @@ pub fn judge_chains(alloc: Global, types: &[u8], numbers: Numbers) -> Result<(),
     requires whole { walk_fault (records types.now) ≡ None }
     requires count { numbers.count ≡ length (records types.now) }
     requires short { length types.now < 2 ^ 32 }
-    ensures ok { OnOk result ((t : Tables) → AreSpelled t (records types.now) → chains_fault t numbers.child (records types.now) ≡ None) }
+    ensures ok { OnOk result (IsChainsFault numbers.child (records types.now) None) }
     ensures err { IfErr result (λ f. (f ≡ want_of_memory)
-        ⊎ ((t : Tables) → AreSpelled t (records types.now) → chains_fault t numbers.child (records types.now) ≡ Some f)) }
+        ⊎ IsChainsFault numbers.child (records types.now) (Some f)) }
 {
     let Ok(starts) = record_starts(alloc, types, numbers.count) else {
         return Err(placeless(Fault::MEMORY));

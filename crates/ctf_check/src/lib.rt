@@ -11,8 +11,6 @@ mod names;
 mod needs;
 mod references;
 mod sections;
-#[cfg(test)]
-mod tests;
 mod typed;
 
 pub use checked::Checked;

@@ -43,8 +43,8 @@ fn bad_in_labels(ctf: &[u8], start: usize, count: usize, ends: NameEnds<'_>) -> 
     None
 }
 
-/// The first of the names of `count` items of a list that is bad: its place in the dictionary, where
-/// the list begins at `start`.
+/// The first of the names of `count` items of a list that is bad: its place in the dictionary,
+/// where the list begins at `start`.
 #[tactic(auto, using(crate::proofs::Sites::item_sites_next, crate::proofs::Sites::item_sites_end), unfolding(ctf_model::specs::Faults::first_nameless))]
 fn bad_in_items(
     list: &[u8],
@@ -72,7 +72,8 @@ fn bad_in_items(
 #[tactic(auto, unfolding(ctf_model::specs::Faults::first_nameless))]
 fn bad_in_list(term: &Record<'_>, start: usize, ends: NameEnds<'_>) -> Option<u64>
     requires near { start + length (bytes_of term.now) < 2 ^ 64 }
-    ensures { result ≡ first_nameless (tables_in ends.entry) (list_sites start (bytes_of term.now) (kind_in (bytes_of term.now))) }
+    ensures { result ≡ first_nameless (tables_in ends.entry)
+        (list_sites start (bytes_of term.now) (kind_in (bytes_of term.now))) }
 {
     let rest = term.rest();
     let behind = start + (term.bytes().len() - rest.len());
@@ -103,7 +104,8 @@ fn bad_in_record(term: &Record<'_>, start: usize, ends: NameEnds<'_>) -> Option<
 #[tactic(auto, using(crate::proofs::Sites::record_then_rest, crate::proofs::Sites::no_record, crate::proofs::Sites::no_more_records))]
 fn bad_in_records(types: &[u8], start: usize, ends: NameEnds<'_>) -> Option<u64>
     requires { start < 2 ^ 63 }
-    ensures { result ≡ first_nameless (tables_in ends.entry) (record_sites start (records types.now)) }
+    ensures { result ≡ first_nameless (tables_in ends.entry)
+        (record_sites start (records types.now)) }
 {
     for record in Records::new(types) {
         let Ok(record) = record else { return None };

@@ -43,7 +43,8 @@ impl Numbers {
     /// Whether a type that stands behind the head of a record is not there.
     #[tactic(auto, using(crate::proofs::Listed::any_next, crate::proofs::Listed::any_end))]
     fn misses_listed(self, term: &Record<'_>) -> bool
-        ensures { result ≡ list_any (missing self.child self.count) (listed_types (bytes_of term.now)) }
+        ensures { result
+            ≡ list_any (missing self.child self.count) (listed_types (bytes_of term.now)) }
     {
         for item in 0..term.listed_count() {
             if self.is_missing(term.listed_type(item)) {

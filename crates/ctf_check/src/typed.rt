@@ -12,8 +12,8 @@ use crate::facts::Facts;
 use ctf_records::Record;
 use ctf_views::Variant;
 
-/// A type of a dictionary: its record, beside the dictionary that has it. A bare record does not know
-/// which tables name it.
+/// A type of a dictionary: its record, beside the dictionary that has it. A bare record does not
+/// know which tables name it.
 #[derive(Clone, Copy)]
 pub struct Typed<'a> {
     dictionary: Checked<'a>,

@@ -6,4 +6,14 @@ mod parts;
 pub use parts::joined;
 
 #[cfg(test)]
+mod chains;
+#[cfg(test)]
+mod check;
+#[cfg(test)]
 mod model;
+#[cfg(test)]
+mod records;
+#[cfg(test)]
+mod sections;
+#[cfg(test)]
+mod views;

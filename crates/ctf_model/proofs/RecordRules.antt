@@ -1,8 +1,8 @@
 -- Each rule of the records agrees with its fact.
-use Rattle.std.proofs.Common.{◌≡◌, ℕ, suc, ◌+◌, ◌<◌, ◌≤◌, Bool, true, false, cond, eqb, ltb, List, [], ◌∷◌, length, Some, None, Result, refl, sym, ap, ◌∙◌, arith, ◌⊎◌, inl, inr}
+use Rattle.std.proofs.Common.{◌≡◌, ℕ, suc, ◌+◌, ◌<◌, ◌≤◌, Bool, true, false, cond, eqb, ltb, List, [], ◌∷◌, length, Some, None, Result, refl, sym, ap, ◌∙◌, arith}
 use Rattle.std.specs.Bool.{Decides}
-use Rattle.std.proofs.lemmas.Bool.{eqb-true, eqb-false, ne_eqb, ltb-true, lt-ltb}
-use Rattle.std.proofs.lemmas.Option.{same_Some}
+use Rattle.std.proofs.lemmas.Bool.{eqb-true, eqb-false, eq-eqb, ne_eqb, ltb-true, lt-ltb, false≢true}
+use Rattle.std.proofs.lemmas.Option.{same_Some, cond_some}
 use Rattle.ctf_model.specs.declared.faults.Fault.{Fault}
 use Rattle.ctf_model.specs.declared.faults.TheConstants.Fault.{TRUNCATED, BAD_KIND}
 use Rattle.ctf_model.specs.declared.sections.Section.TheVariants.{STypes}
@@ -52,77 +52,61 @@ pub length_all : (parts : List (List ℕ)) (rest : List ℕ) (index at : ℕ) �
 length_all [] rest index at e = rw e refl
 length_all (part ∷ parts) rest index at e = ap suc (length_all parts rest (index + 1) (at + length part) e)
 
--- ---- the rest of a cut: empty, or with a kind that isn't known, or cut off
-
--- the rest is empty, or has a kind that is not known, or is cut off
-abbrev Ending : List ℕ → Type 0
-Ending rest = (length rest ≡ 0) ⊎ (HasUnknownKind rest ⊎ ((0 < length rest) × ¬ HasUnknownKind rest))
-
--- one of these holds
-ending : (rest : List ℕ) → Ending rest
-ending rest = at (eqb (length rest) 0) refl (unknown_decided rest)
-  where
-    by_kind : 0 < length rest → (u : Bool) → Decides u (HasUnknownKind rest) → Ending rest
-    by_kind lt true d = inr (inl (d.0 refl))
-    by_kind lt false d = inr (inr (lt, λ h. let e = d.1 h in absurd cc))
-
-    at : (t : Bool) → eqb (length rest) 0 ≡ t → {u : Bool} → Decides u (HasUnknownKind rest) → Ending rest
-    at true e d = inl (eqb-true (length rest) 0 e)
-    at false e {u} d = let ne = eqb-false (length rest) 0 e in by_kind (omega (arith, ne)) u d
-
 -- ---- the rules
 
--- where a record is cut off, its number is computed
-truncated_at : (s : Lists) (p : ℕ) → Truncated s p → truncated s ≡ Some p
-truncated_at s p t =
-    let w = fault_some s.ctf t.0 t.1 TRUNCATED t.2 t.3 (code_cut_off t.1 t.4) in
-    ap (place_of TRUNCATED) w ∙ ap (λ (q : ℕ). Some q) (sym t.5)
+-- the number behind the last whole record is computed under the code of the rest
+code_at : (s : Lists) (code p : ℕ) (parts : List (List ℕ)) (rest : List ℕ) → IsCut (section s.ctf STypes) parts rest → 0 < length rest → stop_code rest ≡ code → p ≡ length parts + 1 → place_of code (walk_fault (types s.ctf)) ≡ Some p
+code_at s code p parts rest cut lt e is =
+    let same : eqb code code ≡ true = eq-eqb code code refl in
+    let here : place_of code (Some (record { code = code; place = length parts + 1 })) ≡ Some (length parts + 1) = rw same refl in
+    ap (place_of code) (fault_some s.ctf parts rest code cut lt e) ∙ here ∙ ap (λ (q : ℕ). Some q) (sym is)
 
--- where a number is computed, its record is cut off
-at_truncated : (s : Lists) (p : ℕ) → truncated s ≡ Some p → Truncated s p
-at_truncated s p e =
-    let r = read (section s.ctf STypes) in at r.0 r.1 r.2.cut (ending r.1)
+-- a rest that is not empty, has this code and stands behind that many records
+abbrev EndsWith : Lists → ℕ → ℕ → Type 0
+EndsWith s code p = (parts : List (List ℕ)) × (rest : List ℕ) × IsCut (section s.ctf STypes) parts rest × (0 < length rest) × (stop_code rest ≡ code) × (p ≡ length parts + 1)
+
+-- where a number is computed under a code, there is such a rest
+at_code : (s : Lists) (code p : ℕ) → place_of code (walk_fault (types s.ctf)) ≡ Some p → EndsWith s code p
+at_code s code p e = let r = read (section s.ctf STypes) in at r.0 r.1 r.2.cut (eqb (length r.1) 0) refl
   where
-    at : (parts : List (List ℕ)) (rest : List ℕ) → IsCut (section s.ctf STypes) parts rest → Ending rest → Truncated s p
-    at parts rest cut (inl none) = let w = fault_none s.ctf parts rest cut none in absurd (let x = ap (place_of TRUNCATED) w in cc)
-    at parts rest cut (inr (inl unknown)) = let w = fault_some s.ctf parts rest BAD_KIND cut (omega (arith, unknown.0)) (code_unknown rest unknown) in absurd (let x = ap (place_of TRUNCATED) w in cc)
-    at parts rest cut (inr (inr h)) =
-        let w = fault_some s.ctf parts rest TRUNCATED cut h.0 (code_cut_off rest h.1) in
-        (parts, rest, cut, h.0, h.1, same_Some p (length parts + 1) (sym e ∙ ap (place_of TRUNCATED) w))
+    at : (parts : List (List ℕ)) (rest : List ℕ) → IsCut (section s.ctf STypes) parts rest → (none : Bool) → eqb (length rest) 0 ≡ none → EndsWith s code p
+    at parts rest cut true none = let w = ap (place_of code) (fault_none s.ctf parts rest cut (eqb-true (length rest) 0 none)) in absurd (let x = sym w ∙ e in cc)
+    at parts rest cut false some =
+        let ne = eqb-false (length rest) 0 some in
+        let lt : 0 < length rest = omega (arith, ne) in
+        let both = cond_some (eqb (stop_code rest) code) (length parts + 1) p (sym (ap (place_of code) (fault_some s.ctf parts rest (stop_code rest) cut lt refl)) ∙ e) in
+        (parts, rest, cut, lt, eqb-true (stop_code rest) code both.0, sym both.1)
 
+-- the code tells which fact holds of a rest
+cut_off_code : (rest : List ℕ) → stop_code rest ≡ TRUNCATED → ¬ HasUnknownKind rest
+cut_off_code rest e unknown = let other : TRUNCATED ≡ BAD_KIND = sym e ∙ code_unknown rest unknown in absurd cc
+
+unknown_code : (rest : List ℕ) → stop_code rest ≡ BAD_KIND → HasUnknownKind rest
+unknown_code rest e = at _ (unknown_decided rest)
+  where
+    at : (u : Bool) → Decides u (HasUnknownKind rest) → HasUnknownKind rest
+    at true d = d.0 refl
+    at false d = let other : BAD_KIND ≡ TRUNCATED = sym e ∙ code_cut_off rest (λ h. false≢true (d.1 h)) in absurd cc
+
+-- where a record is cut off, its number is computed, and no other
 pub truncated_agrees : (s : Lists) → Agrees (truncated s) (IsBroken s 10)
-truncated_agrees s = exact_agrees (truncated s) (Truncated s) (truncated_at s, at_truncated s)
+truncated_agrees s = exact_agrees (truncated s) (Truncated s) (λ p t. code_at s TRUNCATED p t.0 t.1 t.2 t.3 (code_cut_off t.1 t.4) t.5, λ p e. let r = at_code s TRUNCATED p e in (r.0, r.1, r.2, r.3, cut_off_code r.1 r.4, r.5))
 
--- where a kind is not known, the number of its record is computed
-bad_kind_at : (s : Lists) (p : ℕ) → BadKind s p → bad_kind s ≡ Some p
-bad_kind_at s p t =
-    let w = fault_some s.ctf t.0 t.1 BAD_KIND t.2 (omega (arith, t.3.0)) (code_unknown t.1 t.3) in
-    ap (place_of BAD_KIND) w ∙ ap (λ (q : ℕ). Some q) (sym t.4)
-
--- where a number is computed, the kind of its record is not known
-at_bad_kind : (s : Lists) (p : ℕ) → bad_kind s ≡ Some p → BadKind s p
-at_bad_kind s p e =
-    let r = read (section s.ctf STypes) in at r.0 r.1 r.2.cut (ending r.1)
-  where
-    at : (parts : List (List ℕ)) (rest : List ℕ) → IsCut (section s.ctf STypes) parts rest → Ending rest → BadKind s p
-    at parts rest cut (inl none) = let w = fault_none s.ctf parts rest cut none in absurd (let x = ap (place_of BAD_KIND) w in cc)
-    at parts rest cut (inr (inl unknown)) =
-        let w = fault_some s.ctf parts rest BAD_KIND cut (omega (arith, unknown.0)) (code_unknown rest unknown) in
-        (parts, rest, cut, unknown, same_Some p (length parts + 1) (sym e ∙ ap (place_of BAD_KIND) w))
-    at parts rest cut (inr (inr h)) = let w = fault_some s.ctf parts rest TRUNCATED cut h.0 (code_cut_off rest h.1) in absurd (let x = ap (place_of BAD_KIND) w in cc)
-
+-- so it is where a kind is not known
 pub bad_kind_agrees : (s : Lists) → Agrees (bad_kind s) (IsBroken s 11)
-bad_kind_agrees s = exact_agrees (bad_kind s) (BadKind s) (bad_kind_at s, at_bad_kind s)
+bad_kind_agrees s = exact_agrees (bad_kind s) (BadKind s) (λ p t. code_at s BAD_KIND p t.0 t.1 t.2 (let low = t.3.0 in omega arith) (code_unknown t.1 t.3) t.4, λ p e. let r = at_code s BAD_KIND p e in (r.0, r.1, r.2, unknown_code r.1 r.4, r.5))
 
 -- where the rules of single records are kept, the section is whole records to its end
 pub kept_records : (s : Lists) (n : ℕ) → 11 < n → Keeps s n → (parts : List (List ℕ)) × (rest : List ℕ) × IsCut (section s.ctf STypes) parts rest × (length rest ≡ 0)
 kept_records s n lt keeps =
-    let r = read (section s.ctf STypes) in at r.0 r.1 r.2.cut (ending r.1)
+    let r = read (section s.ctf STypes) in at r.0 r.1 r.2.cut (eqb (length r.1) 0) refl _ (unknown_decided r.1)
   where
-    at : (parts : List (List ℕ)) (rest : List ℕ) → IsCut (section s.ctf STypes) parts rest → Ending rest → (ps : List (List ℕ)) × (r : List ℕ) × IsCut (section s.ctf STypes) ps r × (length r ≡ 0)
-    at parts rest cut (inl none) = (parts, rest, cut, none)
-    at parts rest cut (inr (inl unknown)) = absurd (keeps 11 lt (length parts + 1) (parts, rest, cut, unknown, refl))
-    at parts rest cut (inr (inr h)) = absurd (keeps 10 (omega arith) (length parts + 1) (parts, rest, cut, h.0, h.1, refl))
+    at : (parts : List (List ℕ)) (rest : List ℕ) → IsCut (section s.ctf STypes) parts rest → (none : Bool) → eqb (length rest) 0 ≡ none → (u : Bool) → Decides u (HasUnknownKind rest) → (ps : List (List ℕ)) × (r : List ℕ) × IsCut (section s.ctf STypes) ps r × (length r ≡ 0)
+    at parts rest cut true none u d = (parts, rest, cut, eqb-true (length rest) 0 none)
+    at parts rest cut false some true d = absurd (keeps 11 lt (length parts + 1) (parts, rest, cut, d.0 refl, refl))
+    at parts rest cut false some false d =
+        let ne = eqb-false (length rest) 0 some in
+        absurd (keeps 10 (omega arith) (length parts + 1) (parts, rest, cut, omega (arith, ne), λ h. false≢true (d.1 h), refl))
 
 -- where there are too many records, the number is computed
 too_many_at : (s : Lists) (p : ℕ) → TooMany s p → too_many s ≡ Some p

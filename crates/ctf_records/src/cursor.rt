@@ -29,7 +29,8 @@ impl<'a> Model for Records<'a> {
 
     ghost view = { λ it. walk (length it.rest.now) it.index it.at it.rest.now };
 
-    ghost invariant = { λ it. (it.index + length it.rest.now ≤ 2 ^ 63) × (it.at + length it.rest.now ≤ 2 ^ 63) };
+    ghost invariant = { λ it. (it.index + length it.rest.now ≤ 2 ^ 63)
+        × (it.at + length it.rest.now ≤ 2 ^ 63) };
 }
 
 /// The fault of bytes that no whole record begins.

@@ -7,8 +7,6 @@ mod listed;
 mod place;
 mod record;
 mod tag;
-#[cfg(test)]
-mod tests;
 
 pub use cursor::{Records, record_numbered};
 pub use listed::{WIDE_MEMBERS, member_len};

@@ -4,8 +4,6 @@
 pub mod bytes;
 mod header;
 mod strings;
-#[cfg(test)]
-mod tests;
 
 pub use header::Header;
 pub use strings::Strings;

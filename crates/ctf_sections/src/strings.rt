@@ -24,12 +24,14 @@ impl<'a> Strings<'a> {
     ghost use Rattle.ctf_sections.specs.StringsView.{tables};
 
     pub fn new(internal: &'a [u8], elf: Option<&'a [u8]>) -> Strings<'a>
-        ensures { tables result ≡ record { internal = internal.now; elf = option_copied elf.entry } }
+        ensures { tables result
+            ≡ record { internal = internal.now; elf = option_copied elf.entry } }
     {
         Strings { internal, elf }
     }
 
-    /// The name of a reference, lent from the table that its bit 31 picks (ctf(5), "String Identifiers").
+    /// The name of a reference, lent from the table that its bit 31 picks (ctf(5), "String
+    /// Identifiers").
     pub fn name(&self, reference: u32) -> Option<&'a [u8]>
         ensures { option_copied result ≡ named (tables self.now) reference }
     {

@@ -9,8 +9,6 @@ mod reading;
 mod row;
 mod rows;
 mod shown;
-#[cfg(test)]
-mod tests;
 
 pub use args::Args;
 pub use enumerators::{Enumerator, Enumerators};

@@ -1,6 +1,6 @@
 //! How the tests write dictionaries.
 
-use crate::{LentLists, check};
+use ctf_check::{LentLists, check};
 use std::alloc::{AllocError, Global};
 
 /// A header alone.

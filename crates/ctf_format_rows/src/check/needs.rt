@@ -1,7 +1,7 @@
 //! Which types of its parent a child needs.
 
 use super::inputs::{dictionary, put_head};
-use crate::check;
+use ctf_check::check;
 use std::alloc::{AllocError, Global};
 use std::test::Fail;
 

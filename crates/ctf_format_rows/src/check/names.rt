@@ -1,7 +1,7 @@
 //! Names.
 
 use super::inputs::{INT, LABELLED, OUTER, alone, changed, dictionary, fault_in, fault_of};
-use crate::LentLists;
+use ctf_check::LentLists;
 use ctf_model::Fault;
 use std::test::Fail;
 

@@ -1,7 +1,7 @@
 //! Types of each kind, asked for one by one.
 
 use super::inputs::dictionary;
-use crate::check;
+use ctf_check::check;
 use ctf_model::{Kind, TypeNum};
 use ctf_records::Tag;
 use ctf_views::{Encoding, Enumerator, Member, Variant};

@@ -4,10 +4,10 @@ ghost use Rattle.ctf_model.specs.Section.{front_len};
 ghost use Rattle.ctf_model.specs.Spelling.{term_of};
 ghost use Rattle.ctf_sections.specs.StringsView.{tables};
 
-use crate::{ArrayInfo, Encoding, Enumerator, Member, Variant, variant};
 use ctf_model::TypeNum;
 use ctf_records::{Tag, record_at};
 use ctf_sections::Strings;
+use ctf_views::{ArrayInfo, Encoding, Enumerator, Member, Variant, variant};
 
 /// What the one record shows that some bytes are.
 fn shown<'a>(types: &'a [u8], strings: Strings<'a>) -> Option<Variant<'a>>

@@ -1,12 +1,18 @@
 //! Long chains of each sort, cycles, and what looking for them costs.
-ghost use Rattle.std.specs.Prelude.{◌≡◌, IfSome, None, length};
+ghost use Rattle.std.specs.Prelude.{◌≡◌, ◌<◌, IfSome, None, length};
 ghost use Rattle.ctf_model.specs.Faults.{walk_fault};
 ghost use Rattle.ctf_model.specs.Section.{records};
+ghost use Rattle.ctf_chains.specs.Starts.{starts_in};
 
-use crate::{Chain, Graph, first_deep, first_deep_counted, first_deep_type, record_starts};
+use ctf_chains::{
+    Chain, Graph, Starts, Ticks, first_deep, first_deep_counted, first_deep_type, record_started,
+    record_starts,
+};
 use ctf_records::Records;
 use std::alloc::{AllocError, Global};
+use std::marker::Brand;
 use std::process::Abort;
+use std::sync::ledger::{Blank, Ledger};
 use std::test::Fail;
 
 const INTEGER: u16 = 1;
@@ -112,6 +118,26 @@ fn whole_count(types: &[u8]) -> Option<usize>
     Some(count)
 }
 
+/// The same search, with the number of its ticks, in a ledger that no type stands for before.
+fn counted<L: Ledger>(
+    alloc: Global,
+    types: &[u8],
+    starts: &Starts,
+    child: bool,
+    chain: Chain,
+    blank: Blank,
+) -> Result<(Option<usize>, u64), AllocError>
+    requires whole { walk_fault (records types.now) ≡ None }
+    requires starts { starts.now ≡ starts_in (records types.now) }
+    requires name { blank.name ≡ L.name }
+    requires parts { blank.parts ≡ L.parts }
+    requires some { 0 < blank.parts }
+{
+    let mut work = Ticks::<L>::new(blank);
+    let found = first_deep_counted(alloc, types, starts, child, chain, &mut work)?;
+    Ok((found, work.count()))
+}
+
 /// The first type that a chain of a sort is too long from, and what it took to find it.
 fn first(
     rt: &impl Abort,
@@ -126,13 +152,12 @@ fn first(
     };
     assert!(rt; types.len() < 0x1_0000_0000);
     let starts = record_starts(alloc, types, count)?;
-    let mut work = 0;
-    let found = first_deep_counted(alloc, types, &starts, child, chain, &mut work)?;
+    let found = counted::<Brand>(alloc, types, &starts, child, chain, Blank::new(1))?;
     assert_eq!(rt;
         first_deep_type(alloc, types, &starts, child, chain)?,
-        found
+        found.0
     );
-    Ok((found, work))
+    Ok(found)
 }
 
 #[test]
@@ -397,23 +422,52 @@ struct Rows {
     rows: Vec<Vec<usize>>,
 }
 
-impl Graph for Rows {
+impl<L: Ledger> Graph<L> for Rows {
+    type Opened = usize;
+
     ghost use Rattle.std.specs.Prelude.{map, nat_lt, if◌then◌else◌, Some};
+    ghost use Rattle.ctf_chains.specs.Places.{places_at};
 
     ghost places = { λ s. map (λ row. map (λ j. if nat_lt j (length s.rows.items) then Some j else None) row.items) s.rows.items };
+
+    ghost places_of = { λ s i. places_at (map (λ row. map (λ j. if nat_lt j (length s.rows.items) then Some j else None) row.items) s.rows.items) i };
 
     fn len(&self) -> usize {
         self.rows.len()
     }
 
-    fn place_count(&self, i: usize) -> usize {
-        self.rows[i].len()
+    fn open(&self, i: usize, work: &mut Ticks<L>) -> usize {
+        work.tick();
+        i
     }
 
-    fn place(&self, i: usize, k: usize) -> Option<usize> {
-        let j = self.rows[i][k];
+    fn place_count(&self, opened: usize) -> usize {
+        if opened < self.rows.len() {
+            self.rows[opened].len()
+        } else {
+            0
+        }
+    }
+
+    fn place(&self, opened: usize, k: usize, work: &mut Ticks<L>) -> Option<usize> {
+        work.tick();
+        let j = self.rows[opened][k];
         if j < self.rows.len() { Some(j) } else { None }
     }
+}
+
+fn searched<L: Ledger>(
+    alloc: Global,
+    rows: &Rows,
+    blank: Blank,
+) -> Result<(Option<usize>, u64), AllocError>
+    requires name { blank.name ≡ L.name }
+    requires parts { blank.parts ≡ L.parts }
+    requires some { 0 < blank.parts }
+{
+    let mut work = Ticks::<L>::new(blank);
+    let found = first_deep(alloc, rows, &mut work)?;
+    Ok((found, work.count()))
 }
 
 #[test]
@@ -423,8 +477,30 @@ fn rows_of_any_kind(rt: HostRuntime) -> Result<(), Fail> {
     for next in [9usize, 2, 3, 4, 5, 3] {
         rows.push(vec![in rt.alloc(); 99, next]?)?;
     }
-    let mut work = 0;
-    let found = first_deep(rt.alloc(), &Rows { rows }, &mut work)?;
-    assert_eq!(rt; (found, work), (Some(1), 18));
+    let found = searched::<Brand>(rt.alloc(), &Rows { rows }, Blank::new(1))?;
+    assert_eq!(rt; found, (Some(1), 18));
+    Ok(())
+}
+
+#[test]
+fn starts_of_records(rt: HostRuntime) -> Result<(), Fail> {
+    let mut section = Section::new(rt.alloc());
+    section.integer()?;
+    section.head(POINTER, 0, 1)?;
+    section.function(2, 1)?;
+    let types = section.bytes.as_slice();
+    let Some(count) = whole_count(types) else {
+        panic!(rt; "each record is whole")
+    };
+    assert!(rt; types.len() < 0x1_0000_0000);
+    let starts = record_starts(rt.alloc(), types, count)?;
+    let places = starts.as_slice();
+    assert_eq!(rt; places, [0u32, 12, 20].as_slice());
+    for (i, at) in [0, 12, 20].iter().enumerate() {
+        if i < places.len() {
+            let record = record_started(types, places, i);
+            assert_eq!(rt; (record.index(), record.place()), (i as u64 + 1, *at));
+        }
+    }
     Ok(())
 }

@@ -1,7 +1,7 @@
 //! Records typed by hand, what their heads say, and where sections stop being records.
 
-use crate::{Record, Records, Tag, record_at, record_numbered};
 use ctf_model::{Fault, Kind, TypeNum};
+use ctf_records::{Record, Records, Tag, WIDE_MEMBERS, member_len, record_at, record_numbered};
 
 /// The hidden unknown type of the name 0, in long form.
 const LONG_UNKNOWN: [u8; 16] = *b"\x00\x00\x00\x00\x00\x00\xff\xff\
@@ -388,4 +388,61 @@ fn stops_at_a_kind_that_is_not_known(rt: HostRuntime) {
     assert!(rt; matches!(records.next(), Some(Ok(_))));
     assert!(rt; matches!(records.next(), Some(Err(_))));
     assert!(rt; records.next().is_none());
+}
+
+#[test]
+fn lists_types(rt: HostRuntime) {
+    let rows: [(&[u8], &[u16]); 6] = [
+        (
+            b"\x00\x00\x00\x00\x00\x20\x00\x00\x07\x00\x08\x80\x01\x00\x00\x00",
+            &[7, 0x8008],
+        ),
+        (
+            b"\x00\x00\x00\x00\x03\x28\x02\x00\x07\x00\x01\x80\x00\x00\x63\x00",
+            &[7, 0x8001, 0],
+        ),
+        // members of 8 bytes, and of 16
+        (
+            b"\x00\x00\x00\x00\x02\x30\x04\x00\
+              \x00\x00\x00\x00\x03\x00\x09\x00\x00\x00\x00\x00\x02\x80\x09\x00",
+            &[3, 0x8002],
+        ),
+        (
+            b"\x00\x00\x00\x00\x02\x38\x00\x20\
+              \x00\x00\x00\x00\x03\x00\x09\x00\x09\x00\x00\x00\x09\x00\x00\x00\
+              \x00\x00\x00\x00\x04\x00\x09\x00\x09\x00\x00\x00\x09\x00\x00\x00",
+            &[3, 4],
+        ),
+        // enumerators, and what the head of a pointer names
+        (
+            b"\x00\x00\x00\x00\x01\x40\x04\x00\x00\x00\x00\x00\x07\x00\x00\x00",
+            &[],
+        ),
+        (b"\x00\x00\x00\x00\x00\x18\x07\x00", &[]),
+    ];
+    for (bytes, want) in rows {
+        let Some(record) = record_at(bytes, 0, 1) else {
+            panic!(rt; "it is whole")
+        };
+        let count = record.listed_count();
+        assert_eq!(rt; count, want.len(), "at {bytes:?}");
+        for (item, number) in want.iter().enumerate() {
+            if item < count {
+                assert_eq!(rt; record.listed_type(item), TypeNum(*number), "at {bytes:?}");
+            }
+        }
+    }
+}
+
+#[test]
+fn members_are_wide_by_the_size(rt: HostRuntime) {
+    assert_eq!(rt;
+        (member_len(8191), member_len(8192), WIDE_MEMBERS),
+        (8, 16, 8192)
+    );
+    let wide = b"\x00\x00\x00\x00\x00\x38\x00\x20";
+    let Some(record) = record_at(wide, 0, 1) else {
+        panic!(rt; "it is whole")
+    };
+    assert_eq!(rt; record.member_len(), 16);
 }

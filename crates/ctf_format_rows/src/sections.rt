@@ -1,8 +1,8 @@
 //! Headers and names typed by hand.
 
-use crate::bytes::{u16_at, u32_at};
-use crate::{Header, Strings};
 use ctf_model::{Fault, Section, placeless};
+use ctf_sections::bytes::{u16_at, u32_at};
+use ctf_sections::{Header, Strings};
 
 /// An integer named "int": header, one record of 12 bytes, 5 bytes of strings.
 const INT: [u8; 53] = *b"\xf1\xcf\x02\x00\

@@ -1,7 +1,7 @@
 use Rattle.std.proofs.Common.{◌≡◌, ◌+◌, length}
 use Rattle.ctf_model.specs.Faults.{walk_fault}
 use Rattle.ctf_model.specs.Section.{records}
-use Rattle.ctf_chains.proofs.tests.whole_count.Given as goal
+use Rattle.ctf_format_rows.proofs.chains.whole_count.Given as goal
 
 abbrev pub invariant-loop-record : goal.invariant-loop-record
 invariant-loop-record l = record {
