@@ -19,6 +19,7 @@ pub mod TypeNumbers
 pub mod Refusals
 pub mod State
 pub mod OwnedLists
+pub mod Space
 pub mod Answers
 pub mod Shown
 pub mod KindNames

@@ -2,6 +2,7 @@
 #![tactic(auto)]
 
 mod bytes;
+mod data_model;
 mod faults;
 mod kinds;
 mod laws;
@@ -14,6 +15,7 @@ mod sections;
 mod words;
 
 pub use bytes::{Bytes, LONGEST_PIECE, Piece};
+pub use data_model::DataModel;
 pub use faults::{Fault, fault_name, placeless};
 pub use kinds::Kind;
 pub use laws::{
