@@ -36,4 +36,5 @@ pub mod Output
 pub mod Rows
 pub mod KindRows
 pub mod QuestionRows
+pub mod ParentRows
 pub mod KeyOrder

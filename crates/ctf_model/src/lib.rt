@@ -28,8 +28,8 @@ pub use questions::{Question, TypeQuestion, Window};
 pub use requests::{Change, ListName, Request};
 pub use rows::{
     bytes_denote, bytes_have_faults, kinds_denote, kinds_have_faults, lines_ask, lines_say,
-    lists_are_long, numbers_name, output_is, questions_are_answered, questions_are_lines,
-    session_runs,
+    lists_are_long, numbers_name, output_is, parents_are_imported, questions_are_answered,
+    questions_are_lines, session_runs, slots_are_closed,
 };
 pub use sections::Section;
 pub use words::Word;
