@@ -9,9 +9,9 @@ use Rattle.ctf_model.specs.Lists.{Lists}
 use Rattle.ctf_model.specs.Refusals.{placeless, want_of_memory}
 use Rattle.ctf_model.specs.State.{State, Slot, empty_state, empty_stage}
 use Rattle.ctf_model.specs.Questions.{type_said}
-use Rattle.ctf_model.specs.Space.{import_fault}
+use Rattle.ctf_model.specs.Space.{Space, import_fault, space_type}
+use Rattle.ctf_model.specs.declared.data_model.DataModel.TheVariants.{Lp64}
 use Rattle.ctf_model.specs.Term.{Term}
-use Rattle.ctf_model.specs.TypeNumbers.{type_at}
 use Rattle.ctf_model.specs.declared.faults.Fault.{Fault}
 use Rattle.ctf_model.specs.declared.faults.TheConstants.Fault.{NO_SLOT, SLOTS_FULL, STAGE_FULL}
 use Rattle.ctf_model.specs.declared.requests.ListName.{ListName}
@@ -109,9 +109,13 @@ abbrev pub slot_at : ℕ → List Slot → Option Slot
 slot_at number [] = None
 slot_at number (slot ∷ slots) = if slot.number == number then Some slot else slot_at number slots
 
+-- what the questions of a slot see; no request says a data model yet
+abbrev pub slot_space : Slot → Space
+slot_space slot = record { own = said_by slot.lists; parent = option_map said_by slot.parent; model = Lp64 }
+
 -- the type of a number in a slot
 abbrev pub slot_type : ℕ → Slot → Result Term Fault
-slot_type t slot = type_at (said_by slot.lists) (option_map said_by slot.parent) t
+slot_type t slot = space_type (slot_space slot) t
 
 -- what a slot answers
 abbrev pub slot_said : Question → Slot → Result Answer Fault

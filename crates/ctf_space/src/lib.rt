@@ -5,5 +5,6 @@ mod lending;
 mod opened;
 mod space;
 
+pub use lending::lent;
 pub use opened::Opened;
 pub use space::Space;

@@ -85,6 +85,14 @@ impl Opened {
         Checked::indexed(lent(&self.parts), self.starts.as_slice())
     }
 
+    /// Its lists, handed back.
+    pub fn into_parts(self) -> Parts
+        ensures { lists_owned result ≡ self.lists }
+    {
+        let Opened { parts, .. } = self;
+        parts
+    }
+
     /// The data model of its program.
     pub fn model(&self) -> DataModel
         ensures { result ≡ self.now.model }

@@ -71,11 +71,20 @@ impl<'a> Space<'a> {
                 place: u64::from(needs),
             });
         }
-        Ok(Space {
+        Ok(Space::again(child, parent, model))
+    }
+
+    /// A child over the parent that it was imported over before, without judging the import again.
+    pub fn again(child: Checked<'a>, parent: Checked<'a>, model: DataModel) -> Space<'a>
+        requires { fault_of_import child parent ≡ None }
+        ensures { space_of result
+            ≡ over_parent (dictionary_of child.entry) (dictionary_of parent.entry) model }
+    {
+        Space {
             own: child,
             parent: Some(parent),
             model,
-        })
+        }
     }
 
     /// The type that a number names, beside the dictionary whose tables name it.
