@@ -1,1 +1,2 @@
 pub mod SaidOfFacts
+pub mod Numbered

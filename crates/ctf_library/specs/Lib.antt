@@ -1,3 +1,3 @@
 pub mod SlotView
 pub mod Stepping
-pub mod Found
+pub mod SlotPlaces

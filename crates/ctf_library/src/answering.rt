@@ -4,34 +4,22 @@ ghost use Rattle.ctf_model.specs.Answers.{number, word};
 ghost use Rattle.ctf_model.specs.KindNames.{name_of_tag};
 ghost use Rattle.ctf_model.specs.Questions.{or_wrong_kind, list_fields, said_on, type_said, record_fields, member_fields, enumerator_fields, argument_fields, array_fields, encoding_fields, reference_said, number_item, is_variadic as ends_open, named_arguments};
 ghost use Rattle.ctf_model.specs.Shown.{members_in, enumerators_in, arguments_in, array_in, encoding_in, list_length};
-ghost use Rattle.ctf_model.specs.TypeNumbers.{type_at};
+ghost use Rattle.ctf_model.specs.Space.{space_type};
+ghost use Rattle.ctf_model.specs.Steps.{slot_said, slot_space};
 ghost use Rattle.ctf_answers.specs.Items.{items_of};
 ghost use Rattle.ctf_answers.specs.Singles.{single_of};
-ghost use Rattle.ctf_check.specs.CheckedView.{dictionary_of};
 ghost use Rattle.ctf_check.specs.FactsView.{facts_seen};
 ghost use Rattle.ctf_records.specs.RecordView.{tag_of};
 ghost use Rattle.ctf_views.specs.VariantView.{seen};
-ghost use Rattle.ctf_library.specs.Found.{type_found};
+ghost use Rattle.ctf_space.specs.SpaceView.{space_of};
 
+use crate::slots::Slot;
 use ctf_answers::{Answer, Items, Listed, Single, kind_name, tag_name};
-use ctf_check::{Checked, Facts, Typed};
-use ctf_model::{Fault, Place, TypeNum, TypeQuestion, Window, placeless};
+use ctf_check::Facts;
+use ctf_model::{Fault, Question, TypeNum, TypeQuestion, Window, placeless};
 use ctf_records::Tag;
+use ctf_space::Space;
 use ctf_views::{Args, Variant};
-
-/// The type with a number of a dictionary without a parent.
-fn find_type<'a>(dictionary: &Checked<'a>, t: TypeNum) -> Result<Typed<'a>, Fault>
-    ensures { type_found result ≡ type_at (dictionary_of dictionary.now) None t.0 }
-{
-    match t.place(dictionary.child()) {
-        Place::Own(i) => match dictionary.typed(i + 1) {
-            Some(found) => Ok(found),
-            None => Err(placeless(Fault::NO_TYPE)),
-        },
-        Place::Parents(_) => Err(placeless(Fault::NO_PARENT)),
-        Place::Nowhere => Err(placeless(Fault::NO_TYPE)),
-    }
-}
 
 /// What a list answers that a type may have.
 fn listed<'a>(key: &'static str, items: Items<'a>, window: Window) -> Answer<'a>
@@ -220,16 +208,38 @@ fn answer_of<'a>(x: Facts<'a>, question: TypeQuestion) -> Result<Answer<'a>, Fau
     }
 }
 
-/// What a question on a type of a dictionary without a parent is answered.
-pub(crate) fn answer_on<'a>(
-    dictionary: &Checked<'a>,
-    t: TypeNum,
-    question: TypeQuestion,
-) -> Result<Answer<'a>, Fault>
-    ensures { result ≡ type_said question (type_at (dictionary_of dictionary.now) None t.0) }
+/// What a question on a type of a space is answered.
+fn answer_on<'a>(space: &Space<'a>, t: TypeNum, question: TypeQuestion) -> Result<Answer<'a>, Fault>
+    ensures { result ≡ type_said question (space_type (space_of space.now) t.0) }
 {
-    match find_type(dictionary, t) {
+    match space.term(t) {
         Ok(found) => answer_of(found.facts(), question),
         Err(fault) => Err(fault),
+    }
+}
+
+impl Slot {
+    ghost use Rattle.ctf_library.specs.SlotView.{slot_of};
+
+    /// What its questions see.
+    fn space(&self) -> Space<'_>
+        ensures { space_of result ≡ record (slot_space (slot_of self.now)) { model = self.now.dictionary.value.model } }
+    {
+        let own = self.dictionary.view();
+        let model = self.dictionary.model();
+        match &self.parent {
+            Some(parent) => Space::again(own, parent.view(), model),
+            None => Space::own(own, model),
+        }
+    }
+
+    /// What a question is answered.
+    pub(crate) fn answer<'a>(&'a self, question: &Question) -> Result<Answer<'a>, Fault>
+        ensures { result ≡ slot_said question.now (slot_of self.now) }
+    {
+        let space = self.space();
+        match question {
+            Question::OfType { t, question } => answer_on(&space, *t, *question),
+        }
     }
 }

@@ -3,6 +3,8 @@
 
 mod answering;
 mod library;
+mod places;
 mod slots;
+mod staging;
 
 pub use library::Library;

@@ -1,30 +1,28 @@
 //! The library of one session.
-ghost use Rattle.std.specs.Prelude.{◌≡◌, ◌≢◌, ◌≤◌, ◌<◌, ◌⊎◌, ◌++◌, length, [], None, Some, Ok, Err, true, OnOk, OnErr, IfOk, IfErr, unwrap_or, map, option_map, option_copied};
-ghost use Rattle.ctf_model.specs.Dictionary.{said_by};
+ghost use Rattle.std.specs.Prelude.{◌≡◌, ◌⊎◌, None, Some, Ok, true, OnOk, IfOk, IfErr};
 ghost use Rattle.ctf_model.specs.Faults.{first_fault};
 ghost use Rattle.ctf_model.specs.OwnedLists.{lists_owned};
-ghost use Rattle.ctf_model.specs.Refusals.{placeless, want_of_memory};
-ghost use Rattle.ctf_model.specs.Runs.{Answered};
-ghost use Rattle.ctf_model.specs.State.{empty_state, empty_stage};
-ghost use Rattle.ctf_model.specs.Steps.{adds_slot, has_room, answer_to, is_quiet, MayAnswer, slot_at, longest_list};
+ghost use Rattle.ctf_model.specs.Refusals.{want_of_memory};
+ghost use Rattle.ctf_model.specs.State.{empty_state};
+ghost use Rattle.ctf_model.specs.Steps.{answer_to, fault_over, is_quiet, is_quiet_change, MayAnswer};
 ghost use Rattle.ctf_answers.specs.Replies.{said};
-ghost use Rattle.ctf_library.specs.SlotView.{slot_of};
-ghost use Rattle.ctf_library.specs.Stepping.{Makes};
-ghost use Rattle.ctf_model.specs.declared.faults.TheConstants.Fault.{STAGE_FULL};
+ghost use Rattle.ctf_library.specs.Stepping.{Does, Makes};
 
-use crate::slots::{Slot, lent};
+use crate::places::{find_slot, push_slot, remove_slot, set_parent};
+use crate::slots::Slot;
+use crate::staging::{add_first_piece, add_piece, judge};
 use ctf_answers::{Answer, Counts};
-use ctf_check::check;
-use ctf_model::{Bytes, Change, Fault, ListName, Parts, Question, SlotNumber, no_parts, placeless};
+use ctf_model::{
+    Change, DataModel, Fault, ListName, Parts, Question, SlotNumber, no_parts, placeless,
+};
+use ctf_space::{Opened, Space};
 use std::alloc::Global;
 use std::marker::Model;
 use std::mem;
+use std::rc::Rc;
 
 /// How many slots may be in use.
 const MOST_SLOTS: usize = 255;
-
-/// The greatest length of a staged list, in bytes.
-const LONGEST_LIST: usize = 16_777_216;
 
 /// What one session holds: its slots, the number of the next one, and the staged lists.
 #[derive(Drop)]
@@ -53,68 +51,32 @@ impl Model for Library {
     ghost invariant = { λ l. (l.next ≤ 2 ^ 32) × (l.stage.sym ≡ None) };
 }
 
-/// Adds a piece to the end of a list, and answers how long it is then.
-fn add_piece(list: &mut Bytes, piece: &[u8]) -> Result<u64, Fault>
-    ensures ok { IfOk result (λ n. (list.new ≡ list.old ++ piece.now) × (n ≡ length list.new)) }
-    ensures fits { OnOk result (length (list.old ++ piece.now) ≤ longest_list) }
-    ensures full { IfErr result (λ f. f ≢ want_of_memory → (f ≡ placeless STAGE_FULL)
-        × (longest_list < length (list.old ++ piece.now))) }
-    ensures err { OnErr result (list.new ≡ list.old) }
+/// A dictionary of lists, to be shared, or its first fault with the lists.
+fn opened(alloc: Global, parts: Parts) -> Result<Rc<Opened>, (Fault, Parts)>
+    requires no_symbols { parts.sym ≡ None }
+    ensures ok { IfOk result (λ o. o.value.lists ≡ lists_owned parts) }
+    ensures exact_ok { OnOk result (first_fault (lists_owned parts) ≡ None) }
+    ensures exact_err { IfErr result (λ e. (e.0 ≡ want_of_memory)
+        ⊎ (first_fault (lists_owned parts) ≡ Some e.0)) }
+    ensures back { IfErr result (λ e. lists_owned e.1 ≡ lists_owned parts) }
 {
-    if piece.len() > LONGEST_LIST || list.len() > LONGEST_LIST - piece.len() {
-        return Err(placeless(Fault::STAGE_FULL));
-    }
-    if list.append(piece).is_err() {
-        return Err(placeless(Fault::MEMORY));
-    }
-    Ok(list.len() as u64)
-}
-
-/// The same for a list that may not be there yet: it is from then on.
-fn add_first_piece(alloc: Global, list: &mut Option<Bytes>, piece: &[u8]) -> Result<u64, Fault>
-    ensures ok { IfOk result (λ n. (list.new ≡ Some (unwrap_or list.old [] ++ piece.now))
-        × (n ≡ length (unwrap_or list.old [] ++ piece.now))) }
-    ensures fits { OnOk result (length (unwrap_or list.old [] ++ piece.now) ≤ longest_list) }
-    ensures full { IfErr result (λ f. f ≢ want_of_memory → (f ≡ placeless STAGE_FULL)
-        × (longest_list < length (unwrap_or list.old [] ++ piece.now))) }
-    ensures err { OnErr result (list.new ≡ list.old) }
-{
-    match list {
-        Some(bytes) => add_piece(bytes, piece),
-        None => {
-            let mut bytes = Bytes::new(alloc);
-            let length = add_piece(&mut bytes, piece)?;
-            *list = Some(bytes);
-            Ok(length)
-        }
+    match Opened::build(alloc, parts, DataModel::Lp64) {
+        Ok(dictionary) => match Rc::new(alloc, dictionary) {
+            Ok(shared) => Ok(shared),
+            Err(failed) => Err((placeless(Fault::MEMORY), failed.value.into_parts())),
+        },
+        Err(refused) => Err(refused),
     }
 }
 
-/// Judges lists, and counts the types of their dictionary.
-fn judge(alloc: Global, lists: &Parts) -> Result<usize, Fault>
-    requires no_symbols { lists.now.sym ≡ None }
-    ensures ok { OnOk result (first_fault (lists_owned lists.now) ≡ None) }
-    ensures count { IfOk result (λ n. n ≡ length (said_by (lists_owned lists.now)).terms) }
-    ensures err { IfErr result (λ f. (f ≡ want_of_memory)
-        ⊎ (first_fault (lists_owned lists.now) ≡ Some f)) }
+/// The fault of one dictionary as the parent of another.
+fn over(child: &Opened, parent: &Opened) -> Option<Fault>
+    ensures { result ≡ fault_over child.now.lists parent.now.lists }
 {
-    let lists = lent(lists);
-    match check(alloc, lists.ctf, lists.sym, lists.strs) {
-        Ok(dictionary) => Ok(dictionary.count()),
-        Err(fault) => Err(fault),
+    match Space::over(child.view(), parent.view(), child.model()) {
+        Ok(_) => None,
+        Err(fault) => Some(fault),
     }
-}
-
-/// The slot of a number.
-fn find_slot(slots: &[Slot], number: u32) -> Option<&Slot>
-    ensures { option_map slot_of (option_copied result) ≡ slot_at number (map slot_of slots.now) }
-{
-    for slot in slots {
-        if slot.number == number {
-            return Some(slot);
-        }
-    }
-    None
 }
 
 impl Library {
@@ -133,13 +95,19 @@ impl Library {
     /// Makes the step of a change. Want of memory changes nothing.
     #[tactic(auto, unfolding(ctf_model::specs::Steps::change_step))]
     pub fn step(&mut self, change: &Change) -> Result<Counts, Fault>
-        ensures { Makes self.old change.now result self.new }
+        ensures step { Makes self.old change.now result self.new }
+        // These take no memory.
+        ensures quiet { is_quiet_change change.now ≡ true
+            → Does self.old change.now result self.new }
     {
         match change {
             Change::Part { section, bytes } => self.part(*section, bytes.as_slice()),
             Change::Check => self.check(),
             Change::Open => self.open(),
+            Change::Clear => self.clear(),
             Change::Reset => self.reset(),
+            Change::Close { d } => self.close(d.get()),
+            Change::Import { d, parent } => self.import(d.get(), parent.get()),
         }
     }
 
@@ -162,7 +130,7 @@ impl Library {
         ensures { Makes self.now Change.Check result self.now }
     {
         match judge(self.alloc, &self.stage) {
-            Ok(_) => Ok(Counts::done()),
+            Ok(()) => Ok(Counts::done()),
             Err(fault) => Err(fault),
         }
     }
@@ -174,37 +142,36 @@ impl Library {
         if self.slots.len() >= MOST_SLOTS || self.next > u64::from(u32::MAX) {
             return Err(placeless(Fault::SLOTS_FULL));
         }
-        match judge(self.alloc, &self.stage) {
-            Ok(types) => self.add_slot(types),
-            Err(fault) => Err(fault),
-        }
-    }
-
-    /// Makes a slot of the staged lists, which have so many types.
-    fn add_slot(&mut self, types: usize) -> Result<Counts, Fault>
-        requires room { has_room self.old ≡ true }
-        requires faultless { first_fault self.old.stage ≡ None }
-        requires counted { types ≡ length (said_by self.old.stage).terms }
-        ensures { let opened = record self.old { stage = empty_stage } in
-            Answered self.old (adds_slot self.old.stage opened) (said result) self.new }
-    {
         if self.slots.reserve(1).is_err() {
             return Err(placeless(Fault::MEMORY));
         }
-        let number = self.next as u32;
-        let lists = mem::replace(&mut self.stage, no_parts(self.alloc));
-        self.slots.push_reserved(Slot {
-            number,
-            lists,
-            types,
-        });
-        self.next += 1;
-        Ok(Counts::two("d", u64::from(number), "types", types as u64))
+        let parts = mem::replace(&mut self.stage, no_parts(self.alloc));
+        match opened(self.alloc, parts) {
+            Ok(dictionary) => {
+                let number = self.next as u32;
+                let types = dictionary.view().count() as u64;
+                push_slot(&mut self.slots, number, dictionary);
+                self.next += 1;
+                Ok(Counts::two("d", u64::from(number), "types", types))
+            }
+            Err((fault, parts)) => {
+                self.stage = parts;
+                Err(fault)
+            }
+        }
+    }
+
+    #[tactic(auto, unfolding(ctf_model::specs::Steps::change_step))]
+    fn clear(&mut self) -> Result<Counts, Fault>
+        ensures { Does self.old Change.Clear result self.new }
+    {
+        self.stage = no_parts(self.alloc);
+        Ok(Counts::done())
     }
 
     #[tactic(auto, unfolding(ctf_model::specs::Steps::change_step))]
     fn reset(&mut self) -> Result<Counts, Fault>
-        ensures { Makes self.old Change.Reset result self.new }
+        ensures { Does self.old Change.Reset result self.new }
     {
         self.slots.clear();
         self.next = 1;
@@ -212,7 +179,37 @@ impl Library {
         Ok(Counts::done())
     }
 
-    /// Answers a question to a slot. Names and lists are lent from its dictionary.
+    #[tactic(auto, unfolding(ctf_model::specs::Steps::change_step))]
+    fn close(&mut self, d: u32) -> Result<Counts, Fault>
+        ensures { Does self.old (Change.Close d) result self.new }
+    {
+        let Some(_closed) = remove_slot(&mut self.slots, d) else {
+            return Err(placeless(Fault::NO_SLOT));
+        };
+        Ok(Counts::done())
+    }
+
+    #[tactic(auto, unfolding(ctf_model::specs::Steps::change_step))]
+    fn import(&mut self, d: u32, parent: u32) -> Result<Counts, Fault>
+        ensures { Makes self.old (Change.Import d parent) result self.new }
+    {
+        let Some(child) = find_slot(&self.slots, d) else {
+            return Err(placeless(Fault::NO_SLOT));
+        };
+        let Some(source) = find_slot(&self.slots, parent) else {
+            return Err(placeless(Fault::NO_SLOT));
+        };
+        if let Some(fault) = over(&child.dictionary, &source.dictionary) {
+            return Err(fault);
+        }
+        let Ok(dictionary) = source.dictionary.clone() else {
+            return Err(placeless(Fault::MEMORY));
+        };
+        set_parent(&mut self.slots, d, dictionary);
+        Ok(Counts::done())
+    }
+
+    /// Answers a question to a slot. Names and lists are lent from its dictionary, or its parent.
     pub fn answer<'a>(&'a self, d: SlotNumber, question: &Question) -> Result<Answer<'a>, Fault>
         ensures answer { MayAnswer (answer_to d question.now self.now) result }
         // These take no memory.

@@ -14,7 +14,7 @@ use Rattle.ctf_model.specs.Lists.{Lists}
 use Rattle.ctf_model.specs.Questions.{at_most, windowed, list_fields, or_refused, member_fields, member_item, enumerator_fields, enumerator_item, number_item, named_arguments, argument_fields, array_fields, encoding_fields, reference_fields, reference_said, record_fields, said_on, type_said}
 use Rattle.ctf_model.specs.Shown.{Facts, facts, members_in, enumerators_in, arguments_in, array_in, encoding_in, list_length}
 use Rattle.ctf_model.specs.State.{State, Slot}
-use Rattle.ctf_model.specs.Steps.{change_step, stages, opens, opens_unless, has_room, accepts_unless, longest_list, slot_at, slot_type, said_by_slot, answer_to}
+use Rattle.ctf_model.specs.Steps.{change_step, with_slot, grants, slots_without, imports_unless, fault_over, stages, opens, opens_unless, has_room, accepts_unless, longest_list, slot_at, slot_type, said_by_slot, answer_to}
 use Rattle.ctf_model.specs.Term.{Term}
 use Rattle.ctf_model.specs.declared.faults.Fault.{Fault}
 use Rattle.ctf_model.specs.declared.questions.Question.TheVariants.{OfType}
@@ -116,10 +116,26 @@ accepted : (fault : Option Fault) (state : State) → IsInOrder (accepts_unless 
 accepted None state = refl
 accepted (Some fault) state = tt
 
+closed : (d : ℕ) (slot : Option Slot) (state : State) → IsInOrder (with_slot (λ s. grants [] (record state { slots = slots_without d state.slots })) slot state).reply.outcome
+closed d None state = tt
+closed d (Some slot) state = refl
+
+imported : (fault : Option Fault) (d : ℕ) (parent : Lists) (state : State) → IsInOrder (imports_unless fault d parent state).reply.outcome
+imported None d parent state = refl
+imported (Some fault) d parent state = tt
+
+importing : (d : ℕ) (child parent : Option Slot) (state : State) → IsInOrder (with_slot (λ c. with_slot (λ p. imports_unless (fault_over c.lists p.lists) d p.lists state) parent state) child state).reply.outcome
+importing d None parent state = tt
+importing d (Some c) None state = tt
+importing d (Some c) (Some p) state = imported (fault_over c.lists p.lists) d p.lists state
+
 pub keys_rise : KeysRise
 unfolding change_step
 keys_rise state (Changes (change.Part list piece)) found = staging list _ state _ refl
 keys_rise state (Changes change.Check) found = accepted (first_fault state.stage) state
 keys_rise state (Changes change.Open) found = opening state _ refl
+keys_rise state (Changes change.Clear) found = refl
 keys_rise state (Changes change.Reset) found = refl
+keys_rise state (Changes (change.Close d)) found = closed d (slot_at d state.slots) state
+keys_rise state (Changes (change.Import d p)) found = importing d (slot_at d state.slots) (slot_at p state.slots) state
 keys_rise state (Asks d question) found = of_slot question (slot_at d state.slots)

@@ -22,7 +22,7 @@ use Rattle.ctf_model.specs.declared.questions.Question.TheVariants.{OfType}
 use Rattle.ctf_model.specs.declared.questions.TypeQuestion.{TypeQuestion}
 use Rattle.ctf_model.specs.declared.questions.TypeQuestion.TheVariants as about
 use Rattle.ctf_model.specs.declared.words.Word.{Word}
-use Rattle.ctf_model.specs.declared.words.Word.TheVariants.{DoPart, DoCheck, DoOpen, DoReset, DoKind, DoRecord, DoMembers, DoEnumerators, DoArgs, DoArray, DoEncoding, DoReference}
+use Rattle.ctf_model.specs.declared.words.Word.TheVariants.{DoPart, DoCheck, DoOpen, DoClear, DoReset, DoClose, DoImport, DoKind, DoRecord, DoMembers, DoEnumerators, DoArgs, DoArray, DoEncoding, DoReference}
 use Rattle.ctf_model.specs.Words.{words, word_named, is_text}
 use Rattle.ctf_model.specs.declared.questions.Window.{Window}
 
@@ -57,8 +57,12 @@ list_named w = if is_text w (codes "ctf") then Some Ctf else if is_text w (codes
 
 -- ---- words, each with its fields
 
+-- the number of a slot in a field
+abbrev pub slot_under : List ℕ → Data → Option ℕ
+slot_under key line = number_in 1 4294967295 key line
+
 abbrev pub slot_in : Data → Option ℕ
-slot_in line = number_in 1 4294967295 (codes "d") line
+slot_in line = slot_under (codes "d") line
 
 abbrev pub type_in : Data → Option TypeNum
 type_in line = option_map (λ t. record { 0 = t }) (number_in 0 65535 (codes "t") line)
@@ -82,12 +86,21 @@ window_asked line = option_and_then (λ from. option_map (λ count. record { fro
 abbrev pub part_asked : Data → Option Request
 part_asked line = option_and_then (λ list. option_map (λ bytes. Changes (change.Part list bytes)) (option_and_then bytes_spelled (text_in (codes "bytes") line))) (option_and_then list_named (text_in (codes "section") line))
 
+abbrev pub close_asked : Data → Option Request
+close_asked line = option_map (λ d. Changes (change.Close d)) (slot_in line)
+
+abbrev pub import_asked : Data → Option Request
+import_asked line = option_and_then (λ d. option_map (λ parent. Changes (change.Import d parent)) (slot_under (codes "parent") line)) (slot_in line)
+
 -- what a word asks, with its fields
 abbrev pub asked_with : Data → Word → Option Request
 asked_with line DoPart = part_asked line
 asked_with line DoCheck = Some (Changes change.Check)
 asked_with line DoOpen = Some (Changes change.Open)
+asked_with line DoClear = Some (Changes change.Clear)
 asked_with line DoReset = Some (Changes change.Reset)
+asked_with line DoClose = close_asked line
+asked_with line DoImport = import_asked line
 asked_with line DoKind = about_type (Some about.Kind) line
 asked_with line DoRecord = about_type (Some about.Record) line
 asked_with line DoMembers = about_type (option_map (λ window. about.Members window) (window_asked line)) line

@@ -19,6 +19,7 @@ pub mod TypeNumbers
 pub mod Refusals
 pub mod State
 pub mod OwnedLists
+pub mod Space
 pub mod Answers
 pub mod Shown
 pub mod KindNames
@@ -35,4 +36,5 @@ pub mod Output
 pub mod Rows
 pub mod KindRows
 pub mod QuestionRows
+pub mod ParentRows
 pub mod KeyOrder

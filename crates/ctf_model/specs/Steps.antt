@@ -9,8 +9,9 @@ use Rattle.ctf_model.specs.Lists.{Lists}
 use Rattle.ctf_model.specs.Refusals.{placeless, want_of_memory}
 use Rattle.ctf_model.specs.State.{State, Slot, empty_state, empty_stage}
 use Rattle.ctf_model.specs.Questions.{type_said}
+use Rattle.ctf_model.specs.Space.{Space, import_fault, space_type}
+use Rattle.ctf_model.specs.declared.data_model.DataModel.TheVariants.{Lp64}
 use Rattle.ctf_model.specs.Term.{Term}
-use Rattle.ctf_model.specs.TypeNumbers.{type_at}
 use Rattle.ctf_model.specs.declared.faults.Fault.{Fault}
 use Rattle.ctf_model.specs.declared.faults.TheConstants.Fault.{NO_SLOT, SLOTS_FULL, STAGE_FULL}
 use Rattle.ctf_model.specs.declared.requests.ListName.{ListName}
@@ -108,9 +109,13 @@ abbrev pub slot_at : ℕ → List Slot → Option Slot
 slot_at number [] = None
 slot_at number (slot ∷ slots) = if slot.number == number then Some slot else slot_at number slots
 
+-- what the questions of a slot see; no request says a data model yet
+abbrev pub slot_space : Slot → Space
+slot_space slot = record { own = said_by slot.lists; parent = option_map said_by slot.parent; model = Lp64 }
+
 -- the type of a number in a slot
 abbrev pub slot_type : ℕ → Slot → Result Term Fault
-slot_type t slot = type_at (said_by slot.lists) (option_map said_by slot.parent) t
+slot_type t slot = space_type (slot_space slot) t
 
 -- what a slot answers
 abbrev pub slot_said : Question → Slot → Result Answer Fault
@@ -145,6 +150,44 @@ MayAnswer said result = (result ≡ said) ⊎ (result ≡ Err want_of_memory)
 abbrev pub resets : State → Outcome
 resets state = grants [] (record empty_state { published = state.published })
 
+-- ---- clear and close
+
+abbrev pub clears : State → Outcome
+clears state = grants [] (record state { stage = empty_stage })
+
+-- what is done with a slot, if it is there
+abbrev pub with_slot : (Slot → Outcome) → Option Slot → State → Outcome
+with_slot does None state = refuses NO_SLOT state
+with_slot does (Some slot) state = does slot
+
+-- the slot of a number is gone
+abbrev pub slots_without : ℕ → List Slot → List Slot
+slots_without number [] = []
+slots_without number (slot ∷ slots) = if slot.number == number then slots else slot ∷ slots_without number slots
+
+abbrev pub closes : ℕ → State → Outcome
+closes d state = with_slot (λ slot. grants [] (record state { slots = slots_without d state.slots })) (slot_at d state.slots) state
+
+-- ---- import
+
+-- the slot of a number has this parent, as it stands, in place of one that it had
+abbrev pub slots_with_parent : ℕ → Lists → List Slot → List Slot
+slots_with_parent number parent [] = []
+slots_with_parent number parent (slot ∷ slots) = if slot.number == number then record slot { parent = Some parent } ∷ slots else slot ∷ slots_with_parent number parent slots
+
+abbrev pub imports_unless : Option Fault → ℕ → Lists → State → Outcome
+imports_unless None d parent state = grants [] (record state { slots = slots_with_parent d parent state.slots })
+imports_unless (Some fault) d parent state = outcome_of (Err fault) state
+
+-- the fault of one dictionary as the parent of another
+abbrev pub fault_over : Lists → Lists → Option Fault
+fault_over child parent = import_fault (record { child = said_by child; parent = said_by parent })
+
+-- both slots have to be there, and then the dictionary of the second has to serve as the parent of the first
+abbrev pub imports : ℕ → ℕ → State → Outcome
+imports d p state =
+    with_slot (λ child. with_slot (λ parent. imports_unless (fault_over child.lists parent.lists) d parent.lists state) (slot_at p state.slots) state) (slot_at d state.slots) state
+
 -- ---- every request
 
 -- what a take found is read by a take alone; no word takes yet
@@ -152,7 +195,17 @@ unfoldable pub change_step : State → Change → Option Lists → Outcome
 change_step state (change.Part list piece) found = parts list piece state
 change_step state change.Check found = checks state
 change_step state change.Open found = opens state
+change_step state change.Clear found = clears state
 change_step state change.Reset found = resets state
+change_step state (change.Close d) found = closes d state
+change_step state (change.Import d parent) found = imports d parent state
+
+-- a change that takes no memory
+abbrev pub is_quiet_change : Change → Bool
+is_quiet_change change.Clear = true
+is_quiet_change change.Reset = true
+is_quiet_change (change.Close d) = true
+is_quiet_change _ = false
 
 -- a question leaves the library as it was
 abbrev pub step : State → Request → Option Lists → Outcome

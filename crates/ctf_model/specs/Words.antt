@@ -2,7 +2,7 @@
 use Rattle.std.specs.Prelude.{ℕ, List, [], ◌∷◌, Bool, Option, None, Some, nat_eq, codes, if◌then◌else◌}
 use Rattle.std.specs.Cmp.Lexicographic.{pointwise}
 use Rattle.ctf_model.specs.declared.words.Word.{Word}
-use Rattle.ctf_model.specs.declared.words.Word.TheVariants.{DoPart, DoCheck, DoOpen, DoReset, DoKind, DoRecord, DoMembers, DoEnumerators, DoArgs, DoArray, DoEncoding, DoReference}
+use Rattle.ctf_model.specs.declared.words.Word.TheVariants.{DoPart, DoCheck, DoOpen, DoClear, DoReset, DoClose, DoImport, DoKind, DoRecord, DoMembers, DoEnumerators, DoArgs, DoArray, DoEncoding, DoReference}
 use Rattle.ctf_model.specs.declared.words.Written.{Written}
 
 -- every word, and how a line writes it
@@ -11,7 +11,10 @@ words =
     (DoPart, codes "part") ∷
     (DoCheck, codes "check") ∷
     (DoOpen, codes "open") ∷
+    (DoClear, codes "clear") ∷
     (DoReset, codes "reset") ∷
+    (DoClose, codes "close") ∷
+    (DoImport, codes "import") ∷
     (DoKind, codes "kind") ∷
     (DoRecord, codes "record") ∷
     (DoMembers, codes "members") ∷

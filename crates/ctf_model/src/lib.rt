@@ -2,6 +2,7 @@
 #![tactic(auto)]
 
 mod bytes;
+mod data_model;
 mod faults;
 mod kinds;
 mod laws;
@@ -14,6 +15,7 @@ mod sections;
 mod words;
 
 pub use bytes::{Bytes, LONGEST_PIECE, Piece};
+pub use data_model::DataModel;
 pub use faults::{Fault, fault_name, placeless};
 pub use kinds::Kind;
 pub use laws::{
@@ -26,8 +28,8 @@ pub use questions::{Question, TypeQuestion, Window};
 pub use requests::{Change, ListName, Request};
 pub use rows::{
     bytes_denote, bytes_have_faults, kinds_denote, kinds_have_faults, lines_ask, lines_say,
-    lists_are_long, numbers_name, output_is, questions_are_answered, questions_are_lines,
-    session_runs,
+    lists_are_long, numbers_name, output_is, parents_are_imported, questions_are_answered,
+    questions_are_lines, session_runs, slots_are_closed,
 };
 pub use sections::Section;
 pub use words::Word;

@@ -20,8 +20,14 @@ pub enum Change {
     Check,
     /// Makes a slot of the staged lists.
     Open,
+    /// Empties the staged lists.
+    Clear,
     /// Closes all slots and clears the stage.
     Reset,
+    /// Closes a slot.
+    Close { d: SlotNumber },
+    /// Gives a slot the dictionary of another one as its parent.
+    Import { d: SlotNumber, parent: SlotNumber },
 }
 
 /// A request of a session. Each value keeps the ranges of its fields in its type.

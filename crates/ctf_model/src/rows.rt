@@ -1,6 +1,7 @@
 //! Worked rows: what the definitions say of small inputs. Each is the contract of a function that
 //! does nothing.
 ghost use Rattle.ctf_model.specs.KindRows.{KindsDenote, KindsHaveFaults};
+ghost use Rattle.ctf_model.specs.ParentRows.{ParentsAreImported, SlotsAreClosed};
 ghost use Rattle.ctf_model.specs.QuestionRows.{QuestionsAreAnswered, QuestionsAreLines};
 ghost use Rattle.ctf_model.specs.Rows.{BytesDenote, BytesHaveFaults, LinesAsk, LinesSay, ListsAreLong, NumbersName, OutputIs, SessionRuns};
 
@@ -62,4 +63,14 @@ pub fn lines_ask()
 /// The output for two sessions, where memory is refused now and then.
 pub fn output_is()
     ensures { OutputIs }
+{}
+
+/// What imports are answered, and which types a child finds then.
+pub fn parents_are_imported()
+    ensures { ParentsAreImported }
+{}
+
+/// What closing a slot and clearing the stage do.
+pub fn slots_are_closed()
+    ensures { SlotsAreClosed }
 {}

@@ -8,7 +8,10 @@ pub enum Word {
     DoPart,
     DoCheck,
     DoOpen,
+    DoClear,
     DoReset,
+    DoClose,
+    DoImport,
     DoKind,
     DoRecord,
     DoMembers,
@@ -35,14 +38,17 @@ fn row(word: Word, text: &'static str) -> Written
 
 /// Every word.
 #[tactic(auto, unfolding(crate::specs::Words::words))]
-fn words() -> [Written; 12]
+fn words() -> [Written; 15]
     ensures { map row_of result ≡ all_words }
 {
     [
         row(Word::DoPart, "part"),
         row(Word::DoCheck, "check"),
         row(Word::DoOpen, "open"),
+        row(Word::DoClear, "clear"),
         row(Word::DoReset, "reset"),
+        row(Word::DoClose, "close"),
+        row(Word::DoImport, "import"),
         row(Word::DoKind, "kind"),
         row(Word::DoRecord, "record"),
         row(Word::DoMembers, "members"),

@@ -1,0 +1,32 @@
+use Rattle.std.proofs.Common.{◌≡◌, List, map, Some, None, Option, ap, sym, ◌∙◌, arith}
+use Rattle.ctf_library.specs.SlotPlaces.{place_of}
+use Rattle.ctf_library.specs.SlotView.{slot_of}
+use Rattle.ctf_library.specs.declared.slots.Slot as own
+use Rattle.ctf_library.proofs.Numbered.{is_place, is_nowhere}
+use Rattle.ctf_library.proofs.places.remove_slot.Goals as goal
+
+pub remove-requires : goal.remove-requires
+remove-requires c =
+    let placed = ap (λ (xs : List own.Slot). place_of c.args.number (map slot_of xs)) (sym c.deref.ensures.value) ∙ sym c.in-Some.ensures in
+    let inside = (is_place c.args.number c.args.slots.now.items c.in-Some.place placed).inside in
+    grind (arith, inside)
+
+pub returns-in-Some-clause-slot : goal.returns-in-Some-clause-slot
+returns-in-Some-clause-slot c =
+    let placed = ap (λ (xs : List own.Slot). place_of c.args.number (map slot_of xs)) (sym c.deref.ensures.value) ∙ sym c.in-Some.ensures in
+    ap (λ (s : own.Slot). Some (slot_of s)) c.remove.ensures.value ∙ sym ((is_place c.args.number c.args.slots.now.items c.in-Some.place placed).found c.remove.result)
+
+pub returns-in-Some-clause-slots : goal.returns-in-Some-clause-slots
+returns-in-Some-clause-slots c =
+    let placed = ap (λ (xs : List own.Slot). place_of c.args.number (map slot_of xs)) (sym c.deref.ensures.value) ∙ sym c.in-Some.ensures in
+    ap (map slot_of) c.remove.ensures.items ∙ sym (is_place c.args.number c.args.slots.now.items c.in-Some.place placed).without
+
+pub returns-in-None-clause-slot : goal.returns-in-None-clause-slot
+returns-in-None-clause-slot c =
+    let placed = ap (λ (xs : List own.Slot). place_of c.args.number (map slot_of xs)) (sym c.deref.ensures.value) ∙ sym c.in-None.ensures in
+    sym (is_nowhere c.args.number (map slot_of c.args.slots.now.items) placed).found
+
+pub returns-in-None-clause-slots : goal.returns-in-None-clause-slots
+returns-in-None-clause-slots c =
+    let placed = ap (λ (xs : List own.Slot). place_of c.args.number (map slot_of xs)) (sym c.deref.ensures.value) ∙ sym c.in-None.ensures in
+    sym (is_nowhere c.args.number (map slot_of c.args.slots.now.items) placed).without

@@ -1,0 +1,2 @@
+pub mod SpaceView
+pub mod TypeView

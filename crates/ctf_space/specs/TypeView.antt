@@ -1,0 +1,36 @@
+-- What a type that was found shows. The words are ours.
+use Rattle.std.specs.Prelude.{ℕ, List, Option, Some, None, Result, Ok, Err}
+use Rattle.ctf_model.specs.Shown.{Shown, shown}
+use Rattle.ctf_model.specs.Space.{import_fault}
+use Rattle.ctf_model.specs.Term.{Term}
+use Rattle.ctf_model.specs.TypeNumbers.{or_no_type}
+use Rattle.ctf_model.specs.declared.faults.Fault.{Fault}
+use Rattle.ctf_check.specs.CheckedView.{dictionary_of}
+use Rattle.ctf_check.specs.TypedView.{spelled}
+use Rattle.ctf_check.specs.declared.checked.Checked.{Checked}
+use Rattle.ctf_check.specs.declared.typed.Typed.{Typed}
+use Rattle.ctf_views.specs.VariantView.{seen}
+use Rattle.ctf_views.specs.declared.shown.Variant.{Variant}
+
+-- the type, or why there is none
+abbrev pub type_found : Result Typed Fault → Result Term Fault
+type_found (Ok x) = or_no_type (spelled x)
+type_found (Err fault) = Err fault
+
+-- the fault of one dictionary over another
+abbrev pub fault_of_import : Checked → Checked → Option Fault
+fault_of_import child parent = import_fault (record { child = dictionary_of child; parent = dictionary_of parent })
+
+-- ---- parts of a type, if it is there
+
+abbrev pub name_in : Result Term Fault → Result (List ℕ) Fault
+name_in (Ok x) = Ok x.name
+name_in (Err fault) = Err fault
+
+abbrev pub shown_in : Result Term Fault → Result Shown Fault
+shown_in (Ok x) = Ok (shown x.body)
+shown_in (Err fault) = Err fault
+
+abbrev pub shown_found : Result Variant Fault → Result Shown Fault
+shown_found (Ok v) = Ok (seen v)
+shown_found (Err fault) = Err fault

@@ -1,0 +1,154 @@
+//! A dictionary with the parent that it was imported over.
+ghost use Rattle.std.specs.Prelude.{◌≡◌, ◌<◌, IfOk, IfErr, OnOk, None, Some, length, slice_get};
+ghost use Rattle.std.specs.Result.{result_map_both};
+ghost use Rattle.std.specs.Option.{ForSome, option_map};
+ghost use Rattle.ctf_model.specs.Space.{import_fault, space_type};
+ghost use Rattle.ctf_model.specs.TypeNumbers.{or_no_type};
+ghost use Rattle.ctf_check.specs.CheckedView.{dictionary_of};
+ghost use Rattle.ctf_space.specs.TypeView.{type_found};
+
+use ctf_check::{Checked, Typed};
+use ctf_model::{DataModel, Fault, Place, TypeNum, placeless};
+use ctf_views::Variant;
+
+/// A dictionary, with its parent where one was imported, and the data model of its program.
+#[derive(Clone, Copy)]
+pub struct Space<'a> {
+    own: Checked<'a>,
+    parent: Option<Checked<'a>>,
+    model: DataModel,
+    ghost imported: { ForSome parent (λ p. import_fault (record { child = dictionary_of own; parent = dictionary_of p }) ≡ None) },
+}
+
+/// The own type of a dictionary with a number from 0.
+fn own_type<'a>(dictionary: Checked<'a>, i: usize) -> Result<Typed<'a>, Fault>
+    requires { i < 65536 }
+    ensures { type_found result ≡ or_no_type (slice_get (dictionary_of dictionary.entry).terms i) }
+{
+    match dictionary.typed(i + 1) {
+        Some(found) => Ok(found),
+        None => Err(placeless(Fault::NO_TYPE)),
+    }
+}
+
+impl<'a> Space<'a> {
+    ghost use Rattle.ctf_space.specs.SpaceView.{alone, over_parent, space_of};
+    ghost use Rattle.ctf_space.specs.TypeView.{fault_of_import, name_in, shown_found, shown_in};
+
+    /// A dictionary without a parent.
+    pub fn own(own: Checked<'a>, model: DataModel) -> Space<'a>
+        ensures { space_of result ≡ alone (dictionary_of own.entry) model }
+    {
+        Space {
+            own,
+            parent: None,
+            model,
+        }
+    }
+
+    /// A child over its parent. The fault `PARENT_SHORT` has for its place the greatest number of a
+    /// parent's type that the child names.
+    pub fn over(
+        child: Checked<'a>,
+        parent: Checked<'a>,
+        model: DataModel,
+    ) -> Result<Space<'a>, Fault>
+        ensures ok { IfOk result (λ s. space_of s
+            ≡ over_parent (dictionary_of child.entry) (dictionary_of parent.entry) model) }
+        ensures exact_ok { OnOk result (fault_of_import child.entry parent.entry ≡ None) }
+        ensures exact_err { IfErr result (λ f. fault_of_import child.entry parent.entry ≡ Some f) }
+    {
+        if !child.child() {
+            return Err(placeless(Fault::NOT_CHILD));
+        }
+        if parent.child() {
+            return Err(placeless(Fault::PARENT_IS_CHILD));
+        }
+        let needs = child.needs();
+        if needs as usize > parent.count() {
+            return Err(Fault {
+                code: Fault::PARENT_SHORT,
+                place: u64::from(needs),
+            });
+        }
+        Ok(Space::again(child, parent, model))
+    }
+
+    /// A child over the parent that it was imported over before, without judging the import again.
+    pub fn again(child: Checked<'a>, parent: Checked<'a>, model: DataModel) -> Space<'a>
+        requires { fault_of_import child parent ≡ None }
+        ensures { space_of result
+            ≡ over_parent (dictionary_of child.entry) (dictionary_of parent.entry) model }
+    {
+        Space {
+            own: child,
+            parent: Some(parent),
+            model,
+        }
+    }
+
+    /// The type that a number names, beside the dictionary whose tables name it.
+    pub fn term(&self, number: TypeNum) -> Result<Typed<'a>, Fault>
+        ensures { type_found result ≡ space_type (space_of self.now) number.0 }
+    {
+        match number.place(self.own.child()) {
+            Place::Own(i) => own_type(self.own, i),
+            Place::Parents(i) => match self.parent {
+                Some(parent) => own_type(parent, i),
+                None => Err(placeless(Fault::NO_PARENT)),
+            },
+            Place::Nowhere => Err(placeless(Fault::NO_TYPE)),
+        }
+    }
+
+    /// The name of the type that a number names, lent from the dictionary that has it.
+    pub fn name(&self, number: TypeNum) -> Result<&'a [u8], Fault>
+        ensures { result_map_both (λ n. n.now) (λ f. f) result ≡ name_in (space_type (space_of self.now) number.0) }
+    {
+        match self.term(number) {
+            Ok(found) => Ok(found.name()),
+            Err(fault) => Err(fault),
+        }
+    }
+
+    /// What stands behind the head of the type that a number names.
+    pub fn variant(&self, number: TypeNum) -> Result<Variant<'a>, Fault>
+        ensures { shown_found result ≡ shown_in (space_type (space_of self.now) number.0) }
+    {
+        match self.term(number) {
+            Ok(found) => Ok(found.variant()),
+            Err(fault) => Err(fault),
+        }
+    }
+
+    /// The data model of its program.
+    pub fn model(&self) -> DataModel
+        ensures { result ≡ (space_of self.now).model }
+    {
+        self.model
+    }
+
+    /// The number of its own types.
+    pub fn count(&self) -> usize
+        ensures { result ≡ length (space_of self.now).own.terms }
+    {
+        self.own.count()
+    }
+
+    /// Whether its low type numbers are those of a parent.
+    pub fn child(&self) -> bool
+        ensures { result ≡ (space_of self.now).own.child }
+    {
+        self.own.child()
+    }
+
+    /// The number of its parent's types.
+    pub fn parent_count(&self) -> Option<usize>
+        ensures { result ≡ option_map (λ p. length p.terms) (space_of self.now).parent }
+    {
+        match self.parent {
+            Some(parent) => Some(parent.count()),
+            None => None,
+        }
+    }
+}
