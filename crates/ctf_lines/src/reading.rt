@@ -1,7 +1,7 @@
 //! Reads the request of a line.
 ghost use Rattle.std.specs.Prelude.{◌≡◌, ◌≢◌, ◌≤◌, IfSome, Option, None, Some, IfOk, IfErr, Ok, Err, codes, option_map};
 ghost use Rattle.serde_json.specs.View.{view};
-ghost use Rattle.ctf_model.specs.Ask.{ask, number_in, text_in, list_named, bytes_spelled, not_too_many, slot_in, type_in, about_type as type_question_asked, from_asked, count_asked, window_asked, part_asked, word_asked, asked_with, request_asked, value_asked};
+ghost use Rattle.ctf_model.specs.Ask.{ask, number_in, text_in, list_named, bytes_spelled, not_too_many, slot_under as slot_named, slot_in, type_in, close_asked, import_asked, about_type as type_question_asked, from_asked, count_asked, window_asked, part_asked, word_asked, asked_with, request_asked, value_asked};
 ghost use Rattle.ctf_model.specs.Refusals.{placeless};
 ghost use Rattle.ctf_model.specs.declared.faults.TheConstants.Fault.{MEMORY};
 ghost use Rattle.ctf_model.specs.declared.questions.TypeQuestion.TheVariants as about;
@@ -103,7 +103,10 @@ fn read_word(alloc: Global, value: &Value, word: Word) -> Result<Option<Request>
         Word::DoPart => read_part(alloc, value),
         Word::DoCheck => Ok(Some(Request::Changes(Change::Check))),
         Word::DoOpen => Ok(Some(Request::Changes(Change::Open))),
+        Word::DoClear => Ok(Some(Request::Changes(Change::Clear))),
         Word::DoReset => Ok(Some(Request::Changes(Change::Reset))),
+        Word::DoClose => Ok(close(value)),
+        Word::DoImport => Ok(import(value)),
         Word::DoKind => Ok(about_type(value, Some(TypeQuestion::Kind))),
         Word::DoRecord => Ok(about_type(value, Some(TypeQuestion::Record))),
         Word::DoMembers => Ok(about_type(value, members(value))),
@@ -115,11 +118,33 @@ fn read_word(alloc: Global, value: &Value, word: Word) -> Result<Option<Request>
     }
 }
 
+/// The number of a slot in a field.
+fn slot_under(value: &Value, key: &str) -> Option<SlotNumber>
+    ensures { result ≡ slot_named key.now (view value.now) }
+{
+    let number = number(value, key, 1, u64::from(u32::MAX))?;
+    SlotNumber::new(number as u32)
+}
+
 fn slot(value: &Value) -> Option<SlotNumber>
     ensures { result ≡ slot_in (view value.now) }
 {
-    let number = number(value, "d", 1, u64::from(u32::MAX))?;
-    SlotNumber::new(number as u32)
+    slot_under(value, "d")
+}
+
+fn close(value: &Value) -> Option<Request>
+    ensures { result ≡ close_asked (view value.now) }
+{
+    let d = slot(value)?;
+    Some(Request::Changes(Change::Close { d }))
+}
+
+fn import(value: &Value) -> Option<Request>
+    ensures { result ≡ import_asked (view value.now) }
+{
+    let d = slot(value)?;
+    let parent = slot_under(value, "parent")?;
+    Some(Request::Changes(Change::Import { d, parent }))
 }
 
 fn type_number(value: &Value) -> Option<TypeNum>

@@ -1,8 +1,8 @@
 //! The libraries of all sessions.
-ghost use Rattle.std.specs.Prelude.{◌≡◌, ◌≢◌, ℕ, true};
-ghost use Rattle.ctf_model.specs.Runs.{Steps};
+ghost use Rattle.std.specs.Prelude.{◌≡◌, ◌≢◌, ℕ, [], true};
+ghost use Rattle.ctf_model.specs.Runs.{IsGranted, Steps};
 ghost use Rattle.ctf_model.specs.State.{empty_state};
-ghost use Rattle.ctf_model.specs.Steps.{answer_to, is_quiet, MayAnswer};
+ghost use Rattle.ctf_model.specs.Steps.{answer_to, is_quiet, is_quiet_change, MayAnswer};
 ghost use Rattle.ctf_answers.specs.Replies.{said_to};
 ghost use Rattle.ctf_model.specs.declared.requests.Request.TheVariants.{Changes};
 ghost use Rattle.ctf_wire.specs.Table.{kept_for, library_at};
@@ -54,6 +54,10 @@ impl Broker {
             (said_to session result) (library_at self.new) }
         ensures others { (other : ℕ) → other ≢ session
             → kept_for self.new other ≡ kept_for self.old other }
+        // Where the session has a slot, these take no memory.
+        ensures quiet { is_quiet_change change.now ≡ true → (library_at self.old session).slots ≢ []
+            → IsGranted (library_at self.old) session (Changes change.now)
+            (said_to session result) (library_at self.new) }
     {
         step_in(self.alloc, &mut self.libraries, session, change)
     }
@@ -88,6 +92,10 @@ fn step_in(
         (said_to session result) (library_at libraries.new.entries) }
     ensures others { (other : ℕ) → other ≢ session
         → kept_for libraries.new.entries other ≡ kept_for libraries.old.entries other }
+    ensures quiet { is_quiet_change change.now ≡ true
+        → (library_at libraries.old.entries session).slots ≢ []
+        → IsGranted (library_at libraries.old.entries) session (Changes change.now)
+        (said_to session result) (library_at libraries.new.entries) }
 {
     if let Some(library) = libraries.get_mut(&session) {
         return library.step(change);
