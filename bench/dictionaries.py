@@ -9,8 +9,8 @@ def record(name, kind, vlen, field, rest=b""):
     return struct.pack("<IHH", name, kind << 11 | vlen, field) + rest
 
 
-def dictionary(types, strings=b""):
-    return b"\xf1\xcf\x02\x00" + struct.pack("<8I", 0, 0, 0, 0, 0, 0, len(types), len(strings)) + types + strings
+def dictionary(types, strings=b"", parname=0):
+    return b"\xf1\xcf\x02\x00" + struct.pack("<8I", 0, parname, 0, 0, 0, 0, len(types), len(strings)) + types + strings
 
 
 def mixed(count):
@@ -47,7 +47,23 @@ def enumerators(count):
     return dictionary(count * record(1, 8, 1023, 4, items), b"\0name\0")
 
 
-def parts(session, ctf):
-    """The requests that hand a dictionary in."""
-    for at in range(0, len(ctf), PIECE):
-        yield '{"s":%d,"op":"part","section":"ctf","bytes":"%s"}\n' % (session, ctf[at : at + PIECE].hex())
+def child(t):
+    """A child with a pointer to a type of its parent."""
+    return dictionary(record(0, 3, 0, t), b"\0p\0", 1)
+
+
+LONG_NAME = b"\0" + 15_000_000 * b"n" + b"\0"
+
+
+def long_names():
+    """A struct of 1,023 members and an integer, all of the one name in LONG_NAME."""
+    name = 0x80000001
+    members = 1023 * struct.pack("<IHH", name, 2, 0)
+    return dictionary(record(0, 6, 1023, 4, members) + record(name, 1, 0, 4, struct.pack("<I", 0x01000020)))
+
+
+def parts(session, data, section="ctf"):
+    """The requests that hand a list in."""
+    for at in range(0, len(data), PIECE):
+        piece = data[at : at + PIECE].hex()
+        yield '{"s":%d,"op":"part","section":"%s","bytes":"%s"}\n' % (session, section, piece)

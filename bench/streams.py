@@ -1,20 +1,24 @@
 #!/usr/bin/env python3
 """Writes a stream of requests to standard output; the same stream at each run.
 
-usage: streams.py kinds | large | line | sessions | again | kind | record | members
+usage: streams.py kinds | large | line | sessions | again | kind | record | members | hostile | parents | orphans
 
 kinds     an integer is handed in and opened once, and asked for its kind 100,000 times
 large     32,766 integers without names are opened once, and the last is asked for its kind 1,000 times
 line      20 requests of 1,048,576 bytes, resets padded with blanks
-sessions  10,000 sessions, each with one reset
-again     10,000 sessions as above, and then the last of them 10,000 times
+sessions  80,000 sessions, each with one reset
+again     10,000 sessions with one reset each, and then the last of them 10,000 times
 kind      20,000 types of mixed kinds are opened once, and 10,000 of them, spread over all, asked for their kind
 record    the same, asked for their kind, name and what goes with it
 members   the same dictionary, of whose 5,000 structs each is asked for its 14 members twice
+hostile   a struct of 1,023 members that all have one name of 15 MB is asked for its members 100 times, and a type
+          of that name for its record 100 times
+parents   a parent of 20,000 types and 200 children, each of which imports it and is asked for a type of it
+orphans   the same without the imports
 """
 import sys
 
-from dictionaries import mixed, parts
+from dictionaries import LONG_NAME, child, long_names, mixed, parts
 
 INT = "f1cf0200" + 24 * "00" + "0c00000005000000" + "01000000000c040020000001" + "00696e7400"
 
@@ -39,13 +43,13 @@ def line():
         yield '{"s":7,"op":"reset"}'.ljust(1_048_576) + "\n"
 
 
-def sessions():
-    for session in range(1, 10_001):
+def sessions(count=80_000):
+    for session in range(1, count + 1):
         yield '{"s":%d,"op":"reset"}\n' % session
 
 
 def again():
-    yield from sessions()
+    yield from sessions(10_000)
     for _ in range(10_000):
         yield '{"s":10000,"op":"reset"}\n'
 
@@ -70,6 +74,35 @@ def members():
     yield from questions("members", 7_004)
 
 
+def hostile():
+    yield from parts(7, long_names())
+    yield from parts(7, LONG_NAME, "str")
+    yield '{"s":7,"op":"open"}\n'
+    for _ in range(100):
+        yield '{"s":7,"op":"members","d":1,"t":1}\n'
+        yield '{"s":7,"op":"record","d":1,"t":2}\n'
+
+
+def family(imports):
+    """A parent in slot 1 and 200 children, each asked for the parent's last type."""
+    yield from parts(7, mixed(20_000))
+    yield '{"s":7,"op":"open"}\n'
+    for d in range(2, 202):
+        yield from parts(7, child(20_000))
+        yield '{"s":7,"op":"open"}\n'
+        if imports:
+            yield '{"s":7,"op":"import","d":%d,"parent":1}\n' % d
+        yield '{"s":7,"op":"kind","d":%d,"t":20000}\n' % d
+
+
+def parents():
+    yield from family(True)
+
+
+def orphans():
+    yield from family(False)
+
+
 STREAMS = {
     "kinds": kinds,
     "large": large,
@@ -79,6 +112,9 @@ STREAMS = {
     "kind": kind,
     "record": record,
     "members": members,
+    "hostile": hostile,
+    "parents": parents,
+    "orphans": orphans,
 }
 
 if __name__ == "__main__":
