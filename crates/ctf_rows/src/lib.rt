@@ -12,13 +12,25 @@ mod calls;
 #[cfg(test)]
 mod dictionaries;
 #[cfg(test)]
+mod failures;
+#[cfg(test)]
 mod first_run;
 #[cfg(test)]
 mod kinds;
 #[cfg(test)]
 mod long_replies;
 #[cfg(test)]
+mod marks;
+#[cfg(test)]
+mod noted;
+#[cfg(test)]
+mod parents;
+#[cfg(test)]
 mod questions;
+#[cfg(test)]
+mod reading;
+#[cfg(test)]
+mod references;
 #[cfg(test)]
 mod request_lines;
 #[cfg(test)]
@@ -26,6 +38,12 @@ mod runs;
 #[cfg(test)]
 mod sessions;
 #[cfg(test)]
+mod shelves;
+#[cfg(test)]
 mod slots;
 #[cfg(test)]
 mod stage;
+#[cfg(test)]
+mod windows;
+#[cfg(test)]
+mod writing;

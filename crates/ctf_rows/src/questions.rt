@@ -463,7 +463,7 @@ const LONG_FORM: [(&str, &str); 3] = [
 ];
 
 /// Whether the lines, in one session from the first on, are answered just these replies.
-fn are_answered(alloc: Global, rows: &[(&str, &str)]) -> Result<bool, AllocError> {
+pub fn are_answered(alloc: Global, rows: &[(&str, &str)]) -> Result<bool, AllocError> {
     let mut input = Vec::new(alloc);
     let mut want = Vec::new(alloc);
     for (line, reply) in rows {

@@ -12,11 +12,11 @@ pub const INT: &str = "f1cf0200000000000000000000000000000000000000000000000000\
 
 /// Gives its bytes in pieces; the read of the number `failing`, counted from 1, fails.
 #[derive(Drop)]
-struct Pieces<'a> {
-    rest: &'a [u8],
-    size: usize,
-    reads: u64,
-    failing: u64,
+pub struct Pieces<'a> {
+    pub rest: &'a [u8],
+    pub size: usize,
+    pub reads: u64,
+    pub failing: u64,
 }
 
 impl Read for Pieces<'_> {

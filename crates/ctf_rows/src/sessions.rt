@@ -1,5 +1,6 @@
 //! Sessions side by side: each is answered as if it were alone.
 
+use crate::questions::are_answered;
 use crate::runs::served;
 use std::alloc::AllocError;
 use std::test::Fail;
@@ -64,5 +65,56 @@ fn sessions_are_answered_as_if_alone(rt: HostRuntime) -> Result<(), Fail> {
         assert_eq!(rt; end, Ok(()));
         assert_eq!(rt; written.as_slice(), want.as_slice());
     }
+    Ok(())
+}
+
+/// Lines of session 9, which holds the integer `int`, and of the last session there is, which holds an empty
+/// dictionary; and what they are answered.
+const NINE_AND_THE_LAST: [(&str, &str); 10] = [
+    (
+        "{\"s\":9,\"op\":\"part\",\"section\":\"ctf\",\"bytes\":\"f1cf02000000000000000000000000000000000000000000000000000c0000000500000001000000000c04002000000100696e7400\"}\n",
+        "{\"ok\":{\"length\":53},\"s\":9}\n",
+    ),
+    (
+        "{\"s\":4294967295,\"op\":\"kind\",\"d\":1,\"t\":1}\n",
+        "{\"fault\":{\"code\":49,\"name\":\"NoSlot\",\"place\":0},\"s\":4294967295}\n",
+    ),
+    (
+        "{\"s\":4294967295,\"op\":\"part\",\"section\":\"ctf\",\"bytes\":\"f1cf02000000000000000000000000000000000000000000000000000000000000000000\"}\n",
+        "{\"ok\":{\"length\":36},\"s\":4294967295}\n",
+    ),
+    (
+        "{\"s\":9,\"op\":\"open\"}\n",
+        "{\"ok\":{\"d\":1,\"types\":1},\"s\":9}\n",
+    ),
+    (
+        "{\"s\":4294967295,\"op\":\"open\"}\n",
+        "{\"ok\":{\"d\":1,\"types\":0},\"s\":4294967295}\n",
+    ),
+    (
+        "{\"s\":9,\"op\":\"kind\",\"d\":1,\"t\":1}\n",
+        "{\"ok\":{\"kind\":\"integer\"},\"s\":9}\n",
+    ),
+    (
+        "{\"s\":4294967295,\"op\":\"kind\",\"d\":1,\"t\":1}\n",
+        "{\"fault\":{\"code\":24,\"name\":\"NoType\",\"place\":0},\"s\":4294967295}\n",
+    ),
+    (
+        "{\"s\":4294967295,\"op\":\"reset\"}\n",
+        "{\"ok\":{},\"s\":4294967295}\n",
+    ),
+    (
+        "{\"s\":4294967295,\"op\":\"kind\",\"d\":1,\"t\":1}\n",
+        "{\"fault\":{\"code\":49,\"name\":\"NoSlot\",\"place\":0},\"s\":4294967295}\n",
+    ),
+    (
+        "{\"s\":9,\"op\":\"kind\",\"d\":1,\"t\":1}\n",
+        "{\"ok\":{\"kind\":\"integer\"},\"s\":9}\n",
+    ),
+];
+
+#[test]
+fn the_last_session_is_one_of_its_own(rt: HostRuntime) -> Result<(), Fail> {
+    assert!(rt; are_answered(rt.alloc(), &NINE_AND_THE_LAST)?);
     Ok(())
 }

@@ -125,6 +125,20 @@ positive n some = omega arith
 pub placed : (b r : List ℕ) (k len i : ℕ) → r ≡ drop (k * i) b → k ≡ len → r ≡ drop (len * i) b
 placed b r k len i e f = e ∙ ap (λ (l : ℕ). drop (l * i) b) f
 
+pub row_good : {A : Type 0} (item : List ℕ → Option A) (len n : ℕ) (b : List ℕ) → AreGood item len n b → (i : ℕ) (r : List ℕ) → i < n → r ≡ drop (len * i) b → IsSome (item r)
+row_good item len n b inv i r lt e = rw e (row item len n i b inv lt).good
+
+-- the item with a number is read in its row
+pub item_is : {A : Type 0} (item : List ℕ → Option A) (len n i : ℕ) (b r : List ℕ) (x : A) → AreGood item len n b → i < n → r ≡ drop (len * i) b → item r ≡ Some x → Some x ≡ slice_get (items_in item len n b) i
+item_is item len n i b r x h lt e f = gets item len n i b (Some x) h lt (ap item (sym e) ∙ f)
+
+reads : {A : Type 0} (item : List ℕ → Option A) (len n i : ℕ) (b : List ℕ) (x : A) → AreGood item len n b → i < n → Some x ≡ slice_get (items_in item len n b) i → item (drop (len * i) b) ≡ Some x
+reads item len n i b x h lt e = items_at item len n i b (items_in item len n b) (items_in_is item len n b h) lt ∙ sym e
+
+-- there is none past the last
+pub none_past : {A : Type 0} (item : List ℕ → Option A) (len n i : ℕ) (b : List ℕ) (s : List A) → items_in item len n b ≡ s → AreGood item len n b → n ≤ i → None ≡ slice_get s i
+none_past {A = A} item len n i b s seen h le = gets_none item len n i b h le ∙ ap (λ (l : List A). slice_get l i) seen
+
 -- ---- what the calls of an iterator owe, where s is what is left before it
 
 module _ {A : Type 0} (item : List ℕ → Option A) (len n : ℕ) (b : List ℕ) (s : List A) (seen : items_in item len n b ≡ s) (inv : AreGood item len n b) where
@@ -134,32 +148,20 @@ module _ {A : Type 0} (item : List ℕ → Option A) (len n : ℕ) (b : List ℕ
   pub none_left : n ≡ 0 → (s ≡ []) × (s ≡ [])
   none_left e = let none = sym seen ∙ items_in_none item len n b e in (none, none)
 
-  pub row_good : (i : ℕ) (r : List ℕ) → i < n → r ≡ drop (len * i) b → IsSome (item r)
-  row_good i r lt e = rw e (row item len n i b inv lt).good
+  reads_first : (x : A) → (n ≡ 0 → ⊥) → Some x ≡ slice_get (items_in item len n b) 0 → item b ≡ Some x
+  reads_first x some e = let none : len * 0 ≡ 0 = omega arith in let read = reads item len n 0 b x inv (positive n some) e in rw none at read
 
-  pub last_good : (r : List ℕ) → (n ≡ 0 → ⊥) → r ≡ drop (len * (n - 1)) b → IsSome (item r)
-  last_good r some e = row_good (n - 1) r (omega arith) e
+  pub next_steps : (rest : List ℕ) (x : A) → (n ≡ 0 → ⊥) → Some x ≡ slice_get (items_in item len n b) 0 → rest ≡ drop (len * 1) b → s ≡ x ∷ items_in item len (n - 1) rest
+  next_steps rest x some e f = sym seen ∙ (took_first item len n b x inv (positive n some) (reads_first x some e)).0 ∙ ap (λ (r : List ℕ). x ∷ items_in item len (n - 1) r) (sym f)
 
-  pub first_good : (n ≡ 0 → ⊥) → IsSome (item b)
-  first_good some = let none : len * 0 ≡ 0 = omega arith in row_good 0 b (positive n some) (rw none refl)
+  pub next_keeps : (rest : List ℕ) (x : A) → (n ≡ 0 → ⊥) → Some x ≡ slice_get (items_in item len n b) 0 → rest ≡ drop (len * 1) b → AreGood item len (n - 1) rest
+  next_keeps rest x some e f = rw f (took_first item len n b x inv (positive n some) (reads_first x some e)).1
 
-  pub get_some : (i : ℕ) (row : List ℕ) (x : A) → i < n → row ≡ drop (len * i) b → item row ≡ Some x → Some x ≡ slice_get s i
-  get_some i row x lt e f = gets item len n i b (Some x) inv lt (ap item (sym e) ∙ f) ∙ ap (λ (l : List A). slice_get l i) seen
+  pub back_steps : (x : A) → (n ≡ 0 → ⊥) → Some x ≡ slice_get (items_in item len n b) (n - 1) → s ≡ items_in item len (n - 1) b ++ x ∷ []
+  back_steps x some e = sym seen ∙ (took_last item len n b x inv (positive n some) (reads item len n (n - 1) b x inv (omega arith) e)).0
 
-  pub get_none : (i : ℕ) → n ≤ i → None ≡ slice_get s i
-  get_none i le = gets_none item len n i b inv le ∙ ap (λ (l : List A). slice_get l i) seen
-
-  pub next_steps : (rest : List ℕ) (x : A) → (n ≡ 0 → ⊥) → item b ≡ Some x → rest ≡ drop (len * 1) b → s ≡ x ∷ items_in item len (n - 1) rest
-  next_steps rest x some e f = sym seen ∙ (took_first item len n b x inv (positive n some) e).0 ∙ ap (λ (r : List ℕ). x ∷ items_in item len (n - 1) r) (sym f)
-
-  pub next_keeps : (rest : List ℕ) (x : A) → (n ≡ 0 → ⊥) → item b ≡ Some x → rest ≡ drop (len * 1) b → AreGood item len (n - 1) rest
-  next_keeps rest x some e f = rw f (took_first item len n b x inv (positive n some) e).1
-
-  pub back_steps : (row : List ℕ) (x : A) → (n ≡ 0 → ⊥) → row ≡ drop (len * (n - 1)) b → item row ≡ Some x → s ≡ items_in item len (n - 1) b ++ x ∷ []
-  back_steps row x some e f = sym seen ∙ (took_last item len n b x inv (positive n some) (ap item (sym e) ∙ f)).0
-
-  pub back_keeps : (row : List ℕ) (x : A) → (n ≡ 0 → ⊥) → row ≡ drop (len * (n - 1)) b → item row ≡ Some x → AreGood item len (n - 1) b
-  back_keeps row x some e f = (took_last item len n b x inv (positive n some) (ap item (sym e) ∙ f)).1
+  pub back_keeps : (x : A) → (n ≡ 0 → ⊥) → Some x ≡ slice_get (items_in item len n b) (n - 1) → AreGood item len (n - 1) b
+  back_keeps x some e = (took_last item len n b x inv (positive n some) (reads item len n (n - 1) b x inv (omega arith) e)).1
 
 -- ---- a call makes progress
 

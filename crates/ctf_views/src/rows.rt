@@ -1,10 +1,10 @@
 //! Lists of items that stand one after the other in bytes, each in a row of one length.
-ghost use Rattle.std.specs.Prelude.{◌≡◌, ◌*◌, ◌≤◌, length, drop, IfSome, Some, slice_get};
+ghost use Rattle.std.specs.Prelude.{◌≡◌, ◌*◌, ◌<◌, ◌≤◌, length, drop, IfSome, Some, slice_get};
 ghost use Rattle.std.specs.Option.{option_map};
 ghost use Rattle.std.specs.Iterator.{YieldsFirstBy, YieldsLastBy, item_count, UpTo, at_most};
 ghost use Rattle.std.specs.Iterator.SizeHint.{IsWithinCount};
 ghost use Rattle.ctf_model.specs.Spelling.{items};
-ghost use Rattle.ctf_views.specs.Lists.{AreGood};
+ghost use Rattle.ctf_views.specs.Lists.{AreGood, items_in};
 
 use crate::row::Row;
 use std::iter::FusedIterator;
@@ -37,6 +37,16 @@ fn from_row(bytes: &[u8], len: usize, row: usize) -> &[u8]
     &bytes[len * row..]
 }
 
+/// One of `count` items that stand in bytes.
+fn item_at<R: Row>(row: R, bytes: &[u8], count: usize, index: usize) -> R::Item
+    requires good { AreGood (R.item_of row) (R.row_len row) count bytes.now }
+    requires inside { index < count }
+    ensures { Some (R.seen result)
+        ≡ slice_get (items_in (R.item_of row) (R.row_len row) count bytes.now) index }
+{
+    row.first(from_row(bytes, row.len(), index))
+}
+
 impl<'a, R: Row> Rows<'a, R> {
     pub(crate) fn new(bytes: &'a [u8], count: usize, row: R) -> Rows<'a, R>
         requires { AreGood (R.item_of row) (R.row_len row) count bytes.now }
@@ -46,12 +56,12 @@ impl<'a, R: Row> Rows<'a, R> {
     }
 
     /// The item with a number, from 0.
+    #[tactic(auto, using(crate::proofs::Items::none_past))]
     pub fn get(&self, index: usize) -> Option<R::Item>
         ensures { option_map R.seen result ≡ slice_get self.now index }
     {
         if index < self.count {
-            let row = from_row(self.bytes, self.row.len(), index);
-            Some(self.row.first(row))
+            Some(item_at(self.row, self.bytes, self.count, index))
         } else {
             None
         }
@@ -69,7 +79,7 @@ impl<'a, R: Row> Iterator for Rows<'a, R> {
         if self.count == 0 {
             return None;
         }
-        let first = self.row.first(self.bytes);
+        let first = item_at(self.row, self.bytes, self.count, 0);
         self.bytes = from_row(self.bytes, self.row.len(), 1);
         self.count -= 1;
         Some(first)
@@ -92,9 +102,9 @@ impl<'a, R: Row> DoubleEndedIterator for Rows<'a, R> {
         if self.count == 0 {
             return None;
         }
+        let last = item_at(self.row, self.bytes, self.count, self.count - 1);
         self.count -= 1;
-        let row = from_row(self.bytes, self.row.len(), self.count);
-        Some(self.row.first(row))
+        Some(last)
     }
 }
 

@@ -1,0 +1,249 @@
+//! Lines that are read as requests, word by word.
+
+use ctf_lines::FromLine;
+use ctf_model::{Change, ListName, Question, Request, TypeQuestion, Window};
+use std::alloc::Global;
+
+/// A request with its word, the slot and the type that it is about, and the window that it asks for.
+#[derive(Clone, Copy, Debug, PartialEq, Eq)]
+struct Said {
+    word: &'static str,
+    about: Option<(u32, u16)>,
+    window: Option<Window>,
+}
+
+fn plain(word: &'static str) -> Said {
+    Said {
+        word,
+        about: None,
+        window: None,
+    }
+}
+
+fn about(word: &'static str, d: u32, t: u16) -> Said {
+    Said {
+        word,
+        about: Some((d, t)),
+        window: None,
+    }
+}
+
+/// A question on items of type 9 in slot 7.
+fn items(word: &'static str, window: Window) -> Said {
+    Said {
+        word,
+        about: Some((7, 9)),
+        window: Some(window),
+    }
+}
+
+fn change_said(change: &Change) -> Said {
+    match change {
+        Change::Part { section, bytes } => match (section, bytes.as_slice()) {
+            (ListName::Ctf, b"\x0a\xff") => plain("part of ctf"),
+            (ListName::Str, b"\x0a\xff") => plain("part of str"),
+            _ => plain("another part"),
+        },
+        Change::Check => plain("check"),
+        Change::Open => plain("open"),
+        Change::Clear => plain("clear"),
+        Change::Reset => plain("reset"),
+        Change::Close { .. } => plain("close"),
+        Change::Import { .. } => plain("import"),
+    }
+}
+
+fn question_said(question: TypeQuestion) -> (&'static str, Option<Window>) {
+    match question {
+        TypeQuestion::Kind => ("kind", None),
+        TypeQuestion::Record => ("record", None),
+        TypeQuestion::Members(window) => ("members", Some(window)),
+        TypeQuestion::Enumerators(window) => ("enumerators", Some(window)),
+        TypeQuestion::Args => ("args", None),
+        TypeQuestion::Array => ("array", None),
+        TypeQuestion::Encoding => ("encoding", None),
+        TypeQuestion::Reference => ("reference", None),
+    }
+}
+
+fn describe(request: &Request) -> Said {
+    match request {
+        Request::Changes(change) => change_said(change),
+        Request::Asks {
+            d,
+            question: Question::OfType { t, question },
+        } => {
+            let (word, window) = question_said(*question);
+            Said {
+                word,
+                about: Some((d.get(), t.0)),
+                window,
+            }
+        }
+    }
+}
+
+/// What a line says, by its session; or its session and the code of the refusal.
+fn read(alloc: Global, line: &str) -> Result<(u32, Said), (u32, u16)> {
+    match Request::read(alloc, line.as_bytes()) {
+        Ok((session, request)) => Ok((session, describe(&request))),
+        Err((session, fault)) => Err((session, fault.code)),
+    }
+}
+
+#[test]
+fn changes_are_read(rt: HostRuntime) {
+    for (line, want) in [
+        (
+            "{\"s\":1,\"op\":\"part\",\"section\":\"ctf\",\"bytes\":\"0aFF\"}",
+            plain("part of ctf"),
+        ),
+        (
+            "{\"s\":1,\"op\":\"part\",\"section\":\"str\",\"bytes\":\"0aFF\"}",
+            plain("part of str"),
+        ),
+        ("{\"op\":\"check\",\"s\":1}", plain("check")),
+        ("{\"s\":1,\"op\":\"open\"}", plain("open")),
+        ("{\"s\":1,\"op\":\"reset\"}", plain("reset")),
+    ] {
+        assert_eq!(rt; read(rt.alloc(), line), Ok((1, want)), "at {line}");
+    }
+}
+
+#[test]
+fn questions_are_read(rt: HostRuntime) {
+    for (line, want) in [
+        (
+            "{\"s\":1,\"op\":\"kind\",\"d\":4294967295,\"t\":65535}",
+            about("kind", u32::MAX, u16::MAX),
+        ),
+        (
+            "{\"s\":1,\"op\":\"record\",\"d\":1,\"t\":0}",
+            about("record", 1, 0),
+        ),
+        (
+            "{\"s\":1,\"op\":\"args\",\"d\":2,\"t\":3}",
+            about("args", 2, 3),
+        ),
+        (
+            "{\"s\":1,\"op\":\"array\",\"d\":4,\"t\":5}",
+            about("array", 4, 5),
+        ),
+        (
+            "{\"s\":1,\"op\":\"encoding\",\"d\":6,\"t\":7}",
+            about("encoding", 6, 7),
+        ),
+        (
+            "{\"s\":1,\"op\":\"reference\",\"d\":8,\"t\":9}",
+            about("reference", 8, 9),
+        ),
+    ] {
+        assert_eq!(rt; read(rt.alloc(), line), Ok((1, want)), "at {line}");
+    }
+}
+
+/// Fields of a line, and the window that they ask for.
+const WINDOWS: [(&str, Window); 5] = [
+    (
+        "",
+        Window {
+            from: 0,
+            count: None,
+        },
+    ),
+    (
+        ",\"from\":3",
+        Window {
+            from: 3,
+            count: None,
+        },
+    ),
+    (
+        ",\"count\":4",
+        Window {
+            from: 0,
+            count: Some(4),
+        },
+    ),
+    (
+        ",\"from\":4294967295,\"count\":0",
+        Window {
+            from: 4_294_967_295,
+            count: Some(0),
+        },
+    ),
+    (
+        ",\"count\":4294967295,\"from\":0",
+        Window {
+            from: 0,
+            count: Some(4_294_967_295),
+        },
+    ),
+];
+
+#[test]
+fn windows_of_members_are_read(rt: HostRuntime) {
+    for (fields, window) in WINDOWS {
+        let line = format!(in rt.alloc(); "{{\"s\":2,\"op\":\"members\",\"d\":7,\"t\":9{fields}}}");
+        assert_eq!(rt;
+            line.map(|line| read(rt.alloc(), &line)),
+            Ok(Ok((2, items("members", window)))),
+            "members{fields}"
+        );
+    }
+}
+
+#[test]
+fn windows_of_enumerators_are_read(rt: HostRuntime) {
+    for (fields, window) in WINDOWS {
+        let line = format!(in rt.alloc();
+            "{{\"s\":2,\"op\":\"enumerators\",\"d\":7,\"t\":9{fields}}}"
+        );
+        assert_eq!(rt;
+            line.map(|line| read(rt.alloc(), &line)),
+            Ok(Ok((2, items("enumerators", window)))),
+            "enumerators{fields}"
+        );
+    }
+}
+
+/// Lines without a session that can be read, and what is wrong with them: 57 no JSON, 58 no request.
+const NO_SESSION: [(&str, u16); 7] = [
+    ("", 57),
+    ("{\"s\":1,\"op\":\"open\"", 57),
+    ("[]", 58),
+    ("{\"op\":\"open\"}", 58),
+    ("{\"s\":0,\"op\":\"open\"}", 58),
+    ("{\"s\":4294967296,\"op\":\"open\"}", 58),
+    ("{\"s\":\"1\",\"op\":\"open\"}", 58),
+];
+
+/// Lines of session 1 that are no requests.
+const NO_REQUEST: [&str; 16] = [
+    "{\"s\":1}",
+    "{\"s\":1,\"op\":\"Open\"}",
+    "{\"s\":1,\"op\":\"record\",\"d\":1}",
+    "{\"s\":1,\"op\":\"record\",\"t\":1}",
+    "{\"s\":1,\"op\":\"record\",\"d\":0,\"t\":1}",
+    "{\"s\":1,\"op\":\"record\",\"d\":4294967296,\"t\":1}",
+    "{\"s\":1,\"op\":\"args\",\"d\":1,\"t\":65536}",
+    "{\"s\":1,\"op\":\"array\",\"d\":1,\"t\":-1}",
+    "{\"s\":1,\"op\":\"encoding\",\"d\":1.5,\"t\":1}",
+    "{\"s\":1,\"op\":\"members\",\"d\":1,\"t\":1,\"from\":null}",
+    "{\"s\":1,\"op\":\"members\",\"d\":1,\"t\":1,\"count\":null}",
+    "{\"s\":1,\"op\":\"enumerators\",\"d\":1,\"t\":1,\"from\":4294967296}",
+    "{\"s\":1,\"op\":\"enumerators\",\"d\":1,\"t\":1,\"count\":\"2\"}",
+    "{\"s\":1,\"op\":\"part\",\"section\":\"sym\",\"bytes\":\"\"}",
+    "{\"s\":1,\"op\":\"part\",\"section\":\"ctf\",\"bytes\":\"0\"}",
+    "{\"s\":1,\"op\":\"part\",\"section\":\"ctf\"}",
+];
+
+#[test]
+fn lines_are_refused(rt: HostRuntime) {
+    for (line, code) in NO_SESSION {
+        assert_eq!(rt; read(rt.alloc(), line), Err((0, code)), "at {line}");
+    }
+    for line in NO_REQUEST {
+        assert_eq!(rt; read(rt.alloc(), line), Err((1, 58)), "at {line}");
+    }
+}
