@@ -175,8 +175,7 @@ impl Library {
     {
         self.slots.clear();
         self.next = 1;
-        self.stage = no_parts(self.alloc);
-        Ok(Counts::done())
+        self.clear()
     }
 
     #[tactic(auto, unfolding(ctf_model::specs::Steps::change_step))]
