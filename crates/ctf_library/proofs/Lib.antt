@@ -1,2 +1,3 @@
 pub mod SaidOfFacts
 pub mod Numbered
+pub mod Rising

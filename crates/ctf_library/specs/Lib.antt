@@ -1,3 +1,4 @@
 pub mod SlotView
 pub mod Stepping
 pub mod SlotPlaces
+pub mod SlotOrder

@@ -34,7 +34,8 @@ pub struct Library {
 }
 
 impl Model for Library {
-    ghost use Rattle.std.specs.Prelude.{◌≡◌, ◌≤◌, ◌^◌, None, [], map};
+    ghost use Rattle.std.specs.Prelude.{◌≡◌, ◌≤◌, ◌^◌, None, [], map, true};
+    ghost use Rattle.ctf_library.specs.SlotOrder.{rise_between};
     ghost use Rattle.ctf_model.specs.OwnedLists.{lists_owned};
     ghost use Rattle.ctf_model.specs.State.{State};
     ghost use Rattle.ctf_library.specs.SlotView.{slot_of};
@@ -48,7 +49,8 @@ impl Model for Library {
       published = [];
     } };
 
-    ghost invariant = { λ l. (l.next ≤ 2 ^ 32) × (l.stage.sym ≡ None) };
+    ghost invariant = { λ l. (l.next ≤ 2 ^ 32) × (l.stage.sym ≡ None)
+        × (rise_between 0 l.slots.items l.next ≡ true) };
 }
 
 /// A dictionary of lists, to be shared, or its first fault with the lists.

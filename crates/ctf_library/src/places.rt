@@ -1,6 +1,8 @@
 //! Slots by their numbers.
-ghost use Rattle.std.specs.Prelude.{◌≡◌, ◌<◌, ◌++◌, ◌∷◌, [], map, option_map, option_copied, IfNone, IfSome, None, vec_len, vec_capacity};
+ghost use Rattle.std.specs.Prelude.{◌≡◌, ◌<◌, ◌+◌, ◌++◌, ◌∷◌, [], ℕ, true, map, option_map, option_copied, IfNone, IfSome, None, vec_len, vec_capacity};
 ghost use Rattle.ctf_model.specs.Steps.{fault_over, slot_at, slots_with_parent, slots_without};
+ghost use Rattle.std.specs.List.Sorted.{IsNonDecreasingBy};
+ghost use Rattle.ctf_library.specs.SlotOrder.{rise_between};
 ghost use Rattle.ctf_library.specs.SlotPlaces.{place_of};
 ghost use Rattle.ctf_library.specs.SlotView.{slot_of};
 
@@ -8,35 +10,39 @@ use crate::slots::Slot;
 use ctf_space::Opened;
 use std::rc::Rc;
 
-/// The place of the slot of a number.
+/// The place of the slot of a number, found by halves.
 fn find_place(slots: &[Slot], number: u32) -> Option<usize>
+    requires { IsNonDecreasingBy (λ s. s.number) slots.now }
     ensures { result ≡ place_of number (map slot_of slots.now) }
 {
-    for (place, slot) in slots.iter().enumerate() {
-        if slot.number == number {
-            return Some(place);
-        }
+    let place = slots.partition_point(|slot| slot.number < number);
+    if place == slots.len() {
+        return None;
     }
-    None
+    if slots[place].number != number {
+        return None;
+    }
+    Some(place)
 }
 
 /// The slot of a number.
 pub fn find_slot(slots: &[Slot], number: u32) -> Option<&Slot>
+    requires { IsNonDecreasingBy (λ s. s.number) slots.now }
     ensures { option_map slot_of (option_copied result) ≡ slot_at number (map slot_of slots.now) }
 {
-    for slot in slots {
-        if slot.number == number {
-            return Some(slot);
-        }
+    match find_place(slots, number) {
+        Some(place) => Some(&slots[place]),
+        None => None,
     }
-    None
 }
 
 /// A new slot for a dictionary, behind the others, where room was made for it.
 pub fn push_slot(slots: &mut Vec<Slot>, number: u32, dictionary: Rc<Opened>)
     requires { vec_len slots.old < vec_capacity slots.old }
-    ensures { map slot_of slots.new.items ≡ map slot_of slots.old.items
+    ensures slots { map slot_of slots.new.items ≡ map slot_of slots.old.items
         ++ record { number = number; lists = dictionary.value.lists; parent = None } ∷ [] }
+    ensures rise { rise_between 0 slots.old.items number ≡ true
+        → rise_between 0 slots.new.items (number + 1) ≡ true }
 {
     slots.push_reserved(Slot {
         number,
@@ -47,10 +53,13 @@ pub fn push_slot(slots: &mut Vec<Slot>, number: u32, dictionary: Rc<Opened>)
 
 /// Takes the slot of a number out.
 pub fn remove_slot(slots: &mut Vec<Slot>, number: u32) -> Option<Slot>
+    requires { IsNonDecreasingBy (λ s. s.number) slots.old.items }
     ensures slot { option_map slot_of result ≡ slot_at number (map slot_of slots.old.items) }
     ensures slots { map slot_of slots.new.items
         ≡ slots_without number (map slot_of slots.old.items) }
     ensures none { IfNone result (slots.new.items ≡ slots.old.items) }
+    ensures rise { (next : ℕ) → rise_between 0 slots.old.items next ≡ true
+        → rise_between 0 slots.new.items next ≡ true }
 {
     match find_place(slots, number) {
         Some(place) => Some(slots.remove(place)),
@@ -60,10 +69,13 @@ pub fn remove_slot(slots: &mut Vec<Slot>, number: u32) -> Option<Slot>
 
 /// Gives the slot of a number a parent that serves it.
 pub fn set_parent(slots: &mut Vec<Slot>, number: u32, parent: Rc<Opened>)
+    requires order { IsNonDecreasingBy (λ s. s.number) slots.old.items }
     requires fits { IfSome (slot_at number (map slot_of slots.old.items))
         (λ slot. fault_over slot.lists parent.value.lists ≡ None) }
-    ensures { map slot_of slots.new.items
+    ensures slots { map slot_of slots.new.items
         ≡ slots_with_parent number parent.value.lists (map slot_of slots.old.items) }
+    ensures rise { (next : ℕ) → rise_between 0 slots.old.items next ≡ true
+        → rise_between 0 slots.new.items next ≡ true }
 {
     if let Some(place) = find_place(slots, number) {
         slots[place].parent = Some(parent);

@@ -1,8 +1,9 @@
-use Rattle.std.proofs.Common.{◌≡◌, List, map, Some, None, Option, ap, sym, ◌∙◌, arith}
+use Rattle.std.proofs.Common.{List, map, Some, ap, sym, ◌∙◌, arith}
 use Rattle.ctf_library.specs.SlotPlaces.{place_of}
 use Rattle.ctf_library.specs.SlotView.{slot_of}
 use Rattle.ctf_library.specs.declared.slots.Slot as own
 use Rattle.ctf_library.proofs.Numbered.{is_place, is_nowhere}
+use Rattle.ctf_library.proofs.Rising.{rise_removed}
 use Rattle.ctf_library.proofs.places.remove_slot.Goals as goal
 
 pub remove-requires : goal.remove-requires
@@ -30,3 +31,9 @@ pub returns-in-None-clause-slots : goal.returns-in-None-clause-slots
 returns-in-None-clause-slots c =
     let placed = ap (λ (xs : List own.Slot). place_of c.args.number (map slot_of xs)) (sym c.deref.ensures.value) ∙ sym c.in-None.ensures in
     sym (is_nowhere c.args.number (map slot_of c.args.slots.now.items) placed).without
+
+pub returns-in-Some-clause-rise : goal.returns-in-Some-clause-rise
+returns-in-Some-clause-rise c =
+    let placed = ap (λ (xs : List own.Slot). place_of c.args.number (map slot_of xs)) (sym c.deref.ensures.value) ∙ sym c.in-Some.ensures in
+    let inside = (is_place c.args.number c.args.slots.now.items c.in-Some.place placed).inside in
+    λ next h. rw c.remove.ensures.items (rise_removed 0 c.args.slots.now.items next c.in-Some.place inside h)
