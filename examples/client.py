@@ -1,19 +1,19 @@
 #!/usr/bin/env python3
 """Asks ctfd for a dictionary's types, as a debugger's plug-in would.
 
-usage: client.py PROGRAM CTF [STRINGS [STRUCT]]
-
-PROGRAM is a built ctfd, CTF a file with the bytes of a CTF section, STRINGS one with the
-strings of the program's symbol table. Prints the types (number, kind, name, size in bytes as
-the record says it), or the members of each struct or union named STRUCT (offset in bits, name,
-number of the type). The status is 1 where ctfd refuses something or no type has the name.
+Prints the types (number, kind, name, size in bytes as the record says it), or the members of
+each struct or union of a name (offset in bits, name, number of the type, and for a bit-field its
+width). The status is 1 where ctfd refuses something or no type has the name.
 """
+import argparse
 import json
+import signal
 import subprocess
 import sys
 
 PIECE = 262_144
 FIRST_OF_CHILD = 0x8001
+SAME_VALUE = ("typedef", "volatile", "const", "restrict")
 
 
 class Refused(Exception):
@@ -57,6 +57,18 @@ class Client:
         for number in range(first, first + opened["types"]):
             yield number, self.ask("record", d=d, t=number)
 
+    def bit_field(self, d, t):
+        """The encoding of a type, where it is an integer that is narrower than its storage."""
+        try:
+            while (said := self.ask("record", d=d, t=t))["kind"] in SAME_VALUE:
+                t = self.ask("reference", d=d, t=t)["t"]
+        except Refused:  # no type, or a parent's
+            return None
+        if said["kind"] != "integer":
+            return None
+        lies = self.ask("encoding", d=d, t=t)
+        return lies if lies["offset"] or lies["bits"] != 8 * said["size"] else None
+
     def close(self):
         self.service.stdin.close()
         self.service.wait()
@@ -71,19 +83,28 @@ def print_members(client, d, types, name):
     named = [number for number, said in types if said["name"] == name and said["kind"] in ("struct", "union")]
     for number in named:
         for member in client.ask("members", d=d, t=number)["members"]:
-            print(member["offset"], member["name"], member["type"])
+            lies = client.bit_field(d, member["type"])
+            offset = member["offset"] + (lies["offset"] if lies else 0)
+            print(offset, member["name"] or "(anon)", member["type"], *([f":{lies['bits']}"] if lies else []))
     return f"no struct or union is named {name}" if not named else None
 
 
-def main(program, ctf, strings=None, name=None):
-    client = Client(program)
+def main():
+    parser = argparse.ArgumentParser(description=__doc__, formatter_class=argparse.RawDescriptionHelpFormatter)
+    parser.add_argument("program", help="a built ctfd")
+    parser.add_argument("ctf", help="a file with the bytes of a CTF section")
+    parser.add_argument("name", nargs="?", help="the name of a struct or union")
+    parser.add_argument("--strings", metavar="FILE", help="the strings of the program's symbol table")
+    words = parser.parse_args()
+    signal.signal(signal.SIGPIPE, signal.SIG_DFL)  # so that a reader such as head may leave
+    client = Client(words.program)
     try:
-        client.hand_in("ctf", ctf)
-        if strings:
-            client.hand_in("str", strings)
+        client.hand_in("ctf", words.ctf)
+        if words.strings:
+            client.hand_in("str", words.strings)
         opened = client.ask("open")
         types = client.types(opened)
-        return print_members(client, opened["d"], types, name) if name else print_types(types)
+        return print_members(client, opened["d"], types, words.name) if words.name else print_types(types)
     except Refused as fault:
         return f"refused: {fault}"
     finally:
@@ -91,4 +112,4 @@ def main(program, ctf, strings=None, name=None):
 
 
 if __name__ == "__main__":
-    sys.exit(main(*sys.argv[1:]) if len(sys.argv) in (3, 4, 5) else __doc__)
+    sys.exit(main())

@@ -7,9 +7,15 @@ top=$(cd "$(dirname "$0")/.." && pwd)
 copy=$(mktemp -d)
 trap 'rm -r "$copy"' EXIT
 cp -r "$top/crates" "$top/crates.txt" "$top/HANDLES" "$copy"
+tried=()
 for crate in "$@"; do
-    rm -r "$copy/crates/$crate/must-fail"
+    if [ ! -d "$copy/crates/$crate/further-edits" ]; then
+        echo "$crate has no further edits"
+        continue
+    fi
+    rm -rf "$copy/crates/$crate/must-fail"
     mv "$copy/crates/$crate/further-edits" "$copy/crates/$crate/must-fail"
+    tried+=("$crate")
 done
 cd "$copy"
-rt must-fail "$@"
+[ ${#tried[@]} -eq 0 ] || rt must-fail "${tried[@]}"

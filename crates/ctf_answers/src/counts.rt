@@ -37,7 +37,8 @@ impl Counts {
     pub fn two(key: &'static str, number: u64, key2: &'static str, number2: u64) -> Counts
         requires first { length key.now ≤ 6 }
         requires second { length key2.now ≤ 6 }
-        ensures { counts_said result ≡ says key.now (number_said number) ∷ says key2.now (number_said number2) ∷ [] }
+        ensures { counts_said result ≡ says key.now (number_said number)
+            ∷ says key2.now (number_said number2) ∷ [] }
     {
         Counts {
             first: Some(Count { key, number }),

@@ -24,7 +24,8 @@ impl<'a> Model for Listed<'a> {
 
     ghost view = { λ l. take l.count (drop l.from (items_of l.items)) };
 
-    ghost invariant = { λ l. (l.from + l.count ≤ length (items_of l.items)) × (l.from + l.count < 2 ^ 64) };
+    ghost invariant = { λ l. (l.from + l.count ≤ length (items_of l.items))
+        × (l.from + l.count < 2 ^ 64) };
 }
 
 impl<'a> Listed<'a> {

@@ -9,3 +9,5 @@ pub mod Reading
 pub mod Sites
 pub mod Terms
 pub mod TypeStages
+pub mod SpelledHead
+pub mod Described

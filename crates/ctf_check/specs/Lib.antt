@@ -6,3 +6,4 @@ pub mod Needed
 pub mod Stages
 pub mod TableEnds
 pub mod TypedView
+pub mod FactsView

@@ -3,6 +3,7 @@
 
 mod checked;
 mod ends;
+mod facts;
 mod judge;
 mod judging;
 mod lists;
@@ -13,6 +14,7 @@ mod sections;
 mod typed;
 
 pub use checked::Checked;
+pub use facts::Facts;
 pub use judge::check;
 pub use lists::LentLists;
 pub use typed::Typed;

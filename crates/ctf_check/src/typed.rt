@@ -1,12 +1,14 @@
 //! A type that was found in a dictionary.
 ghost use Rattle.std.specs.Prelude.{◌≡◌, ◌↔◌, IsSome, IfSome, Some};
 ghost use Rattle.std.specs.Option.{option_map};
-ghost use Rattle.ctf_model.specs.Shown.{shown};
+ghost use Rattle.ctf_model.specs.Shown.{facts, shown};
 ghost use Rattle.ctf_records.specs.RecordView.{index_of};
 ghost use Rattle.ctf_views.specs.VariantView.{seen};
 ghost use Rattle.ctf_check.specs.CheckedView.{dictionary_of, type_at, IsOwn};
+ghost use Rattle.ctf_check.specs.FactsView.{facts_seen};
 
 use crate::checked::Checked;
+use crate::facts::Facts;
 use ctf_records::Record;
 use ctf_views::Variant;
 
@@ -65,5 +67,21 @@ impl<'a> Typed<'a> {
         ensures { option_map (λ x. shown x.body) (spelled self.now) ≡ Some (seen result) }
     {
         self.dictionary.variant(&self.source)
+    }
+
+    /// All that it says of itself.
+    pub fn facts(&self) -> Facts<'a>
+        ensures { option_map facts (spelled self.now) ≡ Some (facts_seen result) }
+    {
+        let source = self.source;
+        Facts {
+            kind: source.kind(),
+            name: self.name(),
+            root: source.root(),
+            size: source.size(),
+            reference: source.reference(),
+            declares: source.tag(),
+            behind: self.variant(),
+        }
     }
 }

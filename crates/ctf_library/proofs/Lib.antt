@@ -1,4 +1,1 @@
-pub mod SpelledHead
-pub mod Faulting
-pub mod Asked
-pub mod Described
+pub mod SaidOfFacts

@@ -1,4 +1,3 @@
 pub mod SlotView
-pub mod TypeIndex
-pub mod OwnRecord
-pub mod FactsView
+pub mod Stepping
+pub mod Found

@@ -7,47 +7,29 @@ ghost use Rattle.ctf_model.specs.Shown.{members_in, enumerators_in, arguments_in
 ghost use Rattle.ctf_model.specs.TypeNumbers.{type_at};
 ghost use Rattle.ctf_answers.specs.Items.{items_of};
 ghost use Rattle.ctf_answers.specs.Singles.{single_of};
-ghost use Rattle.ctf_check.specs.CheckedView.{dictionary_of, IsOwn};
+ghost use Rattle.ctf_check.specs.CheckedView.{dictionary_of};
+ghost use Rattle.ctf_check.specs.FactsView.{facts_seen};
 ghost use Rattle.ctf_records.specs.RecordView.{tag_of};
 ghost use Rattle.ctf_views.specs.VariantView.{seen};
-ghost use Rattle.ctf_library.specs.FactsView.{facts_seen};
-ghost use Rattle.ctf_library.specs.OwnRecord.{type_found};
-ghost use Rattle.ctf_library.specs.TypeIndex.{own_index};
+ghost use Rattle.ctf_library.specs.Found.{type_found};
 
-use crate::facts::facts_of;
-use crate::types::Facts;
 use ctf_answers::{Answer, Items, Listed, Single, kind_name, tag_name};
-use ctf_check::Checked;
-use ctf_model::{Fault, TypeNum, TypeQuestion, Window, placeless};
-use ctf_records::{Record, Tag};
+use ctf_check::{Checked, Facts, Typed};
+use ctf_model::{Fault, Place, TypeNum, TypeQuestion, Window, placeless};
+use ctf_records::Tag;
 use ctf_views::{Args, Variant};
 
-/// The index of an own type, from 1 on, which may be past the last.
-fn index_of(child: bool, number: u16) -> Result<usize, Fault>
-    ensures { result ≡ own_index child number }
+/// The type with a number of a dictionary without a parent.
+fn find_type<'a>(dictionary: &Checked<'a>, t: TypeNum) -> Result<Typed<'a>, Fault>
+    ensures { type_found result ≡ type_at (dictionary_of dictionary.now) None t.0 }
 {
-    if !child {
-        Ok(number as usize)
-    } else if number > 0x8000 {
-        Ok(number as usize - 0x8000)
-    } else if number == 0 || number == 0x8000 {
-        Err(placeless(Fault::NO_TYPE))
-    } else {
-        Err(placeless(Fault::NO_PARENT))
-    }
-}
-
-/// The record of a type of a dictionary without a parent.
-fn own_record<'a>(dictionary: &Checked<'a>, t: TypeNum) -> Result<Record<'a>, Fault>
-    ensures says { type_found dictionary.now result ≡ type_at (dictionary_of dictionary.now) None t.0 }
-    ensures own { IfOk result (λ r. IsOwn dictionary.now r) }
-{
-    match index_of(dictionary.child(), t.0) {
-        Ok(index) => match dictionary.term(index) {
-            Some(record) => Ok(record),
+    match t.place(dictionary.child()) {
+        Place::Own(i) => match dictionary.typed(i + 1) {
+            Some(found) => Ok(found),
             None => Err(placeless(Fault::NO_TYPE)),
         },
-        Err(fault) => Err(fault),
+        Place::Parents(_) => Err(placeless(Fault::NO_PARENT)),
+        Place::Nowhere => Err(placeless(Fault::NO_TYPE)),
     }
 }
 
@@ -62,7 +44,8 @@ fn listed<'a>(key: &'static str, items: Items<'a>, window: Window) -> Answer<'a>
 }
 
 fn members<'a>(behind: Variant<'a>, window: Window) -> Result<Answer<'a>, Fault>
-    ensures { result ≡ or_wrong_kind (option_map (member_fields window) (members_in (seen behind.entry))) }
+    ensures { result
+        ≡ or_wrong_kind (option_map (member_fields window) (members_in (seen behind.entry))) }
 {
     match behind {
         Variant::Members(members) => Ok(listed("members", Items::Members(members), window)),
@@ -71,7 +54,8 @@ fn members<'a>(behind: Variant<'a>, window: Window) -> Result<Answer<'a>, Fault>
 }
 
 fn enumerators<'a>(behind: Variant<'a>, window: Window) -> Result<Answer<'a>, Fault>
-    ensures { result ≡ or_wrong_kind (option_map (enumerator_fields window) (enumerators_in (seen behind.entry))) }
+    ensures { result
+        ≡ or_wrong_kind (option_map (enumerator_fields window) (enumerators_in (seen behind.entry))) }
 {
     match behind {
         Variant::Enumerators(enumerators) => {
@@ -96,9 +80,10 @@ fn is_variadic(args: &Args<'_>) -> bool
 }
 
 /// How many arguments are named: all but a last 0.
-#[tactic(auto, using(crate::proofs::Asked::take_numbers))]
+#[tactic(auto, using(crate::proofs::SaidOfFacts::take_numbers))]
 fn named_count(args: &Args<'_>) -> usize
-    ensures named { take result (map number_item args.now) ≡ map number_item (named_arguments args.now) }
+    ensures named { take result (map number_item args.now)
+        ≡ map number_item (named_arguments args.now) }
     ensures inside { result ≤ length args.now }
 {
     if is_variadic(args) {
@@ -109,16 +94,19 @@ fn named_count(args: &Args<'_>) -> usize
 }
 
 fn arguments<'a>(behind: Variant<'a>, returned: Option<TypeNum>) -> Result<Answer<'a>, Fault>
-    ensures { result ≡ or_wrong_kind (option_and_then (λ ret. option_map (argument_fields ret) (arguments_in (seen behind.entry))) (option_map (λ t. t.0) returned)) }
+    ensures { let args = arguments_in (seen behind.entry) in result ≡ or_wrong_kind
+        (option_and_then (λ ret. option_map (argument_fields ret) args) (option_map (λ t. t.0) returned)) }
 {
     match (behind, returned) {
         (Variant::Args(args), Some(ret)) => {
             let varargs = is_variadic(&args);
             let count = named_count(&args);
-            Ok(Answer::done()
-                .with_list("args", Listed::front(Items::Arguments(args), count))
-                .with("return", Single::Number(u64::from(ret.0)))
-                .with("varargs", Single::Truth(varargs)))
+            Ok(
+                Answer::done()
+                    .with_list("args", Listed::front(Items::Arguments(args), count))
+                    .with("return", Single::Number(u64::from(ret.0)))
+                    .with("varargs", Single::Truth(varargs)),
+            )
         }
         _ => Err(placeless(Fault::WRONG_KIND)),
     }
@@ -143,7 +131,8 @@ fn a_type<'a>(t: Option<TypeNum>) -> Option<Single<'a>>
 }
 
 fn a_tag<'a>(tag: Option<Tag>) -> Option<Single<'a>>
-    ensures { option_map single_of result ≡ option_map (λ tag. word (name_of_tag tag)) (option_map tag_of tag) }
+    ensures { option_map single_of result
+        ≡ option_map (λ tag. word (name_of_tag tag)) (option_map tag_of tag) }
 {
     match tag {
         Some(tag) => Some(Single::Word(tag_name(tag))),
@@ -176,22 +165,27 @@ fn array<'a>(behind: Variant<'a>) -> Result<Answer<'a>, Fault>
     ensures { result ≡ or_wrong_kind (option_map array_fields (array_in (seen behind.entry))) }
 {
     match behind {
-        Variant::Array(info) => Ok(Answer::done()
-            .with("contents", Single::Number(u64::from(info.contents.0)))
-            .with("count", Single::Number(u64::from(info.count)))
-            .with("index", Single::Number(u64::from(info.index.0)))),
+        Variant::Array(info) => Ok(
+            Answer::done()
+                .with("contents", Single::Number(u64::from(info.contents.0)))
+                .with("count", Single::Number(u64::from(info.count)))
+                .with("index", Single::Number(u64::from(info.index.0))),
+        ),
         _ => Err(placeless(Fault::WRONG_KIND)),
     }
 }
 
 fn encoding<'a>(behind: Variant<'a>) -> Result<Answer<'a>, Fault>
-    ensures { result ≡ or_wrong_kind (option_map encoding_fields (encoding_in (seen behind.entry))) }
+    ensures { result
+        ≡ or_wrong_kind (option_map encoding_fields (encoding_in (seen behind.entry))) }
 {
     match behind {
-        Variant::Encoding(info) => Ok(Answer::done()
-            .with("bits", Single::Number(u64::from(info.bits)))
-            .with("encoding", Single::Number(u64::from(info.encoding)))
-            .with("offset", Single::Number(u64::from(info.offset)))),
+        Variant::Encoding(info) => Ok(
+            Answer::done()
+                .with("bits", Single::Number(u64::from(info.bits)))
+                .with("encoding", Single::Number(u64::from(info.encoding)))
+                .with("offset", Single::Number(u64::from(info.offset))),
+        ),
         _ => Err(placeless(Fault::WRONG_KIND)),
     }
 }
@@ -234,8 +228,8 @@ pub(crate) fn answer_on<'a>(
 ) -> Result<Answer<'a>, Fault>
     ensures { result ≡ type_said question (type_at (dictionary_of dictionary.now) None t.0) }
 {
-    match own_record(dictionary, t) {
-        Ok(record) => answer_of(facts_of(dictionary, &record), question),
+    match find_type(dictionary, t) {
+        Ok(found) => answer_of(found.facts(), question),
         Err(fault) => Err(fault),
     }
 }

@@ -2,9 +2,7 @@
 #![tactic(auto)]
 
 mod answering;
-mod facts;
 mod library;
 mod slots;
-mod types;
 
 pub use library::Library;

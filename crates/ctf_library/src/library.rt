@@ -1,21 +1,24 @@
 //! The library of one session.
-ghost use Rattle.std.specs.Prelude.{◌≡◌, ◌≢◌, ◌≤◌, ◌<◌, ◌+◌, ◌++◌, length, [], None, Some, Ok, Err, true, OnErr, IfOk, IfErr, false, unwrap_or, map, option_map, option_copied};
-ghost use Rattle.ctf_model.specs.Ask.{placeless};
+ghost use Rattle.std.specs.Prelude.{◌≡◌, ◌≢◌, ◌≤◌, ◌<◌, ◌⊎◌, ◌++◌, length, [], None, Some, Ok, Err, true, OnOk, OnErr, IfOk, IfErr, unwrap_or, map, option_map, option_copied};
 ghost use Rattle.ctf_model.specs.Dictionary.{said_by};
 ghost use Rattle.ctf_model.specs.Faults.{first_fault};
-ghost use Rattle.ctf_model.specs.Runs.{Answered, is_no_memory};
-ghost use Rattle.ctf_model.specs.State.{empty_state};
-ghost use Rattle.ctf_model.specs.Steps.{change_step, answer_to, is_quiet, MayAnswer, slot_at, longest_list};
+ghost use Rattle.ctf_model.specs.OwnedLists.{lists_owned};
+ghost use Rattle.ctf_model.specs.Refusals.{placeless, want_of_memory};
+ghost use Rattle.ctf_model.specs.Runs.{Answered};
+ghost use Rattle.ctf_model.specs.State.{empty_state, empty_stage};
+ghost use Rattle.ctf_model.specs.Steps.{adds_slot, has_room, answer_to, is_quiet, MayAnswer, slot_at, longest_list};
 ghost use Rattle.ctf_answers.specs.Replies.{said};
-ghost use Rattle.ctf_library.specs.SlotView.{slot_of, without_symbols};
-ghost use Rattle.ctf_model.specs.declared.faults.TheConstants.Fault.{MEMORY, STAGE_FULL};
+ghost use Rattle.ctf_library.specs.SlotView.{slot_of};
+ghost use Rattle.ctf_library.specs.Stepping.{Makes};
+ghost use Rattle.ctf_model.specs.declared.faults.TheConstants.Fault.{STAGE_FULL};
 
+use crate::slots::{Slot, lent};
 use ctf_answers::{Answer, Counts};
-use crate::slots::{Slot, bytes_or_none, list_bytes};
 use ctf_check::check;
-use ctf_model::{Bytes, Change, Fault, ListName, Question, SlotNumber, placeless};
+use ctf_model::{Bytes, Change, Fault, ListName, Parts, Question, SlotNumber, no_parts, placeless};
 use std::alloc::Global;
 use std::marker::Model;
+use std::mem;
 
 /// How many slots may be in use.
 const MOST_SLOTS: usize = 255;
@@ -29,64 +32,74 @@ pub struct Library {
     alloc: Global,
     slots: Vec<Slot>,
     next: u64,
-    ctf: Option<Bytes>,
-    strs: Option<Bytes>,
+    stage: Parts,
 }
 
 impl Model for Library {
-    ghost use Rattle.std.specs.Prelude.{◌≤◌, ◌^◌, None, [], map};
+    ghost use Rattle.std.specs.Prelude.{◌≡◌, ◌≤◌, ◌^◌, None, [], map};
+    ghost use Rattle.ctf_model.specs.OwnedLists.{lists_owned};
     ghost use Rattle.ctf_model.specs.State.{State};
     ghost use Rattle.ctf_library.specs.SlotView.{slot_of};
 
     ghost Value = { State };
 
-    ghost view = { λ l. record { slots = map slot_of l.slots.items; next = l.next; stage = record { ctf = l.ctf; sym = None; strs = l.strs }; published = [] } };
+    ghost view = { λ l. record {
+      slots = map slot_of l.slots.items;
+      next = l.next;
+      stage = lists_owned l.stage;
+      published = [];
+    } };
 
-    ghost invariant = { λ l. l.next ≤ 2 ^ 32 };
+    ghost invariant = { λ l. (l.next ≤ 2 ^ 32) × (l.stage.sym ≡ None) };
 }
 
-/// Adds a piece to the end of a staged list, and answers how long it is then.
-fn add_piece(alloc: Global, staged: &mut Option<Bytes>, piece: &[u8]) -> Result<u64, Fault>
-    ensures ok { IfOk result (λ n. let bytes = unwrap_or staged.old [] ++ piece.now in (length bytes ≤ longest_list) × (n ≡ length bytes) × (staged.new ≡ Some bytes)) }
-    ensures full { IfErr result (λ f. f.code ≢ MEMORY → (longest_list < length (unwrap_or staged.old [] ++ piece.now)) × (f ≡ placeless STAGE_FULL)) }
-    ensures memory { IfErr result (λ f. f.code ≡ MEMORY → f ≡ placeless MEMORY) }
-    ensures err { OnErr result (staged.new ≡ staged.old) }
+/// Adds a piece to the end of a list, and answers how long it is then.
+fn add_piece(list: &mut Bytes, piece: &[u8]) -> Result<u64, Fault>
+    ensures ok { IfOk result (λ n. (list.new ≡ list.old ++ piece.now) × (n ≡ length list.new)) }
+    ensures fits { OnOk result (length (list.old ++ piece.now) ≤ longest_list) }
+    ensures full { IfErr result (λ f. f ≢ want_of_memory → (f ≡ placeless STAGE_FULL)
+        × (longest_list < length (list.old ++ piece.now))) }
+    ensures err { OnErr result (list.new ≡ list.old) }
 {
-    match staged {
-        Some(bytes) => {
-            if piece.len() > LONGEST_LIST || bytes.len() > LONGEST_LIST - piece.len() {
-                return Err(placeless(Fault::STAGE_FULL));
-            }
-            if bytes.append(piece).is_err() {
-                return Err(placeless(Fault::MEMORY));
-            }
-            Ok(bytes.len() as u64)
-        }
+    if piece.len() > LONGEST_LIST || list.len() > LONGEST_LIST - piece.len() {
+        return Err(placeless(Fault::STAGE_FULL));
+    }
+    if list.append(piece).is_err() {
+        return Err(placeless(Fault::MEMORY));
+    }
+    Ok(list.len() as u64)
+}
+
+/// The same for a list that may not be there yet: it is from then on.
+fn add_first_piece(alloc: Global, list: &mut Option<Bytes>, piece: &[u8]) -> Result<u64, Fault>
+    ensures ok { IfOk result (λ n. (list.new ≡ Some (unwrap_or list.old [] ++ piece.now))
+        × (n ≡ length (unwrap_or list.old [] ++ piece.now))) }
+    ensures fits { OnOk result (length (unwrap_or list.old [] ++ piece.now) ≤ longest_list) }
+    ensures full { IfErr result (λ f. f ≢ want_of_memory → (f ≡ placeless STAGE_FULL)
+        × (longest_list < length (unwrap_or list.old [] ++ piece.now))) }
+    ensures err { OnErr result (list.new ≡ list.old) }
+{
+    match list {
+        Some(bytes) => add_piece(bytes, piece),
         None => {
-            if piece.len() > LONGEST_LIST {
-                return Err(placeless(Fault::STAGE_FULL));
-            }
-            match Bytes::from_slice(alloc, piece) {
-                Ok(copy) => *staged = Some(copy),
-                Err(_) => return Err(placeless(Fault::MEMORY)),
-            }
-            Ok(piece.len() as u64)
+            let mut bytes = Bytes::new(alloc);
+            let length = add_piece(&mut bytes, piece)?;
+            *list = Some(bytes);
+            Ok(length)
         }
     }
 }
 
-/// Judges the staged lists, and counts the types of their dictionary.
-#[tactic(auto, using(crate::proofs::Faulting::first_fault_code))]
-fn judge_staged<'a>(
-    alloc: Global,
-    ctf: &'a Option<Bytes>,
-    strs: &'a Option<Bytes>,
-) -> Result<usize, Fault>
-    ensures ok { IfOk result (λ n. (first_fault (without_symbols ctf.now strs.now) ≡ None) × (n ≡ length (said_by (without_symbols ctf.now strs.now)).terms)) }
-    ensures err { IfErr result (λ f. f.code ≢ MEMORY → first_fault (without_symbols ctf.now strs.now) ≡ Some f) }
-    ensures memory { IfErr result (λ f. f.code ≡ MEMORY → f ≡ placeless MEMORY) }
+/// Judges lists, and counts the types of their dictionary.
+fn judge(alloc: Global, lists: &Parts) -> Result<usize, Fault>
+    requires no_symbols { lists.now.sym ≡ None }
+    ensures ok { OnOk result (first_fault (lists_owned lists.now) ≡ None) }
+    ensures count { IfOk result (λ n. n ≡ length (said_by (lists_owned lists.now)).terms) }
+    ensures err { IfErr result (λ f. (f ≡ want_of_memory)
+        ⊎ (first_fault (lists_owned lists.now) ≡ Some f)) }
 {
-    match check(alloc, bytes_or_none(ctf), None, list_bytes(strs)) {
+    let lists = lent(lists);
+    match check(alloc, lists.ctf, lists.sym, lists.strs) {
         Ok(dictionary) => Ok(dictionary.count()),
         Err(fault) => Err(fault),
     }
@@ -113,15 +126,14 @@ impl Library {
             alloc,
             slots: Vec::new(alloc),
             next: 1,
-            ctf: None,
-            strs: None,
+            stage: no_parts(alloc),
         }
     }
 
     /// Makes the step of a change. Want of memory changes nothing.
     #[tactic(auto, unfolding(ctf_model::specs::Steps::change_step))]
     pub fn step(&mut self, change: &Change) -> Result<Counts, Fault>
-        ensures { Answered self.old (change_step self.old change.now None) (said result) self.new }
+        ensures { Makes self.old change.now result self.new }
     {
         match change {
             Change::Part { section, bytes } => self.part(*section, bytes.as_slice()),
@@ -133,11 +145,11 @@ impl Library {
 
     #[tactic(auto, unfolding(ctf_model::specs::Steps::change_step))]
     fn part(&mut self, list: ListName, piece: &[u8]) -> Result<Counts, Fault>
-        ensures { Answered self.old (change_step self.old (Change.Part list piece.now) None) (said result) self.new }
+        ensures { Makes self.old (Change.Part list piece.now) result self.new }
     {
         let added = match list {
-            ListName::Ctf => add_piece(self.alloc, &mut self.ctf, piece),
-            ListName::Str => add_piece(self.alloc, &mut self.strs, piece),
+            ListName::Ctf => add_piece(&mut self.stage.ctf, piece),
+            ListName::Str => add_first_piece(self.alloc, &mut self.stage.strs, piece),
         };
         match added {
             Ok(length) => Ok(Counts::one("length", length)),
@@ -147,9 +159,9 @@ impl Library {
 
     #[tactic(auto, unfolding(ctf_model::specs::Steps::change_step))]
     fn check(&self) -> Result<Counts, Fault>
-        ensures { Answered self.now (change_step self.now Change.Check None) (said result) self.now }
+        ensures { Makes self.now Change.Check result self.now }
     {
-        match judge_staged(self.alloc, &self.ctf, &self.strs) {
+        match judge(self.alloc, &self.stage) {
             Ok(_) => Ok(Counts::done()),
             Err(fault) => Err(fault),
         }
@@ -157,28 +169,33 @@ impl Library {
 
     #[tactic(auto, unfolding(ctf_model::specs::Steps::change_step))]
     fn open(&mut self) -> Result<Counts, Fault>
-        ensures { Answered self.old (change_step self.old Change.Open None) (said result) self.new }
+        ensures { Makes self.old Change.Open result self.new }
     {
         if self.slots.len() >= MOST_SLOTS || self.next > u64::from(u32::MAX) {
             return Err(placeless(Fault::SLOTS_FULL));
         }
-        let types = match judge_staged(self.alloc, &self.ctf, &self.strs) {
-            Ok(types) => types,
-            Err(fault) => return Err(fault),
-        };
+        match judge(self.alloc, &self.stage) {
+            Ok(types) => self.add_slot(types),
+            Err(fault) => Err(fault),
+        }
+    }
+
+    /// Makes a slot of the staged lists, which have so many types.
+    fn add_slot(&mut self, types: usize) -> Result<Counts, Fault>
+        requires room { has_room self.old ≡ true }
+        requires faultless { first_fault self.old.stage ≡ None }
+        requires counted { types ≡ length (said_by self.old.stage).terms }
+        ensures { let opened = record self.old { stage = empty_stage } in
+            Answered self.old (adds_slot self.old.stage opened) (said result) self.new }
+    {
         if self.slots.reserve(1).is_err() {
             return Err(placeless(Fault::MEMORY));
         }
         let number = self.next as u32;
-        let ctf = match self.ctf.take() {
-            Some(ctf) => ctf,
-            None => Bytes::new(self.alloc),
-        };
-        let strs = self.strs.take();
+        let lists = mem::replace(&mut self.stage, no_parts(self.alloc));
         self.slots.push_reserved(Slot {
             number,
-            ctf,
-            strs,
+            lists,
             types,
         });
         self.next += 1;
@@ -187,12 +204,11 @@ impl Library {
 
     #[tactic(auto, unfolding(ctf_model::specs::Steps::change_step))]
     fn reset(&mut self) -> Result<Counts, Fault>
-        ensures { Answered self.old (change_step self.old Change.Reset None) (said result) self.new }
+        ensures { Makes self.old Change.Reset result self.new }
     {
         self.slots.clear();
         self.next = 1;
-        self.ctf = None;
-        self.strs = None;
+        self.stage = no_parts(self.alloc);
         Ok(Counts::done())
     }
 

@@ -1,4 +1,3 @@
-pub mod Asking
 pub mod Separated
 pub mod NameText
 pub mod Short

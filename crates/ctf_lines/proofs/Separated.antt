@@ -44,3 +44,10 @@ first-room texts k below =
     let front = separated-more (take (k + 1) texts) (drop (k + 1) texts) in
     let whole = ap (λ (ts : List (List ℕ)). length (separated ts)) (take-append-drop (k + 1) texts) in
     omega (arith, next, sum, last, front, whole)
+
+-- the first ones are no longer than all
+pub first-within : (texts : List (List ℕ)) (k : ℕ) → length (first texts k) ≤ length (separated texts)
+first-within texts k =
+    let front = separated-more (take k texts) (drop k texts) in
+    let whole = ap (λ (ts : List (List ℕ)). length (separated ts)) (take-append-drop k texts) in
+    omega (arith, front, whole)

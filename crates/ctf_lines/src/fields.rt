@@ -4,6 +4,7 @@ ghost use Rattle.ctf_model.specs.ReplyLines.{item_text, list_text, object_text, 
 ghost use Rattle.ctf_answers.specs.Singles.{entry_of};
 ghost use Rattle.ctf_answers.specs.Items.{item_of};
 ghost use Rattle.ctf_answers.specs.Fields.{field_of, value_of};
+ghost use Rattle.ctf_lines.specs.Appending.{HasRoom, Appended, and_text};
 
 use crate::series::{Series, plus_series, put_series};
 use crate::singles::{plus_entry, plus_key, plus_single, put_entry, put_key, put_single};
@@ -12,7 +13,7 @@ use ctf_answers::{Answer, Entry, Field, Item, Listed, Value};
 
 /// A length and the bytes of an item.
 fn plus_item(len: usize, item: Item<'_>) -> usize
-    ensures { result ≡ min (len + length (item_text (item_of item.entry))) TOO_LONG }
+    ensures { result ≡ and_text len (item_text (item_of item.entry)) }
 {
     match item {
         Item::Bare(value) => plus_single(len, value),
@@ -23,10 +24,8 @@ fn plus_item(len: usize, item: Item<'_>) -> usize
 
 /// Appends an item where there is room.
 fn put_item(out: &mut Vec<u8>, item: Item<'_>)
-    requires { vec_len out.old + length (item_text (item_of item)) ≤ vec_capacity out.old }
-    ensures items { out.new.items ≡ out.old.items ++ item_text (item_of item.entry) }
-    ensures len { vec_len out.new ≡ vec_len out.old + length (item_text (item_of item.entry)) }
-    ensures capacity { vec_capacity out.new ≡ vec_capacity out.old }
+    requires { HasRoom out.old (item_text (item_of item)) }
+    ensures { Appended out.old out.new (item_text (item_of item.entry)) }
 {
     match item {
         Item::Bare(value) => put_single(out, value),
@@ -36,10 +35,8 @@ fn put_item(out: &mut Vec<u8>, item: Item<'_>)
 }
 
 fn put_two(out: &mut Vec<u8>, a: Entry<'_>, b: Entry<'_>)
-    requires { vec_len out.old + length (object_text (entry_of a ∷ entry_of b ∷ [])) ≤ vec_capacity out.old }
-    ensures items { out.new.items ≡ out.old.items ++ object_text (entry_of a.entry ∷ entry_of b.entry ∷ []) }
-    ensures len { vec_len out.new ≡ vec_len out.old + length (object_text (entry_of a.entry ∷ entry_of b.entry ∷ [])) }
-    ensures capacity { vec_capacity out.new ≡ vec_capacity out.old }
+    requires { HasRoom out.old (object_text (entry_of a ∷ entry_of b ∷ [])) }
+    ensures { Appended out.old out.new (object_text (entry_of a.entry ∷ entry_of b.entry ∷ [])) }
 {
     put(out, b"{");
     put_entry(out, a);
@@ -49,10 +46,9 @@ fn put_two(out: &mut Vec<u8>, a: Entry<'_>, b: Entry<'_>)
 }
 
 fn put_three(out: &mut Vec<u8>, a: Entry<'_>, b: Entry<'_>, c: Entry<'_>)
-    requires { vec_len out.old + length (object_text (entry_of a ∷ entry_of b ∷ entry_of c ∷ [])) ≤ vec_capacity out.old }
-    ensures items { out.new.items ≡ out.old.items ++ object_text (entry_of a.entry ∷ entry_of b.entry ∷ entry_of c.entry ∷ []) }
-    ensures len { vec_len out.new ≡ vec_len out.old + length (object_text (entry_of a.entry ∷ entry_of b.entry ∷ entry_of c.entry ∷ [])) }
-    ensures capacity { vec_capacity out.new ≡ vec_capacity out.old }
+    requires { HasRoom out.old (object_text (entry_of a ∷ entry_of b ∷ entry_of c ∷ [])) }
+    ensures { Appended out.old out.new
+        (object_text (entry_of a.entry ∷ entry_of b.entry ∷ entry_of c.entry ∷ [])) }
 {
     put(out, b"{");
     put_entry(out, a);
@@ -84,7 +80,7 @@ impl<'a> Series for Listed<'a> {
 
 /// A length and the bytes of a field's value.
 fn plus_value(len: usize, value: &Value<'_>) -> usize
-    ensures { result ≡ min (len + length (value_text (value_of value.now))) TOO_LONG }
+    ensures { result ≡ and_text len (value_text (value_of value.now)) }
 {
     match value {
         Value::One(value) => plus_single(len, *value),
@@ -94,10 +90,8 @@ fn plus_value(len: usize, value: &Value<'_>) -> usize
 
 /// Appends the items of a list where there is room.
 fn put_list(out: &mut Vec<u8>, items: &Listed<'_>)
-    requires { vec_len out.old + length (list_text items.now) ≤ vec_capacity out.old }
-    ensures items { out.new.items ≡ out.old.items ++ list_text items.now }
-    ensures len { vec_len out.new ≡ vec_len out.old + length (list_text items.now) }
-    ensures capacity { vec_capacity out.new ≡ vec_capacity out.old }
+    requires { HasRoom out.old (list_text items.now) }
+    ensures { Appended out.old out.new (list_text items.now) }
 {
     put(out, b"[");
     put_series(out, items);
@@ -106,10 +100,8 @@ fn put_list(out: &mut Vec<u8>, items: &Listed<'_>)
 
 /// Appends a field's value where there is room.
 fn put_value(out: &mut Vec<u8>, value: &Value<'_>)
-    requires { vec_len out.old + length (value_text (value_of value.now)) ≤ vec_capacity out.old }
-    ensures items { out.new.items ≡ out.old.items ++ value_text (value_of value.now) }
-    ensures len { vec_len out.new ≡ vec_len out.old + length (value_text (value_of value.now)) }
-    ensures capacity { vec_capacity out.new ≡ vec_capacity out.old }
+    requires { HasRoom out.old (value_text (value_of value.now)) }
+    ensures { Appended out.old out.new (value_text (value_of value.now)) }
 {
     match value {
         Value::One(value) => put_single(out, *value),
@@ -119,17 +111,15 @@ fn put_value(out: &mut Vec<u8>, value: &Value<'_>)
 
 /// A length and the bytes of a field.
 fn plus_field(len: usize, field: &Field<'_>) -> usize
-    ensures { result ≡ min (len + length (field_text (field_of field.now))) TOO_LONG }
+    ensures { result ≡ and_text len (field_text (field_of field.now)) }
 {
     plus_value(plus_key(len, field.key), &field.value)
 }
 
 /// Appends a field where there is room.
 fn put_field(out: &mut Vec<u8>, field: &Field<'_>)
-    requires { vec_len out.old + length (field_text (field_of field.now)) ≤ vec_capacity out.old }
-    ensures items { out.new.items ≡ out.old.items ++ field_text (field_of field.now) }
-    ensures len { vec_len out.new ≡ vec_len out.old + length (field_text (field_of field.now)) }
-    ensures capacity { vec_capacity out.new ≡ vec_capacity out.old }
+    requires { HasRoom out.old (field_text (field_of field.now)) }
+    ensures { Appended out.old out.new (field_text (field_of field.now)) }
 {
     put_key(out, field.key);
     put_value(out, &field.value);

@@ -1,5 +1,6 @@
 //! What can be read from a line, and what can be written as one.
-ghost use Rattle.std.specs.Prelude.{◌≡◌, ◌≢◌, ◌+◌, ◌≤◌, ◌++◌, ℕ, List, Result, Ok, Err, IfOk, IfErr, OnOk, OnErr, IsOk, length, vec_len, vec_capacity};
+ghost use Rattle.std.specs.Prelude.{◌≡◌, ◌≢◌, ℕ, List, Result, Ok, Err, IfOk, IfErr};
+ghost use Rattle.ctf_lines.specs.Appending.{Writes};
 
 use ctf_model::Fault;
 use std::alloc::{AllocError, Global};
@@ -8,18 +9,21 @@ use std::alloc::{AllocError, Global};
 pub trait FromLine: Sized {
     ghost use Rattle.ctf_model.specs.declared.faults.Fault.{Fault};
     ghost use Rattle.ctf_model.specs.declared.faults.TheConstants.Fault.{MEMORY};
-    ghost use Rattle.ctf_model.specs.Ask.{placeless};
+    ghost use Rattle.ctf_model.specs.Refusals.{placeless};
 
-    /// The session of a line and what it asks, or its session (0 where it has none) and the refusal.
+    /// The session of a line and what it asks, or its session (0 where it has none) and the
+    /// refusal.
     ghost asked: { List ℕ → Result (ℕ × Self) (ℕ × Fault) };
 
     /// Reads a line, given without its newline.
     fn read(alloc: Global, line: &[u8]) -> Result<(u32, Self), (u32, Fault)>
         ensures ok { IfOk result (λ said. asked line.now ≡ Ok said) }
         ensures session { IfOk result (λ said. said.0 ≢ 0) }
-        ensures refused { IfErr result (λ refusal. refusal.1.code ≢ MEMORY → asked line.now ≡ Err refusal) }
+        ensures refused { IfErr result (λ refusal. refusal.1.code ≢ MEMORY
+            → asked line.now ≡ Err refusal) }
         // Where memory was refused, no session is said.
-        ensures memory { IfErr result (λ refusal. refusal.1.code ≡ MEMORY → refusal ≡ (0, placeless MEMORY)) };
+        ensures memory { IfErr result (λ refusal. refusal.1.code ≡ MEMORY
+            → refusal ≡ (0, placeless MEMORY)) };
 }
 
 /// What has a line.
@@ -29,9 +33,5 @@ pub trait ToLine {
 
     /// Appends the line.
     fn write(&self, out: &mut Vec<u8>) -> Result<(), AllocError>
-        ensures ok { OnOk result (out.new.items ≡ out.old.items ++ line self.now) }
-        ensures err { OnErr result ((out.new.items ≡ out.old.items) × (vec_len out.new ≡ vec_len out.old)) }
-        ensures capacity { vec_capacity out.old ≤ vec_capacity out.new }
-        // Where there is room no memory is taken.
-        ensures room { vec_len out.old + length (line self.now) ≤ vec_capacity out.old → IsOk result × (vec_capacity out.new ≡ vec_capacity out.old) };
+        ensures { Writes out.old (line self.now) result out.new };
 }

@@ -1,6 +1,7 @@
 //! Names in a line: their bytes are escaped where they aren't plain.
 ghost use Rattle.std.specs.Prelude.{◌≡◌, ◌+◌, ◌≤◌, ◌<◌, ◌++◌, length, min, vec_len, vec_capacity};
 ghost use Rattle.ctf_model.specs.Text.{is_plain as is_plain_byte, hex_digit as digit_of, text_of_byte, text_of, hex_of_byte, hex_of};
+ghost use Rattle.ctf_lines.specs.Appending.{HasRoom, Appended, and_text};
 
 use crate::texts::{TOO_LONG, plus, put};
 
@@ -31,7 +32,7 @@ fn byte_len(byte: u8) -> usize
 
 /// A length and the bytes that a name takes; a name that is too long itself is not gone through.
 pub fn plus_name(len: usize, name: &[u8]) -> usize
-    ensures { result ≡ min (len + length (text_of name.now)) TOO_LONG }
+    ensures { result ≡ and_text len (text_of name.now) }
 {
     if TOO_LONG <= plus(len, name.len()) {
         return TOO_LONG;
@@ -44,10 +45,8 @@ pub fn plus_name(len: usize, name: &[u8]) -> usize
 }
 
 fn put_byte(out: &mut Vec<u8>, byte: u8)
-    requires { vec_len out.old + length (text_of_byte byte) ≤ vec_capacity out.old }
-    ensures items { out.new.items ≡ out.old.items ++ text_of_byte byte }
-    ensures len { vec_len out.new ≡ vec_len out.old + length (text_of_byte byte) }
-    ensures capacity { vec_capacity out.new ≡ vec_capacity out.old }
+    requires { HasRoom out.old (text_of_byte byte) }
+    ensures { Appended out.old out.new (text_of_byte byte) }
 {
     if is_plain(byte) {
         out.push_reserved(byte);
@@ -60,10 +59,8 @@ fn put_byte(out: &mut Vec<u8>, byte: u8)
 
 /// Appends a name where there is room.
 pub fn put_name(out: &mut Vec<u8>, name: &[u8])
-    requires { vec_len out.old + length (text_of name.now) ≤ vec_capacity out.old }
-    ensures items { out.new.items ≡ out.old.items ++ text_of name.now }
-    ensures len { vec_len out.new ≡ vec_len out.old + length (text_of name.now) }
-    ensures capacity { vec_capacity out.new ≡ vec_capacity out.old }
+    requires { HasRoom out.old (text_of name.now) }
+    ensures { Appended out.old out.new (text_of name.now) }
 {
     for byte in name {
         put_byte(out, *byte);
@@ -73,17 +70,15 @@ pub fn put_name(out: &mut Vec<u8>, name: &[u8])
 /// A length and the digits of bytes.
 #[tactic(auto, using(crate::proofs::NameText::hex_of_twice))]
 pub fn plus_hex(len: usize, bytes: &[u8]) -> usize
-    ensures { result ≡ min (len + length (hex_of bytes.now)) TOO_LONG }
+    ensures { result ≡ and_text len (hex_of bytes.now) }
 {
     plus(plus(len, bytes.len()), bytes.len())
 }
 
 /// Appends the digits of bytes where there is room.
 pub fn put_hex(out: &mut Vec<u8>, bytes: &[u8])
-    requires { vec_len out.old + length (hex_of bytes.now) ≤ vec_capacity out.old }
-    ensures items { out.new.items ≡ out.old.items ++ hex_of bytes.now }
-    ensures len { vec_len out.new ≡ vec_len out.old + length (hex_of bytes.now) }
-    ensures capacity { vec_capacity out.new ≡ vec_capacity out.old }
+    requires { HasRoom out.old (hex_of bytes.now) }
+    ensures { Appended out.old out.new (hex_of bytes.now) }
 {
     for byte in bytes {
         put_digits(out, *byte);
@@ -92,10 +87,8 @@ pub fn put_hex(out: &mut Vec<u8>, bytes: &[u8])
 
 /// Appends the two digits of a byte where there is room.
 fn put_digits(out: &mut Vec<u8>, byte: u8)
-    requires { vec_len out.old + 2 ≤ vec_capacity out.old }
-    ensures items { out.new.items ≡ out.old.items ++ hex_of_byte byte }
-    ensures len { vec_len out.new ≡ vec_len out.old + 2 }
-    ensures capacity { vec_capacity out.new ≡ vec_capacity out.old }
+    requires { HasRoom out.old (hex_of_byte byte) }
+    ensures { Appended out.old out.new (hex_of_byte byte) }
 {
     out.push_reserved(hex_digit(byte / 16));
     out.push_reserved(hex_digit(byte % 16));

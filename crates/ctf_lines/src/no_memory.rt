@@ -21,11 +21,12 @@ fn put_at(buffer: &mut [u8], at: usize, text: &[u8]) -> usize
     end
 }
 
-/// Writes the line that says that memory was refused to a session, and answers its length with its newline.
+/// Writes the line that says that memory was refused to a session, and answers its length with its
+/// newline.
 pub fn memory_line(session: u32, buffer: &mut [u8; SHORT_LINE]) -> usize
     ensures line { take result buffer.new ≡ reply_line (no_memory session) }
     ensures rest { drop result buffer.new ≡ drop result buffer.old }
-    ensures inside { result ≤ SHORT_LINE }
+    ensures inside { result ≤ 96 }
 {
     let end = put_at(
         buffer,

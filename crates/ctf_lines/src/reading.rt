@@ -1,7 +1,8 @@
 //! Reads the request of a line.
 ghost use Rattle.std.specs.Prelude.{◌≡◌, ◌≢◌, ◌≤◌, IfSome, Option, None, Some, IfOk, IfErr, Ok, Err, codes, option_map};
 ghost use Rattle.serde_json.specs.View.{view};
-ghost use Rattle.ctf_model.specs.Ask.{ask, placeless, number_in, text_in, list_named, bytes_spelled, not_too_many, slot_asked, type_asked, about_type as type_question_asked, from_asked, count_asked, window_asked, part_asked, word_asked, asked_with, request_asked, value_asked};
+ghost use Rattle.ctf_model.specs.Ask.{ask, number_in, text_in, list_named, bytes_spelled, not_too_many, slot_in, type_in, about_type as type_question_asked, from_asked, count_asked, window_asked, part_asked, word_asked, asked_with, request_asked, value_asked};
+ghost use Rattle.ctf_model.specs.Refusals.{placeless};
 ghost use Rattle.ctf_model.specs.declared.faults.TheConstants.Fault.{MEMORY};
 ghost use Rattle.ctf_model.specs.declared.questions.TypeQuestion.TheVariants as about;
 
@@ -43,8 +44,10 @@ impl FromLine for Request {
 fn read_value(alloc: Global, value: &Value) -> Result<(u32, Request), (u32, Fault)>
     ensures ok { IfOk result (λ said. value_asked (Some (view value.now)) ≡ Ok said) }
     ensures session { IfOk result (λ said. said.0 ≢ 0) }
-    ensures refused { IfErr result (λ refusal. refusal.1.code ≢ MEMORY → value_asked (Some (view value.now)) ≡ Err refusal) }
-    ensures memory { IfErr result (λ refusal. refusal.1.code ≡ MEMORY → refusal ≡ (0, placeless MEMORY)) }
+    ensures refused { IfErr result (λ refusal. refusal.1.code ≢ MEMORY
+        → value_asked (Some (view value.now)) ≡ Err refusal) }
+    ensures memory { IfErr result (λ refusal. refusal.1.code ≡ MEMORY
+        → refusal ≡ (0, placeless MEMORY)) }
 {
     let Some(session) = number(value, "s", 1, u64::from(u32::MAX)) else {
         return Err((0, placeless(Fault::BAD_REQUEST)));
@@ -113,14 +116,14 @@ fn read_word(alloc: Global, value: &Value, word: Word) -> Result<Option<Request>
 }
 
 fn slot(value: &Value) -> Option<SlotNumber>
-    ensures { result ≡ slot_asked (view value.now) }
+    ensures { result ≡ slot_in (view value.now) }
 {
     let number = number(value, "d", 1, u64::from(u32::MAX))?;
     SlotNumber::new(number as u32)
 }
 
 fn type_number(value: &Value) -> Option<TypeNum>
-    ensures { result ≡ type_asked (view value.now) }
+    ensures { result ≡ type_in (view value.now) }
 {
     let number = number(value, "t", 0, u64::from(u16::MAX))?;
     Some(TypeNum(number as u16))
@@ -161,7 +164,8 @@ fn members(value: &Value) -> Option<TypeQuestion>
 }
 
 fn enumerators(value: &Value) -> Option<TypeQuestion>
-    ensures { result ≡ option_map (λ window. about.Enumerators window) (window_asked (view value.now)) }
+    ensures { result
+        ≡ option_map (λ window. about.Enumerators window) (window_asked (view value.now)) }
 {
     Some(TypeQuestion::Enumerators(window(value)?))
 }

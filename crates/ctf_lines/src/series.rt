@@ -2,6 +2,7 @@
 ghost use Rattle.std.specs.Prelude.{◌≡◌, ◌+◌, ◌≤◌, ◌<◌, ◌++◌, ℕ, List, [], length, get_or, min, vec_len, vec_capacity};
 ghost use Rattle.ctf_model.specs.ReplyLines.{separated};
 ghost use Rattle.ctf_lines.specs.Commas.{comma_before};
+ghost use Rattle.ctf_lines.specs.Appending.{HasRoom, Appended, and_text};
 
 use crate::texts::{TOO_LONG, plus, put};
 
@@ -16,15 +17,13 @@ pub trait Series {
     /// A length and the bytes of one of them.
     fn plus_text(&self, len: usize, index: usize) -> usize
         requires { index < length (texts self.now) }
-        ensures { result ≡ min (len + length (get_or (texts self.now) index [])) TOO_LONG };
+        ensures { result ≡ and_text len (get_or (texts self.now) index []) };
 
     /// Appends one of them where there is room.
     fn put_text(&self, out: &mut Vec<u8>, index: usize)
         requires inside { index < length (texts self.now) }
-        requires room { vec_len out.old + length (get_or (texts self.now) index []) ≤ vec_capacity out.old }
-        ensures items { out.new.items ≡ out.old.items ++ get_or (texts self.now) index [] }
-        ensures len { vec_len out.new ≡ vec_len out.old + length (get_or (texts self.now) index []) }
-        ensures capacity { vec_capacity out.new ≡ vec_capacity out.old };
+        requires room { HasRoom out.old (get_or (texts self.now) index []) }
+        ensures { Appended out.old out.new (get_or (texts self.now) index []) };
 }
 
 /// What stands before the text with a number.
@@ -34,12 +33,15 @@ fn comma(index: usize) -> &'static str
     if index > 0 { "," } else { "" }
 }
 
-/// A length and the bytes of all.
+/// A length and the bytes of all. What stands behind the limit isn't looked at.
 pub fn plus_series<S: Series>(len: usize, series: &S) -> usize
-    ensures { result ≡ min (len + length (separated (S.texts series.now))) TOO_LONG }
+    ensures { result ≡ and_text len (separated (S.texts series.now)) }
 {
     let mut sum = plus(len, 0);
     for index in 0..series.count() {
+        if sum == TOO_LONG {
+            return TOO_LONG;
+        }
         sum = series.plus_text(plus(sum, comma(index).len()), index);
     }
     sum
@@ -47,10 +49,8 @@ pub fn plus_series<S: Series>(len: usize, series: &S) -> usize
 
 /// Appends all where there is room.
 pub fn put_series<S: Series>(out: &mut Vec<u8>, series: &S)
-    requires { vec_len out.old + length (separated (S.texts series.now)) ≤ vec_capacity out.old }
-    ensures items { out.new.items ≡ out.old.items ++ separated (S.texts series.now) }
-    ensures len { vec_len out.new ≡ vec_len out.old + length (separated (S.texts series.now)) }
-    ensures capacity { vec_capacity out.new ≡ vec_capacity out.old }
+    requires { HasRoom out.old (separated (S.texts series.now)) }
+    ensures { Appended out.old out.new (separated (S.texts series.now)) }
 {
     for index in 0..series.count() {
         put(out, comma(index).as_bytes());

@@ -3,6 +3,7 @@ ghost use Rattle.std.specs.Prelude.{◌≡◌, ◌+◌, ◌≤◌, ◌++◌, len
 ghost use Rattle.ctf_model.specs.ReplyLines.{single_text, entry_text, key_text, quoted, truth as truth_text};
 ghost use Rattle.ctf_model.specs.Text.{text_of, hex_of};
 ghost use Rattle.ctf_answers.specs.Singles.{single_of, entry_of};
+ghost use Rattle.ctf_lines.specs.Appending.{HasRoom, Appended, and_text};
 
 use crate::names::{plus_hex, plus_name, put_hex, put_name};
 use crate::texts::{TOO_LONG, number_len, plus, put, put_number, put_signed, signed_len};
@@ -16,7 +17,7 @@ fn truth(value: bool) -> &'static str
 
 /// A length and the bytes of a value.
 pub fn plus_single(len: usize, value: Single<'_>) -> usize
-    ensures { result ≡ min (len + length (single_text (single_of value.entry))) TOO_LONG }
+    ensures { result ≡ and_text len (single_text (single_of value.entry)) }
 {
     match value {
         Single::Number(number) => plus(len, number_len(number)),
@@ -30,10 +31,8 @@ pub fn plus_single(len: usize, value: Single<'_>) -> usize
 
 /// Appends a value where there is room.
 pub fn put_single(out: &mut Vec<u8>, value: Single<'_>)
-    requires { vec_len out.old + length (single_text (single_of value)) ≤ vec_capacity out.old }
-    ensures items { out.new.items ≡ out.old.items ++ single_text (single_of value.entry) }
-    ensures len { vec_len out.new ≡ vec_len out.old + length (single_text (single_of value.entry)) }
-    ensures capacity { vec_capacity out.new ≡ vec_capacity out.old }
+    requires { HasRoom out.old (single_text (single_of value)) }
+    ensures { Appended out.old out.new (single_text (single_of value.entry)) }
 {
     match value {
         Single::Number(number) => put_number(out, number),
@@ -46,10 +45,8 @@ pub fn put_single(out: &mut Vec<u8>, value: Single<'_>)
 }
 
 fn put_word(out: &mut Vec<u8>, word: &str)
-    requires { vec_len out.old + length (quoted word.now) ≤ vec_capacity out.old }
-    ensures items { out.new.items ≡ out.old.items ++ quoted word.now }
-    ensures len { vec_len out.new ≡ vec_len out.old + length (quoted word.now) }
-    ensures capacity { vec_capacity out.new ≡ vec_capacity out.old }
+    requires { HasRoom out.old (quoted word.now) }
+    ensures { Appended out.old out.new (quoted word.now) }
 {
     put(out, b"\"");
     put(out, word.as_bytes());
@@ -57,10 +54,8 @@ fn put_word(out: &mut Vec<u8>, word: &str)
 }
 
 fn put_quoted(out: &mut Vec<u8>, text: &[u8])
-    requires { vec_len out.old + length (quoted (text_of text.now)) ≤ vec_capacity out.old }
-    ensures items { out.new.items ≡ out.old.items ++ quoted (text_of text.now) }
-    ensures len { vec_len out.new ≡ vec_len out.old + length (quoted (text_of text.now)) }
-    ensures capacity { vec_capacity out.new ≡ vec_capacity out.old }
+    requires { HasRoom out.old (quoted (text_of text.now)) }
+    ensures { Appended out.old out.new (quoted (text_of text.now)) }
 {
     put(out, b"\"");
     put_name(out, text);
@@ -68,10 +63,8 @@ fn put_quoted(out: &mut Vec<u8>, text: &[u8])
 }
 
 fn put_quoted_hex(out: &mut Vec<u8>, bytes: &[u8])
-    requires { vec_len out.old + length (quoted (hex_of bytes.now)) ≤ vec_capacity out.old }
-    ensures items { out.new.items ≡ out.old.items ++ quoted (hex_of bytes.now) }
-    ensures len { vec_len out.new ≡ vec_len out.old + length (quoted (hex_of bytes.now)) }
-    ensures capacity { vec_capacity out.new ≡ vec_capacity out.old }
+    requires { HasRoom out.old (quoted (hex_of bytes.now)) }
+    ensures { Appended out.old out.new (quoted (hex_of bytes.now)) }
 {
     put(out, b"\"");
     put_hex(out, bytes);
@@ -80,17 +73,15 @@ fn put_quoted_hex(out: &mut Vec<u8>, bytes: &[u8])
 
 /// A length and the bytes of a key and its colon.
 pub fn plus_key(len: usize, key: &str) -> usize
-    ensures { result ≡ min (len + length (key_text key.now)) TOO_LONG }
+    ensures { result ≡ and_text len (key_text key.now) }
 {
     plus(plus(len, 3), key.len())
 }
 
 /// Appends a key and its colon where there is room.
 pub fn put_key(out: &mut Vec<u8>, key: &str)
-    requires { vec_len out.old + length (key_text key.now) ≤ vec_capacity out.old }
-    ensures items { out.new.items ≡ out.old.items ++ key_text key.now }
-    ensures len { vec_len out.new ≡ vec_len out.old + length (key_text key.now) }
-    ensures capacity { vec_capacity out.new ≡ vec_capacity out.old }
+    requires { HasRoom out.old (key_text key.now) }
+    ensures { Appended out.old out.new (key_text key.now) }
 {
     put(out, b"\"");
     put(out, key.as_bytes());
@@ -99,17 +90,15 @@ pub fn put_key(out: &mut Vec<u8>, key: &str)
 
 /// A length and the bytes of a part of an object.
 pub fn plus_entry(len: usize, entry: Entry<'_>) -> usize
-    ensures { result ≡ min (len + length (entry_text (entry_of entry.entry))) TOO_LONG }
+    ensures { result ≡ and_text len (entry_text (entry_of entry.entry)) }
 {
     plus_single(plus_key(len, entry.key), entry.value)
 }
 
 /// Appends a part of an object where there is room.
 pub fn put_entry(out: &mut Vec<u8>, entry: Entry<'_>)
-    requires { vec_len out.old + length (entry_text (entry_of entry)) ≤ vec_capacity out.old }
-    ensures items { out.new.items ≡ out.old.items ++ entry_text (entry_of entry.entry) }
-    ensures len { vec_len out.new ≡ vec_len out.old + length (entry_text (entry_of entry.entry)) }
-    ensures capacity { vec_capacity out.new ≡ vec_capacity out.old }
+    requires { HasRoom out.old (entry_text (entry_of entry)) }
+    ensures { Appended out.old out.new (entry_text (entry_of entry.entry)) }
 {
     put_key(out, entry.key);
     put_single(out, entry.value);

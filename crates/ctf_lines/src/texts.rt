@@ -1,6 +1,7 @@
 //! Texts and numbers of a line: their lengths, and how they are appended.
 ghost use Rattle.std.specs.Prelude.{◌≡◌, ◌+◌, ◌≤◌, ◌++◌, length, min, vec_len, vec_capacity, decimal};
 ghost use Rattle.ctf_model.specs.ReplyLines.{signed_decimal};
+ghost use Rattle.ctf_lines.specs.Appending.{HasRoom, Appended};
 
 use itoa::Buffer;
 
@@ -35,10 +36,8 @@ pub fn signed_len(value: i32) -> usize
 
 /// Appends bytes where there is room.
 pub fn put(out: &mut Vec<u8>, bytes: &[u8])
-    requires { vec_len out.old + length bytes.now ≤ vec_capacity out.old }
-    ensures items { out.new.items ≡ out.old.items ++ bytes.now }
-    ensures len { vec_len out.new ≡ vec_len out.old + length bytes.now }
-    ensures capacity { vec_capacity out.new ≡ vec_capacity out.old }
+    requires { HasRoom out.old bytes.now }
+    ensures { Appended out.old out.new bytes.now }
 {
     for byte in bytes {
         out.push_reserved(*byte);
@@ -46,19 +45,15 @@ pub fn put(out: &mut Vec<u8>, bytes: &[u8])
 }
 
 pub fn put_number(out: &mut Vec<u8>, number: u64)
-    requires { vec_len out.old + length (decimal number) ≤ vec_capacity out.old }
-    ensures items { out.new.items ≡ out.old.items ++ decimal number }
-    ensures len { vec_len out.new ≡ vec_len out.old + length (decimal number) }
-    ensures capacity { vec_capacity out.new ≡ vec_capacity out.old }
+    requires { HasRoom out.old (decimal number) }
+    ensures { Appended out.old out.new (decimal number) }
 {
     put(out, Buffer::new().format(number).as_bytes())
 }
 
 pub fn put_signed(out: &mut Vec<u8>, value: i32)
-    requires { vec_len out.old + length (signed_decimal value) ≤ vec_capacity out.old }
-    ensures items { out.new.items ≡ out.old.items ++ signed_decimal value }
-    ensures len { vec_len out.new ≡ vec_len out.old + length (signed_decimal value) }
-    ensures capacity { vec_capacity out.new ≡ vec_capacity out.old }
+    requires { HasRoom out.old (signed_decimal value) }
+    ensures { Appended out.old out.new (signed_decimal value) }
 {
     put(out, Buffer::new().format(value).as_bytes())
 }

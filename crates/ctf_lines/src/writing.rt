@@ -1,8 +1,9 @@
 //! Writes the line of a reply.
-ghost use Rattle.std.specs.Prelude.{◌≡◌, ◌+◌, ◌≤◌, ◌++◌, length, min, vec_len, vec_capacity, codes, OnOk, OnErr, IsOk, Ok, Err};
-ghost use Rattle.ctf_model.specs.ReplyLines.{answer_line, fault_fields, fault_line, fitting_line, object_line, reply_line};
+ghost use Rattle.std.specs.Prelude.{◌≡◌, ◌≤◌, length};
+ghost use Rattle.ctf_model.specs.ReplyLines.{fault_fields, fault_line, fitting_answer, object_line, reply_line};
 ghost use Rattle.ctf_answers.specs.Counts.{counts_said};
 ghost use Rattle.ctf_answers.specs.Replies.{reply_of, said_to};
+ghost use Rattle.ctf_lines.specs.Appending.{Appended, HasRoom, Writes, and_text};
 
 use crate::lines::ToLine;
 use crate::series::{plus_series, put_series};
@@ -17,7 +18,7 @@ pub const SHORT_LINE: usize = 96;
 /// The length of the line of an object, newline included; `TOO_LONG` for any that is longer than a
 /// reply's may be.
 fn object_len(under: &str, session: u32, fields: &Answer<'_>) -> usize
-    ensures { result ≡ min (length (object_line under.now session fields.now)) TOO_LONG }
+    ensures { result ≡ and_text 0 (object_line under.now session fields.now) }
 {
     let len = plus(plus(5, under.len()), number_len(u64::from(session)));
     plus_series(plus(len, 8), fields)
@@ -25,9 +26,8 @@ fn object_len(under: &str, session: u32, fields: &Answer<'_>) -> usize
 
 /// Appends the line of an object where there is room.
 fn put_object(out: &mut Vec<u8>, under: &str, session: u32, fields: &Answer<'_>)
-    requires { vec_len out.old + length (object_line under.now session fields.now) ≤ vec_capacity out.old }
-    ensures items { out.new.items ≡ out.old.items ++ object_line under.now session fields.now }
-    ensures capacity { vec_capacity out.new ≡ vec_capacity out.old }
+    requires { HasRoom out.old (object_line under.now session fields.now) }
+    ensures { Appended out.old out.new (object_line under.now session fields.now) }
 {
     put(out, b"{\"");
     put(out, under.as_bytes());
@@ -47,11 +47,7 @@ fn write_object(
     fields: &Answer<'_>,
 ) -> Result<(), AllocError>
     requires { len ≡ length (object_line under.now session fields.now) }
-    ensures ok { OnOk result (out.new.items ≡ out.old.items ++ object_line under.now session fields.now) }
-    ensures err { OnErr result ((out.new.items ≡ out.old.items) × (vec_len out.new ≡ vec_len out.old)) }
-    ensures capacity { vec_capacity out.old ≤ vec_capacity out.new }
-    // Where there is room no memory is taken.
-    ensures room { vec_len out.old + length (object_line under.now session fields.now) ≤ vec_capacity out.old → IsOk result × (vec_capacity out.new ≡ vec_capacity out.old) }
+    ensures { Writes out.old (object_line under.now session fields.now) result out.new }
 {
     out.reserve_exact(len)?;
     put_object(out, under, session, fields);
@@ -71,11 +67,8 @@ fn fault_answer<'a>(fault: Fault) -> Answer<'a>
 /// Appends a refusal.
 #[tactic(auto, using(crate::proofs::Short::fault_short))]
 fn write_fault(out: &mut Vec<u8>, session: u32, fault: Fault) -> Result<(), AllocError>
-    ensures ok { OnOk result (out.new.items ≡ out.old.items ++ fault_line session fault) }
-    ensures err { OnErr result ((out.new.items ≡ out.old.items) × (vec_len out.new ≡ vec_len out.old)) }
-    ensures capacity { vec_capacity out.old ≤ vec_capacity out.new }
-    ensures room { vec_len out.old + length (fault_line session fault) ≤ vec_capacity out.old → IsOk result × (vec_capacity out.new ≡ vec_capacity out.old) }
-    ensures short { length (fault_line session fault) ≤ SHORT_LINE }
+    ensures written { Writes out.old (fault_line session fault) result out.new }
+    ensures short { length (fault_line session fault) ≤ 96 }
 {
     let fields = fault_answer(fault);
     let len = object_len("fault", session, &fields);
@@ -85,10 +78,7 @@ fn write_fault(out: &mut Vec<u8>, session: u32, fault: Fault) -> Result<(), Allo
 /// Appends an answer, or the refusal of one that is too long.
 #[tactic(auto, using(crate::proofs::Short::fitting_fits, crate::proofs::Short::fitting_long))]
 fn write_answer(out: &mut Vec<u8>, session: u32, answer: &Answer<'_>) -> Result<(), AllocError>
-    ensures ok { OnOk result (out.new.items ≡ out.old.items ++ fitting_line session (answer_line session answer.now)) }
-    ensures err { OnErr result ((out.new.items ≡ out.old.items) × (vec_len out.new ≡ vec_len out.old)) }
-    ensures capacity { vec_capacity out.old ≤ vec_capacity out.new }
-    ensures room { vec_len out.old + length (fitting_line session (answer_line session answer.now)) ≤ vec_capacity out.old → IsOk result × (vec_capacity out.new ≡ vec_capacity out.old) }
+    ensures { Writes out.old (fitting_answer session answer.now) result out.new }
 {
     let len = object_len("ok", session, answer);
     if len <= LONGEST_REPLY + 1 {
@@ -100,26 +90,21 @@ fn write_answer(out: &mut Vec<u8>, session: u32, answer: &Answer<'_>) -> Result<
 
 #[tactic(auto, using(crate::proofs::Short::counts_short))]
 fn write_counts(out: &mut Vec<u8>, session: u32, counts: Counts) -> Result<(), AllocError>
-    ensures ok { OnOk result (out.new.items ≡ out.old.items ++ fitting_line session (answer_line session (counts_said counts))) }
-    ensures err { OnErr result ((out.new.items ≡ out.old.items) × (vec_len out.new ≡ vec_len out.old)) }
-    ensures capacity { vec_capacity out.old ≤ vec_capacity out.new }
-    ensures room { vec_len out.old + length (fitting_line session (answer_line session (counts_said counts))) ≤ vec_capacity out.old → IsOk result × (vec_capacity out.new ≡ vec_capacity out.old) }
-    ensures short { length (fitting_line session (answer_line session (counts_said counts))) ≤ SHORT_LINE }
+    ensures written { Writes out.old (fitting_answer session (counts_said counts)) result out.new }
+    ensures short { length (fitting_answer session (counts_said counts)) ≤ 96 }
 {
     write_answer(out, session, &counts.answer())
 }
 
-/// Appends the line of a reply to a change; where there is room for a short line, no memory is taken.
+/// Appends the line of a reply to a change; where there is room for a short line, no memory is
+/// taken.
 pub fn write_change(
     out: &mut Vec<u8>,
     session: u32,
     outcome: Result<Counts, Fault>,
 ) -> Result<(), AllocError>
-    ensures ok { OnOk result (out.new.items ≡ out.old.items ++ reply_line (said_to session outcome)) }
-    ensures err { OnErr result ((out.new.items ≡ out.old.items) × (vec_len out.new ≡ vec_len out.old)) }
-    ensures capacity { vec_capacity out.old ≤ vec_capacity out.new }
-    ensures room { vec_len out.old + length (reply_line (said_to session outcome)) ≤ vec_capacity out.old → IsOk result × (vec_capacity out.new ≡ vec_capacity out.old) }
-    ensures short { length (reply_line (said_to session outcome)) ≤ SHORT_LINE }
+    ensures written { Writes out.old (reply_line (said_to session outcome)) result out.new }
+    ensures short { length (reply_line (said_to session outcome)) ≤ 96 }
 {
     match outcome {
         Ok(counts) => write_counts(out, session, counts),
@@ -127,12 +112,10 @@ pub fn write_change(
     }
 }
 
-/// Appends the line of a reply, straight from what it lends; where there is room, no memory is taken.
+/// Appends the line of a reply, straight from what it lends; where there is room, no memory is
+/// taken.
 pub fn write_reply(out: &mut Vec<u8>, reply: &Reply<'_>) -> Result<(), AllocError>
-    ensures ok { OnOk result (out.new.items ≡ out.old.items ++ reply_line (reply_of reply.now)) }
-    ensures err { OnErr result ((out.new.items ≡ out.old.items) × (vec_len out.new ≡ vec_len out.old)) }
-    ensures capacity { vec_capacity out.old ≤ vec_capacity out.new }
-    ensures room { vec_len out.old + length (reply_line (reply_of reply.now)) ≤ vec_capacity out.old → IsOk result × (vec_capacity out.new ≡ vec_capacity out.old) }
+    ensures { Writes out.old (reply_line (reply_of reply.now)) result out.new }
 {
     match &reply.outcome {
         Ok(answer) => write_answer(out, reply.session, answer),

@@ -20,3 +20,4 @@ pub mod SpelledSection
 pub mod Unique
 pub mod Walk
 pub mod KeyOrder
+pub mod Asking

@@ -9,7 +9,7 @@ use Rattle.serde_json.specs.Data.{Data}
 use Rattle.serde_json.specs.Find.{get, as_number, as_u64, as_str}
 use Rattle.serde_json.specs.Read.{read}
 use Rattle.ctf_model.specs.Lines.{longest_line}
-use Rattle.ctf_model.specs.declared.bytes.TheConstants.{LONGEST_PIECE}
+use Rattle.ctf_model.specs.Refusals.{placeless}
 use Rattle.ctf_model.specs.declared.faults.Fault.{Fault}
 use Rattle.ctf_model.specs.declared.faults.TheConstants.Fault.{NOT_JSON, BAD_REQUEST, LONG_LINE}
 use Rattle.ctf_model.specs.declared.numbers.TypeNum.{TypeNum}
@@ -40,9 +40,13 @@ number_in low high key line = option_and_then (within low high) (option_and_then
 abbrev pub text_in : List ℕ → Data → Option (List ℕ)
 text_in key line = option_and_then as_str (get key line)
 
--- bytes that are no more than a request may bring
+-- the most bytes that a request may bring
+abbrev pub longest_piece : ℕ
+longest_piece = 1048576
+
+-- bytes that are no more than that
 abbrev pub not_too_many : List ℕ → Option (List ℕ)
-not_too_many bytes = if nat_le (length bytes) LONGEST_PIECE then Some bytes else None
+not_too_many bytes = if nat_le (length bytes) longest_piece then Some bytes else None
 
 -- the bytes of an even number of hexadecimal digits, of either case
 abbrev pub bytes_spelled : List ℕ → Option (List ℕ)
@@ -53,16 +57,16 @@ list_named w = if is_text w (codes "ctf") then Some Ctf else if is_text w (codes
 
 -- ---- words, each with its fields
 
-abbrev pub slot_asked : Data → Option ℕ
-slot_asked line = number_in 1 4294967295 (codes "d") line
+abbrev pub slot_in : Data → Option ℕ
+slot_in line = number_in 1 4294967295 (codes "d") line
 
-abbrev pub type_asked : Data → Option TypeNum
-type_asked line = option_map (λ t. record { 0 = t }) (number_in 0 65535 (codes "t") line)
+abbrev pub type_in : Data → Option TypeNum
+type_in line = option_map (λ t. record { 0 = t }) (number_in 0 65535 (codes "t") line)
 
 -- a question on a type of a slot, where its own fields are good
 abbrev pub about_type : Option TypeQuestion → Data → Option Request
 about_type question line =
-    option_and_then (λ q. option_and_then (λ d. option_map (λ t. Asks d (OfType t q)) (type_asked line)) (slot_asked line)) question
+    option_and_then (λ q. option_and_then (λ d. option_map (λ t. Asks d (OfType t q)) (type_in line)) (slot_in line)) question
 
 -- the first item that is wanted, 0 where that isn't said
 abbrev pub from_asked : Data → Option ℕ
@@ -101,9 +105,6 @@ abbrev pub request_asked : Data → Option Request
 request_asked line = option_and_then (asked_with line) (word_asked line)
 
 -- ---- lines
-
-abbrev pub placeless : ℕ → Fault
-placeless code = record { code = code; place = 0 }
 
 abbrev pub or_bad_request : ℕ → Option Request → Result (ℕ × Request) (ℕ × Fault)
 or_bad_request s None = Err (s, placeless BAD_REQUEST)

@@ -16,7 +16,9 @@ pub mod Chains
 pub mod Needs
 pub mod TypePlaces
 pub mod TypeNumbers
+pub mod Refusals
 pub mod State
+pub mod OwnedLists
 pub mod Answers
 pub mod Shown
 pub mod KindNames

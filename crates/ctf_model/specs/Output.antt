@@ -19,13 +19,17 @@ pub data Mark : Type 0 where
 abbrev pub own_reply : (ℕ → State) → List Call → ℕ → Request → Reply
 own_reply start calls s request = addressed s (step (own_state start calls s) request (found_in (own_state start calls) request)).reply
 
+-- the session of a line, 0 where none can be read
+abbrev pub session_of : Result (ℕ × Request) (ℕ × Fault) → ℕ
+session_of (Ok said) = said.0
+session_of (Err refusal) = refusal.0
+
 -- what is written for one line after a history
 abbrev pub line_out : (ℕ → State) → List Call → Mark → Result (ℕ × Request) (ℕ × Fault) → List ℕ
 line_out start calls unread said = reply_line (no_memory 0)
+line_out start calls refused said = reply_line (no_memory (session_of said))
 line_out start calls answered (Err refusal) = fault_line refusal.0 refusal.1
 line_out start calls answered (Ok said) = reply_line (own_reply start calls said.0 said.1)
-line_out start calls refused (Err refusal) = fault_line refusal.0 refusal.1
-line_out start calls refused (Ok said) = reply_line (no_memory said.0)
 
 -- the history after a line: a request joins it where it was answered
 abbrev pub calls_after : List Call → Mark → Result (ℕ × Request) (ℕ × Fault) → List Call

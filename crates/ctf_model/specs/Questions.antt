@@ -3,6 +3,7 @@ use Rattle.std.specs.Prelude.{ℕ, ◌-◌, ◌&&◌, ◌==◌, ◌++◌, nat_lt
 use Rattle.std.specs.Option.{option_map}
 use Rattle.ctf_model.specs.Answers.{Answer, Item, says, may_say, lists, entry, number, signed, truth, word, text, bare, object}
 use Rattle.ctf_model.specs.KindNames.{name_of_kind, name_of_tag}
+use Rattle.ctf_model.specs.Refusals.{placeless}
 use Rattle.ctf_model.specs.Shown.{ArrayParts, EncodingParts, Facts, facts, members_in, enumerators_in, arguments_in, array_in, encoding_in, list_length}
 use Rattle.ctf_model.specs.Term.{Member, Enumerator, Term}
 use Rattle.ctf_model.specs.declared.faults.Fault.{Fault}
@@ -79,7 +80,7 @@ reference_fields t = says (codes "t") (number t) ∷ []
 
 -- an answer, if there is one
 abbrev pub or_refused : ℕ → Option Answer → Result Answer Fault
-or_refused code None = Err (record { code = code; place = 0 })
+or_refused code None = Err (placeless code)
 or_refused code (Some answer) = Ok answer
 
 -- what a part is answered as, if the kind has it
@@ -88,7 +89,7 @@ or_wrong_kind said = or_refused WRONG_KIND said
 
 -- what a function returns isn't referred to
 abbrev pub reference_said : Facts → Result Answer Fault
-reference_said x = if is_none (arguments_in x.behind) then or_refused NOT_REFERENCE (option_map reference_fields x.reference) else Err (record { code = NOT_REFERENCE; place = 0 })
+reference_said x = if is_none (arguments_in x.behind) then or_refused NOT_REFERENCE (option_map reference_fields x.reference) else Err (placeless NOT_REFERENCE)
 
 -- each question on a type
 abbrev pub said_on : TypeQuestion → Facts → Result Answer Fault

@@ -4,6 +4,7 @@ use Rattle.std.specs.List.{concat, flat_map}
 use Rattle.ctf_model.specs.Answers.{Answer, Single, Entry, Item, Value, Field, Reply, says}
 use Rattle.ctf_model.specs.Answers as answers
 use Rattle.ctf_model.specs.FaultNames.{name_of_fault}
+use Rattle.ctf_model.specs.Refusals.{placeless}
 use Rattle.ctf_model.specs.Text.{text_of, hex_of}
 use Rattle.ctf_model.specs.declared.faults.Fault.{Fault}
 use Rattle.ctf_model.specs.declared.faults.TheConstants.Fault.{LONG_REPLY}
@@ -85,10 +86,14 @@ longest_reply = 4194304
 
 -- a line that is longer than a reply may be is refused
 unfoldable pub fitting_line : ℕ → List ℕ → List ℕ
-fitting_line s line = if nat_le (length line) (longest_reply + 1) then line else fault_line s (record { code = LONG_REPLY; place = 0 })
+fitting_line s line = if nat_le (length line) (longest_reply + 1) then line else fault_line s (placeless LONG_REPLY)
+
+-- the line of an answer, if it may be so long
+abbrev pub fitting_answer : ℕ → Answer → List ℕ
+fitting_answer s answer = fitting_line s (answer_line s answer)
 
 abbrev pub outcome_line : ℕ → Result Answer Fault → List ℕ
-outcome_line s (Ok answer) = fitting_line s (answer_line s answer)
+outcome_line s (Ok answer) = fitting_answer s answer
 outcome_line s (Err f) = fault_line s f
 
 abbrev pub reply_line : Reply → List ℕ

@@ -176,6 +176,7 @@ pub record LinesSay : Type 0 where
   pub kind : answers_of 7 (Ok (says (codes "kind") (answers.word (codes "integer")) ∷ [])) ≡ codes "{\"ok\":{\"kind\":\"integer\"},\"s\":7}\n"
   pub done : answers_of 7 (Ok []) ≡ codes "{\"ok\":{},\"s\":7}\n"
   pub refusal : answers_of 7 (Err (fault 49 0)) ≡ codes "{\"fault\":{\"code\":49,\"name\":\"NoSlot\",\"place\":0},\"s\":7}\n"
+  pub last_session : answers_of 4294967295 (Ok []) ≡ codes "{\"ok\":{},\"s\":4294967295}\n"
   pub at_place : fault_line 0 (fault 13 36) ≡ codes "{\"fault\":{\"code\":13,\"name\":\"BadName\",\"place\":36},\"s\":0}\n"
   pub cut : all_lines (codes "ab\n\nc") ≡ codes "ab" ∷ [] ∷ codes "c" ∷ []
   pub ended : all_lines (codes "ab\n") ≡ codes "ab" ∷ []
@@ -197,9 +198,11 @@ pub record LinesAsk : Type 0 where
 
 -- ---- the whole output
 
--- two sessions ask in turn; memory is refused to one line, and reading another
+-- two sessions ask in turn; memory is refused to one line, and reading another; a line that asks nothing may be refused memory too
 pub record OutputIs : Type 0 where
   pub written : out (λ s. empty_state) []
       (codes "{\"s\":1,\"op\":\"part\",\"section\":\"ctf\",\"bytes\":\"f1cf\"}" ∷ codes "{\"s\":2,\"op\":\"part\",\"section\":\"ctf\",\"bytes\":\"00\"}" ∷ codes "{\"s\":1,\"op\":\"reset\"}" ∷ codes "{\"s\":1,\"op\":\"reset\"}" ∷ codes "{\"s\":1,\"op\":\"part\",\"section\":\"ctf\",\"bytes\":\"02\"}" ∷ [])
       (marks.answered ∷ marks.answered ∷ marks.refused ∷ marks.unread ∷ [])
       ≡ codes "{\"ok\":{\"length\":2},\"s\":1}\n" ∷ codes "{\"ok\":{\"length\":1},\"s\":2}\n" ∷ codes "{\"fault\":{\"code\":0,\"name\":\"Memory\",\"place\":0},\"s\":1}\n" ∷ codes "{\"fault\":{\"code\":0,\"name\":\"Memory\",\"place\":0},\"s\":0}\n" ∷ codes "{\"ok\":{\"length\":3},\"s\":1}\n" ∷ []
+  pub marked : out (λ s. empty_state) [] (codes "5" ∷ codes "{\"s\":3,\"op\":\"rest\"}" ∷ []) (marks.refused ∷ marks.refused ∷ [])
+      ≡ codes "{\"fault\":{\"code\":0,\"name\":\"Memory\",\"place\":0},\"s\":0}\n" ∷ codes "{\"fault\":{\"code\":0,\"name\":\"Memory\",\"place\":0},\"s\":3}\n" ∷ []

@@ -1,11 +1,10 @@
 -- Runs of one session by itself, and of many sessions together. Source: ours. A history is a list, the newest first.
-use Rattle.std.specs.Prelude.{◌≡◌, ◌≢◌, ◌⊎◌, ℕ, ◌==◌, List, [], ◌∷◌, Bool, true, false, Option, None, Result, Ok, Err, if◌then◌else◌}
-use Rattle.ctf_model.specs.Answers.{Answer, Reply}
+use Rattle.std.specs.Prelude.{◌≡◌, ◌≢◌, ◌⊎◌, ℕ, ◌==◌, List, [], ◌∷◌, Option, None, Err, if◌then◌else◌}
+use Rattle.ctf_model.specs.Answers.{Reply}
 use Rattle.ctf_model.specs.Lists.{Lists}
+use Rattle.ctf_model.specs.Refusals.{want_of_memory}
 use Rattle.ctf_model.specs.State.{State}
 use Rattle.ctf_model.specs.Steps.{step, Outcome}
-use Rattle.ctf_model.specs.declared.faults.TheConstants.Fault.{MEMORY}
-use Rattle.ctf_model.specs.declared.faults.Fault.{Fault}
 use Rattle.ctf_model.specs.declared.requests.Request.{Request}
 
 -- ---- a session by itself
@@ -55,19 +54,11 @@ addressed s reply = record reply { session = s }
 
 -- memory was refused to a request of a session
 abbrev pub no_memory : ℕ → Reply
-no_memory s = record { session = s; outcome = Err (record { code = MEMORY; place = 0 }) }
-
-abbrev pub says_no_memory : Result Answer Fault → Bool
-says_no_memory (Ok answer) = false
-says_no_memory (Err fault) = fault.code == MEMORY
-
-abbrev pub is_no_memory : Reply → Bool
-is_no_memory reply = says_no_memory reply.outcome
+no_memory s = record { session = s; outcome = Err want_of_memory }
 
 -- a step of one library by itself: its definition's outcome, or memory was refused and nothing changed
-pub record Answered (old : State) (outcome : Outcome) (reply : Reply) (new : State) : Type 0 where
-  pub granted : is_no_memory reply ≡ false → (reply ≡ outcome.reply) × (new ≡ outcome.state)
-  pub refused : is_no_memory reply ≡ true → (reply ≡ no_memory 0) × (new ≡ old)
+abbrev pub Answered : State → Outcome → Reply → State → Type 0
+Answered old outcome reply new = ((reply ≡ outcome.reply) × (new ≡ outcome.state)) ⊎ ((reply ≡ no_memory 0) × (new ≡ old))
 
 -- the step of the caller's own library was made
 abbrev pub IsGranted : (ℕ → State) → ℕ → Request → Reply → (ℕ → State) → Type 0

@@ -8,25 +8,20 @@ pub record Slot : Type 0 where
   pub lists : Lists
   pub parent : Option Lists
 
--- the lists that parts were added to, until they are opened
-pub record Stage : Type 0 where
-  pub ctf : Option (List ℕ)
-  pub sym : Option (List ℕ)
-  pub strs : Option (List ℕ)
-
 pub record Publication : Type 0 where
   pub name : List ℕ
   pub lists : Lists
 
--- a session's library: its slots by rising numbers, the number of the next slot, the stage, and what it published
+-- a session's library: its slots by rising numbers, the number of the next slot, the lists that parts were added to until they are opened, and what it published
 pub record State : Type 0 where
   pub slots : List Slot
   pub next : ℕ
-  pub stage : Stage
+  pub stage : Lists
   pub published : List Publication
 
-abbrev pub empty_stage : Stage
-empty_stage = record { ctf = None; sym = None; strs = None }
+-- nothing is staged
+abbrev pub empty_stage : Lists
+empty_stage = record { ctf = []; sym = None; strs = None }
 
 -- nothing in it
 abbrev pub empty_state : State

@@ -6,12 +6,13 @@ use Rattle.ctf_model.specs.Answers as answers
 use Rattle.ctf_model.specs.Dictionary.{said_by}
 use Rattle.ctf_model.specs.Faults.{first_fault}
 use Rattle.ctf_model.specs.Lists.{Lists}
-use Rattle.ctf_model.specs.State.{State, Slot, Stage, empty_state, empty_stage}
+use Rattle.ctf_model.specs.Refusals.{placeless, want_of_memory}
+use Rattle.ctf_model.specs.State.{State, Slot, empty_state, empty_stage}
 use Rattle.ctf_model.specs.Questions.{type_said}
 use Rattle.ctf_model.specs.Term.{Term}
 use Rattle.ctf_model.specs.TypeNumbers.{type_at}
 use Rattle.ctf_model.specs.declared.faults.Fault.{Fault}
-use Rattle.ctf_model.specs.declared.faults.TheConstants.Fault.{MEMORY, NO_SLOT, SLOTS_FULL, STAGE_FULL}
+use Rattle.ctf_model.specs.declared.faults.TheConstants.Fault.{NO_SLOT, SLOTS_FULL, STAGE_FULL}
 use Rattle.ctf_model.specs.declared.requests.ListName.{ListName}
 use Rattle.ctf_model.specs.declared.requests.ListName.TheVariants.{Ctf, Str}
 use Rattle.ctf_model.specs.declared.requests.Request.{Request}
@@ -36,7 +37,7 @@ grants answer state = outcome_of (Ok answer) state
 
 -- a refusal leaves the library as it was
 abbrev pub refuses : ℕ → State → Outcome
-refuses code state = outcome_of (Err (record { code = code; place = 0 })) state
+refuses code state = outcome_of (Err (placeless code)) state
 
 -- ---- part
 
@@ -44,12 +45,14 @@ refuses code state = outcome_of (Err (record { code = code; place = 0 })) state
 abbrev pub longest_list : ℕ
 longest_list = 16777216
 
-abbrev pub staged : ListName → Stage → Option (List ℕ)
+-- a list that no part named is empty
+abbrev pub staged : ListName → Lists → List ℕ
 staged Ctf stage = stage.ctf
-staged Str stage = stage.strs
+staged Str stage = unwrap_or stage.strs []
 
-abbrev pub with_staged : ListName → List ℕ → Stage → Stage
-with_staged Ctf bytes stage = record stage { ctf = Some bytes }
+-- a list is staged from the first part that names it on, even where that has no bytes
+abbrev pub with_staged : ListName → List ℕ → Lists → Lists
+with_staged Ctf bytes stage = record stage { ctf = bytes }
 with_staged Str bytes stage = record stage { strs = Some bytes }
 
 -- a list becomes this one, if it may be so long
@@ -60,7 +63,7 @@ stages list bytes state =
 
 -- a piece goes to the end of a list, which is staged from then on
 abbrev pub parts : ListName → List ℕ → State → Outcome
-parts list piece state = stages list (unwrap_or (staged list state.stage) [] ++ piece) state
+parts list piece state = stages list (staged list state.stage ++ piece) state
 
 -- ---- open
 
@@ -74,10 +77,6 @@ last_number = 4294967295
 abbrev pub has_room : State → Bool
 has_room state = nat_lt (length state.slots) most_slots && nat_le state.next last_number
 
--- a list that no part named is empty, or isn't there
-abbrev pub staged_lists : Stage → Lists
-staged_lists stage = record { ctf = unwrap_or stage.ctf []; sym = stage.sym; strs = stage.strs }
-
 -- a new slot for a dictionary, under the next number
 abbrev pub adds_slot : Lists → State → Outcome
 adds_slot lists state =
@@ -89,8 +88,8 @@ abbrev pub opens_unless : Option Fault → Lists → State → Outcome
 opens_unless None lists state = adds_slot lists (record state { stage = empty_stage })
 opens_unless (Some fault) lists state = outcome_of (Err fault) state
 
-abbrev pub opens : Lists → State → Outcome
-opens lists state = if has_room state then opens_unless (first_fault lists) lists state else refuses SLOTS_FULL state
+abbrev pub opens : State → Outcome
+opens state = if has_room state then opens_unless (first_fault state.stage) state.stage state else refuses SLOTS_FULL state
 
 -- ---- check
 
@@ -100,7 +99,7 @@ accepts_unless None state = grants [] state
 accepts_unless (Some fault) state = outcome_of (Err fault) state
 
 abbrev pub checks : State → Outcome
-checks state = accepts_unless (first_fault (staged_lists state.stage)) state
+checks state = accepts_unless (first_fault state.stage) state
 
 -- ---- questions
 
@@ -118,7 +117,7 @@ abbrev pub slot_said : Question → Slot → Result Answer Fault
 slot_said (OfType t question) slot = type_said question (slot_type t.0 slot)
 
 abbrev pub said_by_slot : Question → Option Slot → Result Answer Fault
-said_by_slot question None = Err (record { code = NO_SLOT; place = 0 })
+said_by_slot question None = Err (placeless NO_SLOT)
 said_by_slot question (Some slot) = slot_said question slot
 
 -- what a question to a slot is answered
@@ -138,7 +137,7 @@ is_quiet (OfType t question) = is_quiet_on question
 
 -- the answer to a question, or memory for it was refused
 abbrev pub MayAnswer : Result Answer Fault → Result Answer Fault → Type 0
-MayAnswer said result = (result ≡ said) ⊎ (result ≡ Err (record { code = MEMORY; place = 0 }))
+MayAnswer said result = (result ≡ said) ⊎ (result ≡ Err want_of_memory)
 
 -- ---- reset
 
@@ -152,7 +151,7 @@ resets state = grants [] (record empty_state { published = state.published })
 unfoldable pub change_step : State → Change → Option Lists → Outcome
 change_step state (change.Part list piece) found = parts list piece state
 change_step state change.Check found = checks state
-change_step state change.Open found = opens (staged_lists state.stage) state
+change_step state change.Open found = opens state
 change_step state change.Reset found = resets state
 
 -- a question leaves the library as it was

@@ -21,25 +21,29 @@ pub fn section_spells_one_list()
     ensures { SectionSpellsOneList }
 {}
 
-/// Reading record by record gives whole records as far as they go, and then the fault of what is left.
+/// Reading record by record gives whole records as far as they go, and then the fault of what is
+/// left.
 pub fn records_are_a_cut()
     ensures read { RecordsAreACut }
     ensures one { OneCut }
 {}
 
-/// The first fault is the least rule that is broken, at its least place; without one every rule is kept.
+/// The first fault is the least rule that is broken, at its least place; without one every rule is
+/// kept.
 pub fn first_fault_is_the_least()
     ensures { FirstFaultIsTheLeast }
 {}
 
-/// Lists denote a dictionary exactly where they have no fault, and then just one, which is what is computed.
+/// Lists denote a dictionary exactly where they have no fault, and then just one, which is what is
+/// computed.
 pub fn faultless_exactly_where_denoted()
     ensures denoted { FaultlessWhereDenoted }
     ensures one { DenotesOne }
     ensures computed { ComputesWhatIsDenoted }
 {}
 
-/// The keys of each answer on a type stand in byte order.
+/// The keys of each answer, and of each object in it, stand in byte order, whatever was asked of
+/// which library.
 pub fn keys_rise()
     ensures { KeysRise }
 {}

@@ -5,6 +5,7 @@ mod bytes;
 mod faults;
 mod kinds;
 mod laws;
+mod lists;
 mod numbers;
 mod questions;
 mod requests;
@@ -19,6 +20,7 @@ pub use laws::{
     faultless_exactly_where_denoted, first_fault_is_the_least, keys_rise, no_record_begins_another,
     records_are_a_cut, section_spells_one_list,
 };
+pub use lists::{Parts, no_parts};
 pub use numbers::{Place, SlotNumber, TypeNum};
 pub use questions::{Question, TypeQuestion, Window};
 pub use requests::{Change, ListName, Request};

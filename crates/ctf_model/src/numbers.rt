@@ -4,7 +4,8 @@ ghost use Rattle.ctf_model.specs.TypePlaces.{place as place_of};
 
 use std::marker::Model;
 
-/// The number of a type. A parent's types are 1 to their count, a child's own ones 0x8001 and up; 0 is no type.
+/// The number of a type. A parent's types are 1 to their count, a child's own ones 0x8001 and up;
+/// 0 is no type.
 #[derive(Clone, Copy, Debug, PartialEq, Eq)]
 pub struct TypeNum(pub u16);
 

@@ -36,8 +36,5 @@ pub enum TypeQuestion {
 #[derive(Drop)]
 pub enum Question {
     /// On a type of its dictionary.
-    OfType {
-        t: TypeNum,
-        question: TypeQuestion,
-    },
+    OfType { t: TypeNum, question: TypeQuestion },
 }

@@ -15,10 +15,7 @@ pub enum ListName {
 #[derive(Drop)]
 pub enum Change {
     /// Adds bytes to a staged list.
-    Part {
-        section: ListName,
-        bytes: Piece,
-    },
+    Part { section: ListName, bytes: Piece },
     /// Judges the staged lists.
     Check,
     /// Makes a slot of the staged lists.
@@ -32,8 +29,5 @@ pub enum Change {
 pub enum Request {
     Changes(Change),
     /// A question to a slot; it changes nothing.
-    Asks {
-        d: SlotNumber,
-        question: Question,
-    },
+    Asks { d: SlotNumber, question: Question },
 }

@@ -1,4 +1,5 @@
-//! Worked rows: what the definitions say of small inputs. Each is the contract of a function that does nothing.
+//! Worked rows: what the definitions say of small inputs. Each is the contract of a function that
+//! does nothing.
 ghost use Rattle.ctf_model.specs.KindRows.{KindsDenote, KindsHaveFaults};
 ghost use Rattle.ctf_model.specs.QuestionRows.{QuestionsAreAnswered, QuestionsAreLines};
 ghost use Rattle.ctf_model.specs.Rows.{BytesDenote, BytesHaveFaults, LinesAsk, LinesSay, ListsAreLong, NumbersName, OutputIs, SessionRuns};

@@ -12,12 +12,10 @@ use Rattle.ctf_model.specs.Steps.{step, Outcome}
 use Rattle.ctf_model.specs.declared.faults.Fault.{Fault}
 use Rattle.ctf_model.specs.Answers.{Reply}
 use Rattle.ctf_model.specs.declared.requests.Request.{Request}
-use Rattle.ctf_lines.proofs.Asking.{ask-long}
-use Rattle.ctf_wire.proofs.Places.{found_none}
+use Rattle.ctf_model.proofs.Asking.{ask-long}
 use Rattle.ctf_wire.specs.Served.{Answers}
 use Rattle.ctf_wire.specs.Serving.{ask_stored, LineSteps, BrokerStep, ServesAlone}
-use Rattle.ctf_wire.specs.Table.{library_at}
-use Rattle.ctf_wire.specs.declared.broker.Entry.{Entry}
+use Rattle.ctf_wire.specs.Table.{Libraries, library_at}
 
 -- a line that is too long to be stored asks what its place does
 asked_stored : (line : List ℕ) → ask_stored (stored line) ≡ ask line
@@ -33,7 +31,7 @@ Holds start calls now = (s : ℕ) → now s ≡ own_state start calls s
 
 -- what is found depends on the libraries at each session alone
 found_same : (a b : ℕ → State) (request : Request) → found_in a request ≡ found_in b request
-found_same a b request = found_none a request ∙ sym (found_none b request)
+found_same a b request = refl
 
 -- the step in a library that is its own run
 own_step : (start now : ℕ → State) (calls : List Call) (s : ℕ) (request : Request) → Holds start calls now → step (now s) request (found_in now request) ≡ step (own_state start calls s) request (found_in (own_state start calls) request)
@@ -92,8 +90,8 @@ record RunsOn (start : ℕ → State) (calls : List Call) (lines replies : List 
   pub replies_are : replies ≡ out start calls lines marks
   pub libraries_are : Holds start (calls_made calls lines marks) new
 
-runs_on : (start : ℕ → State) (calls : List Call) (old new : List Entry) (lines replies : List (List ℕ)) → Holds start calls (library_at old) → Answers BrokerStep old lines replies new → RunsOn start calls lines replies (library_at new)
-runs_on start calls old new [] [] held a = record { marks = []; replies_are = refl; libraries_are = λ s. ap (λ (es : List Entry). library_at es s) a ∙ held s }
+runs_on : (start : ℕ → State) (calls : List Call) (old new : Libraries) (lines replies : List (List ℕ)) → Holds start calls (library_at old) → Answers BrokerStep old lines replies new → RunsOn start calls lines replies (library_at new)
+runs_on start calls old new [] [] held a = record { marks = []; replies_are = refl; libraries_are = λ s. ap (λ (es : Libraries). library_at es s) a ∙ held s }
 runs_on start calls old new [] (reply ∷ replies) held a = absurd a
 runs_on start calls old new (line ∷ lines) [] held a = absurd a
 runs_on start calls old new (line ∷ lines) (reply ∷ replies) held a =

@@ -1,5 +1,4 @@
 pub mod QuestionSteps
-pub mod Places
 pub mod Cutting
 pub mod Passing
 pub mod Replying

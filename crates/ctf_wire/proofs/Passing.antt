@@ -1,6 +1,6 @@
 -- What pushes and flushes add up to.
-use Rattle.std.proofs.Common.{◌≡◌, ℕ, List, [], ◌∷◌, ◌++◌, Option, Some, None, refl, ◌∙◌, ap, sym, subst, append_assoc, append-nil}
-use Rattle.ctf_wire.specs.Flushes.{Flushes, and_waits, ended_piece, Delivers, DeliversThen}
+use Rattle.std.proofs.Common.{◌≡◌, ℕ, List, [], ◌∷◌, ◌++◌, Option, Some, None, refl, ◌∙◌, ap, append_assoc, append-nil}
+use Rattle.ctf_wire.specs.Flushes.{Flushes, and_waits, ended_piece, delivered, after_pieces}
 
 pub and_waits-nil : (known : Option Flushes) → and_waits known [] ≡ known
 and_waits-nil None = refl
@@ -10,19 +10,21 @@ pub and_waits-more : (known : Option Flushes) (bs more : List ℕ) → and_waits
 and_waits-more None bs more = refl
 and_waits-more (Some f) bs more = ap (λ w. Some (record { pieces = f.pieces; waiting = w })) (append_assoc f.waiting bs more)
 
--- a front was pushed where nothing waited
-pub DeliversThen-pushed : (old new : Option Flushes) (front : List ℕ) → new ≡ and_waits old front → DeliversThen old new [] front
-DeliversThen-pushed None new front h = tt
-DeliversThen-pushed (Some old) new front h = λ none. h ∙ ap (λ w. Some (record { pieces = old.pieces; waiting = w ++ front })) none ∙ ap (λ ps. Some (record { pieces = ps; waiting = front })) (sym (append-nil old.pieces))
+-- a piece was pushed, and then flushed
+pub piece_ended : (known : Option Flushes) (piece : List ℕ) → ended_piece (and_waits known piece) ≡ after_pieces known (piece ∷ []) []
+piece_ended None piece = refl
+piece_ended (Some f) piece = refl
 
--- a piece was pushed where nothing waited, and then flushed
-pub Delivers-flushed : (old mid new : Option Flushes) (piece : List ℕ) → mid ≡ and_waits old piece → new ≡ ended_piece mid → Delivers old new (piece ∷ [])
-Delivers-flushed None mid new piece h e = tt
-Delivers-flushed (Some old) mid new piece h e = λ none. e ∙ ap ended_piece h ∙ ap (λ w. Some (record { pieces = old.pieces ++ (w ++ piece) ∷ []; waiting = [] })) none
+-- a front was pushed
+pub front_waits : (known : Option Flushes) (front : List ℕ) → and_waits known front ≡ after_pieces known [] front
+front_waits None front = refl
+front_waits (Some f) front = refl
 
 -- pieces were delivered, and then more
-pub DeliversThen-trans : (old mid new : Option Flushes) (pieces more : List (List ℕ)) (front : List ℕ) → Delivers old mid pieces → DeliversThen mid new more front → DeliversThen old new (pieces ++ more) front
-DeliversThen-trans None mid new pieces more front p q = tt
-DeliversThen-trans (Some old) mid new pieces more front p q = λ none.
-    let P : Option Flushes → Type 0 = λ o. DeliversThen o new more front in
-    subst P (p none) q refl ∙ ap (λ ps. Some (record { pieces = ps; waiting = front })) (append_assoc old.pieces pieces more)
+delivered-more : (f : Flushes) (pieces more : List (List ℕ)) (front : List ℕ) → delivered (delivered f pieces []) more front ≡ delivered f (pieces ++ more) front
+delivered-more f [] more front = ap (λ w. delivered (record { pieces = f.pieces; waiting = w }) more front) (append-nil f.waiting)
+delivered-more f (piece ∷ pieces) more front = delivered-more (record { pieces = f.pieces ++ (f.waiting ++ piece) ∷ []; waiting = [] }) pieces more front
+
+pub after_pieces-more : (known : Option Flushes) (pieces more : List (List ℕ)) (front : List ℕ) → after_pieces (after_pieces known pieces []) more front ≡ after_pieces known (pieces ++ more) front
+after_pieces-more None pieces more front = refl
+after_pieces-more (Some f) pieces more front = ap Some (delivered-more f pieces more front)

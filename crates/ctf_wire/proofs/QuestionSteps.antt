@@ -1,5 +1,7 @@
 -- A question among the libraries of all sessions.
-use Rattle.std.proofs.Common.{◌≡◌, ℕ, List, ◌++◌, Result, refl, ap, ◌⊎◌, inl, inr}
+use Rattle.std.proofs.Common.{◌≡◌, ℕ, Result, refl, ap, ◌⊎◌, inl, inr}
+use Rattle.std.specs.Prelude.{Vec}
+use Rattle.std.specs.declared.alloc.Global.{Global}
 use Rattle.ctf_model.specs.Answers.{Answer, Reply}
 use Rattle.ctf_model.specs.ReplyLines.{reply_line}
 use Rattle.ctf_model.specs.Runs.{Steps, IsGranted, IsRefused, no_memory}
@@ -9,6 +11,7 @@ use Rattle.ctf_model.specs.declared.faults.Fault.{Fault}
 use Rattle.ctf_model.specs.declared.questions.Question.{Question}
 use Rattle.ctf_model.specs.declared.requests.Request.{Request}
 use Rattle.ctf_model.specs.declared.requests.Request.TheVariants.{Asks}
+use Rattle.ctf_wire.specs.Room.{Replies}
 
 abbrev reply_to : ℕ → Result Answer Fault → Reply
 reply_to s outcome = record { session = s; outcome = outcome }
@@ -18,9 +21,9 @@ stays : (old : ℕ → State) (s : ℕ) (request : Request) (reply : Reply) → 
 stays old s request reply own = record { own = own; others = λ other ne. refl }
 
 -- whichever line was written
-pub question_step : (old : ℕ → State) (s d : ℕ) (q : Question) (result : Result Answer Fault) (before after : List ℕ) → MayAnswer (answer_to d q (old s)) result
-    → (after ≡ before ++ reply_line (reply_to s result)) ⊎ (after ≡ before ++ reply_line (no_memory s))
-    → (reply : Reply) × Steps old s (Asks d q) reply old × (after ≡ before ++ reply_line reply)
+pub question_step : (old : ℕ → State) (s d : ℕ) (q : Question) (result : Result Answer Fault) (before after : Vec ℕ Global) → MayAnswer (answer_to d q (old s)) result
+    → Replies before (reply_line (reply_to s result)) after ⊎ Replies before (reply_line (no_memory s)) after
+    → (reply : Reply) × Steps old s (Asks d q) reply old × Replies before (reply_line reply) after
 question_step old s d q result before after may (inr line) = (no_memory s, stays old s (Asks d q) (no_memory s) (inr (refl, refl)), line)
 question_step old s d q result before after (inl said) (inl line) = (reply_to s result, stays old s (Asks d q) (reply_to s result) (inl (ap (reply_to s) said, refl)), line)
 question_step old s d q result before after (inr none) (inl line) = (reply_to s result, stays old s (Asks d q) (reply_to s result) (inr (ap (reply_to s) none, refl)), line)

@@ -1,14 +1,18 @@
--- Which library a session has among the entries of a broker.
-use Rattle.std.specs.Prelude.{ℕ, ◌+◌, ◌==◌, List, [], ◌∷◌, Option, None, Some, option_map, if◌then◌else◌}
+-- Which library a session has.
+use Rattle.std.specs.Prelude.{ℕ, List, Option, unwrap_or}
+use Rattle.std.specs.BTreeMap.{is_at}
+use Rattle.std.specs.Map.{lookup}
+use Rattle.std.specs.Ordering.{nat_cmp}
 use Rattle.ctf_model.specs.State.{State, empty_state}
-use Rattle.ctf_wire.specs.declared.broker.Entry.{Entry}
 
--- a session's library; it is empty where the session has no entry
-abbrev pub library_at : List Entry → ℕ → State
-library_at [] session = empty_state
-library_at (entry ∷ entries) session = if entry.session == session then entry.library else library_at entries session
+-- sessions with their libraries
+abbrev pub Libraries : Type 0
+Libraries = List (ℕ × State)
 
--- the first place of a session
-abbrev pub place_of : List Entry → ℕ → Option ℕ
-place_of [] session = None
-place_of (entry ∷ entries) session = if entry.session == session then Some 0 else option_map (λ i. i + 1) (place_of entries session)
+-- what is kept for a session
+abbrev pub kept_for : Libraries → ℕ → Option State
+kept_for libraries session = lookup (is_at (nat_cmp session)) libraries
+
+-- a session's library; it is empty where none is kept
+abbrev pub library_at : Libraries → ℕ → State
+library_at libraries session = unwrap_or (kept_for libraries session) empty_state

@@ -1,39 +1,32 @@
 //! The libraries of all sessions.
-ghost use Rattle.std.specs.Prelude.{◌≡◌, ◌≢◌, ℕ, IfOk, None, Some, true, false, OnErr};
+ghost use Rattle.std.specs.Prelude.{◌≡◌, ◌≢◌, ℕ, true};
 ghost use Rattle.ctf_model.specs.Runs.{Steps};
 ghost use Rattle.ctf_model.specs.State.{empty_state};
-ghost use Rattle.ctf_model.specs.Steps.{answer_to, MayAnswer};
+ghost use Rattle.ctf_model.specs.Steps.{answer_to, is_quiet, MayAnswer};
 ghost use Rattle.ctf_answers.specs.Replies.{said_to};
 ghost use Rattle.ctf_model.specs.declared.requests.Request.TheVariants.{Changes};
-ghost use Rattle.ctf_wire.specs.Table.{library_at, place_of};
+ghost use Rattle.ctf_wire.specs.Table.{kept_for, library_at};
 
 use ctf_answers::{Answer, Counts};
 use ctf_library::Library;
 use ctf_model::{Change, Fault, Question, SlotNumber, placeless};
-use std::alloc::{AllocError, Global};
+use std::alloc::Global;
+use std::collections::BTreeMap;
 use std::marker::Model;
 
-/// A session and its library.
-#[derive(Drop)]
-pub struct Entry {
-    pub(crate) session: u32,
-    pub(crate) library: Library,
-}
-
-/// The libraries of all sessions, each made at the session's first request.
+/// The libraries of all sessions, each made at the session's first change.
 #[derive(Drop)]
 pub struct Broker {
     alloc: Global,
-    entries: Vec<Entry>,
+    libraries: BTreeMap<u32, Library>,
 }
 
 impl Model for Broker {
-    ghost use Rattle.std.specs.Prelude.{List};
-    ghost use Rattle.ctf_wire.specs.declared.broker.Entry.{Entry};
+    ghost use Rattle.ctf_wire.specs.Table.{Libraries};
 
-    ghost Value = { List Entry };
+    ghost Value = { Libraries };
 
-    ghost view = { λ b. b.entries.items };
+    ghost view = { λ b. b.libraries.entries };
 }
 
 impl Broker {
@@ -43,7 +36,7 @@ impl Broker {
     {
         Broker {
             alloc,
-            entries: Vec::new(alloc),
+            libraries: BTreeMap::new(alloc),
         }
     }
 
@@ -52,13 +45,17 @@ impl Broker {
         self.alloc
     }
 
-    /// Makes the step of a change: the session's own library makes it, and all
-    /// others stay.
+    /// Makes the step of a change: the session's own library makes it, and all others stay.
+    ///
+    /// The library is found in a time that grows with the logarithm of the number of sessions.
     pub fn step(&mut self, session: u32, change: &Change) -> Result<Counts, Fault>
         requires session { session ≢ 0 }
-        ensures { Steps (library_at self.old) session (Changes change.now) (said_to session result) (library_at self.new) }
+        ensures step { Steps (library_at self.old) session (Changes change.now)
+            (said_to session result) (library_at self.new) }
+        ensures others { (other : ℕ) → other ≢ session
+            → kept_for self.new other ≡ kept_for self.old other }
     {
-        step_in(self.alloc, &mut self.entries, session, change)
+        step_in(self.alloc, &mut self.libraries, session, change)
     }
 
     /// Answers a question of a session. Names and lists are lent from its own library.
@@ -68,54 +65,37 @@ impl Broker {
         d: SlotNumber,
         question: &Question,
     ) -> Result<Answer<'a>, Fault>
-        ensures { MayAnswer (answer_to d question.now (library_at self.now session)) result }
+        ensures answer { MayAnswer (answer_to d question.now (library_at self.now session)) result }
+        // These take no memory.
+        ensures quiet { is_quiet question.now ≡ true
+            → result ≡ answer_to d question.now (library_at self.now session) }
     {
-        match find_place(&self.entries, session) {
-            Some(place) => self.entries[place].library.answer(d, question),
+        match self.libraries.get(&session) {
+            Some(library) => library.answer(d, question),
             None => Err(placeless(Fault::NO_SLOT)),
         }
     }
 }
 
+/// Makes the step of a change in the session's own library, which is made where there is none yet.
 fn step_in(
     alloc: Global,
-    entries: &mut Vec<Entry>,
+    libraries: &mut BTreeMap<u32, Library>,
     session: u32,
     change: &Change,
 ) -> Result<Counts, Fault>
-    ensures { Steps (library_at entries.old.items) session (Changes change.now) (said_to session result) (library_at entries.new.items) }
+    ensures step { Steps (library_at libraries.old.entries) session (Changes change.now)
+        (said_to session result) (library_at libraries.new.entries) }
+    ensures others { (other : ℕ) → other ≢ session
+        → kept_for libraries.new.entries other ≡ kept_for libraries.old.entries other }
 {
-    let Ok(place) = make_place(alloc, entries, session) else {
-        return Err(placeless(Fault::MEMORY));
-    };
-    let entry = &mut entries[place];
-    entry.library.step(change)
-}
-
-/// The place of a session, with an empty library if it is new.
-fn make_place(alloc: Global, entries: &mut Vec<Entry>, session: u32) -> Result<usize, AllocError>
-    ensures place { IfOk result (λ place. place_of entries.new.items session ≡ Some place) }
-    ensures same { (other : ℕ) → library_at entries.new.items other ≡ library_at entries.old.items other }
-{
-    if let Some(place) = find_place(entries, session) {
-        return Ok(place);
+    if let Some(library) = libraries.get_mut(&session) {
+        return library.step(change);
     }
-    let place = entries.len();
-    entries.push(Entry {
-        session,
-        library: Library::new(alloc),
-    })?;
-    Ok(place)
-}
-
-/// The first place of a session.
-fn find_place(entries: &[Entry], session: u32) -> Option<usize>
-    ensures { result ≡ place_of entries.now session }
-{
-    for (place, entry) in entries.iter().enumerate() {
-        if entry.session == session {
-            return Some(place);
-        }
+    let mut library = Library::new(alloc);
+    let outcome = library.step(change);
+    match libraries.insert(session, library) {
+        Ok(_) => outcome,
+        Err(_) => Err(placeless(Fault::MEMORY)),
     }
-    None
 }

@@ -1,16 +1,12 @@
 //! Pieces of the input in: lines to a machine, replies to a sink.
-ghost use Rattle.std.specs.Prelude.{◌≡◌, ℕ, ◌≤◌, ◌++◌, ◌∷◌, [], List, Option, true, OnOk, OnErr, Err, vec_capacity};
-ghost use Rattle.std.specs.Bool.{OnTrue, OnFalse};
-ghost use Rattle.std.specs.Io.KnownBytes.{Appends};
-ghost use Rattle.ctf_model.specs.Lines.{all_lines, whole_lines};
-ghost use Rattle.ctf_wire.specs.Flushes.{Flushes, Delivers, DeliversThen};
-ghost use Rattle.ctf_wire.specs.Served.{BeginsWith, BrokenOff, Serves};
-ghost use Rattle.ctf_wire.specs.Standing.{Stands};
+ghost use Rattle.std.specs.Prelude.{◌≡◌, ℕ, ◌≤◌, ◌++◌, ◌∷◌, [], List, vec_capacity};
+ghost use Rattle.ctf_model.specs.Lines.{whole_lines};
+ghost use Rattle.ctf_wire.specs.Served.{Sends};
+ghost use Rattle.ctf_wire.specs.Standing.{Feeds, Finishes};
 
 use crate::machines::Machine;
 use crate::pending::Pending;
 use crate::pieces::cut;
-use crate::run_faults::RunFault;
 use crate::sending::send;
 use crate::sinks::Sink;
 
@@ -22,16 +18,9 @@ fn answer<M: Machine, K: Sink>(
     out: &mut Vec<u8>,
 ) -> bool
     requires { 96 ≤ vec_capacity out.old }
-    ensures capacity { vec_capacity out.old ≤ vec_capacity out.new }
-    ensures sent { OnTrue result ((reply : List ℕ) × M.Step machine.old pending.now reply machine.new
-        × Appends (K.contents sink.old) (K.contents sink.new) reply
-        × Delivers (K.flushes sink.old) (K.flushes sink.new) (reply ∷ [])) }
-    ensures well { OnTrue result (K.has_failed sink.new ≡ K.has_failed sink.old) }
-    ensures cut { OnFalse result ((reply : List ℕ) × M.Step machine.old pending.now reply machine.new
-        × (front : List ℕ) × BeginsWith reply front
-        × Appends (K.contents sink.old) (K.contents sink.new) front
-        × DeliversThen (K.flushes sink.old) (K.flushes sink.new) [] front) }
-    ensures failed { OnFalse result (K.has_failed sink.new ≡ true) }
+    ensures sends { (reply : List ℕ) × M.Step machine.old pending.now reply machine.new
+        × Sends (K.pushed sink.old) reply result (K.pushed sink.new) }
+    ensures grows { vec_capacity out.old ≤ vec_capacity out.new }
 {
     out.clear();
     if pending.is_too_long() {
@@ -52,19 +41,9 @@ fn end_line<M: Machine, K: Sink>(
 ) -> bool
     requires room { 96 ≤ vec_capacity out.old }
     requires piece { whole_lines piece.now ≡ [] }
-    ensures capacity { vec_capacity out.old ≤ vec_capacity out.new }
-    ensures fed { OnTrue result ((start : M) (contents : Option (List ℕ)) (flushes : Option Flushes) (read : List ℕ) →
-        Stands M.Step start read machine.old pending.old
-        contents (K.contents sink.old) flushes (K.flushes sink.old) →
-        Stands M.Step start (read ++ (piece.now ++ 10 ∷ [])) machine.new pending.new
-        contents (K.contents sink.new) flushes (K.flushes sink.new)) }
-    ensures well { OnTrue result (K.has_failed sink.new ≡ K.has_failed sink.old) }
-    ensures cut { OnFalse result ((start : M) (contents : Option (List ℕ)) (flushes : Option Flushes) (read : List ℕ) →
-        Stands M.Step start read machine.old pending.old
-        contents (K.contents sink.old) flushes (K.flushes sink.old) →
-        BrokenOff M.Step start (whole_lines (read ++ (piece.now ++ 10 ∷ []))) machine.new
-        contents (K.contents sink.new) flushes (K.flushes sink.new)) }
-    ensures failed { OnFalse result (K.has_failed sink.new ≡ true) }
+    ensures feeds { Feeds M.Step machine.old pending.old (K.pushed sink.old)
+        (piece.now ++ 10 ∷ []) result machine.new pending.new (K.pushed sink.new) }
+    ensures grows { vec_capacity out.old ≤ vec_capacity out.new }
 {
     pending.append(piece);
     if !answer(machine, pending, sink, out) {
@@ -83,19 +62,9 @@ pub fn feed<M: Machine, K: Sink>(
     bytes: &[u8],
 ) -> bool
     requires { 96 ≤ vec_capacity out.old }
-    ensures capacity { vec_capacity out.old ≤ vec_capacity out.new }
-    ensures fed { OnTrue result ((start : M) (contents : Option (List ℕ)) (flushes : Option Flushes) (read : List ℕ) →
-        Stands M.Step start read machine.old pending.old
-        contents (K.contents sink.old) flushes (K.flushes sink.old) →
-        Stands M.Step start (read ++ bytes.now) machine.new pending.new
-        contents (K.contents sink.new) flushes (K.flushes sink.new)) }
-    ensures well { OnTrue result (K.has_failed sink.new ≡ K.has_failed sink.old) }
-    ensures cut { OnFalse result ((start : M) (contents : Option (List ℕ)) (flushes : Option Flushes) (read : List ℕ) →
-        Stands M.Step start read machine.old pending.old
-        contents (K.contents sink.old) flushes (K.flushes sink.old) →
-        BrokenOff M.Step start (whole_lines (read ++ bytes.now)) machine.new
-        contents (K.contents sink.new) flushes (K.flushes sink.new)) }
-    ensures failed { OnFalse result (K.has_failed sink.new ≡ true) }
+    ensures feeds { Feeds M.Step machine.old pending.old (K.pushed sink.old)
+        bytes.now result machine.new pending.new (K.pushed sink.new) }
+    ensures grows { vec_capacity out.old ≤ vec_capacity out.new }
 {
     let mut rest = bytes;
     while let Some((piece, after)) = cut(rest) {
@@ -114,28 +83,16 @@ pub fn finish<M: Machine, K: Sink>(
     pending: &Pending,
     sink: &mut K,
     out: &mut Vec<u8>,
-) -> Result<(), RunFault>
+) -> bool
     requires { 96 ≤ vec_capacity out.old }
-    ensures faults { OnErr result (result ≡ Err RunFault.Write) }
-    ensures fed { OnOk result ((start : M) (contents : Option (List ℕ)) (flushes : Option Flushes) (read : List ℕ) →
-        Stands M.Step start read machine.old pending.now
-        contents (K.contents sink.old) flushes (K.flushes sink.old) →
-        Serves M.Step start (all_lines read) machine.new
-        contents (K.contents sink.new) flushes (K.flushes sink.new)) }
-    ensures well { OnOk result (K.has_failed sink.new ≡ K.has_failed sink.old) }
-    ensures cut { OnErr result ((start : M) (contents : Option (List ℕ)) (flushes : Option Flushes) (read : List ℕ) →
-        Stands M.Step start read machine.old pending.now
-        contents (K.contents sink.old) flushes (K.flushes sink.old) →
-        BrokenOff M.Step start (all_lines read) machine.new
-        contents (K.contents sink.new) flushes (K.flushes sink.new)) }
-    ensures failed { OnErr result (K.has_failed sink.new ≡ true) }
+    ensures { Finishes M.Step machine.old pending.now (K.pushed sink.old)
+        result machine.new (K.pushed sink.new) }
 {
     if pending.is_empty() {
-        return Ok(());
+        return true;
     }
-    if answer(machine, pending, sink, out) {
-        Ok(())
-    } else {
-        Err(RunFault::Write)
+    if !answer(machine, pending, sink, out) {
+        return false;
     }
+    true
 }

@@ -25,4 +25,3 @@ pub use serving::{MOST_READS, serve, serve_bounded, serves_each_session_alone};
 pub use sinks::Sink;
 pub use sources::Source;
 pub use writers::ToWriter;
-

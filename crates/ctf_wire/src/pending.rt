@@ -21,7 +21,8 @@ impl Model for Pending {
 
     ghost view = { λ p. if p.too_long then None else Some p.bytes.items };
 
-    ghost invariant = { λ p. (longest_line ≤ vec_capacity p.bytes) × (vec_len p.bytes ≤ longest_line) };
+    ghost invariant = { λ p. (longest_line ≤ vec_capacity p.bytes)
+        × (vec_len p.bytes ≤ longest_line) };
 }
 
 impl Pending {

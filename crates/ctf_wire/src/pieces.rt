@@ -6,7 +6,8 @@ use memchr::memchr;
 
 /// What stands before the first newline, and what stands after it.
 pub fn cut(bytes: &[u8]) -> Option<(&[u8], &[u8])>
-    ensures { MatchOption result (whole_lines bytes.now ≡ []) (λ p. (whole_lines p.0.now ≡ []) × (bytes.now ≡ p.0.now ++ 10 ∷ p.1.now)) }
+    ensures { MatchOption result (whole_lines bytes.now ≡ [])
+        (λ p. (whole_lines p.0.now ≡ []) × (bytes.now ≡ p.0.now ++ 10 ∷ p.1.now)) }
 {
     let Some(end) = memchr(b'\n', bytes) else {
         return None;

@@ -31,13 +31,12 @@ impl<R> FromReader<R> {
 }
 
 impl<R: Read> Source for FromReader<R> {
-    ghost remaining = { λ s. R.remaining s.reader };
-
-    ghost pull_count = { λ s. s.pulls };
-
-    ghost has_ended = { λ s. s.ended };
-
-    ghost has_failed = { λ s. s.failed };
+    ghost pulled = { λ s. record {
+      remaining = R.remaining s.reader;
+      pulls = s.pulls;
+      ended = s.ended;
+      failed = s.failed;
+    } };
 
     fn pull(&mut self, buffer: &mut [u8]) -> Option<usize> {
         self.pulls += 1;

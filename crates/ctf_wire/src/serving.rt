@@ -1,14 +1,13 @@
 //! Serves the lines of all sessions.
-ghost use Rattle.std.specs.Prelude.{◌≡◌, ◌≢◌, ℕ, ◌+◌, ◌<◌, ◌≤◌, ◌^◌, ◌++◌, ◌⊎◌, List, true, false, OnOk, Err, vec_len, vec_capacity};
-ghost use Rattle.std.specs.Io.KnownBytes.{Consumes, IsAtEnd};
-ghost use Rattle.ctf_model.specs.Lines.{all_lines, whole_lines};
-ghost use Rattle.ctf_model.specs.ReplyLines.{reply_line};
+ghost use Rattle.std.specs.Prelude.{◌≡◌, ◌≢◌, ◌⊎◌, ◌^◌, Err};
 ghost use Rattle.ctf_model.specs.Answers.{Reply as SaidReply};
+ghost use Rattle.ctf_model.specs.ReplyLines.{reply_line};
 ghost use Rattle.ctf_model.specs.Runs.{Steps, no_memory};
 ghost use Rattle.ctf_answers.specs.Replies.{reply_of, said_to};
+ghost use Rattle.ctf_wire.specs.Endings.{IsReady, PullsAtMost};
+ghost use Rattle.ctf_wire.specs.Room.{HasShortRoom, Replies};
+ghost use Rattle.ctf_wire.specs.Serving.{BrokerStep, ServesAlone, ServesTo};
 ghost use Rattle.ctf_wire.specs.Table.{library_at};
-ghost use Rattle.ctf_wire.specs.Pulls.{lines_read};
-ghost use Rattle.ctf_wire.specs.Serving.{BrokerStep, ServesAlone, WritesOut, BreaksOff};
 
 use crate::broker::Broker;
 use crate::engine::answer_bounded;
@@ -23,19 +22,17 @@ use std::alloc::Global;
 
 /// Appends the line of a short reply.
 fn append_short(out: &mut Vec<u8>, session: u32, outcome: Result<Counts, Fault>)
-    requires { vec_len out.old + 96 ≤ vec_capacity out.old }
-    ensures line { out.new.items ≡ out.old.items ++ reply_line (said_to session outcome) }
-    ensures capacity { vec_capacity out.old ≤ vec_capacity out.new }
+    requires { HasShortRoom out.old }
+    ensures { Replies out.old (reply_line (said_to session outcome)) out.new }
 {
     let _ = write_change(out, session, outcome);
 }
 
 /// Appends the line of the answer to a question, or that memory for it was refused.
 fn append_answer(out: &mut Vec<u8>, reply: &Reply<'_>)
-    requires { vec_len out.old + 96 ≤ vec_capacity out.old }
-    ensures line { (out.new.items ≡ out.old.items ++ reply_line (reply_of reply.now))
-        ⊎ (out.new.items ≡ out.old.items ++ reply_line (no_memory reply.now.session)) }
-    ensures capacity { vec_capacity out.old ≤ vec_capacity out.new }
+    requires { HasShortRoom out.old }
+    ensures { Replies out.old (reply_line (reply_of reply.now)) out.new
+        ⊎ Replies out.old (reply_line (no_memory reply.now.session)) out.new }
 {
     match reply.write(out) {
         Ok(()) => {}
@@ -61,9 +58,10 @@ impl Machine for Broker {
 /// Answers a request of a session.
 fn answer_request(broker: &mut Broker, session: u32, request: &Request, out: &mut Vec<u8>)
     requires session { session ≢ 0 }
-    requires room { vec_len out.old + 96 ≤ vec_capacity out.old }
-    ensures capacity { vec_capacity out.old ≤ vec_capacity out.new }
-    ensures reply { (reply : SaidReply) × Steps (library_at broker.old) session request.now reply (library_at broker.new) × (out.new.items ≡ out.old.items ++ reply_line reply) }
+    requires room { HasShortRoom out.old }
+    ensures { (reply : SaidReply)
+        × Steps (library_at broker.old) session request.now reply (library_at broker.new)
+        × Replies out.old (reply_line reply) out.new }
 {
     match request {
         Request::Asks { d, question } => {
@@ -83,7 +81,7 @@ pub fn serves_each_session_alone()
 {}
 
 /// Reads lines from the source and writes their replies to the sink, to the source's end or for
-/// `reads` reads. Each reply is flushed before the next line is answered.
+/// `reads` reads. Each reply is pushed and flushed by itself.
 pub fn serve_bounded<S: Source, K: Sink>(
     alloc: Global,
     broker: &mut Broker,
@@ -91,35 +89,12 @@ pub fn serve_bounded<S: Source, K: Sink>(
     sink: &mut K,
     reads: u64,
 ) -> Result<(), RunFault>
-    requires count { S.pull_count source.old + reads < 2 ^ 64 }
-    requires unended { S.has_ended source.old ≡ false }
-    requires sound { S.has_failed source.old ≡ false }
-    requires writable { K.has_failed sink.old ≡ false }
-
-    // All that there was is read, and each line has its reply.
-    ensures done { OnOk result ((read : List ℕ) × Consumes (S.remaining source.old) (S.remaining source.new) read × IsAtEnd (S.remaining source.new)
-        × WritesOut broker.old (all_lines read) broker.new (K.contents sink.old) (K.contents sink.new) (K.flushes sink.old) (K.flushes sink.new)) }
-    ensures done_marks { OnOk result ((S.has_ended source.new ≡ true) × (S.has_failed source.new ≡ false) × (K.has_failed sink.new ≡ false)) }
-
-    // The whole lines that were read have their replies, and a last piece has none.
-    ensures read { result ≡ Err RunFault.Read → ((read : List ℕ) × Consumes (S.remaining source.old) (S.remaining source.new) read
-        × WritesOut broker.old (whole_lines read) broker.new (K.contents sink.old) (K.contents sink.new) (K.flushes sink.old) (K.flushes sink.new)) }
-    ensures read_marks { result ≡ Err RunFault.Read → (S.has_failed source.new ≡ true) × (S.has_ended source.new ≡ false) × (K.has_failed sink.new ≡ false) }
-    ensures bound { result ≡ Err RunFault.ReadBound → ((read : List ℕ) × Consumes (S.remaining source.old) (S.remaining source.new) read
-        × WritesOut broker.old (whole_lines read) broker.new (K.contents sink.old) (K.contents sink.new) (K.flushes sink.old) (K.flushes sink.new)) }
-    ensures bound_marks { result ≡ Err RunFault.ReadBound → (S.pull_count source.new ≡ S.pull_count source.old + reads)
-        × (S.has_ended source.new ≡ false) × (S.has_failed source.new ≡ false) × (K.has_failed sink.new ≡ false) }
-
-    // Of the replies whole ones and then a front of one are written.
-    ensures write { result ≡ Err RunFault.Write → ((read : List ℕ) × Consumes (S.remaining source.old) (S.remaining source.new) read
-        × BreaksOff broker.old (lines_read (S.has_ended source.new) read) broker.new (K.contents sink.old) (K.contents sink.new) (K.flushes sink.old) (K.flushes sink.new)) }
-    ensures write_marks { result ≡ Err RunFault.Write → (K.has_failed sink.new ≡ true) × (S.has_failed source.new ≡ false) }
-
-    // Nothing was done.
-    ensures memory { result ≡ Err RunFault.Memory → (source.new ≡ source.old) × (sink.new ≡ sink.old) × (broker.new ≡ broker.old) }
-
-    // No more pulls than allowed.
-    ensures pulls { (S.pull_count source.old ≤ S.pull_count source.new) × (S.pull_count source.new ≤ S.pull_count source.old + reads) }
+    requires { IsReady (S.pulled source.old) (K.pushed sink.old) reads }
+    ensures serves { ServesTo reads broker.old broker.new (S.pulled source.old)
+        (S.pulled source.new) (K.pushed sink.old) (K.pushed sink.new) result }
+    ensures memory { result ≡ Err RunFault.Memory →
+        (source.new ≡ source.old) × (sink.new ≡ sink.old) × (broker.new ≡ broker.old) }
+    ensures pulls { PullsAtMost reads (S.pulled source.old) (S.pulled source.new) }
 {
     answer_bounded(alloc, broker, source, sink, reads)
 }
@@ -128,42 +103,19 @@ pub fn serve_bounded<S: Source, K: Sink>(
 pub const MOST_READS: u64 = 1 << 40;
 
 /// Reads lines from the source and writes their replies to the sink, to the source's end or for
-/// `MOST_READS` reads. Each reply is flushed before the next line is answered.
+/// `MOST_READS` reads. Each reply is pushed and flushed by itself.
 pub fn serve<S: Source, K: Sink>(
     alloc: Global,
     broker: &mut Broker,
     source: &mut S,
     sink: &mut K,
 ) -> Result<(), RunFault>
-    requires count { S.pull_count source.old + MOST_READS < 2 ^ 64 }
-    requires unended { S.has_ended source.old ≡ false }
-    requires sound { S.has_failed source.old ≡ false }
-    requires writable { K.has_failed sink.old ≡ false }
-
-    // All that there was is read, and each line has its reply.
-    ensures done { OnOk result ((read : List ℕ) × Consumes (S.remaining source.old) (S.remaining source.new) read × IsAtEnd (S.remaining source.new)
-        × WritesOut broker.old (all_lines read) broker.new (K.contents sink.old) (K.contents sink.new) (K.flushes sink.old) (K.flushes sink.new)) }
-    ensures done_marks { OnOk result ((S.has_ended source.new ≡ true) × (S.has_failed source.new ≡ false) × (K.has_failed sink.new ≡ false)) }
-
-    // The whole lines that were read have their replies, and a last piece has none.
-    ensures read { result ≡ Err RunFault.Read → ((read : List ℕ) × Consumes (S.remaining source.old) (S.remaining source.new) read
-        × WritesOut broker.old (whole_lines read) broker.new (K.contents sink.old) (K.contents sink.new) (K.flushes sink.old) (K.flushes sink.new)) }
-    ensures read_marks { result ≡ Err RunFault.Read → (S.has_failed source.new ≡ true) × (S.has_ended source.new ≡ false) × (K.has_failed sink.new ≡ false) }
-    ensures bound { result ≡ Err RunFault.ReadBound → ((read : List ℕ) × Consumes (S.remaining source.old) (S.remaining source.new) read
-        × WritesOut broker.old (whole_lines read) broker.new (K.contents sink.old) (K.contents sink.new) (K.flushes sink.old) (K.flushes sink.new)) }
-    ensures bound_marks { result ≡ Err RunFault.ReadBound → (S.pull_count source.new ≡ S.pull_count source.old + MOST_READS)
-        × (S.has_ended source.new ≡ false) × (S.has_failed source.new ≡ false) × (K.has_failed sink.new ≡ false) }
-
-    // Of the replies whole ones and then a front of one are written.
-    ensures write { result ≡ Err RunFault.Write → ((read : List ℕ) × Consumes (S.remaining source.old) (S.remaining source.new) read
-        × BreaksOff broker.old (lines_read (S.has_ended source.new) read) broker.new (K.contents sink.old) (K.contents sink.new) (K.flushes sink.old) (K.flushes sink.new)) }
-    ensures write_marks { result ≡ Err RunFault.Write → (K.has_failed sink.new ≡ true) × (S.has_failed source.new ≡ false) }
-
-    // Nothing was done.
-    ensures memory { result ≡ Err RunFault.Memory → (source.new ≡ source.old) × (sink.new ≡ sink.old) × (broker.new ≡ broker.old) }
-
-    // No more pulls than allowed.
-    ensures pulls { (S.pull_count source.old ≤ S.pull_count source.new) × (S.pull_count source.new ≤ S.pull_count source.old + MOST_READS) }
+    requires { IsReady (S.pulled source.old) (K.pushed sink.old) (2 ^ 40) }
+    ensures serves { ServesTo (2 ^ 40) broker.old broker.new (S.pulled source.old)
+        (S.pulled source.new) (K.pushed sink.old) (K.pushed sink.new) result }
+    ensures memory { result ≡ Err RunFault.Memory →
+        (source.new ≡ source.old) × (sink.new ≡ sink.old) × (broker.new ≡ broker.old) }
+    ensures pulls { PullsAtMost (2 ^ 40) (S.pulled source.old) (S.pulled source.new) }
 {
     serve_bounded(alloc, broker, source, sink, MOST_READS)
 }

@@ -4,7 +4,8 @@ ghost use Rattle.std.specs.Prelude.{◌≡◌, false, None};
 use crate::sinks::Sink;
 use std::io::Write;
 
-/// Pushes to a writer. An interrupted write is a failed one. Nothing is known of what a writer's flush does.
+/// Pushes to a writer. An interrupted write is a failed one. Nothing is known of what a writer's
+/// flush does.
 #[derive(Drop)]
 pub struct ToWriter<W> {
     writer: W,
@@ -25,11 +26,11 @@ impl<W> ToWriter<W> {
 }
 
 impl<W: Write> Sink for ToWriter<W> {
-    ghost contents = { λ s. W.contents s.writer };
-
-    ghost flushes = { λ s. None };
-
-    ghost has_failed = { λ s. s.failed };
+    ghost pushed = { λ s. record {
+      contents = W.contents s.writer;
+      flushes = None;
+      failed = s.failed;
+    } };
 
     fn push(&mut self, bytes: &[u8]) -> Option<usize> {
         match self.writer.write(bytes) {

@@ -3,8 +3,12 @@
 use crate::{serving, status};
 use clap::error::ErrorKind;
 use clap::{Command, Error};
+use ctf_wire::RunFault;
 use std::alloc::{AllocError, Global};
 use std::{env, io};
+
+/// What `--version` prints. docs/PROTOCOL.md says what a version promises.
+const VERSION: &str = "0.2.0";
 
 /// The commands that there are.
 fn command<'a>(alloc: Global) -> Result<Command<'a>, AllocError> {
@@ -12,43 +16,43 @@ fn command<'a>(alloc: Global) -> Result<Command<'a>, AllocError> {
         "Answers requests on standard input, one JSON line each, with one line each on standard output",
     );
     Command::new(alloc, "ctfd")
+        .version(VERSION)
         .about("A type service over CTF dictionaries")
         .subcommand_required(true)
         .subcommand(serve)
 }
 
-/// Says that memory was refused.
-fn no_memory(rt: &HostRuntime) -> u8 {
-    let _ = eprintln!(rt; "ctfd: Memory");
-    status::NO_MEMORY
+/// Reads the words that the program was called with.
+fn parse(rt: &HostRuntime) -> Result<(), Error> {
+    let mut command = command(rt.alloc())?;
+    match env::args(rt) {
+        Ok(words) => {
+            let words: Vec<String> = words.collect(rt.alloc())?;
+            command.try_get_matches_from(words.as_slice())?;
+            Ok(())
+        }
+        Err(error) if error.kind() == io::ErrorKind::InvalidData => {
+            Err(command.error(ErrorKind::InvalidValue, "an argument is not UTF-8")?)
+        }
+        Err(_) => Err(Error::from(AllocError)),
+    }
 }
 
-/// Prints help or what is wrong with the words, and answers the exit status.
-fn print(rt: &HostRuntime, error: &Error) -> u8 {
+/// Prints help, the version or what is wrong with the words, and answers the exit status.
+fn tell(rt: &HostRuntime, error: &Error) -> u8 {
     if error.kind() == ErrorKind::OutOfMemory {
-        return no_memory(rt);
+        return status::end(rt, Err(RunFault::Memory));
     }
     match error.print(rt) {
-        Ok(()) => error.exit_code() as u8,
-        Err(_) => status::FAILED,
+        Ok(()) => status::status_told(error.kind()),
+        Err(_) => status::end(rt, Err(RunFault::Write)),
     }
-}
-
-/// The words that the program was called with.
-fn words(rt: &HostRuntime) -> io::Result<Vec<String>> {
-    Ok(env::args(rt)?.collect(rt.alloc())?)
 }
 
 /// Does what the words say, and answers the exit status.
 pub fn run(rt: &HostRuntime) -> u8 {
-    let Ok(words) = words(rt) else {
-        return no_memory(rt);
-    };
-    let Ok(command) = command(rt.alloc()) else {
-        return no_memory(rt);
-    };
-    match command.try_get_matches_from(words.as_slice()) {
-        Ok(_) => serving::run(rt),
-        Err(error) => print(rt, &error),
+    match parse(rt) {
+        Ok(()) => serving::run(rt),
+        Err(error) => tell(rt, &error),
     }
 }

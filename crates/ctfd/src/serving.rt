@@ -20,11 +20,5 @@ pub fn serve_lines<R: Read + Drop, W: Write + Drop>(
 
 /// Serves standard input, and answers the exit status.
 pub fn run(rt: &HostRuntime) -> u8 {
-    match serve_lines(rt.alloc(), rt.reader(), io::writer(rt)) {
-        Ok(()) => status::DONE,
-        Err(fault) => {
-            let _ = eprintln!(rt; "ctfd: {fault}");
-            status::status_of(fault)
-        }
-    }
+    status::end(rt, serve_lines(rt.alloc(), rt.reader(), io::writer(rt)))
 }

@@ -1,5 +1,5 @@
 use Rattle.std.proofs.Common.{◌≡◌, ◌<◌, ◌++◌, arith, ap, length, length-append, get_or, []}
-use Rattle.ctf_lines.proofs.Separated.{first, first-next}
+use Rattle.ctf_lines.proofs.Separated.{first, first-next, first-within}
 use Rattle.ctf_lines.specs.Commas.{comma_before}
 use Rattle.ctf_lines.proofs.series.plus_series.Goals as goal
 
@@ -18,3 +18,11 @@ loop-index-preserved g c =
     let mid = c.plus.ensures in
     let after = c.plus_text-sum.ensures in
     omega (arith, next, sum, last, before, comma, mid, after)
+
+pub returns-then-sum-eq-TOO_LONG : goal.returns-then-sum-eq-TOO_LONG
+returns-then-sum-eq-TOO_LONG g c =
+    let texts = g.S.Series.texts c.args.series.now in
+    let more = first-within texts c.loop-index.index in
+    let before = c.loop-index.invariant in
+    let full = c.if-sum-eq-TOO_LONG.true in
+    omega (arith, more, before, full)

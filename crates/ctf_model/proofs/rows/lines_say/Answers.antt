@@ -6,4 +6,4 @@ use Rattle.ctf_model.proofs.rows.lines_say.Goals as goal
 
 pub returns : goal.returns
 unfolding digits name_of_fault fitting_line
-returns c = record { length = refl; opened = refl; kind = refl; done = refl; refusal = refl; at_place = refl; cut = refl; ended = refl; none = refl }
+returns c = record { length = refl; opened = refl; kind = refl; done = refl; refusal = refl; last_session = refl; at_place = refl; cut = refl; ended = refl; none = refl }

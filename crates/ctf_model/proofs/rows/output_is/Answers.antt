@@ -12,4 +12,4 @@ use Rattle.ctf_model.proofs.rows.output_is.Goals as goal
 
 pub returns : goal.returns
 unfolding digits ask words is_utf8 chars hex_on_literals serde_json_on_literals change_step name_of_fault fitting_line
-returns c = record { written = refl }
+returns c = record { written = refl; marked = refl }

@@ -5,11 +5,12 @@ use Rattle.ctf_wire.proofs.engine.answer_bounded.Given as goal
 
 abbrev pub invariant-loop-turn : goal.invariant-loop-turn
 invariant-loop-turn g l = record {
-  stands : (read : List ℕ) × Consumes (g.S.Source.remaining l.fn.source) (g.S.Source.remaining l.source) read
-      × Stands g.M.Machine.Step l.fn.machine read l.machine l.pending (g.K.Sink.contents l.fn.sink) (g.K.Sink.contents l.sink) (g.K.Sink.flushes l.fn.sink) (g.K.Sink.flushes l.sink);
+  read : List ℕ;
+  consumed : Consumes (g.S.Source.pulled l.fn.source).remaining (g.S.Source.pulled l.source).remaining read;
+  stands : Stands g.M.Machine.Step l.fn.machine (g.K.Sink.pushed l.fn.sink) read l.machine l.pending (g.K.Sink.pushed l.sink);
   room : 96 ≤ vec_capacity l.out;
-  counted : g.S.Source.pull_count l.source ≡ g.S.Source.pull_count l.fn.source + l.turn;
-  unended : g.S.Source.has_ended l.source ≡ false;
-  sound : g.S.Source.has_failed l.source ≡ false;
-  well : g.K.Sink.has_failed l.sink ≡ false;
+  counted : (g.S.Source.pulled l.source).pulls ≡ (g.S.Source.pulled l.fn.source).pulls + l.turn;
+  unended : (g.S.Source.pulled l.source).ended ≡ false;
+  sound : (g.S.Source.pulled l.source).failed ≡ false;
+  well : (g.K.Sink.pushed l.sink).failed ≡ false;
 }

@@ -2,6 +2,6 @@ use Rattle.ctf_wire.specs.Table.{library_at}
 use Rattle.ctf_wire.proofs.QuestionSteps.{question_step}
 use Rattle.ctf_wire.proofs.serving.answer_request.Goals as goal
 
-pub returns-in-Asks-clause-reply : goal.returns-in-Asks-clause-reply
-returns-in-Asks-clause-reply c =
-    rw c.in-Asks.is (question_step (library_at c.args.broker.now) c.args.session _ _ c.answer-outcome.result c.args.out.now.items c.append_answer.new.out.items c.answer-outcome.ensures c.append_answer.ensures.line)
+pub returns-in-Asks : goal.returns-in-Asks
+returns-in-Asks c =
+    rw c.in-Asks.is (question_step (library_at c.args.broker.now) c.args.session _ _ c.answer-outcome.result c.args.out.now c.append_answer.new.out c.answer-outcome.ensures.answer c.append_answer.ensures)

@@ -9,9 +9,9 @@ use Rattle.ctf_model.specs.Term.{Term}
 use Rattle.ctf_model.specs.TypeNumbers.{or_no_type}
 use Rattle.ctf_model.specs.declared.questions.TypeQuestion.{TypeQuestion}
 
-pub asked : (q : TypeQuestion) (o : Option Term) (f : Facts) → option_map facts o ≡ Some f → said_on q f ≡ type_said q (or_no_type o)
-asked q None f e = absurd cc
-asked q (Some x) f e = sym (ap (said_on q) (same_Some (facts x) f e))
+pub said_of_facts : (q : TypeQuestion) (o : Option Term) (f : Facts) → option_map facts o ≡ Some f → said_on q f ≡ type_said q (or_no_type o)
+said_of_facts q None f e = absurd cc
+said_of_facts q (Some x) f e = sym (ap (said_on q) (same_Some (facts x) f e))
 
 pub take_numbers : (n : ℕ) (xs : List ℕ) → take n (map number_item xs) ≡ map number_item (take n xs)
 take_numbers n xs = take-map number_item n xs

@@ -11,16 +11,16 @@ use Rattle.ctf_check.specs.declared.checked.Checked.{Checked}
 use Rattle.ctf_records.specs.ByKind.{size_in, reference_in, declared_in}
 use Rattle.ctf_records.specs.RecordView.{bytes_of, piece}
 use Rattle.ctf_records.specs.declared.record.Record.{Record}
-use Rattle.ctf_library.specs.OwnRecord.{spelled}
-use Rattle.ctf_library.proofs.SpelledHead.{head_says}
+use Rattle.ctf_model.specs.Spelling.{term_of}
+use Rattle.ctf_check.proofs.SpelledHead.{head_says}
 
 -- a record of a dictionary spells a type
 own_spelled : (d : Checked) (r : Record) → IsOwn d r → Spelled (tables_of d) (bytes_of r)
 own_spelled d r own = numbered_spelled (tables_of d) _ _ (piece r) (all_spelled (lists_of d) d.faultless) own
 
-pub described : (d : Checked) (r : Record) (f : Facts) → IsOwn d r → kind (bytes_of r) ≡ Some f.kind → option_map (λ x. x.name) (spelled d r) ≡ Some f.name → f.root ≡ is_root (bytes_of r)
-    → f.size ≡ size_in (bytes_of r) → f.reference ≡ reference_in (bytes_of r) → f.declares ≡ declared_in (bytes_of r) → option_map (λ x. shown x.body) (spelled d r) ≡ Some f.behind
-    → option_map facts (spelled d r) ≡ Some f
+pub described : (d : Checked) (r : Record) (f : Facts) → IsOwn d r → kind (bytes_of r) ≡ Some f.kind → option_map (λ x. x.name) (term_of (tables_of d) (bytes_of r)) ≡ Some f.name → f.root ≡ is_root (bytes_of r)
+    → f.size ≡ size_in (bytes_of r) → f.reference ≡ reference_in (bytes_of r) → f.declares ≡ declared_in (bytes_of r) → option_map (λ x. shown x.body) (term_of (tables_of d) (bytes_of r)) ≡ Some f.behind
+    → option_map facts (term_of (tables_of d) (bytes_of r)) ≡ Some f
 described d r f own kind_is name_is root_is size_is reference_is declares_is behind_is =
     let x = own_spelled d r own in
     let s = head_says (tables_of d) (bytes_of r) x.type x.says in

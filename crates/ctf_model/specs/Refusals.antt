@@ -1,0 +1,12 @@
+-- Refusals. Source: ours.
+use Rattle.std.specs.Prelude.{ℕ}
+use Rattle.ctf_model.specs.declared.faults.Fault.{Fault}
+use Rattle.ctf_model.specs.declared.faults.TheConstants.Fault.{MEMORY}
+
+-- a refusal that says no place
+abbrev pub placeless : ℕ → Fault
+placeless code = record { code = code; place = 0 }
+
+-- memory was refused
+abbrev pub want_of_memory : Fault
+want_of_memory = placeless MEMORY

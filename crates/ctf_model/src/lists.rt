@@ -1,0 +1,26 @@
+//! The byte lists that a dictionary is handed in as, owned.
+ghost use Rattle.std.specs.Prelude.{◌≡◌};
+ghost use Rattle.ctf_model.specs.OwnedLists.{lists_owned};
+ghost use Rattle.ctf_model.specs.State.{empty_stage};
+
+use crate::bytes::Bytes;
+use std::alloc::Global;
+
+/// The CTF section, and the program's symbol table and its strings where they are there.
+#[derive(Drop)]
+pub struct Parts {
+    pub ctf: Bytes,
+    pub sym: Option<Bytes>,
+    pub strs: Option<Bytes>,
+}
+
+/// No part of a dictionary yet.
+pub fn no_parts(alloc: Global) -> Parts
+    ensures { lists_owned result ≡ empty_stage }
+{
+    Parts {
+        ctf: Bytes::new(alloc),
+        sym: None,
+        strs: None,
+    }
+}
