@@ -43,7 +43,7 @@ fn count_records(types: &[u8]) -> Result<usize, Fault>
 
 /// Judges the types of records: what they name, and then their chains.
 ///
-/// Takes eight bytes for each record while it runs.
+/// Takes six bytes for each record while it runs.
 fn judge_types(alloc: Global, types: &[u8], numbers: Numbers) -> Result<(), Fault>
     requires whole { walk_fault (records types.now) ≡ None }
     requires count { numbers.count ≡ length (records types.now) }

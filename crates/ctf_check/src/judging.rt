@@ -37,7 +37,7 @@ fn judge_chain(
 }
 
 /// Judges the chains of the types of records: first those of steps by value, then those of
-/// declarator steps. Takes eight bytes for each record while it runs.
+/// declarator steps. Takes six bytes for each record while it runs.
 pub fn judge_chains(alloc: Global, types: &[u8], numbers: Numbers) -> Result<(), Fault>
     requires whole { walk_fault (records types.now) ≡ None }
     requires count { numbers.count ≡ length (records types.now) }

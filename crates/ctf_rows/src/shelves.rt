@@ -18,7 +18,14 @@ struct Shelf {
 }
 
 impl Sink for Shelf {
-    ghost pushed = { λ s. record { contents = None; flushes = Some (record { pieces = map (λ piece. piece.items) s.pieces.items; waiting = s.waiting.items }); failed = s.failed } };
+    ghost pushed = { λ s. record {
+      contents = None;
+      flushes = Some (record {
+        pieces = map (λ piece. piece.items) s.pieces.items;
+        waiting = s.waiting.items;
+      });
+      failed = s.failed;
+    } };
 
     fn push(&mut self, bytes: &[u8]) -> Option<usize> {
         if self.waiting.extend_from_slice(bytes).is_err() {
