@@ -46,7 +46,8 @@ fn depth<L: Ledger, G: Graph<L>>(
     requires knows { Knows (steps_between (G.places graph.now)) known.old }
     requires on_way { OnWay (steps_between (G.places graph.now)) known.old i }
     ensures knows { Knows (steps_between (G.places graph.now)) known.new }
-    ensures answer { Answers (steps_between (G.places graph.now)) budget i known.old known.new result }
+    ensures answer { Answers (steps_between (G.places graph.now)) budget i known.old known.new
+        result }
     ensures work { work.new + work_left (G.places graph.now) known.new
         ≤ work.old + work_left (G.places graph.now) known.old }
     ensures once { IsSome result → work.new + work_left (G.places graph.now) known.new

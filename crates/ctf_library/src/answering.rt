@@ -43,7 +43,8 @@ fn members<'a>(behind: Variant<'a>, window: Window) -> Result<Answer<'a>, Fault>
 
 fn enumerators<'a>(behind: Variant<'a>, window: Window) -> Result<Answer<'a>, Fault>
     ensures { result
-        ≡ or_wrong_kind (option_map (enumerator_fields window) (enumerators_in (seen behind.entry))) }
+        ≡ or_wrong_kind (option_map (enumerator_fields window)
+        (enumerators_in (seen behind.entry))) }
 {
     match behind {
         Variant::Enumerators(enumerators) => {
@@ -83,7 +84,8 @@ fn named_count(args: &Args<'_>) -> usize
 
 fn arguments<'a>(behind: Variant<'a>, returned: Option<TypeNum>) -> Result<Answer<'a>, Fault>
     ensures { let args = arguments_in (seen behind.entry) in result ≡ or_wrong_kind
-        (option_and_then (λ ret. option_map (argument_fields ret) args) (option_map (λ t. t.0) returned)) }
+        (option_and_then (λ ret. option_map (argument_fields ret) args)
+        (option_map (λ t. t.0) returned)) }
 {
     match (behind, returned) {
         (Variant::Args(args), Some(ret)) => {
@@ -223,7 +225,9 @@ impl Slot {
 
     /// What its questions see.
     fn space(&self) -> Space<'_>
-        ensures { space_of result ≡ record (slot_space (slot_of self.now)) { model = self.now.dictionary.value.model } }
+        ensures { space_of result ≡ record (slot_space (slot_of self.now)) {
+          model = self.now.dictionary.value.model;
+        } }
     {
         let own = self.dictionary.view();
         let model = self.dictionary.model();

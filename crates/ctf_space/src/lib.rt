@@ -1,4 +1,4 @@
-//! Dictionaries that own their lists, and dictionaries with the parents that they were imported over.
+//! Dictionaries that own their lists, and dictionaries over the parents that were imported.
 #![tactic(auto)]
 
 mod lending;

@@ -17,7 +17,8 @@ pub struct Space<'a> {
     own: Checked<'a>,
     parent: Option<Checked<'a>>,
     model: DataModel,
-    ghost imported: { ForSome parent (λ p. import_fault (record { child = dictionary_of own; parent = dictionary_of p }) ≡ None) },
+    ghost imported: { ForSome parent (λ p. import_fault
+        (record { child = dictionary_of own; parent = dictionary_of p }) ≡ None) },
 }
 
 /// The own type of a dictionary with a number from 0.
@@ -103,7 +104,8 @@ impl<'a> Space<'a> {
 
     /// The name of the type that a number names, lent from the dictionary that has it.
     pub fn name(&self, number: TypeNum) -> Result<&'a [u8], Fault>
-        ensures { result_map_both (λ n. n.now) (λ f. f) result ≡ name_in (space_type (space_of self.now) number.0) }
+        ensures { result_map_both (λ n. n.now) (λ f. f) result
+            ≡ name_in (space_type (space_of self.now) number.0) }
     {
         match self.term(number) {
             Ok(found) => Ok(found.name()),
