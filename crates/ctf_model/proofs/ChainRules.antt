@@ -29,7 +29,7 @@ from_all : (test : ℕ → Bool) (P : ℕ → Type 0) → ((j : ℕ) → P j →
 from_all test P h [] a = refl
 from_all test P h (x ∷ xs) a = let first = h x a.0 in rw first (from_all test P h xs a.1)
 
-within_true : (es : List (List ℕ)) (k i : ℕ) → within es k i ≡ true → IsWithin es k i
+pub within_true : (es : List (List ℕ)) (k i : ℕ) → within es k i ≡ true → IsWithin es k i
 unfolding within IsWithin
 within_true es zero i e = nil_from_length (targets es i) (eqb-true (length (targets es i)) 0 e)
 within_true es (suc k) i e = all_from (within es k) (IsWithin es k) (within_true es k) (targets es i) e

@@ -1,6 +1,6 @@
 -- The keys of each answer stand in byte order.
 use Rattle.std.proofs.Common.{◌≡◌, ℕ, Bool, true, false, List, [], ◌∷◌, ◌++◌, map, take, drop, Option, None, Some, Result, Ok, Err, codes, refl, sym, ap, ◌∙◌}
-use Rattle.std.specs.Prelude.{◌&&◌, is_none, nat_lt, length, option_and_then}
+use Rattle.std.specs.Prelude.{◌&&◌, nat_lt, length, option_and_then}
 use Rattle.std.specs.List.{list_all}
 use Rattle.std.specs.Option.{option_map}
 use Rattle.std.specs.Cmp.Derive.{both_true}
@@ -9,12 +9,15 @@ use Rattle.std.proofs.lemmas.List.Folds.{list_all-append}
 use Rattle.ctf_model.specs.Answers.{Answer, Item, Single, number, truth, word, text, says, may_say}
 use Rattle.ctf_model.specs.Faults.{first_fault}
 use Rattle.ctf_model.specs.KindNames.{name_of_kind}
+use Rattle.ctf_model.specs.Figures.{align, referred, resolved, size}
 use Rattle.ctf_model.specs.KeyOrder.{item_in_order, in_order, IsInOrder, KeysRise}
 use Rattle.ctf_model.specs.Lists.{Lists}
-use Rattle.ctf_model.specs.Questions.{at_most, windowed, list_fields, or_refused, member_fields, member_item, enumerator_fields, enumerator_item, number_item, named_arguments, argument_fields, array_fields, encoding_fields, reference_fields, reference_said, record_fields, said_on, type_said}
+use Rattle.ctf_model.specs.Paths.{path}
+use Rattle.ctf_model.specs.Questions.{at_most, windowed, or_wrong_kind, as_fields, member_fields, member_item, enumerator_fields, enumerator_item, number_item, named_arguments, argument_fields, array_fields, encoding_fields, type_fields, size_fields, align_fields, position_fields, said_on, said_of}
 use Rattle.ctf_model.specs.Shown.{Facts, facts, members_in, enumerators_in, arguments_in, array_in, encoding_in, list_length}
 use Rattle.ctf_model.specs.State.{State, Slot}
-use Rattle.ctf_model.specs.Steps.{change_step, with_slot, grants, slots_without, imports_unless, fault_over, stages, opens, opens_unless, has_room, accepts_unless, longest_list, slot_at, slot_type, said_by_slot, answer_to}
+use Rattle.ctf_model.specs.Steps.{change_step, with_slot, grants, slots_without, imports_unless, fault_over, stages, opens, opens_unless, has_room, accepts_unless, longest_list, slot_at, slot_space, said_by_slot}
+use Rattle.ctf_model.specs.Space.{Space, space_type}
 use Rattle.ctf_model.specs.Term.{Term}
 use Rattle.ctf_model.specs.declared.faults.Fault.{Fault}
 use Rattle.ctf_model.specs.declared.questions.Question.TheVariants.{OfType}
@@ -50,9 +53,13 @@ each item one (x ∷ xs) = both_true (one x) (each item one xs)
 -- ---- questions on types
 
 -- an answer that is there or refused
-from : {A : Type 0} (say : A → Answer) → ((a : A) → in_order (say a) ≡ true) → (code : ℕ) (o : Option A) → IsInOrder (or_refused code (option_map say o))
-from say good code None = tt
-from say good code (Some a) = good a
+from : {A : Type 0} (say : A → Answer) → ((a : A) → in_order (say a) ≡ true) → (o : Option A) → IsInOrder (or_wrong_kind (option_map say o))
+from say good None = tt
+from say good (Some a) = good a
+
+figure : {A : Type 0} (say : A → Answer) → ((a : A) → in_order (say a) ≡ true) → (r : Result A Fault) → IsInOrder (as_fields say r)
+figure say good (Ok a) = good a
+figure say good (Err fault) = tt
 
 listed : (items : List Item) (rest : Bool) → list_all item_in_order items ≡ true → rest ≡ true → (list_all item_in_order items && rest) ≡ true
 listed items rest h r = both_true h r
@@ -60,14 +67,10 @@ listed items rest h r = both_true h r
 arguments_rise : (ret : ℕ) (args : List ℕ) → in_order (argument_fields ret args) ≡ true
 arguments_rise ret args = listed (map number_item (named_arguments args)) true (each number_item (λ n. refl) (named_arguments args)) refl
 
-function : (code : ℕ) (ret : Option ℕ) (args : Option (List ℕ)) → IsInOrder (or_refused code (option_and_then (λ t. option_map (argument_fields t) args) ret))
-function code None args = tt
-function code (Some t) None = tt
-function code (Some t) (Some args) = arguments_rise t args
-
-reference : (x : Facts) (args : Option (List ℕ)) → arguments_in x.behind ≡ args → IsInOrder (reference_said x)
-reference x None e = rw e (from reference_fields (λ t. refl) 25 x.reference)
-reference x (Some args) e = rw e tt
+function : (ret : Option ℕ) (args : Option (List ℕ)) → IsInOrder (or_wrong_kind (option_and_then (λ t. option_map (argument_fields t) args) ret))
+function None args = tt
+function (Some t) None = tt
+function (Some t) (Some args) = arguments_rise t args
 
 -- a head with each choice of size, tag and type
 head : (k n r v : Single) (size tag t : Option Single) → in_order (says (codes "kind") k ∷ says (codes "name") n ∷ says (codes "root") r ∷ (may_say (codes "size") size ++ (may_say (codes "tag") tag ++ (may_say (codes "type") t ++ says (codes "vlen") v ∷ [])))) ≡ true
@@ -80,23 +83,27 @@ head k n r v (Some size) None (Some t) = refl
 head k n r v (Some size) (Some tag) None = refl
 head k n r v (Some size) (Some tag) (Some t) = refl
 
-on_type : (question : TypeQuestion) (x : Facts) → IsInOrder (said_on question x)
-on_type ask.Kind x = refl
-on_type ask.Record x = head (word (name_of_kind x.kind)) (text x.name) (truth x.root) (number (list_length x.behind)) _ _ _
-on_type (ask.Members window) x = from (member_fields window) (λ ms. listed (windowed window (map member_item ms)) true (in_window window (map member_item ms) (each member_item (λ m. refl) ms)) refl) 30 (members_in x.behind)
-on_type (ask.Enumerators window) x = from (enumerator_fields window) (λ es. listed (windowed window (map enumerator_item es)) true (in_window window (map enumerator_item es) (each enumerator_item (λ e. refl) es)) refl) 30 (enumerators_in x.behind)
-on_type ask.Args x = function 30 x.reference (arguments_in x.behind)
-on_type ask.Array x = from array_fields (λ a. refl) 30 (array_in x.behind)
-on_type ask.Encoding x = from encoding_fields (λ a. refl) 30 (encoding_in x.behind)
-on_type ask.Reference x = reference x (arguments_in x.behind) refl
+on_type : (question : TypeQuestion) (s : Space) (t : ℕ) (x : Facts) → IsInOrder (said_on question s t x)
+on_type ask.Kind s t x = refl
+on_type ask.Record s t x = head (word (name_of_kind x.shape.kind)) (text x.name) (truth x.root) (number (list_length x.shape.behind)) _ _ _
+on_type (ask.Members window) s t x = from (member_fields window) (λ ms. listed (windowed window (map member_item ms)) true (in_window window (map member_item ms) (each member_item (λ m. refl) ms)) refl) (members_in x.shape.behind)
+on_type (ask.Enumerators window) s t x = from (enumerator_fields window) (λ es. listed (windowed window (map enumerator_item es)) true (in_window window (map enumerator_item es) (each enumerator_item (λ e. refl) es)) refl) (enumerators_in x.shape.behind)
+on_type ask.Args s t x = function x.shape.reference (arguments_in x.shape.behind)
+on_type ask.Array s t x = from array_fields (λ a. refl) (array_in x.shape.behind)
+on_type ask.Encoding s t x = from encoding_fields (λ a. refl) (encoding_in x.shape.behind)
+on_type ask.Reference s t x = figure type_fields (λ n. refl) (referred x.shape)
+on_type ask.Resolve s t x = figure type_fields (λ n. refl) (resolved s t)
+on_type ask.Size s t x = figure size_fields (λ n. refl) (size s t)
+on_type ask.Align s t x = figure align_fields (λ n. refl) (align s t)
+on_type (ask.Path names) s t x = figure position_fields (λ at. refl) (path s t names)
 
-of_type : (question : TypeQuestion) (found : Result Term Fault) → IsInOrder (type_said question found)
-of_type question (Ok x) = on_type question (facts x)
-of_type question (Err fault) = tt
+of_type : (question : TypeQuestion) (s : Space) (t : ℕ) (found : Result Term Fault) → IsInOrder (said_of question s t found)
+of_type question s t (Ok x) = on_type question s t (facts x)
+of_type question s t (Err fault) = tt
 
 of_slot : (question : Question) (slot : Option Slot) → IsInOrder (said_by_slot question slot)
 of_slot question None = tt
-of_slot (OfType t question) (Some slot) = of_type question (slot_type t.0 slot)
+of_slot (OfType t question) (Some slot) = of_type question (slot_space slot) t.0 (space_type (slot_space slot) t.0)
 
 -- ---- changes
 

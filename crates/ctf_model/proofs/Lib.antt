@@ -21,3 +21,7 @@ pub mod Unique
 pub mod Walk
 pub mod KeyOrder
 pub mod Asking
+pub mod OwnTypes
+pub mod Settled
+pub mod FigureAsks
+pub mod BoundedValues

@@ -1,12 +1,11 @@
 -- What a line asks. What is JSON is serde_json's reading of it; all else is ours.
-use Rattle.std.specs.Prelude.{ℕ, ◌&&◌, List, length, is_none, Bool, Option, None, Some, Result, Ok, Err, option_and_then, nat_le, nat_lt, nat_eq, codes, if◌then◌else◌}
-use Rattle.std.specs.Cmp.Lexicographic.{pointwise}
+use Rattle.std.specs.Prelude.{ℕ, ◌&&◌, List, [], ◌∷◌, length, is_none, Option, None, Some, Result, Ok, Err, option_and_then, nat_le, nat_lt, codes, if◌then◌else◌}
 use Rattle.std.specs.Option.{option_map}
 use Rattle.std.specs.Result.{result_ok}
 use Rattle.std.specs.Str.{is_utf8}
 use Rattle.hex.specs.Hex.{decode_of}
-use Rattle.serde_json.specs.Data.{Data}
-use Rattle.serde_json.specs.Find.{get, as_number, as_u64, as_str}
+use Rattle.serde_json.specs.Data.{Data, Items, no_items, item}
+use Rattle.serde_json.specs.Find.{get, as_array, as_number, as_u64, as_str}
 use Rattle.serde_json.specs.Read.{read}
 use Rattle.ctf_model.specs.Lines.{longest_line}
 use Rattle.ctf_model.specs.Refusals.{placeless}
@@ -22,7 +21,8 @@ use Rattle.ctf_model.specs.declared.questions.Question.TheVariants.{OfType}
 use Rattle.ctf_model.specs.declared.questions.TypeQuestion.{TypeQuestion}
 use Rattle.ctf_model.specs.declared.questions.TypeQuestion.TheVariants as about
 use Rattle.ctf_model.specs.declared.words.Word.{Word}
-use Rattle.ctf_model.specs.declared.words.Word.TheVariants.{DoPart, DoCheck, DoOpen, DoClear, DoReset, DoClose, DoImport, DoKind, DoRecord, DoMembers, DoEnumerators, DoArgs, DoArray, DoEncoding, DoReference}
+use Rattle.ctf_model.specs.declared.words.Word.TheVariants.{DoPart, DoCheck, DoOpen, DoClear, DoReset, DoClose, DoImport, DoKind, DoRecord, DoMembers, DoEnumerators, DoArgs, DoArray, DoEncoding, DoReference, DoResolve, DoSize, DoAlign, DoPath}
+use Rattle.ctf_model.specs.Text.{bytes_spelled_by}
 use Rattle.ctf_model.specs.Words.{words, word_named, is_text}
 use Rattle.ctf_model.specs.declared.questions.Window.{Window}
 
@@ -83,6 +83,24 @@ count_asked line = if is_none (get (codes "count") line) then Some None else opt
 abbrev pub window_asked : Data → Option Window
 window_asked line = option_and_then (λ from. option_map (λ count. record { from = from; count = count }) (count_asked line)) (from_asked line)
 
+-- ---- names
+
+-- the name that a value spells
+abbrev pub name_spelled : Data → Option (List ℕ)
+name_spelled value = option_and_then not_too_many (option_and_then bytes_spelled_by (as_str value))
+
+-- those that the items of a list spell, if each does
+unfoldable pub names_spelled : Items → Option (List (List ℕ))
+names_spelled no_items = Some []
+names_spelled (item value values) = option_and_then (λ name. option_map (λ names. name ∷ names) (names_spelled values)) (name_spelled value)
+
+-- as many names as a request may bring
+abbrev pub not_too_many_names : List (List ℕ) → Option (List (List ℕ))
+not_too_many_names names = if nat_le (length names) longest_piece then Some names else None
+
+abbrev pub names_asked : Data → Option (List (List ℕ))
+names_asked line = option_and_then not_too_many_names (option_and_then names_spelled (option_and_then as_array (get (codes "names") line)))
+
 abbrev pub part_asked : Data → Option Request
 part_asked line = option_and_then (λ list. option_map (λ bytes. Changes (change.Part list bytes)) (option_and_then bytes_spelled (text_in (codes "bytes") line))) (option_and_then list_named (text_in (codes "section") line))
 
@@ -109,6 +127,10 @@ asked_with line DoArgs = about_type (Some about.Args) line
 asked_with line DoArray = about_type (Some about.Array) line
 asked_with line DoEncoding = about_type (Some about.Encoding) line
 asked_with line DoReference = about_type (Some about.Reference) line
+asked_with line DoResolve = about_type (Some about.Resolve) line
+asked_with line DoSize = about_type (Some about.Size) line
+asked_with line DoAlign = about_type (Some about.Align) line
+asked_with line DoPath = about_type (option_map (λ names. about.Path names) (names_asked line)) line
 
 -- the word of a line
 abbrev pub word_asked : Data → Option Word

@@ -23,6 +23,10 @@ pub mod Space
 pub mod Answers
 pub mod Shown
 pub mod KindNames
+pub mod Figures
+pub mod Paths
+pub mod FigureLaws
+pub mod FigureRows
 pub mod Words
 pub mod Questions
 pub mod Text

@@ -1,7 +1,6 @@
 -- Worked rows for parents and slots. The values were worked out by hand from the format.
 use Rattle.std.specs.Prelude.{◌≡◌, ℕ, List, [], ◌∷◌, ◌++◌, None, Some, codes}
 use Rattle.ctf_model.specs.KindRows.{half, head, structs}
-use Rattle.ctf_model.specs.Lists.{Lists}
 use Rattle.ctf_model.specs.QuestionRows.{on}
 use Rattle.ctf_model.specs.ReplyLines.{reply_line}
 use Rattle.ctf_model.specs.Rows.{alone, header, word}

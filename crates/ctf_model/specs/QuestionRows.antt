@@ -1,5 +1,5 @@
 -- Worked rows for questions on types. The values were worked out by hand.
-use Rattle.std.specs.Prelude.{◌≡◌, ℕ, negsuc, pos, true, false, List, [], ◌∷◌, Some, None, Result, Ok, Err, codes}
+use Rattle.std.specs.Prelude.{◌≡◌, ℕ, negsuc, pos, false, List, [], ◌∷◌, Some, None, Ok, Err, codes}
 use Rattle.ctf_model.specs.Answers.{Answer, lists, says, number}
 use Rattle.ctf_model.specs.Ask.{ask}
 use Rattle.ctf_model.specs.KindRows.{functions, structs, others}

@@ -1,32 +1,35 @@
--- What a question on a type is answered. Source: libctf(3LIB), ctf_type_kind, ctf_member_iter, ctf_enum_iter, ctf_func_args, ctf_array_info, ctf_type_encoding; the form of answers is ours.
-use Rattle.std.specs.Prelude.{ℕ, ◌-◌, ◌&&◌, ◌==◌, ◌++◌, nat_lt, is_none, Bool, List, [], ◌∷◌, length, map, take, drop, slice_index, option_and_then, Option, Some, None, Result, Ok, Err, codes, if◌then◌else◌}
+-- What a question on a type is answered. Source: libctf(3LIB), ctf_type_kind, ctf_member_iter, ctf_enum_iter, ctf_func_args, ctf_array_info, ctf_type_encoding, ctf_type_reference, ctf_type_resolve, ctf_type_size, ctf_type_align; the form of answers is ours.
+use Rattle.std.specs.Prelude.{ℕ, ◌-◌, ◌&&◌, ◌==◌, ◌++◌, nat_lt, Bool, List, [], ◌∷◌, length, map, take, drop, slice_index, option_and_then, Option, Some, None, Result, Ok, Err, codes, if◌then◌else◌}
 use Rattle.std.specs.Option.{option_map}
 use Rattle.ctf_model.specs.Answers.{Answer, Item, says, may_say, lists, entry, number, signed, truth, word, text, bare, object}
+use Rattle.ctf_model.specs.Figures.{align, referred, resolved, size}
 use Rattle.ctf_model.specs.KindNames.{name_of_kind, name_of_tag}
+use Rattle.ctf_model.specs.Paths.{Position, path}
 use Rattle.ctf_model.specs.Refusals.{placeless}
-use Rattle.ctf_model.specs.Shown.{ArrayParts, EncodingParts, Facts, facts, members_in, enumerators_in, arguments_in, array_in, encoding_in, list_length}
+use Rattle.ctf_model.specs.Shown.{ArrayParts, EncodingParts, Facts, Shape, facts, members_in, enumerators_in, arguments_in, array_in, encoding_in, list_length}
+use Rattle.ctf_model.specs.Space.{Space, space_type}
 use Rattle.ctf_model.specs.Term.{Member, Enumerator, Term}
 use Rattle.ctf_model.specs.declared.faults.Fault.{Fault}
-use Rattle.ctf_model.specs.declared.faults.TheConstants.Fault.{NOT_REFERENCE, WRONG_KIND}
+use Rattle.ctf_model.specs.declared.faults.TheConstants.Fault.{WRONG_KIND}
 use Rattle.ctf_model.specs.declared.questions.TypeQuestion.{TypeQuestion}
 use Rattle.ctf_model.specs.declared.questions.TypeQuestion.TheVariants as ask
 use Rattle.ctf_model.specs.declared.questions.Window.{Window}
 
 -- ---- answers, field by field
 
-abbrev pub kind_fields : Facts → Answer
+abbrev pub kind_fields : Shape → Answer
 kind_fields x = says (codes "kind") (word (name_of_kind x.kind)) ∷ []
 
 -- a type without its list
 abbrev pub record_fields : Facts → Answer
 record_fields x =
-    says (codes "kind") (word (name_of_kind x.kind))
+    says (codes "kind") (word (name_of_kind x.shape.kind))
     ∷ says (codes "name") (text x.name)
     ∷ says (codes "root") (truth x.root)
-    ∷ (may_say (codes "size") (option_map number x.size)
-    ++ (may_say (codes "tag") (option_map (λ tag. word (name_of_tag tag)) x.declares)
-    ++ (may_say (codes "type") (option_map number x.reference)
-    ++ says (codes "vlen") (number (list_length x.behind)) ∷ [])))
+    ∷ (may_say (codes "size") (option_map number x.shape.size)
+    ++ (may_say (codes "tag") (option_map (λ tag. word (name_of_tag tag)) x.shape.declares)
+    ++ (may_say (codes "type") (option_map number x.shape.reference)
+    ++ says (codes "vlen") (number (list_length x.shape.behind)) ∷ [])))
 
 -- as many as are wanted, or all
 abbrev pub at_most : {A : Type 0} → Option ℕ → List A → List A
@@ -72,37 +75,53 @@ array_fields a = says (codes "contents") (number a.contents) ∷ says (codes "co
 abbrev pub encoding_fields : EncodingParts → Answer
 encoding_fields e = says (codes "bits") (number e.bits) ∷ says (codes "encoding") (number e.encoding) ∷ says (codes "offset") (number e.offset) ∷ []
 
--- the type that is pointed to, renamed or qualified
-abbrev pub reference_fields : ℕ → Answer
-reference_fields t = says (codes "t") (number t) ∷ []
+-- the number of a type
+abbrev pub type_fields : ℕ → Answer
+type_fields t = says (codes "t") (number t) ∷ []
+
+-- in bytes
+abbrev pub size_fields : ℕ → Answer
+size_fields n = says (codes "size") (number n) ∷ []
+
+abbrev pub align_fields : ℕ → Answer
+align_fields n = says (codes "align") (number n) ∷ []
+
+-- how many bits lie in front of a member, and its type
+abbrev pub position_fields : Position → Answer
+position_fields at = says (codes "offset") (number at.offset) ∷ says (codes "t") (number at.tnum) ∷ []
 
 -- ---- questions
 
--- an answer, if there is one
-abbrev pub or_refused : ℕ → Option Answer → Result Answer Fault
-or_refused code None = Err (placeless code)
-or_refused code (Some answer) = Ok answer
-
 -- what a part is answered as, if the kind has it
 abbrev pub or_wrong_kind : Option Answer → Result Answer Fault
-or_wrong_kind said = or_refused WRONG_KIND said
+or_wrong_kind None = Err (placeless WRONG_KIND)
+or_wrong_kind (Some answer) = Ok answer
 
--- what a function returns isn't referred to
-abbrev pub reference_said : Facts → Result Answer Fault
-reference_said x = if is_none (arguments_in x.behind) then or_refused NOT_REFERENCE (option_map reference_fields x.reference) else Err (placeless NOT_REFERENCE)
+-- what a figure is answered as, or its fault
+abbrev pub as_fields : {A : Type 0} → (A → Answer) → Result A Fault → Result Answer Fault
+as_fields say (Err fault) = Err fault
+as_fields say (Ok a) = Ok (say a)
 
--- each question on a type
-abbrev pub said_on : TypeQuestion → Facts → Result Answer Fault
-said_on ask.Kind x = Ok (kind_fields x)
-said_on ask.Record x = Ok (record_fields x)
-said_on (ask.Members window) x = or_wrong_kind (option_map (member_fields window) (members_in x.behind))
-said_on (ask.Enumerators window) x = or_wrong_kind (option_map (enumerator_fields window) (enumerators_in x.behind))
-said_on ask.Args x = or_wrong_kind (option_and_then (λ ret. option_map (argument_fields ret) (arguments_in x.behind)) x.reference)
-said_on ask.Array x = or_wrong_kind (option_map array_fields (array_in x.behind))
-said_on ask.Encoding x = or_wrong_kind (option_map encoding_fields (encoding_in x.behind))
-said_on ask.Reference x = reference_said x
+-- each question on a type that a number names in a space, and that says this of itself
+abbrev pub said_on : TypeQuestion → Space → ℕ → Facts → Result Answer Fault
+said_on ask.Kind s t x = Ok (kind_fields x.shape)
+said_on ask.Record s t x = Ok (record_fields x)
+said_on (ask.Members window) s t x = or_wrong_kind (option_map (member_fields window) (members_in x.shape.behind))
+said_on (ask.Enumerators window) s t x = or_wrong_kind (option_map (enumerator_fields window) (enumerators_in x.shape.behind))
+said_on ask.Args s t x = or_wrong_kind (option_and_then (λ ret. option_map (argument_fields ret) (arguments_in x.shape.behind)) x.shape.reference)
+said_on ask.Array s t x = or_wrong_kind (option_map array_fields (array_in x.shape.behind))
+said_on ask.Encoding s t x = or_wrong_kind (option_map encoding_fields (encoding_in x.shape.behind))
+said_on ask.Reference s t x = as_fields type_fields (referred x.shape)
+said_on ask.Resolve s t x = as_fields type_fields (resolved s t)
+said_on ask.Size s t x = as_fields size_fields (size s t)
+said_on ask.Align s t x = as_fields align_fields (align s t)
+said_on (ask.Path names) s t x = as_fields position_fields (path s t names)
 
--- what a question is answered, if its number names a type
-abbrev pub type_said : TypeQuestion → Result Term Fault → Result Answer Fault
-type_said question (Ok x) = said_on question (facts x)
-type_said question (Err fault) = Err fault
+-- the same where the number may name no type
+abbrev pub said_of : TypeQuestion → Space → ℕ → Result Term Fault → Result Answer Fault
+said_of question s t (Ok x) = said_on question s t (facts x)
+said_of question s t (Err fault) = Err fault
+
+-- what a question on the type of a number is answered
+abbrev pub type_said : TypeQuestion → Space → ℕ → Result Answer Fault
+type_said question s t = said_of question s t (space_type s t)

@@ -123,15 +123,22 @@ list_length _ = 0
 
 -- ---- all of it
 
--- what a type says of itself, without looking at other types
-pub record Facts : Type 0 where
+-- what a type is, apart from its name, without looking at other types
+pub record Shape : Type 0 where
   pub kind : Kind
-  pub name : List ℕ
-  pub root : Bool
   pub size : Option ℕ
   pub reference : Option ℕ
   pub declares : Option Tag
   pub behind : Shown
 
+abbrev pub shape : Body → Shape
+shape body = record { kind = kind_of body; size = size_of body; reference = reference_of body; declares = declared_by body; behind = shown body }
+
+-- what a type says of itself
+pub record Facts : Type 0 where
+  pub name : List ℕ
+  pub root : Bool
+  pub shape : Shape
+
 abbrev pub facts : Term → Facts
-facts x = record { kind = kind_of x.body; name = x.name; root = x.root; size = size_of x.body; reference = reference_of x.body; declares = declared_by x.body; behind = shown x.body }
+facts x = record { name = x.name; root = x.root; shape = shape x.body }

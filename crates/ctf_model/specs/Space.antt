@@ -8,6 +8,7 @@ use Rattle.ctf_model.specs.Needs.{needed}
 use Rattle.ctf_model.specs.Term.{Term}
 use Rattle.ctf_model.specs.TypeNumbers.{type_at}
 use Rattle.ctf_model.specs.declared.data_model.DataModel.{DataModel}
+use Rattle.ctf_model.specs.declared.data_model.DataModel.TheVariants.{Lp64, Ilp32}
 use Rattle.ctf_model.specs.declared.faults.Fault.{Fault}
 
 -- a dictionary that is kept: its lists, and the data model of its program
@@ -19,6 +20,11 @@ pub record Space : Type 0 where
   pub own : Dictionary
   pub parent : Option Dictionary
   pub model : DataModel
+
+-- how many bytes a pointer has
+abbrev pub pointer_size : DataModel → ℕ
+pointer_size Lp64 = 8
+pointer_size Ilp32 = 4
 
 -- the type that a number names there
 abbrev pub space_type : Space → ℕ → Result Term Fault

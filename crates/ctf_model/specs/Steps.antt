@@ -9,9 +9,8 @@ use Rattle.ctf_model.specs.Lists.{Lists}
 use Rattle.ctf_model.specs.Refusals.{placeless, want_of_memory}
 use Rattle.ctf_model.specs.State.{State, Slot, empty_state, empty_stage}
 use Rattle.ctf_model.specs.Questions.{type_said}
-use Rattle.ctf_model.specs.Space.{Space, import_fault, space_type}
+use Rattle.ctf_model.specs.Space.{Space, import_fault}
 use Rattle.ctf_model.specs.declared.data_model.DataModel.TheVariants.{Lp64}
-use Rattle.ctf_model.specs.Term.{Term}
 use Rattle.ctf_model.specs.declared.faults.Fault.{Fault}
 use Rattle.ctf_model.specs.declared.faults.TheConstants.Fault.{NO_SLOT, SLOTS_FULL, STAGE_FULL}
 use Rattle.ctf_model.specs.declared.requests.ListName.{ListName}
@@ -113,13 +112,9 @@ slot_at number (slot ∷ slots) = if slot.number == number then Some slot else s
 abbrev pub slot_space : Slot → Space
 slot_space slot = record { own = said_by slot.lists; parent = option_map said_by slot.parent; model = Lp64 }
 
--- the type of a number in a slot
-abbrev pub slot_type : ℕ → Slot → Result Term Fault
-slot_type t slot = space_type (slot_space slot) t
-
 -- what a slot answers
 abbrev pub slot_said : Question → Slot → Result Answer Fault
-slot_said (OfType t question) slot = type_said question (slot_type t.0 slot)
+slot_said (OfType t question) slot = type_said question (slot_space slot) t.0
 
 abbrev pub said_by_slot : Question → Option Slot → Result Answer Fault
 said_by_slot question None = Err (placeless NO_SLOT)
@@ -135,6 +130,9 @@ is_quiet_on about.Kind = true
 is_quiet_on about.Array = true
 is_quiet_on about.Encoding = true
 is_quiet_on about.Reference = true
+is_quiet_on about.Resolve = true
+is_quiet_on about.Size = true
+is_quiet_on about.Align = true
 is_quiet_on _ = false
 
 abbrev pub is_quiet : Question → Bool

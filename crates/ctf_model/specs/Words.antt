@@ -2,7 +2,7 @@
 use Rattle.std.specs.Prelude.{ℕ, List, [], ◌∷◌, Bool, Option, None, Some, nat_eq, codes, if◌then◌else◌}
 use Rattle.std.specs.Cmp.Lexicographic.{pointwise}
 use Rattle.ctf_model.specs.declared.words.Word.{Word}
-use Rattle.ctf_model.specs.declared.words.Word.TheVariants.{DoPart, DoCheck, DoOpen, DoClear, DoReset, DoClose, DoImport, DoKind, DoRecord, DoMembers, DoEnumerators, DoArgs, DoArray, DoEncoding, DoReference}
+use Rattle.ctf_model.specs.declared.words.Word.TheVariants.{DoPart, DoCheck, DoOpen, DoClear, DoReset, DoClose, DoImport, DoKind, DoRecord, DoMembers, DoEnumerators, DoArgs, DoArray, DoEncoding, DoReference, DoResolve, DoSize, DoAlign, DoPath}
 use Rattle.ctf_model.specs.declared.words.Written.{Written}
 
 -- every word, and how a line writes it
@@ -22,7 +22,11 @@ words =
     (DoArgs, codes "args") ∷
     (DoArray, codes "array") ∷
     (DoEncoding, codes "encoding") ∷
-    (DoReference, codes "reference") ∷ []
+    (DoReference, codes "reference") ∷
+    (DoResolve, codes "resolve") ∷
+    (DoSize, codes "size") ∷
+    (DoAlign, codes "align") ∷
+    (DoPath, codes "path") ∷ []
 
 -- two texts are the same
 abbrev pub is_text : List ℕ → List ℕ → Bool

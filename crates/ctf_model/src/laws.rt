@@ -1,4 +1,10 @@
 //! Laws over the definitions alone. Each is the contract of a function that does nothing.
+ghost use Rattle.ctf_model.specs.FigureLaws.{
+  FaultlessValuesAreBounded,
+  FiguresAskByValue,
+  OwnFiguresAreTheirRules,
+  ParentsFiguresAreTheirOwn,
+};
 ghost use Rattle.ctf_model.specs.KeyOrder.{KeysRise};
 ghost use Rattle.ctf_model.specs.Laws.{
   ComputesWhatIsDenoted,
@@ -46,4 +52,17 @@ pub fn faultless_exactly_where_denoted()
 /// which library.
 pub fn keys_rise()
     ensures { KeysRise }
+{}
+
+/// In a dictionary that breaks no rule the figure of each own type is what its rule says of the
+/// figures of others: the bound on how many types follow on each other shows in none.
+pub fn own_figures_are_their_rules()
+    ensures asked { FiguresAskByValue }
+    ensures bounded { FaultlessValuesAreBounded }
+    ensures rules { OwnFiguresAreTheirRules }
+{}
+
+/// A parent's type comes to the same in a child's space as in the parent alone.
+pub fn parents_figures_are_their_own()
+    ensures { ParentsFiguresAreTheirOwn }
 {}

@@ -7,6 +7,7 @@ mod faults;
 mod kinds;
 mod laws;
 mod lists;
+mod names;
 mod numbers;
 mod questions;
 mod requests;
@@ -20,16 +21,19 @@ pub use faults::{Fault, fault_name, placeless};
 pub use kinds::Kind;
 pub use laws::{
     faultless_exactly_where_denoted, first_fault_is_the_least, keys_rise, no_record_begins_another,
-    records_are_a_cut, section_spells_one_list,
+    own_figures_are_their_rules, parents_figures_are_their_own, records_are_a_cut,
+    section_spells_one_list,
 };
 pub use lists::{Parts, no_parts};
+pub use names::Names;
 pub use numbers::{Place, SlotNumber, TypeNum};
 pub use questions::{Question, TypeQuestion, Window};
 pub use requests::{Change, ListName, Request};
 pub use rows::{
-    bytes_denote, bytes_have_faults, kinds_denote, kinds_have_faults, lines_ask, lines_say,
-    lists_are_long, numbers_name, output_is, parents_are_imported, questions_are_answered,
-    questions_are_lines, session_runs, slots_are_closed,
+    bytes_denote, bytes_have_faults, figures_are, figures_over_parents, kinds_denote,
+    kinds_have_faults, lines_ask, lines_say, lists_are_long, numbers_name, output_is,
+    parents_are_imported, paths_lead, questions_are_answered, questions_are_lines, session_runs,
+    slots_are_closed,
 };
 pub use sections::Section;
 pub use words::Word;

@@ -1,5 +1,6 @@
 //! What a session may ask, without changing anything.
 
+use crate::names::Names;
 use crate::numbers::TypeNum;
 
 /// Which items of a list are asked for.
@@ -12,7 +13,7 @@ pub struct Window {
 }
 
 /// A question on a type.
-#[derive(Clone, Copy, Debug, PartialEq, Eq)]
+#[derive(Drop)]
 pub enum TypeQuestion {
     /// Its kind.
     Kind,
@@ -30,6 +31,14 @@ pub enum TypeQuestion {
     Encoding,
     /// The type that it points to, renames or qualifies.
     Reference,
+    /// The type that it stands for, typedefs and qualifiers followed.
+    Resolve,
+    /// Its size in bytes.
+    Size,
+    /// Its alignment in bytes.
+    Align,
+    /// Where a member of a member lies, by their names from the outermost on.
+    Path(Names),
 }
 
 /// A question to a slot.

@@ -1,5 +1,6 @@
 //! Worked rows: what the definitions say of small inputs. Each is the contract of a function that
 //! does nothing.
+ghost use Rattle.ctf_model.specs.FigureRows.{FiguresAre, FiguresOverParents, PathsLead};
 ghost use Rattle.ctf_model.specs.KindRows.{KindsDenote, KindsHaveFaults};
 ghost use Rattle.ctf_model.specs.ParentRows.{ParentsAreImported, SlotsAreClosed};
 ghost use Rattle.ctf_model.specs.QuestionRows.{QuestionsAreAnswered, QuestionsAreLines};
@@ -73,4 +74,19 @@ pub fn parents_are_imported()
 /// What closing a slot and clearing the stage do.
 pub fn slots_are_closed()
     ensures { SlotsAreClosed }
+{}
+
+/// What types come to: what they stand for, their sizes and alignments.
+pub fn figures_are()
+    ensures { FiguresAre }
+{}
+
+/// What types come to over a parent.
+pub fn figures_over_parents()
+    ensures { FiguresOverParents }
+{}
+
+/// Where paths lead.
+pub fn paths_lead()
+    ensures { PathsLead }
 {}

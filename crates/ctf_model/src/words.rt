@@ -20,6 +20,10 @@ pub enum Word {
     DoArray,
     DoEncoding,
     DoReference,
+    DoResolve,
+    DoSize,
+    DoAlign,
+    DoPath,
 }
 
 /// A word and how a line writes it.
@@ -38,7 +42,7 @@ fn row(word: Word, text: &'static str) -> Written
 
 /// Every word.
 #[tactic(auto, unfolding(crate::specs::Words::words))]
-fn words() -> [Written; 15]
+fn words() -> [Written; 19]
     ensures { map row_of result ≡ all_words }
 {
     [
@@ -57,6 +61,10 @@ fn words() -> [Written; 15]
         row(Word::DoArray, "array"),
         row(Word::DoEncoding, "encoding"),
         row(Word::DoReference, "reference"),
+        row(Word::DoResolve, "resolve"),
+        row(Word::DoSize, "size"),
+        row(Word::DoAlign, "align"),
+        row(Word::DoPath, "path"),
     ]
 }
 

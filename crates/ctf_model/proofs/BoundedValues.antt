@@ -1,0 +1,36 @@
+-- In a dictionary that breaks no rule, chains of steps by value are short.
+use Rattle.std.proofs.Common.{◌≡◌, ℕ, ◌+◌, Bool, true, false, Option, Some, None, refl, arith}
+use Rattle.std.specs.Prelude.{MatchOption}
+use Rattle.ctf_model.specs.Chains.{by_value, longest_chain, within, IsWithin}
+use Rattle.ctf_model.specs.Dictionary.{said_by}
+use Rattle.ctf_model.specs.Faults.{first_fault}
+use Rattle.ctf_model.specs.FigureLaws.{FaultlessValuesAreBounded, value_edges}
+use Rattle.ctf_model.specs.Laws.{KeepsEveryRule}
+use Rattle.ctf_model.specs.Lists.{Lists}
+use Rattle.ctf_model.specs.Rules.{IsFirstFault}
+use Rattle.ctf_model.specs.declared.faults.Fault.{Fault}
+use Rattle.ctf_model.proofs.ChainRules.{within_true}
+use Rattle.ctf_model.proofs.ChainSteps.{chain_begins}
+use Rattle.ctf_model.proofs.Judge.{least_fault}
+use Rattle.ctf_model.proofs.SpelledSection.{section_spelled}
+
+-- lists without a first fault keep every rule
+pub keeps_all : (s : Lists) → first_fault s ≡ None → KeepsEveryRule s
+keeps_all s e = at (first_fault s) e (least_fault s)
+  where
+    at : (o : Option Fault) → o ≡ None → MatchOption o (KeepsEveryRule s) (IsFirstFault s) → KeepsEveryRule s
+    at None e h = h
+    at (Some f) e h = absurd cc
+
+bounded : (s : Lists) → KeepsEveryRule s → (i : ℕ) → IsWithin (value_edges (said_by s)) longest_chain i
+unfolding said_by
+bounded s keeps i = at (within (value_edges (said_by s)) longest_chain i) refl
+  where
+    at : (b : Bool) → within (value_edges (said_by s)) longest_chain i ≡ b → IsWithin (value_edges (said_by s)) longest_chain i
+    at true e = within_true (value_edges (said_by s)) longest_chain i e
+    at false e =
+        absurd (keeps 15 (i + 1)
+        ((said_by s).terms, (section_spelled s 15 (omega arith) (λ n lt. keeps n)).0, i, chain_begins by_value (said_by s).child (said_by s).terms longest_chain i e, refl))
+
+pub values_bounded : FaultlessValuesAreBounded
+values_bounded s e = record { each = λ i lt. bounded s (keeps_all s e) i }
