@@ -40,8 +40,8 @@ pub(crate) fn place_count(source: &Record<'_>, chain: Chain) -> usize
     }
 }
 
-/// The number of the type that one of the steps from a record leads to.
-pub(crate) fn place_number(source: &Record<'_>, chain: Chain, k: usize) -> TypeNum
+/// The number of the type that one of the steps from a record leads to. No name is read.
+pub fn place_number(source: &Record<'_>, chain: Chain, k: usize) -> TypeNum
     requires { k < length (numbers chain (bytes_of source.now)) }
     ensures { result.0 ≡ slice_index (numbers chain (bytes_of source.now)) k }
 {

@@ -1,10 +1,15 @@
 -- What the record of a type says is what the type says of itself.
-use Rattle.std.proofs.Common.{◌≡◌, Option, Some, refl, sym, ap, ◌∙◌}
+use Rattle.std.proofs.Common.{◌≡◌, ◌<◌, ℕ, List, length, Option, Some, refl, sym, ap, ◌∙◌}
+use Rattle.std.specs.Prelude.{IfSome, slice_index}
 use Rattle.std.specs.Option.{option_map}
 use Rattle.std.proofs.lemmas.Option.{same_Some}
+use Rattle.ctf_model.specs.Chains.{by_value}
 use Rattle.ctf_model.specs.Record.{kind, is_root}
-use Rattle.ctf_model.specs.Shown.{Facts, facts, shown}
+use Rattle.ctf_model.specs.Shown.{Facts, Shape, facts, shape, shown}
 use Rattle.ctf_model.specs.Term.{Term}
+use Rattle.ctf_chains.proofs.SpelledNumbers.{spelled_numbers}
+use Rattle.ctf_chains.specs.Numbers.{numbers}
+use Rattle.ctf_chains.specs.declared.chain.Chain.TheVariants.{ByValue}
 use Rattle.ctf_check.proofs.Terms.{Spelled, all_spelled, numbered_spelled}
 use Rattle.ctf_check.specs.CheckedView.{IsOwn, lists_of, tables_of}
 use Rattle.ctf_check.specs.declared.checked.Checked.{Checked}
@@ -15,20 +20,41 @@ use Rattle.ctf_model.specs.Spelling.{term_of}
 use Rattle.ctf_check.proofs.SpelledHead.{head_says}
 
 -- a record of a dictionary spells a type
-own_spelled : (d : Checked) (r : Record) → IsOwn d r → Spelled (tables_of d) (bytes_of r)
+pub own_spelled : (d : Checked) (r : Record) → IsOwn d r → Spelled (tables_of d) (bytes_of r)
 own_spelled d r own = numbered_spelled (tables_of d) _ _ (piece r) (all_spelled (lists_of d) d.faultless) own
 
-pub described : (d : Checked) (r : Record) (f : Facts) → IsOwn d r → kind (bytes_of r) ≡ Some f.kind → option_map (λ x. x.name) (term_of (tables_of d) (bytes_of r)) ≡ Some f.name → f.root ≡ is_root (bytes_of r)
+pub described : (d : Checked) (r : Record) (f : Shape) → IsOwn d r → kind (bytes_of r) ≡ Some f.kind
     → f.size ≡ size_in (bytes_of r) → f.reference ≡ reference_in (bytes_of r) → f.declares ≡ declared_in (bytes_of r) → option_map (λ x. shown x.body) (term_of (tables_of d) (bytes_of r)) ≡ Some f.behind
-    → option_map facts (term_of (tables_of d) (bytes_of r)) ≡ Some f
-described d r f own kind_is name_is root_is size_is reference_is declares_is behind_is =
+    → option_map (λ x. shape x.body) (term_of (tables_of d) (bytes_of r)) ≡ Some f
+described d r f own kind_is size_is reference_is declares_is behind_is =
     let x = own_spelled d r own in
     let s = head_says (tables_of d) (bytes_of r) x.type x.says in
     let same_kind = same_Some _ _ (sym s.kind_is ∙ kind_is) in
-    let same_name = same_Some _ _ (sym (ap (option_map (λ (y : Term). y.name)) x.says) ∙ name_is) in
-    let same_root = root_is ∙ s.root_is in
     let same_size = size_is ∙ s.size_is in
     let same_reference = reference_is ∙ s.reference_is in
     let same_declares = declares_is ∙ s.declares_is in
     let same_behind = same_Some _ _ (sym (ap (option_map (λ (y : Term). shown y.body)) x.says) ∙ behind_is) in
-    rw (x.says, same_kind, same_name, same_behind, ← same_root, ← same_size, ← same_reference, ← same_declares) refl
+    rw (x.says, same_kind, same_behind, ← same_size, ← same_reference, ← same_declares) refl
+
+-- with its name, and whether it is visible
+pub all_described : (d : Checked) (r : Record) (f : Facts) → IsOwn d r → option_map (λ x. x.name) (term_of (tables_of d) (bytes_of r)) ≡ Some f.name → f.root ≡ is_root (bytes_of r)
+    → option_map (λ x. shape x.body) (term_of (tables_of d) (bytes_of r)) ≡ Some f.shape → option_map facts (term_of (tables_of d) (bytes_of r)) ≡ Some f
+all_described d r f own name_is root_is shape_is =
+    let x = own_spelled d r own in
+    let s = head_says (tables_of d) (bytes_of r) x.type x.says in
+    let same_name = same_Some _ _ (sym (ap (option_map (λ (y : Term). y.name)) x.says) ∙ name_is) in
+    let same_root = root_is ∙ s.root_is in
+    let same_shape = same_Some _ _ (sym (ap (option_map (λ (y : Term). shape y.body)) x.says) ∙ shape_is) in
+    rw (x.says, same_name, same_shape, ← same_root) refl
+
+-- the number that a step by value leads to
+pub value_number : (d : Checked) (r : Record) (item : ℕ) → IsOwn d r → IfSome (term_of (tables_of d) (bytes_of r)) (λ x. item < length (by_value x.body)) → item < length (numbers ByValue (bytes_of r))
+value_number d r item own inside =
+    let x = own_spelled d r own in
+    let lt : item < length (by_value x.type.body) = rw x.says at inside in
+    rw (← spelled_numbers ByValue (tables_of d) (bytes_of r) x.type x.says) lt
+
+pub value_typed : (d : Checked) (r : Record) (item n : ℕ) → IsOwn d r → n ≡ slice_index (numbers ByValue (bytes_of r)) item → option_map (λ x. slice_index (by_value x.body) item) (term_of (tables_of d) (bytes_of r)) ≡ Some n
+value_typed d r item n own is =
+    let x = own_spelled d r own in
+    rw (x.says, spelled_numbers ByValue (tables_of d) (bytes_of r) x.type x.says, is) refl

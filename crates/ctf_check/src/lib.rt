@@ -14,7 +14,7 @@ mod sections;
 mod typed;
 
 pub use checked::Checked;
-pub use facts::Facts;
+pub use facts::{Facts, Shape};
 pub use judge::check;
 pub use lists::LentLists;
 pub use typed::Typed;

@@ -1,14 +1,17 @@
 //! A type that was found in a dictionary.
-ghost use Rattle.std.specs.Prelude.{◌≡◌, ◌↔◌, IsSome, IfSome, Some};
+ghost use Rattle.std.specs.Prelude.{◌≡◌, ◌<◌, ◌↔◌, length, slice_index, IsSome, IfSome, Some};
 ghost use Rattle.std.specs.Option.{option_map};
-ghost use Rattle.ctf_model.specs.Shown.{facts, shown};
+ghost use Rattle.ctf_model.specs.Chains.{by_value};
+ghost use Rattle.ctf_model.specs.Shown.{facts, shape, shown};
 ghost use Rattle.ctf_records.specs.RecordView.{index_of};
 ghost use Rattle.ctf_views.specs.VariantView.{seen};
 ghost use Rattle.ctf_check.specs.CheckedView.{dictionary_of, type_at, IsOwn};
-ghost use Rattle.ctf_check.specs.FactsView.{facts_seen};
+ghost use Rattle.ctf_check.specs.FactsView.{facts_seen, shape_seen};
 
 use crate::checked::Checked;
-use crate::facts::Facts;
+use crate::facts::{Facts, Shape};
+use ctf_chains::{Chain, place_number};
+use ctf_model::TypeNum;
 use ctf_records::Record;
 use ctf_views::Variant;
 
@@ -69,19 +72,38 @@ impl<'a> Typed<'a> {
         self.dictionary.variant(&self.source)
     }
 
-    /// All that it says of itself.
-    pub fn facts(&self) -> Facts<'a>
-        ensures { option_map facts (spelled self.now) ≡ Some (facts_seen result) }
+    /// What it is, apart from its name. It takes constant time.
+    pub fn shape(&self) -> Shape<'a>
+        ensures { option_map (λ x. shape x.body) (spelled self.now) ≡ Some (shape_seen result) }
     {
         let source = self.source;
-        Facts {
+        Shape {
             kind: source.kind(),
-            name: self.name(),
-            root: source.root(),
             size: source.size(),
             reference: source.reference(),
             declares: source.tag(),
             behind: self.variant(),
+        }
+    }
+
+    /// One of the types whose values its own values are or hold, from 0: that of a typedef or a
+    /// qualifier, of an array's elements, of each member. It takes constant time and reads no name.
+    pub fn value_type(&self, item: usize) -> TypeNum
+        requires { IfSome (spelled self.now) (λ x. item < length (by_value x.body)) }
+        ensures { option_map (λ x. slice_index (by_value x.body) item) (spelled self.now)
+            ≡ Some result.0 }
+    {
+        place_number(&self.source, Chain::ByValue, item)
+    }
+
+    /// All that it says of itself.
+    pub fn facts(&self) -> Facts<'a>
+        ensures { option_map facts (spelled self.now) ≡ Some (facts_seen result) }
+    {
+        Facts {
+            name: self.name(),
+            root: self.source.root(),
+            shape: self.shape(),
         }
     }
 }

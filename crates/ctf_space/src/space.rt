@@ -123,6 +123,24 @@ impl<'a> Space<'a> {
         }
     }
 
+    /// The dictionary itself.
+    pub fn dictionary(&self) -> Checked<'a>
+        ensures { dictionary_of result ≡ (space_of self.now).own }
+    {
+        self.own
+    }
+
+    /// Its parent as a space of its own.
+    pub fn parent(&self) -> Option<Space<'a>>
+        ensures { option_map space_of result
+            ≡ option_map (λ p. alone p (space_of self.now).model) (space_of self.now).parent }
+    {
+        match self.parent {
+            Some(parent) => Some(Space::own(parent, self.model)),
+            None => None,
+        }
+    }
+
     /// The data model of its program.
     pub fn model(&self) -> DataModel
         ensures { result ≡ (space_of self.now).model }
