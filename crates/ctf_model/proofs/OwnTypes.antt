@@ -1,5 +1,5 @@
 -- The own types of a dictionary, by their numbers.
-use Rattle.std.proofs.Common.{◌≡◌, ℕ, ◌+◌, ◌-◌, ◌≤◌, ◌<◌, Bool, true, false, cond, eqb, ltb, List, [], ◌∷◌, length, Option, Some, None, refl, ap, subst, arith}
+use Rattle.std.proofs.Common.{◌≡◌, ℕ, zero, suc, ◌+◌, ◌-◌, ◌≤◌, ◌<◌, Bool, true, false, cond, eqb, ltb, List, [], ◌∷◌, length, Option, Some, None, get_or, refl, ap, subst, arith}
 use Rattle.std.specs.Prelude.{MatchOption}
 use Rattle.std.specs.List.{AllByRecursion, cons_option, filter_map}
 use Rattle.std.proofs.Math.ListN as listn
@@ -78,6 +78,20 @@ each_own P own (t ∷ ts) a Q h = at (own t) refl a (λ b. each_own P own ts b Q
     at : (o : Option ℕ) → own t ≡ o → AllByRecursion P (cons_option o (filter_map own ts)) → (AllByRecursion P (filter_map own ts) → AllByRecursion Q ts) → AllByRecursion Q (t ∷ ts)
     at None is b rest = (h t (rw is tt), rest b)
     at (Some j) is b rest = (h t (rw is b.0), rest b.1)
+
+-- a number in the list that names an own type
+pub one_own : (P : ℕ → Type 0) (own : ℕ → Option ℕ) (ts : List ℕ) (k j : ℕ) → k < length ts → own (get_or ts k 0) ≡ Some j → AllByRecursion P (filter_map own ts) → P j
+one_own P own [] k j lt is a = absurd (omega arith)
+one_own P own (t ∷ ts) zero j lt is a = at (own t) is a
+  where
+    at : (o : Option ℕ) → o ≡ Some j → AllByRecursion P (cons_option o (filter_map own ts)) → P j
+    at None e b = absurd cc
+    at (Some i) e b = let same : i ≡ j = cc in subst P same b.0
+one_own P own (t ∷ ts) (suc k) j lt is a = one_own P own ts k j (omega arith) is (at (own t) a)
+  where
+    at : (o : Option ℕ) → AllByRecursion P (cons_option o (filter_map own ts)) → AllByRecursion P (filter_map own ts)
+    at None b = b
+    at (Some i) b = b.1
 
 -- where an own type leads
 pub targets_are : (d : Dictionary) (i : ℕ) → targets (value_edges d) i ≡ filter_map (own_index d.child (length d.terms)) (by_value (own_body d i))

@@ -1,5 +1,5 @@
 -- What a number comes to does not hang on how many numbers may follow on each other, once these are enough.
-use Rattle.std.proofs.Common.{◌≡◌, ℕ, zero, suc, ◌+◌, ◌≤◌, ◌<◌, Bool, true, false, cond, eqb, List, [], ◌∷◌, length, Option, Some, None, Result, refl, sym, ap, subst, ◌∙◌, arith}
+use Rattle.std.proofs.Common.{◌≡◌, ℕ, zero, suc, ◌+◌, ◌≤◌, ◌<◌, Bool, true, false, cond, eqb, List, [], ◌∷◌, length, Option, Some, None, Result, Err, refl, sym, ap, subst, ◌∙◌, arith}
 use Rattle.std.specs.Prelude.{slice_get, slice_index_or, MatchOption}
 use Rattle.std.specs.List.{AllByRecursion, filter_map}
 use Rattle.std.proofs.lemmas.Option.{slice_get-get_or, get_or_from_slice_get, slice_get_within}
@@ -9,7 +9,7 @@ use Rattle.ctf_model.specs.FigureLaws.{AsksByValue, HasBoundedValues, ParentsFig
 use Rattle.ctf_model.specs.Figures.{Figure, of_found, at_place, comes_to, most_numbers, parents_figure, figure_in}
 use Rattle.ctf_model.specs.Space.{Space}
 use Rattle.ctf_model.specs.Term.{Term, Body}
-use Rattle.ctf_model.specs.TypeNumbers.{or_no_type}
+use Rattle.ctf_model.specs.TypeNumbers.{no_type, or_no_type}
 use Rattle.ctf_model.specs.TypePlaces.{own_number, place}
 use Rattle.ctf_model.specs.declared.faults.Fault.{Fault}
 use Rattle.ctf_model.specs.declared.numbers.Place.{Place}
@@ -117,6 +117,40 @@ own_figure figure asks s k i le lt w = own_rule figure asks (parents_figure figu
 
 pub own_figures : (figure : Figure) → AsksByValue figure → (s : Space) → HasBoundedValues s.own → (i : ℕ) → i < length s.own.terms → figure_in figure s (own_number s.own.child i) ≡ figure.of_type (figure_in figure s) (own_number s.own.child i) (own_body s.own i)
 own_figures figure asks s bounded i lt = own_figure figure asks s longest_chain i (omega arith) lt (bounded.each i lt)
+
+-- ---- numbers that name no type
+
+none_step : (figure : Figure) (parents : ℕ → Result ℕ Fault) (d : Dictionary) (x : ℕ) → comes_to figure parents d (suc x) 0 ≡ figure.of_none
+unfolding comes_to
+none_step figure parents d x = refl
+
+-- no type
+pub figure_of_none : (figure : Figure) (s : Space) → figure_in figure s 0 ≡ figure.of_none
+figure_of_none figure s = ap (λ (y : ℕ). comes_to figure (parents_figure figure s.parent) s.own y 0) most_is ∙ none_step figure (parents_figure figure s.parent) s.own 513
+
+-- a number at which no type stands
+record IsMissing (d : Dictionary) (n : ℕ) : Type 0 where
+  pub some : 0 < n
+  pub not_parents : (i : ℕ) → place d.child n ≡ Parents i → ⊥
+  pub not_own : own_index d.child (length d.terms) n ≡ None
+
+missing_step : (figure : Figure) (parents : ℕ → Result ℕ Fault) (d : Dictionary) (x n : ℕ) → IsMissing d n → comes_to figure parents d (suc x) n ≡ Err no_type
+unfolding comes_to
+missing_step figure parents d x n h = let positive = not_zero n h.some in at (place d.child n) refl positive
+  where
+    past : (i : ℕ) → place d.child n ≡ Own i → (o : Option Term) → slice_get d.terms i ≡ o → of_found figure (comes_to figure parents d x) n (or_no_type o) ≡ Err no_type
+    past i e None f = refl
+    past i e (Some z) f = let own = own_of d.child (length d.terms) n i e (slice_get_within d.terms i z f) in let none = h.not_own in absurd cc
+
+    at : (p : Place) → place d.child n ≡ p → eqb n 0 ≡ false → cond (eqb n 0) figure.of_none (at_place figure parents (comes_to figure parents d x) d n (place d.child n)) ≡ Err no_type
+    at Nowhere e z = rw (e, z) refl
+    at (Parents i) e z = absurd (h.not_parents i e)
+    at (Own i) e z = rw (e, z) (past i e (slice_get d.terms i) refl)
+
+pub figure_of_missing : (figure : Figure) (s : Space) (n : ℕ) → 0 < n → ((i : ℕ) → place s.own.child n ≡ Parents i → ⊥) → own_index s.own.child (length s.own.terms) n ≡ None → figure_in figure s n ≡ Err no_type
+figure_of_missing figure s n some not_parents not_own =
+    ap (λ (y : ℕ). comes_to figure (parents_figure figure s.parent) s.own y n) most_is
+    ∙ missing_step figure (parents_figure figure s.parent) s.own 513 n (record { some = some; not_parents = not_parents; not_own = not_own })
 
 -- ---- a parent's types
 

@@ -1,0 +1,124 @@
+-- What the extent of a type hangs on.
+use Rattle.std.proofs.Common.{◌≡◌, ℕ, zero, suc, ◌+◌, ◌≤◌, ◌<◌, Bool, true, false, cond, ltb, List, [], ◌∷◌, ◌++◌, length, map, take, Option, Some, None, Result, Ok, Err, get_or, refl, sym, ap, subst, ◌∙◌, arith}
+use Rattle.std.specs.Prelude.{min, max, slice_index, if◌then◌else◌}
+use Rattle.std.specs.List.{AllByRecursion}
+use Rattle.std.proofs.lemmas.List.{length-map, take_all, take_more}
+use Rattle.ctf_model.specs.Chains.{IsWithin, by_value, longest_chain}
+use Rattle.ctf_model.specs.Term.{Term, Body, Member}
+use Rattle.ctf_model.specs.Term as term
+use Rattle.ctf_model.specs.declared.faults.Fault.{Fault}
+use Rattle.ctf_layout.specs.Bases.{basis, greatest_of, members_read, row_size}
+use Rattle.ctf_layout.specs.Extents.{IsExtent, amount}
+use Rattle.ctf_model.specs.Figures.{Figure, figure_in, size, align, sizing, aligning, size_body, align_body, greater, greatest, first_of, times, array_size}
+use Rattle.ctf_model.specs.FigureLaws.{own_body, value_edges}
+use Rattle.ctf_model.specs.Shown.{shape}
+use Rattle.ctf_model.specs.TypePlaces.{own_number}
+use Rattle.ctf_model.specs.Space.{Space}
+use Rattle.ctf_layout.specs.declared.extents.Amount.{Amount}
+use Rattle.ctf_layout.specs.declared.extents.Amount.TheVariants.{Known}
+use Rattle.ctf_layout.specs.declared.bases.Basis.{Basis}
+use Rattle.ctf_layout.specs.declared.bases.Basis.TheVariants.{Itself, One, Members}
+use Rattle.ctf_layout.specs.declared.extents.Extent.{Extent}
+use Rattle.ctf_layout.specs.declared.bases.Row.{Row}
+use Rattle.ctf_model.specs.declared.data_model.DataModel.{DataModel}
+use Rattle.ctf_model.proofs.FigureAsks.{figures_ask}
+use Rattle.ctf_model.specs.declared.numbers.TypeNum.{TypeNum}
+use Rattle.ctf_model.proofs.Settled.{own_figure}
+
+-- ---- the greatest of a list
+
+greater_unit : (r : Result ℕ Fault) → greater r (Ok 0) ≡ r
+greater_unit (Err f) = refl
+greater_unit (Ok n) = ap Ok (omega arith)
+
+unit_greater : (r : Result ℕ Fault) → greater (Ok 0) r ≡ r
+unit_greater (Err f) = refl
+unit_greater (Ok n) = ap Ok (omega arith)
+
+greater_assoc : (a b c : Result ℕ Fault) → greater a (greater b c) ≡ greater (greater a b) c
+greater_assoc (Err f) b c = refl
+greater_assoc (Ok n) (Err f) c = refl
+greater_assoc (Ok n) (Ok m) (Err f) = refl
+greater_assoc (Ok n) (Ok m) (Ok k) = ap Ok (omega arith)
+
+greatest_more : (f : ℕ → Result ℕ Fault) (ts : List ℕ) (t : ℕ) → greatest_of f (ts ++ (t ∷ [])) ≡ greater (greatest_of f ts) (f t)
+greatest_more f [] t = greater_unit (f t) ∙ sym (unit_greater (f t))
+greatest_more f (u ∷ ts) t = rw (greatest_more f ts t) (greater_assoc (f u) (greatest_of f ts) (f t))
+
+-- one number more
+pub greatest_step : (f : ℕ → Result ℕ Fault) (ts : List ℕ) (k : ℕ) → k < length ts → greatest_of f (take (k + 1) ts) ≡ greater (greatest_of f (take k ts)) (f (slice_index ts k))
+greatest_step f ts k lt =
+    let more : take (k + 1) ts ≡ take k ts ++ (get_or ts k 0 ∷ []) = take_more ts k 0 lt in
+    rw more (greatest_more f (take k ts) (get_or ts k 0))
+
+greatest_is : (f : ℕ → Result ℕ Fault) (ms : List Member) → greatest f ms ≡ greatest_of f (map (λ m. m.tnum) ms)
+greatest_is f [] = refl
+greatest_is f (m ∷ ms) = rw (greatest_is f ms) refl
+
+union_is : (f : ℕ → Result ℕ Fault) (ms : List Member) → greatest f ms ≡ greatest_of f (take (length ms) (map (λ m. m.tnum) ms))
+union_is f ms = greatest_is f ms ∙ ap (greatest_of f) (sym (take_all (length ms) (map (λ m. m.tnum) ms) (omega (arith, length-map ms (λ (m : Member). m.tnum)))))
+
+struct_is : (f : ℕ → Result ℕ Fault) (ms : List Member) → first_of f ms ≡ greatest_of f (take (min 1 (length ms)) (map (λ m. m.tnum) ms))
+struct_is f [] = refl
+struct_is f (m ∷ ms) =
+    let one : min 1 (suc (length ms)) ≡ 1 = omega arith in
+    rw one (sym (greater_unit (f m.tnum)))
+
+-- ---- bases
+
+abbrev pub BasisSays : DataModel → Body → Basis → Type 0
+BasisSays model body (Itself e) = (members_read body ≡ 0) × ((f : ℕ → Result ℕ Fault) → size_body model f body ≡ amount e.size) × ((f : ℕ → Result ℕ Fault) → align_body model f body ≡ amount e.align)
+BasisSays model body (One t row) = (members_read body ≡ 0) × (by_value body ≡ t.0 ∷ []) × ((f : ℕ → Result ℕ Fault) → size_body model f body ≡ row_size row (f t.0)) × ((f : ℕ → Result ℕ Fault) → align_body model f body ≡ f t.0)
+BasisSays model body (Members n read) = (members_read body ≡ read) × (read ≤ length (by_value body)) × ((f : ℕ → Result ℕ Fault) → size_body model f body ≡ Ok n) × ((f : ℕ → Result ℕ Fault) → align_body model f body ≡ greatest_of f (take read (by_value body)))
+
+pub basis_says : (model : DataModel) (body : Body) → BasisSays model body (basis model (shape body))
+basis_says model (term.integer x) = (refl, (λ f. refl), (λ f. refl))
+basis_says model (term.float x) = (refl, (λ f. refl), (λ f. refl))
+basis_says model (term.pointer t) = (refl, (λ f. refl), (λ f. refl))
+basis_says model (term.function r ts) = (refl, (λ f. refl), (λ f. refl))
+basis_says model (term.enum said xs) = (refl, (λ f. refl), (λ f. refl))
+basis_says model (term.forward t) = (refl, (λ f. refl), (λ f. refl))
+basis_says model term.unknown = (refl, (λ f. refl), (λ f. refl))
+basis_says model (term.array e) = (refl, refl, (λ f. refl), (λ f. refl))
+basis_says model (term.typedef t) = (refl, refl, (λ f. refl), (λ f. refl))
+basis_says model (term.volatile t) = (refl, refl, (λ f. refl), (λ f. refl))
+basis_says model (term.const t) = (refl, refl, (λ f. refl), (λ f. refl))
+basis_says model (term.restrict t) = (refl, refl, (λ f. refl), (λ f. refl))
+basis_says model (term.struct said ms) = (refl, omega (arith, length-map ms (λ (m : Member). m.tnum)), (λ f. refl), (λ f. struct_is f ms))
+basis_says model (term.union said ms) = (refl, omega (arith, length-map ms (λ (m : Member). m.tnum)), (λ f. refl), (λ f. union_is f ms))
+
+-- what is known where a basis is read
+pub basis_read : (s : Space) (i : ℕ) (b c : Basis) → b ≡ basis s.model (shape (own_body s.own i)) → b ≡ c → BasisSays s.model (own_body s.own i) c
+basis_read s i b c e f = subst (BasisSays s.model (own_body s.own i)) (sym e ∙ f) (basis_says s.model (own_body s.own i))
+
+-- ---- extents, by their bases
+
+-- the type is one whose chains by value end
+pub record IsOwnAt (s : Space) (k i : ℕ) : Type 0 where
+  pub short : k ≤ longest_chain
+  pub inside : i < length s.own.terms
+  pub within : IsWithin (value_edges s.own) k i
+
+size_rule : (s : Space) (k i : ℕ) → IsOwnAt s k i → size s (own_number s.own.child i) ≡ size_body s.model (size s) (own_body s.own i)
+size_rule s k i at = own_figure (sizing s.model) (figures_ask.sizing_asks s.model) s k i at.short at.inside at.within
+
+align_rule : (s : Space) (k i : ℕ) → IsOwnAt s k i → align s (own_number s.own.child i) ≡ align_body s.model (align s) (own_body s.own i)
+align_rule s k i at = own_figure (aligning s.model) (figures_ask.aligning_asks s.model) s k i at.short at.inside at.within
+
+pub itself_extent : (s : Space) (k i : ℕ) (e : Extent) → IsOwnAt s k i → BasisSays s.model (own_body s.own i) (Itself e) → IsExtent s (own_number s.own.child i) e
+itself_extent s k i e at b = record {
+  sized = sym (size_rule s k i at ∙ b.1 (size s));
+  aligned = sym (align_rule s k i at ∙ b.2 (align s));
+}
+
+pub one_extent : (s : Space) (k i : ℕ) (t : TypeNum) (row : Option Row) (one : Extent) (a : Amount) → IsOwnAt s k i → BasisSays s.model (own_body s.own i) (One t row) → IsExtent s t.0 one → amount a ≡ row_size row (amount one.size) → IsExtent s (own_number s.own.child i) (record { size = a; align = one.align })
+one_extent s k i t row one a at b e is = record {
+  sized = is ∙ ap (row_size row) e.sized ∙ sym (size_rule s k i at ∙ b.2 (size s));
+  aligned = e.aligned ∙ sym (align_rule s k i at ∙ b.3 (align s));
+}
+
+pub members_extent : (s : Space) (k i n read : ℕ) (a : Amount) → IsOwnAt s k i → BasisSays s.model (own_body s.own i) (Members n read) → amount a ≡ greatest_of (align s) (take read (by_value (own_body s.own i))) → IsExtent s (own_number s.own.child i) (record { size = Known n; align = a })
+members_extent s k i n read a at b is = record {
+  sized = sym (size_rule s k i at ∙ b.2 (size s));
+  aligned = is ∙ sym (align_rule s k i at ∙ b.3 (align s));
+}

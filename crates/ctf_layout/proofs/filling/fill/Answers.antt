@@ -1,0 +1,20 @@
+use Rattle.std.proofs.Common.{◌≡◌, ◌+◌, arith, sym, ap, ◌∙◌}
+use Rattle.ctf_layout.specs.Table.{work_left}
+use Rattle.ctf_layout.proofs.Filled.{none_left, knows_nothing}
+use Rattle.ctf_layout.proofs.filling.fill.Goals as goal
+
+pub loop-i-init : goal.loop-i-init
+loop-i-init g c =
+    let s = g.T.Types.space c.args.types.now in
+    record {
+      filled = λ j lt. absurd (omega arith);
+      knows = knows_nothing s c.args.table.now c.requires.empty;
+      steps = omega arith;
+    }
+
+pub returns-clause-steps : goal.returns-clause-steps
+returns-clause-steps g c =
+    let s = g.T.Types.space c.args.types.now in
+    let none = none_left s.own.terms c.loop-i.table (λ j lt. c.loop-i.invariant.filled j (omega arith)) in
+    let h = c.loop-i.invariant.steps in
+    omega (arith, none, h)

@@ -1,0 +1,77 @@
+-- What the size and the alignment of a type hang on. The words are ours.
+use Rattle.std.specs.Prelude.{ℕ, min, nat_lt, List, [], ◌∷◌, length, Option, Some, None, Result, Ok, unwrap_or, if◌then◌else◌}
+use Rattle.std.specs.Option.{option_map}
+use Rattle.ctf_model.specs.Figures.{enum_size, greater, times}
+use Rattle.ctf_model.specs.Shown.{ArrayParts, Shape, array_in, list_length}
+use Rattle.ctf_model.specs.Space.{pointer_size}
+use Rattle.ctf_model.specs.Term.{Body}
+use Rattle.ctf_model.specs.Term as term
+use Rattle.ctf_model.specs.declared.data_model.DataModel.{DataModel}
+use Rattle.ctf_model.specs.declared.faults.Fault.{Fault}
+use Rattle.ctf_model.specs.declared.kinds.Kind.{Kind}
+use Rattle.ctf_model.specs.declared.kinds.Kind.TheVariants.{KUnknown, KInteger, KFloat, KPointer, KArray, KFunction, KStruct, KUnion, KEnum, KForward, KTypedef, KVolatile, KConst, KRestrict}
+use Rattle.ctf_layout.specs.Extents.{neither}
+use Rattle.ctf_layout.specs.declared.bases.Basis.{Basis}
+use Rattle.ctf_layout.specs.declared.bases.Basis.TheVariants.{Itself, One, Members}
+use Rattle.ctf_layout.specs.declared.bases.Row.{Row}
+use Rattle.ctf_layout.specs.declared.extents.Amount.TheVariants.{Known}
+use Rattle.ctf_layout.specs.declared.extents.Refusal.TheVariants.{Incomplete}
+
+-- ---- by shape
+
+abbrev pub both : ℕ → Basis
+both n = Itself (record { size = Known n; align = Known n })
+
+abbrev pub of_nothing : Basis
+of_nothing = Itself (neither Incomplete)
+
+-- a function has no size, and the alignment of a pointer
+abbrev pub of_function : DataModel → Basis
+of_function model = Itself (record { size = Known 0; align = Known (pointer_size model) })
+
+-- its elements, and how many
+abbrev pub of_array : ℕ → Option ArrayParts → Basis
+of_array size None = of_nothing
+of_array size (Some parts) = One (record { 0 = parts.contents }) (Some (record { size = size; count = parts.count }))
+
+-- the type that it stands for
+abbrev pub of_other : Option ℕ → Basis
+of_other None = of_nothing
+of_other (Some t) = One (record { 0 = t }) None
+
+abbrev pub of_kind : DataModel → Kind → ℕ → Shape → Basis
+of_kind model KInteger size x = both size
+of_kind model KFloat size x = both size
+of_kind model KPointer size x = both (pointer_size model)
+of_kind model KArray size x = of_array size (array_in x.behind)
+of_kind model KFunction size x = of_function model
+of_kind model KStruct size x = Members size (min 1 (list_length x.behind))
+of_kind model KUnion size x = Members size (list_length x.behind)
+of_kind model KEnum size x = both (enum_size size)
+of_kind model KTypedef size x = of_other x.reference
+of_kind model KVolatile size x = of_other x.reference
+of_kind model KConst size x = of_other x.reference
+of_kind model KRestrict size x = of_other x.reference
+of_kind model KForward size x = of_nothing
+of_kind model KUnknown size x = of_nothing
+
+abbrev pub basis : DataModel → Shape → Basis
+basis model x = of_kind model x.kind (unwrap_or x.size 0) x
+
+-- ---- from one type, and from members
+
+-- the size of a row of elements of a size, or that size itself
+abbrev pub row_size : Option Row → Result ℕ Fault → Result ℕ Fault
+row_size None element = element
+row_size (Some row) element = if nat_lt 0 row.size then Ok row.size else times row.count element
+
+-- the greatest that numbers come to, or the first fault
+abbrev pub greatest_of : (ℕ → Result ℕ Fault) → List ℕ → Result ℕ Fault
+greatest_of f [] = Ok 0
+greatest_of f (t ∷ ts) = greater (f t) (greatest_of f ts)
+
+-- how many members of a type are read: of a struct the first alone
+abbrev pub members_read : Body → ℕ
+members_read (term.struct said members) = min 1 (length members)
+members_read (term.union said members) = length members
+members_read _ = 0

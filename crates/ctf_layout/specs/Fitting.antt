@@ -1,0 +1,2 @@
+-- placeholder
+use Rattle.std.specs.Prelude.{ℕ}

@@ -1,0 +1,4 @@
+pub mod Bases
+pub mod Extents
+pub mod Table
+pub mod Fitting

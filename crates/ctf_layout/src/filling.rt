@@ -1,0 +1,112 @@
+//! The table of sizes and alignments, filled: the extent of each own type is found once.
+ghost use Rattle.std.specs.Prelude.{◌≡◌, ℕ, ◌+◌, ◌<◌, ◌≤◌, Some, None, length, slice_set};
+ghost use Rattle.ctf_layout.specs.Extents.{IsExtent};
+ghost use Rattle.ctf_layout.specs.Table.{IsVisited, IsWhole, Knows, entry, work_left};
+ghost use Rattle.ctf_model.specs.Chains.{IsWithin, longest_chain, own_index as own_index_of};
+ghost use Rattle.ctf_model.specs.FigureLaws.{HasBoundedValues, value_edges};
+
+use crate::amounts::{greater, row_amount};
+use crate::bases::Basis;
+use crate::extents::{Amount, Extent, Refusal, neither};
+use crate::types::Types;
+use ctf_chains::{LONGEST_CHAIN, Ticks};
+use ctf_model::{Place, TypeNum};
+use std::sync::ledger::Ledger;
+
+/// The own type that a number names, from 0, where there are that many.
+fn own_index<L: Ledger, T: Types<L>>(types: &T, number: TypeNum) -> Option<usize>
+    ensures { let d = (T.space types.now).own in
+        result ≡ own_index_of d.child (length d.terms) number.0 }
+{
+    match number.place(types.child()) {
+        Place::Own(i) if i < types.count() => Some(i),
+        _ => None,
+    }
+}
+
+/// The extent of a number that names no own type.
+fn elsewhere<L: Ledger, T: Types<L>>(types: &T, number: TypeNum) -> Extent
+    requires not_own { let d = (T.space types.now).own in
+        own_index_of d.child (length d.terms) number.0 ≡ None }
+    ensures { IsExtent (T.space types.now) number.0 result }
+{
+    if number.0 == 0 {
+        return neither(Refusal::Incomplete);
+    }
+    match number.place(types.child()) {
+        Place::Parents(i) => types.outside(i),
+        _ => neither(Refusal::NoType),
+    }
+}
+
+/// Keeps the extent of a type in the table.
+fn keep(table: &mut [Option<Extent>], i: usize, extent: Extent) -> Extent
+    requires { i < length table.old }
+    ensures kept { table.new ≡ slice_set table.old i (Some extent) }
+    ensures same { result ≡ extent }
+{
+    table[i] = Some(extent);
+    extent
+}
+
+/// The extent of an own type, and those of the types that it hangs on, each of which is begun at
+/// most once. No chain of steps by value from it is longer than the budget.
+fn extent<L: Ledger, T: Types<L>>(
+    types: &T,
+    table: &mut [Option<Extent>],
+    work: &mut Ticks<L>,
+    i: usize,
+    budget: u16,
+) -> Extent
+    requires same { length table.old ≡ length (T.space types.now).own.terms }
+    requires own { i < length (T.space types.now).own.terms }
+    requires short { budget ≤ longest_chain }
+    requires within { IsWithin (value_edges (T.space types.now).own) budget i }
+    requires knows { Knows (T.space types.now) table.old }
+    ensures { IsVisited (T.space types.now) i table.old table.new work.old work.new result }
+{
+    if let Some(extent) = table[i] {
+        return extent;
+    }
+    match types.basis(i, work) {
+        Basis::Itself(extent) => keep(table, i, extent),
+        Basis::One(number, row) => {
+            let one = match own_index(types, number) {
+                Some(j) => extent(types, table, work, j, budget - 1),
+                None => elsewhere(types, number),
+            };
+            let size = row_amount(row, one.size);
+            keep(table, i, Extent { size, align: one.align })
+        }
+        Basis::Members(size, read) => {
+            let mut align = Amount::Known(0);
+            for k in 0..read {
+                let number = types.member_type(i, k, work);
+                let member = match own_index(types, number) {
+                    Some(j) => extent(types, table, work, j, budget - 1),
+                    None => elsewhere(types, number),
+                };
+                align = greater(align, member.align);
+            }
+            let size = Amount::Known(size);
+            keep(table, i, Extent { size, align })
+        }
+    }
+}
+
+/// Finds the extents of all own types.
+pub fn fill<L: Ledger, T: Types<L>>(
+    types: &T,
+    table: &mut [Option<Extent>],
+    work: &mut Ticks<L>,
+)
+    requires same { length table.old ≡ length (T.space types.now).own.terms }
+    requires empty { (j : ℕ) → entry table.old j ≡ None }
+    requires bounded { HasBoundedValues (T.space types.now).own }
+    ensures whole { IsWhole (T.space types.now) table.new }
+    ensures steps { work.new ≡ work.old + work_left (T.space types.now).own.terms table.old }
+{
+    for i in 0..types.count() {
+        extent(types, table, work, i, LONGEST_CHAIN);
+    }
+}

@@ -1,0 +1,50 @@
+//! What a table of sizes and alignments is made from.
+ghost use Rattle.std.specs.Prelude.{◌≡◌, ℕ, ◌+◌, ◌<◌, length, slice_index};
+ghost use Rattle.ctf_layout.specs.Bases.{basis as basis_word, members_read};
+ghost use Rattle.ctf_layout.specs.Extents.{IsParentsExtent};
+ghost use Rattle.ctf_model.specs.Chains.{by_value};
+ghost use Rattle.ctf_model.specs.FigureLaws.{own_body};
+ghost use Rattle.ctf_model.specs.Shown.{shape};
+ghost use Rattle.ctf_model.specs.TypePlaces.{place};
+ghost use Rattle.ctf_model.specs.declared.numbers.Place.TheVariants.{Parents};
+
+use crate::bases::Basis;
+use crate::extents::Extent;
+use ctf_chains::Ticks;
+use ctf_model::TypeNum;
+use std::sync::ledger::Ledger;
+
+/// The own types of a dictionary, by numbers from 0. To begin a type is a tick, and so is to read a
+/// member.
+pub trait Types<L: Ledger> {
+    ghost use Rattle.ctf_model.specs.Space.{Space};
+
+    ghost space: { Self → Space };
+
+    /// Whether low type numbers are those of a parent.
+    fn child(&self) -> bool
+        ensures { result ≡ (space self.now).own.child };
+
+    /// How many own types there are.
+    fn count(&self) -> usize
+        ensures { result ≡ length (space self.now).own.terms };
+
+    /// Begins a type: what its extent hangs on.
+    fn basis(&self, i: usize, work: &mut Ticks<L>) -> Basis
+        requires { i < length (space self.now).own.terms }
+        ensures basis { result
+            ≡ basis_word (space self.now).model (shape (own_body (space self.now).own i)) }
+        ensures tick { work.new ≡ work.old + 1 };
+
+    /// Reads the type of a member of a struct or union.
+    fn member_type(&self, i: usize, k: usize, work: &mut Ticks<L>) -> TypeNum
+        requires own { i < length (space self.now).own.terms }
+        requires member { k < members_read (own_body (space self.now).own i) }
+        ensures named { result.0 ≡ slice_index (by_value (own_body (space self.now).own i)) k }
+        ensures tick { work.new ≡ work.old + 1 };
+
+    /// The extent of a type of the parent, from 0.
+    fn outside(&self, i: usize) -> Extent
+        ensures { (n : ℕ) → place (space self.now).own.child n ≡ Parents i
+            → IsParentsExtent (space self.now) n result };
+}
