@@ -5,7 +5,7 @@ use Rattle.ctf_model.specs.Figures.{size, align, sizing, aligning}
 use Rattle.ctf_model.specs.Refusals.{placeless}
 use Rattle.ctf_model.specs.Space.{Space}
 use Rattle.ctf_model.specs.TypePlaces.{place}
-use Rattle.ctf_model.specs.declared.numbers.Place.TheVariants.{Parents}
+use Rattle.ctf_model.specs.declared.numbers.Place.TheVariants.{Nowhere, Parents}
 use Rattle.ctf_model.proofs.Settled.{figure_of_missing, figure_of_none, figure_of_parents}
 use Rattle.ctf_layout.specs.Extents.{IsExtent, IsParentsExtent, code_of, neither}
 use Rattle.ctf_layout.specs.declared.extents.Extent.{Extent}
@@ -26,6 +26,9 @@ extent_of_missing s n e some not_parents not_own is =
     refused_extent s n NoType e is
     (figure_of_missing (sizing s.model) s n some not_parents not_own)
     (figure_of_missing (aligning s.model) s n some not_parents not_own)
+
+pub extent_of_nowhere : (s : Space) (n : ℕ) (e : Extent) → 0 < n → place s.own.child n ≡ Nowhere → e ≡ neither NoType → IsExtent s n e
+extent_of_nowhere s n e some at is = extent_of_missing s n e some (λ i other. let clash : Nowhere ≡ Parents i = sym at ∙ other in absurd cc) (rw at refl) is
 
 -- a parent's type
 pub extent_of_parents : (s : Space) (n i : ℕ) (e : Extent) → place s.own.child n ≡ Parents i → IsParentsExtent s n e → IsExtent s n e

@@ -1,8 +1,12 @@
 -- Tables, empty and filled.
-use Rattle.std.proofs.Common.{◌≡◌, ℕ, zero, suc, ◌+◌, ◌≤◌, ◌<◌, List, [], ◌∷◌, length, Option, Some, None, refl, arith}
-use Rattle.std.specs.Prelude.{IsSome}
+use Rattle.std.proofs.Common.{◌≡◌, ℕ, zero, suc, ◌+◌, ◌≤◌, ◌<◌, List, [], ◌∷◌, length, Option, Some, None, refl, sym, arith}
+use Rattle.std.specs.Prelude.{IsSome, min, sum_by}
+use Rattle.std.proofs.lemmas.List.Sums.{sum_by-cons}
 use Rattle.ctf_model.specs.Space.{Space}
-use Rattle.ctf_model.specs.Term.{Term}
+use Rattle.ctf_model.specs.Term.{Body, Term}
+use Rattle.ctf_model.specs.Term as term
+use Rattle.ctf_layout.specs.Bases.{members_read}
+use Rattle.ctf_layout.specs.Work.{member_count, types_and_members, types_work}
 use Rattle.ctf_layout.specs.Table.{Table, Knows, entry, owed, work_left}
 
 -- an empty table knows nothing that is wrong
@@ -19,3 +23,40 @@ unfolding work_left
 none_left [] table h = refl
 none_left (x ∷ types) [] h = refl
 none_left (x ∷ types) (o ∷ table) h = rw (all_known o x (h 0 (omega arith)), none_left types table (λ j lt. h (suc j) (omega arith))) refl
+
+-- an empty one leaves all of it
+pub all_left : (types : List Term) (table : Table) → length table ≡ length types → ((j : ℕ) → entry table j ≡ None) → work_left types table ≡ types_work types
+unfolding work_left
+all_left [] table e h = refl
+all_left (x ∷ types) [] e h = absurd (omega arith)
+all_left (x ∷ types) (o ∷ table) e h =
+    let o_is : o ≡ None = h 0 in
+    rw (o_is, all_left types table (omega arith) (λ j. h (suc j))) (sym (sum_by-cons (λ (y : Term). 1 + members_read y.body) x types))
+
+-- ---- how much that is
+
+reads_few : (body : Body) → members_read body ≤ member_count body
+reads_few (term.struct said ms) = omega arith
+reads_few (term.union said ms) = omega arith
+reads_few (term.integer x) = omega arith
+reads_few (term.float x) = omega arith
+reads_few (term.pointer t) = omega arith
+reads_few (term.array e) = omega arith
+reads_few (term.function r ts) = omega arith
+reads_few (term.enum said xs) = omega arith
+reads_few (term.forward t) = omega arith
+reads_few (term.typedef t) = omega arith
+reads_few (term.volatile t) = omega arith
+reads_few (term.const t) = omega arith
+reads_few (term.restrict t) = omega arith
+reads_few term.unknown = omega arith
+
+-- no more than there are types and members
+pub few_steps : (types : List Term) → types_work types ≤ types_and_members types
+few_steps [] = omega arith
+few_steps (x ∷ types) =
+    let few = reads_few x.body in
+    let rest = few_steps types in
+    let work : types_work (x ∷ types) ≡ 1 + members_read x.body + types_work types = sum_by-cons (λ (y : Term). 1 + members_read y.body) x types in
+    let all : types_and_members (x ∷ types) ≡ 1 + member_count x.body + types_and_members types = sum_by-cons (λ (y : Term). 1 + member_count y.body) x types in
+    omega arith

@@ -1,2 +1,17 @@
--- placeholder
-use Rattle.std.specs.Prelude.{ℕ}
+-- Which layouts fit a space. Source: ours.
+use Rattle.std.specs.Prelude.{◌≡◌, ℕ, List, Option}
+use Rattle.std.specs.Option.{option_map}
+use Rattle.ctf_model.specs.Space.{Space}
+use Rattle.ctf_layout.specs.Kept.{AreExtents}
+use Rattle.ctf_layout.specs.Over.{OverParent}
+use Rattle.ctf_layout.specs.declared.layout.Layout.{Layout}
+
+-- how many steps it cost
+abbrev pub steps_of : Layout → ℕ
+steps_of l = l.steps
+
+-- it has the sizes and alignments of the own types, and those of the parent's if there is one
+pub record Fits (s : Space) (l : Layout) : Type 0 where
+  pub child : l.child ≡ s.own.child
+  pub own : AreExtents s l.own.value.entries.items
+  pub parent : OverParent s (option_map (λ rc. rc.value.entries.items) l.parent)

@@ -1,7 +1,8 @@
 //! The table of sizes and alignments, filled: the extent of each own type is found once.
 ghost use Rattle.std.specs.Prelude.{◌≡◌, ℕ, ◌+◌, ◌<◌, ◌≤◌, Some, None, length, slice_set};
 ghost use Rattle.ctf_layout.specs.Extents.{IsExtent};
-ghost use Rattle.ctf_layout.specs.Table.{IsVisited, IsWhole, Knows, entry, work_left};
+ghost use Rattle.ctf_layout.specs.Table.{IsVisited, IsWhole, Knows, entry};
+ghost use Rattle.ctf_layout.specs.Work.{types_work};
 ghost use Rattle.ctf_model.specs.Chains.{IsWithin, longest_chain, own_index as own_index_of};
 ghost use Rattle.ctf_model.specs.FigureLaws.{HasBoundedValues, value_edges};
 
@@ -104,7 +105,7 @@ pub fn fill<L: Ledger, T: Types<L>>(
     requires empty { (j : ℕ) → entry table.old j ≡ None }
     requires bounded { HasBoundedValues (T.space types.now).own }
     ensures whole { IsWhole (T.space types.now) table.new }
-    ensures steps { work.new ≡ work.old + work_left (T.space types.now).own.terms table.old }
+    ensures steps { work.new ≡ work.old + types_work (T.space types.now).own.terms }
 {
     for i in 0..types.count() {
         extent(types, table, work, i, LONGEST_CHAIN);

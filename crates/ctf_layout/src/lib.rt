@@ -3,8 +3,14 @@
 
 mod amounts;
 mod bases;
+mod entry;
 mod extents;
+mod figures;
 mod filling;
-
+mod kept;
+mod layout;
+mod source;
 mod types;
 
+pub use figures::{reference, resolve};
+pub use layout::Layout;

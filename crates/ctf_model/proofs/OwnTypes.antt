@@ -49,6 +49,25 @@ own_place child n i e = at child (eqb n 0) refl e
     at true false z e = from_child n i (ltb n 0x8000) (eqb n 0x8000) refl refl e
     at false false z e = let other = eqb-false n 0 z in let is : n - 1 ≡ i = cc in omega (arith, other)
 
+-- it isn't 0
+pub own_positive : (child : Bool) (n i : ℕ) → place child n ≡ Own i → 0 < n
+own_positive true n i e = let is : n ≡ i + 0x8001 = own_place true n i e in omega arith
+own_positive false n i e = let is : n ≡ i + 1 = own_place false n i e in omega arith
+
+-- a parent's types count from 1
+pub parents_place : (child : Bool) (n i : ℕ) → place child n ≡ Parents i → n ≡ i + 1
+parents_place child n i e = at child (eqb n 0) refl e
+  where
+    in_child : (low between : Bool) → eqb n 0 ≡ false → cond low (Parents (n - 1)) (cond between Nowhere (Own (n - 0x8001))) ≡ Parents i → n ≡ i + 1
+    in_child true between z e = let other = eqb-false n 0 z in let is : n - 1 ≡ i = cc in omega (arith, other)
+    in_child false true z e = absurd cc
+    in_child false false z e = absurd cc
+
+    at : (child none : Bool) → eqb n 0 ≡ none → cond none Nowhere (cond child (place_in_child n) (Own (n - 1))) ≡ Parents i → n ≡ i + 1
+    at child true z e = absurd cc
+    at true false z e = in_child (ltb n 0x8000) (eqb n 0x8000) z e
+    at false false z e = absurd cc
+
 -- ---- own types that numbers name
 
 -- a number of an own type that is there

@@ -1,5 +1,5 @@
 //! A dictionary with the parent that it was imported over.
-ghost use Rattle.std.specs.Prelude.{◌≡◌, ◌<◌, IfOk, IfErr, OnOk, None, Some, length, slice_get};
+ghost use Rattle.std.specs.Prelude.{◌≡◌, ◌<◌, IfOk, IfErr, OnOk, None, Some, false, length, slice_get};
 ghost use Rattle.std.specs.Result.{result_map_both};
 ghost use Rattle.std.specs.Option.{ForSome, option_map};
 ghost use Rattle.ctf_model.specs.Space.{import_fault, space_type};
@@ -130,10 +130,11 @@ impl<'a> Space<'a> {
         self.own
     }
 
-    /// Its parent as a space of its own.
+    /// Its parent as a space of its own. It is no child itself.
     pub fn parent(&self) -> Option<Space<'a>>
-        ensures { option_map space_of result
+        ensures parent { option_map space_of result
             ≡ option_map (λ p. alone p (space_of self.now).model) (space_of self.now).parent }
+        ensures plain { ForSome (space_of self.now).parent (λ p. p.child ≡ false) }
     {
         match self.parent {
             Some(parent) => Some(Space::own(parent, self.model)),

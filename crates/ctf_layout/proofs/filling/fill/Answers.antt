@@ -1,6 +1,6 @@
 use Rattle.std.proofs.Common.{◌≡◌, ◌+◌, arith, sym, ap, ◌∙◌}
 use Rattle.ctf_layout.specs.Table.{work_left}
-use Rattle.ctf_layout.proofs.Filled.{none_left, knows_nothing}
+use Rattle.ctf_layout.proofs.Filled.{all_left, none_left, knows_nothing}
 use Rattle.ctf_layout.proofs.filling.fill.Goals as goal
 
 pub loop-i-init : goal.loop-i-init
@@ -17,4 +17,5 @@ returns-clause-steps g c =
     let s = g.T.Types.space c.args.types.now in
     let none = none_left s.own.terms c.loop-i.table (λ j lt. c.loop-i.invariant.filled j (omega arith)) in
     let h = c.loop-i.invariant.steps in
-    omega (arith, none, h)
+    let all = all_left s.own.terms c.args.table.now c.requires.same c.requires.empty in
+    omega (arith, none, h, all)

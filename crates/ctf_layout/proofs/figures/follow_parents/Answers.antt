@@ -1,0 +1,26 @@
+use Rattle.std.proofs.Common.{◌≡◌, ℕ, refl, sym, ap, ◌∙◌}
+use Rattle.std.specs.Prelude.{Err, Ok}
+use Rattle.ctf_model.specs.TypeNumbers.{no_parent}
+use Rattle.ctf_model.specs.TypePlaces.{place}
+use Rattle.ctf_model.specs.declared.numbers.Place.TheVariants.{Parents}
+use Rattle.ctf_space.specs.SpaceView.{alone, space_of}
+use Rattle.ctf_layout.specs.Following.{onward}
+use Rattle.ctf_layout.proofs.Follow.{onward_out, onward_stays, resolved_alone}
+use Rattle.ctf_layout.proofs.figures.follow_parents.Goals as goal
+
+pub returns-in-Parents : goal.returns-in-Parents
+returns-in-Parents c =
+    let s = space_of c.args.parent.now in
+    let here = sym (rw c.child.ensures at c.place.ensures) ∙ c.in-Parents.is in
+    rw c.placeless.ensures (sym (resolved_alone (alone s.own s.model) refl c.args.number.0 ∙ ap (onward (λ t. Err no_parent) s.own) (sym (rw c.in-Ok.is at c.follow.ensures)) ∙ onward_out (λ t. Err no_parent) s.own c.in-Ok.at.0 c.in-Parents.field-0 here))
+
+pub returns-in_default : goal.returns-in_default
+returns-in_default c =
+    let s = space_of c.args.parent.now in
+    let not_parents : (i : ℕ) → place s.own.child c.in-Ok.at.0 ≡ Parents i → ⊥ = λ i at. c.in_default.not-Parents i ((rw c.child.ensures at c.place.ensures) ∙ at) in
+    sym (resolved_alone (alone s.own s.model) refl c.args.number.0 ∙ ap (onward (λ t. Err no_parent) s.own) (sym (rw c.in-Ok.is at c.follow.ensures)) ∙ onward_stays (λ t. Err no_parent) s.own c.in-Ok.at.0 not_parents)
+
+pub returns-in-Err : goal.returns-in-Err
+returns-in-Err c =
+    let s = space_of c.args.parent.now in
+    sym (resolved_alone (alone s.own s.model) refl c.args.number.0 ∙ ap (onward (λ t. Err no_parent) s.own) (sym (rw c.in-Err.is at c.follow.ensures)))

@@ -1,0 +1,6 @@
+use Rattle.ctf_check.specs.CheckedView.{lists_of}
+use Rattle.ctf_model.proofs.BoundedValues.{values_bounded}
+use Rattle.ctf_layout.proofs.layout.beside.Goals as goal
+
+pub build-requires : goal.build-requires
+build-requires g c = record { bounded = values_bounded (lists_of c.args.space.now.own) c.args.space.now.own.faultless }

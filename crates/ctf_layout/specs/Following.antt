@@ -1,0 +1,35 @@
+-- One step of following typedefs and qualifiers. The words are ours.
+use Rattle.std.specs.Prelude.{ℕ, Option, Some, None, Result, Ok, Err}
+use Rattle.ctf_model.specs.Dictionary.{Dictionary}
+use Rattle.ctf_model.specs.Figures.{comes_to, most_numbers, resolving}
+use Rattle.ctf_model.specs.Shown.{Shape}
+use Rattle.ctf_model.specs.TypePlaces.{place}
+use Rattle.ctf_model.specs.declared.faults.Fault.{Fault}
+use Rattle.ctf_model.specs.declared.kinds.Kind.{Kind}
+use Rattle.ctf_model.specs.declared.kinds.Kind.TheVariants.{KTypedef, KVolatile, KConst, KRestrict}
+use Rattle.ctf_model.specs.declared.numbers.Place.{Place}
+use Rattle.ctf_model.specs.declared.numbers.Place.TheVariants.{Parents}
+
+abbrev pub renamed_by : Kind → Option ℕ → Option ℕ
+renamed_by KTypedef t = t
+renamed_by KVolatile t = t
+renamed_by KConst t = t
+renamed_by KRestrict t = t
+renamed_by _ t = None
+
+-- the type that a typedef or a qualifier stands for
+abbrev pub renamed : Shape → Option ℕ
+renamed x = renamed_by x.kind x.reference
+
+-- as far as the own types of a dictionary lead: a parent's number is left as it stands
+abbrev pub followed : Dictionary → ℕ → Result ℕ Fault
+followed d n = comes_to resolving (λ t. Ok t) d most_numbers n
+
+-- what a parent's number comes to in place of it
+abbrev pub at_parents : (ℕ → Result ℕ Fault) → ℕ → Place → Result ℕ Fault
+at_parents parents n (Parents i) = parents n
+at_parents parents n _ = Ok n
+
+abbrev pub onward : (ℕ → Result ℕ Fault) → Dictionary → Result ℕ Fault → Result ℕ Fault
+onward parents d (Err f) = Err f
+onward parents d (Ok n) = at_parents parents n (place d.child n)

@@ -1,0 +1,13 @@
+-- The extents of a parent's types, beside a child. The words are ours.
+use Rattle.std.specs.Prelude.{◌≡◌, Bool, false, List, Option}
+use Rattle.std.specs.Option.{ForSome, is_some}
+use Rattle.ctf_model.specs.FigureLaws.{parent_alone}
+use Rattle.ctf_model.specs.Space.{Space}
+use Rattle.ctf_layout.specs.Kept.{AreExtents}
+use Rattle.ctf_layout.specs.declared.entry.Entry.{Entry}
+
+-- they are there where there is a parent, which is no child, and are right
+pub record OverParent (s : Space) (entries : Option (List Entry)) : Type 0 where
+  pub both : is_some entries ≡ is_some s.parent
+  pub plain : ForSome s.parent (λ p. p.child ≡ false)
+  pub right : ForSome s.parent (λ p. ForSome entries (λ es. AreExtents (parent_alone s p) es))

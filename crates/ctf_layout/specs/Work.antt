@@ -1,0 +1,32 @@
+-- What the sizes and alignments of all types cost: one step for each type, and one for each member that is read. Source: ours.
+use Rattle.std.specs.Prelude.{ℕ, ◌+◌, List, [], length, sum_by, Option, Some, None}
+use Rattle.ctf_model.specs.Dictionary.{Dictionary}
+use Rattle.ctf_model.specs.Space.{Space}
+use Rattle.ctf_model.specs.Term.{Term, Body}
+use Rattle.ctf_model.specs.Term as term
+use Rattle.ctf_layout.specs.Bases.{members_read}
+
+-- of the types of a dictionary
+abbrev pub types_work : List Term → ℕ
+types_work types = sum_by (λ x. 1 + members_read x.body) types
+
+-- how many members a type has
+abbrev pub member_count : Body → ℕ
+member_count (term.struct said members) = length members
+member_count (term.union said members) = length members
+member_count _ = 0
+
+-- how many types there are, and members of theirs
+abbrev pub types_and_members : List Term → ℕ
+types_and_members types = sum_by (λ x. 1 + member_count x.body) types
+
+abbrev pub types_in : Option Dictionary → List Term
+types_in None = []
+types_in (Some d) = d.terms
+
+-- of the types of a space, its parent's first
+abbrev pub space_work : Space → ℕ
+space_work s = types_work (types_in s.parent) + types_work s.own.terms
+
+abbrev pub space_size : Space → ℕ
+space_size s = types_and_members (types_in s.parent) + types_and_members s.own.terms

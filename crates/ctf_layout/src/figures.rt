@@ -1,0 +1,111 @@
+//! The type that a type stands for, and the one that it refers to.
+ghost use Rattle.std.specs.Prelude.{◌≡◌, Ok, option_map};
+ghost use Rattle.std.specs.Result.{result_map_both};
+ghost use Rattle.ctf_check.specs.FactsView.{shape_seen};
+ghost use Rattle.ctf_layout.specs.Following.{followed, onward as onward_of, renamed as renamed_of};
+ghost use Rattle.ctf_model.specs.Figures.{parents_figure, reference as reference_of, referred as referred_of, resolved, resolving};
+ghost use Rattle.ctf_space.specs.SpaceView.{alone, space_of};
+
+use ctf_check::Shape;
+use ctf_model::{Fault, Kind, Place, TypeNum, placeless};
+use ctf_space::Space;
+use ctf_views::Variant;
+
+/// As many numbers as can follow on each other in a dictionary: the longest chain of steps, one type
+/// more, and what stands behind that.
+const MOST_NUMBERS: u16 = 514;
+
+/// The type that a typedef or a qualifier stands for.
+fn renamed(x: &Shape<'_>) -> Option<TypeNum>
+    ensures { option_map (λ t. t.0) result ≡ renamed_of (shape_seen x.now) }
+{
+    match x.kind {
+        Kind::KTypedef | Kind::KVolatile | Kind::KConst | Kind::KRestrict => x.reference,
+        _ => None,
+    }
+}
+
+/// Follows typedefs and qualifiers as far as own types lead. A parent's number is left as it stands.
+fn follow(space: &Space<'_>, number: TypeNum) -> Result<TypeNum, Fault>
+    ensures { result_map_both (λ t. t.0) (λ f. f) result
+        ≡ followed (space_of space.now).own number.0 }
+{
+    let mut at = number;
+    for _step in 0..MOST_NUMBERS {
+        if at.0 == 0 {
+            return Ok(at);
+        }
+        if let Place::Parents(_) = at.place(space.child()) {
+            return Ok(at);
+        }
+        let found = match space.term(at) {
+            Ok(found) => found,
+            Err(fault) => return Err(fault),
+        };
+        match renamed(&found.shape()) {
+            Some(next) => at = next,
+            None => return Ok(at),
+        }
+    }
+    Err(placeless(Fault::INCOMPLETE))
+}
+
+/// The same in the parent of a space, where a parent's number names nothing further.
+fn follow_parents(parent: &Space<'_>, number: TypeNum) -> Result<TypeNum, Fault>
+    ensures { let d = (space_of parent.now).own in result_map_both (λ t. t.0) (λ f. f) result
+        ≡ resolved (alone d (space_of parent.now).model) number.0 }
+{
+    match follow(parent, number) {
+        Ok(at) => match at.place(parent.child()) {
+            Place::Parents(_) => Err(placeless(Fault::NO_PARENT)),
+            _ => Ok(at),
+        },
+        Err(fault) => Err(fault),
+    }
+}
+
+/// What a number that own types lead to stands for in the parent, if it is a parent's.
+fn onward(space: &Space<'_>, at: TypeNum) -> Result<TypeNum, Fault>
+    ensures { let s = space_of space.now in result_map_both (λ t. t.0) (λ f. f) result
+        ≡ onward_of (parents_figure resolving s.parent) s.own (Ok at.0) }
+{
+    match at.place(space.child()) {
+        Place::Parents(_) => match space.parent() {
+            Some(parent) => follow_parents(&parent, at),
+            None => Err(placeless(Fault::NO_PARENT)),
+        },
+        _ => Ok(at),
+    }
+}
+
+/// The type that a type stands for, typedefs and qualifiers followed; 0 where that is no type.
+pub fn resolve(space: &Space<'_>, number: TypeNum) -> Result<TypeNum, Fault>
+    ensures { result_map_both (λ t. t.0) (λ f. f) result
+        ≡ resolved (space_of space.now) number.0 }
+{
+    match follow(space, number) {
+        Ok(at) => onward(space, at),
+        Err(fault) => Err(fault),
+    }
+}
+
+/// What a type refers to, by its shape.
+fn referred(x: Shape<'_>) -> Result<TypeNum, Fault>
+    ensures { result_map_both (λ t. t.0) (λ f. f) result ≡ referred_of (shape_seen x.entry) }
+{
+    match (x.behind, x.reference) {
+        (Variant::Args(_), _) | (_, None) => Err(placeless(Fault::NOT_REFERENCE)),
+        (_, Some(at)) => Ok(at),
+    }
+}
+
+/// The type that a type points to, renames or qualifies, as it is declared.
+pub fn reference(space: &Space<'_>, number: TypeNum) -> Result<TypeNum, Fault>
+    ensures { result_map_both (λ t. t.0) (λ f. f) result
+        ≡ reference_of (space_of space.now) number.0 }
+{
+    match space.term(number) {
+        Ok(found) => referred(found.shape()),
+        Err(fault) => Err(fault),
+    }
+}

@@ -1,0 +1,204 @@
+//! The sizes and alignments of all numbers of a space.
+ghost use Rattle.std.specs.Prelude.{◌≡◌, ◌+◌, ◌<◌, ◌≤◌, IfOk, OnOk, None};
+ghost use Rattle.std.specs.Option.{ForSome, option_map};
+ghost use Rattle.ctf_chains.specs.Places.{capped};
+ghost use Rattle.ctf_layout.specs.Extents.{IsExtent};
+ghost use Rattle.ctf_layout.specs.Kept.{AreExtents};
+ghost use Rattle.ctf_layout.specs.Fitting.{Fits, steps_of};
+ghost use Rattle.ctf_layout.specs.Over.{OverParent};
+ghost use Rattle.ctf_layout.specs.Work.{space_size, space_work, types_and_members, types_work};
+ghost use Rattle.ctf_model.specs.FigureLaws.{parent_alone};
+ghost use Rattle.ctf_model.specs.Figures.{align as align_of, size as size_of};
+ghost use Rattle.ctf_model.specs.Space.{Space as WholeSpace};
+ghost use Rattle.ctf_space.specs.SpaceView.{space_of};
+
+use crate::extents::{Extent, Refusal, neither};
+use crate::kept::Extents;
+use crate::source::Source;
+use ctf_chains::Ticks;
+use ctf_model::{Fault, Place, TypeNum};
+use ctf_space::Space;
+use std::alloc::{AllocError, Global};
+use std::marker::Brand;
+use std::rc::Rc;
+use std::sync::ledger::{Blank, Ledger};
+
+/// The sizes and alignments of the types of a dictionary, and of its parent's where it has one, found
+/// once: a look-up takes constant time, and no memory.
+///
+/// It keeps plain numbers, 24 bytes for each own type, and borrows nothing. Those of a parent are
+/// shared with the parent's own layout.
+#[derive(Drop)]
+pub struct Layout {
+    child: bool,
+    own: Rc<Extents>,
+    parent: Option<Rc<Extents>>,
+    steps: u64,
+}
+
+/// What a shared table holds.
+fn lent(extents: &Option<Rc<Extents>>) -> Option<&Extents>
+    ensures { option_map (λ e. e.now) result ≡ option_map (λ rc. rc.value) extents.now }
+{
+    match extents {
+        Some(shared) => Some(shared),
+        None => None,
+    }
+}
+
+/// The layout of a space, beside that of its parent.
+fn beside<L: Ledger>(
+    alloc: Global,
+    space: &Space<'_>,
+    parent: Option<Rc<Extents>>,
+    work: &mut Ticks<L>,
+) -> Result<Layout, AllocError>
+    requires { OverParent (space_of space.now) (option_map (λ rc. rc.value.entries.items) parent) }
+    ensures fits { IfOk result (λ l. Fits (space_of space.now) l) }
+    ensures steps { IfOk result (λ l. steps_of l ≡ capped work.new) }
+    ensures work { OnOk result (work.new
+        ≡ work.old + types_work (space_of space.now).own.terms) }
+{
+    let source = Source {
+        space: *space,
+        parent: lent(&parent),
+    };
+    let own = Extents::build(alloc, &source, work)?;
+    Ok(Layout {
+        child: space.child(),
+        own: Rc::new(alloc, own)?,
+        parent,
+        steps: work.count(),
+    })
+}
+
+/// The layout of a space whose parent's types, if it has a parent, are found first.
+fn whole<L: Ledger>(
+    alloc: Global,
+    space: &Space<'_>,
+    blank: Blank,
+) -> Result<Layout, AllocError>
+    requires name { blank.name ≡ L.name }
+    requires parts { blank.parts ≡ L.parts }
+    requires some { 0 < blank.parts }
+    ensures fits { IfOk result (λ l. Fits (space_of space.now) l) }
+    ensures steps { IfOk result (λ l. steps_of l ≡ capped (space_work (space_of space.now))) }
+{
+    let mut work = Ticks::<L>::new(blank);
+    let parent = match space.parent() {
+        Some(parent) => Some(by_itself(alloc, parent, &mut work)?),
+        None => None,
+    };
+    beside(alloc, space, parent, &mut work)
+}
+
+/// The extents of a space without a parent, to be shared.
+fn by_itself<L: Ledger>(
+    alloc: Global,
+    space: Space<'_>,
+    work: &mut Ticks<L>,
+) -> Result<Rc<Extents>, AllocError>
+    requires { (space_of space).parent ≡ None }
+    ensures right { IfOk result (λ rc. AreExtents (space_of space.entry) rc.value.entries.items) }
+    ensures work { OnOk result (work.new
+        ≡ work.old + types_work (space_of space.entry).own.terms) }
+{
+    let source = Source {
+        space,
+        parent: None,
+    };
+    let extents = Extents::build(alloc, &source, work)?;
+    Ok(Rc::new(alloc, extents)?)
+}
+
+/// The layout of a space in a ledger of its own, beside a shared parent's.
+fn beside_shared<L: Ledger>(
+    alloc: Global,
+    space: &Space<'_>,
+    parent: Option<Rc<Extents>>,
+    blank: Blank,
+) -> Result<Layout, AllocError>
+    requires over { OverParent (space_of space.now)
+        (option_map (λ rc. rc.value.entries.items) parent) }
+    requires name { blank.name ≡ L.name }
+    requires parts { blank.parts ≡ L.parts }
+    requires some { 0 < blank.parts }
+    ensures fits { IfOk result (λ l. Fits (space_of space.now) l) }
+    ensures steps { IfOk result (λ l. steps_of l
+        ≡ capped (types_work (space_of space.now).own.terms)) }
+{
+    let mut work = Ticks::<L>::new(blank);
+    beside(alloc, space, parent, &mut work)
+}
+
+impl Layout {
+    /// The layout of a space. In a space with a parent those of the parent's types are found too.
+    pub fn build(alloc: Global, space: &Space<'_>) -> Result<Layout, AllocError>
+        ensures fits { IfOk result (λ l. Fits (space_of space.now) l) }
+        ensures steps { IfOk result (λ l. steps_of l ≡ capped (space_work (space_of space.now))) }
+        ensures bounded { IfOk result (λ l. steps_of l ≤ space_size (space_of space.now)) }
+    {
+        whole::<Brand>(alloc, space, Blank::new(1))
+    }
+
+    /// The layout of a space over the parent whose own layout this is. It shares the parent's
+    /// numbers, and finds those of the own types alone.
+    pub fn over(
+        alloc: Global,
+        space: &Space<'_>,
+        parent: &Layout,
+    ) -> Result<Layout, AllocError>
+        requires { ForSome (space_of space.now).parent
+            (λ p. Fits (parent_alone (space_of space.now) p) parent.now) }
+        ensures fits { IfOk result (λ l. Fits (space_of space.now) l) }
+        ensures steps { IfOk result (λ l. steps_of l
+            ≡ capped (types_work (space_of space.now).own.terms)) }
+        ensures bounded { IfOk result (λ l. steps_of l
+            ≤ types_and_members (space_of space.now).own.terms) }
+    {
+        let shared = match space.parent() {
+            Some(_) => Some(parent.own.clone()?),
+            None => None,
+        };
+        beside_shared::<Brand>(alloc, space, shared, Blank::new(1))
+    }
+
+    /// What it cost to build: one for each type that was begun, and one for each member that was
+    /// read.
+    pub fn steps(&self) -> u64
+        ensures { result ≡ steps_of self.now }
+    {
+        self.steps
+    }
+
+    /// The size and the alignment of what a number names.
+    fn extent(&self, number: TypeNum) -> Extent
+        ensures { (s : WholeSpace) → Fits s self.now → IsExtent s number.0 result }
+    {
+        if number.0 == 0 {
+            return neither(Refusal::Incomplete);
+        }
+        match number.place(self.child) {
+            Place::Own(i) => self.own.at(i),
+            Place::Parents(i) => match &self.parent {
+                Some(parent) => parent.at(i),
+                None => neither(Refusal::NoParent),
+            },
+            Place::Nowhere => neither(Refusal::NoType),
+        }
+    }
+
+    /// The size in bytes of a value of the type that a number names. It takes constant time.
+    pub fn size(&self, number: TypeNum) -> Result<u64, Fault>
+        ensures { (s : WholeSpace) → Fits s self.now → result ≡ size_of s number.0 }
+    {
+        self.extent(number).size.get()
+    }
+
+    /// The alignment in bytes of the type that a number names. It takes constant time.
+    pub fn align(&self, number: TypeNum) -> Result<u64, Fault>
+        ensures { (s : WholeSpace) → Fits s self.now → result ≡ align_of s number.0 }
+    {
+        self.extent(number).align.get()
+    }
+}
