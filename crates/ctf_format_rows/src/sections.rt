@@ -144,6 +144,29 @@ fn finds_names(rt: HostRuntime) {
 }
 
 #[test]
+fn finds_short_names(rt: HostRuntime) {
+    let both = Strings::new(b"\0int\0tail", Some(b"\0elf\0"));
+    let rows: [(u32, usize, Option<&[u8]>); 9] = [
+        (0, 0, Some(b"")),
+        (1, 2, None),
+        (1, 3, Some(b"int")),
+        (1, usize::MAX, Some(b"int")),
+        (4, 0, Some(b"")),
+        (5, 4, None),
+        (5, usize::MAX, None),
+        (0x8000_0001, 2, None),
+        (0x8000_0001, 4, Some(b"elf")),
+    ];
+    for (reference, most, name) in rows {
+        assert_eq!(rt;
+            both.short_name(reference, most),
+            name,
+            "of {most} bytes, at {reference}"
+        );
+    }
+}
+
+#[test]
 fn reads_numbers(rt: HostRuntime) {
     let bytes = b"\x01\x02\x03\x04\x05";
     assert_eq!(rt; (u16_at(bytes, 1), u32_at(bytes, 1)), (0x0302, 0x0504_0302));

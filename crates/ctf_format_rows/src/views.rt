@@ -105,6 +105,51 @@ fn shows_members_by_the_size(rt: HostRuntime) {
 
 #[test]
 #[tactic(auto, unfolding(ctf_model::specs::Section::front_len, ctf_model::specs::Spelling::term_of, ctf_model::specs::Bytes::number))]
+fn finds_narrow_members(rt: HostRuntime) {
+    let types = b"\x00\x00\x00\x00\x04\x34\x10\x00\
+        \x04\x00\x00\x00\x05\x00\x00\x00\
+        \x01\x00\x00\x00\x06\x00\x08\x00\
+        \x01\x00\x00\x00\x07\x00\x10\x00\
+        \x00\x00\x00\x00\x08\x00\x18\x00";
+    let strings = Strings::new(b"\x00ab\x00abc\x00", None);
+    let Some(Variant::Members(mut members)) = shown(types, strings) else {
+        panic!(rt; "it is a struct")
+    };
+    assert_eq!(rt;
+        members.named(b"abc"),
+        member(b"abc", 5, 0),
+        "the first of all"
+    );
+    assert_eq!(rt;
+        members.named(b"ab"),
+        member(b"ab", 6, 8),
+        "the first of two"
+    );
+    assert_eq!(rt; members.named(b""), member(b"", 8, 24), "the unnamed one");
+    assert_eq!(rt; members.named(b"a"), None, "a beginning of a name");
+    assert_eq!(rt; members.named(b"abcd"), None, "a name and more");
+    assert_eq!(rt; members.named(b"bc"), None, "an end of a name");
+    assert_eq!(rt; members.next(), member(b"abc", 5, 0));
+    assert_eq!(rt; members.named(b"abc"), None, "one that is not left");
+}
+
+#[test]
+#[tactic(auto, unfolding(ctf_model::specs::Section::front_len, ctf_model::specs::Spelling::term_of, ctf_model::specs::Bytes::number))]
+fn finds_wide_members(rt: HostRuntime) {
+    let types = b"\x00\x00\x00\x00\x02\x38\x00\x20\
+        \x01\x00\x00\x00\x05\x00\xff\xff\x01\x00\x00\x00\x07\x00\x00\x00\
+        \x03\x00\x00\x80\x06\x00\x00\x00\x00\x00\x00\x00\x00\x00\x01\x00";
+    let strings = Strings::new(b"\x00a\x00", Some(b"\x00a\x00b\x00"));
+    let Some(Variant::Members(members)) = shown(types, strings) else {
+        panic!(rt; "it is a union")
+    };
+    assert_eq!(rt; members.named(b"a"), member(b"a", 5, 0x1_0000_0007));
+    assert_eq!(rt; members.named(b"b"), member(b"b", 6, 0x1_0000));
+    assert_eq!(rt; members.named(b""), None);
+}
+
+#[test]
+#[tactic(auto, unfolding(ctf_model::specs::Section::front_len, ctf_model::specs::Spelling::term_of, ctf_model::specs::Bytes::number))]
 fn shows_enumerators(rt: HostRuntime) {
     let types = b"\x00\x00\x00\x00\x03\x40\x04\x00\
         \x01\x00\x00\x00\xff\xff\xff\xff\

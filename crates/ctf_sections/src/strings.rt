@@ -1,6 +1,7 @@
 //! The two tables that names stand in, and the names that references name there.
-ghost use Rattle.std.specs.Prelude.{◌≡◌, Some, option_copied};
-ghost use Rattle.ctf_model.specs.Name.{name as named, text_at};
+ghost use Rattle.std.specs.Prelude.{◌≡◌, ◌+◌, Some, option_copied, take};
+ghost use Rattle.ctf_model.specs.Name.{name as named, table as table_of, text_at};
+ghost use Rattle.ctf_sections.specs.ShortNames.{if_short};
 
 use memchr::memchr;
 
@@ -20,6 +21,27 @@ fn text(table: &[u8], offset: usize) -> Option<&[u8]>
     Some(&rest[..len])
 }
 
+/// The front of some bytes: `most` and one more, or all where they are fewer.
+fn front(bytes: &[u8], most: usize) -> &[u8]
+    ensures { result.now ≡ take (most + 1) bytes.now }
+{
+    if most < bytes.len() {
+        &bytes[..most + 1]
+    } else {
+        bytes
+    }
+}
+
+/// The text at an offset, if it has at most `most` bytes. It reads one byte more at most.
+fn short_text(table: &[u8], offset: usize, most: usize) -> Option<&[u8]>
+    ensures { option_copied result ≡ if_short most (text_at (Some table.now) offset) }
+{
+    let rest = table.get(offset..)?;
+    let front = front(rest, most);
+    let len = memchr(0, front)?;
+    Some(&front[..len])
+}
+
 impl<'a> Strings<'a> {
     ghost use Rattle.ctf_sections.specs.StringsView.{tables};
 
@@ -30,8 +52,18 @@ impl<'a> Strings<'a> {
         Strings { internal, elf }
     }
 
-    /// The name of a reference, lent from the table that its bit 31 picks (ctf(5), "String
-    /// Identifiers").
+    /// The table that bit 31 of a reference picks (ctf(5), "String Identifiers").
+    fn table(&self, reference: u32) -> Option<&'a [u8]>
+        ensures { option_copied result ≡ table_of (tables self.now) reference }
+    {
+        if reference >> 31 == 0 {
+            Some(self.internal)
+        } else {
+            self.elf
+        }
+    }
+
+    /// The name of a reference, lent from the table that its bit 31 picks.
     pub fn name(&self, reference: u32) -> Option<&'a [u8]>
         ensures { option_copied result ≡ named (tables self.now) reference }
     {
@@ -39,11 +71,18 @@ impl<'a> Strings<'a> {
         if offset == 0 {
             return Some(&[]);
         }
-        let table = if reference >> 31 == 0 {
-            self.internal
-        } else {
-            self.elf?
-        };
+        let table = self.table(reference)?;
         text(table, offset)
+    }
+
+    /// The name of a reference, if it has at most `most` bytes. It reads one byte more at most,
+    /// however long the name is.
+    pub fn short_name(&self, reference: u32, most: usize) -> Option<&'a [u8]>
+        ensures { option_copied result ≡ if_short most (named (tables self.now) reference) }
+    {
+        match (reference & 0x7fff_ffff) as usize {
+            0 => Some(&[]),
+            offset => short_text(self.table(reference)?, offset, most),
+        }
     }
 }

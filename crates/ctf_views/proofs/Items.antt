@@ -145,6 +145,18 @@ module _ {A : Type 0} (item : List ℕ → Option A) (len n : ℕ) (b : List ℕ
   pub count_is : n ≡ length s
   count_is = sym (items_in_length item len n b inv) ∙ ap length seen
 
+  inside_count : (i : ℕ) → i < length s → i < n
+  inside_count i lt = let many = count_is in omega arith
+
+  pub row_starts : (k i : ℕ) → k ≡ len → i < length s → k * i ≤ length b
+  row_starts k i e lt = rw e (row item len n i b inv (inside_count i lt)).start
+
+  pub row_long : (k i : ℕ) (r : List ℕ) → k ≡ len → i < length s → r ≡ drop (k * i) b → len ≤ length r
+  row_long k i r e lt f = rw (placed b r k len i f e) (row item len n i b inv (inside_count i lt)).long
+
+  pub row_reads : (k i : ℕ) (r : List ℕ) → k ≡ len → i < length s → r ≡ drop (k * i) b → item r ≡ slice_get s i
+  row_reads k i r e lt f = rw (placed b r k len i f e) (items_at item len n i b (items_in item len n b) (items_in_is item len n b inv) (inside_count i lt) ∙ ap (λ (l : List A). slice_get l i) seen)
+
   pub none_left : n ≡ 0 → (s ≡ []) × (s ≡ [])
   none_left e = let none = sym seen ∙ items_in_none item len n b e in (none, none)
 

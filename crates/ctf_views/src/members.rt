@@ -1,5 +1,7 @@
 //! The members of a struct or union.
-ghost use Rattle.std.specs.Prelude.{◌≡◌};
+ghost use Rattle.std.specs.Prelude.{◌≡◌, ◌≤◌, ◌<◌, length, IsSome, Some, bytes_eq, slice_get};
+ghost use Rattle.std.specs.Option.{option_map};
+ghost use Rattle.ctf_model.specs.Paths.{member_named};
 ghost use Rattle.ctf_model.specs.Record.{member_len as len_of_member};
 ghost use Rattle.ctf_model.specs.Spelling.{member_of};
 ghost use Rattle.ctf_sections.specs.StringsView.{tables};
@@ -41,6 +43,19 @@ pub struct MemberRow<'a> {
     pub(crate) strings: Strings<'a>,
 }
 
+impl<'a> MemberRow<'a> {
+    /// Whether the member that begins some bytes has a name. Of the member's own name it reads no
+    /// more than one byte beyond that length.
+    fn is_named(&self, bytes: &[u8], name: &[u8]) -> bool
+        requires inside { len_of_member self.now.size ≤ length bytes.now }
+        requires good { IsSome (member_of self.now.size (tables self.now.strings) bytes.now) }
+        ensures { Some result ≡ option_map (λ m. bytes_eq name.now m.name)
+            (member_of self.now.size (tables self.now.strings) bytes.now) }
+    {
+        self.strings.short_name(u32_at(bytes, 0), name.len()) == Some(name)
+    }
+}
+
 impl<'a> Row for MemberRow<'a> {
     type Item = Member<'a>;
 
@@ -71,3 +86,29 @@ impl<'a> Row for MemberRow<'a> {
 
 /// The members of a struct or union that are left.
 pub type Members<'a> = Rows<'a, MemberRow<'a>>;
+
+impl<'a> Rows<'a, MemberRow<'a>> {
+    /// Whether the member with a number, from 0, has a name.
+    fn is_named(&self, index: usize, name: &[u8]) -> bool
+        requires { index < length self.now }
+        ensures { Some result
+            ≡ option_map (λ m. bytes_eq name.now m.name) (slice_get self.now index) }
+    {
+        let (row, bytes) = self.row_at(index);
+        row.is_named(bytes, name)
+    }
+
+    /// The first member with a name; the empty name is that of each unnamed one. Of the members'
+    /// names it reads no more than one byte beyond that length, however long they are.
+    #[tactic(auto, using(crate::proofs::Named::named_here, crate::proofs::Named::named_later, crate::proofs::Named::named_nowhere))]
+    pub fn named(&self, name: &[u8]) -> Option<Member<'a>>
+        ensures { option_map member result ≡ member_named name.now self.now }
+    {
+        for index in 0..self.len() {
+            if self.is_named(index, name) {
+                return self.get(index);
+            }
+        }
+        None
+    }
+}

@@ -55,6 +55,15 @@ impl<'a, R: Row> Rows<'a, R> {
         Rows { bytes, count, row }
     }
 
+    /// How the item with a number is read, and the bytes that it begins.
+    pub(crate) fn row_at(&self, index: usize) -> (R, &'a [u8])
+        requires { index < length self.now }
+        ensures inside { R.row_len result.0 ≤ length result.1.now }
+        ensures item { R.item_of result.0 result.1.now ≡ slice_get self.now index }
+    {
+        (self.row, from_row(self.bytes, self.row.len(), index))
+    }
+
     /// The item with a number, from 0.
     #[tactic(auto, using(crate::proofs::Items::none_past))]
     pub fn get(&self, index: usize) -> Option<R::Item>
