@@ -746,7 +746,8 @@ const UNIONS: [(&str, &str); 6] = [
 fn put_byte(out: &mut Vec<u8>, byte: u8) -> Result<(), AllocError> {
     let digits = b"0123456789abcdef";
     out.push(digits[usize::from(byte / 16)])?;
-    out.push(digits[usize::from(byte % 16)])
+    out.push(digits[usize::from(byte % 16)])?;
+    Ok(())
 }
 
 /// A dictionary of an integer and 512 unions, 2 to 513, each with two members without a name, of
