@@ -200,8 +200,8 @@ fn enumerators(value: &Value) -> Option<TypeQuestion>
 }
 
 fn path(alloc: Global, value: &Value) -> Result<Option<TypeQuestion>, AllocError>
-    ensures { IfOk result
-        (λ question. question ≡ option_map (λ names. about.Path names) (names_asked (view value.now))) }
+    ensures { IfOk result (λ question. question
+        ≡ option_map (λ names. about.Path names) (names_asked (view value.now))) }
 {
     match names_under(alloc, value)? {
         Some(names) => Ok(Some(TypeQuestion::Path(names))),

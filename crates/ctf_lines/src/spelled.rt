@@ -118,8 +118,8 @@ fn short_list(names: Vec<Piece>) -> Option<Names>
 
 /// The names that values spell, if each spells one and they are no more than a request may bring.
 pub fn names(alloc: Global, values: &[Value]) -> Result<Option<Names>, AllocError>
-    ensures { IfOk result
-        (λ names. names ≡ option_and_then not_too_many_names (names_spelled (items_view values.now))) }
+    ensures { IfOk result (λ names. names
+        ≡ option_and_then not_too_many_names (names_spelled (items_view values.now))) }
 {
     let mut names = Vec::with_capacity(alloc, values.len())?;
     for value in values {
