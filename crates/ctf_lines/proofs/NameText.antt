@@ -1,7 +1,7 @@
 -- How long a name's text is.
 use Rattle.std.proofs.Common.{◌≡◌, ℕ, ◌+◌, ◌≤◌, refl, List, [], ◌∷◌, length, true, false, length-append, arith, lit≤}
 use Rattle.std.specs.Prelude.{◌/◌, ◌%◌, if◌then◌else◌}
-use Rattle.ctf_model.specs.Text.{is_plain, hex_digit, text_of_byte, text_of, hex_of_byte, hex_of}
+use Rattle.ctf_model.specs.Text.{is_plain, hex_digit, text_of_byte, text_of, hex_of}
 
 text_of_byte-some : (b : ℕ) → 1 ≤ length (text_of_byte b)
 text_of_byte-some b = elim (is_plain b) as (λ t. 1 ≤ length (if t then b ∷ [] else 0x5c ∷ 0x5c ∷ 0x78 ∷ hex_digit (b / 16) ∷ hex_digit (b % 16) ∷ [])) [ true ↦ lit≤ tt | false ↦ lit≤ tt ]

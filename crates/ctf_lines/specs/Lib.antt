@@ -1,2 +1,3 @@
 pub mod Commas
 pub mod Appending
+pub mod Fronts

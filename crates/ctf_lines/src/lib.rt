@@ -8,6 +8,7 @@ mod no_memory;
 mod reading;
 mod series;
 mod singles;
+mod spelled;
 mod texts;
 mod writing;
 

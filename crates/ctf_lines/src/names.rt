@@ -6,7 +6,7 @@ ghost use Rattle.ctf_lines.specs.Appending.{HasRoom, Appended, and_text};
 use crate::texts::{TOO_LONG, plus, put};
 
 /// Whether a byte stands as itself.
-fn is_plain(byte: u8) -> bool
+pub fn is_plain(byte: u8) -> bool
     ensures { result ≡ is_plain_byte byte }
 {
     0x20 <= byte && byte <= 0x7e && byte != b'"' && byte != b'\\'

@@ -1,17 +1,17 @@
 //! Reads the request of a line.
 ghost use Rattle.std.specs.Prelude.{◌≡◌, ◌≢◌, ◌≤◌, IfSome, Option, None, Some, IfOk, IfErr, Ok, Err, codes, option_map};
 ghost use Rattle.serde_json.specs.View.{view};
-ghost use Rattle.ctf_model.specs.Ask.{ask, number_in, text_in, list_named, bytes_spelled, not_too_many, slot_under as slot_named, slot_in, type_in, close_asked, import_asked, about_type as type_question_asked, from_asked, count_asked, window_asked, part_asked, word_asked, asked_with, request_asked, value_asked};
+ghost use Rattle.ctf_model.specs.Ask.{ask, number_in, text_in, list_named, slot_under as slot_named, slot_in, type_in, close_asked, import_asked, about_type as type_question_asked, from_asked, count_asked, window_asked, names_asked, part_asked, word_asked, asked_with, request_asked, value_asked};
 ghost use Rattle.ctf_model.specs.Refusals.{placeless};
 ghost use Rattle.ctf_model.specs.declared.faults.TheConstants.Fault.{MEMORY};
 ghost use Rattle.ctf_model.specs.declared.questions.TypeQuestion.TheVariants as about;
 
 use crate::lines::FromLine;
+use crate::spelled::{names, piece};
 use ctf_model::{
-    Change, Fault, LONGEST_PIECE, ListName, Piece, Question, Request, SlotNumber, TypeNum,
-    TypeQuestion, Window, Word, placeless,
+    Change, Fault, ListName, Names, Question, Request, SlotNumber, TypeNum, TypeQuestion, Window,
+    Word, placeless,
 };
-use hex::FromHexError;
 use serde_json::Value;
 use std::alloc::{AllocError, Global};
 
@@ -115,6 +115,10 @@ fn read_word(alloc: Global, value: &Value, word: Word) -> Result<Option<Request>
         Word::DoArray => Ok(about_type(value, Some(TypeQuestion::Array))),
         Word::DoEncoding => Ok(about_type(value, Some(TypeQuestion::Encoding))),
         Word::DoReference => Ok(about_type(value, Some(TypeQuestion::Reference))),
+        Word::DoResolve => Ok(about_type(value, Some(TypeQuestion::Resolve))),
+        Word::DoSize => Ok(about_type(value, Some(TypeQuestion::Size))),
+        Word::DoAlign => Ok(about_type(value, Some(TypeQuestion::Align))),
+        Word::DoPath => Ok(about_type(value, path(alloc, value)?)),
     }
 }
 
@@ -195,6 +199,29 @@ fn enumerators(value: &Value) -> Option<TypeQuestion>
     Some(TypeQuestion::Enumerators(window(value)?))
 }
 
+fn path(alloc: Global, value: &Value) -> Result<Option<TypeQuestion>, AllocError>
+    ensures { IfOk result (λ question. question
+        ≡ option_map (λ names. about.Path names) (names_asked (view value.now))) }
+{
+    match names_under(alloc, value)? {
+        Some(names) => Ok(Some(TypeQuestion::Path(names))),
+        None => Ok(None),
+    }
+}
+
+/// The names of a field.
+fn names_under(alloc: Global, value: &Value) -> Result<Option<Names>, AllocError>
+    ensures { IfOk result (λ names. names ≡ names_asked (view value.now)) }
+{
+    let Some(list) = value.get("names") else {
+        return Ok(None);
+    };
+    match list.as_array() {
+        Some(values) => names(alloc, values),
+        None => Ok(None),
+    }
+}
+
 /// A question on a type of a slot, where its own fields are good.
 fn about_type(value: &Value, question: Option<TypeQuestion>) -> Option<Request>
     ensures { result ≡ type_question_asked question (view value.now) }
@@ -218,17 +245,6 @@ fn list(name: &str) -> Option<ListName>
     }
 }
 
-/// The bytes that hexadecimal digits spell.
-fn piece(alloc: Global, digits: &str) -> Result<Option<Piece>, AllocError>
-    ensures { IfOk result (λ piece. piece ≡ bytes_spelled digits.now) }
-{
-    match hex::decode(alloc, digits) {
-        Ok(bytes) => Ok(short_piece(bytes)),
-        Err(FromHexError::OutOfMemory) => Err(AllocError),
-        Err(_) => Ok(None),
-    }
-}
-
 fn read_part(alloc: Global, value: &Value) -> Result<Option<Request>, AllocError>
     ensures { IfOk result (λ request. request ≡ part_asked (view value.now)) }
 {
@@ -244,16 +260,5 @@ fn read_part(alloc: Global, value: &Value) -> Result<Option<Request>, AllocError
     match piece(alloc, digits)? {
         Some(bytes) => Ok(Some(Request::Changes(Change::Part { section, bytes }))),
         None => Ok(None),
-    }
-}
-
-/// Bytes that are no more than a request may bring.
-fn short_piece(bytes: Vec<u8>) -> Option<Piece>
-    ensures { result ≡ not_too_many bytes.items }
-{
-    if bytes.len() <= LONGEST_PIECE {
-        Some(Piece::new(bytes))
-    } else {
-        None
     }
 }

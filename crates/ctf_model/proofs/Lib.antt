@@ -25,3 +25,4 @@ pub mod OwnTypes
 pub mod Settled
 pub mod FigureAsks
 pub mod BoundedValues
+pub mod TextReading

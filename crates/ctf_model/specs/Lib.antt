@@ -30,6 +30,7 @@ pub mod FigureRows
 pub mod Words
 pub mod Questions
 pub mod Text
+pub mod TextLaws
 pub mod Steps
 pub mod Runs
 pub mod FaultNames

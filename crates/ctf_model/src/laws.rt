@@ -16,6 +16,7 @@ ghost use Rattle.ctf_model.specs.Laws.{
   RecordsAreACut,
   SectionSpellsOneList,
 };
+ghost use Rattle.ctf_model.specs.TextLaws.{LinesHaveTheText, TextsAreReadBack};
 
 /// No whole record is the beginning of another.
 pub fn no_record_begins_another()
@@ -52,6 +53,12 @@ pub fn faultless_exactly_where_denoted()
 /// which library.
 pub fn keys_rise()
     ensures { KeysRise }
+{}
+
+/// A list of bytes is spelled by its own text: by what a line has for it, once JSON is read.
+pub fn texts_are_read_back()
+    ensures line { LinesHaveTheText }
+    ensures read { TextsAreReadBack }
 {}
 
 /// In a dictionary that breaks no rule the figure of each own type is what its rule says of the

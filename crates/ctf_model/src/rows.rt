@@ -3,7 +3,7 @@
 ghost use Rattle.ctf_model.specs.FigureRows.{FiguresAre, FiguresOverParents, PathsLead};
 ghost use Rattle.ctf_model.specs.KindRows.{KindsDenote, KindsHaveFaults};
 ghost use Rattle.ctf_model.specs.ParentRows.{ParentsAreImported, SlotsAreClosed};
-ghost use Rattle.ctf_model.specs.QuestionRows.{QuestionsAreAnswered, QuestionsAreLines};
+ghost use Rattle.ctf_model.specs.QuestionRows.{PathsAreLines, QuestionsAreAnswered, QuestionsAreLines, TextsSpell};
 ghost use Rattle.ctf_model.specs.Rows.{BytesDenote, BytesHaveFaults, LinesAsk, LinesSay, ListsAreLong, NumbersName, OutputIs, SessionRuns};
 
 /// What bytes of a few types denote.
@@ -34,6 +34,16 @@ pub fn questions_are_answered()
 /// How questions stand in lines, and their answers.
 pub fn questions_are_lines()
     ensures { QuestionsAreLines }
+{}
+
+/// Which names a line with `path` brings.
+pub fn paths_are_lines()
+    ensures { PathsAreLines }
+{}
+
+/// Which bytes a text spells.
+pub fn texts_spell()
+    ensures { TextsSpell }
 {}
 
 /// How long the lists behind heads are.

@@ -14,6 +14,8 @@ mod dictionaries;
 #[cfg(test)]
 mod failures;
 #[cfg(test)]
+mod figures;
+#[cfg(test)]
 mod first_run;
 #[cfg(test)]
 mod kinds;

@@ -1,8 +1,9 @@
 //! Lines that are read as requests, word by word.
 
 use ctf_lines::FromLine;
-use ctf_model::{Change, ListName, Question, Request, TypeQuestion, Window};
+use ctf_model::{Change, ListName, Names, Question, Request, TypeQuestion, Window};
 use std::alloc::Global;
+use std::test::Fail;
 
 /// A request with its word, the slot and the type that it is about, and the window that it asks for.
 #[derive(Clone, Copy, Debug, PartialEq, Eq)]
@@ -53,16 +54,20 @@ fn change_said(change: &Change) -> Said {
     }
 }
 
-fn question_said(question: TypeQuestion) -> (&'static str, Option<Window>) {
+fn question_said(question: &TypeQuestion) -> (&'static str, Option<Window>) {
     match question {
         TypeQuestion::Kind => ("kind", None),
         TypeQuestion::Record => ("record", None),
-        TypeQuestion::Members(window) => ("members", Some(window)),
-        TypeQuestion::Enumerators(window) => ("enumerators", Some(window)),
+        TypeQuestion::Members(window) => ("members", Some(*window)),
+        TypeQuestion::Enumerators(window) => ("enumerators", Some(*window)),
         TypeQuestion::Args => ("args", None),
         TypeQuestion::Array => ("array", None),
         TypeQuestion::Encoding => ("encoding", None),
         TypeQuestion::Reference => ("reference", None),
+        TypeQuestion::Resolve => ("resolve", None),
+        TypeQuestion::Size => ("size", None),
+        TypeQuestion::Align => ("align", None),
+        TypeQuestion::Path(_) => ("path", None),
     }
 }
 
@@ -73,7 +78,7 @@ fn describe(request: &Request) -> Said {
             d,
             question: Question::OfType { t, question },
         } => {
-            let (word, window) = question_said(*question);
+            let (word, window) = question_said(question);
             Said {
                 word,
                 about: Some((d.get(), t.0)),
@@ -136,6 +141,22 @@ fn questions_are_read(rt: HostRuntime) {
         (
             "{\"s\":1,\"op\":\"reference\",\"d\":8,\"t\":9}",
             about("reference", 8, 9),
+        ),
+        (
+            "{\"s\":1,\"op\":\"resolve\",\"d\":10,\"t\":11}",
+            about("resolve", 10, 11),
+        ),
+        (
+            "{\"s\":1,\"op\":\"size\",\"d\":12,\"t\":13}",
+            about("size", 12, 13),
+        ),
+        (
+            "{\"s\":1,\"op\":\"align\",\"d\":14,\"t\":15}",
+            about("align", 14, 15),
+        ),
+        (
+            "{\"s\":1,\"op\":\"path\",\"d\":16,\"t\":17,\"names\":[]}",
+            about("path", 16, 17),
         ),
     ] {
         assert_eq!(rt; read(rt.alloc(), line), Ok((1, want)), "at {line}");
@@ -207,6 +228,96 @@ fn windows_of_enumerators_are_read(rt: HostRuntime) {
     }
 }
 
+/// The field `names` of a line with `path`, and the names that it spells.
+const NAMES: [(&str, &[&[u8]]); 8] = [
+    ("[]", &[]),
+    ("[\"\"]", &[b""]),
+    ("[\"b\",\"i 1\"]", &[b"b", b"i 1"]),
+    ("[\" !#[]~\"]", &[b" !#[]~"]),
+    (
+        "[\"\\\\x00a\\\\xff\",\"\",\"\\\\x61\"]",
+        &[b"\x00a\xff", b"", b"a"],
+    ),
+    ("[\"\\\\x22\\\\x5c\\\\x7f\\\\x0a\"]", &[b"\"\\\x7f\n"]),
+    // What an escape spells isn't read again; JSON's own escapes are undone before.
+    ("[\"\\\\x5cx41\"]", &[b"\\x41"]),
+    ("[\"\\u0062\\u005cx41\"]", &[b"bA"]),
+];
+
+/// Whether these are the names.
+fn are(names: &Names, want: &[&[u8]]) -> bool {
+    let names = names.as_slice();
+    names.len() == want.len()
+        && names
+            .iter()
+            .zip(want)
+            .all(|(name, want)| name.as_slice() == *want)
+}
+
+/// Whether a line asks for a path by these names.
+fn asks_path(alloc: Global, line: &str, want: &[&[u8]]) -> bool {
+    match Request::read(alloc, line.as_bytes()) {
+        Ok(
+            (
+                1,
+                Request::Asks {
+                    d,
+                    question: Question::OfType {
+                        t,
+                        question: TypeQuestion::Path(names),
+                    },
+                },
+            ),
+        ) => { d.get() == 2 && t.0 == 3 && are(&names, want) }
+        _ => false,
+    }
+}
+
+#[test]
+fn names_are_read(rt: HostRuntime) -> Result<(), Fail> {
+    for (names, want) in NAMES {
+        let line = format!(in rt.alloc();
+            "{{\"s\":1,\"op\":\"path\",\"d\":2,\"t\":3,\"names\":{names}}}"
+        )?;
+        assert!(rt; asks_path(rt.alloc(), &line, want), "{names}");
+    }
+    Ok(())
+}
+
+/// Fields `names` that no line with `path` may have: no lists, and texts that spell no name.
+const NO_NAMES: [&str; 19] = [
+    "null",
+    "\"b\"",
+    "{\"b\":\"b\"}",
+    "1",
+    "[1]",
+    "[\"b\",null]",
+    "[[\"b\"]]",
+    "[\"\\\\\"]",
+    "[\"b\\\\\"]",
+    "[\"\\\\x\"]",
+    "[\"\\\\x4\"]",
+    "[\"\\\\x4g\"]",
+    "[\"\\\\x4A\"]",
+    "[\"\\\\X4a\"]",
+    "[\"\\\\n41\"]",
+    "[\"\\\"\"]",
+    "[\"\\n\"]",
+    "[\"\\u007f\"]",
+    "[\"b\",\"\\u00e9\"]",
+];
+
+#[test]
+fn names_are_refused(rt: HostRuntime) -> Result<(), Fail> {
+    for names in NO_NAMES {
+        let line = format!(in rt.alloc();
+            "{{\"s\":1,\"op\":\"path\",\"d\":2,\"t\":3,\"names\":{names}}}"
+        )?;
+        assert_eq!(rt; read(rt.alloc(), &line), Err((1, 58)), "at {line}");
+    }
+    Ok(())
+}
+
 /// Lines without a session that can be read, and what is wrong with them: 57 no JSON, 58 no request.
 const NO_SESSION: [(&str, u16); 7] = [
     ("", 57),
@@ -219,7 +330,7 @@ const NO_SESSION: [(&str, u16); 7] = [
 ];
 
 /// Lines of session 1 that are no requests.
-const NO_REQUEST: [&str; 16] = [
+const NO_REQUEST: [&str; 20] = [
     "{\"s\":1}",
     "{\"s\":1,\"op\":\"Open\"}",
     "{\"s\":1,\"op\":\"record\",\"d\":1}",
@@ -233,6 +344,10 @@ const NO_REQUEST: [&str; 16] = [
     "{\"s\":1,\"op\":\"members\",\"d\":1,\"t\":1,\"count\":null}",
     "{\"s\":1,\"op\":\"enumerators\",\"d\":1,\"t\":1,\"from\":4294967296}",
     "{\"s\":1,\"op\":\"enumerators\",\"d\":1,\"t\":1,\"count\":\"2\"}",
+    "{\"s\":1,\"op\":\"resolve\",\"t\":1}",
+    "{\"s\":1,\"op\":\"size\",\"d\":1}",
+    "{\"s\":1,\"op\":\"align\",\"d\":1,\"t\":65536}",
+    "{\"s\":1,\"op\":\"path\",\"d\":1,\"t\":1}",
     "{\"s\":1,\"op\":\"part\",\"section\":\"sym\",\"bytes\":\"\"}",
     "{\"s\":1,\"op\":\"part\",\"section\":\"ctf\",\"bytes\":\"0\"}",
     "{\"s\":1,\"op\":\"part\",\"section\":\"ctf\"}",

@@ -1,4 +1,4 @@
-use Rattle.std.proofs.Common.{◌≡◌, ◌<◌, ◌++◌, arith, ap, length, length-append, get_or, []}
+use Rattle.std.proofs.Common.{◌<◌, ◌++◌, arith, ap, length, length-append, get_or, []}
 use Rattle.ctf_lines.proofs.Separated.{first, first-next, first-within}
 use Rattle.ctf_lines.specs.Commas.{comma_before}
 use Rattle.ctf_lines.proofs.series.plus_series.Goals as goal

@@ -1,4 +1,4 @@
-use Rattle.std.proofs.Common.{◌≡◌, ◌<◌, ◌+◌, arith, ap, length, length-append, get_or, [], ◌++◌, append_assoc, sym, ◌∙◌, List, ℕ}
+use Rattle.std.proofs.Common.{◌≡◌, arith, ap, length, length-append, get_or, [], ◌++◌, append_assoc, sym, ◌∙◌, List, ℕ}
 use Rattle.ctf_lines.proofs.Separated.{first, first-next, first-room}
 use Rattle.ctf_lines.specs.Commas.{comma_before}
 use Rattle.ctf_lines.proofs.series.put_series.Goals as goal

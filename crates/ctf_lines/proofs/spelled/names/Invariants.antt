@@ -1,0 +1,12 @@
+use Rattle.std.proofs.Common.{◌≡◌, ◌≤◌, ◌++◌, drop, length, vec_len, vec_capacity}
+use Rattle.std.specs.Option.{option_map}
+use Rattle.serde_json.specs.View.{items_view}
+use Rattle.ctf_model.specs.Ask.{names_spelled}
+use Rattle.ctf_lines.proofs.spelled.names.Given as goal
+
+abbrev pub invariant-loop-value : goal.invariant-loop-value
+invariant-loop-value l = record {
+  spelled : names_spelled (items_view l.values) ≡ option_map (λ more. l.names.items ++ more) (names_spelled (items_view (drop l.value-index l.values)));
+  len : vec_len l.names ≡ l.value-index;
+  room : length l.values ≤ vec_capacity l.names;
+}

@@ -1,0 +1,132 @@
+//! Bytes that texts of a line spell: by hexadecimal digits, or as a name with its escapes.
+ghost use Rattle.std.specs.Prelude.{◌≡◌, ◌<◌, IfOk, IfSome, length, option_map, option_and_then};
+ghost use Rattle.serde_json.specs.View.{view, items_view};
+ghost use Rattle.ctf_model.specs.Ask.{bytes_spelled, not_too_many, not_too_many_names, name_spelled, names_spelled};
+ghost use Rattle.ctf_model.specs.Text.{digit_value as digit_value_of, byte_value as byte_value_of, bytes_spelled_by};
+ghost use Rattle.ctf_lines.specs.Fronts.{IsFront, escape as escape_of};
+
+use crate::names::is_plain;
+use ctf_model::{LONGEST_PIECE, Names, Piece};
+use hex::FromHexError;
+use serde_json::Value;
+use std::alloc::{AllocError, Global};
+
+/// The bytes that hexadecimal digits spell.
+pub fn piece(alloc: Global, digits: &str) -> Result<Option<Piece>, AllocError>
+    ensures { IfOk result (λ piece. piece ≡ bytes_spelled digits.now) }
+{
+    match hex::decode(alloc, digits) {
+        Ok(bytes) => Ok(short_piece(bytes)),
+        Err(FromHexError::OutOfMemory) => Err(AllocError),
+        Err(_) => Ok(None),
+    }
+}
+
+/// Bytes that are no more than a request may bring.
+fn short_piece(bytes: Vec<u8>) -> Option<Piece>
+    ensures { result ≡ not_too_many bytes.items }
+{
+    if bytes.len() <= LONGEST_PIECE {
+        Some(Piece::new(bytes))
+    } else {
+        None
+    }
+}
+
+/// The number of a digit, in lower case.
+fn digit_value(digit: u8) -> Option<u8>
+    ensures value { result ≡ digit_value_of digit }
+    ensures small { IfSome result (λ value. value < 16) }
+{
+    match digit {
+        b'0'..=b'9' => Some(digit - b'0'),
+        b'a'..=b'f' => Some(digit - 87),
+        _ => None,
+    }
+}
+
+/// The byte that two digits spell.
+fn byte_value(high: u8, low: u8) -> Option<u8>
+    ensures { result ≡ byte_value_of high low }
+{
+    let high = digit_value(high)?;
+    let low = digit_value(low)?;
+    Some(16 * high + low)
+}
+
+/// A byte that is escaped at the front of a text, and the text behind it.
+fn escape(text: &[u8]) -> Option<(u8, &[u8])>
+    ensures { option_map (λ split. (split.0, split.1.now)) result ≡ escape_of text.now }
+{
+    match text {
+        [b'\\', b'x', high, low, rest @ ..] => Some((byte_value(*high, *low)?, rest)),
+        _ => None,
+    }
+}
+
+/// The byte at the front of a text, and the text behind it.
+#[tactic(auto, using(crate::proofs::Fronts::plain_front, crate::proofs::Fronts::escape_front))]
+fn front(text: &[u8]) -> Option<(u8, &[u8])>
+    requires { 0 < length text.now }
+    ensures { IsFront text.now (option_map (λ split. (split.0, split.1.now)) result) }
+{
+    match text {
+        [byte, rest @ ..] if is_plain(*byte) => Some((*byte, rest)),
+        _ => escape(text),
+    }
+}
+
+/// The bytes that a text spells. It takes as many bytes of memory as the text has, at most.
+fn bytes_of(alloc: Global, text: &[u8]) -> Result<Option<Vec<u8>>, AllocError>
+    ensures { IfOk result (λ bytes. option_map (λ v. v.items) bytes ≡ bytes_spelled_by text.now) }
+{
+    let mut bytes = Vec::with_capacity(alloc, text.len())?;
+    let mut rest = text;
+    while !rest.is_empty() {
+        let Some((byte, behind)) = front(rest) else {
+            return Ok(None);
+        };
+        bytes.push_reserved(byte);
+        rest = behind;
+    }
+    Ok(Some(bytes))
+}
+
+/// The name that a value spells.
+fn name(alloc: Global, value: &Value) -> Result<Option<Piece>, AllocError>
+    ensures { IfOk result (λ name. name ≡ name_spelled (view value.now)) }
+{
+    let Some(text) = value.as_str() else {
+        return Ok(None);
+    };
+    match bytes_of(alloc, text.as_bytes())? {
+        Some(bytes) => Ok(short_piece(bytes)),
+        None => Ok(None),
+    }
+}
+
+/// Names that are no more than a request may bring.
+fn short_list(names: Vec<Piece>) -> Option<Names>
+    ensures { result ≡ not_too_many_names names.items }
+{
+    if names.len() <= LONGEST_PIECE {
+        Some(Names::new(names))
+    } else {
+        None
+    }
+}
+
+/// The names that values spell, if each spells one and they are no more than a request may bring.
+pub fn names(alloc: Global, values: &[Value]) -> Result<Option<Names>, AllocError>
+    ensures { IfOk result (λ names. names
+        ≡ option_and_then not_too_many_names (names_spelled (items_view values.now))) }
+{
+    let mut names = Vec::with_capacity(alloc, values.len())?;
+    for value in values {
+        match name(alloc, value)? {
+            Some(name) => names.push_reserved(name),
+            None => return Ok(None),
+        }
+    }
+    Ok(short_list(names))
+}
