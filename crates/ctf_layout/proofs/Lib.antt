@@ -6,3 +6,5 @@ pub mod Filled
 pub mod Tables
 pub mod Follow
 pub mod Few
+pub mod FoundMembers
+pub mod PathSteps

@@ -6,3 +6,4 @@ pub mod Kept
 pub mod Over
 pub mod Fitting
 pub mod Following
+pub mod Reached

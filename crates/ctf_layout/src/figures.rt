@@ -90,7 +90,7 @@ pub fn resolve(space: &Space<'_>, number: TypeNum) -> Result<TypeNum, Fault>
 }
 
 /// What a type refers to, by its shape.
-fn referred(x: Shape<'_>) -> Result<TypeNum, Fault>
+pub fn referred(x: Shape<'_>) -> Result<TypeNum, Fault>
     ensures { result_map_both (λ t. t.0) (λ f. f) result ≡ referred_of (shape_seen x.entry) }
 {
     match (x.behind, x.reference) {

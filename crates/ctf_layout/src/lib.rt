@@ -9,8 +9,12 @@ mod figures;
 mod filling;
 mod kept;
 mod layout;
+mod path_names;
+mod paths;
 mod source;
 mod types;
 
-pub use figures::{reference, resolve};
+pub use figures::{reference, referred, resolve};
 pub use layout::Layout;
+pub use path_names::PathName;
+pub use paths::path;

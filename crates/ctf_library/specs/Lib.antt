@@ -1,3 +1,4 @@
+pub mod SpaceOfLists
 pub mod SlotView
 pub mod Stepping
 pub mod SlotPlaces

@@ -1,11 +1,13 @@
 //! What questions on types of a dictionary are answered.
-ghost use Rattle.std.specs.Prelude.{◌≡◌, ◌≤◌, length, map, take, None, Some, Ok, Err, IfOk, option_map, option_and_then};
-ghost use Rattle.ctf_model.specs.Answers.{number, word};
-ghost use Rattle.ctf_model.specs.KindNames.{name_of_tag};
-ghost use Rattle.ctf_model.specs.Questions.{or_wrong_kind, list_fields, said_on, type_said, record_fields, member_fields, enumerator_fields, argument_fields, array_fields, encoding_fields, reference_said, number_item, is_variadic as ends_open, named_arguments};
+ghost use Rattle.std.specs.Prelude.{◌≡◌, ◌≤◌, [], ◌∷◌, codes, length, map, take, None, Some, Ok, Err, IfOk, option_map, option_and_then};
+ghost use Rattle.ctf_model.specs.Answers.{number, says, word};
+ghost use Rattle.ctf_model.specs.KindNames.{name_of_kind, name_of_tag};
+ghost use Rattle.ctf_model.specs.Questions.{or_wrong_kind, list_fields, said_on, type_said, record_fields, member_fields, enumerator_fields, argument_fields, array_fields, encoding_fields, as_fields, type_fields, size_fields, align_fields, position_fields, number_item, is_variadic as ends_open, named_arguments};
 ghost use Rattle.ctf_model.specs.Shown.{members_in, enumerators_in, arguments_in, array_in, encoding_in, list_length};
-ghost use Rattle.ctf_model.specs.Space.{space_type};
 ghost use Rattle.ctf_model.specs.Steps.{slot_said, slot_space};
+ghost use Rattle.std.specs.Result.{result_map_both};
+ghost use Rattle.ctf_layout.specs.Fitting.{Fits};
+ghost use Rattle.ctf_layout.specs.Reached.{position_of};
 ghost use Rattle.ctf_answers.specs.Items.{items_of};
 ghost use Rattle.ctf_answers.specs.Singles.{single_of};
 ghost use Rattle.ctf_check.specs.FactsView.{facts_seen};
@@ -16,7 +18,8 @@ ghost use Rattle.ctf_space.specs.SpaceView.{space_of};
 use crate::slots::Slot;
 use ctf_answers::{Answer, Items, Listed, Single, kind_name, tag_name};
 use ctf_check::Facts;
-use ctf_model::{Fault, Question, TypeNum, TypeQuestion, Window, placeless};
+use ctf_layout::{Layout, path, referred, resolve};
+use ctf_model::{Fault, Kind, Question, TypeNum, TypeQuestion, Window, placeless};
 use ctf_records::Tag;
 use ctf_space::Space;
 use ctf_views::{Args, Variant};
@@ -130,12 +133,44 @@ fn a_tag<'a>(tag: Option<Tag>) -> Option<Single<'a>>
     }
 }
 
-fn reference<'a>(x: Facts<'a>) -> Result<Answer<'a>, Fault>
-    ensures { result ≡ reference_said (facts_seen x.entry) }
+/// What the number of a type is answered as.
+fn type_answer<'a>(number: Result<TypeNum, Fault>) -> Result<Answer<'a>, Fault>
+    ensures { result ≡ as_fields type_fields (result_map_both (λ t. t.0) (λ f. f) number) }
 {
-    match (x.behind, x.reference) {
-        (Variant::Args(_), _) | (_, None) => Err(placeless(Fault::NOT_REFERENCE)),
-        (_, Some(t)) => Ok(Answer::done().with("t", Single::Number(u64::from(t.0)))),
+    match number {
+        Ok(t) => Ok(Answer::done().with("t", Single::Number(u64::from(t.0)))),
+        Err(fault) => Err(fault),
+    }
+}
+
+fn size_answer<'a>(size: Result<u64, Fault>) -> Result<Answer<'a>, Fault>
+    ensures { result ≡ as_fields size_fields size }
+{
+    match size {
+        Ok(size) => Ok(Answer::done().with("size", Single::Number(size))),
+        Err(fault) => Err(fault),
+    }
+}
+
+fn align_answer<'a>(align: Result<u64, Fault>) -> Result<Answer<'a>, Fault>
+    ensures { result ≡ as_fields align_fields align }
+{
+    match align {
+        Ok(align) => Ok(Answer::done().with("align", Single::Number(align))),
+        Err(fault) => Err(fault),
+    }
+}
+
+fn position_answer<'a>(at: Result<(u64, TypeNum), Fault>) -> Result<Answer<'a>, Fault>
+    ensures { result ≡ as_fields position_fields (result_map_both position_of (λ f. f) at) }
+{
+    match at {
+        Ok((offset, t)) => Ok(
+            Answer::done()
+                .with("offset", Single::Number(offset))
+                .with("t", Single::Number(u64::from(t.0))),
+        ),
+        Err(fault) => Err(fault),
     }
 }
 
@@ -185,37 +220,60 @@ fn record_of<'a>(x: Facts<'a>) -> Answer<'a>
     ensures { result ≡ record_fields (facts_seen x.entry) }
 {
     Answer::done()
-        .with("kind", Single::Word(kind_name(x.kind)))
+        .with("kind", Single::Word(kind_name(x.shape.kind)))
         .with("name", Single::Text(x.name))
         .with("root", Single::Truth(x.root))
-        .with_some("size", a_number(x.size))
-        .with_some("tag", a_tag(x.declares))
-        .with_some("type", a_type(x.reference))
-        .with("vlen", Single::Number(list_len(&x.behind) as u64))
+        .with_some("size", a_number(x.shape.size))
+        .with_some("tag", a_tag(x.shape.declares))
+        .with_some("type", a_type(x.shape.reference))
+        .with("vlen", Single::Number(list_len(&x.shape.behind) as u64))
 }
 
-/// What a question on a type is answered.
-fn answer_of<'a>(x: Facts<'a>, question: TypeQuestion) -> Result<Answer<'a>, Fault>
-    ensures { result ≡ said_on question (facts_seen x.entry) }
+fn kind<'a>(kind: Kind) -> Answer<'a>
+    ensures { result ≡ says (codes "kind") (word (name_of_kind kind)) ∷ [] }
+{
+    Answer::done().with("kind", Single::Word(kind_name(kind)))
+}
+
+/// What a question is answered on a type that a number names, and that says this of itself.
+fn answer_of<'a>(
+    x: Facts<'a>,
+    space: &Space<'a>,
+    layout: &Layout,
+    t: TypeNum,
+    question: &TypeQuestion,
+) -> Result<Answer<'a>, Fault>
+    requires { Fits (space_of space.now) layout.now }
+    ensures { result ≡ said_on question.now (space_of space.now) t.0 (facts_seen x.entry) }
 {
     match question {
-        TypeQuestion::Kind => Ok(Answer::done().with("kind", Single::Word(kind_name(x.kind)))),
+        TypeQuestion::Kind => Ok(kind(x.shape.kind)),
         TypeQuestion::Record => Ok(record_of(x)),
-        TypeQuestion::Members(window) => members(x.behind, window),
-        TypeQuestion::Enumerators(window) => enumerators(x.behind, window),
-        TypeQuestion::Args => arguments(x.behind, x.reference),
-        TypeQuestion::Array => array(x.behind),
-        TypeQuestion::Encoding => encoding(x.behind),
-        TypeQuestion::Reference => reference(x),
+        TypeQuestion::Members(window) => members(x.shape.behind, *window),
+        TypeQuestion::Enumerators(window) => enumerators(x.shape.behind, *window),
+        TypeQuestion::Args => arguments(x.shape.behind, x.shape.reference),
+        TypeQuestion::Array => array(x.shape.behind),
+        TypeQuestion::Encoding => encoding(x.shape.behind),
+        TypeQuestion::Reference => type_answer(referred(x.shape)),
+        TypeQuestion::Resolve => type_answer(resolve(space, t)),
+        TypeQuestion::Size => size_answer(layout.size(t)),
+        TypeQuestion::Align => align_answer(layout.align(t)),
+        TypeQuestion::Path(names) => position_answer(path(space, t, names.as_slice())),
     }
 }
 
 /// What a question on a type of a space is answered.
-fn answer_on<'a>(space: &Space<'a>, t: TypeNum, question: TypeQuestion) -> Result<Answer<'a>, Fault>
-    ensures { result ≡ type_said question (space_type (space_of space.now) t.0) }
+fn answer_on<'a>(
+    space: &Space<'a>,
+    layout: &Layout,
+    t: TypeNum,
+    question: &TypeQuestion,
+) -> Result<Answer<'a>, Fault>
+    requires { Fits (space_of space.now) layout.now }
+    ensures { result ≡ type_said question.now (space_of space.now) t.0 }
 {
     match space.term(t) {
-        Ok(found) => answer_of(found.facts(), question),
+        Ok(found) => answer_of(found.facts(), space, layout, t, question),
         Err(fault) => Err(fault),
     }
 }
@@ -225,9 +283,7 @@ impl Slot {
 
     /// What its questions see.
     fn space(&self) -> Space<'_>
-        ensures { space_of result ≡ record (slot_space (slot_of self.now)) {
-          model = self.now.dictionary.value.model;
-        } }
+        ensures { space_of result ≡ slot_space (slot_of self.now) }
     {
         let own = self.dictionary.view();
         let model = self.dictionary.model();
@@ -243,7 +299,7 @@ impl Slot {
     {
         let space = self.space();
         match question {
-            Question::OfType { t, question } => answer_on(&space, *t, *question),
+            Question::OfType { t, question } => answer_on(&space, &self.layout, *t, question),
         }
     }
 }

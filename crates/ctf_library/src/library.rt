@@ -6,7 +6,10 @@ ghost use Rattle.ctf_model.specs.Refusals.{want_of_memory};
 ghost use Rattle.ctf_model.specs.State.{empty_state};
 ghost use Rattle.ctf_model.specs.Steps.{answer_to, fault_over, is_quiet, is_quiet_change, MayAnswer};
 ghost use Rattle.ctf_answers.specs.Replies.{said};
+ghost use Rattle.ctf_layout.specs.Fitting.{Fits};
+ghost use Rattle.ctf_library.specs.SpaceOfLists.{space_of_lists};
 ghost use Rattle.ctf_library.specs.Stepping.{Does, Makes};
+ghost use Rattle.ctf_model.specs.declared.data_model.DataModel.TheVariants.{Lp64};
 
 use crate::places::{find_slot, push_slot, remove_slot, set_parent};
 use crate::slots::Slot;
@@ -15,8 +18,9 @@ use ctf_answers::{Answer, Counts};
 use ctf_model::{
     Change, DataModel, Fault, ListName, Parts, Question, SlotNumber, no_parts, placeless,
 };
+use ctf_layout::Layout;
 use ctf_space::{Opened, Space};
-use std::alloc::Global;
+use std::alloc::{AllocError, Global};
 use std::marker::Model;
 use std::mem;
 use std::rc::Rc;
@@ -53,31 +57,57 @@ impl Model for Library {
         × (rise_between 0 l.slots.items l.next ≡ true) };
 }
 
-/// A dictionary of lists, to be shared, or its first fault with the lists.
-fn opened(alloc: Global, parts: Parts) -> Result<Rc<Opened>, (Fault, Parts)>
+/// A dictionary of lists, to be shared, with its layout, or its first fault with the lists.
+fn opened(alloc: Global, parts: Parts) -> Result<(Rc<Opened>, Layout), (Fault, Parts)>
     requires no_symbols { parts.sym ≡ None }
-    ensures ok { IfOk result (λ o. o.value.lists ≡ lists_owned parts) }
+    ensures ok { IfOk result (λ o. (o.0.value.lists ≡ lists_owned parts)
+        × (o.0.value.model ≡ Lp64)) }
+    ensures laid { IfOk result (λ o. Fits (space_of_lists o.0.value.lists None) o.1) }
     ensures exact_ok { OnOk result (first_fault (lists_owned parts) ≡ None) }
     ensures exact_err { IfErr result (λ e. (e.0 ≡ want_of_memory)
         ⊎ (first_fault (lists_owned parts) ≡ Some e.0)) }
     ensures back { IfErr result (λ e. lists_owned e.1 ≡ lists_owned parts) }
 {
-    match Opened::build(alloc, parts, DataModel::Lp64) {
-        Ok(dictionary) => match Rc::new(alloc, dictionary) {
-            Ok(shared) => Ok(shared),
+    let dictionary = match Opened::build(alloc, parts, DataModel::Lp64) {
+        Ok(dictionary) => dictionary,
+        Err(refused) => return Err(refused),
+    };
+    match layout_of(alloc, &dictionary) {
+        Ok(layout) => match Rc::new(alloc, dictionary) {
+            Ok(shared) => Ok((shared, layout)),
             Err(failed) => Err((placeless(Fault::MEMORY), failed.value.into_parts())),
         },
-        Err(refused) => Err(refused),
+        Err(AllocError) => Err((placeless(Fault::MEMORY), dictionary.into_parts())),
     }
 }
 
-/// The fault of one dictionary as the parent of another.
-fn over(child: &Opened, parent: &Opened) -> Option<Fault>
-    ensures { result ≡ fault_over child.now.lists parent.now.lists }
+/// The layout of a dictionary without a parent.
+fn layout_of(alloc: Global, dictionary: &Opened) -> Result<Layout, AllocError>
+    requires { dictionary.now.model ≡ Lp64 }
+    ensures { IfOk result (λ l. Fits (space_of_lists dictionary.now.lists None) l) }
 {
-    match Space::over(child.view(), parent.view(), child.model()) {
-        Ok(_) => None,
-        Err(fault) => Some(fault),
+    let space = Space::own(dictionary.view(), dictionary.model());
+    Layout::build(alloc, &space)
+}
+
+/// The layout of the dictionary of one slot over that of another as its parent, or the fault of
+/// such an import.
+fn laid_over(alloc: Global, child: &Slot, parent: &Slot) -> Result<Layout, Fault>
+    ensures ok { IfOk result (λ l. Fits (space_of_lists child.now.dictionary.value.lists
+        (Some parent.now.dictionary.value.lists)) l) }
+    ensures exact_ok { OnOk result (fault_over child.now.dictionary.value.lists
+        parent.now.dictionary.value.lists ≡ None) }
+    ensures exact_err { IfErr result (λ f. (f ≡ want_of_memory)
+        ⊎ (fault_over child.now.dictionary.value.lists parent.now.dictionary.value.lists
+        ≡ Some f)) }
+{
+    let model = child.dictionary.model();
+    match Space::over(child.dictionary.view(), parent.dictionary.view(), model) {
+        Ok(space) => match Layout::over(alloc, &space, &parent.layout) {
+            Ok(layout) => Ok(layout),
+            Err(AllocError) => Err(placeless(Fault::MEMORY)),
+        },
+        Err(fault) => Err(fault),
     }
 }
 
@@ -149,10 +179,10 @@ impl Library {
         }
         let parts = mem::replace(&mut self.stage, no_parts(self.alloc));
         match opened(self.alloc, parts) {
-            Ok(dictionary) => {
+            Ok((dictionary, layout)) => {
                 let number = self.next as u32;
                 let types = dictionary.view().count() as u64;
-                push_slot(&mut self.slots, number, dictionary);
+                push_slot(&mut self.slots, number, dictionary, layout);
                 self.next += 1;
                 Ok(Counts::two("d", u64::from(number), "types", types))
             }
@@ -200,13 +230,14 @@ impl Library {
         let Some(source) = find_slot(&self.slots, parent) else {
             return Err(placeless(Fault::NO_SLOT));
         };
-        if let Some(fault) = over(&child.dictionary, &source.dictionary) {
-            return Err(fault);
-        }
+        let layout = match laid_over(self.alloc, child, source) {
+            Ok(layout) => layout,
+            Err(fault) => return Err(fault),
+        };
         let Ok(dictionary) = source.dictionary.clone() else {
             return Err(placeless(Fault::MEMORY));
         };
-        set_parent(&mut self.slots, d, dictionary);
+        set_parent(&mut self.slots, d, dictionary, layout);
         Ok(Counts::done())
     }
 

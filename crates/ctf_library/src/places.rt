@@ -1,12 +1,16 @@
 //! Slots by their numbers.
-ghost use Rattle.std.specs.Prelude.{◌≡◌, ◌<◌, ◌+◌, ◌++◌, ◌∷◌, [], ℕ, true, map, option_map, option_copied, IfNone, IfSome, None, vec_len, vec_capacity};
+ghost use Rattle.std.specs.Prelude.{◌≡◌, ◌<◌, ◌+◌, ◌++◌, ◌∷◌, [], ℕ, true, map, option_map, option_copied, IfNone, IfSome, None, Some, vec_len, vec_capacity};
 ghost use Rattle.ctf_model.specs.Steps.{fault_over, slot_at, slots_with_parent, slots_without};
 ghost use Rattle.std.specs.List.Sorted.{IsNonDecreasingBy};
 ghost use Rattle.ctf_library.specs.SlotOrder.{rise_between};
 ghost use Rattle.ctf_library.specs.SlotPlaces.{place_of};
+ghost use Rattle.ctf_layout.specs.Fitting.{Fits};
 ghost use Rattle.ctf_library.specs.SlotView.{slot_of};
+ghost use Rattle.ctf_library.specs.SpaceOfLists.{space_of_lists};
+ghost use Rattle.ctf_model.specs.declared.data_model.DataModel.TheVariants.{Lp64};
 
 use crate::slots::Slot;
+use ctf_layout::Layout;
 use ctf_space::Opened;
 use std::rc::Rc;
 
@@ -36,9 +40,11 @@ pub fn find_slot(slots: &[Slot], number: u32) -> Option<&Slot>
     }
 }
 
-/// A new slot for a dictionary, behind the others, where room was made for it.
-pub fn push_slot(slots: &mut Vec<Slot>, number: u32, dictionary: Rc<Opened>)
-    requires { vec_len slots.old < vec_capacity slots.old }
+/// A new slot for a dictionary with its layout, behind the others, where room was made for it.
+pub fn push_slot(slots: &mut Vec<Slot>, number: u32, dictionary: Rc<Opened>, layout: Layout)
+    requires room { vec_len slots.old < vec_capacity slots.old }
+    requires model { dictionary.value.model ≡ Lp64 }
+    requires laid { Fits (space_of_lists dictionary.value.lists None) layout }
     ensures slots { map slot_of slots.new.items ≡ map slot_of slots.old.items
         ++ record { number = number; lists = dictionary.value.lists; parent = None } ∷ [] }
     ensures rise { rise_between 0 slots.old.items number ≡ true
@@ -48,6 +54,7 @@ pub fn push_slot(slots: &mut Vec<Slot>, number: u32, dictionary: Rc<Opened>)
         number,
         dictionary,
         parent: None,
+        layout,
     });
 }
 
@@ -67,11 +74,13 @@ pub fn remove_slot(slots: &mut Vec<Slot>, number: u32) -> Option<Slot>
     }
 }
 
-/// Gives the slot of a number a parent that serves it.
-pub fn set_parent(slots: &mut Vec<Slot>, number: u32, parent: Rc<Opened>)
+/// Gives the slot of a number a parent that serves it, and its layout over that.
+pub fn set_parent(slots: &mut Vec<Slot>, number: u32, parent: Rc<Opened>, layout: Layout)
     requires order { IsNonDecreasingBy (λ s. s.number) slots.old.items }
     requires fits { IfSome (slot_at number (map slot_of slots.old.items))
         (λ slot. fault_over slot.lists parent.value.lists ≡ None) }
+    requires laid { IfSome (slot_at number (map slot_of slots.old.items))
+        (λ slot. Fits (space_of_lists slot.lists (Some parent.value.lists)) layout) }
     ensures slots { map slot_of slots.new.items
         ≡ slots_with_parent number parent.value.lists (map slot_of slots.old.items) }
     ensures rise { (next : ℕ) → rise_between 0 slots.old.items next ≡ true
@@ -79,5 +88,6 @@ pub fn set_parent(slots: &mut Vec<Slot>, number: u32, parent: Rc<Opened>)
 {
     if let Some(place) = find_place(slots, number) {
         slots[place].parent = Some(parent);
+        slots[place].layout = layout;
     }
 }

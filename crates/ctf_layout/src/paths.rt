@@ -1,0 +1,96 @@
+//! Where a member of a member lies.
+ghost use Rattle.std.specs.Prelude.{◌≡◌, map, option_map};
+ghost use Rattle.std.specs.Result.{result_map_both};
+ghost use Rattle.ctf_layout.specs.Reached.{position_of, spot};
+ghost use Rattle.ctf_model.specs.Paths.{member_position, members_found, path as path_to, step_to as stepped};
+ghost use Rattle.ctf_model.specs.Space.{space_type};
+ghost use Rattle.ctf_space.specs.SpaceView.{space_of};
+ghost use Rattle.ctf_views.specs.ItemsView.{member as shown_member};
+
+use crate::figures::resolve;
+use crate::path_names::PathName;
+use ctf_model::{Fault, TypeNum, placeless};
+use ctf_space::Space;
+use ctf_views::{Member, Members, Variant};
+
+/// How far a path has come: how many bits lie in front, and the type that is declared there.
+#[derive(Clone, Copy)]
+pub(crate) struct Reached {
+    offset: u64,
+    tnum: TypeNum,
+}
+
+/// The members of the struct or union that a number names.
+fn members<'a>(space: &Space<'a>, number: TypeNum) -> Option<Members<'a>>
+    ensures { result ≡ members_found (space_type (space_of space.now) number.0) }
+{
+    match space.term(number) {
+        Ok(found) => match found.variant() {
+            Variant::Members(members) => Some(members),
+            _ => None,
+        },
+        Err(_) => None,
+    }
+}
+
+/// A member behind an offset, if it is there and its place can be said.
+fn behind(step: u64, offset: u64, member: Option<Member<'_>>) -> Result<Reached, Fault>
+    ensures { result_map_both spot (λ f. f) result
+        ≡ member_position step offset (option_map shown_member member.entry) }
+{
+    let Some(member) = member else {
+        return Err(Fault {
+            code: Fault::NO_MEMBER,
+            place: step,
+        });
+    };
+    match offset.checked_add(member.offset) {
+        Some(offset) => Ok(Reached {
+            offset,
+            tnum: member.tnum,
+        }),
+        None => Err(placeless(Fault::TOO_BIG)),
+    }
+}
+
+/// One step of a path: to the first member with a name.
+fn step_to(space: &Space<'_>, step: u64, name: &[u8], at: Reached) -> Result<Reached, Fault>
+    ensures { result_map_both spot (λ f. f) result
+        ≡ stepped (space_of space.now) step name.now (spot at) }
+{
+    let number = match resolve(space, at.tnum) {
+        Ok(number) => number,
+        Err(fault) => return Err(fault),
+    };
+    match members(space, number) {
+        Some(members) => behind(step, at.offset, members.named(name)),
+        None => Err(Fault {
+            code: Fault::NOT_AGGREGATE,
+            place: step,
+        }),
+    }
+}
+
+/// Where the member lies that names lead to, from a type on: how many bits lie in front of it, and
+/// its type as it is declared. Each step takes the first member with its name, and looks into no
+/// unnamed member; no name leads to the beginning of the type itself.
+pub fn path<N: PathName>(
+    space: &Space<'_>,
+    number: TypeNum,
+    names: &[N],
+) -> Result<(u64, TypeNum), Fault>
+    ensures { result_map_both position_of (λ f. f) result
+        ≡ path_to (space_of space.now) number.0 (map N.bytes_of names.now) }
+{
+    let mut at = Reached {
+        offset: 0,
+        tnum: number,
+    };
+    for step in 0..names.len() {
+        match step_to(space, step as u64, names[step].bytes(), at) {
+            Ok(next) => at = next,
+            Err(fault) => return Err(fault),
+        }
+    }
+    Ok((at.offset, at.tnum))
+}
