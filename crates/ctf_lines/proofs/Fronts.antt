@@ -8,7 +8,7 @@ use Rattle.ctf_model.specs.Text.{is_plain, byte_value, plain_byte, and_bytes, by
 use Rattle.ctf_lines.specs.Fronts.{escape, IsFront}
 
 -- a plain byte spells itself
-pub plain_front : (c : ℕ) (text : List ℕ) → is_plain c ≡ true → IsFront (c ∷ text) (Some (c, text))
+plain_front : (c : ℕ) (text : List ℕ) → is_plain c ≡ true → IsFront (c ∷ text) (Some (c, text))
 plain_front c text h = (omega arith, plain_spells c text h)
 
 either_way : (t : Bool) (v : Option ℕ) (whole text : List ℕ) (other : Option (List ℕ)) → other ≡ None → length text < length whole → bytes_spelled_by whole ≡ (if t then and_bytes v (bytes_spelled_by text) else other) → IsFront whole (if t then option_map (λ b. (b, text)) v else None)

@@ -65,7 +65,7 @@ fn escape(text: &[u8]) -> Option<(u8, &[u8])>
 }
 
 /// The byte at the front of a text, and the text behind it.
-#[tactic(auto, using(crate::proofs::Fronts::plain_front, crate::proofs::Fronts::escape_front))]
+#[tactic(auto, using(crate::proofs::Fronts::escape_front))]
 fn front(text: &[u8]) -> Option<(u8, &[u8])>
     requires { 0 < length text.now }
     ensures { IsFront text.now (option_map (λ split. (split.0, split.1.now)) result) }
