@@ -1,3 +1,4 @@
 pub mod SaidOfFacts
 pub mod Numbered
 pub mod Rising
+pub mod Importing

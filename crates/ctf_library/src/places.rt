@@ -87,7 +87,8 @@ pub fn set_parent(slots: &mut Vec<Slot>, number: u32, parent: Rc<Opened>, layout
         → rise_between 0 slots.new.items next ≡ true }
 {
     if let Some(place) = find_place(slots, number) {
-        slots[place].parent = Some(parent);
-        slots[place].layout = layout;
+        let slot = &mut slots[place];
+        slot.parent = Some(parent);
+        slot.layout = layout;
     }
 }
