@@ -17,3 +17,4 @@ pub use graph::Graph;
 pub use search::{LONGEST_CHAIN, first_deep};
 pub use starts::{Starts, record_started, record_starts};
 pub use ticks::Ticks;
+pub use types::Types;
