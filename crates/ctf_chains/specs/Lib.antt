@@ -4,3 +4,4 @@ pub mod Places
 pub mod Search
 pub mod Starts
 pub mod Steps
+pub mod TypesView

@@ -6,6 +6,7 @@ ghost use Rattle.ctf_model.specs.Section.{records, terms_in};
 ghost use Rattle.ctf_chains.specs.Deep.{IsLeastDeepType};
 ghost use Rattle.ctf_chains.specs.Starts.{starts_in};
 ghost use Rattle.ctf_chains.specs.Steps.{AreSpelled, steps, steps_work};
+ghost use Rattle.ctf_chains.specs.TypesView.{chain_in, is_child, records_in};
 
 use crate::chain::Chain;
 use crate::search::first_deep;
@@ -32,54 +33,45 @@ pub fn first_deep_type(
     ensures least { IfOk result (λ found. IsLeastDeepType chain child (records types.now) found) }
     ensures inside { IfOk result (λ found. IfSome found (λ i. i < length (records types.now))) }
 {
-    first_deep_with::<Brand>(alloc, types, starts, child, chain, Blank::new(1))
+    let types = Types::new(types, starts, child, chain);
+    first_deep_with::<Brand>(alloc, &types, Blank::new(1))
 }
 
 /// The same in a ledger of its own, which nobody reads.
 fn first_deep_with<L: Ledger>(
     alloc: Global,
-    types: &[u8],
-    starts: &Starts,
-    child: bool,
-    chain: Chain,
+    types: &Types<'_>,
     blank: Blank,
 ) -> Result<Option<usize>, AllocError>
-    requires whole { walk_fault (records types.now) ≡ None }
-    requires starts { starts.now ≡ starts_in (records types.now) }
     requires name { blank.name ≡ L.name }
     requires parts { blank.parts ≡ L.parts }
     requires some { 0 < blank.parts }
-    ensures least { IfOk result (λ found. IsLeastDeepType chain child (records types.now) found) }
-    ensures inside { IfOk result (λ found. IfSome found (λ i. i < length (records types.now))) }
+    ensures least { IfOk result (λ found.
+        IsLeastDeepType (chain_in types.now) (is_child types.now) (records_in types.now) found) }
+    ensures inside { IfOk result (λ found. IfSome found (λ i. i < length (records_in types.now))) }
 {
     let mut work = Ticks::<L>::new(blank);
-    first_deep_counted(alloc, types, starts, child, chain, &mut work)
+    first_deep_counted(alloc, types, &mut work)
 }
 
 /// The same, with what it costs in `work`: a tick for each record that is opened, and one for each
 /// type number that is read.
+///
+/// It is handed nothing of the section but what `Types` shows by ticks.
 pub fn first_deep_counted<L: Ledger>(
     alloc: Global,
-    types: &[u8],
-    starts: &Starts,
-    child: bool,
-    chain: Chain,
+    types: &Types<'_>,
     work: &mut Ticks<L>,
 ) -> Result<Option<usize>, AllocError>
-    requires whole { walk_fault (records types.now) ≡ None }
-    requires starts { starts.now ≡ starts_in (records types.now) }
-    ensures least { IfOk result (λ found. IsLeastDeepType chain child (records types.now) found) }
-    ensures inside { IfOk result (λ found. IfSome found (λ i. i < length (records types.now))) }
-    ensures work { (t : Tables) → AreSpelled t (records types.now)
-        → work.new ≤ work.old + steps_work (steps chain) (terms_in t (records types.now)) }
-    ensures once { result ≡ Ok None → (t : Tables) → AreSpelled t (records types.now)
-        → work.new ≡ work.old + steps_work (steps chain) (terms_in t (records types.now)) }
+    ensures least { IfOk result (λ found.
+        IsLeastDeepType (chain_in types.now) (is_child types.now) (records_in types.now) found) }
+    ensures inside { IfOk result (λ found. IfSome found (λ i. i < length (records_in types.now))) }
+    ensures work { (t : Tables) → AreSpelled t (records_in types.now)
+        → work.new ≤ work.old
+        + steps_work (steps (chain_in types.now)) (terms_in t (records_in types.now)) }
+    ensures once { result ≡ Ok None → (t : Tables) → AreSpelled t (records_in types.now)
+        → work.new ≡ work.old
+        + steps_work (steps (chain_in types.now)) (terms_in t (records_in types.now)) }
 {
-    let graph = Types {
-        bytes: types,
-        starts: starts.as_slice(),
-        child,
-        chain,
-    };
-    first_deep(alloc, &graph, work)
+    first_deep(alloc, types, work)
 }

@@ -18,3 +18,4 @@ pub use place::place_number;
 pub use search::{LONGEST_CHAIN, first_deep};
 pub use starts::{Starts, record_started, record_starts};
 pub use ticks::Ticks;
+pub use types::Types;

@@ -10,20 +10,40 @@ ghost use Rattle.ctf_records.specs.RecordView.{bytes_of};
 use crate::chain::Chain;
 use crate::graph::Graph;
 use crate::place::{own_index, place_count, place_number};
-use crate::starts::record_started;
+use crate::starts::{Starts, record_started};
 use crate::ticks::Ticks;
 use ctf_records::Record;
 use std::sync::ledger::Ledger;
 
-/// The types of a section, and the steps of one sort between them.
+/// The types of a section, and the steps of one sort between them. Whoever has only this can see
+/// nothing of the section but by ticks.
 #[derive(Clone, Copy)]
-pub(crate) struct Types<'a> {
-    pub(crate) bytes: &'a [u8],
-    pub(crate) starts: &'a [u32],
-    pub(crate) child: bool,
-    pub(crate) chain: Chain,
+pub struct Types<'a> {
+    bytes: &'a [u8],
+    starts: &'a [u32],
+    child: bool,
+    chain: Chain,
     ghost whole: { walk_fault (records bytes.now) ≡ None },
     ghost begin: { starts.now ≡ starts_in (records bytes.now) },
+}
+
+impl<'a> Types<'a> {
+    ghost use Rattle.ctf_chains.specs.TypesView.{chain_in, is_child, records_in};
+
+    pub fn new(bytes: &'a [u8], starts: &'a Starts, child: bool, chain: Chain) -> Types<'a>
+        requires whole { walk_fault (records bytes.now) ≡ None }
+        requires starts { starts.now ≡ starts_in (records bytes.now) }
+        ensures records { records_in result ≡ records bytes.now }
+        ensures child { is_child result ≡ child }
+        ensures chain { chain_in result ≡ chain }
+    {
+        Types {
+            bytes,
+            starts: starts.as_slice(),
+            child,
+            chain,
+        }
+    }
 }
 
 impl<'a, L: Ledger> Graph<L> for Types<'a> {

@@ -2,10 +2,9 @@
 ghost use Rattle.std.specs.Prelude.{◌≡◌, ◌<◌, IfSome, None, length};
 ghost use Rattle.ctf_model.specs.Faults.{walk_fault};
 ghost use Rattle.ctf_model.specs.Section.{records};
-ghost use Rattle.ctf_chains.specs.Starts.{starts_in};
 
 use ctf_chains::{
-    Chain, Graph, Starts, Ticks, first_deep, first_deep_counted, first_deep_type, record_started,
+    Chain, Graph, Ticks, Types, first_deep, first_deep_counted, first_deep_type, record_started,
     record_starts,
 };
 use ctf_records::Records;
@@ -94,7 +93,7 @@ impl Section {
         Ok(())
     }
 
-    /// So many records of a kind, each of which leads to the next; the first has the number `first`.
+    /// So many records of a kind, each leading to the next; the first has the number `first`.
     fn line(&mut self, kind: u16, count: u16, first: u16) -> Result<(), AllocError> {
         for i in 0..count {
             self.head(kind, 0, first.wrapping_add(i).wrapping_add(1))?;
@@ -121,20 +120,15 @@ fn whole_count(types: &[u8]) -> Option<usize>
 /// The same search, with the number of its ticks, in a ledger that no type stands for before.
 fn counted<L: Ledger>(
     alloc: Global,
-    types: &[u8],
-    starts: &Starts,
-    child: bool,
-    chain: Chain,
+    types: &Types<'_>,
     blank: Blank,
 ) -> Result<(Option<usize>, u64), AllocError>
-    requires whole { walk_fault (records types.now) ≡ None }
-    requires starts { starts.now ≡ starts_in (records types.now) }
     requires name { blank.name ≡ L.name }
     requires parts { blank.parts ≡ L.parts }
     requires some { 0 < blank.parts }
 {
     let mut work = Ticks::<L>::new(blank);
-    let found = first_deep_counted(alloc, types, starts, child, chain, &mut work)?;
+    let found = first_deep_counted(alloc, types, &mut work)?;
     Ok((found, work.count()))
 }
 
@@ -152,7 +146,8 @@ fn first(
     };
     assert!(rt; types.len() < 0x1_0000_0000);
     let starts = record_starts(alloc, types, count)?;
-    let found = counted::<Brand>(alloc, types, &starts, child, chain, Blank::new(1))?;
+    let graph = Types::new(types, &starts, child, chain);
+    let found = counted::<Brand>(alloc, &graph, Blank::new(1))?;
     assert_eq!(rt;
         first_deep_type(alloc, types, &starts, child, chain)?,
         found.0
@@ -428,9 +423,13 @@ impl<L: Ledger> Graph<L> for Rows {
     ghost use Rattle.std.specs.Prelude.{map, nat_lt, if◌then◌else◌, Some};
     ghost use Rattle.ctf_chains.specs.Places.{places_at};
 
-    ghost places = { λ s. map (λ row. map (λ j. if nat_lt j (length s.rows.items) then Some j else None) row.items) s.rows.items };
+    ghost places = { λ s. map
+        (λ row. map (λ j. if nat_lt j (length s.rows.items) then Some j else None) row.items)
+        s.rows.items };
 
-    ghost places_of = { λ s i. places_at (map (λ row. map (λ j. if nat_lt j (length s.rows.items) then Some j else None) row.items) s.rows.items) i };
+    ghost places_of = { λ s i. places_at (map
+        (λ row. map (λ j. if nat_lt j (length s.rows.items) then Some j else None) row.items)
+        s.rows.items) i };
 
     fn len(&self) -> usize {
         self.rows.len()

@@ -8,8 +8,6 @@ pub use parts::joined;
 #[cfg(test)]
 mod chains;
 #[cfg(test)]
-mod check;
-#[cfg(test)]
 mod model;
 #[cfg(test)]
 mod records;

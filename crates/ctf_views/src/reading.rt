@@ -20,8 +20,8 @@ use ctf_sections::Strings;
 /// The parts of the type that a record spells, apart from its head.
 pub fn variant<'a>(record: &Record<'a>, strings: Strings<'a>) -> Variant<'a>
     requires { IsSome (term_of (tables strings) (bytes_of «record».now)) }
-    ensures { option_map (λ x. shown x.body) (term_of (tables strings.entry) (bytes_of «record».now))
-        ≡ Some (seen result) }
+    ensures { option_map (λ x. shown x.body)
+        (term_of (tables strings.entry) (bytes_of «record».now)) ≡ Some (seen result) }
 {
     let rest = record.rest();
     let count = record.vlen();

@@ -13,7 +13,8 @@ const VERSION: &str = "0.2.0";
 /// The commands that there are.
 fn command<'a>(alloc: Global) -> Result<Command<'a>, AllocError> {
     let serve = Command::new(alloc, "serve").about(
-        "Answers requests on standard input, one JSON line each, with one line each on standard output",
+        "Answers requests on standard input, one JSON line each, \
+        with one line each on standard output",
     );
     Command::new(alloc, "ctfd")
         .version(VERSION)

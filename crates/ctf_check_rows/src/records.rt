@@ -1,6 +1,6 @@
 //! Where a section stops being records, and how many it may have.
 
-use super::inputs::{INT, LABELLED, alone, changed, fault_in, fault_of};
+use crate::inputs::{INT, LABELLED, alone, changed, fault_in, fault_of};
 use ctf_model::Fault;
 use std::test::Fail;
 

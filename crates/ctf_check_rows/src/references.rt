@@ -1,6 +1,6 @@
 //! Which types a type may name.
 
-use super::inputs::{fault_in, put_head};
+use crate::inputs::{fault_in, put_head};
 use ctf_model::Fault;
 use std::test::Fail;
 

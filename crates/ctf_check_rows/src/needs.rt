@@ -1,6 +1,6 @@
 //! Which types of its parent a child needs.
 
-use super::inputs::{dictionary, put_head};
+use crate::inputs::{dictionary, put_head};
 use ctf_check::check;
 use std::alloc::{AllocError, Global};
 use std::test::Fail;

@@ -1,5 +1,6 @@
 //! How the tests write dictionaries.
 
+use crate::framed;
 use ctf_check::{LentLists, check};
 use std::alloc::{AllocError, Global};
 
@@ -61,15 +62,13 @@ pub fn dictionary(
     types: &[u8],
     strings: &[u8],
 ) -> Result<Vec<u8>, AllocError> {
-    let mut ctf = Vec::new(alloc);
-    ctf.extend_from_slice(b"\xf1\xcf\x02\x00\x00\x00\x00\x00")?;
-    ctf.extend_from_slice(&parname.to_le_bytes())?;
-    ctf.extend_from_slice(&[0; 16])?;
-    ctf.extend_from_slice(&length_bytes(types.len()))?;
-    ctf.extend_from_slice(&length_bytes(strings.len()))?;
-    ctf.extend_from_slice(types)?;
-    ctf.extend_from_slice(strings)?;
-    Ok(ctf)
+    let mut header = Vec::new(alloc);
+    header.extend_from_slice(b"\xf1\xcf\x02\x00\x00\x00\x00\x00")?;
+    header.extend_from_slice(&parname.to_le_bytes())?;
+    header.extend_from_slice(&[0; 16])?;
+    header.extend_from_slice(&length_bytes(types.len()))?;
+    header.extend_from_slice(&length_bytes(strings.len()))?;
+    framed(alloc, &header, types, strings)
 }
 
 /// Adds the head of a record without a name: kind, root flag and length of the list, and the field.

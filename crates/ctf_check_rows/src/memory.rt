@@ -1,8 +1,9 @@
 //! Want of memory.
 //!
-//! With `rt try --test --fail-alloc N` these tests hold for every N: they say what may then be answered.
+//! With `rt try --test --fail-alloc N` these tests hold for every N: they say what may then be
+//! answered.
 
-use super::inputs::{INT, alone, changed, fault_of};
+use crate::inputs::{INT, alone, changed, fault_of};
 use ctf_model::Fault;
 
 const WANT: Option<(u16, u64)> = Some((Fault::MEMORY, 0));

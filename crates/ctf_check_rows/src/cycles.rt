@@ -1,6 +1,6 @@
 //! Types that lead back to themselves.
 
-use super::inputs::{INTEGER, fault_in, put_head, put_member};
+use crate::inputs::{INTEGER, fault_in, put_head, put_member};
 use ctf_model::Fault;
 use std::test::Fail;
 

@@ -1,13 +1,29 @@
 //! Dictionaries typed by hand: which rule each breaks first, and what it answers.
+#![tactic(auto)]
 
+mod framing;
+
+pub use framing::framed;
+
+#[cfg(test)]
 mod answers;
+#[cfg(test)]
 mod chains;
+#[cfg(test)]
 mod cycles;
+#[cfg(test)]
 mod headers;
+#[cfg(test)]
 mod inputs;
+#[cfg(test)]
 mod memory;
+#[cfg(test)]
 mod names;
+#[cfg(test)]
 mod needs;
+#[cfg(test)]
 mod parts;
+#[cfg(test)]
 mod records;
+#[cfg(test)]
 mod references;

@@ -1,6 +1,6 @@
 //! How long a chain of types may be.
 
-use super::inputs::{INTEGER, fault_in, put_head, put_member};
+use crate::inputs::{INTEGER, fault_in, put_head, put_member};
 use ctf_model::Fault;
 use std::alloc::{AllocError, Global};
 use std::test::Fail;

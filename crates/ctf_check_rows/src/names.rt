@@ -1,6 +1,6 @@
 //! Names.
 
-use super::inputs::{INT, LABELLED, OUTER, alone, changed, dictionary, fault_in, fault_of};
+use crate::inputs::{INT, LABELLED, OUTER, alone, changed, dictionary, fault_in, fault_of};
 use ctf_check::LentLists;
 use ctf_model::Fault;
 use std::test::Fail;

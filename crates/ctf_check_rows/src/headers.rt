@@ -1,6 +1,6 @@
 //! Headers.
 
-use super::inputs::{INT, alone, changed, fault_of};
+use crate::inputs::{INT, alone, changed, fault_of};
 use ctf_model::Fault;
 
 #[test]

@@ -1,6 +1,6 @@
 //! What a dictionary that breaks no rule answers.
 
-use super::inputs::{EMPTY, INT, LABELLED, OUTER, changed};
+use crate::inputs::{EMPTY, INT, LABELLED, OUTER, changed};
 use ctf_check::{Checked, check};
 use ctf_model::Kind;
 use ctf_views::Variant;

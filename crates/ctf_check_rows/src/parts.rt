@@ -1,6 +1,6 @@
 //! Types of each kind, asked for one by one.
 
-use super::inputs::dictionary;
+use crate::inputs::dictionary;
 use ctf_check::check;
 use ctf_model::{Kind, TypeNum};
 use ctf_records::Tag;
