@@ -20,6 +20,8 @@ mod first_run;
 #[cfg(test)]
 mod kinds;
 #[cfg(test)]
+mod layouts;
+#[cfg(test)]
 mod long_replies;
 #[cfg(test)]
 mod marks;
