@@ -31,7 +31,7 @@ fn unions(alloc: Global, count: u16) -> Result<Vec<u8>, AllocError> {
         types.extend_from_slice(&[0, 0, 0, 0, low, high, 0, 0])?;
     }
     let mut ctf = Vec::new(alloc);
-    put_header(&mut ctf, 0, types.len() as u32, 5)?;
+    put_header(&mut ctf, 0, u32::from(count).wrapping_mul(24).wrapping_add(12), 5)?;
     ctf.extend_from_slice(&types)?;
     ctf.extend_from_slice(b"\0int\0")?;
     Ok(ctf)
