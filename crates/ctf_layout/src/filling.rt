@@ -77,7 +77,14 @@ fn extent<L: Ledger, T: Types<L>>(
                 None => elsewhere(types, number),
             };
             let size = row_amount(row, one.size);
-            keep(table, i, Extent { size, align: one.align })
+            keep(
+                table,
+                i,
+                Extent {
+                    size,
+                    align: one.align,
+                },
+            )
         }
         Basis::Members(size, read) => {
             let mut align = Amount::Known(0);
@@ -96,11 +103,7 @@ fn extent<L: Ledger, T: Types<L>>(
 }
 
 /// Finds the extents of all own types.
-pub fn fill<L: Ledger, T: Types<L>>(
-    types: &T,
-    table: &mut [Option<Extent>],
-    work: &mut Ticks<L>,
-)
+pub fn fill<L: Ledger, T: Types<L>>(types: &T, table: &mut [Option<Extent>], work: &mut Ticks<L>)
     requires same { length table.old ≡ length (T.space types.now).own.terms }
     requires empty { (j : ℕ) → entry table.old j ≡ None }
     requires bounded { HasBoundedValues (T.space types.now).own }

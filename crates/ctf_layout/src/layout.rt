@@ -73,11 +73,7 @@ fn beside<L: Ledger>(
 }
 
 /// The layout of a space whose parent's types, if it has a parent, are found first.
-fn whole<L: Ledger>(
-    alloc: Global,
-    space: &Space<'_>,
-    blank: Blank,
-) -> Result<Layout, AllocError>
+fn whole<L: Ledger>(alloc: Global, space: &Space<'_>, blank: Blank) -> Result<Layout, AllocError>
     requires name { blank.name ≡ L.name }
     requires parts { blank.parts ≡ L.parts }
     requires some { 0 < blank.parts }
@@ -143,11 +139,7 @@ impl Layout {
 
     /// The layout of a space over the parent whose own layout this is. It shares the parent's
     /// numbers, and finds those of the own types alone.
-    pub fn over(
-        alloc: Global,
-        space: &Space<'_>,
-        parent: &Layout,
-    ) -> Result<Layout, AllocError>
+    pub fn over(alloc: Global, space: &Space<'_>, parent: &Layout) -> Result<Layout, AllocError>
         requires { ForSome (space_of space.now).parent
             (λ p. Fits (parent_alone (space_of space.now) p) parent.now) }
         ensures fits { IfOk result (λ l. Fits (space_of space.now) l) }

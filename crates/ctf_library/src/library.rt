@@ -15,10 +15,10 @@ use crate::places::{find_slot, push_slot, remove_slot, set_parent};
 use crate::slots::Slot;
 use crate::staging::{add_first_piece, add_piece, judge};
 use ctf_answers::{Answer, Counts};
+use ctf_layout::Layout;
 use ctf_model::{
     Change, DataModel, Fault, ListName, Parts, Question, SlotNumber, no_parts, placeless,
 };
-use ctf_layout::Layout;
 use ctf_space::{Opened, Space};
 use std::alloc::{AllocError, Global};
 use std::marker::Model;

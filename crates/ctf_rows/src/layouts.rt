@@ -8,12 +8,7 @@ use std::alloc::{AllocError, Global};
 use std::test::Fail;
 
 /// The header of a dictionary with a section of types and one of names.
-fn put_header(
-    ctf: &mut Vec<u8>,
-    parname: u8,
-    types: u32,
-    names: u32,
-) -> Result<(), AllocError> {
+fn put_header(ctf: &mut Vec<u8>, parname: u8, types: u32, names: u32) -> Result<(), AllocError> {
     ctf.extend_from_slice(&[0xf1, 0xcf, 2, 0, 0, 0, 0, 0, parname, 0, 0, 0])?;
     ctf.extend_from_slice(&[0, 0, 0, 0, 0, 0, 0, 0, 0, 0, 0, 0, 0, 0, 0, 0])?;
     ctf.extend_from_slice(&types.to_le_bytes())?;
@@ -31,7 +26,12 @@ fn unions(alloc: Global, count: u16) -> Result<Vec<u8>, AllocError> {
         types.extend_from_slice(&[0, 0, 0, 0, low, high, 0, 0])?;
     }
     let mut ctf = Vec::new(alloc);
-    put_header(&mut ctf, 0, u32::from(count).wrapping_mul(24).wrapping_add(12), 5)?;
+    put_header(
+        &mut ctf,
+        0,
+        u32::from(count).wrapping_mul(24).wrapping_add(12),
+        5,
+    )?;
     ctf.extend_from_slice(&types)?;
     ctf.extend_from_slice(b"\0int\0")?;
     Ok(ctf)
@@ -61,8 +61,7 @@ fn child(alloc: Global) -> Result<Vec<u8>, AllocError> {
 }
 
 /// The dictionary of a list.
-fn opened(alloc: Global, ctf: Vec<u8>, model: DataModel) -> Result<Opened, AllocError>
-{
+fn opened(alloc: Global, ctf: Vec<u8>, model: DataModel) -> Result<Opened, AllocError> {
     let parts = Parts {
         ctf: Bytes::from(ctf),
         sym: None,
@@ -134,6 +133,9 @@ fn a_short_pointer(rt: HostRuntime) -> Result<(), Fail> {
     let dictionary = opened(rt.alloc(), child(rt.alloc())?, DataModel::Ilp32)?;
     let layout = Layout::build(rt.alloc(), &Space::own(dictionary.view(), DataModel::Ilp32))?;
     assert_eq!(rt; layout.size(TypeNum(0x8002)), Ok(4));
-    assert_eq!(rt; layout.size(TypeNum(0x8001)), Err(placeless(Fault::NO_PARENT)));
+    assert_eq!(rt;
+        layout.size(TypeNum(0x8001)),
+        Err(placeless(Fault::NO_PARENT))
+    );
     Ok(())
 }

@@ -29,8 +29,8 @@ returns-in-Itself g t c =
     let cost : c.args.work.now + 1 ≡ c.args.work.now + (1 + members_read (own_body s.own c.args.i)) = rw b.0 refl in
     rw (c.keep.ensures.same, c.keep.ensures.kept)
     (visited s c.args.budget c.args.i c.args.table.now c.args.table.now c.args.work.now (c.args.work.now + 1) c.basis.new.work c.in-Itself.extent
-      c.requires.within c.requires.own (omega arith) none cost (itself_extent s c.args.budget c.args.i c.in-Itself.extent at b)
-      (begun s c.args.i c.args.table.now (c.args.work.now + 1) c.basis.new.work c.requires.knows c.basis.ensures.tick))
+    c.requires.within c.requires.own (omega arith) none cost (itself_extent s c.args.budget c.args.i c.in-Itself.extent at b)
+    (begun s c.args.i c.args.table.now (c.args.work.now + 1) c.basis.new.work c.requires.knows c.basis.ensures.tick))
 
 -- ---- one type
 
@@ -60,15 +60,16 @@ returns-after-own_index g t c =
     let start : IsUnderway s c.args.i c.args.table.now c.args.table.now (c.args.work.now + 1) c.basis.new.work = begun s c.args.i c.args.table.now (c.args.work.now + 1) c.basis.new.work c.requires.knows c.basis.ensures.tick in
     let both : IsExtent s c.in-One.number.0 c.match-own_index.one × IsUnderway s c.args.i c.args.table.now c.match-own_index.table (c.args.work.now + 1) c.match-own_index.work = elim c.match-own_index.branch [
       | in-Some-own_index w ↦
-          let found = one_found s.own c.args.i c.in-One.number.0 w.in-Some-own_index.j b.1 (sym w.in-Some-own_index.is ∙ c.own_index.ensures) in
-          (rw w.one-is (at_number s c.in-One.number.0 w.in-Some-own_index.j w.extent-one.result found.2 w.extent-one.ensures.right),
-            rw (w.table-is, w.work-is) (visited_one s c.args.i w.in-Some-own_index.j c.args.table.now c.args.table.now w.extent-one.new.table (c.args.work.now + 1) c.basis.new.work w.extent-one.new.work w.extent-one.result start found.0 w.extent-one.ensures))
+          let found = one_found s.own c.args.i c.in-One.number.0 w.in-Some-own_index.j b.1 (sym w.in-Some-own_index.is ∙ c.own_index.ensures) in (
+            rw w.one-is (at_number s c.in-One.number.0 w.in-Some-own_index.j w.extent-one.result found.2 w.extent-one.ensures.right),
+            rw (w.table-is, w.work-is) (visited_one s c.args.i w.in-Some-own_index.j c.args.table.now c.args.table.now w.extent-one.new.table (c.args.work.now + 1) c.basis.new.work w.extent-one.new.work w.extent-one.result start found.0 w.extent-one.ensures),
+          )
       | in-None w ↦ (rw w.one-is w.elsewhere-one.ensures, rw (w.table-is, w.work-is) start)
     ] in
     let e : Extent = record { size = c.row_amount-size.result; align = c.match-own_index.one.align } in
     rw (c.keep-in-One.ensures.same, c.keep-in-One.ensures.kept)
     (visited s c.args.budget c.args.i c.args.table.now c.match-own_index.table c.args.work.now (c.args.work.now + 1) c.match-own_index.work e
-      c.requires.within c.requires.own (omega arith) none cost (one_extent s c.args.budget c.args.i c.in-One.number c.in-One.row c.match-own_index.one c.row_amount-size.result at b both.0 c.row_amount-size.ensures) both.1)
+    c.requires.within c.requires.own (omega arith) none cost (one_extent s c.args.budget c.args.i c.in-One.number c.in-One.row c.match-own_index.one c.row_amount-size.result at b both.0 c.row_amount-size.ensures) both.1)
 
 -- ---- members
 
@@ -116,9 +117,10 @@ loop-k-preserved g t c =
     more_steps s c.args.i c.args.table.now c.loop-k.table from c.loop-k.work c.member_type-number.new.work c.loop-k.invariant.underway c.member_type-number.ensures.tick in
     let both : IsExtent s number c.match-own_index-2.member × IsUnderway s c.args.i c.args.table.now c.match-own_index-2.table (from + 1) c.match-own_index-2.work = elim c.match-own_index-2.branch [
       | in-Some-own_index-2 w ↦
-          let found = step_found s.own c.args.i c.loop-k.k number w.in-Some-own_index-2.j (omega arith) c.member_type-number.ensures.named (sym w.in-Some-own_index-2.is ∙ c.own_index-in-loop-k.ensures) in
-          (rw w.member-is (at_number s number w.in-Some-own_index-2.j w.extent-member.result found.2 w.extent-member.ensures.right),
-            rw (w.table-is, w.work-is) (visited_one s c.args.i w.in-Some-own_index-2.j c.args.table.now c.loop-k.table w.extent-member.new.table (from + 1) c.member_type-number.new.work w.extent-member.new.work w.extent-member.result start found.0 w.extent-member.ensures))
+          let found = step_found s.own c.args.i c.loop-k.k number w.in-Some-own_index-2.j (omega arith) c.member_type-number.ensures.named (sym w.in-Some-own_index-2.is ∙ c.own_index-in-loop-k.ensures) in (
+            rw w.member-is (at_number s number w.in-Some-own_index-2.j w.extent-member.result found.2 w.extent-member.ensures.right),
+            rw (w.table-is, w.work-is) (visited_one s c.args.i w.in-Some-own_index-2.j c.args.table.now c.loop-k.table w.extent-member.new.table (from + 1) c.member_type-number.new.work w.extent-member.new.work w.extent-member.result start found.0 w.extent-member.ensures),
+          )
       | in-None-own_index w ↦ (rw w.member-is w.elsewhere-member.ensures, rw (w.table-is, w.work-is) start)
     ] in
     let same : from + 1 ≡ c.args.work.now + 1 + (c.loop-k.k + 1) = omega arith in
@@ -139,4 +141,4 @@ returns-after-loop-k g t c =
     let e : Extent = record { size = Known c.in-Members.size; align = c.loop-k.align } in
     rw (c.keep-in-Members.ensures.same, c.keep-in-Members.ensures.kept)
     (visited s c.args.budget c.args.i c.args.table.now c.loop-k.table c.args.work.now (c.args.work.now + 1 + c.loop-k.k) c.loop-k.work e
-      c.requires.within c.requires.own (omega arith) none cost (members_extent s c.args.budget c.args.i c.in-Members.size c.in-Members.read c.loop-k.align at b (rw (sym end) c.loop-k.invariant.greatest)) c.loop-k.invariant.underway)
+    c.requires.within c.requires.own (omega arith) none cost (members_extent s c.args.budget c.args.i c.in-Members.size c.in-Members.read c.loop-k.align at b (rw (sym end) c.loop-k.invariant.greatest)) c.loop-k.invariant.underway)
