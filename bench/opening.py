@@ -3,8 +3,9 @@
 
 usage: opening.py PROGRAM
 
-Each dictionary is handed in and opened twenty times, and then handed in twenty times and dropped by a
-reset: the difference is what `open` costs (processor time, the least of five runs). Then the same
+Each dictionary is handed in and opened twenty times, then handed in and only checked, and then handed
+in and dropped by a reset: the differences are what `open` and `check` cost (processor time, the least
+of five runs). Then the same
 is done once, and the instructions are counted by valgrind, for all types and for half of them:
 the ratio of the two says how the cost grows, and 2 is linear.
 """
@@ -56,10 +57,12 @@ def main(program):
     for name, make, count in [("mixed", mixed, 32_766), ("unions", unions, 32_256), ("enumerators", enumerators, 128)]:
         ctf = make(count)
         opened, memory = seconds(program, ctf, "open")
+        checked, _ = seconds(program, ctf, "check")
         dropped, _ = seconds(program, ctf, "reset")
         cost, megabytes = max(0, 1000 * (opened - dropped) / TIMES), len(ctf) / 1_000_000
+        judged = max(0, 1000 * (checked - dropped) / TIMES)
         print(
-            f"{name:12}{count:7} types {megabytes:6.2f} MB {cost:6.2f} ms for one open {cost / megabytes:6.2f} ms/MB"
+            f"{name:12}{count:7} types {megabytes:6.2f} MB {judged:6.2f} ms for one check {cost:6.2f} ms for one open {cost / megabytes:6.2f} ms/MB"
             f"  to half the types {growth(program, make, count):5.2f} {memory:8} KiB"
         )
 

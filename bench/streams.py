@@ -1,7 +1,7 @@
 #!/usr/bin/env python3
 """Writes a stream of requests to standard output; the same stream at each run.
 
-usage: streams.py kinds | large | line | sessions | again | kind | record | members | hostile | parents | orphans
+usage: streams.py kinds | large | line | sessions | again | kind | record | members | size | hostile | parents | orphans
 
 kinds     an integer is handed in and opened once, and asked for its kind 100,000 times
 large     32,766 integers without names are opened once, and the last is asked for its kind 1,000 times
@@ -11,8 +11,9 @@ again     10,000 sessions with one reset each, and then the last of them 10,000 
 kind      20,000 types of mixed kinds are opened once, and 10,000 of them, spread over all, asked for their kind
 record    the same, asked for their kind, name and what goes with it
 members   the same dictionary, of whose 5,000 structs each is asked for its 14 members twice
-hostile   a struct of 1,023 members that all have one name of 15 MB is asked for its members 100 times, and a type
-          of that name for its record 100 times
+size      the same dictionary, 10,000 of its types asked for their size
+hostile   a struct of 1,023 members that all have one name of 15 MB is asked 100 times for its members and for a
+          member that it hasn't, and a type of that name 100 times for its record
 parents   a parent of 20,000 types and 200 children, each of which imports it and is asked for a type of it
 orphans   the same without the imports
 """
@@ -74,11 +75,16 @@ def members():
     yield from questions("members", 7_004)
 
 
+def size():
+    yield from questions("size", 7_001)
+
+
 def hostile():
     yield from parts(7, long_names())
     yield from parts(7, LONG_NAME, "str")
     yield '{"s":7,"op":"open"}\n'
     for _ in range(100):
+        yield '{"s":7,"op":"path","d":1,"t":1,"names":["a"]}\n'
         yield '{"s":7,"op":"members","d":1,"t":1}\n'
         yield '{"s":7,"op":"record","d":1,"t":2}\n'
 
@@ -112,6 +118,7 @@ STREAMS = {
     "kind": kind,
     "record": record,
     "members": members,
+    "size": size,
     "hostile": hostile,
     "parents": parents,
     "orphans": orphans,
