@@ -254,22 +254,25 @@ fn are(names: &Names, want: &[&[u8]]) -> bool {
             .all(|(name, want)| name.as_slice() == *want)
 }
 
-/// Whether a line asks for a path by these names.
+/// Whether a request asks for a path by these names, from type 3 of slot 2.
+fn is_path(request: &Request, want: &[&[u8]]) -> bool {
+    match request {
+        Request::Asks {
+            d,
+            question: Question::OfType {
+                t,
+                question: TypeQuestion::Path(names),
+            },
+        } => d.get() == 2 && t.0 == 3 && are(names, want),
+        _ => false,
+    }
+}
+
+/// Whether a line of session 1 asks for it.
 fn asks_path(alloc: Global, line: &str, want: &[&[u8]]) -> bool {
     match Request::read(alloc, line.as_bytes()) {
-        Ok(
-            (
-                1,
-                Request::Asks {
-                    d,
-                    question: Question::OfType {
-                        t,
-                        question: TypeQuestion::Path(names),
-                    },
-                },
-            ),
-        ) => { d.get() == 2 && t.0 == 3 && are(&names, want) }
-        _ => false,
+        Ok((session, request)) => session == 1 && is_path(&request, want),
+        Err(_) => false,
     }
 }
 
