@@ -30,7 +30,7 @@ fn spot_of(chain: Chain, kind: Kind) -> Spot
 }
 
 /// How many types the steps from a record lead to, counted as often as it names them.
-pub(crate) fn place_count(source: &Record<'_>, chain: Chain) -> usize
+pub fn place_count(source: &Record<'_>, chain: Chain) -> usize
     ensures { result ≡ length (numbers chain (bytes_of source.now)) }
 {
     match spot_of(chain, source.kind()) {

@@ -5,8 +5,9 @@ use Rattle.std.specs.Option.{option_map}
 use Rattle.std.proofs.lemmas.Option.{same_Some}
 use Rattle.ctf_model.specs.Chains.{by_value}
 use Rattle.ctf_model.specs.Record.{kind, is_root}
-use Rattle.ctf_model.specs.Shown.{Facts, Shape, facts, shape, shown}
+use Rattle.ctf_model.specs.Shown.{Facts, Shape, facts, kind_of, reference_of, shape, shown, size_of}
 use Rattle.ctf_model.specs.Term.{Term}
+use Rattle.ctf_model.specs.declared.kinds.Kind.{Kind}
 use Rattle.ctf_chains.proofs.SpelledNumbers.{spelled_numbers}
 use Rattle.ctf_chains.specs.Numbers.{numbers}
 use Rattle.ctf_chains.specs.declared.chain.Chain.TheVariants.{ByValue}
@@ -36,7 +37,33 @@ described d r f own kind_is size_is reference_is declares_is behind_is =
     let same_behind = same_Some _ _ (sym (ap (option_map (λ (y : Term). shown y.body)) x.says) ∙ behind_is) in
     rw (x.says, same_kind, same_behind, ← same_size, ← same_reference, ← same_declares) refl
 
--- with its name, and whether it is visible
+-- ---- parts of it alone
+
+pub kind_said : (d : Checked) (r : Record) (k : Kind) → IsOwn d r → kind (bytes_of r) ≡ Some k → option_map (λ x. kind_of x.body) (term_of (tables_of d) (bytes_of r)) ≡ Some k
+kind_said d r k own is =
+    let x = own_spelled d r own in
+    let s = head_says (tables_of d) (bytes_of r) x.type x.says in
+    rw x.says (sym s.kind_is ∙ is)
+
+pub size_said : (d : Checked) (r : Record) (n : Option ℕ) → IsOwn d r → n ≡ size_in (bytes_of r) → option_map (λ x. size_of x.body) (term_of (tables_of d) (bytes_of r)) ≡ Some n
+size_said d r n own is =
+    let x = own_spelled d r own in
+    let s = head_says (tables_of d) (bytes_of r) x.type x.says in
+    rw x.says (ap Some (sym (is ∙ s.size_is)))
+
+pub reference_said : (d : Checked) (r : Record) (n : Option ℕ) → IsOwn d r → n ≡ reference_in (bytes_of r) → option_map (λ x. reference_of x.body) (term_of (tables_of d) (bytes_of r)) ≡ Some n
+reference_said d r n own is =
+    let x = own_spelled d r own in
+    let s = head_says (tables_of d) (bytes_of r) x.type x.says in
+    rw x.says (ap Some (sym (is ∙ s.reference_is)))
+
+pub values_counted : (d : Checked) (r : Record) (n : ℕ) → IsOwn d r → n ≡ length (numbers ByValue (bytes_of r)) → option_map (λ x. length (by_value x.body)) (term_of (tables_of d) (bytes_of r)) ≡ Some n
+values_counted d r n own is =
+    let x = own_spelled d r own in
+    rw (x.says, spelled_numbers ByValue (tables_of d) (bytes_of r) x.type x.says, is) refl
+
+-- ---- with its name, and whether it is visible
+
 pub all_described : (d : Checked) (r : Record) (f : Facts) → IsOwn d r → option_map (λ x. x.name) (term_of (tables_of d) (bytes_of r)) ≡ Some f.name → f.root ≡ is_root (bytes_of r)
     → option_map (λ x. shape x.body) (term_of (tables_of d) (bytes_of r)) ≡ Some f.shape → option_map facts (term_of (tables_of d) (bytes_of r)) ≡ Some f
 all_described d r f own name_is root_is shape_is =

@@ -4,6 +4,7 @@
 mod checked;
 mod ends;
 mod facts;
+mod heads;
 mod judge;
 mod judging;
 mod lists;

@@ -10,7 +10,6 @@ ghost use Rattle.ctf_check.specs.FactsView.{facts_seen, shape_seen};
 
 use crate::checked::Checked;
 use crate::facts::{Facts, Shape};
-use ctf_chains::{Chain, place_number};
 use ctf_model::TypeNum;
 use ctf_records::Record;
 use ctf_views::Variant;
@@ -76,14 +75,7 @@ impl<'a> Typed<'a> {
     pub fn shape(&self) -> Shape<'a>
         ensures { option_map (λ x. shape x.body) (spelled self.now) ≡ Some (shape_seen result) }
     {
-        let source = self.source;
-        Shape {
-            kind: source.kind(),
-            size: source.size(),
-            reference: source.reference(),
-            declares: source.tag(),
-            behind: self.variant(),
-        }
+        self.dictionary.shape(&self.source)
     }
 
     /// One of the types whose values its own values are or hold, from 0: that of a typedef or a
@@ -93,7 +85,7 @@ impl<'a> Typed<'a> {
         ensures { option_map (λ x. slice_index (by_value x.body) item) (spelled self.now)
             ≡ Some result.0 }
     {
-        place_number(&self.source, Chain::ByValue, item)
+        self.dictionary.value_type(&self.source, item)
     }
 
     /// All that it says of itself.

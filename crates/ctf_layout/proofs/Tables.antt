@@ -1,9 +1,9 @@
 -- Tables that are kept, and looking up in them.
-use Rattle.std.proofs.Common.{◌≡◌, ℕ, ◌+◌, ◌≤◌, ◌<◌, Bool, true, false, cond, ltb, get_or, List, length, map, Option, Some, None, refl, sym, ap, subst, ◌∙◌, ◌⊎◌, inl, inr, arith}
-use Rattle.std.specs.Prelude.{IsSome, slice_get, slice_index_or, unwrap_or}
+use Rattle.std.proofs.Common.{◌≡◌, ℕ, zero, suc, ◌+◌, ◌≤◌, ◌<◌, Bool, true, false, cond, ltb, get_or, List, length, map, Option, Some, None, refl, sym, ap, subst, ◌∙◌, ◌⊎◌, inl, inr, arith}
+use Rattle.std.specs.Prelude.{IsSome, replicate, slice_get, slice_index_or, unwrap_or}
 use Rattle.std.specs.Option.{ForSome, is_some, option_map}
 use Rattle.std.proofs.lemmas.Bool.{ltb-true}
-use Rattle.std.proofs.lemmas.List.{length-map}
+use Rattle.std.proofs.lemmas.List.{get_or-map, length-map}
 use Rattle.std.proofs.lemmas.Option.{get_or_from_slice_get, same_Some, slice_get-map, slice_get_cases, slice_get_within}
 use Rattle.ctf_model.specs.Chains.{own_index, own_index_at}
 use Rattle.ctf_model.specs.Dictionary.{Dictionary}
@@ -14,9 +14,9 @@ use Rattle.ctf_model.specs.declared.numbers.Place.TheVariants.{Own, Parents}
 use Rattle.ctf_model.proofs.OwnTypes.{own_place, own_positive, parents_place, place_of_own}
 use Rattle.ctf_layout.specs.Extents.{IsExtent, IsParentsExtent, neither}
 use Rattle.ctf_layout.specs.Fitting.{Fits}
-use Rattle.ctf_layout.specs.Kept.{AreExtents, extent_at, extent_kept, or_no_type}
+use Rattle.ctf_layout.specs.Kept.{AreExtents, extent_at, extent_kept, or_no_type, table_kept}
 use Rattle.ctf_layout.specs.Over.{OverParent}
-use Rattle.ctf_layout.specs.Table.{IsWhole, Table, entry}
+use Rattle.ctf_layout.specs.Table.{IsWhole, Knows, Table, entry}
 use Rattle.ctf_layout.specs.declared.entry.Entry.{Entry}
 use Rattle.ctf_layout.specs.declared.extents.Extent.{Extent}
 use Rattle.ctf_layout.specs.declared.extents.Refusal.TheVariants.{Incomplete, NoParent, NoType}
@@ -25,29 +25,24 @@ use Rattle.ctf_layout.proofs.Elsewhere.{extent_of_missing}
 
 -- ---- a table, kept
 
--- an entry of a table that is known
-abbrev pub known_or : Option Extent → Extent
-known_or o = unwrap_or o (neither Incomplete)
+-- what an entry says stands at its place in the table
+entry_said : (entries : List Entry) (i : ℕ) (x : Entry) → slice_get entries i ≡ Some x → entry (table_kept entries) i ≡ extent_kept x
+entry_said entries i x got = get_or_from_slice_get (table_kept entries) i (extent_kept x) None (slice_get-map extent_kept entries i ∙ ap (option_map extent_kept) got)
 
-from_known : (o : Option Extent) (x : Extent) → IsSome o → known_or o ≡ x → o ≡ Some x
-from_known None x some e = let f : false ≡ true = some in absurd cc
-from_known (Some y) x some e = ap Some e
+-- so it does where it was looked up
+pub entry_at : (entries : List Entry) (i : ℕ) (x : Entry) → i < length entries → x ≡ get_or entries i x → entry (table_kept entries) i ≡ extent_kept x
+entry_at entries i x lt is = get_or-map extent_kept entries i x None lt ∙ ap extent_kept (sym is)
 
-mapped : (o : Option (Option Extent)) (x : Extent) → option_map known_or o ≡ Some x → (y : Option Extent) × (o ≡ Some y) × (known_or y ≡ x)
-mapped None x e = absurd cc
-mapped (Some y) x e = (y, refl, same_Some _ _ e)
+-- a table of open entries knows nothing
+pub all_open : (x : Entry) (n j : ℕ) → extent_kept x ≡ None → entry (table_kept (replicate n x)) j ≡ None
+all_open x zero j none = refl
+all_open x (suc n) zero none = none
+all_open x (suc n) (suc j) none = all_open x n j none
 
-pub are_extents : (s : Space) (table : Table) (entries : List Entry) → length table ≡ length s.own.terms → IsWhole s table → map extent_kept entries ≡ map known_or table → AreExtents s entries
-are_extents s table entries same whole e = record {
-  count = sym (length-map entries extent_kept) ∙ ap length e ∙ length-map table known_or ∙ same;
-  right = λ j x got.
-      let there : slice_get (map known_or table) j ≡ Some (extent_kept x) = sym (ap (λ (xs : List Extent). slice_get xs j) e) ∙ slice_get-map extent_kept entries j ∙ ap (option_map extent_kept) got in
-      let one = mapped (slice_get table j) (extent_kept x) (sym (slice_get-map known_or table j) ∙ there) in
-      let here : entry table j ≡ one.0 = get_or_from_slice_get table j one.0 None one.1 in
-      let inside : j < length s.own.terms = omega (arith, slice_get_within table j one.0 one.1) in
-      let some : IsSome one.0 = rw here at (whole.each j inside) in
-      whole.knows.right j (extent_kept x) (here ∙ from_known one.0 (extent_kept x) some one.2);
-}
+-- what a full table says of a type
+said : (s : Space) (table : Table) (n i : ℕ) (o : Option Extent) → Knows s table → own_number s.own.child i ≡ n → entry table i ≡ o → IsSome o → IsExtent s n (unwrap_or o (neither NoType))
+said s table n i None knows at is some = let f : false ≡ true = some in absurd cc
+said s table n i (Some e) knows at is some = let P : ℕ → Type 0 = λ m. IsExtent s m e in subst P at (knows.right i e is)
 
 -- ---- looking up
 
@@ -64,7 +59,10 @@ pub own_extent : (s : Space) (entries : List Entry) → AreExtents s entries →
 own_extent s entries are n i at e is = rw is (go (slice_get_cases entries i).1)
   where
     go : ((x : Entry) × (i < length entries) × (slice_get entries i ≡ Some x) × (get_or entries i x ≡ x)) ⊎ ((length entries ≤ i) × (slice_get entries i ≡ None)) → IsExtent s n (or_no_type (slice_get entries i))
-    go (inl h) = let P : ℕ → Type 0 = λ m. IsExtent s m (extent_kept h.0) in rw h.2 (subst P (sym (own_place s.own.child n i at)) (are.right i h.0 h.2))
+    go (inl h) =
+        let here = entry_said entries i h.0 h.2 in
+        let inside : i < length s.own.terms = omega (arith, are.count, h.1) in
+        rw h.2 (said s (table_kept entries) n i (extent_kept h.0) are.whole.knows (sym (own_place s.own.child n i at)) here (rw here at (are.whole.each i inside)))
     go (inr h) =
         let past : length s.own.terms ≤ i = omega (arith, are.count, h.0) in
         rw h.1 (extent_of_missing s n (neither NoType) (own_positive s.own.child n i at) (λ j other. let clash : Own i ≡ Parents j = sym at ∙ other in absurd cc) (not_own s.own.child (length s.own.terms) n i at past) refl)

@@ -1,14 +1,17 @@
 //! What the size and the alignment of a type hang on.
-ghost use Rattle.std.specs.Prelude.{◌≡◌, min, option_map, unwrap_or};
-ghost use Rattle.ctf_check.specs.FactsView.{shape_seen};
+ghost use Rattle.std.specs.Prelude.{◌≡◌, Some, min, option_map, unwrap_or};
+ghost use Rattle.ctf_check.specs.CheckedView.{IsOwn, tables_of};
 ghost use Rattle.ctf_layout.specs.Bases.{basis as basis_word, both as both_of, of_array, of_function, of_nothing, of_other};
-ghost use Rattle.ctf_model.specs.Shown.{array_in, list_length};
+ghost use Rattle.ctf_model.specs.Shown.{array_in, shape, size_of};
 ghost use Rattle.ctf_model.specs.Space.{pointer_size as pointer_size_of};
+ghost use Rattle.ctf_model.specs.Spelling.{term_of};
+ghost use Rattle.ctf_records.specs.RecordView.{bytes_of};
 ghost use Rattle.ctf_views.specs.VariantView.{seen};
 
 use crate::extents::{Amount, Extent, Refusal, neither};
-use ctf_check::Shape;
+use ctf_check::Checked;
 use ctf_model::{DataModel, Kind, TypeNum};
+use ctf_records::Record;
 use ctf_views::Variant;
 
 /// What an array says: its size, or 0, and how many elements it has.
@@ -86,32 +89,40 @@ fn other(reference: Option<TypeNum>) -> Basis
     }
 }
 
-/// How long the list of a type is.
-fn list_len(behind: &Variant<'_>) -> usize
-    ensures { result ≡ list_length (seen behind.now) }
+/// The size that a type says, or 0.
+fn said_size<'a>(dictionary: &Checked<'a>, term: &Record<'a>) -> u64
+    requires own { IsOwn dictionary.now term.now }
+    ensures { option_map (λ x. unwrap_or (size_of x.body) 0)
+        (term_of (tables_of dictionary.now) (bytes_of term.now)) ≡ Some result }
 {
-    match behind {
-        Variant::Members(members) => members.len(),
-        Variant::Enumerators(enumerators) => enumerators.len(),
-        Variant::Args(args) => args.len(),
-        _ => 0,
-    }
+    dictionary.size(term).unwrap_or(0)
 }
 
-/// What those of a type hang on, by its shape.
-pub fn basis_of(x: &Shape<'_>, model: DataModel) -> Basis
-    ensures { result ≡ basis_word model (shape_seen x.now) }
+/// What those of a type of a dictionary hang on.
+pub fn basis_of<'a>(dictionary: &Checked<'a>, term: &Record<'a>, model: DataModel) -> Basis
+    requires own { IsOwn dictionary.now term.now }
+    ensures { option_map (λ x. basis_word model (shape x.body))
+        (term_of (tables_of dictionary.now) (bytes_of term.now)) ≡ Some result }
 {
-    let size = x.size.unwrap_or(0);
-    match x.kind {
-        Kind::KInteger | Kind::KFloat => both(size),
+    match dictionary.kind(term) {
+        Kind::KInteger | Kind::KFloat => both(said_size(dictionary, term)),
         Kind::KPointer => both(pointer_size(model)),
-        Kind::KArray => array(size, &x.behind),
+        Kind::KArray => array(said_size(dictionary, term), &dictionary.variant(term)),
         Kind::KFunction => function(model),
-        Kind::KStruct => Basis::Members(size, list_len(&x.behind).min(1)),
-        Kind::KUnion => Basis::Members(size, list_len(&x.behind)),
-        Kind::KEnum => both(if size > 0 { size } else { 4 }),
-        Kind::KTypedef | Kind::KVolatile | Kind::KConst | Kind::KRestrict => other(x.reference),
+        Kind::KStruct => {
+            let read = dictionary.value_count(term).min(1);
+            Basis::Members(said_size(dictionary, term), read)
+        }
+        Kind::KUnion => {
+            Basis::Members(said_size(dictionary, term), dictionary.value_count(term))
+        }
+        Kind::KEnum => {
+            let size = said_size(dictionary, term);
+            both(if size > 0 { size } else { 4 })
+        }
+        Kind::KTypedef | Kind::KVolatile | Kind::KConst | Kind::KRestrict => {
+            other(dictionary.reference(term))
+        }
         Kind::KForward | Kind::KUnknown => nothing(),
     }
 }

@@ -1,6 +1,7 @@
 //! The table of sizes and alignments, filled: the extent of each own type is found once.
 ghost use Rattle.std.specs.Prelude.{◌≡◌, ℕ, ◌+◌, ◌<◌, ◌≤◌, Some, None, length, slice_set};
 ghost use Rattle.ctf_layout.specs.Extents.{IsExtent};
+ghost use Rattle.ctf_layout.specs.Kept.{table_kept};
 ghost use Rattle.ctf_layout.specs.Table.{IsVisited, IsWhole, Knows, entry};
 ghost use Rattle.ctf_layout.specs.Work.{types_work};
 ghost use Rattle.ctf_model.specs.Chains.{IsWithin, longest_chain, own_index as own_index_of};
@@ -8,6 +9,7 @@ ghost use Rattle.ctf_model.specs.FigureLaws.{HasBoundedValues, value_edges};
 
 use crate::amounts::{greater, row_amount};
 use crate::bases::Basis;
+use crate::entry::Entry;
 use crate::extents::{Amount, Extent, Refusal, neither};
 use crate::types::Types;
 use ctf_chains::{LONGEST_CHAIN, Ticks};
@@ -40,13 +42,21 @@ fn elsewhere<L: Ledger, T: Types<L>>(types: &T, number: TypeNum) -> Extent
     }
 }
 
+/// The extent of a type, where the table has it.
+fn found(table: &[Entry], i: usize) -> Option<Extent>
+    requires { i < length table.now }
+    ensures { entry (table_kept table.now) i ≡ result }
+{
+    table[i].extent()
+}
+
 /// Keeps the extent of a type in the table.
-fn keep(table: &mut [Option<Extent>], i: usize, extent: Extent) -> Extent
+fn keep(table: &mut [Entry], i: usize, extent: Extent) -> Extent
     requires { i < length table.old }
-    ensures kept { table.new ≡ slice_set table.old i (Some extent) }
+    ensures kept { table_kept table.new ≡ slice_set (table_kept table.old) i (Some extent) }
     ensures same { result ≡ extent }
 {
-    table[i] = Some(extent);
+    table[i] = Entry::new(extent);
     extent
 }
 
@@ -54,7 +64,7 @@ fn keep(table: &mut [Option<Extent>], i: usize, extent: Extent) -> Extent
 /// most once. No chain of steps by value from it is longer than the budget.
 fn extent<L: Ledger, T: Types<L>>(
     types: &T,
-    table: &mut [Option<Extent>],
+    table: &mut [Entry],
     work: &mut Ticks<L>,
     i: usize,
     budget: u16,
@@ -63,10 +73,11 @@ fn extent<L: Ledger, T: Types<L>>(
     requires own { i < length (T.space types.now).own.terms }
     requires short { budget ≤ longest_chain }
     requires within { IsWithin (value_edges (T.space types.now).own) budget i }
-    requires knows { Knows (T.space types.now) table.old }
-    ensures { IsVisited (T.space types.now) i table.old table.new work.old work.new result }
+    requires knows { Knows (T.space types.now) (table_kept table.old) }
+    ensures { IsVisited (T.space types.now) i (table_kept table.old) (table_kept table.new)
+        work.old work.new result }
 {
-    if let Some(extent) = table[i] {
+    if let Some(extent) = found(table, i) {
         return extent;
     }
     match types.basis(i, work) {
@@ -103,11 +114,11 @@ fn extent<L: Ledger, T: Types<L>>(
 }
 
 /// Finds the extents of all own types.
-pub fn fill<L: Ledger, T: Types<L>>(types: &T, table: &mut [Option<Extent>], work: &mut Ticks<L>)
+pub fn fill<L: Ledger, T: Types<L>>(types: &T, table: &mut [Entry], work: &mut Ticks<L>)
     requires same { length table.old ≡ length (T.space types.now).own.terms }
-    requires empty { (j : ℕ) → entry table.old j ≡ None }
+    requires empty { (j : ℕ) → entry (table_kept table.old) j ≡ None }
     requires bounded { HasBoundedValues (T.space types.now).own }
-    ensures whole { IsWhole (T.space types.now) table.new }
+    ensures whole { IsWhole (T.space types.now) (table_kept table.new) }
     ensures steps { work.new ≡ work.old + types_work (T.space types.now).own.terms }
 {
     for i in 0..types.count() {

@@ -61,6 +61,7 @@ fn beside<L: Ledger>(
 {
     let source = Source {
         space: *space,
+        dictionary: space.dictionary(),
         parent: lent(&parent),
     };
     let own = Extents::build(alloc, &source, work)?;
@@ -101,6 +102,7 @@ fn by_itself<L: Ledger>(
 {
     let source = Source {
         space,
+        dictionary: space.dictionary(),
         parent: None,
     };
     let extents = Extents::build(alloc, &source, work)?;

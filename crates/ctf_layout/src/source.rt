@@ -1,7 +1,9 @@
 //! A space as what a table of sizes and alignments is made from.
-ghost use Rattle.std.specs.Prelude.{◌≡◌, slice_get, option_and_then, option_map};
-ghost use Rattle.ctf_check.specs.TypedView.{spelled};
+ghost use Rattle.std.specs.Prelude.{◌≡◌, IfSome, slice_get, option_and_then, option_map};
+ghost use Rattle.ctf_check.specs.CheckedView.{IsOwn, dictionary_of, tables_of};
 ghost use Rattle.ctf_layout.specs.Over.{OverParent};
+ghost use Rattle.ctf_model.specs.Spelling.{term_of};
+ghost use Rattle.ctf_records.specs.RecordView.{bytes_of};
 ghost use Rattle.ctf_space.specs.SpaceView.{space_of};
 
 use crate::bases::{Basis, basis_of};
@@ -9,8 +11,9 @@ use crate::extents::{Extent, Refusal, neither};
 use crate::kept::Extents;
 use crate::types::Types;
 use ctf_chains::Ticks;
-use ctf_check::Typed;
+use ctf_check::Checked;
 use ctf_model::TypeNum;
+use ctf_records::Record;
 use ctf_space::Space;
 use std::sync::ledger::Ledger;
 
@@ -18,16 +21,22 @@ use std::sync::ledger::Ledger;
 #[derive(Clone, Copy)]
 pub struct Source<'a> {
     pub(crate) space: Space<'a>,
+    /// The space's own, which is read for each type.
+    pub(crate) dictionary: Checked<'a>,
     pub(crate) parent: Option<&'a Extents>,
+    ghost same: { dictionary_of dictionary ≡ (space_of space).own },
     ghost over: { OverParent (space_of space) (option_map (λ e. e.now.entries.items) parent) },
 }
 
-/// The own type with a number from 0.
-fn own_type<'a>(space: &Space<'a>, i: usize) -> Option<Typed<'a>>
-    ensures { option_and_then spelled result ≡ slice_get (space_of space.now).own.terms i }
+/// The record of the own type with a number from 0.
+fn own_term<'a>(dictionary: &Checked<'a>, i: usize) -> Option<Record<'a>>
+    ensures own { IfSome result (λ r. IsOwn dictionary.now r) }
+    ensures spells { option_and_then
+        (λ r. term_of (tables_of dictionary.now) (bytes_of r)) result
+        ≡ slice_get (dictionary_of dictionary.now).terms i }
 {
-    if i < space.count() {
-        space.dictionary().typed(i + 1)
+    if i < dictionary.count() {
+        dictionary.term(i + 1)
     } else {
         None
     }
@@ -48,16 +57,16 @@ impl<'a, L: Ledger> Types<L> for Source<'a> {
 
     fn basis(&self, i: usize, work: &mut Ticks<L>) -> Basis {
         work.tick();
-        match own_type(&self.space, i) {
-            Some(found) => basis_of(&found.shape(), self.space.model()),
+        match own_term(&self.dictionary, i) {
+            Some(term) => basis_of(&self.dictionary, &term, self.space.model()),
             None => unreachable!(),
         }
     }
 
     fn member_type(&self, i: usize, k: usize, work: &mut Ticks<L>) -> TypeNum {
         work.tick();
-        match own_type(&self.space, i) {
-            Some(found) => found.value_type(k),
+        match own_term(&self.dictionary, i) {
+            Some(term) => self.dictionary.value_type(&term, k),
             None => unreachable!(),
         }
     }

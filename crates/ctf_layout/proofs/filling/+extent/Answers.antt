@@ -2,6 +2,8 @@ use Rattle.std.proofs.Common.{◌≡◌, ◌≤◌, ◌<◌, ◌+◌, ◌-◌, l
 use Rattle.std.specs.Prelude.{slice_index_or, None, Some, slice_index}
 use Rattle.ctf_layout.specs.Bases.{greatest_of, members_read}
 use Rattle.ctf_layout.specs.Extents.{IsExtent, amount}
+use Rattle.std.proofs.lemmas.List.{length-map}
+use Rattle.ctf_layout.specs.Kept.{extent_kept, table_kept}
 use Rattle.ctf_layout.specs.Table.{IsUnderway, IsVisited}
 use Rattle.ctf_layout.specs.declared.bases.Basis.TheVariants.{Itself, One, Members}
 use Rattle.ctf_layout.specs.declared.extents.Amount.TheVariants.{Known}
@@ -16,7 +18,7 @@ use Rattle.ctf_layout.proofs.filling.+extent.Goals as goal
 use Rattle.ctf_layout.proofs.filling.+extent.Goals.{in-Some-own_index, in-None, in-Some-own_index-2, in-None-own_index}
 
 pub returns-in-Some : goal.returns-in-Some
-returns-in-Some g t c = visited_before (g.T.Types.space c.args.types.now) c.args.i c.args.table.now c.args.work.now c.in-Some.extent c.requires.knows (search rules)
+returns-in-Some g t c = visited_before (g.T.Types.space c.args.types.now) c.args.i (table_kept c.args.table.now) c.args.work.now c.in-Some.extent c.requires.knows (c.found.ensures ∙ c.in-Some.is)
 
 -- ---- nothing else
 
@@ -25,12 +27,12 @@ returns-in-Itself g t c =
     let s = g.T.Types.space c.args.types.now in
     let at : IsOwnAt s c.args.budget c.args.i = record { short = c.requires.short; inside = c.requires.own; within = c.requires.within } in
     let b = basis_read s c.args.i c.basis.result (Itself c.in-Itself.extent) c.basis.ensures.basis c.in-Itself.is in
-    let none : slice_index_or c.args.table.now c.args.i None ≡ None = none_from (slice_index_or c.args.table.now c.args.i None) c.in_default.not-Some in
+    let none : slice_index_or (table_kept c.args.table.now) c.args.i None ≡ None = c.found.ensures ∙ none_from c.found.result c.in_default.not-Some in
     let cost : c.args.work.now + 1 ≡ c.args.work.now + (1 + members_read (own_body s.own c.args.i)) = rw b.0 refl in
     rw (c.keep.ensures.same, c.keep.ensures.kept)
-    (visited s c.args.budget c.args.i c.args.table.now c.args.table.now c.args.work.now (c.args.work.now + 1) c.basis.new.work c.in-Itself.extent
-    c.requires.within c.requires.own (omega arith) none cost (itself_extent s c.args.budget c.args.i c.in-Itself.extent at b)
-    (begun s c.args.i c.args.table.now (c.args.work.now + 1) c.basis.new.work c.requires.knows c.basis.ensures.tick))
+    (visited s c.args.budget c.args.i (table_kept c.args.table.now) (table_kept c.args.table.now) c.args.work.now (c.args.work.now + 1) c.basis.new.work c.in-Itself.extent
+    c.requires.within c.requires.own (omega (arith, length-map c.args.table.now extent_kept)) none cost (itself_extent s c.args.budget c.args.i c.in-Itself.extent at b)
+    (begun s c.args.i (table_kept c.args.table.now) (c.args.work.now + 1) c.basis.new.work c.requires.knows c.basis.ensures.tick))
 
 -- ---- one type
 
@@ -55,21 +57,21 @@ returns-after-own_index g t c =
     let s = g.T.Types.space c.args.types.now in
     let at : IsOwnAt s c.args.budget c.args.i = record { short = c.requires.short; inside = c.requires.own; within = c.requires.within } in
     let b = basis_read s c.args.i c.basis.result (One c.in-One.number c.in-One.row) c.basis.ensures.basis c.in-One.is in
-    let none : slice_index_or c.args.table.now c.args.i None ≡ None = none_from (slice_index_or c.args.table.now c.args.i None) c.in_default.not-Some in
+    let none : slice_index_or (table_kept c.args.table.now) c.args.i None ≡ None = c.found.ensures ∙ none_from c.found.result c.in_default.not-Some in
     let cost : c.args.work.now + 1 ≡ c.args.work.now + (1 + members_read (own_body s.own c.args.i)) = rw b.0 refl in
-    let start : IsUnderway s c.args.i c.args.table.now c.args.table.now (c.args.work.now + 1) c.basis.new.work = begun s c.args.i c.args.table.now (c.args.work.now + 1) c.basis.new.work c.requires.knows c.basis.ensures.tick in
-    let both : IsExtent s c.in-One.number.0 c.match-own_index.one × IsUnderway s c.args.i c.args.table.now c.match-own_index.table (c.args.work.now + 1) c.match-own_index.work = elim c.match-own_index.branch [
+    let start : IsUnderway s c.args.i (table_kept c.args.table.now) (table_kept c.args.table.now) (c.args.work.now + 1) c.basis.new.work = begun s c.args.i (table_kept c.args.table.now) (c.args.work.now + 1) c.basis.new.work c.requires.knows c.basis.ensures.tick in
+    let both : IsExtent s c.in-One.number.0 c.match-own_index.one × IsUnderway s c.args.i (table_kept c.args.table.now) (table_kept c.match-own_index.table) (c.args.work.now + 1) c.match-own_index.work = elim c.match-own_index.branch [
       | in-Some-own_index w ↦
           let found = one_found s.own c.args.i c.in-One.number.0 w.in-Some-own_index.j b.1 (sym w.in-Some-own_index.is ∙ c.own_index.ensures) in (
             rw w.one-is (at_number s c.in-One.number.0 w.in-Some-own_index.j w.extent-one.result found.2 w.extent-one.ensures.right),
-            rw (w.table-is, w.work-is) (visited_one s c.args.i w.in-Some-own_index.j c.args.table.now c.args.table.now w.extent-one.new.table (c.args.work.now + 1) c.basis.new.work w.extent-one.new.work w.extent-one.result start found.0 w.extent-one.ensures),
+            rw (w.table-is, w.work-is) (visited_one s c.args.i w.in-Some-own_index.j (table_kept c.args.table.now) (table_kept c.args.table.now) (table_kept w.extent-one.new.table) (c.args.work.now + 1) c.basis.new.work w.extent-one.new.work w.extent-one.result start found.0 w.extent-one.ensures),
           )
       | in-None w ↦ (rw w.one-is w.elsewhere-one.ensures, rw (w.table-is, w.work-is) start)
     ] in
     let e : Extent = record { size = c.row_amount-size.result; align = c.match-own_index.one.align } in
     rw (c.keep-in-One.ensures.same, c.keep-in-One.ensures.kept)
-    (visited s c.args.budget c.args.i c.args.table.now c.match-own_index.table c.args.work.now (c.args.work.now + 1) c.match-own_index.work e
-    c.requires.within c.requires.own (omega arith) none cost (one_extent s c.args.budget c.args.i c.in-One.number c.in-One.row c.match-own_index.one c.row_amount-size.result at b both.0 c.row_amount-size.ensures) both.1)
+    (visited s c.args.budget c.args.i (table_kept c.args.table.now) (table_kept c.match-own_index.table) c.args.work.now (c.args.work.now + 1) c.match-own_index.work e
+    c.requires.within c.requires.own (omega (arith, length-map c.match-own_index.table extent_kept)) none cost (one_extent s c.args.budget c.args.i c.in-One.number c.in-One.row c.match-own_index.one c.row_amount-size.result at b both.0 c.row_amount-size.ensures) both.1)
 
 -- ---- members
 
@@ -103,7 +105,7 @@ loop-k-init g t c =
     let s = g.T.Types.space c.args.types.now in
     record {
       greatest = refl;
-      underway = begun s c.args.i c.args.table.now (c.args.work.now + 1 + 0) c.basis.new.work c.requires.knows (omega (arith, c.basis.ensures.tick));
+      underway = begun s c.args.i (table_kept c.args.table.now) (c.args.work.now + 1 + 0) c.basis.new.work c.requires.knows (omega (arith, c.basis.ensures.tick));
     }
 
 pub loop-k-preserved : goal.loop-k-preserved
@@ -113,13 +115,13 @@ loop-k-preserved g t c =
     let from = c.args.work.now + 1 + c.loop-k.k in
     let b = basis_read s c.args.i c.basis.result (Members c.in-Members.size c.in-Members.read) c.basis.ensures.basis c.in-Members.is in
     let inside = b.1 in
-    let start : IsUnderway s c.args.i c.args.table.now c.loop-k.table (from + 1) c.member_type-number.new.work =
-    more_steps s c.args.i c.args.table.now c.loop-k.table from c.loop-k.work c.member_type-number.new.work c.loop-k.invariant.underway c.member_type-number.ensures.tick in
-    let both : IsExtent s number c.match-own_index-2.member × IsUnderway s c.args.i c.args.table.now c.match-own_index-2.table (from + 1) c.match-own_index-2.work = elim c.match-own_index-2.branch [
+    let start : IsUnderway s c.args.i (table_kept c.args.table.now) (table_kept c.loop-k.table) (from + 1) c.member_type-number.new.work =
+    more_steps s c.args.i (table_kept c.args.table.now) (table_kept c.loop-k.table) from c.loop-k.work c.member_type-number.new.work c.loop-k.invariant.underway c.member_type-number.ensures.tick in
+    let both : IsExtent s number c.match-own_index-2.member × IsUnderway s c.args.i (table_kept c.args.table.now) (table_kept c.match-own_index-2.table) (from + 1) c.match-own_index-2.work = elim c.match-own_index-2.branch [
       | in-Some-own_index-2 w ↦
           let found = step_found s.own c.args.i c.loop-k.k number w.in-Some-own_index-2.j (omega arith) c.member_type-number.ensures.named (sym w.in-Some-own_index-2.is ∙ c.own_index-in-loop-k.ensures) in (
             rw w.member-is (at_number s number w.in-Some-own_index-2.j w.extent-member.result found.2 w.extent-member.ensures.right),
-            rw (w.table-is, w.work-is) (visited_one s c.args.i w.in-Some-own_index-2.j c.args.table.now c.loop-k.table w.extent-member.new.table (from + 1) c.member_type-number.new.work w.extent-member.new.work w.extent-member.result start found.0 w.extent-member.ensures),
+            rw (w.table-is, w.work-is) (visited_one s c.args.i w.in-Some-own_index-2.j (table_kept c.args.table.now) (table_kept c.loop-k.table) (table_kept w.extent-member.new.table) (from + 1) c.member_type-number.new.work w.extent-member.new.work w.extent-member.result start found.0 w.extent-member.ensures),
           )
       | in-None-own_index w ↦ (rw w.member-is w.elsewhere-member.ensures, rw (w.table-is, w.work-is) start)
     ] in
@@ -135,10 +137,10 @@ returns-after-loop-k g t c =
     let s = g.T.Types.space c.args.types.now in
     let at : IsOwnAt s c.args.budget c.args.i = record { short = c.requires.short; inside = c.requires.own; within = c.requires.within } in
     let b = basis_read s c.args.i c.basis.result (Members c.in-Members.size c.in-Members.read) c.basis.ensures.basis c.in-Members.is in
-    let none : slice_index_or c.args.table.now c.args.i None ≡ None = none_from (slice_index_or c.args.table.now c.args.i None) c.in_default.not-Some in
+    let none : slice_index_or (table_kept c.args.table.now) c.args.i None ≡ None = c.found.ensures ∙ none_from c.found.result c.in_default.not-Some in
     let end : c.loop-k.k ≡ c.in-Members.read = omega arith in
     let cost : c.args.work.now + 1 + c.loop-k.k ≡ c.args.work.now + (1 + members_read (own_body s.own c.args.i)) = rw (b.0, end) (omega arith) in
     let e : Extent = record { size = Known c.in-Members.size; align = c.loop-k.align } in
     rw (c.keep-in-Members.ensures.same, c.keep-in-Members.ensures.kept)
-    (visited s c.args.budget c.args.i c.args.table.now c.loop-k.table c.args.work.now (c.args.work.now + 1 + c.loop-k.k) c.loop-k.work e
-    c.requires.within c.requires.own (omega arith) none cost (members_extent s c.args.budget c.args.i c.in-Members.size c.in-Members.read c.loop-k.align at b (rw (sym end) c.loop-k.invariant.greatest)) c.loop-k.invariant.underway)
+    (visited s c.args.budget c.args.i (table_kept c.args.table.now) (table_kept c.loop-k.table) c.args.work.now (c.args.work.now + 1 + c.loop-k.k) c.loop-k.work e
+    c.requires.within c.requires.own (omega (arith, length-map c.loop-k.table extent_kept)) none cost (members_extent s c.args.budget c.args.i c.in-Members.size c.in-Members.read c.loop-k.align at b (rw (sym end) c.loop-k.invariant.greatest)) c.loop-k.invariant.underway)

@@ -1,6 +1,7 @@
 use Rattle.std.proofs.Common.{◌≡◌, ◌+◌, take}
 use Rattle.ctf_layout.specs.Bases.{greatest_of}
 use Rattle.ctf_layout.specs.Extents.{amount}
+use Rattle.ctf_layout.specs.Kept.{table_kept}
 use Rattle.ctf_layout.specs.Table.{IsUnderway}
 use Rattle.ctf_model.specs.Chains.{by_value}
 use Rattle.ctf_model.specs.FigureLaws.{own_body}
@@ -13,5 +14,5 @@ decreases-extent g l = l.budget
 abbrev pub invariant-loop-k : goal.invariant-loop-k
 invariant-loop-k g l = record {
   greatest : amount l.align ≡ greatest_of (align (g.T.Types.space l.types)) (take l.k (by_value (own_body (g.T.Types.space l.types).own l.i)));
-  underway : IsUnderway (g.T.Types.space l.types) l.i l.fn.table l.table (l.fn.work + 1 + l.k) l.work;
+  underway : IsUnderway (g.T.Types.space l.types) l.i (table_kept l.fn.table) (table_kept l.table) (l.fn.work + 1 + l.k) l.work;
 }

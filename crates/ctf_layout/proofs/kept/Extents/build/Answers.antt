@@ -1,12 +1,22 @@
-use Rattle.std.proofs.Common.{◌≡◌, ◌++◌, ℕ, length, map, take, drop, sym, ap, ◌∙◌, rules}
+use Rattle.std.proofs.Common.{◌≡◌, ℕ, length, drop, replicate, subst, sym, ◌∙◌, ap, arith, rules}
+use Rattle.std.specs.Prelude.{None}
 use Rattle.std.proofs.Math.Seq.{take-append_seam}
-use Rattle.ctf_layout.proofs.Tables.{are_extents, known_or}
+use Rattle.std.proofs.lemmas.List.{length-map}
+use Rattle.ctf_layout.specs.Kept.{AreExtents, table_kept}
+use Rattle.ctf_layout.specs.Table.{entry}
+use Rattle.ctf_layout.specs.declared.entry.Entry.{Entry}
+use Rattle.ctf_layout.proofs.Tables.{all_open}
 use Rattle.ctf_layout.proofs.kept.Extents.build.Goals as goal
+
+pub fill-requires-clause-empty : goal.fill-requires-clause-empty
+fill-requires-clause-empty g c =
+    let same : c.as_mut_slice.result.now ≡ replicate c.count.result c.open.result = c.as_mut_slice.ensures.value ∙ c.in_ok-entries.ensures.items_if_clones_equal (λ y h. h) in
+    λ j. rw same (all_open c.open.result c.count.result j c.open.ensures)
 
 pub returns-clause-right : goal.returns-clause-right
 returns-clause-right g c =
     let s = g.T.Types.space c.args.types.now in
     let count : length c.fill.new.table ≡ length s.own.terms = search rules in
-    let written : c.in_ok-table.table.len ≡ length c.fill.new.table = search rules in
-    let same : c.deref.result.now ≡ c.fill.new.table = c.deref.ensures.value ∙ ap (λ (n : ℕ). take n (c.fill.new.table ++ drop (length c.fill.new.table) c.in_ok-table.table.items)) written ∙ take-append_seam c.fill.new.table (drop (length c.fill.new.table) c.in_ok-table.table.items) in
-    are_extents s c.fill.new.table c.in_ok-entries.entries.items count c.fill.ensures.whole (c.in_ok-entries.ensures ∙ ap (map known_or) same)
+    let written : c.in_ok-entries.entries.len ≡ length c.fill.new.table = search rules in
+    let are : AreExtents s c.fill.new.table = record { count = count; whole = c.fill.ensures.whole } in
+    rw (written, take-append_seam c.fill.new.table (drop (length c.fill.new.table) c.in_ok-entries.entries.items)) are
