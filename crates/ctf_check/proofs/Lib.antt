@@ -1,4 +1,3 @@
-pub mod LastNames
 pub mod Listed
 pub mod LongChains
 pub mod Indexed
