@@ -1,4 +1,3 @@
-pub mod LastNames
 pub mod Listed
 pub mod LongChains
 pub mod Indexed
@@ -7,6 +6,7 @@ pub mod Needing
 pub mod Order
 pub mod Reading
 pub mod Sites
+pub mod SymbolStages
 pub mod Terms
 pub mod TypeStages
 pub mod SpelledHead

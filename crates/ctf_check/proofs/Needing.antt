@@ -1,17 +1,18 @@
 -- The greatest number of a parent's type in the bytes is the one that the types name.
-use Rattle.std.proofs.Common.{◌≡◌, ℕ, max, List, [], ◌∷◌, ◌++◌, Some, None, Result, Ok, Err, refl, sym, ap, arith}
+use Rattle.std.proofs.Common.{◌≡◌, ℕ, max, List, [], ◌∷◌, ◌++◌, Some, None, Result, Ok, Err, refl, sym, ap, ◌∙◌, arith}
 use Rattle.std.specs.List.{AllByRecursion, flat_map}
 use Rattle.ctf_model.specs.Dictionary.{said_by}
 use Rattle.ctf_model.specs.Faults.{first_fault, types}
 use Rattle.ctf_model.specs.Lists.{Lists, tables}
 use Rattle.ctf_model.specs.Name.{Tables}
-use Rattle.ctf_model.specs.Needs.{greatest_in_parent}
+use Rattle.ctf_model.specs.Entries.{Entry, types_told}
+use Rattle.ctf_model.specs.Needs.{greatest_in_parent, named_by}
 use Rattle.ctf_model.specs.References.{references}
 use Rattle.ctf_model.specs.Section.{Piece, terms_in}
 use Rattle.ctf_model.specs.Spelling.{term_of}
 use Rattle.ctf_model.specs.Term.{Term}
 use Rattle.ctf_model.specs.declared.faults.Fault.{Fault}
-use Rattle.ctf_check.specs.Needed.{record_needs, records_need}
+use Rattle.ctf_check.specs.Needed.{record_needs, records_need, entries_need}
 use Rattle.ctf_check.proofs.Naming.{record_names}
 use Rattle.ctf_check.proofs.Terms.{IsSpelled, all_spelled}
 
@@ -40,3 +41,15 @@ records_need_said t (Err f ∷ xs) all = absurd all.0
 pub types_need : (s : Lists) → first_fault s ≡ None → records_need (types s.ctf) ≡ greatest_in_parent (flat_map (λ x. references x.body) (said_by s).terms)
 unfolding said_by
 types_need s e = records_need_said (tables s) (types s.ctf) (all_spelled s e)
+
+entries_need_said : (es : List Entry) → entries_need es ≡ greatest_in_parent (flat_map (λ e. types_told e.told) es)
+unfolding entries_need greatest_in_parent
+entries_need_said [] = refl
+entries_need_said (e ∷ es) = ap (λ (n : ℕ). max (greatest_in_parent (types_told e.told)) n) (entries_need_said es) ∙ sym (greatest_append (types_told e.told) (flat_map (λ e. types_told e.told) es))
+
+-- where no rule is broken, records and entries need what the dictionary names
+pub all_need : (s : Lists) → first_fault s ≡ None → max (records_need (types s.ctf)) (entries_need (said_by s).entries) ≡ greatest_in_parent (named_by (said_by s))
+all_need s e =
+    ap (λ (n : ℕ). max n (entries_need (said_by s).entries)) (types_need s e)
+    ∙ ap (λ (n : ℕ). max (greatest_in_parent (flat_map (λ x. references x.body) (said_by s).terms)) n) (entries_need_said (said_by s).entries)
+    ∙ sym (greatest_append (flat_map (λ x. references x.body) (said_by s).terms) (flat_map (λ e. types_told e.told) (said_by s).entries))

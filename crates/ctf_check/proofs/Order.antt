@@ -2,13 +2,13 @@
 use Rattle.std.proofs.Common.{◌≡◌, ℕ, zero, suc, ◌+◌, Bool, true, false, cond, eqb, ltb, drop, List, [], ◌∷◌, ◌++◌, length, Option, Some, None, Result, refl, sym, ap, subst, ◌∙◌, arith, ◌⊎◌, inl, inr}
 use Rattle.std.specs.Prelude.{map}
 use Rattle.std.specs.Option.{option_or}
-use Rattle.ctf_model.specs.Faults.{or_later, first_broken, header_rules, header_fault, on_ctf, walk_fault, types, place_of, truncated, bad_kind, too_many, bad_name, bad_reference, value_deep, decl_deep, edges_by, first_nameless, sites, rules, first_fault}
+use Rattle.ctf_model.specs.Faults.{or_later, first_broken, header_rules, header_fault, on_ctf, walk_fault, types, place_of, truncated, bad_kind, too_many, bad_name, bad_reference, value_deep, decl_deep, bad_funcs, bad_symbol_type, bad_symtab, edges_by, first_nameless, sites, rules, first_fault}
 use Rattle.ctf_model.specs.Header.{fields, is_child, section}
 use Rattle.ctf_model.specs.Lists.{Lists, tables}
 use Rattle.ctf_model.specs.Section.{Piece, step, walk, front_len, records}
 use Rattle.ctf_model.specs.declared.faults.Fault.{Fault}
 use Rattle.ctf_model.specs.declared.sections.Section.TheVariants.{STypes}
-use Rattle.ctf_check.specs.Stages.{records_fault, types_fault, fault_before_chains}
+use Rattle.ctf_check.specs.Stages.{records_fault, types_fault, symbols_fault, fault_before_chains}
 
 -- ---- one list of rules after the other
 
@@ -70,15 +70,23 @@ records_stage (Some f) many names h = by_code f (or_later 12 (cond many (Some 32
 abbrev of_types : Lists → Option Fault
 of_types s = types_fault (tables s) (is_child (fields s.ctf)) (types s.ctf)
 
--- the faults of names, then of types
+-- the three rules of types are one stage
+types_stage : (a b c : Option ℕ) (more : Option Fault) → or_later 14 a (or_later 15 b (or_later 16 c more)) ≡ option_or (or_later 14 a (or_later 15 b (or_later 16 c None))) more
+types_stage (Some p) b c more = refl
+types_stage None (Some p) c more = refl
+types_stage None None (Some p) more = refl
+types_stage None None None more = refl
+
+-- the faults of names, then of types, then of symbols
 abbrev from_names : Lists → Option Fault
-from_names s = or_later 13 (bad_name s) (of_types s)
+from_names s = or_later 13 (bad_name s) (option_or (of_types s) (symbols_fault s))
 
 stages : (s : Lists) → first_fault s ≡ option_or (header_fault s.ctf) (option_or (records_fault (types s.ctf)) (from_names s))
 unfolding first_fault rules bad_reference edges_by
 stages s =
-    first_append 1 (map on_ctf header_rules) (truncated ∷ bad_kind ∷ too_many ∷ bad_name ∷ bad_reference ∷ value_deep ∷ decl_deep ∷ []) s
-    ∙ ap (option_or (header_fault s.ctf)) (records_stage (walk_fault (types s.ctf)) (ltb 32766 (length (types s.ctf))) (from_names s) (types_stop s.ctf))
+    first_append 1 (map on_ctf header_rules) (truncated ∷ bad_kind ∷ too_many ∷ bad_name ∷ bad_reference ∷ value_deep ∷ decl_deep ∷ bad_funcs ∷ bad_symbol_type ∷ bad_symtab ∷ []) s
+    ∙ ap (option_or (header_fault s.ctf)) (records_stage (walk_fault (types s.ctf)) (ltb 32766 (length (types s.ctf))) (or_later 13 (bad_name s) (or_later 14 (bad_reference s) (or_later 15 (value_deep s) (or_later 16 (decl_deep s) (symbols_fault s))))) (types_stop s.ctf)
+    ∙ ap (λ (f : Option Fault). option_or (records_fault (types s.ctf)) (or_later 13 (bad_name s) f)) (types_stage (bad_reference s) (value_deep s) (decl_deep s) (symbols_fault s)))
 
 pub at_header : (s : Lists) (f : Fault) → header_fault s.ctf ≡ Some f → first_fault s ≡ Some f
 at_header s f e = stages s ∙ ap (λ (h : Option Fault). option_or h (option_or (records_fault (types s.ctf)) (from_names s))) e
@@ -89,9 +97,9 @@ past_header s e = stages s ∙ ap (λ (h : Option Fault). option_or h (option_or
 pub at_records : (s : Lists) (f : Fault) → header_fault s.ctf ≡ None → records_fault (types s.ctf) ≡ Some f → first_fault s ≡ Some f
 at_records s f e w = past_header s e ∙ ap (λ (r : Option Fault). option_or r (from_names s)) w
 
-pub at_names : (s : Lists) (bad : Option ℕ) → header_fault s.ctf ≡ None → records_fault (types s.ctf) ≡ None → bad ≡ first_nameless (tables s) (sites s.ctf) → first_fault s ≡ or_later 13 bad (types_fault (tables s) (is_child (fields s.ctf)) (types s.ctf))
+pub at_names : (s : Lists) (bad : Option ℕ) → header_fault s.ctf ≡ None → records_fault (types s.ctf) ≡ None → bad ≡ first_nameless (tables s) (sites s.ctf) → first_fault s ≡ or_later 13 bad (option_or (types_fault (tables s) (is_child (fields s.ctf)) (types s.ctf)) (symbols_fault s))
 unfolding bad_name
-at_names s bad e w b = past_header s e ∙ ap (λ (r : Option Fault). option_or r (from_names s)) w ∙ ap (λ (o : Option ℕ). or_later 13 o (of_types s)) (sym b)
+at_names s bad e w b = past_header s e ∙ ap (λ (r : Option Fault). option_or r (from_names s)) w ∙ ap (λ (o : Option ℕ). or_later 13 o (option_or (of_types s) (symbols_fault s))) (sym b)
 
 -- the rules in front of those of chains are kept where each stage in front of them finds no fault
 pub before_chains : (s : Lists) → header_fault s.ctf ≡ None → records_fault (types s.ctf) ≡ None → bad_name s ≡ None → bad_reference s ≡ None → fault_before_chains s ≡ None
@@ -112,10 +120,15 @@ none_place : (code : ℕ) (here : Option ℕ) (later : Option Fault) → or_late
 none_place code None later e = refl
 none_place code (Some p) later e = absurd cc
 
+none_later : (code : ℕ) (here : Option ℕ) (later : Option Fault) → or_later code here later ≡ None → later ≡ None
+none_later code None later e = e
+none_later code (Some p) later e = absurd cc
+
 pub record Faultless (s : Lists) : Type 0 where
   pub header : header_fault s.ctf ≡ None
   pub read : walk_fault (types s.ctf) ≡ None
   pub named : first_nameless (tables s) (sites s.ctf) ≡ None
+  pub funcs : bad_funcs s ≡ None
 
 pub faultless : (s : Lists) → first_fault s ≡ None → Faultless s
 unfolding bad_name
@@ -125,7 +138,8 @@ faultless s e =
     record {
       header = parts.0;
       read = (none_first (walk_fault (types s.ctf)) _ later.0).0;
-      named = none_place 13 (bad_name s) (of_types s) later.1;
+      named = none_place 13 (bad_name s) (option_or (of_types s) (symbols_fault s)) later.1;
+      funcs = none_place 17 (bad_funcs s) _ (none_first (of_types s) (symbols_fault s) (none_later 13 (bad_name s) (option_or (of_types s) (symbols_fault s)) later.1)).1;
     }
 
 -- records that are few enough are read to the end

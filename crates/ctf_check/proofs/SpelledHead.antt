@@ -1,12 +1,12 @@
 -- What the head of a record says is so of the type that it spells.
-use Rattle.std.proofs.Common.{◌≡◌, ℕ, List, Option, Some, None, refl, sym, ap, subst, ◌∙◌}
+use Rattle.std.proofs.Common.{◌≡◌, ℕ, List, Option, Some, None, refl, ap, subst, ◌∙◌}
 use Rattle.std.specs.Option.{option_map}
 use Rattle.std.proofs.lemmas.Option.{same_Some}
 use Rattle.ctf_model.specs.Bytes.{u32_at}
 use Rattle.ctf_model.specs.Name.{Tables, name}
 use Rattle.ctf_model.specs.Shown.{kind_of, size_of, reference_of, declared_by}
-use Rattle.ctf_model.specs.Record.{kind, is_root, field, size, vlen, member_len, behind_head}
-use Rattle.ctf_model.specs.Spelling.{◌>>=◌, body_of, term_of, scalar, elements, tag, members, enumerators, arguments, member_of, enumerator_of, argument_of}
+use Rattle.ctf_model.specs.Record.{kind, is_root, field, size}
+use Rattle.ctf_model.specs.Spelling.{◌>>=◌, body_of, term_of, scalar, elements, tag, members, enumerators, arguments}
 use Rattle.ctf_model.specs.Term.{Body, Term}
 use Rattle.ctf_model.specs.Term as term
 use Rattle.ctf_model.specs.declared.kinds.Kind.{Kind}

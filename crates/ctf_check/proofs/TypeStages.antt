@@ -1,6 +1,7 @@
 -- The faults of types, stage by stage: references, then chains.
 use Rattle.std.proofs.Common.{◌≡◌, ℕ, Bool, List, length, Option, Some, None, Result, sym, ap, subst, ◌∙◌, ◌⊎◌, inl, inr}
 use Rattle.std.specs.List.{AllByRecursion}
+use Rattle.std.specs.Option.{option_or}
 use Rattle.ctf_model.specs.Faults.{or_later, first_misnaming, first_nameless, first_fault, header_fault, bad_name, bad_reference, sites, types, walk_fault}
 use Rattle.ctf_model.specs.Header.{fields, is_child}
 use Rattle.ctf_model.specs.Lists.{Lists, tables}
@@ -9,7 +10,7 @@ use Rattle.ctf_model.specs.Section.{Piece, records}
 use Rattle.ctf_model.specs.declared.faults.Fault.{Fault}
 use Rattle.ctf_chains.specs.Steps.{AreSpelled}
 use Rattle.ctf_check.specs.Named.{first_that_misnames}
-use Rattle.ctf_check.specs.Stages.{records_fault, chains_fault, types_fault, fault_before_chains, want_of_memory}
+use Rattle.ctf_check.specs.Stages.{records_fault, chains_fault, types_fault, symbols_fault, fault_before_chains, want_of_memory}
 use Rattle.ctf_check.proofs.Naming.{first_said}
 use Rattle.ctf_check.proofs.Order.{at_names, before_chains, read_whole}
 use Rattle.ctf_check.proofs.Terms.{IsSpelled, each_spelled, all_are_spelled, spelled_from}
@@ -41,15 +42,15 @@ or_memory child count rs f found same whole (inr chains) = inr (past_references 
 
 -- ---- the whole dictionary
 
--- where header, records and names are good, the first fault is that of the types
-pub at_types : (s : Lists) (b : List ℕ) (child : Bool) (bad : Option ℕ) (fault : Option Fault) → header_fault s.ctf ≡ None → records b ≡ types s.ctf → records_fault (records b) ≡ None → bad ≡ first_nameless (tables s) (sites s.ctf) → bad ≡ None → child ≡ is_child (fields s.ctf) → IsFaultOfTypes child (records b) fault → first_fault s ≡ fault
+-- where header, records and names are good, the first fault is that of the types, or else of the symbols
+pub at_types : (s : Lists) (b : List ℕ) (child : Bool) (bad : Option ℕ) (fault : Option Fault) → header_fault s.ctf ≡ None → records b ≡ types s.ctf → records_fault (records b) ≡ None → bad ≡ first_nameless (tables s) (sites s.ctf) → bad ≡ None → child ≡ is_child (fields s.ctf) → IsFaultOfTypes child (records b) fault → first_fault s ≡ option_or fault (symbols_fault s)
 at_types s b child bad fault header part few named none same is =
     let few' : records_fault (types s.ctf) ≡ None = ap records_fault (sym part) ∙ few in
     let named' : first_nameless (tables s) (sites s.ctf) ≡ None = sym named ∙ none in
     let spelled = all_are_spelled (tables s) (types s.ctf) (spelled_from s (read_whole (types s.ctf) few') named') in
     let here = subst (λ (rs : List (Result Piece Fault)). IsFaultOfTypes child rs fault) part is in
     let types_are : types_fault (tables s) (is_child (fields s.ctf)) (types s.ctf) ≡ fault = ap (λ (c : Bool). types_fault (tables s) c (types s.ctf)) (sym same) ∙ here (tables s) spelled in
-    at_names s None header few' (sym named') ∙ types_are
+    at_names s None header few' (sym named') ∙ ap (λ (f : Option Fault). option_or f (symbols_fault s)) types_are
 
 -- the same of a fault that may be want of memory
 pub at_types_or_memory : (s : Lists) (b : List ℕ) (child : Bool) (bad : Option ℕ) (f : Fault) → header_fault s.ctf ≡ None → records b ≡ types s.ctf → records_fault (records b) ≡ None → bad ≡ first_nameless (tables s) (sites s.ctf) → bad ≡ None → child ≡ is_child (fields s.ctf) → (f ≡ want_of_memory) ⊎ IsFaultOfTypes child (records b) (Some f) → (f ≡ want_of_memory) ⊎ (first_fault s ≡ Some f)

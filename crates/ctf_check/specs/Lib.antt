@@ -4,6 +4,5 @@ pub mod ListsView
 pub mod Named
 pub mod Needed
 pub mod Stages
-pub mod TableEnds
 pub mod TypedView
 pub mod FactsView

@@ -1,5 +1,6 @@
--- The greatest number of a parent's type that records name, read from their bytes.
+-- The greatest number of a parent's type that records name, read from their bytes, and that is told of symbols.
 use Rattle.std.specs.Prelude.{ℕ, max, List, [], ◌∷◌, Result, Ok, Err}
+use Rattle.ctf_model.specs.Entries.{Entry, types_told}
 use Rattle.ctf_model.specs.Needs.{greatest_in_parent}
 use Rattle.ctf_model.specs.Section.{Piece}
 use Rattle.ctf_check.specs.Named.{named_types}
@@ -12,3 +13,8 @@ unfoldable pub records_need : List (Result Piece Fault) → ℕ
 records_need [] = 0
 records_need (Ok p ∷ rest) = max (record_needs p.bytes) (records_need rest)
 records_need (Err f ∷ rest) = 0
+
+-- the same of what is told of symbols
+unfoldable pub entries_need : List Entry → ℕ
+entries_need [] = 0
+entries_need (e ∷ es) = max (greatest_in_parent (types_told e.told)) (entries_need es)

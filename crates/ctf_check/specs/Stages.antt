@@ -1,4 +1,4 @@
--- The stages of the check behind the header: its records, the parts of the rule of names, and its types.
+-- The stages of the check behind the header: its records, the parts of the rule of names, its types and its symbols.
 use Rattle.std.specs.Prelude.{◌≡◌, ℕ, List, [], ◌∷◌, length, take, nat_lt, Bool, Option, Some, None, Result, if◌then◌else◌}
 use Rattle.std.specs.Option.{option_or}
 use Rattle.ctf_model.specs.Bytes.{u32_at}
@@ -6,14 +6,15 @@ use Rattle.ctf_model.specs.Chains.{edges}
 use Rattle.ctf_chains.specs.Steps.{AreSpelled, steps}
 use Rattle.ctf_chains.specs.declared.chain.Chain.{Chain}
 use Rattle.ctf_chains.specs.declared.chain.Chain.TheVariants.{ByValue, Declarator}
-use Rattle.ctf_model.specs.Faults.{Site, list_sites, walk_fault, or_later, first_broken, first_misnaming, first_deep, rules}
+use Rattle.ctf_model.specs.Faults.{Site, list_sites, walk_fault, or_later, first_broken, first_misnaming, first_deep, first_where, tells_missing, bad_funcs, bad_symbol_type, bad_symtab, rules}
+use Rattle.ctf_model.specs.Entries.{Entry}
 use Rattle.ctf_model.specs.Header.{Fields}
 use Rattle.ctf_model.specs.Lists.{Lists}
 use Rattle.ctf_model.specs.Name.{Tables}
 use Rattle.ctf_model.specs.Record.{kind}
 use Rattle.ctf_model.specs.Section.{Piece, terms_in}
 use Rattle.ctf_model.specs.declared.faults.Fault.{Fault}
-use Rattle.ctf_model.specs.declared.faults.TheConstants.Fault.{MEMORY, TOO_MANY, BAD_REFERENCE, VALUE_DEEP, DECL_DEEP}
+use Rattle.ctf_model.specs.declared.faults.TheConstants.Fault.{MEMORY, TOO_MANY, BAD_REFERENCE, VALUE_DEEP, DECL_DEEP, BAD_FUNCS, BAD_SYMBOL_TYPE, BAD_SYMTAB}
 
 -- the first fault of the records: where reading them stops, else that they are too many
 abbrev pub records_fault : List (Result Piece Fault) → Option Fault
@@ -53,9 +54,19 @@ IsChainsFault child rs fault = (t : Tables) → AreSpelled t rs → chains_fault
 abbrev pub IsTypesFault : Bool → List (Result Piece Fault) → Option Fault → Type 0
 IsTypesFault child rs fault = (t : Tables) → AreSpelled t rs → types_fault t child rs ≡ fault
 
+-- ---- symbols
+
+-- the first of which a type is told that is not there
+abbrev pub first_mistold : Bool → ℕ → List Entry → Option ℕ
+first_mistold child count es = first_where (tells_missing child count) (λ e. e.number) es
+
+-- the first fault of symbols: a bad entry of a function, a type that is not there, a symbol that is cut off
+abbrev pub symbols_fault : Lists → Option Fault
+symbols_fault s = or_later BAD_FUNCS (bad_funcs s) (or_later BAD_SYMBOL_TYPE (bad_symbol_type s) (or_later BAD_SYMTAB (bad_symtab s) None))
+
 -- ---- all
 
--- the first fault, leaving the rules of chains aside
+-- the first fault of the rules in front of those of chains
 unfoldable pub fault_before_chains : Lists → Option Fault
 fault_before_chains s = first_broken 1 (take 14 rules) s
 

@@ -18,7 +18,7 @@ ghost use Rattle.ctf_records.specs.RecordView.{piece};
 ghost use Rattle.ctf_views.specs.VariantView.{seen};
 
 use crate::lists::LentLists;
-use crate::needs::records_need;
+use crate::needs::{entries_need, greater, records_need};
 use crate::sections::bytes_in;
 use ctf_chains::{Starts, record_started, record_starts};
 use ctf_model::Section;
@@ -49,7 +49,7 @@ pub struct Checked<'a> {
 }
 
 /// The header of a dictionary that was accepted before.
-fn header_of(lists: LentLists<'_>) -> Header
+pub(crate) fn header_of(lists: LentLists<'_>) -> Header
     requires faultless { first_fault (lists_in lists) ≡ None }
     ensures fits { result ≡ fields lists.entry.ctf.now }
     ensures inside { 36 + result.stroff + result.strlen ≤ length lists.entry.ctf.now }
@@ -204,15 +204,16 @@ impl<'a> Checked<'a> {
         find(self.types, self.starts, index)
     }
 
-    /// The greatest number below 0x8000 that the types of a child name: so many types it needs in
-    /// its parent. It is 0 where there is none, and where the dictionary is not a child.
+    /// The greatest number below 0x8000 that the types of a child name, or that is told of its
+    /// symbols: so many types it needs in its parent. It is 0 where there is none, and where the
+    /// dictionary is not a child.
     ///
-    /// Reads each member and argument once.
+    /// Reads each member, argument and symbol once.
     pub fn needs(&self) -> u16
         ensures { result ≡ needed (dictionary_of self.now) }
     {
         if self.child() {
-            records_need(self.types)
+            greater(records_need(self.types), entries_need(self.entries()))
         } else {
             0
         }

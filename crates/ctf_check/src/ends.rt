@@ -2,21 +2,9 @@
 ghost use Rattle.std.specs.Prelude.{◌≡◌, Some, is_none};
 ghost use Rattle.ctf_model.specs.Name.{name};
 ghost use Rattle.ctf_sections.specs.StringsView.{tables};
-ghost use Rattle.ctf_check.specs.TableEnds.{EndsAt};
+ghost use Rattle.ctf_sections.specs.TableEnds.{EndsAt};
 
-use ctf_sections::Strings;
-use memchr::memrchr;
-
-/// The place behind the last zero byte of a table: what begins before it is a name, what begins
-/// there or later is none.
-fn end_of_names(table: &[u8]) -> usize
-    ensures { EndsAt (Some table.now) result }
-{
-    match memrchr(0, table) {
-        Some(last) => last + 1,
-        None => 0,
-    }
-}
+use ctf_sections::{Strings, end_of_names};
 
 /// The tables of names, with the place behind the last name of each; 0 where a table is absent.
 #[derive(Clone, Copy)]

@@ -1,5 +1,5 @@
 //! The check: which rule a dictionary breaks first.
-ghost use Rattle.std.specs.Prelude.{◌≡◌, ◌≤◌, ◌<◌, ◌^◌, ◌⊎◌, length, IfOk, IfErr, OnOk, IsNone, Some, None, option_copied};
+ghost use Rattle.std.specs.Prelude.{◌≡◌, ◌≤◌, ◌<◌, ◌^◌, ◌⊎◌, length, IfOk, IfErr, OnOk, Some, None, option_copied};
 ghost use Rattle.ctf_model.specs.Faults.{first_fault, walk_fault};
 ghost use Rattle.ctf_model.specs.Section.{records};
 ghost use Rattle.ctf_check.specs.CheckedView.{lists_of};
@@ -14,6 +14,7 @@ use crate::lists::LentLists;
 use crate::names::bad_name;
 use crate::references::{Numbers, bad_reference};
 use crate::sections::bytes_in;
+use crate::symbols::judge_symbols;
 use ctf_model::{Fault, Section};
 use ctf_records::Records;
 use ctf_sections::Header;
@@ -67,16 +68,15 @@ fn judge_types(alloc: Global, types: &[u8], numbers: Numbers) -> Result<(), Faul
 /// Judges a dictionary that is handed in as its CTF section and, where they are there, the
 /// program's symbol table and its strings.
 ///
-/// Reads each record, member, enumerator and argument a bounded number of times, and takes eight
-/// bytes for each record while it runs. Where that is refused, the fault is `Memory`: it may stand
-/// for a fault of chains, and for no other.
+/// Reads each record, member, enumerator, argument and symbol a bounded number of times, and takes
+/// eight bytes for each record while it runs. Where that is refused, the fault is `Memory`: it may
+/// stand for a fault of chains, and for no other before them. No name is searched for its end.
 pub fn check<'a>(
     alloc: Global,
     ctf: &'a [u8],
     sym: Option<&'a [u8]>,
     strs: Option<&'a [u8]>,
 ) -> Result<Checked<'a>, Fault>
-    requires no_symbols { IsNone sym }
     ensures lists { IfOk result (λ d. lists_of d
         ≡ given ctf.now (option_copied sym.entry) (option_copied strs.entry)) }
     ensures exact_ok { OnOk result (first_fault
@@ -98,7 +98,9 @@ pub fn check<'a>(
         });
     }
     let child = header.parname() != 0;
-    judge_types(alloc, types, Numbers { child, count })?;
+    let numbers = Numbers { child, count };
+    judge_types(alloc, types, numbers)?;
     let lists = LentLists { ctf, sym, strs };
+    judge_symbols(lists, header, numbers)?;
     Ok(Checked::accepted(lists, header, count, None))
 }

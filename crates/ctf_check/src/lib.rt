@@ -12,6 +12,8 @@ mod names;
 mod needs;
 mod references;
 mod sections;
+mod symbols;
+mod told;
 mod typed;
 
 pub use checked::Checked;

@@ -1,15 +1,20 @@
 //! Which types of its parent a child names.
-ghost use Rattle.std.specs.Prelude.{◌≡◌, max};
+ghost use Rattle.std.specs.Prelude.{◌≡◌, max, ◌∷◌};
 ghost use Rattle.ctf_model.specs.Needs.{greatest_in_parent, number_in_parent};
 ghost use Rattle.ctf_model.specs.Section.{records};
 ghost use Rattle.ctf_records.specs.ListedTypes.{listed_types};
 ghost use Rattle.ctf_records.specs.RecordView.{bytes_of};
-ghost use Rattle.ctf_check.specs.Needed.{record_needs as record_needs_in, records_need as records_need_in};
+ghost use Rattle.ctf_model.specs.Entries.{types_told};
+ghost use Rattle.ctf_entries.specs.EntriesView.{told_in};
+ghost use Rattle.ctf_entries.specs.FunctionView.{signature};
+ghost use Rattle.ctf_check.specs.Needed.{entries_need as entries_need_in, record_needs as record_needs_in, records_need as records_need_in};
 
+use ctf_entries::{Entries, Signature, Told};
 use ctf_model::{Place, TypeNum};
 use ctf_records::{Record, Records};
+use ctf_views::Args;
 
-fn greater(a: u16, b: u16) -> u16
+pub fn greater(a: u16, b: u16) -> u16
     ensures { result ≡ max a b }
 {
     if a < b { b } else { a }
@@ -57,6 +62,51 @@ pub fn records_need(types: &[u8]) -> u16
     for record in Records::new(types) {
         let Ok(record) = record else { return greatest };
         greatest = greater(greatest, record_needs(&record));
+    }
+    greatest
+}
+
+/// The greatest number of a parent's type among arguments.
+#[tactic(auto, unfolding(ctf_model::specs::Needs::greatest_in_parent))]
+fn args_need(args: Args<'_>) -> u16
+    ensures { result ≡ greatest_in_parent args.entry }
+{
+    let mut greatest = 0;
+    for number in args {
+        greatest = greater(greatest, in_parent(number));
+    }
+    greatest
+}
+
+/// The greatest number of a parent's type that a signature names.
+#[tactic(auto, unfolding(ctf_model::specs::Needs::greatest_in_parent))]
+fn signature_needs(told: Signature<'_>) -> u16
+    ensures { result ≡ greatest_in_parent
+        ((signature told.entry).ret ∷ (signature told.entry).args) }
+{
+    greater(in_parent(told.ret), args_need(told.args))
+}
+
+/// The greatest number of a parent's type that is told of a symbol.
+#[tactic(auto, unfolding(ctf_model::specs::Needs::greatest_in_parent))]
+fn told_needs(told: Told<'_>) -> u16
+    ensures { result ≡ greatest_in_parent (types_told (told_in told.entry)) }
+{
+    match told {
+        Told::Object(Some(number)) => in_parent(number),
+        Told::Function(Some(signature)) => signature_needs(signature),
+        _ => 0,
+    }
+}
+
+/// The greatest number of a parent's type that is told of symbols.
+#[tactic(auto, unfolding(crate::specs::Needed::entries_need))]
+pub fn entries_need(entries: Entries<'_>) -> u16
+    ensures { result ≡ entries_need_in entries.entry }
+{
+    let mut greatest = 0;
+    for entry in entries {
+        greatest = greater(greatest, told_needs(entry.told));
     }
     greatest
 }

@@ -30,7 +30,7 @@ fn has_long_tag(term: &Record<'_>) -> bool
 
 impl Numbers {
     /// Whether a number names a type that is not there.
-    fn is_missing(self, number: TypeNum) -> bool
+    pub fn is_missing(self, number: TypeNum) -> bool
         ensures { result ≡ missing self.child self.count number.0 }
     {
         match number.place(self.child) {

@@ -5,20 +5,23 @@ use Rattle.std.proofs.lemmas.List.{length-take, length-drop, take-take, drop-tak
 use Rattle.std.proofs.lemmas.Option.{same_Some}
 use Rattle.ctf_model.specs.Bytes.{number, u32_at}
 use Rattle.ctf_model.specs.declared.faults.Fault.{Fault}
-use Rattle.ctf_model.specs.declared.sections.Section.TheVariants.{SLabels, STypes}
+use Rattle.ctf_model.specs.declared.sections.Section.TheVariants.{SLabels, SObjects, SFunctions, STypes}
 use Rattle.ctf_model.specs.Dictionary.{Dictionary, Label, Denotes, AreLabels, labels_in, said_by, denoted, unless_fault}
+use Rattle.ctf_model.specs.Entries.{Entry, AreEntries}
 use Rattle.ctf_model.specs.Faults.{first_fault, label_sites}
 use Rattle.ctf_model.specs.Header.{fields, section}
 use Rattle.ctf_model.specs.Laws.{KeepsEveryRule}
 use Rattle.ctf_model.specs.Lists.{Lists, tables}
 use Rattle.ctf_model.specs.Name.{Tables, name}
 use Rattle.ctf_model.specs.Rules.{IsFirstFault}
+use Rattle.ctf_model.specs.Symbols.{Symbol}
 use Rattle.ctf_model.specs.Term.{Term}
 use Rattle.ctf_model.proofs.GoodNames.{the_value, good}
 use Rattle.ctf_model.proofs.Judge.{least_fault}
 use Rattle.ctf_model.proofs.HeaderRules.{kept_order, kept_end, section_len}
 use Rattle.ctf_model.proofs.SpelledSection.{section_spelled}
 use Rattle.ctf_model.proofs.Spelled.{IsNamed, AreNamed}
+use Rattle.ctf_model.proofs.Told.{entries_said, one_entries}
 use Rattle.ctf_model.proofs.Unique.{one_list}
 
 -- ---- labels
@@ -43,8 +46,8 @@ labels_read t ctf (suc n) at len inside low high named =
 labels_said : (s : Lists) → KeepsEveryRule s → AreLabels (tables s) (section s.ctf SLabels) (labels_in (tables s) (length (section s.ctf SLabels) / 8) (section s.ctf SLabels))
 labels_said s keeps =
     let h = fields s.ctf in
-    let order = kept_order s 17 (omega arith) (λ rule lt. keeps rule) in
-    let inside = kept_end s 17 (omega arith) (λ rule lt. keeps rule) in
+    let order = kept_order s 20 (omega arith) (λ rule lt. keeps rule) in
+    let inside = kept_end s 20 (omega arith) (λ rule lt. keeps rule) in
     let objects = order.objects in
     let functions = order.functions in
     let before = order.types in
@@ -53,7 +56,7 @@ labels_said s keeps =
     let size : (36 + h.objtoff) - (36 + h.lbloff) ≡ h.objtoff - h.lbloff = omega arith in
     let len : length (section s.ctf SLabels) ≡ h.objtoff - h.lbloff = section_len s.ctf (36 + h.lbloff) (36 + h.objtoff) (omega arith) (omega arith) ∙ size in
     let n = (h.objtoff - h.lbloff) / 8 in
-    let found = labels_read (tables s) s.ctf n (36 + h.lbloff) (h.objtoff - h.lbloff) (omega arith) (omega arith) (omega arith) (good s 17 (omega arith) (λ rule lt. keeps rule)).labels in
+    let found = labels_read (tables s) s.ctf n (36 + h.lbloff) (h.objtoff - h.lbloff) (omega arith) (omega arith) (omega arith) (good s 20 (omega arith) (λ rule lt. keeps rule)).labels in
     rw (len, size) found
 
 -- without a first fault every rule is kept
@@ -65,14 +68,16 @@ pub denotes_said : (s : Lists) → first_fault s ≡ None → Denotes s (said_by
 unfolding said_by
 denotes_said s e =
     let keeps = keeps_from s e in
-    let named = good s 17 (omega arith) (λ rule lt. keeps rule) in
+    let named = good s 20 (omega arith) (λ rule lt. keeps rule) in
     record {
       faultless = e;
       child = refl;
       parname = the_value (name (tables s) (fields s.ctf).parname) named.parname;
       parlabel = the_value (name (tables s) (fields s.ctf).parlabel) named.parlabel;
       labels = labels_said s keeps;
-      terms = (section_spelled s 17 (omega arith) (λ rule lt. keeps rule)).0;
+      terms = (section_spelled s 20 (omega arith) (λ rule lt. keeps rule)).0;
+      symbols = refl;
+      entries = entries_said s;
     }
 
 -- ---- only one dictionary
@@ -98,11 +103,15 @@ one_dictionary s d e p q =
     let parlabel : d.parlabel ≡ e.parlabel = same_Some d.parlabel e.parlabel (sym p.parlabel ∙ q.parlabel) in
     let labels : d.labels ≡ e.labels = one_labels (tables s) (section s.ctf SLabels) d.labels e.labels p.labels q.labels in
     let terms : d.terms ≡ e.terms = one_list (tables s) (section s.ctf STypes) (section s.ctf STypes) d.terms e.terms refl p.terms q.terms in
-    ap (λ (x : Bool). record { child = x; parname = d.parname; parlabel = d.parlabel; labels = d.labels; terms = d.terms }) child
-    ∙ ap (λ (x : List ℕ). record { child = e.child; parname = x; parlabel = d.parlabel; labels = d.labels; terms = d.terms }) parname
-    ∙ ap (λ (x : List ℕ). record { child = e.child; parname = e.parname; parlabel = x; labels = d.labels; terms = d.terms }) parlabel
-    ∙ ap (λ (x : List Label). record { child = e.child; parname = e.parname; parlabel = e.parlabel; labels = x; terms = d.terms }) labels
-    ∙ ap (λ (x : List Term). record { child = e.child; parname = e.parname; parlabel = e.parlabel; labels = e.labels; terms = x }) terms
+    let symbols : d.symbols ≡ e.symbols = p.symbols ∙ sym q.symbols in
+    let entries : d.entries ≡ e.entries = one_entries e.symbols (section s.ctf SObjects) (section s.ctf SFunctions) d.entries e.entries (subst (λ (xs : List Symbol). AreEntries xs (section s.ctf SObjects) (section s.ctf SFunctions) d.entries) symbols p.entries) q.entries in
+    ap (λ (x : Bool). record { child = x; parname = d.parname; parlabel = d.parlabel; labels = d.labels; terms = d.terms; symbols = d.symbols; entries = d.entries }) child
+    ∙ ap (λ (x : List ℕ). record { child = e.child; parname = x; parlabel = d.parlabel; labels = d.labels; terms = d.terms; symbols = d.symbols; entries = d.entries }) parname
+    ∙ ap (λ (x : List ℕ). record { child = e.child; parname = e.parname; parlabel = x; labels = d.labels; terms = d.terms; symbols = d.symbols; entries = d.entries }) parlabel
+    ∙ ap (λ (x : List Label). record { child = e.child; parname = e.parname; parlabel = e.parlabel; labels = x; terms = d.terms; symbols = d.symbols; entries = d.entries }) labels
+    ∙ ap (λ (x : List Term). record { child = e.child; parname = e.parname; parlabel = e.parlabel; labels = e.labels; terms = x; symbols = d.symbols; entries = d.entries }) terms
+    ∙ ap (λ (x : List Symbol). record { child = e.child; parname = e.parname; parlabel = e.parlabel; labels = e.labels; terms = e.terms; symbols = x; entries = d.entries }) symbols
+    ∙ ap (λ (x : List Entry). record { child = e.child; parname = e.parname; parlabel = e.parlabel; labels = e.labels; terms = e.terms; symbols = e.symbols; entries = x }) entries
 
 -- ---- what is computed
 

@@ -49,7 +49,7 @@ AllAgree s n (rule ∷ more) = (Keeps s n → Agrees (rule s) (IsBroken s n)) ×
 
 -- a first fault, or every rule is kept
 abbrev Judged : Lists → Option Fault → Type 0
-Judged s fault = MatchOption fault (Keeps s 17) (IsFirstFault s)
+Judged s fault = MatchOption fault (Keeps s 20) (IsFirstFault s)
 
 -- a rule that is broken is the first fault; one that is kept leaves it to the later ones
 judge : (s : Lists) (n : ℕ) (here : Option ℕ) (later : Option Fault) → Keeps s n → Agrees here (IsBroken s n) → (Keeps s (n + 1) → Judged s later) → Judged s (or_later n here later)
@@ -57,8 +57,8 @@ judge s n None later keeps agrees rest = rest (keeps_next s n keeps agrees)
 judge s n (Some p) later keeps agrees rest = record { broken = agrees.0; earlier = keeps; least = agrees.1 }
 
 -- the first of the rules that computes a place is the first fault
-pub first_from : (s : Lists) (table : List (Lists → Option ℕ)) (n : ℕ) → n + length table ≡ 17 → Keeps s n → AllAgree s n table → Judged s (first_broken n table s)
-first_from s [] n len keeps all = let e : n ≡ 17 = omega arith in subst (λ (m : ℕ). Keeps s m) e keeps
+pub first_from : (s : Lists) (table : List (Lists → Option ℕ)) (n : ℕ) → n + length table ≡ 20 → Keeps s n → AllAgree s n table → Judged s (first_broken n table s)
+first_from s [] n len keeps all = let e : n ≡ 20 = omega arith in subst (λ (m : ℕ). Keeps s m) e keeps
 first_from s (rule ∷ more) n len keeps all = judge s n (rule s) (first_broken (n + 1) more s) keeps (all.0 keeps) (λ k. first_from s more (n + 1) (omega arith) k all.1)
 
 -- the rule before the first is never broken
@@ -66,9 +66,9 @@ pub keeps_none : (s : Lists) → Keeps s 1
 keeps_none s = keeps_next s 0 (λ rule lt. absurd (omega arith)) (λ place broken. broken)
 
 -- no rule has a number beyond the last
-past_all : (s : Lists) (rule place : ℕ) → 17 ≤ rule → IsBroken s rule place → ⊥
+past_all : (s : Lists) (rule place : ℕ) → 20 ≤ rule → IsBroken s rule place → ⊥
 past_all s rule place le broken = subst (λ (F : Lists → ℕ → Type 0). F s place) (get_or-eq_default rules Never {n = rule} le) broken
 
 -- there are no rules beyond the last
-pub keeps_every : (s : Lists) → Keeps s 17 → KeepsEveryRule s
-keeps_every s keeps rule place broken = ⊎_elim (λ lt. keeps rule lt place broken) (λ le. past_all s rule place le broken) (cases_lt rule 17)
+pub keeps_every : (s : Lists) → Keeps s 20 → KeepsEveryRule s
+keeps_every s keeps rule place broken = ⊎_elim (λ lt. keeps rule lt place broken) (λ le. past_all s rule place le broken) (cases_lt rule 20)

@@ -12,14 +12,15 @@ use Rattle.ctf_model.proofs.HeaderRules.{too_short_agrees, bad_magic_agrees, bad
 use Rattle.ctf_model.proofs.NameRules.{bad_name_agrees}
 use Rattle.ctf_model.proofs.ReferenceRules.{bad_reference_agrees}
 use Rattle.ctf_model.proofs.RecordRules.{truncated_agrees, bad_kind_agrees, too_many_agrees}
+use Rattle.ctf_model.proofs.SymbolRules.{bad_funcs_agrees, bad_symbol_type_agrees, bad_symtab_agrees}
 
 -- each rule of the table agrees with its fact
 all_agree : (s : Lists) → AllAgree s 1 rules
 unfolding rules
-all_agree s = (λ k. too_short_agrees s, (λ k. bad_magic_agrees s, (λ k. bad_version_agrees s, (λ k. compressed_agrees s, (λ k. short_header_agrees s, (λ k. bad_order_agrees s, (λ k. bad_align_agrees s, (λ k. past_end_agrees s, (λ k. bad_strings_agrees s k, (λ k. truncated_agrees s, (λ k. bad_kind_agrees s, (λ k. too_many_agrees s k, (λ k. bad_name_agrees s k, (λ k. bad_reference_agrees s k, (λ k. value_deep_agrees s k, (λ k. decl_deep_agrees s k, tt))))))))))))))))
+all_agree s = (λ k. too_short_agrees s, (λ k. bad_magic_agrees s, (λ k. bad_version_agrees s, (λ k. compressed_agrees s, (λ k. short_header_agrees s, (λ k. bad_order_agrees s, (λ k. bad_align_agrees s, (λ k. past_end_agrees s, (λ k. bad_strings_agrees s k, (λ k. truncated_agrees s, (λ k. bad_kind_agrees s, (λ k. too_many_agrees s k, (λ k. bad_name_agrees s k, (λ k. bad_reference_agrees s k, (λ k. value_deep_agrees s k, (λ k. decl_deep_agrees s k, (λ k. bad_funcs_agrees s, (λ k. bad_symbol_type_agrees s k, (λ k. bad_symtab_agrees s, tt)))))))))))))))))))
 
 -- rules kept up to the last are all rules
-to_every : (s : Lists) (fault : Option Fault) → MatchOption fault (Keeps s 17) (IsFirstFault s) → MatchOption fault (KeepsEveryRule s) (IsFirstFault s)
+to_every : (s : Lists) (fault : Option Fault) → MatchOption fault (Keeps s 20) (IsFirstFault s) → MatchOption fault (KeepsEveryRule s) (IsFirstFault s)
 to_every s None keeps = keeps_every s keeps
 to_every s (Some f) first = first
 

@@ -17,6 +17,8 @@ pub mod RecordRules
 pub mod ReferenceRules
 pub mod Spelled
 pub mod SpelledSection
+pub mod SymbolRules
+pub mod Told
 pub mod Unique
 pub mod Walk
 pub mod KeyOrder

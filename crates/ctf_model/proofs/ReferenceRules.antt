@@ -36,7 +36,7 @@ use Rattle.ctf_model.proofs.SpelledSection.{parts_said, few_records}
 
 -- ---- tests and facts
 
-missing_true : (child : Bool) (count n : ℕ) → is_missing child count n ≡ true → IsMissing child count n
+pub missing_true : (child : Bool) (count n : ℕ) → is_missing child count n ≡ true → IsMissing child count n
 missing_true child count n e = at (place child n) e
   where
     at : (p : Place) → is_missing_at count n p ≡ true → IsMissingAt count n p
@@ -44,7 +44,7 @@ missing_true child count n e = at (place child n) e
     at (Own i) e = leb-true count i e
     at (Parents i) e = absurd cc
 
-true_missing : (child : Bool) (count n : ℕ) → IsMissing child count n → is_missing child count n ≡ true
+pub true_missing : (child : Bool) (count n : ℕ) → IsMissing child count n → is_missing child count n ≡ true
 true_missing child count n h = at (place child n) h
   where
     at : (p : Place) → IsMissingAt count n p → is_missing_at count n p ≡ true

@@ -13,7 +13,7 @@ use Rattle.ctf_model.specs.declared.faults.Fault.{Fault}
 use Rattle.ctf_model.specs.declared.faults.TheConstants.Fault.{NOT_JSON, BAD_REQUEST, LONG_LINE}
 use Rattle.ctf_model.specs.declared.numbers.TypeNum.{TypeNum}
 use Rattle.ctf_model.specs.declared.requests.ListName.{ListName}
-use Rattle.ctf_model.specs.declared.requests.ListName.TheVariants.{Ctf, Str}
+use Rattle.ctf_model.specs.declared.requests.ListName.TheVariants.{Ctf, Sym, Str}
 use Rattle.ctf_model.specs.declared.requests.Request.{Request}
 use Rattle.ctf_model.specs.declared.requests.Request.TheVariants.{Changes, Asks}
 use Rattle.ctf_model.specs.declared.requests.Change.TheVariants as change
@@ -52,8 +52,9 @@ not_too_many bytes = if nat_le (length bytes) longest_piece then Some bytes else
 abbrev pub bytes_spelled : List ℕ → Option (List ℕ)
 bytes_spelled digits = option_and_then not_too_many (result_ok (decode_of digits))
 
+-- the list that a part belongs to
 abbrev pub list_named : List ℕ → Option ListName
-list_named w = if is_text w (codes "ctf") then Some Ctf else if is_text w (codes "str") then Some Str else None
+list_named w = if is_text w (codes "ctf") then Some Ctf else if is_text w (codes "sym") then Some Sym else if is_text w (codes "str") then Some Str else None
 
 -- ---- words, each with its fields
 

@@ -13,3 +13,7 @@ u16_at bytes at = number (take 2 (drop at bytes))
 -- the number in the four bytes at a place
 abbrev pub u32_at : List ℕ → ℕ → ℕ
 u32_at bytes at = number (take 4 (drop at bytes))
+
+-- the number in the eight bytes at a place
+abbrev pub u64_at : List ℕ → ℕ → ℕ
+u64_at bytes at = number (take 8 (drop at bytes))

@@ -1,14 +1,16 @@
 -- What the bytes of a dictionary denote. Source: ctf(5); a child is told by its parent's name (ours).
 use Rattle.std.specs.Prelude.{◌≡◌, ◌<◌, ◌≤◌, ℕ, zero, suc, ◌/◌, Bool, List, [], ◌∷◌, length, drop, Option, Some, None, unwrap_or}
 use Rattle.ctf_model.specs.Bytes.{u32_at}
+use Rattle.ctf_model.specs.Entries.{Entry, AreEntries, entries}
 use Rattle.ctf_model.specs.Faults.{first_fault, types}
 use Rattle.ctf_model.specs.Header.{fields, is_child, section}
 use Rattle.ctf_model.specs.Lists.{Lists, tables}
 use Rattle.ctf_model.specs.Name.{Tables, name}
 use Rattle.ctf_model.specs.Section.{Section, terms_in}
+use Rattle.ctf_model.specs.Symbols.{Symbol, symbols}
 use Rattle.ctf_model.specs.Term.{Term}
 use Rattle.ctf_model.specs.declared.faults.Fault.{Fault}
-use Rattle.ctf_model.specs.declared.sections.Section.TheVariants.{SLabels, STypes}
+use Rattle.ctf_model.specs.declared.sections.Section.TheVariants.{SLabels, SObjects, SFunctions, STypes}
 
 -- a mark on a dictionary: a name, and the last type that it covers
 pub record Label : Type 0 where
@@ -22,6 +24,9 @@ pub record Dictionary : Type 0 where
   pub parlabel : List ℕ
   pub labels : List Label
   pub terms : List Term
+  pub symbols : List Symbol
+  -- what is told of the considered ones
+  pub entries : List Entry
 
 -- ---- as facts
 
@@ -38,6 +43,8 @@ pub record Denotes (s : Lists) (d : Dictionary) : Type 0 where
   pub parlabel : name (tables s) (fields s.ctf).parlabel ≡ Some d.parlabel
   pub labels : AreLabels (tables s) (section s.ctf SLabels) d.labels
   pub terms : Section (tables s) (section s.ctf STypes) d.terms
+  pub symbols : d.symbols ≡ symbols s
+  pub entries : AreEntries d.symbols (section s.ctf SObjects) (section s.ctf SFunctions) d.entries
 
 -- ---- the same, computed
 
@@ -60,6 +67,8 @@ said_by s =
       parlabel = name_or_empty t h.parlabel;
       labels = labels_in t (length (section s.ctf SLabels) / 8) (section s.ctf SLabels);
       terms = terms_in t (types s.ctf);
+      symbols = symbols s;
+      entries = entries s;
     }
 
 abbrev pub unless_fault : Option Fault → Dictionary → Option Dictionary

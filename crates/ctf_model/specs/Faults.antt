@@ -1,13 +1,15 @@
 -- The first fault of a dictionary: a table of rules, each with the least place where it is broken, or none.
 -- The rules themselves are ours, over the layout of ctf(5); Rules.antt says them as facts.
-use Rattle.std.specs.Prelude.{ℕ, zero, suc, ◌+◌, ◌-◌, ◌/◌, ◌%◌, ◌++◌, Result, Ok, Err, is_none, ◌==◌, ◌||◌, ◌&&◌, not, nat_lt, Bool, List, [], ◌∷◌, length, map, drop, slice_index, Option, Some, None, if◌then◌else◌}
+use Rattle.std.specs.Prelude.{ℕ, zero, suc, ◌+◌, ◌-◌, ◌/◌, ◌%◌, ◌++◌, Result, Ok, Err, is_none, ◌==◌, ◌||◌, ◌&&◌, not, nat_lt, Bool, List, [], ◌∷◌, length, map, drop, slice_index, Option, Some, None, unwrap_or, if◌then◌else◌}
+use Rattle.std.specs.List.{list_any}
 use Rattle.ctf_model.specs.Bytes.{u16_at, u32_at}
 use Rattle.ctf_model.specs.Chains.{by_value, declarator, edges, longest_chain, within}
+use Rattle.ctf_model.specs.Entries.{Entry, entries, function_sites, is_bad_entry, types_told}
 use Rattle.ctf_model.specs.Header.{Fields, fields, is_child, section}
 use Rattle.ctf_model.specs.Lists.{Lists, tables}
 use Rattle.ctf_model.specs.Name.{Tables, name}
 use Rattle.ctf_model.specs.Record.{kind, size, vlen, head_len, member_len, behind_head}
-use Rattle.ctf_model.specs.References.{is_misnaming}
+use Rattle.ctf_model.specs.References.{is_missing, is_misnaming}
 use Rattle.ctf_model.specs.Section.{Piece, records, terms_in}
 use Rattle.ctf_model.specs.Term.{Body}
 use Rattle.ctf_model.specs.declared.faults.Fault.{Fault}
@@ -168,6 +170,29 @@ value_deep s = first_deep (edges_by by_value s) 0 (length (types s.ctf))
 abbrev pub decl_deep : Lists → Option ℕ
 decl_deep s = first_deep (edges_by declarator s) 0 (length (types s.ctf))
 
+-- ---- symbols
+
+-- the place of the first item that passes a test
+abbrev pub first_where : {X : Type 0} → (X → Bool) → (X → ℕ) → List X → Option ℕ
+first_where test place [] = None
+first_where test place (x ∷ xs) = if test x then Some (place x) else first_where test place xs
+
+-- the entry of a function is bad
+unfoldable pub bad_funcs : Lists → Option ℕ
+bad_funcs s = first_where (λ site. is_bad_entry site.left) (λ site. site.number) (function_sites s)
+
+-- one of so many own types is told, and it is not there
+abbrev pub tells_missing : Bool → ℕ → Entry → Bool
+tells_missing child count e = list_any (is_missing child count) (types_told e.told)
+
+-- of a symbol a type is told that is not there
+unfoldable pub bad_symbol_type : Lists → Option ℕ
+bad_symbol_type s = first_where (tells_missing (is_child (fields s.ctf)) (length (types s.ctf))) (λ e. e.number) (entries s)
+
+-- a symbol is cut off
+abbrev pub bad_symtab : Lists → Option ℕ
+bad_symtab s = if_broken (nat_lt 0 (length (unwrap_or s.sym []) % 24))
+
 -- ---- the table
 
 -- the rules of the header, numbered from 1
@@ -179,7 +204,7 @@ on_ctf rule s = rule s.ctf
 
 -- all rules, numbered from 1
 unfoldable pub rules : List (Lists → Option ℕ)
-rules = map on_ctf header_rules ++ truncated ∷ bad_kind ∷ too_many ∷ bad_name ∷ bad_reference ∷ value_deep ∷ decl_deep ∷ []
+rules = map on_ctf header_rules ++ truncated ∷ bad_kind ∷ too_many ∷ bad_name ∷ bad_reference ∷ value_deep ∷ decl_deep ∷ bad_funcs ∷ bad_symbol_type ∷ bad_symtab ∷ []
 
 -- a fault at the place, if there is one, else what comes later
 abbrev pub or_later : ℕ → Option ℕ → Option Fault → Option Fault

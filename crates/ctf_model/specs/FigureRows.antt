@@ -29,7 +29,7 @@ abbrev pub array_of : ℕ → ℕ → ℕ → Term
 array_of size contents count = unnamed (term.array (record { size = size; contents = contents; index = 1; count = count }))
 
 abbrev pub dictionary : Bool → List Term → Dictionary
-dictionary child types = record { child = child; parname = []; parlabel = []; labels = []; terms = types }
+dictionary child types = record { child = child; parname = []; parlabel = []; labels = []; terms = types; symbols = []; entries = [] }
 
 abbrev pub by_itself : DataModel → List Term → Space
 by_itself model types = record { own = dictionary false types; parent = None; model = model }

@@ -4,6 +4,8 @@ pub mod Header
 pub mod Term
 pub mod Record
 pub mod Spelling
+pub mod Symbols
+pub mod Entries
 pub mod Section
 pub mod NamePlaces
 pub mod Lists
@@ -41,5 +43,7 @@ pub mod Output
 pub mod Rows
 pub mod KindRows
 pub mod QuestionRows
+pub mod SymbolQuestions
+pub mod SymbolRows
 pub mod ParentRows
 pub mod KeyOrder

@@ -1,7 +1,8 @@
 -- Which types of its parent a child names. Source: ctf(5), of parents and children; CTF_TYPE_ISPARENT of sys/ctf.h.
-use Rattle.std.specs.Prelude.{ℕ, ◌+◌, max, true, List, [], ◌∷◌, if◌then◌else◌}
+use Rattle.std.specs.Prelude.{ℕ, ◌+◌, max, true, List, [], ◌∷◌, ◌++◌, if◌then◌else◌}
 use Rattle.std.specs.List.{flat_map}
 use Rattle.ctf_model.specs.Dictionary.{Dictionary}
+use Rattle.ctf_model.specs.Entries.{types_told}
 use Rattle.ctf_model.specs.References.{references}
 use Rattle.ctf_model.specs.TypePlaces.{place}
 use Rattle.ctf_model.specs.declared.numbers.Place.{Place}
@@ -21,6 +22,10 @@ unfoldable pub greatest_in_parent : List ℕ → ℕ
 greatest_in_parent [] = 0
 greatest_in_parent (n ∷ ns) = max (number_in_parent n) (greatest_in_parent ns)
 
--- the greatest number of a parent's type that the types of a dictionary name; 0 where it is no child
+-- the types that the types of a dictionary name, and those that are told of its symbols
+abbrev pub named_by : Dictionary → List ℕ
+named_by d = flat_map (λ x. references x.body) d.terms ++ flat_map (λ e. types_told e.told) d.entries
+
+-- the greatest number of a parent's type that a dictionary names; 0 where it is no child
 abbrev pub needed : Dictionary → ℕ
-needed d = if d.child then greatest_in_parent (flat_map (λ x. references x.body) d.terms) else 0
+needed d = if d.child then greatest_in_parent (named_by d) else 0

@@ -73,10 +73,10 @@ int = four_bytes (codes "int")
 
 -- a dictionary of these types that isn't a child, with no labels
 abbrev pub of_types : List Term → Dictionary
-of_types types = record { child = false; parname = []; parlabel = []; labels = []; terms = types }
+of_types types = record { child = false; parname = []; parlabel = []; labels = []; terms = types; symbols = []; entries = [] }
 
 abbrev pub child : Dictionary
-child = record { child = true; parname = codes "p"; parlabel = codes "q"; labels = record { name = codes "r"; last = 0x8001 } ∷ []; terms = [] }
+child = record { child = true; parname = codes "p"; parlabel = codes "q"; labels = record { name = codes "r"; last = 0x8001 } ∷ []; terms = []; symbols = []; entries = [] }
 
 abbrev pub long_integer : Term
 long_integer = record { name = []; root = false; body = term.integer (record { size = 4294967300; encoding = 2; offset = 3; bits = 16 }) }

@@ -1,7 +1,8 @@
 -- The rules that a dictionary keeps, each as a fact about the whole lists. Source: ours, over the layout of ctf(5).
-use Rattle.std.specs.Prelude.{◌≡◌, ◌≢◌, ◌<◌, ◌≤◌, ℕ, ◌+◌, ◌%◌, List, [], ◌∷◌, ◌++◌, length, slice_index, slice_index_or, Bool, None, Any, ◌⊎◌}
+use Rattle.std.specs.Prelude.{◌≡◌, ◌≢◌, ◌<◌, ◌≤◌, ℕ, ◌+◌, ◌%◌, List, [], ◌∷◌, ◌++◌, length, slice_index, slice_index_or, Bool, false, None, Any, unwrap_or, ◌⊎◌}
 use Rattle.ctf_model.specs.Bytes.{u16_at, u32_at}
 use Rattle.ctf_model.specs.Chains.{by_value, declarator, longest_chain, BeginsChain}
+use Rattle.ctf_model.specs.Entries.{Entry, AreEntries, entry_len, function_sites, is_silent, kind_number, types_told}
 use Rattle.ctf_model.specs.Header.{Fields, fields, is_child, section}
 use Rattle.ctf_model.specs.Lists.{Lists, tables}
 use Rattle.ctf_model.specs.Name.{Tables, name}
@@ -10,12 +11,13 @@ use Rattle.ctf_model.specs.Record.{kind}
 use Rattle.ctf_model.specs.References.{references}
 use Rattle.ctf_model.specs.Section.{Section, IsCut, RecordOf}
 use Rattle.ctf_model.specs.Spelling.{HasStrayMark, Spells}
+use Rattle.ctf_model.specs.Symbols.{symbols}
 use Rattle.ctf_model.specs.Term.{Term, Body}
 use Rattle.ctf_model.specs.TypePlaces.{place}
 use Rattle.ctf_model.specs.declared.faults.Fault.{Fault}
 use Rattle.ctf_model.specs.declared.numbers.Place.{Place}
 use Rattle.ctf_model.specs.declared.numbers.Place.TheVariants.{Nowhere, Own, Parents}
-use Rattle.ctf_model.specs.declared.sections.Section.TheVariants.{STypes, SStrings}
+use Rattle.ctf_model.specs.declared.sections.Section.TheVariants.{SObjects, SFunctions, STypes, SStrings}
 
 -- ---- each rule, whatever the rules before it say: the lists break it at a place
 
@@ -110,6 +112,29 @@ ValueDeep s place = IsDeepBy by_value s place
 abbrev pub DeclDeep : Lists → ℕ → Type 0
 DeclDeep s place = IsDeepBy declarator s place
 
+-- the entry begins inside its section, and runs past the end or has a kind that is not that of functions
+abbrev pub IsBadEntry : List ℕ → Type 0
+IsBadEntry b = (0 < length b) × ((length b < entry_len b) ⊎ ((is_silent b ≡ false) × (kind_number b ≢ 5)))
+
+-- the entry of the function whose symbol has the place as its number is bad
+abbrev pub BadFuncs : Lists → ℕ → Type 0
+BadFuncs s place = Any (λ site. (site.number ≡ place) × IsBadEntry site.left) (function_sites s)
+
+-- one of so many own types is told, and it is not there
+abbrev pub TellsMissing : Bool → ℕ → Entry → Type 0
+TellsMissing child count e = Any (IsMissing child count) (types_told e.told)
+
+-- among what is told of the considered symbols, the one with the place as its number is told such a type
+abbrev pub BadSymbolType : Lists → ℕ → Type 0
+BadSymbolType s place =
+    (parts : List (List ℕ)) × (rest : List ℕ) × IsCut (section s.ctf STypes) parts rest
+    × (es : List Entry) × AreEntries (symbols s) (section s.ctf SObjects) (section s.ctf SFunctions) es
+    × Any (λ e. (e.number ≡ place) × TellsMissing (is_child (fields s.ctf)) (length parts) e) es
+
+-- the symbol table ends inside a symbol
+abbrev pub BadSymtab : Lists → ℕ → Type 0
+BadSymtab s place = (place ≡ 0) × (0 < length (unwrap_or s.sym []) % 24)
+
 -- ---- the first fault
 
 -- no rule has the number 0
@@ -118,7 +143,7 @@ Never s place = ⊥
 
 -- the rules by their numbers
 abbrev pub rules : List (Lists → ℕ → Type 0)
-rules = Never ∷ TooShort ∷ BadMagic ∷ BadVersion ∷ IsCompressed ∷ ShortHeader ∷ BadOrder ∷ BadAlign ∷ PastEnd ∷ BadStrings ∷ Truncated ∷ BadKind ∷ TooMany ∷ BadName ∷ BadReference ∷ ValueDeep ∷ DeclDeep ∷ []
+rules = Never ∷ TooShort ∷ BadMagic ∷ BadVersion ∷ IsCompressed ∷ ShortHeader ∷ BadOrder ∷ BadAlign ∷ PastEnd ∷ BadStrings ∷ Truncated ∷ BadKind ∷ TooMany ∷ BadName ∷ BadReference ∷ ValueDeep ∷ DeclDeep ∷ BadFuncs ∷ BadSymbolType ∷ BadSymtab ∷ []
 
 -- the rule of a number is broken at the place
 abbrev pub IsBroken : Lists → ℕ → ℕ → Type 0

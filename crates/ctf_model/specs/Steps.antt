@@ -14,7 +14,7 @@ use Rattle.ctf_model.specs.declared.data_model.DataModel.TheVariants.{Lp64}
 use Rattle.ctf_model.specs.declared.faults.Fault.{Fault}
 use Rattle.ctf_model.specs.declared.faults.TheConstants.Fault.{NO_SLOT, SLOTS_FULL, STAGE_FULL}
 use Rattle.ctf_model.specs.declared.requests.ListName.{ListName}
-use Rattle.ctf_model.specs.declared.requests.ListName.TheVariants.{Ctf, Str}
+use Rattle.ctf_model.specs.declared.requests.ListName.TheVariants.{Ctf, Sym, Str}
 use Rattle.ctf_model.specs.declared.requests.Request.{Request}
 use Rattle.ctf_model.specs.declared.questions.TypeQuestion.{TypeQuestion}
 use Rattle.ctf_model.specs.declared.questions.TypeQuestion.TheVariants as about
@@ -48,11 +48,13 @@ longest_list = 16777216
 -- a list that no part named is empty
 abbrev pub staged : ListName → Lists → List ℕ
 staged Ctf stage = stage.ctf
+staged Sym stage = unwrap_or stage.sym []
 staged Str stage = unwrap_or stage.strs []
 
 -- a list is staged from the first part that names it on, even where that has no bytes
 abbrev pub with_staged : ListName → List ℕ → Lists → Lists
 with_staged Ctf bytes stage = record stage { ctf = bytes }
+with_staged Sym bytes stage = record stage { sym = Some bytes }
 with_staged Str bytes stage = record stage { strs = Some bytes }
 
 -- a list becomes this one, if it may be so long

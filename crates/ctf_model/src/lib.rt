@@ -13,6 +13,7 @@ mod questions;
 mod requests;
 mod rows;
 mod sections;
+mod symbols;
 mod words;
 
 pub use bytes::{Bytes, LONGEST_PIECE, Piece};
@@ -33,7 +34,8 @@ pub use rows::{
     bytes_denote, bytes_have_faults, figures_are, figures_over_parents, kinds_denote,
     kinds_have_faults, lines_ask, lines_say, lists_are_long, numbers_name, output_is,
     parents_are_imported, paths_lead, questions_are_answered, questions_are_lines, session_runs,
-    slots_are_closed,
+    slots_are_closed, symbols_have_faults, symbols_tell,
 };
 pub use sections::Section;
+pub use symbols::SymbolClass;
 pub use words::Word;

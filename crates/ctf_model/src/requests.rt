@@ -8,6 +8,7 @@ use crate::questions::Question;
 #[derive(Clone, Copy, Debug, PartialEq, Eq)]
 pub enum ListName {
     Ctf,
+    Sym,
     Str,
 }
 

@@ -4,6 +4,7 @@ ghost use Rattle.ctf_model.specs.FigureRows.{FiguresAre, FiguresOverParents, Pat
 ghost use Rattle.ctf_model.specs.KindRows.{KindsDenote, KindsHaveFaults};
 ghost use Rattle.ctf_model.specs.ParentRows.{ParentsAreImported, SlotsAreClosed};
 ghost use Rattle.ctf_model.specs.QuestionRows.{PathsAreLines, QuestionsAreAnswered, QuestionsAreLines, TextsSpell};
+ghost use Rattle.ctf_model.specs.SymbolRows.{SymbolsHaveFaults, SymbolsTell};
 ghost use Rattle.ctf_model.specs.Rows.{BytesDenote, BytesHaveFaults, LinesAsk, LinesSay, ListsAreLong, NumbersName, OutputIs, SessionRuns};
 
 /// What bytes of a few types denote.
@@ -24,6 +25,16 @@ pub fn kinds_denote()
 /// The first fault of records of other kinds than integers.
 pub fn kinds_have_faults()
     ensures { KindsHaveFaults }
+{}
+
+/// What a dictionary tells of symbols, and what it answers.
+pub fn symbols_tell()
+    ensures { SymbolsTell }
+{}
+
+/// The first fault of entries and of a symbol table.
+pub fn symbols_have_faults()
+    ensures { SymbolsHaveFaults }
 {}
 
 /// What questions on types are answered.

@@ -1,2 +1,3 @@
+pub mod LastNames
 pub mod Numbers
 pub mod Texts

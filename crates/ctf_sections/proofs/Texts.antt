@@ -1,11 +1,11 @@
 -- A search for a zero byte finds the end of a text.
-use Rattle.std.proofs.Common.{◌≡◌, ℕ, zero, suc, ◌+◌, ◌<◌, Bool, true, false, List, [], ◌∷◌, length, get_or, take, Option, Some, None, refl, ap, ◌∙◌, arith}
+use Rattle.std.proofs.Common.{◌≡◌, ℕ, zero, suc, ◌+◌, ◌<◌, Bool, true, false, List, [], ◌∷◌, length, get_or, take, Option, Some, None, refl, sym, ap, ◌∙◌, arith}
 use Rattle.std.proofs.Math.Dec.{leb-zero, leb-suc-zero, leb-suc-suc}
 use Rattle.std.specs.Option.{option_map}
 use Rattle.std.specs.Prelude.{if◌then◌else◌, nat_le}
 use Rattle.std.specs.List.{list_any, before_first, position_or_len}
 use Rattle.std.proofs.lemmas.Bool.{false_from_ne_true}
-use Rattle.std.proofs.lemmas.List.{get_or_default}
+use Rattle.std.proofs.lemmas.List.{get_or_default, take_all}
 use Rattle.std.proofs.lemmas.List.Folds.{list_any_at, list_any_none}
 use Rattle.std.proofs.lemmas.List.Sums.{position_or_len_is}
 use Rattle.memchr.specs.Find.{IsFirstByte, is_byte}
@@ -21,6 +21,14 @@ text_none bytes h = rw (list_any_none is_zero bytes (λ k d lt. false_from_ne_tr
 
 pub text_found : (bytes : List ℕ) (k : ℕ) → IsFirstByte (is_byte 0) bytes (Some k) → text bytes ≡ Some (take k bytes)
 text_found bytes k h = rw (list_any_at is_zero bytes k 0 h.0.high h.1, position_or_len_is is_zero bytes k 0 (omega arith) (λ j lt. false_from_ne_true _ (λ hit. h.0.before j (omega arith) lt hit)) (λ lt. h.1)) refl
+
+-- what stands before the first zero byte
+pub front_before : (bytes : List ℕ) (k : ℕ) → IsFirstByte (is_byte 0) bytes (Some k) → take k bytes ≡ before_first is_zero bytes
+front_before bytes k h = rw (position_or_len_is is_zero bytes k 0 (omega arith) (λ j lt. false_from_ne_true _ (λ hit. h.0.before j (omega arith) lt hit)) (λ lt. h.1)) refl
+
+-- where there is no zero byte that is all
+pub all_before : (bytes : List ℕ) → IsFirstByte (is_byte 0) bytes None → bytes ≡ before_first is_zero bytes
+all_before bytes h = sym (ap (λ (n : ℕ). take n bytes) (position_or_len_is is_zero bytes (length bytes) 0 (omega arith) (λ j lt. false_from_ne_true _ (λ hit. h j (omega arith) lt hit)) (λ lt. absurd (omega arith))) ∙ take_all (length bytes) bytes (omega arith))
 
 -- what a search finds is the end of the text
 pub text_is : (bytes : List ℕ) (r : Option ℕ) → IsFirstByte (is_byte 0) bytes r → text bytes ≡ option_map (λ k. take k bytes) r

@@ -1,6 +1,6 @@
 //! Numbers in bytes, the low byte first.
 ghost use Rattle.std.specs.Prelude.{◌≡◌, ◌+◌, ◌≤◌, length};
-ghost use Rattle.ctf_model.specs.Bytes.{u16_at as number16_at, u32_at as number32_at};
+ghost use Rattle.ctf_model.specs.Bytes.{u16_at as number16_at, u32_at as number32_at, u64_at as number64_at};
 
 use byteorder::{ByteOrder, LittleEndian};
 
@@ -18,4 +18,12 @@ pub fn u32_at(bytes: &[u8], at: usize) -> u32
     ensures { result ≡ number32_at bytes.now at }
 {
     LittleEndian::read_u32(&bytes[at..])
+}
+
+/// The number in the eight bytes from an offset on.
+pub fn u64_at(bytes: &[u8], at: usize) -> u64
+    requires { at + 8 ≤ length bytes.now }
+    ensures { result ≡ number64_at bytes.now at }
+{
+    LittleEndian::read_u64(&bytes[at..])
 }

@@ -2,8 +2,10 @@
 #![tactic(auto)]
 
 pub mod bytes;
+mod ends;
 mod header;
 mod strings;
 
+pub use ends::{end_of_names, up_to_zero};
 pub use header::Header;
 pub use strings::Strings;

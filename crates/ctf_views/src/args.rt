@@ -34,7 +34,8 @@ impl Row for ArgumentRow {
 /// The types of a function's arguments that are left, as they stand, a last 0 included.
 pub type Args<'a> = Rows<'a, ArgumentRow>;
 
-pub(crate) fn arguments(bytes: &[u8], count: usize) -> Args<'_>
+/// The types that stand in the first bytes, two bytes each.
+pub fn arguments(bytes: &[u8], count: usize) -> Args<'_>
     requires { 2 * count ≤ length bytes.now }
     ensures { items argument_of 2 count bytes.now ≡ Some result }
 {

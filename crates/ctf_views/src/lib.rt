@@ -10,7 +10,7 @@ mod row;
 mod rows;
 mod shown;
 
-pub use args::Args;
+pub use args::{Args, arguments};
 pub use enumerators::{Enumerator, Enumerators};
 pub use members::{Member, Members};
 pub use parts::{ArrayInfo, Encoding};

@@ -87,13 +87,43 @@ returns-in_err-judge_types-clause-late c =
     let bad = c.bad_name.ensures ∙ ap (λ (t : Tables). first_nameless t (sites s.ctf)) same in
     rw (p.1, p.2) (at_types_or_late s c.bytes_in-types.result.now _ c.in_ok-count.count c.bad_name.result c.in_err-judge_types.field-0.0 c.in_ok-header.ensures.exact_ok part c.in_ok-count.ensures.exact_ok bad c.in_default.is (same_child c.parname-child.result c.in_ok-header.header (fields c.args.ctf.now) c.parname-child.ensures c.in_ok-header.ensures.fields) c.in_ok-count.ensures.count c.in_err-judge_types.ensures.late)
 
+pub judge_symbols-requires : goal.judge_symbols-requires
+judge_symbols-requires c =
+    let part = types_are c.args.ctf.now c.bytes_in-types.result.now c.bytes_in-types.ensures.bytes in
+    record {
+      fields = c.in_ok-header.ensures.fields;
+      inside = c.in_ok-header.ensures.inside;
+      child = same_child c.parname-child.result c.in_ok-header.header (fields c.args.ctf.now) c.parname-child.ensures c.in_ok-header.ensures.fields;
+      count = c.in_ok-count.ensures.count ∙ ap (λ (l : List (Result Piece Fault)). length l) part;
+    }
+
+pub returns-in_err-judge_symbols-clause-exact_err : goal.returns-in_err-judge_symbols-clause-exact_err
+returns-in_err-judge_symbols-clause-exact_err c =
+    let p = err_from_is_err_and c.from_residual-in_err-judge_symbols.result c.from_residual-in_err-judge_symbols.ensures.1 in
+    let s = given c.args.ctf.now (option_copied c.args.sym) (option_copied c.args.strs) in
+    let part = types_are s.ctf c.bytes_in-types.result.now c.bytes_in-types.ensures.bytes in
+    let same = same_tables _ s c.bytes_in.result.now c.new-ends.ensures c.bytes_in.ensures.bytes in
+    let bad = c.bad_name.ensures ∙ ap (λ (t : Tables). first_nameless t (sites s.ctf)) same in
+    let none = at_types s c.bytes_in-types.result.now _ c.bad_name.result None c.in_ok-header.ensures.exact_ok part c.in_ok-count.ensures.exact_ok bad c.in_default.is (same_child c.parname-child.result c.in_ok-header.header (fields c.args.ctf.now) c.parname-child.ensures c.in_ok-header.ensures.fields) c.in_ok-judge_types.ensures.ok in
+    rw (p.1, p.2) (inr (none ∙ c.in_err-judge_symbols.ensures.err))
+
+pub returns-in_err-judge_symbols-clause-late : goal.returns-in_err-judge_symbols-clause-late
+returns-in_err-judge_symbols-clause-late c =
+    let p = err_from_is_err_and c.from_residual-in_err-judge_symbols.result c.from_residual-in_err-judge_symbols.ensures.1 in
+    let s = given c.args.ctf.now (option_copied c.args.sym) (option_copied c.args.strs) in
+    let part = types_are s.ctf c.bytes_in-types.result.now c.bytes_in-types.ensures.bytes in
+    let same = same_tables _ s c.bytes_in.result.now c.new-ends.ensures c.bytes_in.ensures.bytes in
+    let bad = c.bad_name.ensures ∙ ap (λ (t : Tables). first_nameless t (sites s.ctf)) same in
+    let none = at_types s c.bytes_in-types.result.now _ c.bad_name.result None c.in_ok-header.ensures.exact_ok part c.in_ok-count.ensures.exact_ok bad c.in_default.is (same_child c.parname-child.result c.in_ok-header.header (fields c.args.ctf.now) c.parname-child.ensures c.in_ok-header.ensures.fields) c.in_ok-judge_types.ensures.ok in
+    rw (p.1, p.2) (inr (none ∙ c.in_err-judge_symbols.ensures.err))
+
 pub accepted-requires : goal.accepted-requires
 accepted-requires c =
     let s = given c.args.ctf.now (option_copied c.args.sym) (option_copied c.args.strs) in
     let part = types_are s.ctf c.bytes_in-types.result.now c.bytes_in-types.ensures.bytes in
     let same = same_tables _ s c.bytes_in.result.now c.new-ends.ensures c.bytes_in.ensures.bytes in
     let bad = c.bad_name.ensures ∙ ap (λ (t : Tables). first_nameless t (sites s.ctf)) same in
-    let none = at_types s c.bytes_in-types.result.now _ c.bad_name.result None c.in_ok-header.ensures.exact_ok part c.in_ok-count.ensures.exact_ok bad c.in_default.is (same_child c.parname-child.result c.in_ok-header.header (fields c.args.ctf.now) c.parname-child.ensures c.in_ok-header.ensures.fields) c.in_ok-judge_types.ensures.ok in
+    let none = at_types s c.bytes_in-types.result.now _ c.bad_name.result None c.in_ok-header.ensures.exact_ok part c.in_ok-count.ensures.exact_ok bad c.in_default.is (same_child c.parname-child.result c.in_ok-header.header (fields c.args.ctf.now) c.parname-child.ensures c.in_ok-header.ensures.fields) c.in_ok-judge_types.ensures.ok ∙ c.in_ok-judge_symbols.ensures.ok in
     record {
       faultless = none;
       fits = c.in_ok-header.ensures.fields;

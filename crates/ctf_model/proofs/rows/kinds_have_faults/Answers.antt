@@ -2,12 +2,14 @@ use Rattle.std.proofs.Common.{refl}
 use Rattle.ctf_model.specs.Bytes.{number}
 use Rattle.ctf_model.specs.Chains.{edges, within}
 use Rattle.ctf_model.specs.Dictionary.{denoted, said_by, labels_in}
-use Rattle.ctf_model.specs.Faults.{first_fault, rules, types, first_nameless, label_sites, item_sites, record_sites, sites, bad_name, first_misnaming, bad_reference, first_deep, edges_by}
+use Rattle.ctf_model.specs.Faults.{first_fault, rules, types, first_nameless, label_sites, item_sites, record_sites, sites, bad_name, first_misnaming, bad_reference, first_deep, edges_by, bad_funcs, bad_symbol_type}
+use Rattle.ctf_model.specs.Entries.{entries, entries_of, function_sites, function_sites_of}
 use Rattle.ctf_model.specs.References.{is_misnaming}
 use Rattle.ctf_model.specs.Spelling.{term_of}
+use Rattle.ctf_model.specs.Symbols.{symbols, symbols_in}
 use Rattle.ctf_model.specs.Section.{front_len, terms_in, walk}
 use Rattle.ctf_model.proofs.rows.kinds_have_faults.Goals as goal
 
 pub returns : goal.returns
-unfolding number denoted said_by labels_in terms_in first_fault rules types first_nameless label_sites item_sites record_sites sites bad_name is_misnaming first_misnaming bad_reference first_deep edges_by edges within term_of front_len walk
+unfolding number denoted said_by labels_in terms_in first_fault rules types first_nameless label_sites item_sites record_sites sites bad_name is_misnaming first_misnaming bad_reference first_deep edges_by edges within term_of front_len walk bad_funcs bad_symbol_type symbols symbols_in entries entries_of function_sites function_sites_of
 returns c = record { no_pad = refl; next_kind = refl; cut_long_form = refl; long_pointer = refl; long_forward = refl; name = refl; member_name = refl; second_enumerator = refl; least_rule = refl; past_the_count = refl; argument = refl; array_index = refl; child_of_parent = refl; child_between = refl; child_past_the_count = refl; own_of_child = refl; pointer_to_itself = refl; struct_in_itself = refl; array_of_itself = refl; list_cell = refl }

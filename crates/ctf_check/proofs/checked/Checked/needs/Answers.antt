@@ -1,7 +1,7 @@
 use Rattle.std.proofs.Common.{ap, ◌∙◌}
 use Rattle.ctf_check.specs.CheckedView.{lists_of}
-use Rattle.ctf_check.specs.Needed.{records_need}
-use Rattle.ctf_check.proofs.Needing.{types_need}
+use Rattle.ctf_check.specs.Needed.{records_need, entries_need}
+use Rattle.ctf_check.proofs.Needing.{all_need}
 use Rattle.ctf_check.proofs.Order.{types_are}
 use Rattle.ctf_check.proofs.checked.Checked.needs.Goals as goal
 
@@ -10,4 +10,6 @@ returns-then-child c =
     let d = c.args.self.now in
     let part = types_are d.lists.ctf.now d.types.now d.part in
     let child_is = c.if-child.ensures in
-    rw (← child_is) (c.records_need.ensures ∙ ap records_need part ∙ types_need (lists_of d) d.faultless)
+    let records = c.records_need.ensures ∙ ap records_need part in
+    let entries = c.entries_need.ensures ∙ ap entries_need c.entries.ensures in
+    rw (← child_is) (c.greater.ensures ∙ rw (records, entries) (all_need (lists_of d) d.faultless))

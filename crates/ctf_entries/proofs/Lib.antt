@@ -1,0 +1,3 @@
+pub mod Considering
+pub mod NameFronts
+pub mod Telling

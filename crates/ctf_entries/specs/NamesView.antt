@@ -1,0 +1,7 @@
+-- What `SymbolNames` shows.
+use Rattle.std.specs.Prelude.{ℕ, List, Option, option_copied}
+use Rattle.ctf_entries.specs.declared.names.SymbolNames.{SymbolNames}
+
+-- the strings
+abbrev pub strings_of : SymbolNames → Option (List ℕ)
+strings_of n = option_copied n.strs

@@ -1,0 +1,113 @@
+//! The symbols of a program that a dictionary tells something of.
+ghost use Rattle.std.specs.Prelude.{◌≡◌, ◌≤◌, ◌+◌, ◌^◌, length, drop, [], ◌∷◌, MatchOption, IfSome};
+ghost use Rattle.std.specs.Iterator.{YieldsFirstBy, item_count};
+ghost use Rattle.ctf_model.specs.Symbols.{considered, considered_from, symbols_of};
+ghost use Rattle.ctf_entries.specs.NamesView.{strings_of};
+ghost use Rattle.ctf_entries.specs.SymbolView.{numbered};
+
+use crate::names::SymbolNames;
+use crate::symbol::Symbol;
+use std::marker::Model;
+
+/// A symbol with its number, from 0.
+#[derive(Clone, Copy)]
+pub struct Numbered<'a> {
+    pub number: u32,
+    pub symbol: Symbol<'a>,
+}
+
+/// A considered symbol, and the symbols behind it.
+#[derive(Drop)]
+pub(crate) struct Found<'a> {
+    pub first: Numbered<'a>,
+    pub behind: &'a [u8],
+}
+
+/// The symbols behind the first one.
+fn behind_first(sym: &[u8]) -> &[u8]
+    requires { 24 ≤ length sym.now }
+    ensures { result.now ≡ drop 24 sym.now }
+{
+    let (_, behind) = sym.split_at(24);
+    behind
+}
+
+/// The first considered one of symbols that are numbered from `number` on.
+pub(crate) fn first_considered<'a>(
+    sym: &'a [u8],
+    names: SymbolNames<'a>,
+    number: u64,
+) -> Option<Found<'a>>
+    requires near { number + length sym.now ≤ 2 ^ 63 }
+    ensures near { IfSome result (λ f. f.first.number + 1 + length f.behind.now ≤ 2 ^ 63) }
+    ensures first { MatchOption result
+        (considered_from number (symbols_of (strings_of names.entry) sym.now) ≡ [])
+        (λ f. considered_from number (symbols_of (strings_of names.entry) sym.now)
+        ≡ numbered f.first ∷ considered_from (f.first.number + 1)
+        (symbols_of (strings_of names.entry) f.behind.now)) }
+{
+    let mut rest = sym;
+    let mut number = number;
+    'symbols: while rest.len() >= 24 {
+        let symbol = Symbol::read(rest, names);
+        let behind = behind_first(rest);
+        if symbol.is_considered(number) {
+            let first = Numbered {
+                number: number as u32,
+                symbol,
+            };
+            return Some(Found { first, behind });
+        }
+        rest = behind;
+        number += 1;
+    }
+    None
+}
+
+/// The considered symbols that are left.
+#[derive(Drop)]
+pub struct Considered<'a> {
+    sym: &'a [u8],
+    names: SymbolNames<'a>,
+    number: u64,
+}
+
+impl<'a> Model for Considered<'a> {
+    ghost use Rattle.std.specs.Prelude.{◌≤◌, ◌+◌, ◌^◌, ℕ, List, length};
+    ghost use Rattle.ctf_model.specs.Symbols.{Symbol as SaidSymbol, considered_from, symbols_of};
+    ghost use Rattle.ctf_entries.specs.NamesView.{strings_of};
+
+    ghost Value = { List (ℕ × SaidSymbol) };
+
+    ghost view = { λ it. considered_from it.number (symbols_of (strings_of it.names) it.sym.now) };
+
+    ghost invariant = { λ it. it.number + length it.sym.now ≤ 2 ^ 63 };
+}
+
+impl<'a> Considered<'a> {
+    /// The considered ones of all symbols of a table.
+    pub fn new(sym: &'a [u8], names: SymbolNames<'a>) -> Considered<'a>
+        ensures { result ≡ considered (symbols_of (strings_of names.entry) sym.now) }
+    {
+        Considered {
+            sym,
+            names,
+            number: 0,
+        }
+    }
+}
+
+impl<'a> Iterator for Considered<'a> {
+    type Item = Numbered<'a>;
+
+    ghost next_gives = { YieldsFirstBy numbered (λ rest. rest) };
+
+    ghost remaining = { item_count (λ rest. rest) };
+
+    fn next(&mut self) -> Option<Numbered<'a>> {
+        let found = first_considered(self.sym, self.names, self.number)?;
+        self.sym = found.behind;
+        self.number = found.first.number as u64 + 1;
+        Some(found.first)
+    }
+}

@@ -1,0 +1,20 @@
+//! The symbols of a program that a dictionary tells something of, and what it tells of them.
+#![tactic(auto)]
+
+mod considered;
+mod entries;
+mod function;
+mod judging;
+mod marks;
+mod names;
+mod object;
+mod signature;
+mod symbol;
+mod untold;
+
+pub use considered::{Considered, Numbered};
+pub use entries::{Entries, Entry, Told};
+pub use judging::bad_function;
+pub use names::SymbolNames;
+pub use signature::Signature;
+pub use symbol::Symbol;

@@ -1,0 +1,32 @@
+//! The names of the linker's marks.
+ghost use Rattle.std.specs.Prelude.{◌≡◌, ◌<◌, length, take};
+ghost use Rattle.std.specs.List.{before_first};
+ghost use Rattle.std.specs.Str.{bytes_eq};
+ghost use Rattle.ctf_model.specs.Name.{is_zero};
+ghost use Rattle.ctf_model.specs.Symbols.{is_mark as mark};
+
+use ctf_sections::up_to_zero;
+
+/// As many bytes as tell a mark from any other name: the longest mark and its zero byte.
+fn front(text: &[u8]) -> &[u8]
+    ensures { result.now ≡ take 8 text.now }
+{
+    if text.len() < 8 { text } else { &text[..8] }
+}
+
+/// Whether a name of fewer than eight bytes begins some strings.
+#[tactic(auto, using(crate::proofs::NameFronts::same_in_front))]
+fn begins(text: &[u8], name: &[u8]) -> bool
+    requires short { length name.now < 8 }
+    ensures { result ≡ bytes_eq (before_first is_zero text.now) name.now }
+{
+    up_to_zero(front(text)) == name
+}
+
+/// Whether the name that begins some strings is one of the linker's marks. It reads eight bytes at
+/// most, however long the name is.
+pub(crate) fn begins_mark(text: &[u8]) -> bool
+    ensures { result ≡ mark (before_first is_zero text.now) }
+{
+    begins(text, b"_START_") || begins(text, b"_END_")
+}

@@ -1,0 +1,16 @@
+use Rattle.std.proofs.Common.{refl}
+use Rattle.ctf_model.specs.Bytes.{number}
+use Rattle.ctf_model.specs.Chains.{edges, within}
+use Rattle.ctf_model.specs.Dictionary.{denoted, said_by, labels_in}
+use Rattle.ctf_model.specs.Faults.{first_fault, rules, types, first_nameless, label_sites, item_sites, record_sites, sites, bad_name, first_misnaming, bad_reference, first_deep, edges_by, bad_funcs, bad_symbol_type}
+use Rattle.ctf_model.specs.Entries.{entries, entries_of, function_sites, function_sites_of}
+use Rattle.ctf_model.specs.Needs.{greatest_in_parent}
+use Rattle.ctf_model.specs.References.{is_misnaming}
+use Rattle.ctf_model.specs.Spelling.{term_of}
+use Rattle.ctf_model.specs.Symbols.{symbols, symbols_in, is_considered}
+use Rattle.ctf_model.specs.Section.{front_len, terms_in, walk}
+use Rattle.ctf_model.proofs.rows.symbols_tell.Goals as goal
+
+pub returns : goal.returns
+unfolding number denoted said_by labels_in terms_in first_fault rules types first_nameless label_sites item_sites record_sites sites bad_name is_misnaming first_misnaming bad_reference first_deep edges_by edges within term_of front_len walk bad_funcs bad_symbol_type symbols symbols_in entries entries_of function_sites function_sites_of is_considered greatest_in_parent
+returns c = record { entries = refl; accepted = refl; object_0 = refl; object_1 = refl; object_2 = refl; object_3 = refl; object_4 = refl; object_5 = refl; object_6 = refl; object_7 = refl; function_4 = refl; function_6 = refl; symbol_b = refl; symbol_x = refl; name_2 = refl; takes_one = refl; takes_any = refl; in_a_child = refl; child_needs = refl; label_a = refl; label_b = refl }
