@@ -27,8 +27,10 @@ pub mod Shown
 pub mod KindNames
 pub mod Figures
 pub mod Paths
+pub mod TypeNames
 pub mod FigureLaws
 pub mod FigureRows
+pub mod NameRows
 pub mod Words
 pub mod Questions
 pub mod Text

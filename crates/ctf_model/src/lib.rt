@@ -6,6 +6,7 @@ mod data_model;
 mod faults;
 mod kinds;
 mod laws;
+mod layers;
 mod lists;
 mod names;
 mod numbers;
@@ -25,6 +26,7 @@ pub use laws::{
     own_figures_are_their_rules, parents_figures_are_their_own, records_are_a_cut,
     section_spells_one_list,
 };
+pub use layers::{Layer, Qualifier};
 pub use lists::{Parts, no_parts};
 pub use names::Names;
 pub use numbers::{Place, SlotNumber, TypeNum};
@@ -32,9 +34,9 @@ pub use questions::{Question, TypeQuestion, Window};
 pub use requests::{Change, ListName, Request};
 pub use rows::{
     bytes_denote, bytes_have_faults, figures_are, figures_over_parents, kinds_denote,
-    kinds_have_faults, lines_ask, lines_say, lists_are_long, numbers_name, output_is,
-    parents_are_imported, paths_lead, questions_are_answered, questions_are_lines, session_runs,
-    slots_are_closed, symbols_have_faults, symbols_tell,
+    kinds_have_faults, lines_ask, lines_say, lists_are_long, names_are_spelled, names_over_parents,
+    numbers_name, output_is, parents_are_imported, paths_lead, questions_are_answered,
+    questions_are_lines, session_runs, slots_are_closed, symbols_have_faults, symbols_tell,
 };
 pub use sections::Section;
 pub use symbols::SymbolClass;

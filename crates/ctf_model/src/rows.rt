@@ -2,6 +2,7 @@
 //! does nothing.
 ghost use Rattle.ctf_model.specs.FigureRows.{FiguresAre, FiguresOverParents, PathsLead};
 ghost use Rattle.ctf_model.specs.KindRows.{KindsDenote, KindsHaveFaults};
+ghost use Rattle.ctf_model.specs.NameRows.{NamesAreSpelled, NamesOverParents};
 ghost use Rattle.ctf_model.specs.ParentRows.{ParentsAreImported, SlotsAreClosed};
 ghost use Rattle.ctf_model.specs.QuestionRows.{PathsAreLines, QuestionsAreAnswered, QuestionsAreLines, TextsSpell};
 ghost use Rattle.ctf_model.specs.SymbolRows.{SymbolsHaveFaults, SymbolsTell};
@@ -110,4 +111,14 @@ pub fn figures_over_parents()
 /// Where paths lead.
 pub fn paths_lead()
     ensures { PathsLead }
+{}
+
+/// How C spells the names of types.
+pub fn names_are_spelled()
+    ensures { NamesAreSpelled }
+{}
+
+/// The same over a parent, and where none was imported.
+pub fn names_over_parents()
+    ensures { NamesOverParents }
 {}

@@ -1,0 +1,4 @@
+pub mod FoundInside
+pub mod Unrolls
+pub mod MarkedText
+pub mod SpelledBy

@@ -1,0 +1,12 @@
+use Rattle.std.proofs.Common.{◌≡◌, ◌++◌, ◌+◌, ◌≤◌, take, length, vec_capacity, vec_len}
+use Rattle.std.specs.List.{flat_map}
+use Rattle.ctf_names.specs.Marks.{right}
+use Rattle.ctf_names.proofs.sides.put_rights.Given as goal
+
+abbrev pub invariant-loop-mark : goal.invariant-loop-mark
+invariant-loop-mark l = record {
+  added : l.out.items ≡ l.fn.out.items ++ flat_map right (take l.mark-index l.marks);
+  len : vec_len l.out ≡ vec_len l.fn.out + length (flat_map right (take l.mark-index l.marks));
+  capacity : vec_capacity l.out ≡ vec_capacity l.initial.out;
+  room : vec_len l.fn.out + length (flat_map right l.marks) ≤ vec_capacity l.initial.out;
+}

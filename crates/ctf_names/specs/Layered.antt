@@ -1,0 +1,10 @@
+-- What is inside of a type's name, as it is found. The word is ours.
+use Rattle.std.specs.Option.{option_map}
+use Rattle.ctf_names.specs.Inside as inside
+use Rattle.ctf_names.specs.declared.inside.Inside.{Inside}
+use Rattle.ctf_names.specs.declared.inside.Inside.TheVariants as found
+use Rattle.ctf_records.specs.RecordView.{tag_of}
+
+abbrev pub inside_seen : Inside → inside.Inside
+inside_seen (found.Name tag) = inside.a_name (option_map tag_of tag)
+inside_seen (found.Layer layer t) = inside.a_layer layer t.0

@@ -1,0 +1,15 @@
+-- A declaration as it is unrolled from the outermost layer on. The words are ours.
+use Rattle.std.specs.Prelude.{List, [], ◌∷◌, Result}
+use Rattle.ctf_model.specs.TypeNames.{Declaration, around}
+use Rattle.ctf_model.specs.declared.faults.Fault.{Fault}
+use Rattle.ctf_model.specs.declared.layers.Layer.{Layer}
+use Rattle.ctf_names.specs.Bases.{base_text}
+use Rattle.ctf_names.specs.declared.unrolling.Unrolled.{Unrolled}
+
+abbrev pub unrolled : Unrolled → Declaration
+unrolled u = record { layers = u.layers.items; name = base_text u.base }
+
+-- what is inside, in these layers
+abbrev pub around_all : List Layer → Result Declaration Fault → Result Declaration Fault
+around_all [] inside = inside
+around_all (layer ∷ layers) inside = around layer (around_all layers inside)
