@@ -27,6 +27,8 @@ pub mod Figures
 pub mod Paths
 pub mod FigureLaws
 pub mod FigureRows
+pub mod Found
+pub mod FindRows
 pub mod Words
 pub mod Questions
 pub mod Text
