@@ -31,6 +31,8 @@ pub mod TypeNames
 pub mod FigureLaws
 pub mod FigureRows
 pub mod NameRows
+pub mod Found
+pub mod FindRows
 pub mod Words
 pub mod Questions
 pub mod Text

@@ -1,5 +1,6 @@
 //! Worked rows: what the definitions say of small inputs. Each is the contract of a function that
 //! does nothing.
+ghost use Rattle.ctf_model.specs.FindRows.{NamesAreFound};
 ghost use Rattle.ctf_model.specs.FigureRows.{FiguresAre, FiguresOverParents, PathsLead};
 ghost use Rattle.ctf_model.specs.KindRows.{KindsDenote, KindsHaveFaults};
 ghost use Rattle.ctf_model.specs.NameRows.{NamesAreSpelled, NamesOverParents};
@@ -106,6 +107,11 @@ pub fn figures_are()
 /// What types come to over a parent.
 pub fn figures_over_parents()
     ensures { FiguresOverParents }
+{}
+
+/// What names find, and which types are pointers to others.
+pub fn names_are_found()
+    ensures { NamesAreFound }
 {}
 
 /// Where paths lead.

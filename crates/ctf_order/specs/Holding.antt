@@ -1,0 +1,52 @@
+-- Items by their names. Source: ours.
+use Rattle.std.specs.Prelude.{◌≡◌, ◌≤◌, ℕ, Bool, List, Option, Some, None, MatchOption}
+use Rattle.std.specs.List.{Contains}
+use Rattle.std.specs.List.Sorted.{IsSortedBy}
+use Rattle.std.specs.Ordering.{is_lt, nat_cmp, ordering_then}
+use Rattle.ctf_model.specs.Dictionary.{name_or_empty}
+use Rattle.ctf_model.specs.Name.{Tables, name}
+use Rattle.ctf_order.specs.Names.{by_front}
+use Rattle.ctf_order.specs.declared.entries.Entry.{Entry}
+use Rattle.ctf_order.specs.declared.order.Order.{Order}
+
+-- ---- which item a name finds
+
+-- an item has a name
+abbrev pub IsNamed : Tables → List ℕ → Entry → Type 0
+IsNamed t text e = name t e.reference ≡ Some text
+
+-- the least item of a name
+pub record IsLeast (t : Tables) (items : List Entry) (text : List ℕ) (n : ℕ) : Type 0 where
+  pub entry : Entry
+  pub there : Contains items entry
+  pub named : IsNamed t text entry
+  pub is : entry.item ≡ n
+  pub least : (e : Entry) → Contains items e → IsNamed t text e → n ≤ e.item
+
+-- that, or none has the name
+abbrev pub IsFound : Tables → List Entry → List ℕ → Option ℕ → Type 0
+IsFound t items text found = MatchOption found ((e : Entry) → Contains items e → IsNamed t text e → ⊥) (IsLeast t items text)
+
+-- ---- how they are kept
+
+-- by the order of names, and then by item
+abbrev pub precedes : Tables → Entry → Entry → Bool
+precedes t a b = is_lt (ordering_then (by_front (name_or_empty t a.reference) (name_or_empty t b.reference)) (nat_cmp a.item b.item))
+
+-- an item of that name which is not greater
+pub record HasFirst (t : Tables) (text : List ℕ) (entries : List Entry) (item : ℕ) : Type 0 where
+  pub entry : Entry
+  pub there : Contains entries entry
+  pub named : IsNamed t text entry
+  pub least : entry.item ≤ item
+
+-- each of them is one of the items and has a name, and the least item of each name is one of them
+pub record Stands (t : Tables) (items entries : List Entry) : Type 0 where
+  pub inside : (e : Entry) → Contains entries e → Contains items e
+  pub named : (e : Entry) → Contains entries e → name t e.reference ≡ Some (name_or_empty t e.reference)
+  pub all : (e : Entry) (text : List ℕ) → Contains items e → IsNamed t text e → HasFirst t text entries e.item
+
+-- and they stand in order
+pub record Fits (t : Tables) (items : List Entry) (o : Order) : Type 0 where
+  pub stands : Stands t items o.entries.items
+  pub sorted : IsSortedBy (precedes t) o.entries.items

@@ -1,0 +1,49 @@
+//! The order of names: by length, and then by the bytes in front.
+ghost use Rattle.std.specs.Prelude.{◌≡◌, take};
+ghost use Rattle.ctf_model.specs.Name.{name as named};
+ghost use Rattle.ctf_order.specs.Names.{compared, by_front, front as front_of};
+ghost use Rattle.ctf_sections.specs.StringsView.{tables};
+
+use ctf_sections::Strings;
+use std::cmp::Ordering;
+
+/// How many bytes at the front of a name are compared.
+const FRONT: usize = 64;
+
+fn front(name: &[u8]) -> &[u8]
+    ensures { result.now ≡ front_of name.now }
+{
+    if name.len() <= FRONT {
+        name
+    } else {
+        &name[..FRONT]
+    }
+}
+
+/// Names by length, and then by the bytes in front.
+pub(crate) fn order(a: &[u8], b: &[u8]) -> Ordering
+    ensures { result ≡ by_front a.now b.now }
+{
+    a.len().cmp(&b.len()).then(front(a).cmp(&front(b)))
+}
+
+/// Where the name of a reference stands against a text. It reads one byte more than the text has at
+/// most, however long the name is.
+pub(crate) fn compare(strings: &Strings<'_>, reference: u32, text: &[u8]) -> Ordering
+    ensures { result ≡ compared (named (tables strings.now) reference) text.now }
+{
+    match strings.short_name(reference, text.len()) {
+        Some(name) => order(name, text),
+        None => Ordering::Greater,
+    }
+}
+
+/// Whether a reference names a text. It reads one byte more than the text has at most.
+pub(crate) fn is_named(strings: &Strings<'_>, reference: u32, text: &[u8]) -> bool
+    ensures { result ≡ is_text (named (tables strings.now) reference) text.now }
+{
+    match strings.short_name(reference, text.len()) {
+        Some(name) => name == text,
+        None => false,
+    }
+}

@@ -1,0 +1,8 @@
+//! Items that have names.
+
+/// An item of a dictionary, by a number of its own, and the reference to its name.
+#[derive(Clone, Copy, Debug, PartialEq, Eq, PartialOrd, Ord)]
+pub struct Entry {
+    pub reference: u32,
+    pub item: u32,
+}

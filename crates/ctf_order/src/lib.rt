@@ -1,0 +1,10 @@
+//! Names of a dictionary in an order, and look-ups of them by halves.
+#![tactic(auto)]
+
+mod comparing;
+mod entries;
+mod lending;
+mod order;
+
+pub use entries::Entry;
+pub use order::Order;

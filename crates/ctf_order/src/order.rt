@@ -1,0 +1,59 @@
+//! Items in the order of their names.
+ghost use Rattle.std.specs.Prelude.{◌≡◌, IfOk, List};
+ghost use Rattle.ctf_order.specs.Holding.{Fits, IsFound};
+ghost use Rattle.ctf_order.specs.declared.entries.Entry.{Entry as Item};
+ghost use Rattle.ctf_sections.specs.StringsView.{tables};
+
+use crate::comparing::{compare, is_named};
+use crate::entries::Entry;
+use crate::lending::{Named, arrange, kept, lent};
+use ctf_sections::Strings;
+use std::alloc::{AllocError, Global};
+use std::cmp::Ordering;
+
+/// Items in the order of their names: plain numbers, which borrow nothing. It keeps 8 bytes for each
+/// reference that items have, whatever the names are.
+#[derive(Drop)]
+pub struct Order {
+    entries: Vec<Entry>,
+}
+
+impl Order {
+    /// The items of a dictionary, by their names. An item without a name is left out. Of items with
+    /// one reference the least is kept, since it is the one that is found.
+    ///
+    /// Each table is read once to find where names end, and then at most 64 bytes of a name at each
+    /// comparison.
+    pub fn build(
+        alloc: Global,
+        strings: &Strings<'_>,
+        mut items: Vec<Entry>,
+    ) -> Result<Order, AllocError>
+        ensures { IfOk result (λ o. Fits (tables strings.now) items.items o) }
+    {
+        items.sort_unstable();
+        let mut named = lent(alloc, strings, &items)?;
+        arrange(&mut named);
+        Ok(Order {
+            entries: kept(alloc, &named)?,
+        })
+    }
+
+    /// The least item of a name. It is found by halves, and takes no memory. Of each name that it
+    /// meets it reads one byte more than the text has at most.
+    pub fn find(&self, strings: &Strings<'_>, text: &[u8]) -> Option<u32>
+        ensures { (items : List Item) → Fits (tables strings.now) items self.now
+            → IsFound (tables strings.now) items text.now result }
+    {
+        let from = self.entries.partition_point(|e| compare(strings, e.reference, text).is_lt());
+        for entry in &self.entries[from..] {
+            if is_named(strings, entry.reference, text) {
+                return Some(entry.item);
+            }
+            if compare(strings, entry.reference, text).is_gt() {
+                return None;
+            }
+        }
+        None
+    }
+}
