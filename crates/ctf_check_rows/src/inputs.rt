@@ -96,7 +96,7 @@ pub fn alone(ctf: &[u8]) -> LentLists<'_> {
 
 /// The code and the place of the fault of a dictionary, if it has one.
 pub fn fault_of(alloc: Global, lists: LentLists<'_>) -> Option<(u16, u64)> {
-    match check(alloc, lists.ctf, None, lists.strs) {
+    match check(alloc, lists.ctf, lists.sym, lists.strs) {
         Ok(_) => None,
         Err(fault) => Some((fault.code, fault.place)),
     }

@@ -27,3 +27,5 @@ mod parts;
 mod records;
 #[cfg(test)]
 mod references;
+#[cfg(test)]
+mod symbols;

@@ -53,13 +53,12 @@ impl Model for Library {
       published = [];
     } };
 
-    ghost invariant = { λ l. (l.next ≤ 2 ^ 32) × (l.stage.sym ≡ None)
+    ghost invariant = { λ l. (l.next ≤ 2 ^ 32)
         × (rise_between 0 l.slots.items l.next ≡ true) };
 }
 
 /// A dictionary of lists, to be shared, with its layout, or its first fault with the lists.
 fn opened(alloc: Global, parts: Parts) -> Result<(Rc<Opened>, Layout), (Fault, Parts)>
-    requires no_symbols { parts.sym ≡ None }
     ensures ok { IfOk result (λ o. (o.0.value.lists ≡ lists_owned parts)
         × (o.0.value.model ≡ Lp64)) }
     ensures laid { IfOk result (λ o. Fits (space_of_lists o.0.value.lists None) o.1) }
@@ -149,6 +148,7 @@ impl Library {
     {
         let added = match list {
             ListName::Ctf => add_piece(&mut self.stage.ctf, piece),
+            ListName::Sym => add_first_piece(self.alloc, &mut self.stage.sym, piece),
             ListName::Str => add_first_piece(self.alloc, &mut self.stage.strs, piece),
         };
         match added {

@@ -53,7 +53,6 @@ pub fn add_first_piece(alloc: Global, list: &mut Option<Bytes>, piece: &[u8]) ->
 
 /// Judges lists, and keeps nothing.
 pub fn judge(alloc: Global, lists: &Parts) -> Result<(), Fault>
-    requires no_symbols { lists.now.sym ≡ None }
     ensures ok { OnOk result (first_fault (lists_owned lists.now) ≡ None) }
     ensures err { IfErr result (λ f. (f ≡ want_of_memory)
         ⊎ (first_fault (lists_owned lists.now) ≡ Some f)) }

@@ -240,6 +240,7 @@ fn list(name: &str) -> Option<ListName>
 {
     match name {
         "ctf" => Some(ListName::Ctf),
+        "sym" => Some(ListName::Sym),
         "str" => Some(ListName::Str),
         _ => None,
     }

@@ -48,6 +48,8 @@ mod slots;
 #[cfg(test)]
 mod stage;
 #[cfg(test)]
+mod symbols;
+#[cfg(test)]
 mod windows;
 #[cfg(test)]
 mod writing;

@@ -42,6 +42,7 @@ fn change_said(change: &Change) -> Said {
     match change {
         Change::Part { section, bytes } => match (section, bytes.as_slice()) {
             (ListName::Ctf, b"\x0a\xff") => plain("part of ctf"),
+            (ListName::Sym, b"\x0a\xff") => plain("part of sym"),
             (ListName::Str, b"\x0a\xff") => plain("part of str"),
             _ => plain("another part"),
         },
@@ -102,6 +103,10 @@ fn changes_are_read(rt: HostRuntime) {
         (
             "{\"s\":1,\"op\":\"part\",\"section\":\"ctf\",\"bytes\":\"0aFF\"}",
             plain("part of ctf"),
+        ),
+        (
+            "{\"s\":1,\"op\":\"part\",\"section\":\"sym\",\"bytes\":\"0aFF\"}",
+            plain("part of sym"),
         ),
         (
             "{\"s\":1,\"op\":\"part\",\"section\":\"str\",\"bytes\":\"0aFF\"}",
@@ -351,7 +356,7 @@ const NO_REQUEST: [&str; 20] = [
     "{\"s\":1,\"op\":\"size\",\"d\":1}",
     "{\"s\":1,\"op\":\"align\",\"d\":1,\"t\":65536}",
     "{\"s\":1,\"op\":\"path\",\"d\":1,\"t\":1}",
-    "{\"s\":1,\"op\":\"part\",\"section\":\"sym\",\"bytes\":\"\"}",
+    "{\"s\":1,\"op\":\"part\",\"section\":\"symbols\",\"bytes\":\"\"}",
     "{\"s\":1,\"op\":\"part\",\"section\":\"ctf\",\"bytes\":\"0\"}",
     "{\"s\":1,\"op\":\"part\",\"section\":\"ctf\"}",
 ];

@@ -43,7 +43,6 @@ impl Model for Opened {
 
 /// Where the types of a dictionary begin, if it breaks no rule.
 fn judged(alloc: Global, lists: LentLists<'_>) -> Result<Starts, Fault>
-    requires no_symbols { (lists_in lists).sym ≡ None }
     ensures starts { IfOk result (λ s. s ≡ starts_in (types_of (lists_in lists.entry).ctf)) }
     ensures exact_ok { OnOk result (first_fault (lists_in lists.entry) ≡ None) }
     ensures exact_err { IfErr result (λ f. (f ≡ want_of_memory)
@@ -61,7 +60,6 @@ fn judged(alloc: Global, lists: LentLists<'_>) -> Result<Starts, Fault>
 impl Opened {
     /// Judges the lists, and keeps them, or hands them back beside the first fault.
     pub fn build(alloc: Global, parts: Parts, model: DataModel) -> Result<Opened, (Fault, Parts)>
-        requires no_symbols { parts.sym ≡ None }
         ensures ok { IfOk result (λ o. o ≡ record { lists = lists_owned parts; model = model }) }
         ensures exact_ok { OnOk result (first_fault (lists_owned parts) ≡ None) }
         ensures exact_err { IfErr result (λ e. (e.0 ≡ want_of_memory)

@@ -1,0 +1,273 @@
+//! The rules of symbols, and what is told of them.
+
+use crate::framed;
+use crate::inputs::fault_of;
+use ctf_check::{LentLists, check};
+use ctf_entries::{Entry, Told};
+use ctf_model::Fault;
+use std::alloc::{AllocError, Global};
+use std::test::Fail;
+
+/// A symbol of 24 bytes without a value.
+fn symbol(name: u8, info: u8, section: u16) -> [u8; 24] {
+    let [low, high] = section.to_le_bytes();
+    [
+        name, 0, 0, 0, info, 0, low, high, 0, 0, 0, 0, 0, 0, 0, 0, 0, 0, 0, 0, 0, 0, 0, 0,
+    ]
+}
+
+/// The names of the symbols.
+const STRS: &[u8] = b"\0_START_\0x\0a\0b\0c\0f\0";
+
+/// Nothing; the linker's mark; an object in no section; an absolute one of the value 0; the objects
+/// `b` (4) and `c` (5); and the function `f` (6).
+fn program(alloc: Global) -> Result<Vec<u8>, AllocError> {
+    let mut sym = Vec::new(alloc);
+    for entry in [
+        symbol(0, 0, 0),
+        symbol(1, 0x11, 1),
+        symbol(9, 0x11, 0),
+        symbol(11, 0x11, 0xfff1),
+        symbol(13, 0x11, 1),
+        symbol(15, 0x11, 1),
+        symbol(17, 0x12, 1),
+    ] {
+        sym.extend_from_slice(&entry)?;
+    }
+    Ok(sym)
+}
+
+/// A dictionary of an integer, with sections of objects (2 bytes) and of functions.
+fn over(alloc: Global, parname: u8, sections: &[u8]) -> Result<Vec<u8>, AllocError> {
+    let behind = (sections.len() % 100) as u8;
+    let header = [
+        0xf1,
+        0xcf,
+        2,
+        0,
+        0,
+        0,
+        0,
+        0,
+        parname,
+        0,
+        0,
+        0,
+        0,
+        0,
+        0,
+        0,
+        0,
+        0,
+        0,
+        0,
+        2,
+        0,
+        0,
+        0,
+        behind,
+        0,
+        0,
+        0,
+        behind + 12,
+        0,
+        0,
+        0,
+        5,
+        0,
+        0,
+        0,
+    ];
+    let mut front = Vec::from_slice(alloc, &header)?;
+    front.extend_from_slice(sections)?;
+    framed(
+        alloc,
+        &front,
+        b"\x01\x00\x00\x00\x00\x0c\x04\x00\x20\x00\x00\x01",
+        b"\0int\0",
+    )
+}
+
+/// The first fault of such a dictionary over the symbols.
+fn fault_over(
+    alloc: Global,
+    parname: u8,
+    sections: &[u8],
+    sym: &[u8],
+) -> Result<Option<(u16, u64)>, AllocError> {
+    let ctf = over(alloc, parname, sections)?;
+    let lists = LentLists {
+        ctf: &ctf,
+        sym: Some(sym),
+        strs: Some(STRS),
+    };
+    Ok(fault_of(alloc, lists))
+}
+
+#[test]
+fn judges_entries(rt: HostRuntime) -> Result<(), Fail> {
+    let sym = program(rt.alloc())?;
+    let funcs = Some((Fault::BAD_FUNCS, 6));
+    let object = Some((Fault::BAD_SYMBOL_TYPE, 4));
+    let signature = Some((Fault::BAD_SYMBOL_TYPE, 6));
+    let rows: [(u8, &[u8], Option<(u16, u64)>); 15] = [
+        (0, b"\x01\0\0\0", None),
+        // an entry of another kind, a function's that is cut off, a type that is not there
+        (0, b"\x01\0\0\x08", funcs),
+        (0, b"\x01\0\0\x28", funcs),
+        (0, b"\x02\0\0\0", object),
+        (0, b"\x02\0\0\x08", funcs),
+        // a kind of 0 says nothing only without arguments, whatever its root bit
+        (0, b"\x01\0\0\x04", None),
+        (0, b"\x01\0\x01\0\x01\0\x01\0", funcs),
+        // a function with an argument, without a pad; its types are looked for
+        (0, b"\x01\0\x01\x28\x01\0\x01\0", None),
+        (0, b"\x01\0\x01\x28\x02\0\x01\0", signature),
+        (0, b"\x01\0\x01\x28\x01\0\x02\0", signature),
+        // what follows the last entry is not read
+        (0, b"\x01\0\x01\x28\x01\0\x01\0\xff\xff\xff\xff", None),
+        // a parent's types are judged where the child meets it
+        (1, b"\x09\0\0\0", None),
+        (1, b"\x01\x80\0\0", None),
+        (1, b"\x02\x80\0\0", object),
+        (1, b"\0\x80\0\0", object),
+    ];
+    for (parname, sections, want) in rows {
+        assert_eq!(rt;
+            fault_over(rt.alloc(), parname, sections, &sym)?,
+            want,
+            "at {sections:?}"
+        );
+    }
+    Ok(())
+}
+
+#[test]
+fn judges_tables(rt: HostRuntime) -> Result<(), Fail> {
+    let mut sym = program(rt.alloc())?;
+    for more in [0, 23] {
+        let whole = sym.len();
+        sym.push(0)?;
+        sym.extend_from_slice(&[0; 23][..more])?;
+        let want = if more == 23 {
+            None
+        } else {
+            Some((Fault::BAD_SYMTAB, 0))
+        };
+        assert_eq!(rt; fault_over(rt.alloc(), 0, b"\x01\0\0\0", &sym)?, want);
+        // the entries are judged before the table
+        let funcs = Some((Fault::BAD_FUNCS, 6));
+        assert_eq!(rt; fault_over(rt.alloc(), 0, b"\x01\0\0\x08", &sym)?, funcs);
+        sym.truncate(whole);
+    }
+    // an empty table is none
+    assert_eq!(rt; fault_over(rt.alloc(), 0, b"\x02\0\0\x08", b"")?, None);
+    Ok(())
+}
+
+/// What is told of an object, or what a function returns and the sum of its arguments.
+fn told(entry: Entry<'_>) -> (u32, &[u8], bool, Option<(u16, usize, u16)>) {
+    let (number, name) = (entry.number, entry.symbol.name());
+    match entry.told {
+        Told::Object(None) => (number, name, false, None),
+        Told::Object(Some(t)) => (number, name, false, Some((t.0, 0, 0))),
+        Told::Function(None) => (number, name, true, None),
+        Told::Function(Some(signature)) => {
+            let count = signature.args.len();
+            let last = signature.args.get(count.wrapping_sub(1));
+            let last = last.map_or(0xffff, |t| t.0);
+            (number, name, true, Some((signature.ret.0, count, last)))
+        }
+    }
+}
+
+#[test]
+fn tells_entries(rt: HostRuntime) -> Result<(), Fail> {
+    let sym = program(rt.alloc())?;
+    let rows: [(&[u8], Option<(u16, usize, u16)>); 4] = [
+        (b"\x01\0\0\0", None),
+        (b"\x01\0\x01\x28\x01\0\x01\0", Some((1, 1, 1))),
+        (b"\x01\0\x01\x28\x01\0\0\0", Some((1, 1, 0))),
+        (b"\x01\0\0\x28\x01\0\0\0", Some((1, 0, 0xffff))),
+    ];
+    for (sections, of_function) in rows {
+        let ctf = over(rt.alloc(), 0, sections)?;
+        let Ok(checked) = check(rt.alloc(), &ctf, Some(&sym), Some(STRS)) else {
+            panic!(rt; "it breaks no rule")
+        };
+        let mut entries = checked.entries();
+        assert_eq!(rt;
+            entries.next().map(told),
+            Some((4, b"b".as_slice(), false, Some((1, 0, 0))))
+        );
+        assert_eq!(rt;
+            entries.next().map(told),
+            Some((5, b"c".as_slice(), false, None))
+        );
+        assert_eq!(rt;
+            entries.next().map(told),
+            Some((6, b"f".as_slice(), true, of_function))
+        );
+        assert!(rt; entries.next().is_none());
+    }
+    Ok(())
+}
+
+#[test]
+fn entries_need_types(rt: HostRuntime) -> Result<(), Fail> {
+    let sym = program(rt.alloc())?;
+    let rows: [(&[u8], u16); 4] = [
+        (b"\x09\0\0\0", 9),
+        (b"\x01\x80\0\0", 0),
+        (b"\x09\0\x01\x28\x0a\0\x03\0", 10),
+        (b"\x09\0\x02\x28\x01\0\x0b\0\0\0\xff\xff", 11),
+    ];
+    for (sections, want) in rows {
+        let ctf = over(rt.alloc(), 1, sections)?;
+        let Ok(checked) = check(rt.alloc(), &ctf, Some(&sym), Some(STRS)) else {
+            panic!(rt; "it breaks no rule")
+        };
+        assert_eq!(rt; checked.needs(), want, "at {sections:?}");
+        // without its symbols it needs none
+        let Ok(alone) = check(rt.alloc(), &ctf, None, Some(STRS)) else {
+            panic!(rt; "it breaks no rule")
+        };
+        assert_eq!(rt; alone.needs(), 0);
+    }
+    Ok(())
+}
+
+/// So many symbols of objects, whose names begin at offset 1.
+fn objects(alloc: Global, count: usize) -> Result<Vec<u8>, AllocError> {
+    let mut sym = Vec::new(alloc);
+    for _ in 0..count {
+        sym.extend_from_slice(&symbol(1, 0x11, 1))?;
+    }
+    Ok(sym)
+}
+
+#[test]
+fn long_names_are_not_read(rt: HostRuntime) -> Result<(), Fail> {
+    let sym = objects(rt.alloc(), 600_000)?;
+    let mut strs = Vec::from_elem(rt.alloc(), b'a', 16_777_216)?;
+    let ctf = over(rt.alloc(), 0, b"\x01\0\0\0")?;
+    // no name ends: no symbol is considered
+    let Ok(checked) = check(rt.alloc(), &ctf, Some(&sym), Some(&strs)) else {
+        panic!(rt; "it breaks no rule")
+    };
+    assert!(rt; checked.entries().next().is_none());
+    // all end with the last byte: the first symbol has the one entry
+    if let Some(last) = strs.last_mut() {
+        *last = 0;
+    }
+    let Ok(checked) = check(rt.alloc(), &ctf, Some(&sym), Some(&strs)) else {
+        panic!(rt; "it breaks no rule")
+    };
+    assert_eq!(rt; checked.entries().count(), 600_000);
+    let Some(first) = checked.entries().next() else {
+        panic!(rt; "the first symbol is considered")
+    };
+    assert_eq!(rt; (first.number, first.symbol.name().len()), (0, 16_777_214));
+    assert!(rt; matches!(&first.told, Told::Object(Some(_))));
+    Ok(())
+}
