@@ -1,2 +1,4 @@
 pub mod Names
 pub mod Holding
+pub mod Lending
+pub mod Searching

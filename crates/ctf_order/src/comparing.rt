@@ -1,7 +1,7 @@
 //! The order of names: by length, and then by the bytes in front.
 ghost use Rattle.std.specs.Prelude.{◌≡◌, take};
 ghost use Rattle.ctf_model.specs.Name.{name as named};
-ghost use Rattle.ctf_order.specs.Names.{compared, by_front, front as front_of};
+ghost use Rattle.ctf_order.specs.Names.{compared, by_front, is_text, front as front_of};
 ghost use Rattle.ctf_sections.specs.StringsView.{tables};
 
 use ctf_sections::Strings;
@@ -10,17 +10,25 @@ use std::cmp::Ordering;
 /// How many bytes at the front of a name are compared.
 const FRONT: usize = 64;
 
-fn front(name: &[u8]) -> &[u8]
-    ensures { result.now ≡ front_of name.now }
+/// The first bytes of a name, or all where they are fewer.
+fn prefix(name: &[u8], most: usize) -> &[u8]
+    ensures { result.now ≡ take most name.now }
 {
-    if name.len() <= FRONT {
-        name
+    if most < name.len() {
+        &name[..most]
     } else {
-        &name[..FRONT]
+        name
     }
 }
 
+fn front(name: &[u8]) -> &[u8]
+    ensures { result.now ≡ front_of name.now }
+{
+    prefix(name, FRONT)
+}
+
 /// Names by length, and then by the bytes in front.
+#[tactic(auto, unfolding(crate::specs::Names::by_front))]
 pub(crate) fn order(a: &[u8], b: &[u8]) -> Ordering
     ensures { result ≡ by_front a.now b.now }
 {

@@ -1,9 +1,9 @@
 //! Names that are lent while items are put in order.
-ghost use Rattle.std.specs.Prelude.{◌≡◌, IfOk, map, IfSome};
-ghost use Rattle.std.specs.Option.{ForSome};
+ghost use Rattle.std.specs.Prelude.{◌≡◌, IfOk, map, option_copied};
+ghost use Rattle.std.specs.Option.{ForSome, option_map};
 ghost use Rattle.std.specs.List.Sorted.{IsSortedBy, IsPermutation};
-ghost use Rattle.ctf_model.specs.Name.{name as named_by};
-ghost use Rattle.ctf_order.specs.Lending.{AreLent, entry_of, goes_before, is_true_name, Leaves, Lends};
+ghost use Rattle.ctf_model.specs.Name.{Tables, name as named_by};
+ghost use Rattle.ctf_order.specs.Lending.{goes_before, repeats, IsLent, IsNextLent, Lends};
 ghost use Rattle.ctf_sections.specs.StringsView.{tables};
 
 use crate::comparing::order;
@@ -14,18 +14,35 @@ use std::cmp::Ordering;
 
 /// An item beside its name.
 #[derive(Clone, Copy)]
-pub struct Named<'a> {
+pub(crate) struct Named<'a> {
     pub(crate) name: &'a [u8],
     pub(crate) entry: Entry,
 }
 
-/// The name of a reference. Where the name of one before it goes on to there it is a part of that,
-/// and no byte is read.
+/// What a reference names that points into the name of another.
+fn rest_of<'a>(before: &Named<'a>, reference: u32) -> Option<&'a [u8]>
+    ensures { (t : Tables) → IsLent t before.now
+        → ForSome result (λ r. named_by t reference ≡ Some r.now) }
+{
+    let first = before.entry.reference;
+    if first >> 31 != reference >> 31 {
+        return None;
+    }
+    if reference < first {
+        return None;
+    }
+    let skipped = (reference - first) as usize;
+    before.name.get(skipped..)
+}
+
+/// What a reference names. Where it points into the name of the one before it, no byte is read.
 fn name_after<'a>(
     strings: &Strings<'a>,
     before: Option<&Named<'a>>,
     reference: u32,
 ) -> Option<&'a [u8]>
+    requires { ForSome before (λ b. IsLent (tables strings.now) b.now) }
+    ensures { option_copied result ≡ named_by (tables strings.now) reference }
 {
     if let Some(named) = before {
         if let Some(rest) = rest_of(named, reference) {
@@ -33,4 +50,73 @@ fn name_after<'a>(
         }
     }
     strings.name(reference)
+}
+
+/// Whether an item has the reference of a smaller one.
+fn is_repeated(before: Option<&Named<'_>>, item: Entry) -> bool
+    ensures { result ≡ repeats (option_map (λ b. b.now.entry) before.entry) item }
+{
+    match before {
+        Some(named) => {
+            if named.entry.reference == item.reference {
+                named.entry.item <= item.item
+            } else {
+                false
+            }
+        }
+        None => false,
+    }
+}
+
+/// An item beside its name, if it has one, and is not the repetition of a smaller one.
+fn next_named<'a>(
+    strings: &Strings<'a>,
+    before: Option<&Named<'a>>,
+    item: Entry,
+) -> Option<Named<'a>>
+    requires { ForSome before (λ b. IsLent (tables strings.now) b.now) }
+    ensures { IsNextLent (tables strings.now) (option_map (λ b. b.now.entry) before.entry) item result }
+{
+    if is_repeated(before, item) {
+        return None;
+    }
+    let name = name_after(strings, before, item.reference)?;
+    Some(Named { name, entry: item })
+}
+
+/// The items that have names, beside these; of items with one reference at least the least. Where
+/// their references rise, each table is read once at most.
+pub(crate) fn lent<'a>(
+    alloc: Global,
+    strings: &Strings<'a>,
+    items: &[Entry],
+) -> Result<Vec<Named<'a>>, AllocError>
+    ensures { IfOk result (λ named. Lends (tables strings.now) items.now named.items) }
+{
+    let mut named = Vec::new(alloc);
+    for item in items {
+        if let Some(next) = next_named(strings, named.last(), *item) {
+            named.push(next)?;
+        }
+    }
+    Ok(named)
+}
+
+/// Sorts items by their names, and then by number.
+pub(crate) fn arrange(named: &mut Vec<Named<'_>>)
+    ensures permutation { IsPermutation named.old.items named.new.items }
+    ensures sorted { IsSortedBy goes_before named.new.items }
+{
+    named.sort_unstable_by(|a, b| order(a.name, b.name).then(a.entry.item.cmp(&b.entry.item)));
+}
+
+/// The items without their names.
+pub(crate) fn kept(alloc: Global, named: &[Named<'_>]) -> Result<Vec<Entry>, AllocError>
+    ensures { IfOk result (λ entries. entries.items ≡ map (λ n. n.entry) named.now) }
+{
+    let mut entries = Vec::with_capacity(alloc, named.len())?;
+    for one in named {
+        entries.push_reserved(one.entry);
+    }
+    Ok(entries)
 }

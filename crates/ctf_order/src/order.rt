@@ -1,6 +1,7 @@
 //! Items in the order of their names.
 ghost use Rattle.std.specs.Prelude.{◌≡◌, IfOk, List};
 ghost use Rattle.ctf_order.specs.Holding.{Fits, IsFound};
+ghost use Rattle.ctf_order.specs.Searching.{first_of};
 ghost use Rattle.ctf_order.specs.declared.entries.Entry.{Entry as Item};
 ghost use Rattle.ctf_sections.specs.StringsView.{tables};
 
@@ -16,6 +17,21 @@ use std::cmp::Ordering;
 #[derive(Drop)]
 pub struct Order {
     entries: Vec<Entry>,
+}
+
+/// The first item of a name, in front of those whose names stand behind it.
+fn first_named(strings: &Strings<'_>, entries: &[Entry], text: &[u8]) -> Option<u32>
+    ensures { result ≡ first_of (tables strings.now) text.now entries.now }
+{
+    for entry in entries {
+        if is_named(strings, entry.reference, text) {
+            return Some(entry.item);
+        }
+        if compare(strings, entry.reference, text).is_gt() {
+            return None;
+        }
+    }
+    None
 }
 
 impl Order {
@@ -40,20 +56,15 @@ impl Order {
     }
 
     /// The least item of a name. It is found by halves, and takes no memory. Of each name that it
-    /// meets it reads one byte more than the text has at most.
+    /// meets it reads one byte more than the text has at most; where many names of one length begin
+    /// with the same 64 bytes it goes through these, and reads each table once at most.
     pub fn find(&self, strings: &Strings<'_>, text: &[u8]) -> Option<u32>
         ensures { (items : List Item) → Fits (tables strings.now) items self.now
             → IsFound (tables strings.now) items text.now result }
     {
-        let from = self.entries.partition_point(|e| compare(strings, e.reference, text).is_lt());
-        for entry in &self.entries[from..] {
-            if is_named(strings, entry.reference, text) {
-                return Some(entry.item);
-            }
-            if compare(strings, entry.reference, text).is_gt() {
-                return None;
-            }
-        }
-        None
+        let from = self
+            .entries
+            .partition_point(|e| compare(strings, e.reference, text).is_lt());
+        first_named(strings, &self.entries[from..], text)
     }
 }

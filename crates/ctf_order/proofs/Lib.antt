@@ -1,0 +1,4 @@
+pub mod Rest
+pub mod Ranks
+pub mod Lent
+pub mod Search
