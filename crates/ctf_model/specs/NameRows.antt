@@ -72,7 +72,6 @@ pub record NamesAreSpelled : Type 0 where
   pub const_pointer_to_function : in_ten 18 ≡ Ok (codes "int (*const)()")
   pub nothing : in_ten 0 ≡ Ok (codes "void")
   pub past : in_ten 19 ≡ Err (fault 24 0)
-
   pub volatile_pointer : in_more 3 ≡ Ok (codes "int *volatile")
   pub restrict_pointer : in_more 4 ≡ Ok (codes "int *volatile restrict")
   pub array_of_restrict_pointers : in_more 5 ≡ Ok (codes "int *volatile restrict [3]")

@@ -34,8 +34,8 @@ pub use requests::{Change, ListName, Request};
 pub use rows::{
     bytes_denote, bytes_have_faults, figures_are, figures_over_parents, kinds_denote,
     kinds_have_faults, lines_ask, lines_say, lists_are_long, names_are_spelled, names_over_parents,
-    numbers_name, output_is, parents_are_imported, paths_lead, questions_are_answered, questions_are_lines, session_runs,
-    slots_are_closed,
+    numbers_name, output_is, parents_are_imported, paths_lead, questions_are_answered,
+    questions_are_lines, session_runs, slots_are_closed,
 };
 pub use sections::Section;
 pub use words::Word;
