@@ -2,12 +2,13 @@
 use Rattle.ctf_model.specs.Answers as answers
 use Rattle.ctf_answers.specs.Singles.{single_of}
 use Rattle.ctf_answers.specs.declared.fields.Value.{Value}
-use Rattle.ctf_answers.specs.declared.fields.Value.TheVariants.{One, Many}
+use Rattle.ctf_answers.specs.declared.fields.Value.TheVariants.{One, Many, Made}
 use Rattle.ctf_answers.specs.declared.fields.Field.{Field}
 
 abbrev pub value_of : Value → answers.Value
 value_of (One value) = answers.one (single_of value)
 value_of (Many items) = answers.many items
+value_of (Made bytes) = answers.one (answers.text bytes)
 
 abbrev pub field_of : Field → answers.Field
 field_of f = record { key = f.key.now; value = value_of f.value }

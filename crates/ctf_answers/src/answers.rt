@@ -1,6 +1,6 @@
 //! What a granted request is answered.
 ghost use Rattle.std.specs.Prelude.{◌≡◌, ◌++◌, ◌<◌, ◌≤◌, ◌+◌, [], ◌∷◌, length, Some, slice_get, option_map};
-ghost use Rattle.ctf_model.specs.Answers.{says, may_say, lists};
+ghost use Rattle.ctf_model.specs.Answers.{says, may_say, lists, text as said_text};
 ghost use Rattle.ctf_answers.specs.Singles.{single_of};
 ghost use Rattle.ctf_answers.specs.Fields.{field_of};
 
@@ -8,6 +8,7 @@ use crate::fields::{Field, Value};
 use crate::listed::Listed;
 use crate::singles::Single;
 use arrayvec::ArrayVec;
+use ctf_model::Bytes;
 use std::marker::Model;
 
 /// What a granted request is answered: at most eight fields, their keys in byte order.
@@ -79,6 +80,18 @@ impl<'a> Answer<'a> {
         self.and(Field {
             key,
             value: Value::Many(items),
+        })
+    }
+
+    /// With a field of a text that was made for it.
+    pub fn with_text(self, key: &'static str, text: Bytes) -> Answer<'a>
+        requires { length self < 8 }
+        ensures fields { result ≡ self.entry ++ says key.now (said_text text) ∷ [] }
+        ensures len { length result ≡ length self.entry + 1 }
+    {
+        self.and(Field {
+            key,
+            value: Value::Made(text),
         })
     }
 

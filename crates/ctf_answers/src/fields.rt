@@ -2,12 +2,15 @@
 
 use crate::listed::Listed;
 use crate::singles::Single;
+use ctf_model::Bytes;
 
 /// The value of a field.
 #[derive(Drop)]
 pub enum Value<'a> {
     One(Single<'a>),
     Many(Listed<'a>),
+    /// A text that was made for the answer, which owns it.
+    Made(Bytes),
 }
 
 /// A key and its value.

@@ -1,5 +1,5 @@
 -- What the record of a type says is what the type says of itself.
-use Rattle.std.proofs.Common.{◌≡◌, ◌<◌, ℕ, length, Some, refl, sym, ap, ◌∙◌}
+use Rattle.std.proofs.Common.{◌≡◌, ◌<◌, ℕ, length, Option, Some, refl, sym, ap, ◌∙◌}
 use Rattle.std.specs.Prelude.{IfSome, slice_index}
 use Rattle.std.specs.Option.{option_map}
 use Rattle.std.proofs.lemmas.Option.{same_Some}

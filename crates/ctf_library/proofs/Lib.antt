@@ -2,3 +2,4 @@ pub mod SaidOfFacts
 pub mod Numbered
 pub mod Rising
 pub mod Importing
+pub mod Named

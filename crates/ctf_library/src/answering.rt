@@ -1,10 +1,12 @@
 //! What questions on types of a dictionary are answered.
-ghost use Rattle.std.specs.Prelude.{◌≡◌, ◌≤◌, [], ◌∷◌, codes, length, map, take, None, Some, Ok, Err, IfOk, option_map, option_and_then};
+ghost use Rattle.std.specs.Prelude.{◌≡◌, ◌≤◌, [], ◌∷◌, codes, length, map, take, true, None, Some, Ok, Err, IfOk, IfSome, IsNone, option_map, option_and_then};
 ghost use Rattle.ctf_model.specs.Answers.{number, says, word};
 ghost use Rattle.ctf_model.specs.KindNames.{name_of_kind, name_of_tag};
-ghost use Rattle.ctf_model.specs.Questions.{or_wrong_kind, list_fields, said_on, type_said, record_fields, member_fields, enumerator_fields, argument_fields, array_fields, encoding_fields, as_fields, type_fields, size_fields, align_fields, position_fields, number_item, is_variadic as ends_open, named_arguments};
+ghost use Rattle.ctf_model.specs.Questions.{or_wrong_kind, list_fields, said_on, type_said, record_fields, member_fields, enumerator_fields, argument_fields, array_fields, encoding_fields, as_fields, type_fields, size_fields, align_fields, name_fields, position_fields, number_item, is_variadic as ends_open, named_arguments};
 ghost use Rattle.ctf_model.specs.Shown.{members_in, enumerators_in, arguments_in, array_in, encoding_in, list_length};
-ghost use Rattle.ctf_model.specs.Steps.{slot_said, slot_space};
+ghost use Rattle.ctf_model.specs.Steps.{is_quiet, is_quiet_on, slot_said, slot_space, MayAnswer};
+ghost use Rattle.ctf_model.specs.TypeNames.{spelled_name};
+ghost use Rattle.ctf_model.specs.declared.questions.TypeQuestion.TheVariants as about;
 ghost use Rattle.std.specs.Result.{result_map_both};
 ghost use Rattle.ctf_layout.specs.Fitting.{Fits};
 ghost use Rattle.ctf_layout.specs.Reached.{position_of};
@@ -19,10 +21,12 @@ use crate::slots::Slot;
 use ctf_answers::{Answer, Items, Listed, Single, kind_name, tag_name};
 use ctf_check::Facts;
 use ctf_layout::{Layout, path, referred, resolve};
-use ctf_model::{Fault, Kind, Question, TypeNum, TypeQuestion, Window, placeless};
+use ctf_model::{Bytes, Fault, Kind, Question, TypeNum, TypeQuestion, Window, placeless};
+use ctf_names::spell;
 use ctf_records::Tag;
 use ctf_space::Space;
 use ctf_views::{Args, Variant};
+use std::alloc::Global;
 
 /// What a list answers that a type may have.
 fn listed<'a>(key: &'static str, items: Items<'a>, window: Window) -> Answer<'a>
@@ -235,46 +239,68 @@ fn kind<'a>(kind: Kind) -> Answer<'a>
     Answer::done().with("kind", Single::Word(kind_name(kind)))
 }
 
-/// What a question is answered on a type that a number names, and that says this of itself.
-fn answer_of<'a>(
+/// The name of a type, as C spells it.
+fn name<'a>(alloc: Global, space: &Space<'_>, t: TypeNum) -> Result<Answer<'a>, Fault>
+    ensures { MayAnswer (as_fields name_fields (spelled_name (space_of space.now) t.0)) result }
+{
+    let mut text = Vec::new(alloc);
+    match spell(alloc, space, t, &mut text) {
+        Ok(()) => Ok(Answer::done().with_text("name", Bytes::from(text))),
+        Err(fault) => Err(fault),
+    }
+}
+
+/// What a question is answered on a type that a number names, and that says this of itself, where
+/// the answer is lent and takes no memory.
+fn lent_answer<'a>(
     x: Facts<'a>,
     space: &Space<'a>,
     layout: &Layout,
     t: TypeNum,
     question: &TypeQuestion,
-) -> Result<Answer<'a>, Fault>
+) -> Option<Result<Answer<'a>, Fault>>
     requires { Fits (space_of space.now) layout.now }
-    ensures { result ≡ said_on question.now (space_of space.now) t.0 (facts_seen x.entry) }
+    ensures lent { IfSome result (λ answer. answer
+        ≡ said_on question.now (space_of space.now) t.0 (facts_seen x.entry)) }
+    ensures others { IsNone result → question.now ≡ about.Name }
 {
     match question {
-        TypeQuestion::Kind => Ok(kind(x.shape.kind)),
-        TypeQuestion::Record => Ok(record_of(x)),
-        TypeQuestion::Members(window) => members(x.shape.behind, *window),
-        TypeQuestion::Enumerators(window) => enumerators(x.shape.behind, *window),
-        TypeQuestion::Args => arguments(x.shape.behind, x.shape.reference),
-        TypeQuestion::Array => array(x.shape.behind),
-        TypeQuestion::Encoding => encoding(x.shape.behind),
-        TypeQuestion::Reference => type_answer(referred(x.shape)),
-        TypeQuestion::Resolve => type_answer(resolve(space, t)),
-        TypeQuestion::Size => size_answer(layout.size(t)),
-        TypeQuestion::Align => align_answer(layout.align(t)),
-        TypeQuestion::Path(names) => position_answer(path(space, t, names.as_slice())),
+        TypeQuestion::Kind => Some(Ok(kind(x.shape.kind))),
+        TypeQuestion::Record => Some(Ok(record_of(x))),
+        TypeQuestion::Members(window) => Some(members(x.shape.behind, *window)),
+        TypeQuestion::Enumerators(window) => Some(enumerators(x.shape.behind, *window)),
+        TypeQuestion::Args => Some(arguments(x.shape.behind, x.shape.reference)),
+        TypeQuestion::Array => Some(array(x.shape.behind)),
+        TypeQuestion::Encoding => Some(encoding(x.shape.behind)),
+        TypeQuestion::Reference => Some(type_answer(referred(x.shape))),
+        TypeQuestion::Resolve => Some(type_answer(resolve(space, t))),
+        TypeQuestion::Size => Some(size_answer(layout.size(t))),
+        TypeQuestion::Align => Some(align_answer(layout.align(t))),
+        TypeQuestion::Path(names) => Some(position_answer(path(space, t, names.as_slice()))),
+        TypeQuestion::Name => None,
     }
 }
 
 /// What a question on a type of a space is answered.
 fn answer_on<'a>(
+    alloc: Global,
     space: &Space<'a>,
     layout: &Layout,
     t: TypeNum,
     question: &TypeQuestion,
 ) -> Result<Answer<'a>, Fault>
     requires { Fits (space_of space.now) layout.now }
-    ensures { result ≡ type_said question.now (space_of space.now) t.0 }
+    ensures answer { MayAnswer (type_said question.now (space_of space.now) t.0) result }
+    ensures quiet { is_quiet_on question.now ≡ true
+        → result ≡ type_said question.now (space_of space.now) t.0 }
 {
-    match space.term(t) {
-        Ok(found) => answer_of(found.facts(), space, layout, t, question),
-        Err(fault) => Err(fault),
+    let found = match space.term(t) {
+        Ok(found) => found,
+        Err(fault) => return Err(fault),
+    };
+    match lent_answer(found.facts(), space, layout, t, question) {
+        Some(answer) => answer,
+        None => name(alloc, space, t),
     }
 }
 
@@ -294,12 +320,20 @@ impl Slot {
     }
 
     /// What a question is answered.
-    pub(crate) fn answer<'a>(&'a self, question: &Question) -> Result<Answer<'a>, Fault>
-        ensures { result ≡ slot_said question.now (slot_of self.now) }
+    pub(crate) fn answer<'a>(
+        &'a self,
+        alloc: Global,
+        question: &Question,
+    ) -> Result<Answer<'a>, Fault>
+        ensures answer { MayAnswer (slot_said question.now (slot_of self.now)) result }
+        ensures quiet { is_quiet question.now ≡ true
+            → result ≡ slot_said question.now (slot_of self.now) }
     {
         let space = self.space();
         match question {
-            Question::OfType { t, question } => answer_on(&space, &self.layout, *t, question),
+            Question::OfType { t, question } => {
+                answer_on(alloc, &space, &self.layout, *t, question)
+            },
         }
     }
 }

@@ -251,10 +251,11 @@ impl Library {
     }
 
     fn answer_now<'a>(&'a self, d: SlotNumber, question: &Question) -> Result<Answer<'a>, Fault>
-        ensures { result ≡ answer_to d question.now self.now }
+        ensures answer { MayAnswer (answer_to d question.now self.now) result }
+        ensures quiet { is_quiet question.now ≡ true → result ≡ answer_to d question.now self.now }
     {
         match find_slot(&self.slots, d.get()) {
-            Some(slot) => slot.answer(question),
+            Some(slot) => slot.answer(self.alloc, question),
             None => Err(placeless(Fault::NO_SLOT)),
         }
     }

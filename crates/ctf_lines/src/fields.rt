@@ -9,7 +9,7 @@ ghost use Rattle.ctf_lines.specs.Appending.{HasRoom, Appended, and_text};
 use crate::series::{Series, plus_series, put_series};
 use crate::singles::{plus_entry, plus_key, plus_single, put_entry, put_key, put_single};
 use crate::texts::{TOO_LONG, plus, put};
-use ctf_answers::{Answer, Entry, Field, Item, Listed, Value};
+use ctf_answers::{Answer, Entry, Field, Item, Listed, Single, Value};
 
 /// A length and the bytes of an item.
 fn plus_item(len: usize, item: Item<'_>) -> usize
@@ -85,6 +85,7 @@ fn plus_value(len: usize, value: &Value<'_>) -> usize
     match value {
         Value::One(value) => plus_single(len, *value),
         Value::Many(items) => plus_series(plus(len, 2), items),
+        Value::Made(text) => plus_single(len, Single::Text(text.as_slice())),
     }
 }
 
@@ -106,6 +107,7 @@ fn put_value(out: &mut Vec<u8>, value: &Value<'_>)
     match value {
         Value::One(value) => put_single(out, *value),
         Value::Many(items) => put_list(out, items),
+        Value::Made(text) => put_single(out, Single::Text(text.as_slice())),
     }
 }
 

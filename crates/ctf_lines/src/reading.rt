@@ -118,6 +118,7 @@ fn read_word(alloc: Global, value: &Value, word: Word) -> Result<Option<Request>
         Word::DoResolve => Ok(about_type(value, Some(TypeQuestion::Resolve))),
         Word::DoSize => Ok(about_type(value, Some(TypeQuestion::Size))),
         Word::DoAlign => Ok(about_type(value, Some(TypeQuestion::Align))),
+        Word::DoName => Ok(about_type(value, Some(TypeQuestion::Name))),
         Word::DoPath => Ok(about_type(value, path(alloc, value)?)),
     }
 }

@@ -13,12 +13,13 @@ use Rattle.ctf_model.specs.Figures.{align, referred, resolved, size}
 use Rattle.ctf_model.specs.KeyOrder.{item_in_order, in_order, IsInOrder, KeysRise}
 use Rattle.ctf_model.specs.Lists.{Lists}
 use Rattle.ctf_model.specs.Paths.{path}
-use Rattle.ctf_model.specs.Questions.{at_most, windowed, or_wrong_kind, as_fields, member_fields, member_item, enumerator_fields, enumerator_item, number_item, named_arguments, argument_fields, array_fields, encoding_fields, type_fields, size_fields, align_fields, position_fields, said_on, said_of}
+use Rattle.ctf_model.specs.Questions.{at_most, windowed, or_wrong_kind, as_fields, member_fields, member_item, enumerator_fields, enumerator_item, number_item, named_arguments, argument_fields, array_fields, encoding_fields, type_fields, size_fields, align_fields, name_fields, position_fields, said_on, said_of}
 use Rattle.ctf_model.specs.Shown.{Facts, facts, members_in, enumerators_in, arguments_in, array_in, encoding_in, list_length}
 use Rattle.ctf_model.specs.State.{State, Slot}
 use Rattle.ctf_model.specs.Steps.{change_step, with_slot, grants, slots_without, imports_unless, fault_over, stages, opens, opens_unless, has_room, accepts_unless, longest_list, slot_at, slot_space, said_by_slot}
 use Rattle.ctf_model.specs.Space.{Space, space_type}
 use Rattle.ctf_model.specs.Term.{Term}
+use Rattle.ctf_model.specs.TypeNames.{spelled_name}
 use Rattle.ctf_model.specs.declared.faults.Fault.{Fault}
 use Rattle.ctf_model.specs.declared.questions.Question.TheVariants.{OfType}
 use Rattle.ctf_model.specs.declared.questions.TypeQuestion.{TypeQuestion}
@@ -95,6 +96,7 @@ on_type ask.Reference s t x = figure type_fields (λ n. refl) (referred x.shape)
 on_type ask.Resolve s t x = figure type_fields (λ n. refl) (resolved s t)
 on_type ask.Size s t x = figure size_fields (λ n. refl) (size s t)
 on_type ask.Align s t x = figure align_fields (λ n. refl) (align s t)
+on_type ask.Name s t x = figure name_fields (λ name. refl) (spelled_name s t)
 on_type (ask.Path names) s t x = figure position_fields (λ at. refl) (path s t names)
 
 of_type : (question : TypeQuestion) (s : Space) (t : ℕ) (found : Result Term Fault) → IsInOrder (said_of question s t found)

@@ -21,7 +21,7 @@ use Rattle.ctf_model.specs.declared.questions.Question.TheVariants.{OfType}
 use Rattle.ctf_model.specs.declared.questions.TypeQuestion.{TypeQuestion}
 use Rattle.ctf_model.specs.declared.questions.TypeQuestion.TheVariants as about
 use Rattle.ctf_model.specs.declared.words.Word.{Word}
-use Rattle.ctf_model.specs.declared.words.Word.TheVariants.{DoPart, DoCheck, DoOpen, DoClear, DoReset, DoClose, DoImport, DoKind, DoRecord, DoMembers, DoEnumerators, DoArgs, DoArray, DoEncoding, DoReference, DoResolve, DoSize, DoAlign, DoPath}
+use Rattle.ctf_model.specs.declared.words.Word.TheVariants.{DoPart, DoCheck, DoOpen, DoClear, DoReset, DoClose, DoImport, DoKind, DoRecord, DoMembers, DoEnumerators, DoArgs, DoArray, DoEncoding, DoReference, DoResolve, DoSize, DoAlign, DoName, DoPath}
 use Rattle.ctf_model.specs.Text.{bytes_spelled_by}
 use Rattle.ctf_model.specs.Words.{words, word_named, is_text}
 use Rattle.ctf_model.specs.declared.questions.Window.{Window}
@@ -131,6 +131,7 @@ asked_with line DoReference = about_type (Some about.Reference) line
 asked_with line DoResolve = about_type (Some about.Resolve) line
 asked_with line DoSize = about_type (Some about.Size) line
 asked_with line DoAlign = about_type (Some about.Align) line
+asked_with line DoName = about_type (Some about.Name) line
 asked_with line DoPath = about_type (option_map (λ names. about.Path names) (names_asked line)) line
 
 -- the word of a line

@@ -63,6 +63,8 @@ pub record QuestionsAreAnswered : Type 0 where
   pub align : answered structs (on 2 about.Align) ≡ codes "{\"ok\":{\"align\":4},\"s\":0}\n"
   pub incomplete : answered others (on 7 about.Size) ≡ codes "{\"fault\":{\"code\":26,\"name\":\"Incomplete\",\"place\":0},\"s\":0}\n"
   pub no_size : answered structs (on 0 about.Size) ≡ codes "{\"fault\":{\"code\":24,\"name\":\"NoType\",\"place\":0},\"s\":0}\n"
+  pub name : answered others (on 10 about.Name) ≡ codes "{\"ok\":{\"name\":\"const volatile A\"},\"s\":0}\n"
+  pub no_name : answered structs (on 0 about.Name) ≡ codes "{\"fault\":{\"code\":24,\"name\":\"NoType\",\"place\":0},\"s\":0}\n"
   pub path : answered structs (on 3 (about.Path (codes "b" ∷ []))) ≡ codes "{\"ok\":{\"offset\":4294967328,\"t\":1},\"s\":0}\n"
   pub no_step : answered structs (on 3 (about.Path [])) ≡ codes "{\"ok\":{\"offset\":0,\"t\":3},\"s\":0}\n"
   pub no_member : answered structs (on 3 (about.Path (codes "z" ∷ []))) ≡ codes "{\"fault\":{\"code\":28,\"name\":\"NoMember\",\"place\":0},\"s\":0}\n"
@@ -90,6 +92,7 @@ pub record QuestionsAreLines : Type 0 where
   pub resolve : ask (codes "{\"s\":1,\"op\":\"resolve\",\"d\":2,\"t\":3}") ≡ asks about.Resolve
   pub size : ask (codes "{\"s\":1,\"op\":\"size\",\"d\":2,\"t\":3}") ≡ asks about.Size
   pub align : ask (codes "{\"s\":1,\"op\":\"align\",\"d\":2,\"t\":3,\"names\":7}") ≡ asks about.Align
+  pub name : ask (codes "{\"s\":1,\"op\":\"name\",\"d\":2,\"t\":3}") ≡ asks about.Name
   pub no_type : ask (codes "{\"s\":1,\"op\":\"size\",\"d\":2}") ≡ Err (1, fault 58 0)
   pub check : ask (codes "{\"s\":1,\"op\":\"check\"}") ≡ Ok (1, Changes change.Check)
   pub plain : text_of (codes "a~ ") ≡ codes "a~ "

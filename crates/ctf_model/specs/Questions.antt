@@ -1,4 +1,4 @@
--- What a question on a type is answered. Source: libctf(3LIB), ctf_type_kind, ctf_member_iter, ctf_enum_iter, ctf_func_args, ctf_array_info, ctf_type_encoding, ctf_type_reference, ctf_type_resolve, ctf_type_size, ctf_type_align; the form of answers is ours.
+-- What a question on a type is answered. Source: libctf(3LIB), ctf_type_kind, ctf_member_iter, ctf_enum_iter, ctf_func_args, ctf_array_info, ctf_type_encoding, ctf_type_reference, ctf_type_resolve, ctf_type_size, ctf_type_align, ctf_type_lname; the form of answers is ours.
 use Rattle.std.specs.Prelude.{ℕ, ◌-◌, ◌&&◌, ◌==◌, ◌++◌, nat_lt, Bool, List, [], ◌∷◌, length, map, take, drop, slice_index, option_and_then, Option, Some, None, Result, Ok, Err, codes, if◌then◌else◌}
 use Rattle.std.specs.Option.{option_map}
 use Rattle.ctf_model.specs.Answers.{Answer, Item, says, may_say, lists, entry, number, signed, truth, word, text, bare, object}
@@ -9,6 +9,7 @@ use Rattle.ctf_model.specs.Refusals.{placeless}
 use Rattle.ctf_model.specs.Shown.{ArrayParts, EncodingParts, Facts, Shape, facts, members_in, enumerators_in, arguments_in, array_in, encoding_in, list_length}
 use Rattle.ctf_model.specs.Space.{Space, space_type}
 use Rattle.ctf_model.specs.Term.{Member, Enumerator, Term}
+use Rattle.ctf_model.specs.TypeNames.{spelled_name}
 use Rattle.ctf_model.specs.declared.faults.Fault.{Fault}
 use Rattle.ctf_model.specs.declared.faults.TheConstants.Fault.{WRONG_KIND}
 use Rattle.ctf_model.specs.declared.questions.TypeQuestion.{TypeQuestion}
@@ -86,6 +87,10 @@ size_fields n = says (codes "size") (number n) ∷ []
 abbrev pub align_fields : ℕ → Answer
 align_fields n = says (codes "align") (number n) ∷ []
 
+-- as C spells it
+abbrev pub name_fields : List ℕ → Answer
+name_fields name = says (codes "name") (text name) ∷ []
+
 -- how many bits lie in front of a member, and its type
 abbrev pub position_fields : Position → Answer
 position_fields at = says (codes "offset") (number at.offset) ∷ says (codes "t") (number at.tnum) ∷ []
@@ -115,6 +120,7 @@ said_on ask.Reference s t x = as_fields type_fields (referred x.shape)
 said_on ask.Resolve s t x = as_fields type_fields (resolved s t)
 said_on ask.Size s t x = as_fields size_fields (size s t)
 said_on ask.Align s t x = as_fields align_fields (align s t)
+said_on ask.Name s t x = as_fields name_fields (spelled_name s t)
 said_on (ask.Path names) s t x = as_fields position_fields (path s t names)
 
 -- the same where the number may name no type

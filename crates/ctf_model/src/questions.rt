@@ -37,6 +37,8 @@ pub enum TypeQuestion {
     Size,
     /// Its alignment in bytes.
     Align,
+    /// Its name, as C spells it.
+    Name,
     /// Where a member of a member lies, by their names from the outermost on.
     Path(Names),
 }

@@ -23,6 +23,7 @@ pub enum Word {
     DoResolve,
     DoSize,
     DoAlign,
+    DoName,
     DoPath,
 }
 
@@ -42,7 +43,7 @@ fn row(word: Word, text: &'static str) -> Written
 
 /// Every word.
 #[tactic(auto, unfolding(crate::specs::Words::words))]
-fn words() -> [Written; 19]
+fn words() -> [Written; 20]
     ensures { map row_of result ≡ all_words }
 {
     [
@@ -64,6 +65,7 @@ fn words() -> [Written; 19]
         row(Word::DoResolve, "resolve"),
         row(Word::DoSize, "size"),
         row(Word::DoAlign, "align"),
+        row(Word::DoName, "name"),
         row(Word::DoPath, "path"),
     ]
 }

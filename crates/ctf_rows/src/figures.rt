@@ -785,7 +785,7 @@ const UNIONS: [(&str, &str); 6] = [
 ];
 
 /// Appends a byte as two digits.
-fn put_byte(out: &mut Vec<u8>, byte: u8) -> Result<(), AllocError> {
+pub fn put_byte(out: &mut Vec<u8>, byte: u8) -> Result<(), AllocError> {
     let digits = b"0123456789abcdef";
     out.push(digits[usize::from(byte / 16)])?;
     out.push(digits[usize::from(byte % 16)])?;

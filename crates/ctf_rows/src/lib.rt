@@ -46,6 +46,8 @@ mod shelves;
 #[cfg(test)]
 mod slots;
 #[cfg(test)]
+mod spelled;
+#[cfg(test)]
 mod stage;
 #[cfg(test)]
 mod symbols;

@@ -5,7 +5,7 @@ use std::alloc::{AllocError, Global};
 use std::test::Fail;
 
 /// Appends a text a number of times.
-fn repeat(out: &mut Vec<u8>, text: &[u8], times: usize) -> Result<(), AllocError> {
+pub fn repeat(out: &mut Vec<u8>, text: &[u8], times: usize) -> Result<(), AllocError> {
     for _ in 0..times {
         out.extend_from_slice(text)?;
     }

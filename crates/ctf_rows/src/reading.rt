@@ -68,6 +68,7 @@ fn question_said(question: &TypeQuestion) -> (&'static str, Option<Window>) {
         TypeQuestion::Resolve => ("resolve", None),
         TypeQuestion::Size => ("size", None),
         TypeQuestion::Align => ("align", None),
+        TypeQuestion::Name => ("name", None),
         TypeQuestion::Path(_) => ("path", None),
     }
 }
@@ -134,6 +135,10 @@ fn questions_are_read(rt: HostRuntime) {
         (
             "{\"s\":1,\"op\":\"args\",\"d\":2,\"t\":3}",
             about("args", 2, 3),
+        ),
+        (
+            "{\"s\":1,\"op\":\"name\",\"d\":2,\"t\":3}",
+            about("name", 2, 3),
         ),
         (
             "{\"s\":1,\"op\":\"array\",\"d\":4,\"t\":5}",

@@ -1,8 +1,7 @@
 use Rattle.std.proofs.Common.{◌≡◌, None, sym, ap, ◌∙◌}
 use Rattle.std.proofs.lemmas.Option.{same_Some}
-use Rattle.ctf_check.specs.CheckedView.{dictionary_of, lists_of}
+use Rattle.ctf_check.specs.CheckedView.{lists_of}
 use Rattle.ctf_model.specs.Dictionary.{said_by}
-use Rattle.ctf_model.specs.Lists.{Lists}
 use Rattle.ctf_model.specs.Space as spaces
 use Rattle.ctf_model.specs.Steps.{fault_over}
 use Rattle.ctf_space.specs.SpaceView.{space_of}

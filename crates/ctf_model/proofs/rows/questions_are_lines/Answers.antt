@@ -11,4 +11,4 @@ use Rattle.ctf_model.proofs.rows.questions_are_lines.Goals as goal
 
 pub returns : goal.returns
 unfolding digits name_of_fault fitting_line ask words is_utf8 chars hex_on_literals serde_json_on_literals
-returns c = record { window = refl; no_window = refl; null_window = refl; great_count = refl; resolve = refl; size = refl; align = refl; no_type = refl; check = refl; plain = refl; escaped = refl; enumerators = refl; naming = refl; declaring = refl; bare = refl; type_found = refl; greatest_size = refl; alignment = refl; position = refl }
+returns c = record { window = refl; no_window = refl; null_window = refl; great_count = refl; resolve = refl; size = refl; align = refl; name = refl; no_type = refl; check = refl; plain = refl; escaped = refl; enumerators = refl; naming = refl; declaring = refl; bare = refl; type_found = refl; greatest_size = refl; alignment = refl; position = refl }
