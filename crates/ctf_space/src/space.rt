@@ -38,7 +38,7 @@ impl<'a> Space<'a> {
 
     /// A dictionary without a parent.
     pub fn own(own: Checked<'a>, model: DataModel) -> Space<'a>
-        ensures { space_of result ≡ alone (dictionary_of own.entry) model }
+        ensures space { space_of result ≡ alone (dictionary_of own.entry) model }
         ensures lists { own_lists result ≡ lists_of own.entry }
         ensures parent { parent_lists result ≡ None }
     {
@@ -82,7 +82,7 @@ impl<'a> Space<'a> {
     /// A child over the parent that it was imported over before, without judging the import again.
     pub fn again(child: Checked<'a>, parent: Checked<'a>, model: DataModel) -> Space<'a>
         requires { fault_of_import child parent ≡ None }
-        ensures { space_of result
+        ensures space { space_of result
             ≡ over_parent (dictionary_of child.entry) (dictionary_of parent.entry) model }
         ensures lists { own_lists result ≡ lists_of child.entry }
         ensures parent { parent_lists result ≡ Some (lists_of parent.entry) }
@@ -131,7 +131,7 @@ impl<'a> Space<'a> {
 
     /// The dictionary itself.
     pub fn dictionary(&self) -> Checked<'a>
-        ensures { dictionary_of result ≡ (space_of self.now).own }
+        ensures own { dictionary_of result ≡ (space_of self.now).own }
         ensures lists { lists_of result ≡ own_lists self.now }
     {
         self.own
