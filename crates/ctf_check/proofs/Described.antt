@@ -3,7 +3,9 @@ use Rattle.std.proofs.Common.{◌≡◌, ◌<◌, ℕ, length, Option, Some, ref
 use Rattle.std.specs.Prelude.{IfSome, slice_index}
 use Rattle.std.specs.Option.{option_map}
 use Rattle.std.proofs.lemmas.Option.{same_Some}
+use Rattle.ctf_model.specs.Bytes.{u32_at}
 use Rattle.ctf_model.specs.Chains.{by_value}
+use Rattle.ctf_model.specs.Name.{name}
 use Rattle.ctf_model.specs.Record.{kind, is_root}
 use Rattle.ctf_model.specs.Shown.{Facts, Shape, facts, kind_of, reference_of, shape, shown, size_of}
 use Rattle.ctf_model.specs.Term.{Term}
@@ -61,6 +63,19 @@ pub values_counted : (d : Checked) (r : Record) (n : ℕ) → IsOwn d r → n �
 values_counted d r n own is =
     let x = own_spelled d r own in
     rw (x.says, spelled_numbers ByValue (tables_of d) (bytes_of r) x.type x.says, is) refl
+
+-- the reference of its record names it
+pub referred_name : (d : Checked) (r : Record) → IsOwn d r → option_map (λ x. Some x.name) (term_of (tables_of d) (bytes_of r)) ≡ Some (name (tables_of d) (u32_at (bytes_of r) 0))
+referred_name d r own = let x = own_spelled d r own in rw (x.says, x.named) refl
+
+-- whether it is visible
+pub root_said : (d : Checked) (r : Record) → IsOwn d r → option_map (λ x. x.root) (term_of (tables_of d) (bytes_of r)) ≡ Some (is_root (bytes_of r))
+root_said d r own =
+    let x = own_spelled d r own in
+    let s = head_says (tables_of d) (bytes_of r) x.type x.says in
+    rw (x.says, s.root_is) refl
+
+-- with its name, and whether it is visible
 
 -- ---- with its name, and whether it is visible
 

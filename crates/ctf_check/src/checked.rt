@@ -145,7 +145,8 @@ impl<'a> Checked<'a> {
         record_starts(alloc, self.types, self.count)
     }
 
-    fn strings(&self) -> Strings<'a>
+    /// Its tables of names.
+    pub fn strings(&self) -> Strings<'a>
         ensures { tables result ≡ tables_of self.now }
     {
         self.strings

@@ -5,7 +5,8 @@ ghost use Rattle.ctf_model.specs.Chains.{by_value};
 ghost use Rattle.ctf_model.specs.Shown.{facts, shape, shown};
 ghost use Rattle.ctf_records.specs.RecordView.{index_of};
 ghost use Rattle.ctf_views.specs.VariantView.{seen};
-ghost use Rattle.ctf_check.specs.CheckedView.{dictionary_of, type_at, IsOwn};
+ghost use Rattle.ctf_check.specs.CheckedView.{dictionary_of, tables_of, type_at, IsOwn};
+ghost use Rattle.ctf_model.specs.Name.{name as named_by};
 ghost use Rattle.ctf_check.specs.FactsView.{facts_seen, shape_seen};
 
 use crate::checked::Checked;
@@ -62,6 +63,21 @@ impl<'a> Typed<'a> {
         ensures { option_map (λ x. x.name) (spelled self.now) ≡ Some result.now }
     {
         self.dictionary.name(&self.source)
+    }
+
+    /// The reference to its name. No name is read for it.
+    pub fn name_reference(&self) -> u32
+        ensures { option_map (λ x. Some x.name) (spelled self.now)
+            ≡ Some (named_by (tables_of (dictionary_in self.now)) result) }
+    {
+        self.source.name_ref()
+    }
+
+    /// Whether it is visible to look-ups by name.
+    pub fn root(&self) -> bool
+        ensures { option_map (λ x. x.root) (spelled self.now) ≡ Some result }
+    {
+        self.source.root()
     }
 
     /// What stands behind its head: members, enumerators, arguments and the like.

@@ -1,17 +1,19 @@
 -- Items beside their names, one more at a time, and in order.
-use Rattle.std.proofs.Common.{◌≡◌, ◌⊎◌, inl, inr, ℕ, zero, suc, ◌+◌, ◌-◌, ◌==◌, ◌<◌, Bool, true, false, List, [], ◌∷◌, ◌++◌, length, map, get_or, Option, Some, None, Bor, refl, sym, ap, ◌∙◌, arith}
-use Rattle.std.specs.Prelude.{nat_le, ◌&&◌, option_copied, slice_get}
+use Rattle.std.proofs.Common.{◌≡◌, ◌⊎◌, inl, inr, ℕ, zero, suc, ◌+◌, ◌-◌, ◌==◌, ◌<◌, ◌≤◌, Bool, true, false, List, [], ◌∷◌, ◌++◌, length, map, get_or, Option, Some, None, Bor, refl, sym, ap, ◌∙◌, arith}
+use Rattle.std.specs.Prelude.{nat_le, ◌&&◌, ◌||◌, option_copied, slice_get}
 use Rattle.std.proofs.lemmas.Option.{get_or_from_slice_get, slice_get_within}
-use Rattle.std.specs.List.{Contains}
+use Rattle.std.specs.List.{list_any, Contains}
 use Rattle.std.specs.Option.{option_map}
-use Rattle.std.proofs.lemmas.Bool.{eqb-true, leb-true}
+use Rattle.std.proofs.lemmas.Bool.{eqb-true, leb-true, le-leb}
+use Rattle.std.proofs.lemmas.Bool.Decides.{Decides-eqb}
+use Rattle.std.proofs.lemmas.Slice.Eq.{bytes_eq-Decides}
 use Rattle.std.proofs.lemmas.List.Elements.{Contains-append_left, Contains-append_right, Contains-append_cases, Contains-get_or}
 use Rattle.ctf_model.specs.Name.{Tables, name}
 use Rattle.std.specs.List.Sorted.{IsPermutation, IsSortedBy}
 use Rattle.std.proofs.lemmas.List.{get_or-map, length-map}
 use Rattle.std.proofs.lemmas.List.Sorted.{Contains-permutation, IsPermutation-sym}
 use Rattle.ctf_model.specs.Dictionary.{name_or_empty}
-use Rattle.ctf_order.specs.Holding.{precedes, Fits, HasFirst, IsNamed, Stands}
+use Rattle.ctf_order.specs.Holding.{is_early, precedes, same_entry, Fits, IsNamed, Stands}
 use Rattle.ctf_order.specs.declared.order.Order.{Order}
 use Rattle.ctf_order.specs.Lending.{goes_before, repeats, HasLent, IsLent, Lends}
 use Rattle.ctf_order.specs.declared.entries.Entry.{Entry}
@@ -96,25 +98,43 @@ from_map [] e h = absurd (omega (arith, h.1))
 from_map (m ∷ named) e (zero, lt, is) = (m, (0, omega arith, refl), is)
 from_map (m ∷ named) e (suc k, lt, is) = let rest = from_map named e (k, omega (arith, lt), is) in (rest.0, (suc rest.1.0, omega (arith, rest.1.1), rest.1.2), rest.2)
 
+pub any_to : {X : Type 0} (p : X → Bool) (xs : List X) (x : X) → p x ≡ true → Contains xs x → list_any p xs ≡ true
+any_to p [] x is h = absurd (omega (arith, h.1))
+any_to p (y ∷ xs) x is (zero, lt, same) = rw (same, is) refl
+any_to p (y ∷ xs) x is (suc k, lt, same) = either_way (p y) (list_any p xs) (any_to p xs x is (k, omega (arith, lt), same))
+  where
+    either_way : (a b : Bool) → b ≡ true → (a || b) ≡ true
+    either_way true b e = refl
+    either_way false b e = e
+
+same_itself : (e : Entry) → same_entry e e ≡ true
+same_itself e = rw ((Decides-eqb e.reference e.reference).1 refl, (Decides-eqb e.item e.item).1 refl) refl
+
+early : (t : Tables) (text : List ℕ) (item : ℕ) (e : Entry) → e.item ≤ item → IsNamed t text e → is_early t text item e ≡ true
+early t text item e le is = rw (le-leb e.item item le, is, (bytes_eq-Decides text text).1 refl) refl
+
 pub stands : (t : Tables) (items sorted : List Entry) (named arranged : List Named) → IsPermutation items sorted → Lends t sorted named → IsPermutation named arranged → Stands t items (map entry_in arranged)
 stands t items sorted named arranged same lends moved = record { inside = inside_of; named = named_of; all = all_of }
   where
     back : (n : Named) → Contains arranged n → Contains named n
     back n h = Contains-permutation arranged named n (IsPermutation-sym named arranged moved) h
 
-    inside_of : (e : Entry) → Contains (map entry_in arranged) e → Contains items e
-    inside_of e h = let one = from_map arranged e h in rw one.2 at (Contains-permutation sorted items one.0.entry (IsPermutation-sym items sorted same) (lends.inside one.0 (back one.0 one.1)))
-
+    inside_of : (e : Entry) → Contains (map entry_in arranged) e → list_any (same_entry e) items ≡ true
+    inside_of e h =
+        let one = from_map arranged e h in
+        let there : Contains items one.0.entry = Contains-permutation sorted items one.0.entry (IsPermutation-sym items sorted same) (lends.inside one.0 (back one.0 one.1)) in
+        let here : Contains items e = rw one.2 at there in
+        any_to (same_entry e) items e (same_itself e) here
     named_of : (e : Entry) → Contains (map entry_in arranged) e → name t e.reference ≡ Some (name_or_empty t e.reference)
     named_of e h =
         let one = from_map arranged e h in
         let says : name t e.reference ≡ Some one.0.name.now = rw one.2 at (lends.right one.0 (back one.0 one.1)) in
         rw says refl
 
-    all_of : (e : Entry) (text : List ℕ) → Contains items e → IsNamed t text e → HasFirst t text (map entry_in arranged) e.item
+    all_of : (e : Entry) (text : List ℕ) → Contains items e → IsNamed t text e → list_any (is_early t text e.item) (map entry_in arranged) ≡ true
     all_of e text h is =
         let one = lends.all e text (Contains-permutation items sorted e same h) is in
-        record { entry = one.one.entry; there = in_map arranged one.one (Contains-permutation named arranged one.one moved one.there); named = one.called; least = one.least }
+        any_to (is_early t text e.item) (map entry_in arranged) one.one.entry (early t text e.item one.one.entry one.least one.called) (in_map arranged one.one (Contains-permutation named arranged one.one moved one.there))
 
 lent_order : (t : Tables) (a b : Named) → IsLent t a → IsLent t b → precedes t a.entry b.entry ≡ goes_before a b
 lent_order t a b p q = rw (p, q) refl

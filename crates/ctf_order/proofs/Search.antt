@@ -1,10 +1,10 @@
 -- A search in items that stand in the order of their names finds the least of a name.
 use Rattle.std.proofs.Common.{◌≡◌, ◌⊎◌, inl, inr, ℕ, zero, suc, ◌<◌, ◌≤◌, ltb, Bool, true, false, List, [], ◌∷◌, length, get_or, drop, Option, Some, None, refl, sym, ap, ◌∙◌, arith}
-use Rattle.std.specs.Prelude.{MatchOption}
-use Rattle.std.specs.List.{Contains}
+use Rattle.std.specs.Prelude.{nat_le, ◌==◌, ◌&&◌, ◌||◌, MatchOption}
+use Rattle.std.specs.List.{list_any, Contains}
 use Rattle.std.specs.List.Sorted.{IsSortedBy, IsPartitionedBy}
 use Rattle.std.specs.Cmp.{IsStrictWeakOrder, nat_cmp_is}
-use Rattle.std.proofs.lemmas.Bool.{ltb-true, ltb-false}
+use Rattle.std.proofs.lemmas.Bool.{eqb-true, leb-true, ltb-true, ltb-false}
 use Rattle.std.proofs.lemmas.List.Elements.{Contains-get_or}
 use Rattle.std.specs.Ordering.{is_gt, is_lt, nat_cmp, ordering_reverse, ordering_then}
 use Rattle.std.specs.Str.{bytes_eq}
@@ -16,7 +16,7 @@ use Rattle.std.proofs.lemmas.List.Sorted.{sorted_far}
 use Rattle.std.proofs.lemmas.Slice.Eq.{bytes_eq-Decides}
 use Rattle.ctf_model.specs.Dictionary.{name_or_empty}
 use Rattle.ctf_model.specs.Name.{Tables, name}
-use Rattle.ctf_order.specs.Holding.{precedes, HasFirst, IsFound, IsNamed, Stands}
+use Rattle.ctf_order.specs.Holding.{is_early, precedes, same_entry, IsFound, IsNamed, Stands}
 use Rattle.ctf_order.specs.Names.{by_front, compared, is_text}
 use Rattle.ctf_order.specs.Searching.{first_of}
 use Rattle.ctf_order.specs.declared.entries.Entry.{Entry}
@@ -215,9 +215,39 @@ parted t text entries all rises i j d le lt h = by_case (is_lt (compared (name t
 
 -- ---- items
 
+pub any_from : {X : Type 0} (p : X → Bool) (xs : List X) → list_any p xs ≡ true → (x : X) × Contains xs x × (p x ≡ true)
+any_from p [] h = absurd cc
+any_from p (x ∷ xs) h = either_way (p x) refl h (any_from p xs)
+  where
+    either_way : (u : Bool) → p x ≡ u → (u || list_any p xs) ≡ true → (list_any p xs ≡ true → (y : _) × Contains xs y × (p y ≡ true)) → (y : _) × Contains (x ∷ xs) y × (p y ≡ true)
+    either_way true e g rest = (x, (0, omega arith, refl), e)
+    either_way false e g rest = let one = rest g in (one.0, (suc one.1.0, omega (arith, one.1.1), one.1.2), one.2)
+
+both : (a b : Bool) → (a && b) ≡ true → (a ≡ true) × (b ≡ true)
+both true b h = (refl, h)
+both false b h = absurd cc
+
+-- an item of that name which is not greater
+pub record HasFirst (t : Tables) (text : List ℕ) (entries : List Entry) (item : ℕ) : Type 0 where
+  pub entry : Entry
+  pub there : Contains entries entry
+  pub named : IsNamed t text entry
+  pub least : entry.item ≤ item
+
+pub has_first : (t : Tables) (text : List ℕ) (entries : List Entry) (item : ℕ) → list_any (is_early t text item) entries ≡ true → HasFirst t text entries item
+has_first t text entries item h =
+    let one = any_from (is_early t text item) entries h in
+    let says = both (nat_le one.0.item item) (is_text (name t one.0.reference) text) one.2 in
+    record { entry = one.0; there = one.1; named = text_is t text one.0 says.1; least = leb-true one.0.item item says.0 }
+
 pub found_by : (t : Tables) (items entries : List Entry) (text : List ℕ) → Stands t items entries → (found : Option ℕ) → Searched t text entries found → IsFound t items text found
-found_by t items entries text stands None none = λ e h is. let has = stands.all e text h is in none has.entry has.there has.named
-found_by t items entries text stands (Some n) least = record { entry = least.entry; there = stands.inside least.entry least.there; named = least.named; is = least.is; least = λ e h is. least_case e (stands.all e text h is) }
+found_by t items entries text stands None none = λ e h is. let has = has_first t text entries e.item (stands.all e text h is) in none has.entry has.there has.named
+found_by t items entries text stands (Some n) least =
+    let one = any_from (same_entry least.entry) items (stands.inside least.entry least.there) in
+    let same = both (least.entry.reference == one.0.reference) (least.entry.item == one.0.item) one.2 in
+    let reference : least.entry.reference ≡ one.0.reference = eqb-true least.entry.reference one.0.reference same.0 in
+    let item : least.entry.item ≡ one.0.item = eqb-true least.entry.item one.0.item same.1 in
+    record { entry = one.0; there = one.1; named = rw reference at least.named; is = sym item ∙ least.is; least = λ e h is. least_case e (has_first t text entries e.item (stands.all e text h is)) }
   where
     least_case : (e : Entry) → HasFirst t text entries e.item → n ≤ e.item
     least_case e has = omega (arith, least.least has.entry has.there has.named, has.least)

@@ -1,11 +1,11 @@
 -- Items by their names. Source: ours.
-use Rattle.std.specs.Prelude.{◌≡◌, ◌≤◌, ℕ, Bool, List, Option, Some, MatchOption}
-use Rattle.std.specs.List.{Contains}
+use Rattle.std.specs.Prelude.{◌≡◌, ◌≤◌, ℕ, ◌==◌, ◌&&◌, nat_le, Bool, true, List, Option, Some, MatchOption}
+use Rattle.std.specs.List.{list_any, Contains}
 use Rattle.std.specs.List.Sorted.{IsSortedBy}
 use Rattle.std.specs.Ordering.{is_lt, nat_cmp, ordering_then}
 use Rattle.ctf_model.specs.Dictionary.{name_or_empty}
 use Rattle.ctf_model.specs.Name.{Tables, name}
-use Rattle.ctf_order.specs.Names.{by_front}
+use Rattle.ctf_order.specs.Names.{by_front, is_text}
 use Rattle.ctf_order.specs.declared.entries.Entry.{Entry}
 use Rattle.ctf_order.specs.declared.order.Order.{Order}
 
@@ -33,20 +33,24 @@ IsFound t items text found = MatchOption found ((e : Entry) → Contains items e
 abbrev pub precedes : Tables → Entry → Entry → Bool
 precedes t a b = is_lt (ordering_then (by_front (name_or_empty t a.reference) (name_or_empty t b.reference)) (nat_cmp a.item b.item))
 
--- an item of that name which is not greater
-pub record HasFirst (t : Tables) (text : List ℕ) (entries : List Entry) (item : ℕ) : Type 0 where
-  pub entry : Entry
-  pub there : Contains entries entry
-  pub named : IsNamed t text entry
-  pub least : entry.item ≤ item
+abbrev pub same_entry : Entry → Entry → Bool
+same_entry e f = e.reference == f.reference && e.item == f.item
+
+-- an item of a name, and not greater than another
+abbrev pub is_early : Tables → List ℕ → ℕ → Entry → Bool
+is_early t text item e = nat_le e.item item && is_text (name t e.reference) text
 
 -- each of them is one of the items and has a name, and the least item of each name is one of them
 pub record Stands (t : Tables) (items entries : List Entry) : Type 0 where
-  pub inside : (e : Entry) → Contains entries e → Contains items e
+  pub inside : (e : Entry) → Contains entries e → list_any (same_entry e) items ≡ true
   pub named : (e : Entry) → Contains entries e → name t e.reference ≡ Some (name_or_empty t e.reference)
-  pub all : (e : Entry) (text : List ℕ) → Contains items e → IsNamed t text e → HasFirst t text entries e.item
+  pub all : (e : Entry) (text : List ℕ) → Contains items e → IsNamed t text e → list_any (is_early t text e.item) entries ≡ true
+
+-- what is kept
+abbrev pub entries_of : Order → List Entry
+entries_of o = o.entries.items
 
 -- and they stand in order
 pub record Fits (t : Tables) (items : List Entry) (o : Order) : Type 0 where
-  pub stands : Stands t items o.entries.items
-  pub sorted : IsSortedBy (precedes t) o.entries.items
+  pub stands : Stands t items (entries_of o)
+  pub sorted : IsSortedBy (precedes t) (entries_of o)

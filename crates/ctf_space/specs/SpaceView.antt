@@ -4,7 +4,8 @@ use Rattle.std.specs.Option.{option_map}
 use Rattle.ctf_model.specs.Dictionary.{Dictionary}
 use Rattle.ctf_model.specs.Space as spaces
 use Rattle.ctf_model.specs.declared.data_model.DataModel.{DataModel}
-use Rattle.ctf_check.specs.CheckedView.{dictionary_of}
+use Rattle.ctf_model.specs.Lists.{Lists}
+use Rattle.ctf_check.specs.CheckedView.{dictionary_of, lists_of}
 use Rattle.ctf_space.specs.declared.space.Space.{Space}
 
 abbrev pub alone : Dictionary → DataModel → spaces.Space
@@ -16,3 +17,10 @@ over_parent own parent model = record { own = own; parent = Some parent; model =
 -- its dictionaries
 abbrev pub space_of : Space → spaces.Space
 space_of s = record { own = dictionary_of s.own; parent = option_map dictionary_of s.parent; model = s.model }
+
+-- the lists of its dictionaries
+abbrev pub own_lists : Space → Lists
+own_lists s = lists_of s.own
+
+abbrev pub parent_lists : Space → Option Lists
+parent_lists s = option_map lists_of s.parent

@@ -4,7 +4,7 @@ ghost use Rattle.std.specs.Result.{result_map_both};
 ghost use Rattle.std.specs.Option.{ForSome, option_map};
 ghost use Rattle.ctf_model.specs.Space.{import_fault, space_type};
 ghost use Rattle.ctf_model.specs.TypeNumbers.{or_no_type};
-ghost use Rattle.ctf_check.specs.CheckedView.{dictionary_of};
+ghost use Rattle.ctf_check.specs.CheckedView.{dictionary_of, lists_of};
 ghost use Rattle.ctf_space.specs.TypeView.{type_found};
 
 use ctf_check::{Checked, Typed};
@@ -33,12 +33,14 @@ fn own_type<'a>(dictionary: Checked<'a>, i: usize) -> Result<Typed<'a>, Fault>
 }
 
 impl<'a> Space<'a> {
-    ghost use Rattle.ctf_space.specs.SpaceView.{alone, over_parent, space_of};
+    ghost use Rattle.ctf_space.specs.SpaceView.{alone, over_parent, own_lists, parent_lists, space_of};
     ghost use Rattle.ctf_space.specs.TypeView.{fault_of_import, name_in, shown_found, shown_in};
 
     /// A dictionary without a parent.
     pub fn own(own: Checked<'a>, model: DataModel) -> Space<'a>
-        ensures { space_of result ≡ alone (dictionary_of own.entry) model }
+        ensures space { space_of result ≡ alone (dictionary_of own.entry) model }
+        ensures lists { own_lists result ≡ lists_of own.entry }
+        ensures parent { parent_lists result ≡ None }
     {
         Space {
             own,
@@ -56,6 +58,8 @@ impl<'a> Space<'a> {
     ) -> Result<Space<'a>, Fault>
         ensures ok { IfOk result (λ s. space_of s
             ≡ over_parent (dictionary_of child.entry) (dictionary_of parent.entry) model) }
+        ensures lists { IfOk result (λ s. own_lists s ≡ lists_of child.entry) }
+        ensures parent { IfOk result (λ s. parent_lists s ≡ Some (lists_of parent.entry)) }
         ensures exact_ok { OnOk result (fault_of_import child.entry parent.entry ≡ None) }
         ensures exact_err { IfErr result (λ f. fault_of_import child.entry parent.entry ≡ Some f) }
     {
@@ -78,8 +82,10 @@ impl<'a> Space<'a> {
     /// A child over the parent that it was imported over before, without judging the import again.
     pub fn again(child: Checked<'a>, parent: Checked<'a>, model: DataModel) -> Space<'a>
         requires { fault_of_import child parent ≡ None }
-        ensures { space_of result
+        ensures space { space_of result
             ≡ over_parent (dictionary_of child.entry) (dictionary_of parent.entry) model }
+        ensures lists { own_lists result ≡ lists_of child.entry }
+        ensures parent { parent_lists result ≡ Some (lists_of parent.entry) }
     {
         Space {
             own: child,
@@ -125,7 +131,8 @@ impl<'a> Space<'a> {
 
     /// The dictionary itself.
     pub fn dictionary(&self) -> Checked<'a>
-        ensures { dictionary_of result ≡ (space_of self.now).own }
+        ensures own { dictionary_of result ≡ (space_of self.now).own }
+        ensures lists { lists_of result ≡ own_lists self.now }
     {
         self.own
     }
@@ -135,6 +142,7 @@ impl<'a> Space<'a> {
         ensures parent { option_map space_of result
             ≡ option_map (λ p. alone p (space_of self.now).model) (space_of self.now).parent }
         ensures plain { ForSome (space_of self.now).parent (λ p. p.child ≡ false) }
+        ensures lists { option_map own_lists result ≡ parent_lists self.now }
     {
         match self.parent {
             Some(parent) => Some(Space::own(parent, self.model)),
