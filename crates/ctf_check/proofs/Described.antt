@@ -75,8 +75,6 @@ root_said d r own =
     let s = head_says (tables_of d) (bytes_of r) x.type x.says in
     rw (x.says, s.root_is) refl
 
--- with its name, and whether it is visible
-
 -- ---- with its name, and whether it is visible
 
 pub all_described : (d : Checked) (r : Record) (f : Facts) → IsOwn d r → option_map (λ x. x.name) (term_of (tables_of d) (bytes_of r)) ≡ Some f.name → f.root ≡ is_root (bytes_of r)
