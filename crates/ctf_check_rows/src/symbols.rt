@@ -88,20 +88,14 @@ fn over(alloc: Global, parname: u8, sections: &[u8]) -> Result<Vec<u8>, AllocErr
     )
 }
 
-/// The first fault of such a dictionary over the symbols.
-fn fault_over(
-    alloc: Global,
-    parname: u8,
-    sections: &[u8],
-    sym: &[u8],
-) -> Result<Option<(u16, u64)>, AllocError> {
-    let ctf = over(alloc, parname, sections)?;
+/// The first fault of a dictionary over the symbols.
+fn fault_over<'a>(alloc: Global, ctf: &'a [u8], sym: &'a [u8]) -> Option<(u16, u64)> {
     let lists = LentLists {
-        ctf: &ctf,
+        ctf,
         sym: Some(sym),
         strs: Some(STRS),
     };
-    Ok(fault_of(alloc, lists))
+    fault_of(alloc, lists)
 }
 
 #[test]
@@ -133,35 +127,29 @@ fn judges_entries(rt: HostRuntime) -> Result<(), Fail> {
         (1, b"\0\x80\0\0", object),
     ];
     for (parname, sections, want) in rows {
-        assert_eq!(rt;
-            fault_over(rt.alloc(), parname, sections, &sym)?,
-            want,
-            "at {sections:?}"
-        );
+        let ctf = over(rt.alloc(), parname, sections)?;
+        assert_eq!(rt; fault_over(rt.alloc(), &ctf, &sym), want, "at {sections:?}");
     }
     Ok(())
 }
 
 #[test]
 fn judges_tables(rt: HostRuntime) -> Result<(), Fail> {
-    let mut sym = program(rt.alloc())?;
-    for more in [0, 23] {
-        let whole = sym.len();
-        sym.push(0)?;
-        sym.extend_from_slice(&[0; 23][..more])?;
-        let want = if more == 23 {
-            None
-        } else {
-            Some((Fault::BAD_SYMTAB, 0))
-        };
-        assert_eq!(rt; fault_over(rt.alloc(), 0, b"\x01\0\0\0", &sym)?, want);
+    let sym = program(rt.alloc())?;
+    let good = over(rt.alloc(), 0, b"\x01\0\0\0")?;
+    let bad = over(rt.alloc(), 0, b"\x01\0\0\x08")?;
+    let cut = Some((Fault::BAD_SYMTAB, 0));
+    let rows: [(usize, Option<(u16, u64)>); 4] = [(0, None), (1, cut), (23, cut), (24, None)];
+    for (more, want) in rows {
+        let mut table = Vec::from_slice(rt.alloc(), &sym)?;
+        table.extend_from_slice(&Vec::from_elem(rt.alloc(), 0, more)?)?;
+        assert_eq!(rt; fault_over(rt.alloc(), &good, &table), want, "at {more}");
         // the entries are judged before the table
         let funcs = Some((Fault::BAD_FUNCS, 6));
-        assert_eq!(rt; fault_over(rt.alloc(), 0, b"\x01\0\0\x08", &sym)?, funcs);
-        sym.truncate(whole);
+        assert_eq!(rt; fault_over(rt.alloc(), &bad, &table), funcs, "at {more}");
     }
     // an empty table is none
-    assert_eq!(rt; fault_over(rt.alloc(), 0, b"\x02\0\0\x08", b"")?, None);
+    assert_eq!(rt; fault_over(rt.alloc(), &bad, b""), None);
     Ok(())
 }
 
