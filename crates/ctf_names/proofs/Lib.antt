@@ -1,0 +1,4 @@
+pub mod Few
+pub mod Entered
+pub mod Places
+pub mod Pointing

@@ -1,0 +1,4 @@
+pub mod Sorts
+pub mod Entries
+pub mod Pointers
+pub mod Fitting
