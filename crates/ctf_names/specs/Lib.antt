@@ -5,3 +5,7 @@ pub mod Unrolling
 pub mod Marks
 pub mod MarkSteps
 pub mod Adding
+pub mod Sorts
+pub mod Entries
+pub mod Pointers
+pub mod Fitting

@@ -107,10 +107,10 @@ any_to p (y ∷ xs) x is (suc k, lt, same) = either_way (p y) (list_any p xs) (a
     either_way true b e = refl
     either_way false b e = e
 
-same_itself : (e : Entry) → same_entry e e ≡ true
+pub same_itself : (e : Entry) → same_entry e e ≡ true
 same_itself e = rw ((Decides-eqb e.reference e.reference).1 refl, (Decides-eqb e.item e.item).1 refl) refl
 
-early : (t : Tables) (text : List ℕ) (item : ℕ) (e : Entry) → e.item ≤ item → IsNamed t text e → is_early t text item e ≡ true
+pub early : (t : Tables) (text : List ℕ) (item : ℕ) (e : Entry) → e.item ≤ item → IsNamed t text e → is_early t text item e ≡ true
 early t text item e le is = rw (le-leb e.item item le, is, (bytes_eq-Decides text text).1 refl) refl
 
 pub stands : (t : Tables) (items sorted : List Entry) (named arranged : List Named) → IsPermutation items sorted → Lends t sorted named → IsPermutation named arranged → Stands t items (map entry_in arranged)

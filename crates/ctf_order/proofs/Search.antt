@@ -48,7 +48,7 @@ itself_equal x = by_case (by_front x x) refl
 
 -- ---- one entry against a text
 
-text_is : (t : Tables) (text : List ℕ) (e : Entry) → is_text (name t e.reference) text ≡ true → IsNamed t text e
+pub text_is : (t : Tables) (text : List ℕ) (e : Entry) → is_text (name t e.reference) text ≡ true → IsNamed t text e
 text_is t text e h = by_case (name t e.reference) refl h
   where
     by_case : (o : Option (List ℕ)) → name t e.reference ≡ o → is_text o text ≡ true → o ≡ Some text
@@ -223,7 +223,7 @@ any_from p (x ∷ xs) h = either_way (p x) refl h (any_from p xs)
     either_way true e g rest = (x, (0, omega arith, refl), e)
     either_way false e g rest = let one = rest g in (one.0, (suc one.1.0, omega (arith, one.1.1), one.1.2), one.2)
 
-both : (a b : Bool) → (a && b) ≡ true → (a ≡ true) × (b ≡ true)
+pub both : (a b : Bool) → (a && b) ≡ true → (a ≡ true) × (b ≡ true)
 both true b h = (refl, h)
 both false b h = absurd cc
 

@@ -1,0 +1,74 @@
+//! The names and pointers of a space.
+ghost use Rattle.std.specs.Prelude.{◌≡◌, IfOk, Some, None};
+ghost use Rattle.std.specs.Option.{ForSome, option_map};
+ghost use Rattle.ctf_names.specs.Fitting.{Fits, IsNamesOf, OverParent};
+ghost use Rattle.ctf_space.specs.SpaceView.{own_lists, parent_lists};
+
+use crate::kept::Names;
+use ctf_space::Space;
+use std::alloc::{AllocError, Global};
+use std::rc::Rc;
+
+/// The types of a dictionary, and of its parent where it has one, by their names: a type is found by
+/// halves.
+///
+/// It keeps plain numbers, at most 8 bytes for each type that is visible to look-ups by name and 4
+/// for each pointer, and borrows nothing. Those of a parent are shared with the parent's own index.
+#[derive(Drop)]
+pub struct NameIndex {
+    pub(crate) own: Rc<Names>,
+    pub(crate) parent: Option<Rc<Names>>,
+}
+
+/// The index of a space, beside that of its parent.
+fn beside(
+    alloc: Global,
+    space: &Space<'_>,
+    parent: Option<Rc<Names>>,
+) -> Result<NameIndex, AllocError>
+    requires { OverParent (parent_lists space.now) (option_map (λ rc. rc.value) parent) }
+    ensures { IfOk result (λ i. Fits (own_lists space.now) (parent_lists space.now) i) }
+{
+    let own = Names::build(alloc, &space.dictionary())?;
+    Ok(NameIndex {
+        own: Rc::new(alloc, own)?,
+        parent,
+    })
+}
+
+/// The names of a space's own types, to be shared.
+fn by_itself(alloc: Global, space: &Space<'_>) -> Result<Rc<Names>, AllocError>
+    ensures { IfOk result (λ rc. IsNamesOf (own_lists space.now) rc.value) }
+{
+    let names = Names::build(alloc, &space.dictionary())?;
+    Ok(Rc::new(alloc, names)?)
+}
+
+impl NameIndex {
+    /// The index of a space. In a space with a parent that of the parent is made too.
+    pub fn build(alloc: Global, space: &Space<'_>) -> Result<NameIndex, AllocError>
+        ensures { IfOk result (λ i. Fits (own_lists space.now) (parent_lists space.now) i) }
+    {
+        let parent = match space.parent() {
+            Some(parent) => Some(by_itself(alloc, &parent)?),
+            None => None,
+        };
+        beside(alloc, space, parent)
+    }
+
+    /// The index of a space over the parent whose own index this is, which it shares.
+    pub fn over(
+        alloc: Global,
+        space: &Space<'_>,
+        parent: &NameIndex,
+    ) -> Result<NameIndex, AllocError>
+        requires { ForSome (parent_lists space.now) (λ p. Fits p None parent.now) }
+        ensures { IfOk result (λ i. Fits (own_lists space.now) (parent_lists space.now) i) }
+    {
+        let shared = match space.parent() {
+            Some(_) => Some(parent.own.clone()?),
+            None => None,
+        };
+        beside(alloc, space, shared)
+    }
+}
