@@ -2,3 +2,5 @@ pub mod Sorts
 pub mod Entries
 pub mod Pointers
 pub mod Fitting
+pub mod Sought
+pub mod Writing
