@@ -1,6 +1,6 @@
 -- Entries of the types of a sort, one more at a time, and what is found among them.
-use Rattle.std.proofs.Common.{◌≡◌, ◌⊎◌, inl, inr, ℕ, zero, suc, ◌+◌, ◌<◌, ◌≤◌, ltb, Bool, true, false, List, [], ◌∷◌, ◌++◌, length, Option, Some, None, refl, sym, ap, ◌∙◌, arith}
-use Rattle.std.specs.Prelude.{◌&&◌, ◌==◌, nat_le, slice_get}
+use Rattle.std.proofs.Common.{◌≡◌, ◌⊎◌, inl, inr, ℕ, ◌+◌, ◌<◌, ◌≤◌, ltb, Bool, true, false, List, [], ◌∷◌, ◌++◌, length, Option, Some, None, refl, sym, ap, ◌∙◌, arith}
+use Rattle.std.specs.Prelude.{◌&&◌, ◌==◌, slice_get}
 use Rattle.std.specs.List.{list_any, Contains}
 use Rattle.std.specs.Option.{option_map}
 use Rattle.std.specs.Str.{bytes_eq}
@@ -8,12 +8,12 @@ use Rattle.std.proofs.lemmas.Bool.{eqb-true, le-leb, ltb-true, ltb-false}
 use Rattle.std.proofs.lemmas.List.Elements.{Contains-append_left, Contains-append_right, Contains-append_cases}
 use Rattle.std.proofs.lemmas.Option.{slice_get_within}
 use Rattle.std.proofs.lemmas.Slice.Eq.{bytes_eq-Decides}
-use Rattle.ctf_model.specs.Found.{first_place, is_called, same_tag, tag_of, Written}
+use Rattle.ctf_model.specs.Found.{first_place, is_called, same_tag, tag_of}
 use Rattle.ctf_model.specs.Name.{Tables, name}
 use Rattle.ctf_model.specs.Shown.{Shape, shape}
 use Rattle.ctf_model.specs.Term.{Body, Tag, Term}
 use Rattle.ctf_model.specs.Term as term
-use Rattle.ctf_order.specs.Holding.{entries_of, is_early, precedes, same_entry, Fits, IsFound, IsLeast, IsNamed, Stands}
+use Rattle.ctf_order.specs.Holding.{entries_of, is_early, same_entry, Fits, IsFound, IsNamed}
 use Rattle.ctf_order.specs.Names.{is_text}
 use Rattle.ctf_order.specs.declared.entries.Entry.{Entry}
 use Rattle.ctf_order.specs.declared.order.Order.{Order}
@@ -108,6 +108,7 @@ ordered t tag terms items o has fits = record {
     inside_of e h =
         let one = any_from (same_entry e) items (fits.stands.inside e h) in
         rw (same_parts e one.0 one.2) (has.inside one.0 one.1)
+
     all_of : (i : ℕ) (x : Term) → i < length terms → slice_get terms i ≡ Some x → is_of tag x ≡ true → list_any (is_early t x.name i) (entries_of o) ≡ true
     all_of i x lt is of =
         let one = has_first t x.name items i (has.all i x lt is of) in
@@ -151,6 +152,7 @@ found_is t tag terms entries text has (Some n) least = by_term (slice_get terms 
   where
     entry_says : is_called_by t tag least.entry.reference (slice_get terms n) ≡ true
     entry_says = rw least.is at (has.inside least.entry least.there)
+
     by_term : (o : Option Term) → slice_get terms n ≡ o → Some n ≡ first_place (is_called (record { tag = tag; name = text })) terms
     by_term None e = absurd (let bad : false ≡ true = rw e at entry_says in cc)
     by_term (Some x) e =

@@ -1,25 +1,22 @@
 -- Pointers, one more at a time, in order, and what is found among them.
-use Rattle.std.proofs.Common.{◌≡◌, ◌⊎◌, inl, inr, ℕ, zero, suc, ◌+◌, ◌==◌, ◌<◌, ◌≤◌, ltb, Bool, true, false, List, [], ◌∷◌, ◌++◌, length, get_or, Option, Some, None, refl, sym, ap, ◌∙◌, arith}
-use Rattle.std.specs.Prelude.{◌&&◌, nat_le, nat_lt, slice_get}
+use Rattle.std.proofs.Common.{◌≡◌, ◌⊎◌, inl, inr, ℕ, ◌+◌, ◌==◌, ◌<◌, ◌≤◌, ltb, Bool, true, false, List, [], ◌∷◌, ◌++◌, length, get_or, Option, Some, None, refl, sym, ap, ◌∙◌, arith}
+use Rattle.std.specs.Prelude.{nat_le, nat_lt, slice_get}
 use Rattle.std.specs.List.{list_any, Contains}
 use Rattle.std.specs.List.Sorted.{IsPartitionedBy, IsPermutation, IsSortedBy}
 use Rattle.std.specs.Cmp.{IsStrictWeakOrder, nat_cmp_is}
 use Rattle.std.specs.Ordering.{is_lt, nat_cmp, ordering_then}
-use Rattle.std.specs.declared.cmp.Ordering.{Ordering}
-use Rattle.std.specs.declared.cmp.Ordering.TheVariants.{Less, Equal, Greater}
+use Rattle.std.specs.declared.cmp.Ordering.TheVariants.{Less, Equal}
 use Rattle.std.proofs.lemmas.Bool.{eqb-true, leb-true, le-leb, lt-ltb, ltb-true, ltb-false}
 use Rattle.std.proofs.lemmas.Bool.Decides.{Decides-eqb}
 use Rattle.std.proofs.lemmas.Cmp.{then_total, nat_cmp_total, on_total}
-use Rattle.std.proofs.lemmas.List.Elements.{Contains-append_left, Contains-append_right, Contains-append_cases, Contains-get_or}
+use Rattle.std.proofs.lemmas.List.Elements.{Contains-append_left, Contains-append_right, Contains-append_cases}
 use Rattle.std.proofs.lemmas.List.{get_or_default}
 use Rattle.std.proofs.lemmas.List.MinMax.{ranks_by}
 use Rattle.std.proofs.lemmas.List.Sorted.{sorted_far, Contains-permutation, IsPermutation-sym}
 use Rattle.std.proofs.lemmas.Option.{slice_get_within}
 use Rattle.ctf_model.specs.Found.{first_place, is_pointer_body, is_pointer_to}
-use Rattle.ctf_model.specs.Shown.{Shape, shape}
 use Rattle.ctf_model.specs.Term.{Body, Term}
 use Rattle.ctf_model.specs.Term as term
-use Rattle.ctf_model.specs.declared.kinds.Kind.TheVariants.{KPointer}
 use Rattle.ctf_order.proofs.Lent.{any_to, itself, only}
 use Rattle.ctf_order.proofs.Search.{any_from, both}
 use Rattle.ctf_names.specs.Pointers.{is_early_pointer, is_pointer_of, pointer_precedes, points_to, HasPointers, IsPointerAt, PointersInOrder}
@@ -74,6 +71,7 @@ entered terms i ps p has says = record {
     inside_case : (q : Pointer) → Contains ps q ⊎ Contains (p ∷ []) q → is_pointer_of terms q ≡ true
     inside_case q (inl h) = has.inside q h
     inside_case q (inr h) = rw (← only p q h) says.1
+
     here : (t : ℕ) → points_to t (slice_get terms i) ≡ true → list_any (is_early_pointer t i) (ps ++ p ∷ []) ≡ true
     here t is =
         let mine : points_to p.target (slice_get terms i) ≡ true = rw says.0 at says.1 in
@@ -96,6 +94,7 @@ not_before a b h = (by_target (ltb a.target b.target) refl, λ same. by_place (l
     by_target : (u : Bool) → ltb a.target b.target ≡ u → b.target ≤ a.target
     by_target false e = ltb-false a.target b.target e
     by_target true e = absurd (let less : Less ≡ nat_cmp a.target b.target = nat_cmp_is a.target b.target Less (ltb-true a.target b.target e) in let bad : true ≡ false = ap (λ o. is_lt (ordering_then o (nat_cmp a.place b.place))) less ∙ h in cc)
+
     by_place : (u : Bool) → ltb a.place b.place ≡ u → a.target ≡ b.target → b.place ≤ a.place
     by_place false e same = ltb-false a.place b.place e
     by_place true e same = absurd (
@@ -123,6 +122,7 @@ behind t from ps sorted low high q (k, lt, is) same = by_case (ltb k from) refl
   where
     at_k : (get_or ps k q).target ≡ t
     at_k = ap (λ (p : Pointer). p.target) is ∙ same
+
     by_case : (u : Bool) → ltb k from ≡ u → Behind t from ps q
     by_case true e = absurd (let less = ltb-true (get_or ps k q).target t (low k q (ltb-true k from e)) in omega (arith, less, at_k))
     by_case false e =
@@ -136,10 +136,13 @@ behind t from ps sorted low high q (k, lt, is) same = by_case (ltb k from) refl
       where
         here : (d : Pointer) → get_or ps k d ≡ q
         here d = get_or_default ps k d q lt ∙ is
+
         at_default : (d : Pointer) → (get_or ps k d).target ≡ t
         at_default d = ap (λ (p : Pointer). p.target) (here d) ∙ same
+
         place_default : (d : Pointer) → (get_or ps k d).place ≡ q.place
         place_default d = ap (λ (p : Pointer). p.place) (here d)
+
         says : (d : Pointer) → ((get_or ps from d).target ≤ (get_or ps k d).target) × ((get_or ps k d).target ≡ (get_or ps from d).target → (get_or ps from d).place ≤ (get_or ps k d).place)
         says d = not_before (get_or ps k d) (get_or ps from d) (far ps sorted from k d (ltb-false k from e) lt)
 
@@ -174,8 +177,10 @@ first_there t from terms ps p order low high inside at same = by_term (slice_get
   where
     there : Contains ps p
     there = (from, inside, at)
+
     points : points_to t (slice_get terms p.place) ≡ true
     points = rw same at (order.has.inside p there)
+
     by_term : (o : Option Term) → slice_get terms p.place ≡ o → Some p.place ≡ first_place (is_pointer_to t) terms
     by_term None e = absurd (let bad : false ≡ true = rw e at points in cc)
     by_term (Some x) e =

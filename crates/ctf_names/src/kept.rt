@@ -2,17 +2,19 @@
 ghost use Rattle.std.specs.Prelude.{◌≡◌, IfOk};
 ghost use Rattle.ctf_check.specs.CheckedView.{lists_of};
 ghost use Rattle.ctf_model.specs.Dictionary.{said_by};
-ghost use Rattle.ctf_model.specs.Found.{first_place, is_called, is_pointer_to};
+ghost use Rattle.ctf_model.specs.Found.{first_place};
 ghost use Rattle.ctf_model.specs.Lists.{Lists, tables as tables_in};
+ghost use Rattle.ctf_names.specs.Entries.{AreInOrder};
 ghost use Rattle.ctf_names.specs.Fitting.{IsNamesOf};
 ghost use Rattle.ctf_names.specs.Sorts.{tag_in};
+ghost use Rattle.ctf_names.specs.Sought.{passes};
 ghost use Rattle.ctf_sections.specs.StringsView.{tables};
 
 use crate::names;
 use crate::pointers::{self, Pointer};
 use crate::sorts::Sort;
+use crate::sought::Sought;
 use ctf_check::Checked;
-use ctf_model::TypeNum;
 use ctf_order::Order;
 use ctf_sections::Strings;
 use std::alloc::{AllocError, Global};
@@ -45,30 +47,27 @@ impl Names {
         })
     }
 
-    /// The first type of a name, from 0.
-    pub(crate) fn first_of(
-        &self,
-        strings: &Strings<'_>,
-        sort: Sort,
-        name: &[u8],
-    ) -> Option<u32>
+    /// The first type that is sought, from 0.
+    pub(crate) fn first(&self, strings: &Strings<'_>, sought: Sought<'_>) -> Option<u32>
         ensures { (s : Lists) → IsNamesOf s self.now → tables_in s ≡ tables strings.now
-            → result ≡ first_place (is_called (record { tag = tag_in sort; name = name.now }))
-            (said_by s).terms }
+            → result ≡ first_place (passes sought.entry) (said_by s).terms }
     {
-        match sort {
-            Sort::Plain => names::first_of(&self.plain, strings, name),
-            Sort::Struct => names::first_of(&self.structs, strings, name),
-            Sort::Union => names::first_of(&self.unions, strings, name),
-            Sort::Enum => names::first_of(&self.enums, strings, name),
+        match sought {
+            Sought::Named { sort, name } => names::first_of(self.of(sort), strings, name),
+            Sought::PointerTo(target) => pointers::first_to(&self.pointers, target),
         }
     }
 
-    /// The first pointer to a type, from 0.
-    pub(crate) fn first_to(&self, target: TypeNum) -> Option<u32>
+    /// The types of a sort.
+    fn of(&self, sort: Sort) -> &Order
         ensures { (s : Lists) → IsNamesOf s self.now
-            → result ≡ first_place (is_pointer_to target.0) (said_by s).terms }
+            → AreInOrder (tables_in s) (tag_in sort) (said_by s).terms result.now }
     {
-        pointers::first_to(&self.pointers, target)
+        match sort {
+            Sort::Plain => &self.plain,
+            Sort::Struct => &self.structs,
+            Sort::Union => &self.unions,
+            Sort::Enum => &self.enums,
+        }
     }
 }

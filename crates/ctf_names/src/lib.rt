@@ -1,18 +1,23 @@
 //! Names of types: as C spells them, and looked up.
 #![tactic(auto)]
 
+mod finding;
 mod index;
 mod inside;
 mod kept;
 mod marks;
 mod names;
+mod numbers;
 mod pointers;
 mod sides;
 mod sorts;
+mod sought;
 mod spelling;
 mod texts;
 mod types;
 mod unrolling;
+mod written;
 
+pub use finding::{find, pointer_to};
 pub use index::NameIndex;
 pub use spelling::spell;

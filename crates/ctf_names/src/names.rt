@@ -16,11 +16,7 @@ use ctf_sections::Strings;
 use std::alloc::{AllocError, Global};
 
 /// The entries of the visible types of a sort.
-fn entries_of(
-    alloc: Global,
-    dictionary: &Checked<'_>,
-    sort: Sort,
-) -> Result<Vec<Entry>, AllocError>
+fn entries_of(alloc: Global, dictionary: &Checked<'_>, sort: Sort) -> Result<Vec<Entry>, AllocError>
     ensures { let d = dictionary_of dictionary.now in IfOk result (λ entries.
         HasEntries (tables_of dictionary.now) (tag_in sort) d.terms (length d.terms) entries.items) }
 {

@@ -57,10 +57,7 @@ fn arrange(pointers: &mut Vec<Pointer>)
 }
 
 /// The pointers of a dictionary, by what they point to.
-pub(crate) fn in_order(
-    alloc: Global,
-    dictionary: &Checked<'_>,
-) -> Result<Vec<Pointer>, AllocError>
+pub(crate) fn in_order(alloc: Global, dictionary: &Checked<'_>) -> Result<Vec<Pointer>, AllocError>
     ensures { IfOk result (λ pointers.
         PointersInOrder (dictionary_of dictionary.now).terms pointers.items) }
 {

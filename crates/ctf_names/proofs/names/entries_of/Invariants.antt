@@ -1,4 +1,3 @@
-use Rattle.std.proofs.Common.{length}
 use Rattle.ctf_check.specs.CheckedView.{dictionary_of, tables_of}
 use Rattle.ctf_names.specs.Entries.{HasEntries}
 use Rattle.ctf_names.specs.Sorts.{tag_in}

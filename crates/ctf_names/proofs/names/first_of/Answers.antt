@@ -1,4 +1,3 @@
-use Rattle.std.proofs.Common.{◌≡◌, sym, ap, ◌∙◌}
 use Rattle.ctf_order.specs.Holding.{entries_of}
 use Rattle.ctf_sections.specs.StringsView.{tables}
 use Rattle.ctf_names.proofs.Entered.{fits_itself, found_is}

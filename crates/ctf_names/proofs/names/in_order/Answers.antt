@@ -1,4 +1,3 @@
-use Rattle.std.proofs.Common.{◌≡◌, sym, ap, ◌∙◌}
 use Rattle.ctf_check.specs.CheckedView.{dictionary_of, tables_of}
 use Rattle.ctf_names.specs.Sorts.{tag_in}
 use Rattle.ctf_names.proofs.Entered.{ordered}

@@ -1,10 +1,8 @@
-use Rattle.std.proofs.Common.{◌≡◌, ◌<◌, ◌≤◌, ℕ, true, false, length, get_or, List, Some, sym, ap, ◌∙◌, arith}
+use Rattle.std.proofs.Common.{Some, sym, ap, ◌∙◌, arith}
 use Rattle.std.specs.Prelude.{nat_lt}
 use Rattle.std.proofs.lemmas.Grind.{common_steps}
 use Rattle.std.proofs.lemmas.List.Sorted.{IsPartitionPoint-from_clause}
-use Rattle.ctf_names.specs.Pointers.{PointersInOrder}
-use Rattle.ctf_names.specs.declared.pointers.Pointer.{Pointer}
-use Rattle.ctf_names.proofs.Pointing.{behind, first_there, none_past, none_there, parted}
+use Rattle.ctf_names.proofs.Pointing.{first_there, none_past, none_there, parted}
 use Rattle.ctf_names.proofs.pointers.first_to.Goals as goal
 
 pub returns-in_err-pointer : goal.returns-in_err-pointer

@@ -1,4 +1,4 @@
-use Rattle.std.proofs.Common.{◌≡◌, length}
+use Rattle.std.proofs.Common.{length}
 use Rattle.ctf_check.specs.CheckedView.{dictionary_of}
 use Rattle.ctf_names.proofs.Pointing.{ordered}
 use Rattle.ctf_names.proofs.pointers.in_order.Goals as goal

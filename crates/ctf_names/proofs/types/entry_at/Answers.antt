@@ -1,6 +1,5 @@
-use Rattle.std.proofs.Common.{rules, Some, ◌≡◌, sym, ap, ◌∙◌, refl}
-use Rattle.std.specs.Prelude.{slice_get}
-use Rattle.ctf_check.specs.CheckedView.{dictionary_of, tables_of}
+use Rattle.std.proofs.Common.{rules, Some, sym, ap, ◌∙◌, refl}
+use Rattle.ctf_check.specs.CheckedView.{tables_of}
 use Rattle.ctf_check.specs.FactsView.{shape_seen}
 use Rattle.ctf_check.specs.TypedView.{spelled}
 use Rattle.ctf_model.specs.Found.{same_tag}

@@ -1,0 +1,92 @@
+//! What a written name finds, and pointers.
+ghost use Rattle.std.specs.Prelude.{◌≡◌, Ok};
+ghost use Rattle.std.specs.Option.{option_map};
+ghost use Rattle.std.specs.Result.{result_map_both};
+ghost use Rattle.ctf_model.specs.Found.{found, or_not_found as or_not_found_of, pointed as pointed_of, pointer_behind as pointer_behind_of, pointer_to as pointer_of};
+ghost use Rattle.ctf_model.specs.Figures.{resolved};
+ghost use Rattle.ctf_names.specs.Fitting.{Fits};
+ghost use Rattle.ctf_space.specs.SpaceView.{own_lists, parent_lists, space_of};
+
+use crate::index::NameIndex;
+use crate::numbers::least;
+use crate::sought::Sought;
+use crate::written::{base, is_no_name, stars, written};
+use ctf_layout::resolve;
+use ctf_model::{Fault, TypeNum, placeless};
+use ctf_space::Space;
+
+fn or_not_found(number: Option<TypeNum>) -> Result<TypeNum, Fault>
+    ensures { result_map_both (λ t. t.0) (λ f. f) result
+        ≡ or_not_found_of (option_map (λ t. t.0) number) }
+{
+    match number {
+        Some(number) => Ok(number),
+        None => Err(placeless(Fault::NOT_FOUND)),
+    }
+}
+
+/// The least pointer to what a type stands for, unless that is no type.
+fn pointer_behind(space: &Space<'_>, index: &NameIndex, target: TypeNum) -> Result<TypeNum, Fault>
+    requires { Fits (own_lists space.now) (parent_lists space.now) index.now }
+    ensures { let s = space_of space.now in result_map_both (λ t. t.0) (λ f. f) result
+        ≡ pointer_behind_of s (resolved s target.0) }
+{
+    match resolve(space, target) {
+        Ok(TypeNum(0)) => Err(placeless(Fault::NOT_FOUND)),
+        Ok(resolved) => or_not_found(least(space, index, Sought::PointerTo(resolved))),
+        Err(fault) => Err(fault),
+    }
+}
+
+/// The least pointer to a type, or else to what that type stands for. It takes no memory.
+pub fn pointer_to(space: &Space<'_>, index: &NameIndex, target: TypeNum) -> Result<TypeNum, Fault>
+    requires { Fits (own_lists space.now) (parent_lists space.now) index.now }
+    ensures { result_map_both (λ t. t.0) (λ f. f) result
+        ≡ pointer_of (space_of space.now) target.0 }
+{
+    match least(space, index, Sought::PointerTo(target)) {
+        Some(number) => Ok(number),
+        None => pointer_behind(space, index, target),
+    }
+}
+
+/// So many pointers further.
+fn pointed(
+    space: &Space<'_>,
+    index: &NameIndex,
+    count: usize,
+    from: TypeNum,
+) -> Result<TypeNum, Fault>
+    requires { Fits (own_lists space.now) (parent_lists space.now) index.now }
+    ensures { result_map_both (λ t. t.0) (λ f. f) result
+        ≡ pointed_of (space_of space.now) count (Ok from.0) }
+{
+    let mut at = from;
+    for _star in 0..count {
+        at = match pointer_to(space, index, at) {
+            Ok(next) => next,
+            Err(fault) => return Err(fault),
+        };
+    }
+    Ok(at)
+}
+
+/// The type that a written name finds, as `struct node **`. It takes no memory.
+pub fn find(space: &Space<'_>, index: &NameIndex, text: &[u8]) -> Result<TypeNum, Fault>
+    requires { Fits (own_lists space.now) (parent_lists space.now) index.now }
+    ensures { result_map_both (λ t. t.0) (λ f. f) result ≡ found (space_of space.now) text.now }
+{
+    let base = base(text);
+    if is_no_name(base) {
+        return Err(placeless(Fault::BAD_SYNTAX));
+    }
+    let parts = written(base);
+    let sought = Sought::Named {
+        sort: parts.sort,
+        name: parts.name,
+    };
+    match or_not_found(least(space, index, sought)) {
+        Ok(first) => pointed(space, index, stars(&text[base.len()..]), first),
+        Err(fault) => Err(fault),
+    }
+}
