@@ -6,5 +6,5 @@ pub mod Few
 pub mod Entered
 pub mod Places
 pub mod Pointing
-pub mod Texts
+pub mod WrittenTexts
 pub mod Steps
