@@ -24,6 +24,8 @@ mod layouts;
 #[cfg(test)]
 mod long_replies;
 #[cfg(test)]
+mod look_up;
+#[cfg(test)]
 mod marks;
 #[cfg(test)]
 mod noted;
