@@ -125,6 +125,7 @@ stands t items sorted named arranged same lends moved = record { inside = inside
         let there : Contains items one.0.entry = Contains-permutation sorted items one.0.entry (IsPermutation-sym items sorted same) (lends.inside one.0 (back one.0 one.1)) in
         let here : Contains items e = rw one.2 at there in
         any_to (same_entry e) items e (same_itself e) here
+
     named_of : (e : Entry) → Contains (map entry_in arranged) e → name t e.reference ≡ Some (name_or_empty t e.reference)
     named_of e h =
         let one = from_map arranged e h in
