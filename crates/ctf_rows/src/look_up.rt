@@ -6,6 +6,12 @@ use ctf_space::{Opened, Space};
 use std::alloc::{AllocError, Global};
 use std::test::Fail;
 
+/// The length of a section, as a header says it.
+fn length(section: &[u8]) -> [u8; 4] {
+    let len = section.len().to_le_bytes();
+    [len[0], len[1], len[2], len[3]]
+}
+
 /// A dictionary of a section of types and one of names.
 fn dictionary(
     alloc: Global,
@@ -16,8 +22,8 @@ fn dictionary(
     let mut ctf = Vec::new(alloc);
     ctf.extend_from_slice(&[0xf1, 0xcf, 2, 0, 0, 0, 0, 0, parname, 0, 0, 0])?;
     ctf.extend_from_slice(&[0, 0, 0, 0, 0, 0, 0, 0, 0, 0, 0, 0, 0, 0, 0, 0])?;
-    ctf.extend_from_slice(&(types.len() as u32).to_le_bytes())?;
-    ctf.extend_from_slice(&(names.len() as u32).to_le_bytes())?;
+    ctf.extend_from_slice(&length(types))?;
+    ctf.extend_from_slice(&length(names))?;
     ctf.extend_from_slice(types)?;
     ctf.extend_from_slice(names)?;
     let parts = Parts {
@@ -27,6 +33,14 @@ fn dictionary(
     };
     match Opened::build(alloc, parts, DataModel::Lp64) {
         Ok(dictionary) => Ok(dictionary),
+        Err(_) => Err(AllocError),
+    }
+}
+
+/// One dictionary over another.
+fn over<'a>(child: &'a Opened, parent: &'a Opened) -> Result<Space<'a>, AllocError> {
+    match Space::over(child.view(), parent.view(), DataModel::Lp64) {
+        Ok(space) => Ok(space),
         Err(_) => Err(AllocError),
     }
 }
@@ -81,9 +95,7 @@ fn own_names_come_first(rt: HostRuntime) -> Result<(), Fail> {
         1, 0, 0, 0, 0, 0x0c, 4, 0, 0x20, 0, 0, 1, 0, 0, 0, 0, 0, 0x1c, 2, 0,
     ];
     let child = dictionary(rt.alloc(), 5, &types, b"\0int\0p\0")?;
-    let Ok(space) = Space::over(child.view(), parent.view(), DataModel::Lp64) else {
-        return Ok(());
-    };
+    let space = over(&child, &parent)?;
     let index = NameIndex::build(rt.alloc(), &space)?;
     assert_eq!(rt; find(&space, &index, b"int"), Ok(TypeNum(0x8001)));
     assert_eq!(rt; find(&space, &index, b"struct node"), Ok(TypeNum(3)));
