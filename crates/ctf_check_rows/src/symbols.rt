@@ -3,7 +3,7 @@
 use crate::framed;
 use crate::inputs::fault_of;
 use ctf_check::{LentLists, check};
-use ctf_entries::{Entry, Told};
+use ctf_entries::{Entries, Entry, Told};
 use ctf_model::Fault;
 use std::alloc::{AllocError, Global};
 use std::test::Fail;
@@ -234,9 +234,18 @@ fn objects(alloc: Global, count: usize) -> Result<Vec<u8>, AllocError> {
     Ok(sym)
 }
 
+/// How many symbols something is told of.
+fn counted(entries: Entries<'_>) -> u32 {
+    let mut count: u32 = 0;
+    for _entry in entries {
+        count = count.wrapping_add(1);
+    }
+    count
+}
+
 #[test]
 fn long_names_are_not_read(rt: HostRuntime) -> Result<(), Fail> {
-    let sym = objects(rt.alloc(), 600_000)?;
+    let sym = objects(rt.alloc(), 100_000)?;
     let mut strs = Vec::from_elem(rt.alloc(), b'a', 16_777_216)?;
     let ctf = over(rt.alloc(), 0, b"\x01\0\0\0")?;
     // no name ends: no symbol is considered
@@ -251,7 +260,7 @@ fn long_names_are_not_read(rt: HostRuntime) -> Result<(), Fail> {
     let Ok(checked) = check(rt.alloc(), &ctf, Some(&sym), Some(&strs)) else {
         panic!(rt; "it breaks no rule")
     };
-    assert_eq!(rt; checked.entries().count(), 600_000);
+    assert_eq!(rt; counted(checked.entries()), 100_000);
     let Some(first) = checked.entries().next() else {
         panic!(rt; "the first symbol is considered")
     };
