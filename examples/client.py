@@ -1,19 +1,20 @@
 #!/usr/bin/env python3
 """Asks ctfd for a dictionary's types, as a debugger's plug-in would.
 
-Prints the types (number, kind, name, size in bytes as the record says it), or the members of
-each struct or union of a name (offset in bits, name, number of the type, and for a bit-field its
-width). The status is 1 where ctfd refuses something or no type has the name.
+Prints the types (number, name as C spells it, size in bytes), or the members of the struct or union
+that a name stands for, such as "struct lua_State" or a typedef's (offset in bits, size in bytes,
+type, name, and for a bit-field its width). A size that a type hasn't is told as the refusal. The
+status is 1 where ctfd refuses something or the name stands for another type.
 """
 import argparse
 import json
+import re
 import signal
 import subprocess
 import sys
 
 PIECE = 262_144
 FIRST_OF_CHILD = 0x8001
-SAME_VALUE = ("typedef", "volatile", "const", "restrict")
 
 
 class Refused(Exception):
@@ -22,6 +23,18 @@ class Refused(Exception):
     def __init__(self, name, place):
         super().__init__(f"{name} at {place}")
         self.name = name
+
+
+def escaped(name):
+    """A name as it stands in a request: each byte that is not plain as two digits."""
+    plain = lambda byte: 0x20 <= byte <= 0x7E and byte not in b'"\\'
+    return "".join(chr(byte) if plain(byte) else f"\\x{byte:02x}" for byte in name)
+
+
+def unescaped(text):
+    """A name of a reply, its bytes read as UTF-8 where they are."""
+    name = re.sub(r"\\x([0-9a-f]{2})", lambda digits: chr(int(digits[1], 16)), text).encode("latin-1")
+    return name.decode(errors="backslashreplace")
 
 
 class Client:
@@ -38,62 +51,66 @@ class Client:
             raise Refused(reply["fault"]["name"], reply["fault"]["place"])
         return reply["ok"]
 
+    def asked(self, op, key, **fields):
+        """One field of an answer, or the refusal's name."""
+        try:
+            return self.ask(op, **fields)[key]
+        except Refused as fault:
+            return fault.name
+
     def hand_in(self, section, path):
         with open(path, "rb") as file:
             while piece := file.read(PIECE):
                 self.ask("part", section=section, bytes=piece.hex())
 
-    def is_child(self, d):
-        try:
-            self.ask("kind", d=d, t=1)
-        except Refused as fault:
-            return fault.name == "NoParent"
-        return False
+    def numbers(self, opened):
+        """The numbers of a slot's own types."""
+        child = self.asked("kind", "kind", d=opened["d"], t=1) == "NoParent"
+        first = FIRST_OF_CHILD if child else 1
+        return range(first, first + opened["types"])
 
-    def types(self, opened):
-        """The own types of a slot, as pairs of number and record."""
-        d = opened["d"]
-        first = FIRST_OF_CHILD if self.is_child(d) else 1
-        for number in range(first, first + opened["types"]):
-            yield number, self.ask("record", d=d, t=number)
+    def name(self, d, t):
+        return unescaped(self.asked("name", "name", d=d, t=t))
 
     def bit_field(self, d, t):
         """The encoding of a type, where it is an integer that is narrower than its storage."""
         try:
-            while (said := self.ask("record", d=d, t=t))["kind"] in SAME_VALUE:
-                t = self.ask("reference", d=d, t=t)["t"]
+            t = self.ask("resolve", d=d, t=t)["t"]
+            if self.ask("kind", d=d, t=t)["kind"] != "integer":
+                return None
+            lies = self.ask("encoding", d=d, t=t)
+            size = self.ask("size", d=d, t=t)["size"]
         except Refused:  # no type, or a parent's
             return None
-        if said["kind"] != "integer":
-            return None
-        lies = self.ask("encoding", d=d, t=t)
-        return lies if lies["offset"] or lies["bits"] != 8 * said["size"] else None
+        return lies if lies["offset"] or lies["bits"] != 8 * size else None
 
     def close(self):
         self.service.stdin.close()
         self.service.wait()
 
 
-def print_types(types):
-    for number, said in types:
-        print(number, said["kind"], said["name"] or "(anon)", said.get("size", ""))
+def print_types(client, opened):
+    d = opened["d"]
+    for t in client.numbers(opened):
+        print(t, client.name(d, t), client.asked("size", "size", d=d, t=t))
 
 
-def print_members(client, d, types, name):
-    named = [number for number, said in types if said["name"] == name and said["kind"] in ("struct", "union")]
-    for number in named:
-        for member in client.ask("members", d=d, t=number)["members"]:
-            lies = client.bit_field(d, member["type"])
-            offset = member["offset"] + (lies["offset"] if lies else 0)
-            print(offset, member["name"] or "(anon)", member["type"], *([f":{lies['bits']}"] if lies else []))
-    return f"no struct or union is named {name}" if not named else None
+def print_members(client, d, name):
+    t = client.ask("find", d=d, text=escaped(name.encode()))["t"]
+    t = client.ask("resolve", d=d, t=t)["t"]
+    for member in client.ask("members", d=d, t=t)["members"]:
+        lies = client.bit_field(d, member["type"])
+        offset = member["offset"] + (lies["offset"] if lies else 0)
+        size = client.asked("size", "size", d=d, t=member["type"])
+        spelled = client.name(d, member["type"])
+        print(offset, size, spelled, unescaped(member["name"]) or "(anon)", *([f":{lies['bits']}"] if lies else []))
 
 
 def main():
     parser = argparse.ArgumentParser(description=__doc__, formatter_class=argparse.RawDescriptionHelpFormatter)
     parser.add_argument("program", help="a built ctfd")
     parser.add_argument("ctf", help="a file with the bytes of a CTF section")
-    parser.add_argument("name", nargs="?", help="the name of a struct or union")
+    parser.add_argument("name", nargs="?", help="a struct or a union, as C names it")
     parser.add_argument("--strings", metavar="FILE", help="the strings of the program's symbol table")
     words = parser.parse_args()
     signal.signal(signal.SIGPIPE, signal.SIG_DFL)  # so that a reader such as head may leave
@@ -103,8 +120,7 @@ def main():
         if words.strings:
             client.hand_in("str", words.strings)
         opened = client.ask("open")
-        types = client.types(opened)
-        return print_members(client, opened["d"], types, words.name) if words.name else print_types(types)
+        return print_members(client, opened["d"], words.name) if words.name else print_types(client, opened)
     except Refused as fault:
         return f"refused: {fault}"
     finally:

@@ -20,4 +20,5 @@ pub use checked::Checked;
 pub use facts::{Facts, Shape};
 pub use judge::check;
 pub use lists::LentLists;
+pub use told::SymbolParts;
 pub use typed::Typed;

@@ -5,6 +5,7 @@ use crate::inputs::fault_of;
 use ctf_check::{LentLists, check};
 use ctf_entries::{Entries, Entry, Told};
 use ctf_model::Fault;
+use ctf_symbols::{SymbolMap, symbol_name};
 use std::alloc::{AllocError, Global};
 use std::test::Fail;
 
@@ -198,6 +199,39 @@ fn tells_entries(rt: HostRuntime) -> Result<(), Fail> {
         );
         assert!(rt; entries.next().is_none());
     }
+    Ok(())
+}
+
+#[test]
+fn answers_by_number(rt: HostRuntime) -> Result<(), Fail> {
+    let sym = program(rt.alloc())?;
+    let ctf = over(rt.alloc(), 0, b"\x01\0\x01\x28\x01\0\0\0")?;
+    let Ok(checked) = check(rt.alloc(), &ctf, Some(&sym), Some(STRS)) else {
+        panic!(rt; "it breaks no rule")
+    };
+    let map = SymbolMap::build(rt.alloc(), &checked)?;
+    let objects = [35, 37, 37, 37, 0, 37, 35, 34];
+    let functions = [36, 36, 36, 36, 36, 36, 0, 34];
+    let names: [&[u8]; 7] = [b"", b"_START_", b"x", b"a", b"b", b"c", b"f"];
+    for (number, code) in (0..).zip(objects) {
+        match map.object(&checked, number) {
+            Ok(t) => assert_eq!(rt; (t.0, code), (1, 0), "at {number}"),
+            Err(fault) => assert_eq!(rt; fault.code, code, "at {number}"),
+        }
+    }
+    for (number, code) in (0..).zip(functions) {
+        match map.function(&checked, number) {
+            Ok(said) => assert_eq!(rt; (said.ret.0, said.args.len(), code), (1, 1, 0)),
+            Err(fault) => assert_eq!(rt; fault.code, code, "at {number}"),
+        }
+    }
+    for (number, name) in (0..).zip(names) {
+        let Ok(found) = symbol_name(&checked, number) else {
+            panic!(rt; "the symbol is there")
+        };
+        assert_eq!(rt; found, name);
+    }
+    assert!(rt; symbol_name(&checked, 7).is_err());
     Ok(())
 }
 

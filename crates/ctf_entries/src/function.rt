@@ -64,7 +64,7 @@ pub(crate) fn is_bad(functions: &[u8]) -> bool
 
 /// The bytes behind the entry that begins them.
 #[tactic(auto, using(crate::proofs::Telling::good_entry))]
-pub(crate) fn behind_function(functions: &[u8]) -> &[u8]
+pub fn behind_function(functions: &[u8]) -> &[u8]
     requires good { is_bad_entry functions.now ≡ false }
     ensures { result.now ≡ drop (entry_len_in functions.now) functions.now }
 {
@@ -77,7 +77,7 @@ pub(crate) fn behind_function(functions: &[u8]) -> &[u8]
 
 /// The signature that the entry says which begins some bytes.
 #[tactic(auto, using(crate::proofs::Telling::good_entry, crate::proofs::Telling::said_signature, crate::proofs::Telling::no_signature))]
-pub(crate) fn signature_of(functions: &[u8]) -> Option<Signature<'_>>
+pub fn signature_of(functions: &[u8]) -> Option<Signature<'_>>
     requires good { is_bad_entry functions.now ≡ false }
     ensures { option_map signature result ≡ signature_in functions.now }
 {

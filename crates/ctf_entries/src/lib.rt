@@ -14,7 +14,9 @@ mod untold;
 
 pub use considered::{Considered, Numbered};
 pub use entries::{Entries, Entry, Told};
+pub use function::{behind_function, signature_of};
 pub use judging::bad_function;
 pub use names::SymbolNames;
+pub use object::{behind_object, type_in};
 pub use signature::Signature;
 pub use symbol::Symbol;

@@ -7,7 +7,7 @@ use ctf_model::TypeNum;
 use ctf_sections::bytes::u16_at;
 
 /// The type of the object whose entry begins some bytes.
-pub(crate) fn type_in(objects: &[u8]) -> Option<TypeNum>
+pub fn type_in(objects: &[u8]) -> Option<TypeNum>
     ensures { option_map (λ t. t.0) result ≡ type_said_in objects.now }
 {
     if objects.len() < 2 {
@@ -23,7 +23,7 @@ pub(crate) fn type_in(objects: &[u8]) -> Option<TypeNum>
 
 /// The bytes behind the entry of an object.
 #[tactic(auto, using(crate::proofs::Telling::drop_short))]
-pub(crate) fn behind_object(objects: &[u8]) -> &[u8]
+pub fn behind_object(objects: &[u8]) -> &[u8]
     ensures { result.now ≡ drop 2 objects.now }
 {
     if objects.len() < 2 {

@@ -10,6 +10,8 @@ use Rattle.ctf_model.specs.Steps.{fault_over}
 use Rattle.ctf_model.specs.declared.data_model.DataModel.TheVariants.{Lp64}
 use Rattle.ctf_layout.specs.Fitting.{Fits}
 use Rattle.ctf_layout.specs.declared.layout.Layout.{Layout}
+use Rattle.ctf_names.specs.Fitting as names
+use Rattle.ctf_names.specs.declared.index.NameIndex.{NameIndex}
 use Rattle.ctf_library.specs.SpaceOfLists.{space_of_lists}
 
 -- the parent is no child
@@ -41,6 +43,10 @@ no_parent lists child own (Some x) e h =
 -- its layout is that of the parent alone
 pub parents_layout : {A : Type 0} (lists : A → Lists) (child own : Lists) (o : Option A) (l : Layout) → fault_over child own ≡ None → ForSome o (λ x. fault_over own (lists x) ≡ None) → Fits (space_of_lists own (option_map lists o)) l → Fits (space_of_lists own None) l
 parents_layout lists child own o l e h fits = let none = no_parent lists child own o e h in rw none at fits
+
+-- and so are its names
+pub parents_names : {A : Type 0} (lists : A → Lists) (child own : Lists) (o : Option A) (i : NameIndex) → fault_over child own ≡ None → ForSome o (λ x. fault_over own (lists x) ≡ None) → names.Fits own (option_map lists o) i → names.Fits own None i
+parents_names lists child own o i e h fits = let none = no_parent lists child own o e h in rw none at fits
 
 -- and so it serves the child's
 pub parents_fit : (s : Space) (own : Lists) (p : Dictionary) (l : Layout) → s.model ≡ Lp64 → said_by own ≡ p → Fits (space_of_lists own None) l → Fits (parent_alone s p) l

@@ -3,3 +3,4 @@ pub mod Numbered
 pub mod Rising
 pub mod Importing
 pub mod Named
+pub mod Opening

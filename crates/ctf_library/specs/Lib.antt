@@ -3,3 +3,4 @@ pub mod SlotView
 pub mod Stepping
 pub mod SlotPlaces
 pub mod SlotOrder
+pub mod Fitting

@@ -1,4 +1,4 @@
-//! What questions on types of a dictionary are answered.
+//! What questions to a slot are answered, and those on types.
 ghost use Rattle.std.specs.Prelude.{◌≡◌, ◌≤◌, [], ◌∷◌, codes, length, map, take, true, None, Some, Ok, Err, IfOk, IfSome, IsNone, option_map, option_and_then};
 ghost use Rattle.ctf_model.specs.Answers.{number, says, word};
 ghost use Rattle.ctf_model.specs.KindNames.{name_of_kind, name_of_tag};
@@ -8,21 +8,23 @@ ghost use Rattle.ctf_model.specs.Steps.{is_quiet, is_quiet_on, slot_said, slot_s
 ghost use Rattle.ctf_model.specs.TypeNames.{spelled_name};
 ghost use Rattle.ctf_model.specs.declared.questions.TypeQuestion.TheVariants as about;
 ghost use Rattle.std.specs.Result.{result_map_both};
-ghost use Rattle.ctf_layout.specs.Fitting.{Fits};
+ghost use Rattle.ctf_library.specs.Fitting.{Serve};
 ghost use Rattle.ctf_layout.specs.Reached.{position_of};
 ghost use Rattle.ctf_answers.specs.Items.{items_of};
 ghost use Rattle.ctf_answers.specs.Singles.{single_of};
 ghost use Rattle.ctf_check.specs.FactsView.{facts_seen};
 ghost use Rattle.ctf_records.specs.RecordView.{tag_of};
 ghost use Rattle.ctf_views.specs.VariantView.{seen};
-ghost use Rattle.ctf_space.specs.SpaceView.{space_of};
+ghost use Rattle.ctf_space.specs.SpaceView.{own_lists, parent_lists, space_of};
 
 use crate::slots::Slot;
+use crate::tables::Tables;
+use crate::whole::whole_answer;
 use ctf_answers::{Answer, Items, Listed, Single, kind_name, tag_name};
 use ctf_check::Facts;
-use ctf_layout::{Layout, path, referred, resolve};
+use ctf_layout::{path, referred, resolve};
 use ctf_model::{Bytes, Fault, Kind, Question, TypeNum, TypeQuestion, Window, placeless};
-use ctf_names::spell;
+use ctf_names::{pointer_to, spell};
 use ctf_records::Tag;
 use ctf_space::Space;
 use ctf_views::{Args, Variant};
@@ -138,7 +140,7 @@ fn a_tag<'a>(tag: Option<Tag>) -> Option<Single<'a>>
 }
 
 /// What the number of a type is answered as.
-fn type_answer<'a>(number: Result<TypeNum, Fault>) -> Result<Answer<'a>, Fault>
+pub(crate) fn type_answer<'a>(number: Result<TypeNum, Fault>) -> Result<Answer<'a>, Fault>
     ensures { result ≡ as_fields type_fields (result_map_both (λ t. t.0) (λ f. f) number) }
 {
     match number {
@@ -255,11 +257,11 @@ fn name<'a>(alloc: Global, space: &Space<'_>, t: TypeNum) -> Result<Answer<'a>, 
 fn lent_answer<'a>(
     x: Facts<'a>,
     space: &Space<'a>,
-    layout: &Layout,
+    tables: &Tables,
     t: TypeNum,
     question: &TypeQuestion,
 ) -> Option<Result<Answer<'a>, Fault>>
-    requires { Fits (space_of space.now) layout.now }
+    requires { Serve space.now tables.now }
     ensures lent { IfSome result (λ answer. answer
         ≡ said_on question.now (space_of space.now) t.0 (facts_seen x.entry)) }
     ensures others { IsNone result → question.now ≡ about.Name }
@@ -274,8 +276,9 @@ fn lent_answer<'a>(
         TypeQuestion::Encoding => Some(encoding(x.shape.behind)),
         TypeQuestion::Reference => Some(type_answer(referred(x.shape))),
         TypeQuestion::Resolve => Some(type_answer(resolve(space, t))),
-        TypeQuestion::Size => Some(size_answer(layout.size(t))),
-        TypeQuestion::Align => Some(align_answer(layout.align(t))),
+        TypeQuestion::Size => Some(size_answer(tables.layout.size(t))),
+        TypeQuestion::Align => Some(align_answer(tables.layout.align(t))),
+        TypeQuestion::Pointer => Some(type_answer(pointer_to(space, &tables.index, t))),
         TypeQuestion::Path(names) => Some(position_answer(path(space, t, names.as_slice()))),
         TypeQuestion::Name => None,
     }
@@ -285,11 +288,11 @@ fn lent_answer<'a>(
 fn answer_on<'a>(
     alloc: Global,
     space: &Space<'a>,
-    layout: &Layout,
+    tables: &Tables,
     t: TypeNum,
     question: &TypeQuestion,
 ) -> Result<Answer<'a>, Fault>
-    requires { Fits (space_of space.now) layout.now }
+    requires { Serve space.now tables.now }
     ensures answer { MayAnswer (type_said question.now (space_of space.now) t.0) result }
     ensures quiet { is_quiet_on question.now ≡ true
         → result ≡ type_said question.now (space_of space.now) t.0 }
@@ -298,7 +301,7 @@ fn answer_on<'a>(
         Ok(found) => found,
         Err(fault) => return Err(fault),
     };
-    match lent_answer(found.facts(), space, layout, t, question) {
+    match lent_answer(found.facts(), space, tables, t, question) {
         Some(answer) => answer,
         None => name(alloc, space, t),
     }
@@ -309,7 +312,10 @@ impl Slot {
 
     /// What its questions see.
     fn space(&self) -> Space<'_>
-        ensures { space_of result ≡ slot_space (slot_of self.now) }
+        ensures space { space_of result ≡ slot_space (slot_of self.now) }
+        ensures lists { own_lists result ≡ self.now.dictionary.value.lists }
+        ensures parent { parent_lists result
+            ≡ option_map (λ p. p.value.lists) self.now.parent }
     {
         let own = self.dictionary.view();
         let model = self.dictionary.model();
@@ -332,8 +338,9 @@ impl Slot {
         let space = self.space();
         match question {
             Question::OfType { t, question } => {
-                answer_on(alloc, &space, &self.layout, *t, question)
-            },
+                answer_on(alloc, &space, &self.tables, *t, question)
+            }
+            Question::OfSlot(question) => whole_answer(&space, &self.tables, question),
         }
     }
 }

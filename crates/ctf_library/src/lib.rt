@@ -6,5 +6,7 @@ mod library;
 mod places;
 mod slots;
 mod staging;
+mod tables;
+mod whole;
 
 pub use library::Library;

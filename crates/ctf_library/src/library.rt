@@ -4,23 +4,22 @@ ghost use Rattle.ctf_model.specs.Faults.{first_fault};
 ghost use Rattle.ctf_model.specs.OwnedLists.{lists_owned};
 ghost use Rattle.ctf_model.specs.Refusals.{want_of_memory};
 ghost use Rattle.ctf_model.specs.State.{empty_state};
-ghost use Rattle.ctf_model.specs.Steps.{answer_to, fault_over, is_quiet, is_quiet_change, MayAnswer};
+ghost use Rattle.ctf_model.specs.Steps.{answer_to, fault_over, has_room as room_in, is_quiet, is_quiet_change, MayAnswer};
 ghost use Rattle.ctf_answers.specs.Replies.{said};
-ghost use Rattle.ctf_layout.specs.Fitting.{Fits};
-ghost use Rattle.ctf_library.specs.SpaceOfLists.{space_of_lists};
+ghost use Rattle.ctf_library.specs.Fitting.{AreTablesOf};
 ghost use Rattle.ctf_library.specs.Stepping.{Does, Makes};
 ghost use Rattle.ctf_model.specs.declared.data_model.DataModel.TheVariants.{Lp64};
 
 use crate::places::{find_slot, push_slot, remove_slot, set_parent};
 use crate::slots::Slot;
 use crate::staging::{add_first_piece, add_piece, judge};
+use crate::tables::{Tables, tables_over};
 use ctf_answers::{Answer, Counts};
-use ctf_layout::Layout;
 use ctf_model::{
     Change, DataModel, Fault, ListName, Parts, Question, SlotNumber, no_parts, placeless,
 };
-use ctf_space::{Opened, Space};
-use std::alloc::{AllocError, Global};
+use ctf_space::Opened;
+use std::alloc::Global;
 use std::marker::Model;
 use std::mem;
 use std::rc::Rc;
@@ -57,11 +56,11 @@ impl Model for Library {
         × (rise_between 0 l.slots.items l.next ≡ true) };
 }
 
-/// A dictionary of lists, to be shared, with its layout, or its first fault with the lists.
-fn opened(alloc: Global, parts: Parts) -> Result<(Rc<Opened>, Layout), (Fault, Parts)>
+/// A dictionary of lists, to be shared, with its tables, or its first fault with the lists.
+fn opened(alloc: Global, parts: Parts) -> Result<(Rc<Opened>, Tables), (Fault, Parts)>
     ensures ok { IfOk result (λ o. (o.0.value.lists ≡ lists_owned parts)
         × (o.0.value.model ≡ Lp64)) }
-    ensures laid { IfOk result (λ o. Fits (space_of_lists o.0.value.lists None) o.1) }
+    ensures made { IfOk result (λ o. AreTablesOf o.0.value.lists None o.1) }
     ensures exact_ok { OnOk result (first_fault (lists_owned parts) ≡ None) }
     ensures exact_err { IfErr result (λ e. (e.0 ≡ want_of_memory)
         ⊎ (first_fault (lists_owned parts) ≡ Some e.0)) }
@@ -71,42 +70,12 @@ fn opened(alloc: Global, parts: Parts) -> Result<(Rc<Opened>, Layout), (Fault, P
         Ok(dictionary) => dictionary,
         Err(refused) => return Err(refused),
     };
-    match layout_of(alloc, &dictionary) {
-        Ok(layout) => match Rc::new(alloc, dictionary) {
-            Ok(shared) => Ok((shared, layout)),
+    match Tables::build(alloc, &dictionary) {
+        Ok(tables) => match Rc::new(alloc, dictionary) {
+            Ok(shared) => Ok((shared, tables)),
             Err(failed) => Err((placeless(Fault::MEMORY), failed.value.into_parts())),
         },
-        Err(AllocError) => Err((placeless(Fault::MEMORY), dictionary.into_parts())),
-    }
-}
-
-/// The layout of a dictionary without a parent.
-fn layout_of(alloc: Global, dictionary: &Opened) -> Result<Layout, AllocError>
-    requires { dictionary.now.model ≡ Lp64 }
-    ensures { IfOk result (λ l. Fits (space_of_lists dictionary.now.lists None) l) }
-{
-    let space = Space::own(dictionary.view(), dictionary.model());
-    Layout::build(alloc, &space)
-}
-
-/// The layout of the dictionary of one slot over that of another as its parent, or the fault of
-/// such an import.
-fn laid_over(alloc: Global, child: &Slot, parent: &Slot) -> Result<Layout, Fault>
-    ensures ok { IfOk result (λ l. Fits (space_of_lists child.now.dictionary.value.lists
-        (Some parent.now.dictionary.value.lists)) l) }
-    ensures exact_ok { OnOk result (fault_over child.now.dictionary.value.lists
-        parent.now.dictionary.value.lists ≡ None) }
-    ensures exact_err { IfErr result (λ f. (f ≡ want_of_memory)
-        ⊎ (fault_over child.now.dictionary.value.lists parent.now.dictionary.value.lists
-        ≡ Some f)) }
-{
-    let model = child.dictionary.model();
-    match Space::over(child.dictionary.view(), parent.dictionary.view(), model) {
-        Ok(space) => match Layout::over(alloc, &space, &parent.layout) {
-            Ok(layout) => Ok(layout),
-            Err(AllocError) => Err(placeless(Fault::MEMORY)),
-        },
-        Err(fault) => Err(fault),
+        Err(_) => Err((placeless(Fault::MEMORY), dictionary.into_parts())),
     }
 }
 
@@ -167,11 +136,18 @@ impl Library {
         }
     }
 
+    /// Whether there may be a slot more, and a number for it.
+    fn has_room(&self) -> bool
+        ensures { result ≡ room_in self.now }
+    {
+        self.slots.len() < MOST_SLOTS && self.next <= u64::from(u32::MAX)
+    }
+
     #[tactic(auto, unfolding(ctf_model::specs::Steps::change_step))]
     fn open(&mut self) -> Result<Counts, Fault>
         ensures { Makes self.old Change.Open result self.new }
     {
-        if self.slots.len() >= MOST_SLOTS || self.next > u64::from(u32::MAX) {
+        if !self.has_room() {
             return Err(placeless(Fault::SLOTS_FULL));
         }
         if self.slots.reserve(1).is_err() {
@@ -179,10 +155,10 @@ impl Library {
         }
         let parts = mem::replace(&mut self.stage, no_parts(self.alloc));
         match opened(self.alloc, parts) {
-            Ok((dictionary, layout)) => {
+            Ok((dictionary, tables)) => {
                 let number = self.next as u32;
                 let types = dictionary.view().count() as u64;
-                push_slot(&mut self.slots, number, dictionary, layout);
+                push_slot(&mut self.slots, number, dictionary, tables);
                 self.next += 1;
                 Ok(Counts::two("d", u64::from(number), "types", types))
             }
@@ -230,14 +206,14 @@ impl Library {
         let Some(source) = find_slot(&self.slots, parent) else {
             return Err(placeless(Fault::NO_SLOT));
         };
-        let layout = match laid_over(self.alloc, child, source) {
-            Ok(layout) => layout,
+        let tables = match tables_over(self.alloc, child, source) {
+            Ok(tables) => tables,
             Err(fault) => return Err(fault),
         };
         let Ok(dictionary) = source.dictionary.clone() else {
             return Err(placeless(Fault::MEMORY));
         };
-        set_parent(&mut self.slots, d, dictionary, layout);
+        set_parent(&mut self.slots, d, dictionary, tables);
         Ok(Counts::done())
     }
 

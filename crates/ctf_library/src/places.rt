@@ -4,13 +4,12 @@ ghost use Rattle.ctf_model.specs.Steps.{fault_over, slot_at, slots_with_parent, 
 ghost use Rattle.std.specs.List.Sorted.{IsNonDecreasingBy};
 ghost use Rattle.ctf_library.specs.SlotOrder.{rise_between};
 ghost use Rattle.ctf_library.specs.SlotPlaces.{place_of};
-ghost use Rattle.ctf_layout.specs.Fitting.{Fits};
+ghost use Rattle.ctf_library.specs.Fitting.{AreTablesOf};
 ghost use Rattle.ctf_library.specs.SlotView.{slot_of};
-ghost use Rattle.ctf_library.specs.SpaceOfLists.{space_of_lists};
 ghost use Rattle.ctf_model.specs.declared.data_model.DataModel.TheVariants.{Lp64};
 
 use crate::slots::Slot;
-use ctf_layout::Layout;
+use crate::tables::Tables;
 use ctf_space::Opened;
 use std::rc::Rc;
 
@@ -40,11 +39,11 @@ pub fn find_slot(slots: &[Slot], number: u32) -> Option<&Slot>
     }
 }
 
-/// A new slot for a dictionary with its layout, behind the others, where room was made for it.
-pub fn push_slot(slots: &mut Vec<Slot>, number: u32, dictionary: Rc<Opened>, layout: Layout)
+/// A new slot for a dictionary with its tables, behind the others, where room was made for it.
+pub fn push_slot(slots: &mut Vec<Slot>, number: u32, dictionary: Rc<Opened>, tables: Tables)
     requires room { vec_len slots.old < vec_capacity slots.old }
     requires model { dictionary.value.model ≡ Lp64 }
-    requires laid { Fits (space_of_lists dictionary.value.lists None) layout }
+    requires made { AreTablesOf dictionary.value.lists None tables }
     ensures slots { map slot_of slots.new.items ≡ map slot_of slots.old.items
         ++ record { number = number; lists = dictionary.value.lists; parent = None } ∷ [] }
     ensures rise { rise_between 0 slots.old.items number ≡ true
@@ -54,7 +53,7 @@ pub fn push_slot(slots: &mut Vec<Slot>, number: u32, dictionary: Rc<Opened>, lay
         number,
         dictionary,
         parent: None,
-        layout,
+        tables,
     });
 }
 
@@ -74,13 +73,13 @@ pub fn remove_slot(slots: &mut Vec<Slot>, number: u32) -> Option<Slot>
     }
 }
 
-/// Gives the slot of a number a parent that serves it, and its layout over that.
-pub fn set_parent(slots: &mut Vec<Slot>, number: u32, parent: Rc<Opened>, layout: Layout)
+/// Gives the slot of a number a parent that serves it, and its tables over that.
+pub fn set_parent(slots: &mut Vec<Slot>, number: u32, parent: Rc<Opened>, tables: Tables)
     requires order { IsNonDecreasingBy (λ s. s.number) slots.old.items }
     requires fits { IfSome (slot_at number (map slot_of slots.old.items))
         (λ slot. fault_over slot.lists parent.value.lists ≡ None) }
-    requires laid { IfSome (slot_at number (map slot_of slots.old.items))
-        (λ slot. Fits (space_of_lists slot.lists (Some parent.value.lists)) layout) }
+    requires made { IfSome (slot_at number (map slot_of slots.old.items))
+        (λ slot. AreTablesOf slot.lists (Some parent.value.lists) tables) }
     ensures slots { map slot_of slots.new.items
         ≡ slots_with_parent number parent.value.lists (map slot_of slots.old.items) }
     ensures rise { (next : ℕ) → rise_between 0 slots.old.items next ≡ true
@@ -89,6 +88,6 @@ pub fn set_parent(slots: &mut Vec<Slot>, number: u32, parent: Rc<Opened>, layout
     if let Some(place) = find_place(slots, number) {
         let slot = &mut slots[place];
         slot.parent = Some(parent);
-        slot.layout = layout;
+        slot.tables = tables;
     }
 }

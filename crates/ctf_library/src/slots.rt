@@ -1,25 +1,24 @@
 //! A slot of a session: a dictionary that was opened, under its number.
 ghost use Rattle.std.specs.Prelude.{◌≡◌, None};
 ghost use Rattle.std.specs.Option.{ForSome, option_map};
-ghost use Rattle.ctf_layout.specs.Fitting.{Fits};
-ghost use Rattle.ctf_library.specs.SpaceOfLists.{space_of_lists};
+ghost use Rattle.ctf_library.specs.Fitting.{AreTablesOf};
 ghost use Rattle.ctf_model.specs.Steps.{fault_over};
 ghost use Rattle.ctf_model.specs.declared.data_model.DataModel.TheVariants.{Lp64};
 
-use ctf_layout::Layout;
+use crate::tables::Tables;
 use ctf_space::Opened;
 use std::rc::Rc;
 
 /// A dictionary that was opened, under its number, and the parent that it imported, if it did. Both
-/// may be shared with other slots. The layout is that of the one over the other.
+/// may be shared with other slots. The tables are those of the one over the other.
 #[derive(Drop)]
 pub struct Slot {
     pub(crate) number: u32,
     pub(crate) dictionary: Rc<Opened>,
     pub(crate) parent: Option<Rc<Opened>>,
-    pub(crate) layout: Layout,
+    pub(crate) tables: Tables,
     ghost model: { dictionary.value.model ≡ Lp64 },
     ghost fits: { ForSome parent (λ p. fault_over dictionary.value.lists p.value.lists ≡ None) },
-    ghost laid: { Fits (space_of_lists dictionary.value.lists
-        (option_map (λ p. p.value.lists) parent)) layout },
+    ghost made: { AreTablesOf dictionary.value.lists (option_map (λ p. p.value.lists) parent)
+        tables },
 }

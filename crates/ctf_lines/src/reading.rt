@@ -1,16 +1,17 @@
 //! Reads the request of a line.
 ghost use Rattle.std.specs.Prelude.{◌≡◌, ◌≢◌, ◌≤◌, IfSome, Option, None, Some, IfOk, IfErr, Ok, Err, codes, option_map};
 ghost use Rattle.serde_json.specs.View.{view};
-ghost use Rattle.ctf_model.specs.Ask.{ask, number_in, text_in, list_named, slot_under as slot_named, slot_in, type_in, close_asked, import_asked, about_type as type_question_asked, from_asked, count_asked, window_asked, names_asked, part_asked, word_asked, asked_with, request_asked, value_asked};
+ghost use Rattle.ctf_model.specs.Ask.{ask, number_in, text_in, list_named, slot_under as slot_named, slot_in, type_in, close_asked, import_asked, about_type as type_question_asked, about_slot as slot_question_asked, text_asked, from_asked, count_asked, window_asked, names_asked, part_asked, word_asked, asked_with, request_asked, value_asked};
 ghost use Rattle.ctf_model.specs.Refusals.{placeless};
 ghost use Rattle.ctf_model.specs.declared.faults.TheConstants.Fault.{MEMORY};
+ghost use Rattle.ctf_model.specs.declared.questions.SlotQuestion.TheVariants as whole;
 ghost use Rattle.ctf_model.specs.declared.questions.TypeQuestion.TheVariants as about;
 
 use crate::lines::FromLine;
-use crate::spelled::{names, piece};
+use crate::spelled::{name, names, piece};
 use ctf_model::{
-    Change, Fault, ListName, Names, Question, Request, SlotNumber, TypeNum, TypeQuestion, Window,
-    Word, placeless,
+    Change, Fault, ListName, Names, Question, Request, SlotNumber, SlotQuestion, TypeNum,
+    TypeQuestion, Window, Word, placeless,
 };
 use serde_json::Value;
 use std::alloc::{AllocError, Global};
@@ -119,6 +120,8 @@ fn read_word(alloc: Global, value: &Value, word: Word) -> Result<Option<Request>
         Word::DoSize => Ok(about_type(value, Some(TypeQuestion::Size))),
         Word::DoAlign => Ok(about_type(value, Some(TypeQuestion::Align))),
         Word::DoName => Ok(about_type(value, Some(TypeQuestion::Name))),
+        Word::DoPointer => Ok(about_type(value, Some(TypeQuestion::Pointer))),
+        Word::DoFind => Ok(about_slot(value, find(alloc, value)?)),
         Word::DoPath => Ok(about_type(value, path(alloc, value)?)),
     }
 }
@@ -221,6 +224,31 @@ fn names_under(alloc: Global, value: &Value) -> Result<Option<Names>, AllocError
         Some(values) => names(alloc, values),
         None => Ok(None),
     }
+}
+
+fn find(alloc: Global, value: &Value) -> Result<Option<SlotQuestion>, AllocError>
+    ensures { IfOk result (λ question. question
+        ≡ option_map (λ written. whole.Find written) (text_asked (view value.now))) }
+{
+    let Some(text) = value.get("text") else {
+        return Ok(None);
+    };
+    match name(alloc, text)? {
+        Some(written) => Ok(Some(SlotQuestion::Find(written))),
+        None => Ok(None),
+    }
+}
+
+/// A question on a slot as a whole, where its own fields are good.
+fn about_slot(value: &Value, question: Option<SlotQuestion>) -> Option<Request>
+    ensures { result ≡ slot_question_asked question (view value.now) }
+{
+    let question = question?;
+    let d = slot(value)?;
+    Some(Request::Asks {
+        d,
+        question: Question::OfSlot(question),
+    })
 }
 
 /// A question on a type of a slot, where its own fields are good.

@@ -93,7 +93,7 @@ fn bytes_of(alloc: Global, text: &[u8]) -> Result<Option<Vec<u8>>, AllocError>
 }
 
 /// The name that a value spells.
-fn name(alloc: Global, value: &Value) -> Result<Option<Piece>, AllocError>
+pub fn name(alloc: Global, value: &Value) -> Result<Option<Piece>, AllocError>
     ensures { IfOk result (λ name. name ≡ name_spelled (view value.now)) }
 {
     let Some(text) = value.as_str() else {

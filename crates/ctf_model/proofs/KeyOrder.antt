@@ -8,12 +8,13 @@ use Rattle.std.proofs.lemmas.List.{take-append-drop}
 use Rattle.std.proofs.lemmas.List.Folds.{list_all-append}
 use Rattle.ctf_model.specs.Answers.{Answer, Item, Single, number, truth, word, text, says, may_say}
 use Rattle.ctf_model.specs.Faults.{first_fault}
+use Rattle.ctf_model.specs.Found.{found, pointer_to}
 use Rattle.ctf_model.specs.KindNames.{name_of_kind}
 use Rattle.ctf_model.specs.Figures.{align, referred, resolved, size}
 use Rattle.ctf_model.specs.KeyOrder.{item_in_order, in_order, IsInOrder, KeysRise}
 use Rattle.ctf_model.specs.Lists.{Lists}
 use Rattle.ctf_model.specs.Paths.{path}
-use Rattle.ctf_model.specs.Questions.{at_most, windowed, or_wrong_kind, as_fields, member_fields, member_item, enumerator_fields, enumerator_item, number_item, named_arguments, argument_fields, array_fields, encoding_fields, type_fields, size_fields, align_fields, name_fields, position_fields, said_on, said_of}
+use Rattle.ctf_model.specs.Questions.{at_most, windowed, or_wrong_kind, as_fields, member_fields, member_item, enumerator_fields, enumerator_item, number_item, named_arguments, argument_fields, array_fields, encoding_fields, type_fields, size_fields, align_fields, name_fields, position_fields, said_on, said_of, whole_said}
 use Rattle.ctf_model.specs.Shown.{Facts, facts, members_in, enumerators_in, arguments_in, array_in, encoding_in, list_length}
 use Rattle.ctf_model.specs.State.{State, Slot}
 use Rattle.ctf_model.specs.Steps.{change_step, with_slot, grants, slots_without, imports_unless, fault_over, stages, opens, opens_unless, has_room, accepts_unless, longest_list, slot_at, slot_space, said_by_slot}
@@ -21,7 +22,9 @@ use Rattle.ctf_model.specs.Space.{Space, space_type}
 use Rattle.ctf_model.specs.Term.{Term}
 use Rattle.ctf_model.specs.TypeNames.{spelled_name}
 use Rattle.ctf_model.specs.declared.faults.Fault.{Fault}
-use Rattle.ctf_model.specs.declared.questions.Question.TheVariants.{OfType}
+use Rattle.ctf_model.specs.declared.questions.Question.TheVariants.{OfType, OfSlot}
+use Rattle.ctf_model.specs.declared.questions.SlotQuestion.{SlotQuestion}
+use Rattle.ctf_model.specs.declared.questions.SlotQuestion.TheVariants as whole
 use Rattle.ctf_model.specs.declared.questions.TypeQuestion.{TypeQuestion}
 use Rattle.ctf_model.specs.declared.questions.TypeQuestion.TheVariants as ask
 use Rattle.ctf_model.specs.declared.questions.Question.{Question}
@@ -97,15 +100,20 @@ on_type ask.Resolve s t x = figure type_fields (λ n. refl) (resolved s t)
 on_type ask.Size s t x = figure size_fields (λ n. refl) (size s t)
 on_type ask.Align s t x = figure align_fields (λ n. refl) (align s t)
 on_type ask.Name s t x = figure name_fields (λ name. refl) (spelled_name s t)
+on_type ask.Pointer s t x = figure type_fields (λ n. refl) (pointer_to s t)
 on_type (ask.Path names) s t x = figure position_fields (λ at. refl) (path s t names)
 
 of_type : (question : TypeQuestion) (s : Space) (t : ℕ) (found : Result Term Fault) → IsInOrder (said_of question s t found)
 of_type question s t (Ok x) = on_type question s t (facts x)
 of_type question s t (Err fault) = tt
 
+on_whole : (question : SlotQuestion) (s : Space) → IsInOrder (whole_said question s)
+on_whole (whole.Find written) s = figure type_fields (λ n. refl) (found s written)
+
 of_slot : (question : Question) (slot : Option Slot) → IsInOrder (said_by_slot question slot)
 of_slot question None = tt
 of_slot (OfType t question) (Some slot) = of_type question (slot_space slot) t.0 (space_type (slot_space slot) t.0)
+of_slot (OfSlot question) (Some slot) = on_whole question (slot_space slot)
 
 -- ---- changes
 

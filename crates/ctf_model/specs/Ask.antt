@@ -17,11 +17,13 @@ use Rattle.ctf_model.specs.declared.requests.ListName.TheVariants.{Ctf, Sym, Str
 use Rattle.ctf_model.specs.declared.requests.Request.{Request}
 use Rattle.ctf_model.specs.declared.requests.Request.TheVariants.{Changes, Asks}
 use Rattle.ctf_model.specs.declared.requests.Change.TheVariants as change
-use Rattle.ctf_model.specs.declared.questions.Question.TheVariants.{OfType}
+use Rattle.ctf_model.specs.declared.questions.Question.TheVariants.{OfType, OfSlot}
+use Rattle.ctf_model.specs.declared.questions.SlotQuestion.{SlotQuestion}
+use Rattle.ctf_model.specs.declared.questions.SlotQuestion.TheVariants as whole
 use Rattle.ctf_model.specs.declared.questions.TypeQuestion.{TypeQuestion}
 use Rattle.ctf_model.specs.declared.questions.TypeQuestion.TheVariants as about
 use Rattle.ctf_model.specs.declared.words.Word.{Word}
-use Rattle.ctf_model.specs.declared.words.Word.TheVariants.{DoPart, DoCheck, DoOpen, DoClear, DoReset, DoClose, DoImport, DoKind, DoRecord, DoMembers, DoEnumerators, DoArgs, DoArray, DoEncoding, DoReference, DoResolve, DoSize, DoAlign, DoName, DoPath}
+use Rattle.ctf_model.specs.declared.words.Word.TheVariants.{DoPart, DoCheck, DoOpen, DoClear, DoReset, DoClose, DoImport, DoKind, DoRecord, DoMembers, DoEnumerators, DoArgs, DoArray, DoEncoding, DoReference, DoResolve, DoSize, DoAlign, DoName, DoPointer, DoFind, DoPath}
 use Rattle.ctf_model.specs.Text.{bytes_spelled_by}
 use Rattle.ctf_model.specs.Words.{words, word_named, is_text}
 use Rattle.ctf_model.specs.declared.questions.Window.{Window}
@@ -73,6 +75,10 @@ abbrev pub about_type : Option TypeQuestion → Data → Option Request
 about_type question line =
     option_and_then (λ q. option_and_then (λ d. option_map (λ t. Asks d (OfType t q)) (type_in line)) (slot_in line)) question
 
+-- a question on a slot as a whole, likewise
+abbrev pub about_slot : Option SlotQuestion → Data → Option Request
+about_slot question line = option_and_then (λ q. option_map (λ d. Asks d (OfSlot q)) (slot_in line)) question
+
 -- the first item that is wanted, 0 where that isn't said
 abbrev pub from_asked : Data → Option ℕ
 from_asked line = if is_none (get (codes "from") line) then Some 0 else number_in 0 4294967295 (codes "from") line
@@ -101,6 +107,10 @@ not_too_many_names names = if nat_le (length names) longest_piece then Some name
 
 abbrev pub names_asked : Data → Option (List (List ℕ))
 names_asked line = option_and_then not_too_many_names (option_and_then names_spelled (option_and_then as_array (get (codes "names") line)))
+
+-- the name that is looked up
+abbrev pub text_asked : Data → Option (List ℕ)
+text_asked line = option_and_then name_spelled (get (codes "text") line)
 
 abbrev pub part_asked : Data → Option Request
 part_asked line = option_and_then (λ list. option_map (λ bytes. Changes (change.Part list bytes)) (option_and_then bytes_spelled (text_in (codes "bytes") line))) (option_and_then list_named (text_in (codes "section") line))
@@ -132,6 +142,8 @@ asked_with line DoResolve = about_type (Some about.Resolve) line
 asked_with line DoSize = about_type (Some about.Size) line
 asked_with line DoAlign = about_type (Some about.Align) line
 asked_with line DoName = about_type (Some about.Name) line
+asked_with line DoPointer = about_type (Some about.Pointer) line
+asked_with line DoFind = about_slot (option_map (λ written. whole.Find written) (text_asked line)) line
 asked_with line DoPath = about_type (option_map (λ names. about.Path names) (names_asked line)) line
 
 -- the word of a line

@@ -13,7 +13,8 @@ use Rattle.ctf_model.specs.Term.{Body}
 use Rattle.ctf_model.specs.Term as term
 use Rattle.ctf_model.specs.Text.{text_of, bytes_spelled_by}
 use Rattle.ctf_model.specs.declared.faults.Fault.{Fault}
-use Rattle.ctf_model.specs.declared.questions.Question.TheVariants.{OfType}
+use Rattle.ctf_model.specs.declared.questions.Question.TheVariants.{OfType, OfSlot}
+use Rattle.ctf_model.specs.declared.questions.SlotQuestion.TheVariants as whole
 use Rattle.ctf_model.specs.declared.questions.TypeQuestion.{TypeQuestion}
 use Rattle.ctf_model.specs.declared.questions.TypeQuestion.TheVariants as about
 use Rattle.ctf_model.specs.declared.questions.Window.{Window}
@@ -34,6 +35,10 @@ answered ctf request = reply_line (step (holding ctf) request None).reply
 -- a question on a type of slot 1
 abbrev pub on : ℕ → TypeQuestion → Request
 on t question = Asks 1 (OfType (record { 0 = t }) question)
+
+-- a name that is looked up in slot 1
+abbrev pub looked_up : List ℕ → Request
+looked_up text = Asks 1 (OfSlot (whole.Find text))
 
 -- all items, or those from one on
 abbrev pub all_items : Window
@@ -65,6 +70,15 @@ pub record QuestionsAreAnswered : Type 0 where
   pub no_size : answered structs (on 0 about.Size) ≡ codes "{\"fault\":{\"code\":24,\"name\":\"NoType\",\"place\":0},\"s\":0}\n"
   pub name : answered others (on 10 about.Name) ≡ codes "{\"ok\":{\"name\":\"const volatile A\"},\"s\":0}\n"
   pub no_name : answered structs (on 0 about.Name) ≡ codes "{\"fault\":{\"code\":24,\"name\":\"NoType\",\"place\":0},\"s\":0}\n"
+  pub pointer : answered others (on 2 about.Pointer) ≡ codes "{\"ok\":{\"t\":3},\"s\":0}\n"
+  pub pointer_behind : answered others (on 10 about.Pointer) ≡ codes "{\"ok\":{\"t\":3},\"s\":0}\n"
+  pub no_pointer : answered others (on 3 about.Pointer) ≡ codes "{\"fault\":{\"code\":32,\"name\":\"NotFound\",\"place\":0},\"s\":0}\n"
+  pub pointer_to_nothing : answered others (on 0 about.Pointer) ≡ codes "{\"fault\":{\"code\":24,\"name\":\"NoType\",\"place\":0},\"s\":0}\n"
+  pub found : answered structs (looked_up (codes "int")) ≡ codes "{\"ok\":{\"t\":1},\"s\":0}\n"
+  pub not_found : answered structs (looked_up (codes "int *")) ≡ codes "{\"fault\":{\"code\":32,\"name\":\"NotFound\",\"place\":0},\"s\":0}\n"
+  pub hidden : answered others (looked_up (codes "A")) ≡ codes "{\"fault\":{\"code\":32,\"name\":\"NotFound\",\"place\":0},\"s\":0}\n"
+  pub no_name_at_all : answered structs (looked_up (codes " *")) ≡ codes "{\"fault\":{\"code\":33,\"name\":\"BadSyntax\",\"place\":0},\"s\":0}\n"
+  pub found_nowhere : answered structs (Asks 2 (OfSlot (whole.Find []))) ≡ codes "{\"fault\":{\"code\":49,\"name\":\"NoSlot\",\"place\":0},\"s\":0}\n"
   pub path : answered structs (on 3 (about.Path (codes "b" ∷ []))) ≡ codes "{\"ok\":{\"offset\":4294967328,\"t\":1},\"s\":0}\n"
   pub no_step : answered structs (on 3 (about.Path [])) ≡ codes "{\"ok\":{\"offset\":0,\"t\":3},\"s\":0}\n"
   pub no_member : answered structs (on 3 (about.Path (codes "z" ∷ []))) ≡ codes "{\"fault\":{\"code\":28,\"name\":\"NoMember\",\"place\":0},\"s\":0}\n"
@@ -84,6 +98,13 @@ record_line name body = line_of (record_fields (facts (record { name = name; roo
 abbrev pub asks : TypeQuestion → Result (ℕ × Request) (ℕ × Fault)
 asks question = Ok (1, Asks 2 (OfType (record { 0 = 3 }) question))
 
+abbrev pub is_refused : Result (ℕ × Request) (ℕ × Fault)
+is_refused = Err (1, fault 58 0)
+
+-- a line with the word `find`, with these fields more
+abbrev pub find_line : List ℕ → List ℕ
+find_line fields = codes "{\"s\":1,\"op\":\"find\",\"d\":2" ++ (fields ++ codes "}")
+
 pub record QuestionsAreLines : Type 0 where
   pub window : ask (codes "{\"s\":1,\"op\":\"members\",\"d\":2,\"t\":3,\"from\":4,\"count\":5}") ≡ Ok (1, Asks 2 (OfType (record { 0 = 3 }) (about.Members (items_from 4 5))))
   pub no_window : ask (codes "{\"s\":1,\"op\":\"members\",\"d\":2,\"t\":3}") ≡ Ok (1, Asks 2 (OfType (record { 0 = 3 }) (about.Members all_items)))
@@ -93,6 +114,12 @@ pub record QuestionsAreLines : Type 0 where
   pub size : ask (codes "{\"s\":1,\"op\":\"size\",\"d\":2,\"t\":3}") ≡ asks about.Size
   pub align : ask (codes "{\"s\":1,\"op\":\"align\",\"d\":2,\"t\":3,\"names\":7}") ≡ asks about.Align
   pub name : ask (codes "{\"s\":1,\"op\":\"name\",\"d\":2,\"t\":3}") ≡ asks about.Name
+  pub pointer : ask (codes "{\"s\":1,\"op\":\"pointer\",\"d\":2,\"t\":3}") ≡ asks about.Pointer
+  pub find : ask (find_line (codes ",\"text\":\"struct \\\\x41 *\",\"t\":7")) ≡ Ok (1, Asks 2 (OfSlot (whole.Find (codes "struct A *"))))
+  pub find_nothing : ask (find_line (codes ",\"text\":\"\"")) ≡ Ok (1, Asks 2 (OfSlot (whole.Find [])))
+  pub find_newline : ask (find_line (codes ",\"text\":\"\\n\"")) ≡ is_refused
+  pub find_number : ask (find_line (codes ",\"text\":1")) ≡ is_refused
+  pub find_absent : ask (find_line []) ≡ is_refused
   pub no_type : ask (codes "{\"s\":1,\"op\":\"size\",\"d\":2}") ≡ Err (1, fault 58 0)
   pub check : ask (codes "{\"s\":1,\"op\":\"check\"}") ≡ Ok (1, Changes change.Check)
   pub plain : text_of (codes "a~ ") ≡ codes "a~ "
@@ -114,9 +141,6 @@ path_line fields = codes "{\"s\":1,\"op\":\"path\",\"d\":2,\"t\":3" ++ (fields +
 
 abbrev pub asks_path : List (List ℕ) → Result (ℕ × Request) (ℕ × Fault)
 asks_path names = asks (about.Path names)
-
-abbrev pub is_refused : Result (ℕ × Request) (ℕ × Fault)
-is_refused = Err (1, fault 58 0)
 
 pub record PathsAreLines : Type 0 where
   pub two_names : ask (path_line (codes ",\"names\":[\"b\",\"i 1\"]")) ≡ asks_path (codes "b" ∷ codes "i 1" ∷ [])

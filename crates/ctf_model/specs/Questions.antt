@@ -1,8 +1,9 @@
--- What a question on a type is answered. Source: libctf(3LIB), ctf_type_kind, ctf_member_iter, ctf_enum_iter, ctf_func_args, ctf_array_info, ctf_type_encoding, ctf_type_reference, ctf_type_resolve, ctf_type_size, ctf_type_align, ctf_type_lname; the form of answers is ours.
+-- What a question is answered. Source: libctf(3LIB), ctf_type_kind, ctf_member_iter, ctf_enum_iter, ctf_func_args, ctf_array_info, ctf_type_encoding, ctf_type_reference, ctf_type_resolve, ctf_type_size, ctf_type_align, ctf_type_lname, ctf_type_pointer, ctf_lookup_by_name; the form of answers is ours.
 use Rattle.std.specs.Prelude.{ℕ, ◌-◌, ◌&&◌, ◌==◌, ◌++◌, nat_lt, Bool, List, [], ◌∷◌, length, map, take, drop, slice_index, option_and_then, Option, Some, None, Result, Ok, Err, codes, if◌then◌else◌}
 use Rattle.std.specs.Option.{option_map}
 use Rattle.ctf_model.specs.Answers.{Answer, Item, says, may_say, lists, entry, number, signed, truth, word, text, bare, object}
 use Rattle.ctf_model.specs.Figures.{align, referred, resolved, size}
+use Rattle.ctf_model.specs.Found.{found, pointer_to}
 use Rattle.ctf_model.specs.KindNames.{name_of_kind, name_of_tag}
 use Rattle.ctf_model.specs.Paths.{Position, path}
 use Rattle.ctf_model.specs.Refusals.{placeless}
@@ -12,6 +13,8 @@ use Rattle.ctf_model.specs.Term.{Member, Enumerator, Term}
 use Rattle.ctf_model.specs.TypeNames.{spelled_name}
 use Rattle.ctf_model.specs.declared.faults.Fault.{Fault}
 use Rattle.ctf_model.specs.declared.faults.TheConstants.Fault.{WRONG_KIND}
+use Rattle.ctf_model.specs.declared.questions.SlotQuestion.{SlotQuestion}
+use Rattle.ctf_model.specs.declared.questions.SlotQuestion.TheVariants as whole
 use Rattle.ctf_model.specs.declared.questions.TypeQuestion.{TypeQuestion}
 use Rattle.ctf_model.specs.declared.questions.TypeQuestion.TheVariants as ask
 use Rattle.ctf_model.specs.declared.questions.Window.{Window}
@@ -95,7 +98,7 @@ name_fields name = says (codes "name") (text name) ∷ []
 abbrev pub position_fields : Position → Answer
 position_fields at = says (codes "offset") (number at.offset) ∷ says (codes "t") (number at.tnum) ∷ []
 
--- ---- questions
+-- ---- questions on types
 
 -- what a part is answered as, if the kind has it
 abbrev pub or_wrong_kind : Option Answer → Result Answer Fault
@@ -121,6 +124,7 @@ said_on ask.Resolve s t x = as_fields type_fields (resolved s t)
 said_on ask.Size s t x = as_fields size_fields (size s t)
 said_on ask.Align s t x = as_fields align_fields (align s t)
 said_on ask.Name s t x = as_fields name_fields (spelled_name s t)
+said_on ask.Pointer s t x = as_fields type_fields (pointer_to s t)
 said_on (ask.Path names) s t x = as_fields position_fields (path s t names)
 
 -- the same where the number may name no type
@@ -131,3 +135,9 @@ said_of question s t (Err fault) = Err fault
 -- what a question on the type of a number is answered
 abbrev pub type_said : TypeQuestion → Space → ℕ → Result Answer Fault
 type_said question s t = said_of question s t (space_type s t)
+
+-- ---- questions on a slot
+
+-- what a question on a slot as a whole is answered
+abbrev pub whole_said : SlotQuestion → Space → Result Answer Fault
+whole_said (whole.Find written) s = as_fields type_fields (found s written)

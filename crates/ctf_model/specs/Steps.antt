@@ -8,7 +8,7 @@ use Rattle.ctf_model.specs.Faults.{first_fault}
 use Rattle.ctf_model.specs.Lists.{Lists}
 use Rattle.ctf_model.specs.Refusals.{placeless, want_of_memory}
 use Rattle.ctf_model.specs.State.{State, Slot, empty_state, empty_stage}
-use Rattle.ctf_model.specs.Questions.{type_said}
+use Rattle.ctf_model.specs.Questions.{type_said, whole_said}
 use Rattle.ctf_model.specs.Space.{Space, import_fault}
 use Rattle.ctf_model.specs.declared.data_model.DataModel.TheVariants.{Lp64}
 use Rattle.ctf_model.specs.declared.faults.Fault.{Fault}
@@ -19,7 +19,9 @@ use Rattle.ctf_model.specs.declared.requests.Request.{Request}
 use Rattle.ctf_model.specs.declared.questions.TypeQuestion.{TypeQuestion}
 use Rattle.ctf_model.specs.declared.questions.TypeQuestion.TheVariants as about
 use Rattle.ctf_model.specs.declared.questions.Question.{Question}
-use Rattle.ctf_model.specs.declared.questions.Question.TheVariants.{OfType}
+use Rattle.ctf_model.specs.declared.questions.Question.TheVariants.{OfType, OfSlot}
+use Rattle.ctf_model.specs.declared.questions.SlotQuestion.{SlotQuestion}
+use Rattle.ctf_model.specs.declared.questions.SlotQuestion.TheVariants as whole
 use Rattle.ctf_model.specs.declared.requests.Change.{Change}
 use Rattle.ctf_model.specs.declared.requests.Change.TheVariants as change
 use Rattle.ctf_model.specs.declared.requests.Request.TheVariants.{Changes, Asks}
@@ -117,6 +119,7 @@ slot_space slot = record { own = said_by slot.lists; parent = option_map said_by
 -- what a slot answers
 abbrev pub slot_said : Question → Slot → Result Answer Fault
 slot_said (OfType t question) slot = type_said question (slot_space slot) t.0
+slot_said (OfSlot question) slot = whole_said question (slot_space slot)
 
 abbrev pub said_by_slot : Question → Option Slot → Result Answer Fault
 said_by_slot question None = Err (placeless NO_SLOT)
@@ -135,10 +138,15 @@ is_quiet_on about.Reference = true
 is_quiet_on about.Resolve = true
 is_quiet_on about.Size = true
 is_quiet_on about.Align = true
+is_quiet_on about.Pointer = true
 is_quiet_on _ = false
+
+abbrev pub is_quiet_whole : SlotQuestion → Bool
+is_quiet_whole (whole.Find written) = true
 
 abbrev pub is_quiet : Question → Bool
 is_quiet (OfType t question) = is_quiet_on question
+is_quiet (OfSlot question) = is_quiet_whole question
 
 -- the answer to a question, or memory for it was refused
 abbrev pub MayAnswer : Result Answer Fault → Result Answer Fault → Type 0

@@ -30,7 +30,7 @@ pub use layers::{Layer, Qualifier};
 pub use lists::{Parts, no_parts};
 pub use names::Names;
 pub use numbers::{Place, SlotNumber, TypeNum};
-pub use questions::{Question, TypeQuestion, Window};
+pub use questions::{Question, SlotQuestion, TypeQuestion, Window};
 pub use requests::{Change, ListName, Request};
 pub use rows::{
     bytes_denote, bytes_have_faults, figures_are, figures_over_parents, kinds_denote,

@@ -1,5 +1,6 @@
 //! What a session may ask, without changing anything.
 
+use crate::bytes::Piece;
 use crate::names::Names;
 use crate::numbers::TypeNum;
 
@@ -39,8 +40,17 @@ pub enum TypeQuestion {
     Align,
     /// Its name, as C spells it.
     Name,
+    /// The type that points to it.
+    Pointer,
     /// Where a member of a member lies, by their names from the outermost on.
     Path(Names),
+}
+
+/// A question on what a slot sees as a whole.
+#[derive(Drop)]
+pub enum SlotQuestion {
+    /// The type that a written name finds, as `struct node *`.
+    Find(Piece),
 }
 
 /// A question to a slot.
@@ -48,4 +58,6 @@ pub enum TypeQuestion {
 pub enum Question {
     /// On a type of its dictionary.
     OfType { t: TypeNum, question: TypeQuestion },
+    /// On its dictionary, and on that of its parent.
+    OfSlot(SlotQuestion),
 }

@@ -24,6 +24,8 @@ pub enum Word {
     DoSize,
     DoAlign,
     DoName,
+    DoPointer,
+    DoFind,
     DoPath,
 }
 
@@ -43,7 +45,7 @@ fn row(word: Word, text: &'static str) -> Written
 
 /// Every word.
 #[tactic(auto, unfolding(crate::specs::Words::words))]
-fn words() -> [Written; 20]
+fn words() -> [Written; 22]
     ensures { map row_of result ≡ all_words }
 {
     [
@@ -66,6 +68,8 @@ fn words() -> [Written; 20]
         row(Word::DoSize, "size"),
         row(Word::DoAlign, "align"),
         row(Word::DoName, "name"),
+        row(Word::DoPointer, "pointer"),
+        row(Word::DoFind, "find"),
         row(Word::DoPath, "path"),
     ]
 }

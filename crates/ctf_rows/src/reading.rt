@@ -1,7 +1,7 @@
 //! Lines that are read as requests, word by word.
 
 use ctf_lines::FromLine;
-use ctf_model::{Change, ListName, Names, Question, Request, TypeQuestion, Window};
+use ctf_model::{Change, ListName, Names, Question, Request, SlotQuestion, TypeQuestion, Window};
 use std::alloc::Global;
 use std::test::Fail;
 
@@ -69,7 +69,15 @@ fn question_said(question: &TypeQuestion) -> (&'static str, Option<Window>) {
         TypeQuestion::Size => ("size", None),
         TypeQuestion::Align => ("align", None),
         TypeQuestion::Name => ("name", None),
+        TypeQuestion::Pointer => ("pointer", None),
         TypeQuestion::Path(_) => ("path", None),
+    }
+}
+
+/// The word of a question on a slot as a whole.
+fn slot_question_said(question: &SlotQuestion) -> &'static str {
+    match question {
+        SlotQuestion::Find(_) => "find",
     }
 }
 
@@ -87,6 +95,14 @@ fn describe(request: &Request) -> Said {
                 window,
             }
         }
+        Request::Asks {
+            d,
+            question: Question::OfSlot(question),
+        } => Said {
+            word: slot_question_said(question),
+            about: Some((d.get(), 0)),
+            window: None,
+        },
     }
 }
 
@@ -139,6 +155,14 @@ fn questions_are_read(rt: HostRuntime) {
         (
             "{\"s\":1,\"op\":\"name\",\"d\":2,\"t\":3}",
             about("name", 2, 3),
+        ),
+        (
+            "{\"s\":1,\"op\":\"pointer\",\"d\":2,\"t\":3}",
+            about("pointer", 2, 3),
+        ),
+        (
+            "{\"s\":1,\"op\":\"find\",\"d\":2,\"text\":\"\\\\x00\"}",
+            about("find", 2, 0),
         ),
         (
             "{\"s\":1,\"op\":\"array\",\"d\":4,\"t\":5}",

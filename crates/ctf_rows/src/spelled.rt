@@ -398,7 +398,7 @@ fn put_pointer(out: &mut Vec<u8>, number: u16) -> Result<(), AllocError> {
 }
 
 /// A parent of an integer and 512 pointers, each to the type before it, in hexadecimal digits.
-fn pointers(alloc: Global) -> Result<Vec<u8>, AllocError> {
+pub fn pointers(alloc: Global) -> Result<Vec<u8>, AllocError> {
     let mut out = Vec::new(alloc);
     out.extend_from_slice(
         b"f1cf02000000000000000000000000000000000000000000000000000c10000005000000\
@@ -412,7 +412,7 @@ fn pointers(alloc: Global) -> Result<Vec<u8>, AllocError> {
 }
 
 /// A child of 513 pointers, the first to its parent's type 513 and each other one to the one before.
-fn more_pointers(alloc: Global) -> Result<Vec<u8>, AllocError> {
+pub fn more_pointers(alloc: Global) -> Result<Vec<u8>, AllocError> {
     let mut out = Vec::new(alloc);
     out.extend_from_slice(
         b"f1cf02000000000001000000000000000000000000000000000000000810000003000000",

@@ -4,7 +4,7 @@ use Rattle.ctf_space.specs.SpaceView.{space_of}
 use Rattle.ctf_library.proofs.answering.lent_answer.Goals as goal
 
 pub returns-in-Size-clause-lent : goal.returns-in-Size-clause-lent
-returns-in-Size-clause-lent c = rw c.in-Size.is (c.size_answer.ensures ∙ ap (as_fields size_fields) (c.size.ensures (space_of c.args.space.now) c.requires))
+returns-in-Size-clause-lent c = rw c.in-Size.is (c.size_answer.ensures ∙ ap (as_fields size_fields) (c.size.ensures (space_of c.args.space.now) c.requires.0))
 
 pub returns-in-Align-clause-lent : goal.returns-in-Align-clause-lent
-returns-in-Align-clause-lent c = rw c.in-Align.is (c.align_answer.ensures ∙ ap (as_fields align_fields) (c.align.ensures (space_of c.args.space.now) c.requires))
+returns-in-Align-clause-lent c = rw c.in-Align.is (c.align_answer.ensures ∙ ap (as_fields align_fields) (c.align.ensures (space_of c.args.space.now) c.requires.0))

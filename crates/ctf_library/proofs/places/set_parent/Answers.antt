@@ -1,8 +1,7 @@
 use Rattle.std.proofs.Common.{◌≡◌, List, map, Some, None, Option, IfSome, ap, sym, subst, ◌∙◌, arith}
 use Rattle.ctf_model.specs.State.{Slot}
 use Rattle.ctf_model.specs.Steps.{fault_over}
-use Rattle.ctf_layout.specs.Fitting.{Fits}
-use Rattle.ctf_library.specs.SpaceOfLists.{space_of_lists}
+use Rattle.ctf_library.specs.Fitting.{AreTablesOf}
 use Rattle.ctf_library.specs.SlotPlaces.{place_of}
 use Rattle.ctf_library.specs.SlotView.{slot_of}
 use Rattle.ctf_library.specs.declared.slots.Slot as own
@@ -21,13 +20,13 @@ invariant_of-slot c =
     let placed = ap (λ (xs : List own.Slot). place_of c.args.number (map slot_of xs)) (sym c.deref.ensures.value) ∙ sym c.in-Some.ensures in
     let here = (is_place c.args.number c.args.slots.now.items c.in-Some.place placed).found c.index_mut-slot.result.now ∙ ap (λ (s : own.Slot). Some (slot_of s)) (sym c.index_mut-slot.ensures.value) in
     let P : Option Slot → Type 0 = λ o. IfSome o (λ slot. fault_over slot.lists c.args.parent.value.lists ≡ None) in
-    let L : Option Slot → Type 0 = λ o. IfSome o (λ slot. Fits (space_of_lists slot.lists (Some c.args.parent.value.lists)) c.args.layout) in
+    let L : Option Slot → Type 0 = λ o. IfSome o (λ slot. AreTablesOf slot.lists (Some c.args.parent.value.lists) c.args.tables) in
     let fits = subst P here c.requires.fits in
-    let laid = subst L here c.requires.laid in
+    let made = subst L here c.requires.made in
     record {
       model = c.index_mut-slot.result.now.model;
       fits = λ x e. let same : c.args.parent ≡ x = cc in subst (λ p. fault_over c.index_mut-slot.result.now.dictionary.value.lists p.value.lists ≡ None) same fits;
-      laid = laid;
+      made = made;
     }
 
 pub returns-in-Some-clause-slots : goal.returns-in-Some-clause-slots

@@ -19,4 +19,4 @@ use Rattle.ctf_model.proofs.rows.questions_are_answered.Goals as goal
 
 pub returns : goal.returns
 unfolding declaration_within declared comes_to most_numbers path_from number denoted said_by labels_in terms_in first_fault rules types first_nameless label_sites item_sites record_sites sites bad_name is_misnaming first_misnaming bad_reference first_deep edges_by edges within term_of front_len walk change_step digits name_of_fault fitting_line bad_funcs bad_symbol_type symbols symbols_in entries entries_of function_sites function_sites_of
-returns c = record { kind = refl; one_argument = refl; more_may_follow = refl; no_function = refl; no_type = refl; no_slot = refl; all_members = refl; second_member = refl; no_members = refl; negative = refl; an_array = refl; a_float = refl; a_struct = refl; a_pointer = refl; a_return = refl; resolved = refl; size = refl; align = refl; incomplete = refl; no_size = refl; name = refl; no_name = refl; path = refl; no_step = refl; no_member = refl; not_aggregate = refl; nothing_staged = refl }
+returns c = record { kind = refl; one_argument = refl; more_may_follow = refl; no_function = refl; no_type = refl; no_slot = refl; all_members = refl; second_member = refl; no_members = refl; negative = refl; an_array = refl; a_float = refl; a_struct = refl; a_pointer = refl; a_return = refl; resolved = refl; size = refl; align = refl; incomplete = refl; no_size = refl; name = refl; no_name = refl; pointer = refl; pointer_behind = refl; no_pointer = refl; pointer_to_nothing = refl; found = refl; not_found = refl; hidden = refl; no_name_at_all = refl; found_nowhere = refl; path = refl; no_step = refl; no_member = refl; not_aggregate = refl; nothing_staged = refl }

@@ -1,0 +1,67 @@
+//! What a slot keeps beside its dictionary, so that its questions are answered by looking up.
+ghost use Rattle.std.specs.Prelude.{◌≡◌, ◌⊎◌, None, Some, IfOk, IfErr, OnOk};
+ghost use Rattle.std.specs.Option.{ForSome};
+ghost use Rattle.ctf_library.specs.Fitting.{AreTablesOf, Serve, ServeParent};
+ghost use Rattle.ctf_model.specs.Refusals.{want_of_memory};
+ghost use Rattle.ctf_model.specs.Steps.{fault_over};
+ghost use Rattle.ctf_model.specs.declared.data_model.DataModel.TheVariants.{Lp64};
+
+use crate::slots::Slot;
+use ctf_layout::Layout;
+use ctf_model::{Fault, placeless};
+use ctf_names::NameIndex;
+use ctf_space::{Opened, Space};
+use std::alloc::{AllocError, Global};
+
+/// What the types of a dictionary come to, and its names, with those of its parent if it has one.
+#[derive(Drop)]
+pub struct Tables {
+    pub(crate) layout: Layout,
+    pub(crate) index: NameIndex,
+}
+
+impl Tables {
+    /// The tables of a dictionary without a parent.
+    pub(crate) fn build(alloc: Global, dictionary: &Opened) -> Result<Tables, AllocError>
+        requires { dictionary.now.model ≡ Lp64 }
+        ensures { IfOk result (λ t. AreTablesOf dictionary.now.lists None t) }
+    {
+        let space = Space::own(dictionary.view(), dictionary.model());
+        Ok(Tables {
+            layout: Layout::build(alloc, &space)?,
+            index: NameIndex::build(alloc, &space)?,
+        })
+    }
+
+    /// The tables of a space over the parent whose own tables these are, which it shares.
+    fn over(alloc: Global, space: &Space<'_>, parent: &Tables) -> Result<Tables, AllocError>
+        requires { ServeParent space.now parent.now }
+        ensures { IfOk result (λ t. Serve space.now t) }
+    {
+        Ok(Tables {
+            layout: Layout::over(alloc, space, &parent.layout)?,
+            index: NameIndex::over(alloc, space, &parent.index)?,
+        })
+    }
+}
+
+/// The tables of the dictionary of one slot over that of another as its parent, or the fault of
+/// such an import.
+pub(crate) fn tables_over(alloc: Global, child: &Slot, parent: &Slot) -> Result<Tables, Fault>
+    ensures ok { IfOk result (λ t. AreTablesOf child.now.dictionary.value.lists
+        (Some parent.now.dictionary.value.lists) t) }
+    ensures exact_ok { OnOk result (fault_over child.now.dictionary.value.lists
+        parent.now.dictionary.value.lists ≡ None) }
+    ensures exact_err { IfErr result (λ f. (f ≡ want_of_memory)
+        ⊎ (fault_over child.now.dictionary.value.lists parent.now.dictionary.value.lists
+        ≡ Some f)) }
+{
+    let model = child.dictionary.model();
+    match Space::over(child.dictionary.view(), parent.dictionary.view(), model) {
+        Ok(space) => match Tables::over(alloc, &space, &parent.tables) {
+            Ok(tables) => Ok(tables),
+            Err(AllocError) => Err(placeless(Fault::MEMORY)),
+        },
+        Err(fault) => Err(fault),
+    }
+}

@@ -1,0 +1,27 @@
+-- How much is left of its section where the entry of each symbol begins. The words are ours.
+use Rattle.std.specs.Prelude.{ℕ, ◌+◌, ◌-◌, ◌*◌, ◌/◌, ◌%◌, List, [], ◌∷◌, length, drop, slice_index, nat_lt, Option, Some, None, if◌then◌else◌}
+use Rattle.ctf_model.specs.Entries.{entry_len}
+use Rattle.ctf_model.specs.Header.{section}
+use Rattle.ctf_model.specs.Lists.{Lists}
+use Rattle.ctf_model.specs.Symbols.{Symbol, symbols, is_considered, is_object}
+use Rattle.ctf_model.specs.declared.sections.Section.TheVariants.{SObjects, SFunctions}
+
+-- of symbols that are numbered from n on, where this is left of both sections; 0 where a symbol has no entry
+unfoldable pub lefts_from : ℕ → List Symbol → List ℕ → List ℕ → List ℕ
+lefts_from n [] objects functions = []
+lefts_from n (x ∷ xs) objects functions =
+    if is_considered (n, x)
+    then (if is_object x then length objects ∷ lefts_from (n + 1) xs (drop 2 objects) functions else length functions ∷ lefts_from (n + 1) xs objects (drop (entry_len functions) functions))
+    else 0 ∷ lefts_from (n + 1) xs objects functions
+
+-- of all symbols
+abbrev pub lefts_of : Lists → List ℕ
+lefts_of s = lefts_from 0 (symbols s) (section s.ctf SObjects) (section s.ctf SFunctions)
+
+-- the end of a section that has so many bytes
+abbrev pub last_bytes : ℕ → List ℕ → List ℕ
+last_bytes n b = drop (length b - n) b
+
+-- what the symbol with a number stands for, if it is there
+abbrev pub sort_in : List ℕ → ℕ → Option ℕ
+sort_in sym number = if nat_lt number (length sym / 24) then Some (slice_index sym (24 * number + 4) % 16) else None
