@@ -28,3 +28,8 @@ pub mod Settled
 pub mod FigureAsks
 pub mod BoundedValues
 pub mod TextReading
+pub mod Alls
+pub mod DraftNumbers
+pub mod SoundDrafts
+pub mod UnderParents
+pub mod NextPlace

@@ -51,3 +51,12 @@ pub mod SymbolQuestions
 pub mod SymbolRows
 pub mod ParentRows
 pub mod KeyOrder
+pub mod Judgements
+pub mod NewTypes
+pub mod Drafts
+pub mod Placement
+pub mod Adders
+pub mod DraftChanges
+pub mod DraftRows
+pub mod Fitting
+pub mod DraftLaws

@@ -1,4 +1,17 @@
 //! Laws over the definitions alone. Each is the contract of a function that does nothing.
+ghost use Rattle.ctf_model.specs.DraftLaws.{
+  ChangesKeepSound,
+  EnumeratorsKeepSound,
+  LabelsKeepSound,
+  LifeKeepsSound,
+  MembersKeepSound,
+  NewDraftsAreSound,
+  PlacesAreNext,
+  SoundDraftsMissNone,
+  SoundDraftsNameShort,
+  SoundDraftsStayUnder,
+  TypesKeepSound,
+};
 ghost use Rattle.ctf_model.specs.FigureLaws.{
   FaultlessValuesAreBounded,
   FiguresAskByValue,
@@ -72,4 +85,29 @@ pub fn own_figures_are_their_rules()
 /// A parent's type comes to the same in a child's space as in the parent alone.
 pub fn parents_figures_are_their_own()
     ensures { ParentsFiguresAreTheirOwn }
+{}
+
+/// A new draft is sound, and so is what adders, discards and updates make of a sound one, in any
+/// order, whether they are refused or not.
+pub fn drafts_are_sound()
+    ensures created { NewDraftsAreSound }
+    ensures types { TypesKeepSound }
+    ensures members { MembersKeepSound }
+    ensures enumerators { EnumeratorsKeepSound }
+    ensures labels { LabelsKeepSound }
+    ensures life { LifeKeepsSound }
+    ensures changes { ChangesKeepSound }
+{}
+
+/// A sound draft names no type that is not there, so that its dictionary keeps the rule of
+/// references and can be imported over the draft's parent.
+pub fn sound_drafts_stay_under_their_parents()
+    ensures missing { SoundDraftsMissNone }
+    ensures short { SoundDraftsNameShort }
+    ensures under { SoundDraftsStayUnder }
+{}
+
+/// A member that states no offset stands at the next place that its alignment allows.
+pub fn members_stand_next()
+    ensures { PlacesAreNext }
 {}

@@ -1,5 +1,12 @@
 //! Worked rows: what the definitions say of small inputs. Each is the contract of a function that
 //! does nothing.
+ghost use Rattle.ctf_model.specs.DraftRows.{
+  DraftsLive,
+  EnumeratorsAndLabelsAreAdded,
+  MembersAreAdded,
+  MembersArePlaced,
+  TypesAreAdded,
+};
 ghost use Rattle.ctf_model.specs.FindRows.{NamesAreFound};
 ghost use Rattle.ctf_model.specs.FigureRows.{FiguresAre, FiguresOverParents, PathsLead};
 ghost use Rattle.ctf_model.specs.KindRows.{KindsDenote, KindsHaveFaults};
@@ -127,4 +134,29 @@ pub fn names_are_spelled()
 /// The same over a parent, and where none was imported.
 pub fn names_over_parents()
     ensures { NamesOverParents }
+{}
+
+/// What new drafts hold, and what is left of a draft after discards and updates.
+pub fn drafts_live()
+    ensures { DraftsLive }
+{}
+
+/// Which types a draft takes, and which numbers these get.
+pub fn types_are_added()
+    ensures { TypesAreAdded }
+{}
+
+/// Which members a draft takes, and why it refuses others.
+pub fn members_are_added()
+    ensures { MembersAreAdded }
+{}
+
+/// Where members stand that say no offset, and how large their structs are.
+pub fn members_are_placed()
+    ensures { MembersArePlaced }
+{}
+
+/// Which enumerators and labels a draft takes.
+pub fn enumerators_and_labels_are_added()
+    ensures { EnumeratorsAndLabelsAreAdded }
 {}

@@ -1,0 +1,29 @@
+-- What is among the first items of a list.
+use Rattle.std.proofs.Common.{◌≡◌, ℕ, zero, suc, ◌+◌, ◌<◌, Bool, true, false, List, [], ◌∷◌, length, map, take, get_or, refl, sym, ap, ◌∙◌, arith}
+use Rattle.std.specs.Prelude.{◌||◌}
+use Rattle.std.specs.List.{list_any}
+
+-- one that passes is among them
+pub any_at : {X Y : Type 0} (f : X → Y) (p : Y → Bool) (xs : List X) (i : ℕ) (x : X) → i < length xs → x ≡ get_or xs i x → p (f x) ≡ true → list_any p (map f xs) ≡ true
+any_at f p [] i x lt is h = absurd (omega (arith, lt))
+any_at f p (y ∷ xs) zero x lt is h = let here : p (f y) ≡ true = ap (λ z. p (f z)) (sym is) ∙ h in rw here refl
+any_at f p (y ∷ xs) (suc i) x lt is h = skip (p (f y)) (any_at f p xs i x (omega (arith, lt)) is h)
+  where
+    skip : (b : Bool) → list_any p (map f xs) ≡ true → (b || list_any p (map f xs)) ≡ true
+    skip true more = refl
+    skip false more = more
+
+-- one more that does not pass
+pub none_more : {X Y : Type 0} (f : X → Y) (p : Y → Bool) (xs : List X) (i : ℕ) (x : X) → i < length xs → x ≡ get_or xs i x → p (f x) ≡ false → list_any p (map f (take i xs)) ≡ false → list_any p (map f (take (i + 1) xs)) ≡ false
+none_more f p [] i x lt is h g = absurd (omega (arith, lt))
+none_more f p (y ∷ xs) zero x lt is h g = let here : p (f y) ≡ false = ap (λ z. p (f z)) (sym is) ∙ h in rw here refl
+none_more f p (y ∷ xs) (suc i) x lt is h g = at (p (f y)) g (none_more f p xs i x (omega (arith, lt)) is h)
+  where
+    at : (b : Bool) → (b || list_any p (map f (take i xs))) ≡ false → (list_any p (map f (take i xs)) ≡ false → list_any p (map f (take (i + 1) xs)) ≡ false) → (b || list_any p (map f (take (i + 1) xs))) ≡ false
+    at true g more = absurd cc
+    at false g more = more g
+
+-- one function after the other
+pub map_twice : {X Y Z : Type 0} (f : X → Y) (g : Y → Z) (xs : List X) → map g (map f xs) ≡ map (λ x. g (f x)) xs
+map_twice f g [] = refl
+map_twice f g (x ∷ xs) = ap (λ zs. g (f x) ∷ zs) (map_twice f g xs)

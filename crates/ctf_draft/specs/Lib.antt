@@ -1,0 +1,4 @@
+pub mod TypeView
+pub mod NewView
+pub mod LabelView
+pub mod DraftView

@@ -1,0 +1,150 @@
+//! What is added to a draft.
+ghost use Rattle.std.specs.Prelude.{◌≡◌, ◌⊎◌, length, map, Ok, Err, IfOk, IfErr, OnOk, OnErr};
+ghost use Rattle.std.specs.List.{list_any};
+ghost use Rattle.ctf_draft.specs.NewView.{new_body_of, new_of};
+ghost use Rattle.ctf_draft.specs.TypeView.{number_of};
+ghost use Rattle.ctf_model.specs.Adders.{against_type, add_label, add_type};
+ghost use Rattle.ctf_model.specs.Drafts.{is_absent as is_absent_in, is_unknown as is_unknown_in};
+ghost use Rattle.ctf_model.specs.Judgements.{first_met};
+ghost use Rattle.ctf_model.specs.NewTypes.{new_body, new_term};
+ghost use Rattle.ctf_model.specs.References.{references};
+ghost use Rattle.ctf_model.specs.Refusals.{want_of_memory};
+ghost use Rattle.ctf_model.specs.Shown.{list_length, shown};
+
+use crate::draft::Draft;
+use crate::naming::has_zero;
+use crate::new_types::{NewBody, NewType, made};
+use ctf_model::{Bytes, Fault, Place, TypeNum, placeless};
+
+/// As many types as a dictionary may have.
+const MOST_TYPES: usize = 32_766;
+
+/// As many members, enumerators or arguments as a type may have.
+const MOST_ITEMS: usize = 1023;
+
+impl Draft {
+    /// Whether no type has the number, of the draft or of its parent.
+    pub(crate) fn is_unknown(&self, n: TypeNum) -> bool
+        ensures { result ≡ is_unknown_in self.now.draft n.0 }
+    {
+        match n.place(self.parent.is_some()) {
+            Place::Nowhere => true,
+            Place::Own(i) => i >= self.types.len(),
+            Place::Parents(i) => match &self.parent {
+                Some(parent) => i >= parent.view().count(),
+                None => true,
+            },
+        }
+    }
+
+    /// The same, where 0 may stand for no type.
+    pub(crate) fn is_absent(&self, n: TypeNum) -> bool
+        ensures { result ≡ is_absent_in self.now.draft n.0 }
+    {
+        n.0 != 0 && self.is_unknown(n)
+    }
+
+    /// Whether one of the numbers names no type.
+    fn any_absent(&self, numbers: &[TypeNum]) -> bool
+        ensures { result ≡ list_any (is_absent_in self.now.draft) (map number_of numbers.now) }
+    {
+        for number in numbers {
+            if self.is_absent(*number) {
+                return true;
+            }
+        }
+        false
+    }
+
+    /// Whether a new type names one that is not there.
+    fn names_absent(&self, new: &NewBody) -> bool
+        ensures { result ≡ list_any (is_absent_in self.now.draft)
+            (references (new_body (new_body_of new.now))) }
+    {
+        match new {
+            NewBody::Reference(_, tnum) => self.is_absent(*tnum),
+            NewBody::Array(info) => self.is_absent(info.contents) || self.is_absent(info.index),
+            NewBody::Function(returned, arguments) => {
+                self.is_absent(*returned) || self.any_absent(arguments.as_slice())
+            }
+            _ => false,
+        }
+    }
+
+    /// Why a type is not added, if it isn't.
+    fn against_type(&self, new: &NewType) -> Option<Fault>
+        ensures { result ≡ first_met (against_type self.now.draft (new_term (new_of new.now))) }
+    {
+        if has_zero(new.name.as_slice()) {
+            return Some(placeless(Fault::NAME_HAS_ZERO));
+        }
+        if arguments_in(&new.body) > MOST_ITEMS {
+            return Some(placeless(Fault::VLEN_FULL));
+        }
+        if self.names_absent(&new.body) {
+            return Some(placeless(Fault::BAD_REF));
+        }
+        if self.types.len() >= MOST_TYPES {
+            return Some(placeless(Fault::FULL));
+        }
+        None
+    }
+
+    /// The number that the next type gets.
+    fn next_number(&self) -> TypeNum {
+        let first = if self.parent.is_some() { 0x8001 } else { 1 };
+        TypeNum(self.types.len() as u16 + first)
+    }
+
+    /// Adds a type behind the others, and answers its number.
+    #[tactic(auto, unfolding(ctf_model::specs::Adders::add_type))]
+    pub fn add(&mut self, new: NewType) -> Result<TypeNum, Fault>
+        ensures ok { IfOk result (λ n. add_type self.old.draft (new_of new)
+            ≡ Ok (record { draft = self.new.draft; answer = n.0 })) }
+        ensures exact_err { IfErr result (λ f. (f ≡ want_of_memory)
+            ⊎ (add_type self.old.draft (new_of new) ≡ Err f)) }
+        ensures as_before { OnErr result (self.new ≡ self.old) }
+        ensures dictionary { self.new.dictionary ≡ self.old.dictionary }
+    {
+        if let Some(fault) = self.against_type(&new) {
+            return Err(fault);
+        }
+        let number = self.next_number();
+        match self.types.push(made(self.alloc, new)) {
+            Ok(_) => Ok(number),
+            Err(_) => Err(placeless(Fault::MEMORY)),
+        }
+    }
+
+    /// Adds a label behind the others.
+    #[tactic(auto, unfolding(ctf_model::specs::Adders::add_label))]
+    pub fn label(&mut self, name: Bytes, last: u32) -> Result<(), Fault>
+        ensures ok { OnOk result (add_label self.old.draft (record { name = name; last = last })
+            ≡ Ok self.new.draft) }
+        ensures exact_err { IfErr result (λ f. (f ≡ want_of_memory)
+            ⊎ (add_label self.old.draft (record { name = name; last = last }) ≡ Err f)) }
+        ensures as_before { OnErr result (self.new ≡ self.old) }
+        ensures dictionary { self.new.dictionary ≡ self.old.dictionary }
+    {
+        if has_zero(name.as_slice()) {
+            return Err(placeless(Fault::NAME_HAS_ZERO));
+        }
+        if self.labels.has(name.as_slice()) {
+            return Err(placeless(Fault::DUPLICATE));
+        }
+        match self.labels.push(name.into_vec(), last) {
+            Ok(_) => Ok(()),
+            Err(_) => Err(placeless(Fault::MEMORY)),
+        }
+    }
+}
+
+/// How many arguments a new type has.
+fn arguments_in(new: &NewBody) -> usize
+    ensures { result ≡ list_length (shown (new_body (new_body_of new.now))) }
+{
+    match new {
+        NewBody::Function(_, arguments) => arguments.len(),
+        _ => 0,
+    }
+}

@@ -1,0 +1,181 @@
+//! A draft, and its life.
+ghost use Rattle.std.specs.Prelude.{◌≡◌, ◌⊎◌, ◌++◌, ◌==◌, not, is_some, length, map, None, Some, Ok, Err, IfOk, IfErr, option_map};
+ghost use Rattle.ctf_draft.specs.TypeView.{type_of};
+ghost use Rattle.ctf_model.specs.Dictionary.{Denotes, said_by};
+ghost use Rattle.ctf_model.specs.Drafts.{all_of, discarded, held, is_childs as is_childs_parent, new_draft, pending_count, settled};
+
+use crate::labels::Labels;
+use crate::naming::has_zero;
+use crate::types::DraftType;
+use ctf_model::{Bytes, DataModel, Fault, placeless};
+use ctf_space::Opened;
+use std::alloc::Global;
+use std::marker::Model;
+use std::rc::Rc;
+
+/// A dictionary that is being made: types and labels that the last update made part of it, and
+/// pending ones behind these. A contract sees which these are, and the dictionary that the last
+/// update made.
+#[derive(Drop)]
+pub struct Draft {
+    pub(crate) alloc: Global,
+    parname: Bytes,
+    parlabel: Bytes,
+    pub(crate) parent: Option<Rc<Opened>>,
+    model: DataModel,
+    dictionary: Option<Rc<Opened>>,
+    pub(crate) types: Vec<DraftType>,
+    pub(crate) updated: usize,
+    pub(crate) labels: Labels,
+    updated_labels: usize,
+}
+
+impl Model for Draft {
+    ghost use Rattle.std.specs.Prelude.{◌≤◌, length, map, option_map, vec_len};
+    ghost use Rattle.ctf_draft.specs.DraftView.{Owned, first_of, others_of};
+    ghost use Rattle.ctf_draft.specs.TypeView.{type_of};
+    ghost use Rattle.ctf_model.specs.Adders.{most_types};
+    ghost use Rattle.ctf_model.specs.Dictionary.{said_by};
+
+    ghost Value = { Owned };
+
+    ghost view = { λ d. record {
+      draft = record {
+        parname = d.parname;
+        parlabel = d.parlabel;
+        parent = option_map (λ p. said_by p.value.lists) d.parent;
+        model = d.model;
+        updated = first_of d.updated d.updated_labels (map type_of d.types.items) d.labels;
+        pending = others_of d.updated d.updated_labels (map type_of d.types.items) d.labels;
+      };
+      dictionary = option_map (λ p. p.value) d.dictionary;
+    } };
+
+    ghost invariant = { λ d. (d.updated ≤ vec_len d.types)
+        × (d.updated_labels ≤ length d.labels)
+        × (vec_len d.types ≤ most_types) };
+}
+
+impl Draft {
+    /// A draft with nothing in it. It has a parent just where that has a name, and keeps it for
+    /// good.
+    #[tactic(auto, unfolding(ctf_model::specs::Drafts::new_draft))]
+    pub fn new(
+        alloc: Global,
+        parent: Option<Rc<Opened>>,
+        parname: Bytes,
+        parlabel: Bytes,
+        model: DataModel,
+    ) -> Result<Draft, Fault>
+        requires named { is_some parent ≡ not (length parname == 0) }
+        ensures ok { IfOk result (λ d. (new_draft (option_map (λ p. said_by p.value.lists) parent)
+            parname parlabel model ≡ Ok d.draft) × (d.dictionary ≡ None)) }
+        ensures exact_err { IfErr result (λ f. new_draft
+            (option_map (λ p. said_by p.value.lists) parent) parname parlabel model ≡ Err f) }
+    {
+        if has_zero(parname.as_slice()) {
+            return Err(placeless(Fault::NAME_HAS_ZERO));
+        }
+        if has_zero(parlabel.as_slice()) {
+            return Err(placeless(Fault::NAME_HAS_ZERO));
+        }
+        if is_childs(&parent) {
+            return Err(placeless(Fault::PARENT_IS_CHILD));
+        }
+        Ok(Draft {
+            alloc,
+            parname,
+            parlabel,
+            parent,
+            model,
+            dictionary: None,
+            types: Vec::new(alloc),
+            updated: 0,
+            labels: Labels::new(alloc),
+            updated_labels: 0,
+        })
+    }
+
+    /// How many types and labels were added since the last update.
+    pub fn pending(&self) -> usize
+        ensures { result ≡ pending_count self.now.draft }
+    {
+        self.types.len() - self.updated + (self.labels.len() - self.updated_labels)
+    }
+
+    /// Drops what was added since the last update.
+    pub fn discard(&mut self)
+        ensures draft { self.new.draft ≡ discarded self.old.draft }
+        ensures dictionary { self.new.dictionary ≡ self.old.dictionary }
+    {
+        self.types.truncate(self.updated);
+        self.labels.truncate(self.updated_labels);
+    }
+
+    /// Makes all that was added part of the dictionary, which is the given one from now on.
+    pub fn settle(&mut self, dictionary: Rc<Opened>)
+        requires denotes { Denotes dictionary.value.lists (held self.old.draft) }
+        requires model { dictionary.value.model ≡ self.old.draft.model }
+        ensures draft { self.new.draft ≡ settled self.old.draft }
+        ensures dictionary { self.new.dictionary ≡ Some dictionary.value }
+    {
+        self.updated = self.types.len();
+        self.updated_labels = self.labels.len();
+        self.dictionary = Some(dictionary);
+    }
+
+    /// Its types, updated ones first.
+    pub fn types(&self) -> &[DraftType]
+        ensures { map type_of result.now ≡ (all_of self.now.draft).terms }
+    {
+        self.types.as_slice()
+    }
+
+    /// Its labels, updated ones first.
+    pub fn labels(&self) -> &Labels
+        ensures { result.now ≡ (all_of self.now.draft).labels }
+    {
+        &self.labels
+    }
+
+    pub fn parname(&self) -> &[u8]
+        ensures { result.now ≡ self.now.draft.parname }
+    {
+        self.parname.as_slice()
+    }
+
+    pub fn parlabel(&self) -> &[u8]
+        ensures { result.now ≡ self.now.draft.parlabel }
+    {
+        self.parlabel.as_slice()
+    }
+
+    pub fn parent(&self) -> Option<&Rc<Opened>>
+        ensures { option_map (λ p. said_by p.now.value.lists) result ≡ self.now.draft.parent }
+    {
+        self.parent.as_ref()
+    }
+
+    /// What the last update made; nothing before the first one.
+    pub fn dictionary(&self) -> Option<&Rc<Opened>>
+        ensures { option_map (λ p. p.now.value) result ≡ self.now.dictionary }
+    {
+        self.dictionary.as_ref()
+    }
+
+    pub fn model(&self) -> DataModel
+        ensures { result ≡ self.now.draft.model }
+    {
+        self.model
+    }
+}
+
+/// Whether a parent is a child itself.
+fn is_childs(parent: &Option<Rc<Opened>>) -> bool
+    ensures { result ≡ is_childs_parent (option_map (λ p. said_by p.value.lists) parent.now) }
+{
+    match parent {
+        Some(parent) => parent.view().child(),
+        None => false,
+    }
+}

@@ -1,0 +1,67 @@
+//! Labels of a draft, in the order in which they were added.
+ghost use Rattle.std.specs.Prelude.{◌≡◌, ◌++◌, [], ◌∷◌, false, length, map, take, OnOk, OnErr};
+ghost use Rattle.std.specs.List.{list_any};
+ghost use Rattle.std.specs.Str.{bytes_eq};
+
+use indexmap::IndexMap;
+use std::alloc::{AllocError, Global};
+use std::marker::Model;
+
+/// Names, and the last type that each covers. No name stands there twice.
+#[derive(Drop)]
+pub struct Labels {
+    map: IndexMap<Vec<u8>, u32>,
+}
+
+impl Model for Labels {
+    ghost use Rattle.std.specs.Prelude.{List};
+    ghost use Rattle.ctf_model.specs.Dictionary.{Label};
+    ghost use Rattle.ctf_draft.specs.LabelView.{labels_in};
+
+    ghost Value = { List Label };
+
+    ghost view = { λ l. labels_in l.map.entries };
+}
+
+impl Labels {
+    pub(crate) fn new(alloc: Global) -> Labels
+        ensures { result ≡ [] }
+    {
+        Labels {
+            map: IndexMap::new(alloc),
+        }
+    }
+
+    pub fn len(&self) -> usize
+        ensures { result ≡ length self.now }
+    {
+        self.map.len()
+    }
+
+    /// Whether a label has the name.
+    pub fn has(&self, name: &[u8]) -> bool
+        ensures { result ≡ list_any (bytes_eq name.now) (map (λ l. l.name) self.now) }
+    {
+        self.map.contains_key(name)
+    }
+
+    /// Adds a label behind the others, under a name that none has.
+    pub(crate) fn push(&mut self, name: Vec<u8>, last: u32) -> Result<(), AllocError>
+        requires fresh { list_any (bytes_eq name.items) (map (λ l. l.name) self.old) ≡ false }
+        ensures ok { OnOk result (self.new
+            ≡ self.old ++ (record { name = name.items; last = last }) ∷ []) }
+        ensures err { OnErr result (self.new ≡ self.old) }
+    {
+        match self.map.insert(name, last) {
+            Ok(_) => Ok(()),
+            Err(_) => Err(AllocError),
+        }
+    }
+
+    /// Keeps the first of them.
+    pub(crate) fn truncate(&mut self, len: usize)
+        ensures { self.new ≡ take len self.old }
+    {
+        self.map.truncate(len)
+    }
+}

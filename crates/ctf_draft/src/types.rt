@@ -1,0 +1,72 @@
+//! Types of a draft, which own their names and their lists.
+
+use ctf_model::{Bytes, TypeNum};
+use ctf_records::Tag;
+use ctf_views::{ArrayInfo, Encoding};
+
+/// A member of a struct or union.
+#[derive(Drop)]
+pub struct Member {
+    pub name: Bytes,
+    pub tnum: TypeNum,
+    /// Where it begins, in bits.
+    pub offset: u64,
+}
+
+/// A name for a value of an enum.
+#[derive(Drop)]
+pub struct Enumerator {
+    pub name: Bytes,
+    pub value: i32,
+}
+
+/// What a type with an encoding is.
+#[derive(Clone, Copy, Debug, PartialEq, Eq)]
+pub enum ScalarKind {
+    Integer,
+    Float,
+}
+
+/// What a type is of the one that it names.
+#[derive(Clone, Copy, Debug, PartialEq, Eq)]
+pub enum ReferenceKind {
+    Pointer,
+    Typedef,
+    Volatile,
+    Const,
+    Restrict,
+}
+
+/// What a type with members is.
+#[derive(Clone, Copy, Debug, PartialEq, Eq)]
+pub enum AggregateKind {
+    Struct,
+    Union,
+}
+
+/// What a type is, by its kind. Sizes are in bytes.
+#[derive(Drop)]
+pub enum Body {
+    Unknown,
+    /// Its size, and how its value is encoded.
+    Scalar(ScalarKind, u64, Encoding),
+    Reference(ReferenceKind, TypeNum),
+    /// It says no size.
+    Array(ArrayInfo),
+    /// What it returns, and its arguments; a last argument 0 says that more may follow.
+    Function(TypeNum, Vec<TypeNum>),
+    /// Its size and its members.
+    Aggregate(AggregateKind, u64, Vec<Member>),
+    /// Its size and its enumerators.
+    Enum(u64, Vec<Enumerator>),
+    Forward(Tag),
+}
+
+/// A type of a draft.
+#[derive(Drop)]
+pub struct DraftType {
+    pub name: Bytes,
+    /// Whether it is visible to look-ups by name.
+    pub root: bool,
+    pub body: Body,
+}

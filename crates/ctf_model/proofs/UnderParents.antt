@@ -1,0 +1,50 @@
+-- What a sound draft gives: it keeps the rule of references, and stays under its parent.
+use Rattle.std.proofs.Common.{◌≡◌, ℕ, ◌<◌, ◌≤◌, false, List, [], ◌∷◌, length, Option, Some, None, refl, subst, arith}
+use Rattle.std.specs.List.{AllByRecursion, flat_map, list_any}
+use Rattle.std.proofs.lemmas.Bool.{le-ltb}
+use Rattle.ctf_model.proofs.Alls.{all_joined, none_all, none_weaker}
+use Rattle.ctf_model.proofs.Anywhere.{all_map}
+use Rattle.ctf_model.proofs.DraftNumbers.{there_in_parent, there_low, there_not_missing}
+use Rattle.ctf_model.specs.Dictionary.{Dictionary}
+use Rattle.ctf_model.specs.DraftLaws.{IsSound, NamesThere}
+use Rattle.ctf_model.specs.Drafts.{Draft, held, is_absent, is_childs}
+use Rattle.ctf_model.specs.Needs.{greatest_in_parent, named_by, number_in_parent}
+use Rattle.ctf_model.specs.References.{is_missing, references}
+use Rattle.ctf_model.specs.Space.{import_fault}
+use Rattle.ctf_model.specs.Term.{Term}
+
+pub misses_none : (d : Draft) → IsSound d → AllByRecursion (λ x. list_any (is_missing (held d).child (length (held d).terms)) (references x.body) ≡ false) (held d).terms
+misses_none d ok = all_map (NamesThere d) (λ x. list_any (is_missing (held d).child (length (held d).terms)) (references x.body) ≡ false) (λ x h. none_weaker (is_absent d) (is_missing (held d).child (length (held d).terms)) (there_not_missing d) (references x.body) h) (held d).terms ok.all.named
+
+pub names_short : (d : Draft) → IsSound d → AllByRecursion (λ x. AllByRecursion (λ n. n < 0xffff) (references x.body)) (held d).terms
+names_short d ok = all_map (NamesThere d) (λ x. AllByRecursion (λ n. n < 0xffff) (references x.body)) (λ x h. none_all (is_absent d) (λ n. n < 0xffff) (λ n e. there_low d n ok.all.count e) (references x.body) h) (held d).terms ok.all.named
+
+-- ---- under a parent
+
+abbrev InParent : Dictionary → ℕ → Type 0
+InParent parent n = number_in_parent n ≤ length parent.terms
+
+greatest_low : (parent : Dictionary) (ns : List ℕ) → AllByRecursion (InParent parent) ns → greatest_in_parent ns ≤ length parent.terms
+unfolding greatest_in_parent
+greatest_low parent [] h = omega arith
+greatest_low parent (n ∷ ns) h = let more = greatest_low parent ns h.1 in let first = h.0 in omega arith
+
+flat_low : (parent : Dictionary) (xs : List Term) → AllByRecursion (λ x. AllByRecursion (InParent parent) (references x.body)) xs → AllByRecursion (InParent parent) (flat_map (λ x. references x.body) xs)
+flat_low parent [] h = tt
+flat_low parent (x ∷ xs) h = all_joined (InParent parent) (references x.body) (flat_map (λ x. references x.body) xs) h.0 (flat_low parent xs h.1)
+
+-- what its types name in the parent is there
+each_low : (d : Draft) (parent : Dictionary) → d.parent ≡ Some parent → (x : Term) → NamesThere d x → AllByRecursion (InParent parent) (references x.body)
+each_low d parent e x h = none_all (is_absent d) (InParent parent) (λ n g. there_in_parent (held d) parent n (rw e at g)) (references x.body) h
+
+low : (d : Draft) (parent : Dictionary) → IsSound d → d.parent ≡ Some parent → greatest_in_parent (named_by (held d)) ≤ length parent.terms
+low d parent ok e =
+    let each = all_map (NamesThere d) (λ x. AllByRecursion (InParent parent) (references x.body)) (each_low d parent e) (held d).terms ok.all.named in
+    let all = all_joined (InParent parent) (flat_map (λ x. references x.body) (held d).terms) [] (flat_low parent (held d).terms each) tt in
+    greatest_low parent (named_by (held d)) all
+
+pub stays_under : (d : Draft) (parent : Dictionary) → IsSound d → d.parent ≡ Some parent → import_fault (record { child = held d; parent = parent }) ≡ None
+stays_under d parent ok e =
+    let enough = le-ltb (length parent.terms) (greatest_in_parent (named_by (held d))) (low d parent ok e) in
+    let grown_up : is_childs (Some parent) ≡ false = subst (λ (q : Option Dictionary). is_childs q ≡ false) e ok.all.parent in
+    rw (e, grown_up, enough) refl
