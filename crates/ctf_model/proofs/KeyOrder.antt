@@ -14,7 +14,9 @@ use Rattle.ctf_model.specs.Figures.{align, referred, resolved, size}
 use Rattle.ctf_model.specs.KeyOrder.{item_in_order, in_order, IsInOrder, KeysRise}
 use Rattle.ctf_model.specs.Lists.{Lists}
 use Rattle.ctf_model.specs.Paths.{path}
-use Rattle.ctf_model.specs.Questions.{at_most, windowed, or_wrong_kind, as_fields, member_fields, member_item, enumerator_fields, enumerator_item, number_item, named_arguments, argument_fields, array_fields, encoding_fields, type_fields, size_fields, align_fields, name_fields, position_fields, said_on, said_of, whole_said}
+use Rattle.ctf_model.specs.Questions.{at_most, windowed, or_wrong_kind, as_fields, member_fields, member_item, enumerator_fields, enumerator_item, number_item, named_arguments, argument_fields, array_fields, encoding_fields, type_fields, size_fields, align_fields, name_fields, position_fields, said_on, said_of}
+use Rattle.ctf_model.specs.SlotAnswers.{symbol_fields, signature_fields, label_item, label_fields, last_fields, info_fields, whole_said}
+use Rattle.ctf_model.specs.SymbolQuestions.{symbol_found, object_of, function_of, label_of}
 use Rattle.ctf_model.specs.Shown.{Facts, facts, members_in, enumerators_in, arguments_in, array_in, encoding_in, list_length}
 use Rattle.ctf_model.specs.State.{State, Slot}
 use Rattle.ctf_model.specs.Steps.{change_step, with_slot, grants, slots_without, imports_unless, fault_over, stages, opens, opens_unless, has_room, accepts_unless, longest_list, slot_at, slot_space, said_by_slot}
@@ -109,6 +111,12 @@ of_type question s t (Err fault) = tt
 
 on_whole : (question : SlotQuestion) (s : Space) → IsInOrder (whole_said question s)
 on_whole (whole.Find written) s = figure type_fields (λ n. refl) (found s written)
+on_whole (whole.Symbol name) s = figure symbol_fields (λ e. refl) (symbol_found s.own name)
+on_whole (whole.Object n) s = figure type_fields (λ t. refl) (object_of s.own n)
+on_whole (whole.Function n) s = figure signature_fields (λ f. arguments_rise f.ret f.args) (function_of s.own n)
+on_whole (whole.Labels window) s = listed (windowed window (map label_item s.own.labels)) true (in_window window (map label_item s.own.labels) (each label_item (λ x. refl) s.own.labels)) refl
+on_whole (whole.Label name) s = figure last_fields (λ n. refl) (label_of s.own name)
+on_whole whole.Info s = refl
 
 of_slot : (question : Question) (slot : Option Slot) → IsInOrder (said_by_slot question slot)
 of_slot question None = tt

@@ -23,7 +23,7 @@ use Rattle.ctf_model.specs.declared.questions.SlotQuestion.TheVariants as whole
 use Rattle.ctf_model.specs.declared.questions.TypeQuestion.{TypeQuestion}
 use Rattle.ctf_model.specs.declared.questions.TypeQuestion.TheVariants as about
 use Rattle.ctf_model.specs.declared.words.Word.{Word}
-use Rattle.ctf_model.specs.declared.words.Word.TheVariants.{DoPart, DoCheck, DoOpen, DoClear, DoReset, DoClose, DoImport, DoKind, DoRecord, DoMembers, DoEnumerators, DoArgs, DoArray, DoEncoding, DoReference, DoResolve, DoSize, DoAlign, DoName, DoPointer, DoFind, DoPath}
+use Rattle.ctf_model.specs.declared.words.Word.TheVariants.{DoPart, DoCheck, DoOpen, DoClear, DoReset, DoClose, DoImport, DoKind, DoRecord, DoMembers, DoEnumerators, DoArgs, DoArray, DoEncoding, DoReference, DoResolve, DoSize, DoAlign, DoName, DoPointer, DoFind, DoPath, DoSymbol, DoObject, DoFunction, DoLabels, DoLabel, DoInfo}
 use Rattle.ctf_model.specs.Text.{bytes_spelled_by}
 use Rattle.ctf_model.specs.Words.{words, word_named, is_text}
 use Rattle.ctf_model.specs.declared.questions.Window.{Window}
@@ -108,9 +108,13 @@ not_too_many_names names = if nat_le (length names) longest_piece then Some name
 abbrev pub names_asked : Data → Option (List (List ℕ))
 names_asked line = option_and_then not_too_many_names (option_and_then names_spelled (option_and_then as_array (get (codes "names") line)))
 
--- the name that is looked up
-abbrev pub text_asked : Data → Option (List ℕ)
-text_asked line = option_and_then name_spelled (get (codes "text") line)
+-- the name that a field spells
+abbrev pub name_under : List ℕ → Data → Option (List ℕ)
+name_under key line = option_and_then name_spelled (get key line)
+
+-- the number of a symbol
+abbrev pub symbol_asked : Data → Option ℕ
+symbol_asked line = number_in 0 4294967295 (codes "sym") line
 
 abbrev pub part_asked : Data → Option Request
 part_asked line = option_and_then (λ list. option_map (λ bytes. Changes (change.Part list bytes)) (option_and_then bytes_spelled (text_in (codes "bytes") line))) (option_and_then list_named (text_in (codes "section") line))
@@ -143,8 +147,14 @@ asked_with line DoSize = about_type (Some about.Size) line
 asked_with line DoAlign = about_type (Some about.Align) line
 asked_with line DoName = about_type (Some about.Name) line
 asked_with line DoPointer = about_type (Some about.Pointer) line
-asked_with line DoFind = about_slot (option_map (λ written. whole.Find written) (text_asked line)) line
+asked_with line DoFind = about_slot (option_map (λ written. whole.Find written) (name_under (codes "text") line)) line
 asked_with line DoPath = about_type (option_map (λ names. about.Path names) (names_asked line)) line
+asked_with line DoSymbol = about_slot (option_map (λ name. whole.Symbol name) (name_under (codes "name") line)) line
+asked_with line DoObject = about_slot (option_map (λ number. whole.Object number) (symbol_asked line)) line
+asked_with line DoFunction = about_slot (option_map (λ number. whole.Function number) (symbol_asked line)) line
+asked_with line DoLabels = about_slot (option_map (λ window. whole.Labels window) (window_asked line)) line
+asked_with line DoLabel = about_slot (option_map (λ name. whole.Label name) (name_under (codes "name") line)) line
+asked_with line DoInfo = about_slot (Some whole.Info) line
 
 -- the word of a line
 abbrev pub word_asked : Data → Option Word

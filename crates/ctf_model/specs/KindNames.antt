@@ -1,9 +1,11 @@
--- The words for kinds and tags. Source: ours, after the names in sys/ctf.h.
+-- The words for kinds, tags and classes of symbols. Source: ours, after the names in sys/ctf.h.
 use Rattle.std.specs.Prelude.{ℕ, List, codes}
 use Rattle.ctf_model.specs.Term.{Tag}
 use Rattle.ctf_model.specs.Term as term
 use Rattle.ctf_model.specs.declared.kinds.Kind.{Kind}
 use Rattle.ctf_model.specs.declared.kinds.Kind.TheVariants.{KUnknown, KInteger, KFloat, KPointer, KArray, KFunction, KStruct, KUnion, KEnum, KForward, KTypedef, KVolatile, KConst, KRestrict}
+use Rattle.ctf_model.specs.declared.symbols.SymbolClass.{SymbolClass}
+use Rattle.ctf_model.specs.declared.symbols.SymbolClass.TheVariants.{Object, Function}
 
 abbrev pub name_of_kind : Kind → List ℕ
 name_of_kind KUnknown = codes "unknown"
@@ -25,3 +27,7 @@ abbrev pub name_of_tag : Tag → List ℕ
 name_of_tag term.struct_tag = codes "struct"
 name_of_tag term.union_tag = codes "union"
 name_of_tag term.enum_tag = codes "enum"
+
+abbrev pub name_of_class : SymbolClass → List ℕ
+name_of_class Object = codes "object"
+name_of_class Function = codes "function"

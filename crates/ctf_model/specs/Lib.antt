@@ -35,6 +35,8 @@ pub mod Found
 pub mod FindRows
 pub mod Words
 pub mod Questions
+pub mod SymbolQuestions
+pub mod SlotAnswers
 pub mod Text
 pub mod TextLaws
 pub mod Steps
@@ -47,7 +49,6 @@ pub mod Output
 pub mod Rows
 pub mod KindRows
 pub mod QuestionRows
-pub mod SymbolQuestions
 pub mod SymbolRows
 pub mod ParentRows
 pub mod KeyOrder

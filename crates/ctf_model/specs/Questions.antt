@@ -1,9 +1,9 @@
--- What a question is answered. Source: libctf(3LIB), ctf_type_kind, ctf_member_iter, ctf_enum_iter, ctf_func_args, ctf_array_info, ctf_type_encoding, ctf_type_reference, ctf_type_resolve, ctf_type_size, ctf_type_align, ctf_type_lname, ctf_type_pointer, ctf_lookup_by_name; the form of answers is ours.
+-- What a question is answered. Source: libctf(3LIB), ctf_type_kind, ctf_member_iter, ctf_enum_iter, ctf_func_args, ctf_array_info, ctf_type_encoding, ctf_type_reference, ctf_type_resolve, ctf_type_size, ctf_type_align, ctf_type_lname, ctf_type_pointer; the form of answers is ours.
 use Rattle.std.specs.Prelude.{ℕ, ◌-◌, ◌&&◌, ◌==◌, ◌++◌, nat_lt, Bool, List, [], ◌∷◌, length, map, take, drop, slice_index, option_and_then, Option, Some, None, Result, Ok, Err, codes, if◌then◌else◌}
 use Rattle.std.specs.Option.{option_map}
 use Rattle.ctf_model.specs.Answers.{Answer, Item, says, may_say, lists, entry, number, signed, truth, word, text, bare, object}
 use Rattle.ctf_model.specs.Figures.{align, referred, resolved, size}
-use Rattle.ctf_model.specs.Found.{found, pointer_to}
+use Rattle.ctf_model.specs.Found.{pointer_to}
 use Rattle.ctf_model.specs.KindNames.{name_of_kind, name_of_tag}
 use Rattle.ctf_model.specs.Paths.{Position, path}
 use Rattle.ctf_model.specs.Refusals.{placeless}
@@ -13,8 +13,6 @@ use Rattle.ctf_model.specs.Term.{Member, Enumerator, Term}
 use Rattle.ctf_model.specs.TypeNames.{spelled_name}
 use Rattle.ctf_model.specs.declared.faults.Fault.{Fault}
 use Rattle.ctf_model.specs.declared.faults.TheConstants.Fault.{WRONG_KIND}
-use Rattle.ctf_model.specs.declared.questions.SlotQuestion.{SlotQuestion}
-use Rattle.ctf_model.specs.declared.questions.SlotQuestion.TheVariants as whole
 use Rattle.ctf_model.specs.declared.questions.TypeQuestion.{TypeQuestion}
 use Rattle.ctf_model.specs.declared.questions.TypeQuestion.TheVariants as ask
 use Rattle.ctf_model.specs.declared.questions.Window.{Window}
@@ -135,9 +133,3 @@ said_of question s t (Err fault) = Err fault
 -- what a question on the type of a number is answered
 abbrev pub type_said : TypeQuestion → Space → ℕ → Result Answer Fault
 type_said question s t = said_of question s t (space_type s t)
-
--- ---- questions on a slot
-
--- what a question on a slot as a whole is answered
-abbrev pub whole_said : SlotQuestion → Space → Result Answer Fault
-whole_said (whole.Find written) s = as_fields type_fields (found s written)

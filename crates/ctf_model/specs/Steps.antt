@@ -8,7 +8,8 @@ use Rattle.ctf_model.specs.Faults.{first_fault}
 use Rattle.ctf_model.specs.Lists.{Lists}
 use Rattle.ctf_model.specs.Refusals.{placeless, want_of_memory}
 use Rattle.ctf_model.specs.State.{State, Slot, empty_state, empty_stage}
-use Rattle.ctf_model.specs.Questions.{type_said, whole_said}
+use Rattle.ctf_model.specs.Questions.{type_said}
+use Rattle.ctf_model.specs.SlotAnswers.{whole_said}
 use Rattle.ctf_model.specs.Space.{Space, import_fault}
 use Rattle.ctf_model.specs.declared.data_model.DataModel.TheVariants.{Lp64}
 use Rattle.ctf_model.specs.declared.faults.Fault.{Fault}
@@ -143,6 +144,7 @@ is_quiet_on _ = false
 
 abbrev pub is_quiet_whole : SlotQuestion → Bool
 is_quiet_whole (whole.Find written) = true
+is_quiet_whole _ = false
 
 abbrev pub is_quiet : Question → Bool
 is_quiet (OfType t question) = is_quiet_on question

@@ -53,12 +53,11 @@ abbrev pub entry_named : List Entry → List ℕ → Option Entry
 entry_named [] name = None
 entry_named (e ∷ es) name = if bytes_eq e.name name then Some e else entry_named es name
 
-abbrev pub number_of : Option Entry → Result ℕ Fault
-number_of None = Err (placeless NO_SYMBOL)
-number_of (Some e) = Ok e.number
+abbrev pub symbol_found : Dictionary → List ℕ → Result Entry Fault
+symbol_found d name = or_refused NO_SYMBOL (entry_named d.entries name)
 
 abbrev pub by_name : Dictionary → List ℕ → Result ℕ Fault
-by_name d name = number_of (entry_named d.entries name)
+by_name d name = or_refused NO_SYMBOL (option_map (λ e. e.number) (entry_named d.entries name))
 
 -- the last type of the first label of a name
 abbrev pub last_of_label : List Label → List ℕ → Option ℕ

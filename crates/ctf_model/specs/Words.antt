@@ -2,7 +2,7 @@
 use Rattle.std.specs.Prelude.{ℕ, List, [], ◌∷◌, Bool, Option, None, Some, nat_eq, codes, if◌then◌else◌}
 use Rattle.std.specs.Cmp.Lexicographic.{pointwise}
 use Rattle.ctf_model.specs.declared.words.Word.{Word}
-use Rattle.ctf_model.specs.declared.words.Word.TheVariants.{DoPart, DoCheck, DoOpen, DoClear, DoReset, DoClose, DoImport, DoKind, DoRecord, DoMembers, DoEnumerators, DoArgs, DoArray, DoEncoding, DoReference, DoResolve, DoSize, DoAlign, DoName, DoPointer, DoFind, DoPath}
+use Rattle.ctf_model.specs.declared.words.Word.TheVariants.{DoPart, DoCheck, DoOpen, DoClear, DoReset, DoClose, DoImport, DoKind, DoRecord, DoMembers, DoEnumerators, DoArgs, DoArray, DoEncoding, DoReference, DoResolve, DoSize, DoAlign, DoName, DoPointer, DoFind, DoPath, DoSymbol, DoObject, DoFunction, DoLabels, DoLabel, DoInfo}
 use Rattle.ctf_model.specs.declared.words.Written.{Written}
 
 -- every word, and how a line writes it
@@ -29,7 +29,13 @@ words =
     (DoName, codes "name") ∷
     (DoPointer, codes "pointer") ∷
     (DoFind, codes "find") ∷
-    (DoPath, codes "path") ∷ []
+    (DoPath, codes "path") ∷
+    (DoSymbol, codes "symbol") ∷
+    (DoObject, codes "object") ∷
+    (DoFunction, codes "function") ∷
+    (DoLabels, codes "labels") ∷
+    (DoLabel, codes "label") ∷
+    (DoInfo, codes "info") ∷ []
 
 -- two texts are the same
 abbrev pub is_text : List ℕ → List ℕ → Bool

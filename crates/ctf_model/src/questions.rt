@@ -51,6 +51,18 @@ pub enum TypeQuestion {
 pub enum SlotQuestion {
     /// The type that a written name finds, as `struct node *`.
     Find(Piece),
+    /// The symbol of a name, and whether it is an object or a function.
+    Symbol(Piece),
+    /// The type of the object with a symbol's number.
+    Object(u32),
+    /// What the function with a symbol's number returns and takes.
+    Function(u32),
+    /// Its labels.
+    Labels(Window),
+    /// The last type that the label of a name covers.
+    Label(Piece),
+    /// What it is as a whole.
+    Info,
 }
 
 /// A question to a slot.

@@ -27,6 +27,12 @@ pub enum Word {
     DoPointer,
     DoFind,
     DoPath,
+    DoSymbol,
+    DoObject,
+    DoFunction,
+    DoLabels,
+    DoLabel,
+    DoInfo,
 }
 
 /// A word and how a line writes it.
@@ -45,7 +51,7 @@ fn row(word: Word, text: &'static str) -> Written
 
 /// Every word.
 #[tactic(auto, unfolding(crate::specs::Words::words))]
-fn words() -> [Written; 22]
+fn words() -> [Written; 28]
     ensures { map row_of result ≡ all_words }
 {
     [
@@ -71,6 +77,12 @@ fn words() -> [Written; 22]
         row(Word::DoPointer, "pointer"),
         row(Word::DoFind, "find"),
         row(Word::DoPath, "path"),
+        row(Word::DoSymbol, "symbol"),
+        row(Word::DoObject, "object"),
+        row(Word::DoFunction, "function"),
+        row(Word::DoLabels, "labels"),
+        row(Word::DoLabel, "label"),
+        row(Word::DoInfo, "info"),
     ]
 }
 
