@@ -2,11 +2,12 @@
 use Rattle.std.specs.Prelude.{List, [], ◌∷◌, map}
 use Rattle.ctf_model.specs.Answers as answers
 use Rattle.ctf_model.specs.Questions.{member_item, enumerator_item, number_item}
+use Rattle.ctf_model.specs.SlotAnswers.{label_item}
 use Rattle.ctf_answers.specs.Singles.{single_of, entry_of}
 use Rattle.ctf_answers.specs.declared.items.Item.{Item}
 use Rattle.ctf_answers.specs.declared.items.Item.TheVariants.{Bare, Two, Three}
 use Rattle.ctf_answers.specs.declared.items.Items.{Items}
-use Rattle.ctf_answers.specs.declared.items.Items.TheVariants.{Members, Enumerators, Arguments}
+use Rattle.ctf_answers.specs.declared.items.Items.TheVariants.{Members, Enumerators, Arguments, Labels}
 
 abbrev pub item_of : Item → answers.Item
 item_of (Bare value) = answers.bare (single_of value)
@@ -18,3 +19,4 @@ abbrev pub items_of : Items → List answers.Item
 items_of (Members ms) = map member_item ms
 items_of (Enumerators es) = map enumerator_item es
 items_of (Arguments args) = map number_item args
+items_of (Labels labels) = map label_item labels

@@ -2,12 +2,13 @@
 ghost use Rattle.std.specs.Prelude.{◌≡◌, ◌<◌, length, Some, slice_get};
 ghost use Rattle.ctf_model.specs.Answers.{entry as said_entry};
 ghost use Rattle.ctf_model.specs.Questions.{member_item as said_member, enumerator_item as said_enumerator};
-ghost use Rattle.ctf_views.specs.ItemsView.{member as member_seen, enumerator as enumerator_seen};
+ghost use Rattle.ctf_model.specs.SlotAnswers.{label_item as said_label};
+ghost use Rattle.ctf_views.specs.ItemsView.{member as member_seen, enumerator as enumerator_seen, label as label_seen};
 ghost use Rattle.ctf_answers.specs.Singles.{single_of, entry_of};
 ghost use Rattle.ctf_answers.specs.Items.{item_of, items_of};
 
 use crate::singles::{Entry, Single};
-use ctf_views::{Args, Enumerator, Enumerators, Member, Members};
+use ctf_views::{Args, Enumerator, Enumerators, Label, Labels, Member, Members};
 
 /// An item of a list: a value by itself, or an object of two or three parts.
 #[derive(Clone, Copy)]
@@ -23,6 +24,7 @@ pub enum Items<'a> {
     Members(Members<'a>),
     Enumerators(Enumerators<'a>),
     Arguments(Args<'a>),
+    Labels(Labels<'a>),
 }
 
 fn entry<'a>(key: &'static str, value: Single<'a>) -> Entry<'a>
@@ -50,6 +52,15 @@ fn enumerator_item<'a>(enumerator: Enumerator<'a>) -> Item<'a>
     )
 }
 
+fn label_item<'a>(label: Label<'a>) -> Item<'a>
+    ensures { item_of result ≡ said_label (label_seen label.entry) }
+{
+    Item::Two(
+        entry("last", Single::Number(u64::from(label.last))),
+        entry("name", Single::Text(label.name)),
+    )
+}
+
 impl<'a> Items<'a> {
     pub fn len(&self) -> usize
         ensures { result ≡ length (items_of self.now) }
@@ -58,6 +69,7 @@ impl<'a> Items<'a> {
             Items::Members(members) => members.len(),
             Items::Enumerators(enumerators) => enumerators.len(),
             Items::Arguments(args) => args.len(),
+            Items::Labels(labels) => labels.len(),
         }
     }
 
@@ -72,6 +84,7 @@ impl<'a> Items<'a> {
             Items::Arguments(args) => {
                 Item::Bare(Single::Number(u64::from(args.get(index).unwrap().0)))
             }
+            Items::Labels(labels) => label_item(labels.get(index).unwrap()),
         }
     }
 }

@@ -1,9 +1,9 @@
-//! The words for kinds and tags.
+//! The words for kinds, tags and classes of symbols.
 ghost use Rattle.std.specs.Prelude.{◌≡◌};
-ghost use Rattle.ctf_model.specs.KindNames.{name_of_kind, name_of_tag};
+ghost use Rattle.ctf_model.specs.KindNames.{name_of_kind, name_of_tag, name_of_class};
 ghost use Rattle.ctf_records.specs.RecordView.{tag_of};
 
-use ctf_model::Kind;
+use ctf_model::{Kind, SymbolClass};
 use ctf_records::Tag;
 
 pub fn kind_name(kind: Kind) -> &'static str
@@ -34,5 +34,14 @@ pub fn tag_name(tag: Tag) -> &'static str
         Tag::Struct => "struct",
         Tag::Union => "union",
         Tag::Enum => "enum",
+    }
+}
+
+pub fn class_name(class: SymbolClass) -> &'static str
+    ensures { result.now ≡ name_of_class class }
+{
+    match class {
+        SymbolClass::Object => "object",
+        SymbolClass::Function => "function",
     }
 }

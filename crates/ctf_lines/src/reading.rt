@@ -1,7 +1,7 @@
 //! Reads the request of a line.
 ghost use Rattle.std.specs.Prelude.{◌≡◌, ◌≢◌, ◌≤◌, IfSome, Option, None, Some, IfOk, IfErr, Ok, Err, codes, option_map};
 ghost use Rattle.serde_json.specs.View.{view};
-ghost use Rattle.ctf_model.specs.Ask.{ask, number_in, text_in, list_named, slot_under as slot_named, slot_in, type_in, close_asked, import_asked, about_type as type_question_asked, about_slot as slot_question_asked, text_asked, from_asked, count_asked, window_asked, names_asked, part_asked, word_asked, asked_with, request_asked, value_asked};
+ghost use Rattle.ctf_model.specs.Ask.{ask, number_in, text_in, list_named, slot_under as slot_named, slot_in, type_in, close_asked, import_asked, about_type as type_question_asked, about_slot as slot_question_asked, name_under as name_asked, symbol_asked, from_asked, count_asked, window_asked, names_asked, part_asked, word_asked, asked_with, request_asked, value_asked};
 ghost use Rattle.ctf_model.specs.Refusals.{placeless};
 ghost use Rattle.ctf_model.specs.declared.faults.TheConstants.Fault.{MEMORY};
 ghost use Rattle.ctf_model.specs.declared.questions.SlotQuestion.TheVariants as whole;
@@ -10,7 +10,7 @@ ghost use Rattle.ctf_model.specs.declared.questions.TypeQuestion.TheVariants as 
 use crate::lines::FromLine;
 use crate::spelled::{name, names, piece};
 use ctf_model::{
-    Change, Fault, ListName, Names, Question, Request, SlotNumber, SlotQuestion, TypeNum,
+    Change, Fault, ListName, Names, Piece, Question, Request, SlotNumber, SlotQuestion, TypeNum,
     TypeQuestion, Window, Word, placeless,
 };
 use serde_json::Value;
@@ -123,6 +123,12 @@ fn read_word(alloc: Global, value: &Value, word: Word) -> Result<Option<Request>
         Word::DoPointer => Ok(about_type(value, Some(TypeQuestion::Pointer))),
         Word::DoFind => Ok(about_slot(value, find(alloc, value)?)),
         Word::DoPath => Ok(about_type(value, path(alloc, value)?)),
+        Word::DoSymbol => Ok(about_slot(value, symbol(alloc, value)?)),
+        Word::DoObject => Ok(about_slot(value, object(value))),
+        Word::DoFunction => Ok(about_slot(value, function(value))),
+        Word::DoLabels => Ok(about_slot(value, labels(value))),
+        Word::DoLabel => Ok(about_slot(value, label(alloc, value)?)),
+        Word::DoInfo => Ok(about_slot(value, Some(SlotQuestion::Info))),
     }
 }
 
@@ -226,17 +232,71 @@ fn names_under(alloc: Global, value: &Value) -> Result<Option<Names>, AllocError
     }
 }
 
+/// The name that a field spells.
+fn name_under(alloc: Global, value: &Value, key: &str) -> Result<Option<Piece>, AllocError>
+    ensures { IfOk result (λ name. name ≡ name_asked key.now (view value.now)) }
+{
+    match value.get(key) {
+        Some(spelled) => name(alloc, spelled),
+        None => Ok(None),
+    }
+}
+
 fn find(alloc: Global, value: &Value) -> Result<Option<SlotQuestion>, AllocError>
     ensures { IfOk result (λ question. question
-        ≡ option_map (λ written. whole.Find written) (text_asked (view value.now))) }
+        ≡ option_map (λ written. whole.Find written)
+        (name_asked (codes "text") (view value.now))) }
 {
-    let Some(text) = value.get("text") else {
-        return Ok(None);
-    };
-    match name(alloc, text)? {
+    match name_under(alloc, value, "text")? {
         Some(written) => Ok(Some(SlotQuestion::Find(written))),
         None => Ok(None),
     }
+}
+
+fn symbol(alloc: Global, value: &Value) -> Result<Option<SlotQuestion>, AllocError>
+    ensures { IfOk result (λ question. question
+        ≡ option_map (λ name. whole.Symbol name) (name_asked (codes "name") (view value.now))) }
+{
+    match name_under(alloc, value, "name")? {
+        Some(name) => Ok(Some(SlotQuestion::Symbol(name))),
+        None => Ok(None),
+    }
+}
+
+fn label(alloc: Global, value: &Value) -> Result<Option<SlotQuestion>, AllocError>
+    ensures { IfOk result (λ question. question
+        ≡ option_map (λ name. whole.Label name) (name_asked (codes "name") (view value.now))) }
+{
+    match name_under(alloc, value, "name")? {
+        Some(name) => Ok(Some(SlotQuestion::Label(name))),
+        None => Ok(None),
+    }
+}
+
+/// The number of a symbol.
+fn symbol_number(value: &Value) -> Option<u32>
+    ensures { result ≡ symbol_asked (view value.now) }
+{
+    Some(number(value, "sym", 0, u64::from(u32::MAX))? as u32)
+}
+
+fn object(value: &Value) -> Option<SlotQuestion>
+    ensures { result ≡ option_map (λ number. whole.Object number) (symbol_asked (view value.now)) }
+{
+    Some(SlotQuestion::Object(symbol_number(value)?))
+}
+
+fn function(value: &Value) -> Option<SlotQuestion>
+    ensures { result
+        ≡ option_map (λ number. whole.Function number) (symbol_asked (view value.now)) }
+{
+    Some(SlotQuestion::Function(symbol_number(value)?))
+}
+
+fn labels(value: &Value) -> Option<SlotQuestion>
+    ensures { result ≡ option_map (λ window. whole.Labels window) (window_asked (view value.now)) }
+{
+    Some(SlotQuestion::Labels(window(value)?))
 }
 
 /// A question on a slot as a whole, where its own fields are good.
