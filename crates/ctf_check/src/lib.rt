@@ -7,6 +7,7 @@ mod facts;
 mod heads;
 mod judge;
 mod judging;
+mod labels;
 mod lists;
 mod names;
 mod needs;

@@ -1,1 +1,3 @@
+pub mod Fitting
 pub mod Kept
+pub mod NamedView

@@ -3,7 +3,9 @@
 
 mod building;
 mod map;
+mod named;
 mod names;
 
 pub use map::SymbolMap;
+pub use named::NamedSymbol;
 pub use names::symbol_name;

@@ -2,31 +2,26 @@
 ghost use Rattle.std.specs.Prelude.{◌≡◌, ℕ, List, Option, IfOk, unwrap_or, slice_get};
 ghost use Rattle.std.specs.Option.{option_map};
 ghost use Rattle.std.specs.Result.{result_map_both};
-ghost use Rattle.ctf_model.specs.SymbolQuestions.{function_of, object_of};
-ghost use Rattle.ctf_model.specs.Symbols.{symbol_of, symbols_of};
+ghost use Rattle.ctf_model.specs.SymbolQuestions.{by_name, entry_named, function_of, label_of, object_of};
+ghost use Rattle.ctf_model.specs.Entries.{class_told, owner_of};
 ghost use Rattle.ctf_check.specs.CheckedView.{dictionary_of, lists_of};
+ghost use Rattle.ctf_entries.specs.EntriesView.{told_in};
 ghost use Rattle.ctf_entries.specs.FunctionView.{signature};
-ghost use Rattle.ctf_symbols.specs.Kept.{last_bytes, lefts_of, sort_in};
+ghost use Rattle.ctf_symbols.specs.Fitting.{Fits};
+ghost use Rattle.ctf_symbols.specs.Kept.{last_bytes, sort_in};
+ghost use Rattle.ctf_symbols.specs.NamedView.{owner_named};
 
 use crate::building::lefts;
+use crate::named::NamedSymbol;
 use ctf_check::Checked;
-use ctf_entries::{Signature, SymbolNames, signature_of, type_in};
-use ctf_model::{Fault, TypeNum, placeless};
+use ctf_entries::{Signature, SymbolNames, Told, signature_of, type_in};
+use ctf_model::{Fault, SymbolClass, TypeNum, placeless};
 use std::alloc::{AllocError, Global};
-use std::marker::Model;
 
 /// Where the entry of each symbol begins: plain numbers, which borrow nothing, four bytes a symbol.
 #[derive(Drop)]
 pub struct SymbolMap {
     lefts: Vec<u32>,
-}
-
-impl Model for SymbolMap {
-    ghost use Rattle.std.specs.Prelude.{ℕ, List};
-
-    ghost Value = { List ℕ };
-
-    ghost view = { λ m. m.lefts.items };
 }
 
 /// The last bytes of a section; all where it has fewer.
@@ -49,10 +44,20 @@ fn sort_of(sym: &[u8], number: u32) -> Option<u8>
     }
 }
 
+/// What an entry tells of.
+fn class_of(told: &Told<'_>) -> SymbolClass
+    ensures { result ≡ class_told (told_in told.now) }
+{
+    match told {
+        Told::Object(_) => SymbolClass::Object,
+        Told::Function(_) => SymbolClass::Function,
+    }
+}
+
 impl SymbolMap {
     /// The map of a dictionary. Reads each symbol and each entry once.
     pub fn build(alloc: Global, dictionary: &Checked<'_>) -> Result<SymbolMap, AllocError>
-        ensures { IfOk result (λ m. m ≡ lefts_of (lists_of dictionary.now)) }
+        ensures { IfOk result (λ m. Fits (lists_of dictionary.now) m) }
     {
         let parts = dictionary.symbol_parts();
         let names = SymbolNames::new(parts.strs);
@@ -62,7 +67,7 @@ impl SymbolMap {
 
     /// How much is left of its section where the entry of a symbol begins.
     fn left(&self, number: u32) -> u32
-        ensures { result ≡ unwrap_or (slice_get self.now number) 0 }
+        ensures { result ≡ unwrap_or (slice_get self.now.lefts.items number) 0 }
     {
         match self.lefts.get(number as usize) {
             Some(left) => *left,
@@ -74,7 +79,7 @@ impl SymbolMap {
     ///
     /// Refused as NoSymbol (34), NotData (35) and NoInfo (37), in this order.
     pub fn object(&self, dictionary: &Checked<'_>, number: u32) -> Result<TypeNum, Fault>
-        requires fits { self.now ≡ lefts_of (lists_of dictionary.now) }
+        requires fits { Fits (lists_of dictionary.now) self.now }
         ensures { result_map_both (λ t. t.0) (λ f. f) result
             ≡ object_of (dictionary_of dictionary.now) number }
     {
@@ -100,7 +105,7 @@ impl SymbolMap {
         dictionary: &Checked<'a>,
         number: u32,
     ) -> Result<Signature<'a>, Fault>
-        requires fits { self.now ≡ lefts_of (lists_of dictionary.now) }
+        requires fits { Fits (lists_of dictionary.now) self.now }
         ensures { result_map_both signature (λ f. f) result
             ≡ function_of (dictionary_of dictionary.now) number }
     {
@@ -116,5 +121,47 @@ impl SymbolMap {
             Some(found) => Ok(found),
             None => Err(placeless(Fault::NO_INFO)),
         }
+    }
+
+    /// The first considered symbol of a name.
+    pub fn named(&self, dictionary: &Checked<'_>, name: &[u8]) -> Option<NamedSymbol>
+        requires fits { Fits (lists_of dictionary.now) self.now }
+        ensures { option_map (owner_named name.now) result ≡ option_map owner_of
+            (entry_named (dictionary_of dictionary.now).entries name.now) }
+    {
+        for entry in dictionary.entries() {
+            if entry.symbol.name() == name {
+                let class = class_of(&entry.told);
+                return Some(NamedSymbol {
+                    number: entry.number,
+                    class,
+                });
+            }
+        }
+        None
+    }
+
+    /// The number of the first considered symbol of a name. Refused as NoSymbol (34).
+    pub fn by_name(&self, dictionary: &Checked<'_>, name: &[u8]) -> Result<u32, Fault>
+        requires fits { Fits (lists_of dictionary.now) self.now }
+        ensures { result ≡ by_name (dictionary_of dictionary.now) name.now }
+    {
+        match self.named(dictionary, name) {
+            Some(found) => Ok(found.number),
+            None => Err(placeless(Fault::NO_SYMBOL)),
+        }
+    }
+
+    /// The last type of the first label of a name. Refused as NoLabel (38).
+    pub fn label(&self, dictionary: &Checked<'_>, name: &[u8]) -> Result<u32, Fault>
+        requires fits { Fits (lists_of dictionary.now) self.now }
+        ensures { result ≡ label_of (dictionary_of dictionary.now) name.now }
+    {
+        for label in dictionary.labels() {
+            if label.name == name {
+                return Ok(label.last);
+            }
+        }
+        Err(placeless(Fault::NO_LABEL))
     }
 }

@@ -1,3 +1,4 @@
 pub mod Items
+pub mod Labelled
 pub mod Named
 pub mod Shows

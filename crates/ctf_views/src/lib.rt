@@ -3,6 +3,7 @@
 
 mod args;
 mod enumerators;
+mod labels;
 mod members;
 mod parts;
 mod reading;
@@ -12,6 +13,7 @@ mod shown;
 
 pub use args::{Args, arguments};
 pub use enumerators::{Enumerator, Enumerators};
+pub use labels::{Label, Labels, read_labels};
 pub use members::{Member, Members};
 pub use parts::{ArrayInfo, Encoding};
 pub use reading::variant;

@@ -1,4 +1,3 @@
-use Rattle.std.proofs.Common.{refl}
 use Rattle.ctf_check.proofs.Described.{referred_name}
 use Rattle.ctf_check.proofs.typed.Typed.name_reference.Goals as goal
 

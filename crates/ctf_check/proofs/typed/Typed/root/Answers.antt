@@ -1,4 +1,3 @@
-use Rattle.std.proofs.Common.{refl}
 use Rattle.ctf_check.proofs.Described.{root_said}
 use Rattle.ctf_check.proofs.typed.Typed.root.Goals as goal
 

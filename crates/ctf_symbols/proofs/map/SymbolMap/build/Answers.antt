@@ -4,4 +4,4 @@ use Rattle.ctf_symbols.proofs.Answering.{lefts_are}
 use Rattle.ctf_symbols.proofs.map.SymbolMap.build.Goals as goal
 
 pub returns : goal.returns
-returns c = c.in_ok-lefts.ensures ∙ lefts_are (lists_of c.args.dictionary.now) _ _ _ _ _ c.new-names.ensures c.symbol_parts-parts.ensures.strs c.symbol_parts-parts.ensures.sym c.symbol_parts-parts.ensures.objects c.symbol_parts-parts.ensures.functions
+returns c = record { places = c.in_ok-lefts.ensures ∙ lefts_are (lists_of c.args.dictionary.now) _ _ _ _ _ c.new-names.ensures c.symbol_parts-parts.ensures.strs c.symbol_parts-parts.ensures.sym c.symbol_parts-parts.ensures.objects c.symbol_parts-parts.ensures.functions }

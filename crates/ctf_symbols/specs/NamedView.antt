@@ -1,0 +1,8 @@
+-- What a symbol shows that was found by its name.
+use Rattle.std.specs.Prelude.{ℕ, List}
+use Rattle.ctf_model.specs.Entries.{Owner}
+use Rattle.ctf_symbols.specs.declared.named.NamedSymbol.{NamedSymbol}
+
+-- it owns an entry, with the name that was looked for
+abbrev pub owner_named : List ℕ → NamedSymbol → Owner
+owner_named name x = record { number = x.number; name = name; class = x.class }

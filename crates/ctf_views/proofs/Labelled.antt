@@ -1,0 +1,26 @@
+-- Bytes that are labels are rows of labels.
+use Rattle.std.proofs.Common.{◌≡◌, ℕ, zero, suc, ◌/◌, List, [], ◌∷◌, length, drop, Option, Some, None, refl, arith}
+use Rattle.std.specs.Prelude.{unwrap_or}
+use Rattle.std.specs.Option.{option_map}
+use Rattle.ctf_model.specs.Bytes.{u32_at}
+use Rattle.ctf_model.specs.Dictionary.{AreLabels, Label, labels_in}
+use Rattle.ctf_model.specs.Name.{Tables, name}
+use Rattle.ctf_model.specs.Spelling.{◌>>=◌, items}
+use Rattle.ctf_views.specs.LabelRows.{label_of}
+use Rattle.ctf_views.specs.Lists.{AreGood}
+
+one_more : (text : Option (List ℕ)) (last : ℕ) (others : Option (List Label)) (xs : List Label) → text ≡ Some (unwrap_or text []) → others ≡ Some xs
+    → (option_map (λ t. record { name = t; last = last }) text >>= (λ first. others >>= (λ rest. Some (first ∷ rest)))) ≡ Some (record { name = unwrap_or text []; last = last } ∷ xs)
+one_more None last others xs e f = absurd cc
+one_more (Some x) last others xs e f = rw f refl
+
+read : (t : Tables) (n : ℕ) (b : List ℕ) → AreLabels t b (labels_in t n b) → items (label_of t) 8 n b ≡ Some (labels_in t n b)
+unfolding labels_in
+read t zero b h = refl
+read t (suc n) b h = one_more (name t (u32_at b 0)) (u32_at b 4) (items (label_of t) 8 n (drop 8 b)) (labels_in t n (drop 8 b)) h.1 (read t n (drop 8 b) h.3)
+
+pub labels_read : (t : Tables) (b : List ℕ) → AreLabels t b (labels_in t (length b / 8) b) → items (label_of t) 8 (length b / 8) b ≡ Some (labels_in t (length b / 8) b)
+labels_read t b h = read t (length b / 8) b h
+
+pub labels_good : (t : Tables) (b : List ℕ) → AreLabels t b (labels_in t (length b / 8) b) → AreGood (label_of t) 8 (length b / 8) b
+labels_good t b h = record { inside = omega arith; good = rw (labels_read t b h) refl }

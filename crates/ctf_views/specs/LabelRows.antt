@@ -1,0 +1,10 @@
+-- The label that eight bytes are, if its name is there. The word is ours, over the reading in Dictionary.antt of ctf_model.
+use Rattle.std.specs.Prelude.{ℕ, List, Option}
+use Rattle.std.specs.Option.{option_map}
+use Rattle.ctf_model.specs.Bytes.{u32_at}
+use Rattle.ctf_model.specs.Dictionary.{Label}
+use Rattle.ctf_model.specs.Name.{Tables, name}
+
+-- its name, and its last type
+abbrev pub label_of : Tables → List ℕ → Option Label
+label_of t b = option_map (λ text. record { name = text; last = u32_at b 4 }) (name t (u32_at b 0))

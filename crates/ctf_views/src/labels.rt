@@ -1,0 +1,72 @@
+//! The labels of a dictionary.
+ghost use Rattle.std.specs.Prelude.{◌≡◌, ◌/◌, length};
+ghost use Rattle.ctf_model.specs.Dictionary.{AreLabels, labels_in};
+ghost use Rattle.ctf_sections.specs.StringsView.{tables};
+ghost use Rattle.ctf_views.specs.ItemsView.{label};
+ghost use Rattle.ctf_views.specs.LabelRows.{label_of};
+
+use crate::row::Row;
+use crate::rows::Rows;
+use ctf_sections::Strings;
+use ctf_sections::bytes::u32_at;
+use std::marker::Model;
+
+/// A label: a mark on a dictionary, and the last type that it covers.
+#[derive(Clone, Copy, Debug, PartialEq, Eq)]
+pub struct Label<'a> {
+    pub name: &'a [u8],
+    pub last: u32,
+}
+
+/// Stands in contracts for a label of the definitions. No value of it is made.
+pub struct SaidLabel(u32);
+
+impl Model for SaidLabel {
+    ghost use Rattle.std.specs.Prelude.{[]};
+    ghost use Rattle.ctf_model.specs.Dictionary.{Label as Said};
+
+    ghost Value = { Said };
+
+    ghost view = { λ it. record { name = []; last = it.0 } };
+}
+
+/// A label has the reference to its name, and its last type.
+#[derive(Clone, Copy)]
+pub struct LabelRow<'a> {
+    pub(crate) strings: Strings<'a>,
+}
+
+impl<'a> Row for LabelRow<'a> {
+    type Item = Label<'a>;
+
+    type Shown = SaidLabel;
+
+    ghost row_len = { λ row. 8 };
+
+    ghost item_of = { λ row. label_of (tables row.strings) };
+
+    ghost seen = { label };
+
+    fn len(&self) -> usize {
+        8
+    }
+
+    fn first(&self, bytes: &[u8]) -> Label<'a> {
+        Label {
+            name: self.strings.name(u32_at(bytes, 0)).unwrap(),
+            last: u32_at(bytes, 4),
+        }
+    }
+}
+
+/// The labels of a dictionary that are left.
+pub type Labels<'a> = Rows<'a, LabelRow<'a>>;
+
+/// The labels that stand in bytes, eight bytes each; a rest of fewer is none.
+pub fn read_labels<'a>(bytes: &'a [u8], strings: Strings<'a>) -> Labels<'a>
+    requires { AreLabels (tables strings) bytes.now
+        (labels_in (tables strings) (length bytes.now / 8) bytes.now) }
+    ensures { result ≡ labels_in (tables strings.entry) (length bytes.now / 8) bytes.now }
+{
+    Rows::new(bytes, bytes.len() / 8, LabelRow { strings })
+}
