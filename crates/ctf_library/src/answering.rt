@@ -31,7 +31,7 @@ use ctf_views::{Args, Variant};
 use std::alloc::Global;
 
 /// What a list answers that a type may have.
-fn listed<'a>(key: &'static str, items: Items<'a>, window: Window) -> Answer<'a>
+pub(crate) fn listed<'a>(key: &'static str, items: Items<'a>, window: Window) -> Answer<'a>
     ensures { result ≡ list_fields key.now window (items_of items.entry) }
 {
     let total = items.len() as u64;
@@ -91,22 +91,25 @@ fn named_count(args: &Args<'_>) -> usize
     }
 }
 
+/// What a function returns and takes. Its arguments are as they are stored.
+pub(crate) fn signed<'a>(args: Args<'a>, ret: TypeNum) -> Answer<'a>
+    ensures { result ≡ argument_fields ret.0 args.entry }
+{
+    let varargs = is_variadic(&args);
+    let count = named_count(&args);
+    Answer::done()
+        .with_list("args", Listed::front(Items::Arguments(args), count))
+        .with("return", Single::Number(u64::from(ret.0)))
+        .with("varargs", Single::Truth(varargs))
+}
+
 fn arguments<'a>(behind: Variant<'a>, returned: Option<TypeNum>) -> Result<Answer<'a>, Fault>
     ensures { let args = arguments_in (seen behind.entry) in result ≡ or_wrong_kind
         (option_and_then (λ ret. option_map (argument_fields ret) args)
         (option_map (λ t. t.0) returned)) }
 {
     match (behind, returned) {
-        (Variant::Args(args), Some(ret)) => {
-            let varargs = is_variadic(&args);
-            let count = named_count(&args);
-            Ok(
-                Answer::done()
-                    .with_list("args", Listed::front(Items::Arguments(args), count))
-                    .with("return", Single::Number(u64::from(ret.0)))
-                    .with("varargs", Single::Truth(varargs)),
-            )
-        }
+        (Variant::Args(args), Some(ret)) => Ok(signed(args, ret)),
         _ => Err(placeless(Fault::WRONG_KIND)),
     }
 }
@@ -340,7 +343,9 @@ impl Slot {
             Question::OfType { t, question } => {
                 answer_on(alloc, &space, &self.tables, *t, question)
             }
-            Question::OfSlot(question) => whole_answer(&space, &self.tables, question),
+            Question::OfSlot(question) => {
+                whole_answer(&space, &self.tables, &self.symbols, question)
+            }
         }
     }
 }

@@ -7,11 +7,12 @@ ghost use Rattle.ctf_model.specs.State.{empty_state};
 ghost use Rattle.ctf_model.specs.Steps.{answer_to, fault_over, has_room as room_in, is_quiet, is_quiet_change, MayAnswer};
 ghost use Rattle.ctf_answers.specs.Replies.{said};
 ghost use Rattle.ctf_library.specs.Fitting.{AreTablesOf};
+ghost use Rattle.ctf_symbols.specs.Fitting.{Fits};
 ghost use Rattle.ctf_library.specs.Stepping.{Does, Makes};
 ghost use Rattle.ctf_model.specs.declared.data_model.DataModel.TheVariants.{Lp64};
 
 use crate::places::{find_slot, push_slot, remove_slot, set_parent};
-use crate::slots::Slot;
+use crate::slots::{Loaded, Slot};
 use crate::staging::{add_first_piece, add_piece, judge};
 use crate::tables::{Tables, tables_over};
 use ctf_answers::{Answer, Counts};
@@ -19,7 +20,8 @@ use ctf_model::{
     Change, DataModel, Fault, ListName, Parts, Question, SlotNumber, no_parts, placeless,
 };
 use ctf_space::Opened;
-use std::alloc::Global;
+use ctf_symbols::SymbolMap;
+use std::alloc::{AllocError, Global};
 use std::marker::Model;
 use std::mem;
 use std::rc::Rc;
@@ -56,11 +58,20 @@ impl Model for Library {
         × (rise_between 0 l.slots.items l.next ≡ true) };
 }
 
-/// A dictionary of lists, to be shared, with its tables, or its first fault with the lists.
-fn opened(alloc: Global, parts: Parts) -> Result<(Rc<Opened>, Tables), (Fault, Parts)>
-    ensures ok { IfOk result (λ o. (o.0.value.lists ≡ lists_owned parts)
-        × (o.0.value.model ≡ Lp64)) }
-    ensures made { IfOk result (λ o. AreTablesOf o.0.value.lists None o.1) }
+/// What is kept beside a dictionary: the map of its symbols, and its tables.
+fn kept(alloc: Global, dictionary: &Opened) -> Result<(SymbolMap, Tables), AllocError>
+    requires { dictionary.now.model ≡ Lp64 }
+    ensures mapped { IfOk result (λ k. Fits dictionary.now.lists k.0) }
+    ensures made { IfOk result (λ k. AreTablesOf dictionary.now.lists None k.1) }
+{
+    let symbols = SymbolMap::build(alloc, &dictionary.view())?;
+    let tables = Tables::build(alloc, dictionary)?;
+    Ok((symbols, tables))
+}
+
+/// A dictionary of lists, to be shared, or its first fault with the lists.
+fn opened(alloc: Global, parts: Parts) -> Result<Loaded, (Fault, Parts)>
+    ensures ok { IfOk result (λ o. o.dictionary.value.lists ≡ lists_owned parts) }
     ensures exact_ok { OnOk result (first_fault (lists_owned parts) ≡ None) }
     ensures exact_err { IfErr result (λ e. (e.0 ≡ want_of_memory)
         ⊎ (first_fault (lists_owned parts) ≡ Some e.0)) }
@@ -70,9 +81,13 @@ fn opened(alloc: Global, parts: Parts) -> Result<(Rc<Opened>, Tables), (Fault, P
         Ok(dictionary) => dictionary,
         Err(refused) => return Err(refused),
     };
-    match Tables::build(alloc, &dictionary) {
-        Ok(tables) => match Rc::new(alloc, dictionary) {
-            Ok(shared) => Ok((shared, tables)),
+    match kept(alloc, &dictionary) {
+        Ok((symbols, tables)) => match Rc::new(alloc, dictionary) {
+            Ok(dictionary) => Ok(Loaded {
+                dictionary,
+                symbols,
+                tables,
+            }),
             Err(failed) => Err((placeless(Fault::MEMORY), failed.value.into_parts())),
         },
         Err(_) => Err((placeless(Fault::MEMORY), dictionary.into_parts())),
@@ -155,10 +170,10 @@ impl Library {
         }
         let parts = mem::replace(&mut self.stage, no_parts(self.alloc));
         match opened(self.alloc, parts) {
-            Ok((dictionary, tables)) => {
+            Ok(loaded) => {
                 let number = self.next as u32;
-                let types = dictionary.view().count() as u64;
-                push_slot(&mut self.slots, number, dictionary, tables);
+                let types = loaded.dictionary.view().count() as u64;
+                push_slot(&mut self.slots, number, loaded);
                 self.next += 1;
                 Ok(Counts::two("d", u64::from(number), "types", types))
             }

@@ -8,7 +8,7 @@ ghost use Rattle.ctf_library.specs.Fitting.{AreTablesOf};
 ghost use Rattle.ctf_library.specs.SlotView.{slot_of};
 ghost use Rattle.ctf_model.specs.declared.data_model.DataModel.TheVariants.{Lp64};
 
-use crate::slots::Slot;
+use crate::slots::{Loaded, Slot};
 use crate::tables::Tables;
 use ctf_space::Opened;
 use std::rc::Rc;
@@ -39,19 +39,23 @@ pub fn find_slot(slots: &[Slot], number: u32) -> Option<&Slot>
     }
 }
 
-/// A new slot for a dictionary with its tables, behind the others, where room was made for it.
-pub fn push_slot(slots: &mut Vec<Slot>, number: u32, dictionary: Rc<Opened>, tables: Tables)
+/// A new slot for a dictionary that was opened, behind the others, where room was made for it.
+pub fn push_slot(slots: &mut Vec<Slot>, number: u32, loaded: Loaded)
     requires room { vec_len slots.old < vec_capacity slots.old }
-    requires model { dictionary.value.model ≡ Lp64 }
-    requires made { AreTablesOf dictionary.value.lists None tables }
     ensures slots { map slot_of slots.new.items ≡ map slot_of slots.old.items
-        ++ record { number = number; lists = dictionary.value.lists; parent = None } ∷ [] }
+        ++ record { number = number; lists = loaded.dictionary.value.lists; parent = None } ∷ [] }
     ensures rise { rise_between 0 slots.old.items number ≡ true
         → rise_between 0 slots.new.items (number + 1) ≡ true }
 {
+    let Loaded {
+        dictionary,
+        symbols,
+        tables,
+    } = loaded;
     slots.push_reserved(Slot {
         number,
         dictionary,
+        symbols,
         parent: None,
         tables,
     });

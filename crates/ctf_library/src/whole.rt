@@ -1,26 +1,95 @@
 //! What questions on a slot as a whole are answered.
-ghost use Rattle.std.specs.Prelude.{◌≡◌};
+ghost use Rattle.std.specs.Prelude.{◌≡◌, ℕ, List};
+ghost use Rattle.std.specs.Option.{option_map};
+ghost use Rattle.std.specs.Result.{result_map_both};
+ghost use Rattle.ctf_entries.specs.FunctionView.{signature};
 ghost use Rattle.ctf_library.specs.Fitting.{Serve};
-ghost use Rattle.ctf_model.specs.Questions.{whole_said};
-ghost use Rattle.ctf_space.specs.SpaceView.{space_of};
+ghost use Rattle.ctf_model.specs.Entries.{owner_of};
+ghost use Rattle.ctf_model.specs.Questions.{as_fields};
+ghost use Rattle.ctf_model.specs.SlotAnswers.{info_fields, last_fields, signature_fields, symbol_fields, whole_said};
+ghost use Rattle.ctf_model.specs.SymbolQuestions.{or_refused};
+ghost use Rattle.ctf_model.specs.declared.faults.TheConstants.Fault.{NO_SYMBOL};
+ghost use Rattle.ctf_check.specs.CheckedView.{dictionary_of};
+ghost use Rattle.ctf_space.specs.SpaceView.{own_lists, space_of};
+ghost use Rattle.ctf_symbols.specs.Fitting.{Fits};
+ghost use Rattle.ctf_symbols.specs.NamedView.{owner_named};
 
-use crate::answering::type_answer;
+use crate::answering::{listed, signed, type_answer};
 use crate::tables::Tables;
-use ctf_answers::Answer;
-use ctf_model::{Fault, SlotQuestion};
+use ctf_answers::{Answer, Items, Single, class_name};
+use ctf_check::Checked;
+use ctf_entries::Signature;
+use ctf_model::{Fault, SlotQuestion, placeless};
 use ctf_names::find;
 use ctf_space::Space;
+use ctf_symbols::{NamedSymbol, SymbolMap};
+
+fn symbol_answer<'a>(found: Option<NamedSymbol>) -> Result<Answer<'a>, Fault>
+    ensures { (name : List ℕ) → result ≡ as_fields symbol_fields
+        (or_refused NO_SYMBOL (option_map (owner_named name) found)) }
+{
+    match found {
+        Some(symbol) => Ok(
+            Answer::done()
+                .with("class", Single::Word(class_name(symbol.class)))
+                .with("sym", Single::Number(u64::from(symbol.number))),
+        ),
+        None => Err(placeless(Fault::NO_SYMBOL)),
+    }
+}
+
+fn function_answer<'a>(found: Result<Signature<'a>, Fault>) -> Result<Answer<'a>, Fault>
+    ensures { result ≡ as_fields signature_fields (result_map_both signature (λ f. f) found.entry) }
+{
+    match found {
+        Ok(signature) => Ok(signed(signature.args, signature.ret)),
+        Err(fault) => Err(fault),
+    }
+}
+
+fn last_answer<'a>(last: Result<u32, Fault>) -> Result<Answer<'a>, Fault>
+    ensures { result ≡ as_fields last_fields last }
+{
+    match last {
+        Ok(last) => Ok(Answer::done().with("last", Single::Number(u64::from(last)))),
+        Err(fault) => Err(fault),
+    }
+}
+
+/// What a dictionary is as a whole. One that was opened has nothing pending.
+fn info<'a>(dictionary: &Checked<'a>, imported: bool) -> Answer<'a>
+    ensures { result ≡ info_fields (dictionary_of dictionary.now) imported }
+{
+    Answer::done()
+        .with("child", Single::Truth(dictionary.child()))
+        .with("draft", Single::Truth(false))
+        .with("imported", Single::Truth(imported))
+        .with("labels", Single::Number(dictionary.labels().len() as u64))
+        .with("parlabel", Single::Text(dictionary.parlabel()))
+        .with("parname", Single::Text(dictionary.parname()))
+        .with("pending", Single::Number(0))
+        .with("types", Single::Number(dictionary.count() as u64))
+}
 
 /// What a question on a slot as a whole is answered, without memory.
 pub(crate) fn whole_answer<'a>(
     space: &Space<'a>,
     tables: &Tables,
+    symbols: &SymbolMap,
     question: &SlotQuestion,
 ) -> Result<Answer<'a>, Fault>
-    requires { Serve space.now tables.now }
+    requires serve { Serve space.now tables.now }
+    requires mapped { Fits (own_lists space.now) symbols.now }
     ensures { result ≡ whole_said question.now (space_of space.now) }
 {
+    let own = space.dictionary();
     match question {
         SlotQuestion::Find(text) => type_answer(find(space, &tables.index, text.as_slice())),
+        SlotQuestion::Symbol(name) => symbol_answer(symbols.named(&own, name.as_slice())),
+        SlotQuestion::Object(number) => type_answer(symbols.object(&own, *number)),
+        SlotQuestion::Function(number) => function_answer(symbols.function(&own, *number)),
+        SlotQuestion::Labels(window) => Ok(listed("labels", Items::Labels(own.labels()), *window)),
+        SlotQuestion::Label(name) => last_answer(symbols.label(&own, name.as_slice())),
+        SlotQuestion::Info => Ok(info(&own, space.parent_count().is_some())),
     }
 }

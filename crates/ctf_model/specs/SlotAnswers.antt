@@ -2,7 +2,7 @@
 use Rattle.std.specs.Prelude.{ℕ, Bool, false, List, [], ◌∷◌, length, map, is_some, Result, Ok, codes}
 use Rattle.ctf_model.specs.Answers.{Answer, Item, says, entry, number, truth, word, text, object}
 use Rattle.ctf_model.specs.Dictionary.{Dictionary, Label}
-use Rattle.ctf_model.specs.Entries.{Entry, Signature, class_told}
+use Rattle.ctf_model.specs.Entries.{Owner, Signature}
 use Rattle.ctf_model.specs.Found.{found}
 use Rattle.ctf_model.specs.KindNames.{name_of_class}
 use Rattle.ctf_model.specs.Questions.{argument_fields, as_fields, list_fields, type_fields}
@@ -16,8 +16,8 @@ use Rattle.ctf_model.specs.declared.questions.Window.{Window}
 -- ---- answers, field by field
 
 -- whether a symbol is an object or a function, and its number
-abbrev pub symbol_fields : Entry → Answer
-symbol_fields e = says (codes "class") (word (name_of_class (class_told e.told))) ∷ says (codes "sym") (number e.number) ∷ []
+abbrev pub symbol_fields : Owner → Answer
+symbol_fields x = says (codes "class") (word (name_of_class x.class)) ∷ says (codes "sym") (number x.number) ∷ []
 
 abbrev pub signature_fields : Signature → Answer
 signature_fields f = argument_fields f.ret f.args

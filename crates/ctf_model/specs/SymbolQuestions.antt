@@ -3,7 +3,7 @@ use Rattle.std.specs.Prelude.{ℕ, ◌==◌, List, [], ◌∷◌, Option, Some, 
 use Rattle.std.specs.Option.{option_map}
 use Rattle.std.specs.Str.{bytes_eq}
 use Rattle.ctf_model.specs.Dictionary.{Dictionary, Label}
-use Rattle.ctf_model.specs.Entries.{Entry, Signature, Told}
+use Rattle.ctf_model.specs.Entries.{Entry, Owner, Signature, Told, owner_of}
 use Rattle.ctf_model.specs.Entries as told
 use Rattle.ctf_model.specs.Refusals.{placeless}
 use Rattle.ctf_model.specs.Symbols.{Symbol, is_object, is_function}
@@ -53,8 +53,9 @@ abbrev pub entry_named : List Entry → List ℕ → Option Entry
 entry_named [] name = None
 entry_named (e ∷ es) name = if bytes_eq e.name name then Some e else entry_named es name
 
-abbrev pub symbol_found : Dictionary → List ℕ → Result Entry Fault
-symbol_found d name = or_refused NO_SYMBOL (entry_named d.entries name)
+-- whose entry it is: its number, and whether it is an object or a function
+abbrev pub symbol_found : Dictionary → List ℕ → Result Owner Fault
+symbol_found d name = or_refused NO_SYMBOL (option_map owner_of (entry_named d.entries name))
 
 abbrev pub by_name : Dictionary → List ℕ → Result ℕ Fault
 by_name d name = or_refused NO_SYMBOL (option_map (λ e. e.number) (entry_named d.entries name))

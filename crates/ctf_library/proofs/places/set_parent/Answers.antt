@@ -26,6 +26,7 @@ invariant_of-slot c =
     record {
       model = c.index_mut-slot.result.now.model;
       fits = λ x e. let same : c.args.parent ≡ x = cc in subst (λ p. fault_over c.index_mut-slot.result.now.dictionary.value.lists p.value.lists ≡ None) same fits;
+      mapped = c.index_mut-slot.result.now.mapped;
       made = made;
     }
 
