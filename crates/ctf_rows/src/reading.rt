@@ -75,9 +75,15 @@ fn question_said(question: &TypeQuestion) -> (&'static str, Option<Window>) {
 }
 
 /// The word of a question on a slot as a whole.
-fn slot_question_said(question: &SlotQuestion) -> &'static str {
+fn slot_question_said(question: &SlotQuestion) -> (&'static str, Option<Window>) {
     match question {
-        SlotQuestion::Find(_) => "find",
+        SlotQuestion::Find(_) => ("find", None),
+        SlotQuestion::Symbol(_) => ("symbol", None),
+        SlotQuestion::Object(_) => ("object", None),
+        SlotQuestion::Function(_) => ("function", None),
+        SlotQuestion::Labels(window) => ("labels", Some(*window)),
+        SlotQuestion::Label(_) => ("label", None),
+        SlotQuestion::Info => ("info", None),
     }
 }
 
@@ -98,11 +104,14 @@ fn describe(request: &Request) -> Said {
         Request::Asks {
             d,
             question: Question::OfSlot(question),
-        } => Said {
-            word: slot_question_said(question),
-            about: Some((d.get(), 0)),
-            window: None,
-        },
+        } => {
+            let (word, window) = slot_question_said(question);
+            Said {
+                word,
+                about: Some((d.get(), 0)),
+                window,
+            }
+        }
     }
 }
 
