@@ -3,8 +3,9 @@
 
 Prints the types (number, name as C spells it, size in bytes), or the members of the struct or union
 that a name stands for, such as "struct lua_State" or a typedef's (offset in bits, size in bytes,
-type, name, and for a bit-field its width). A size that a type hasn't is told as the refusal. The
-status is 1 where ctfd refuses something or the name stands for another type.
+type, name, and for a bit-field its width). A size that a type hasn't is told as the refusal. With
+the program's symbol table, a name is that of a function or an object, and what C would declare is
+printed. The status is 1 where ctfd refuses something or the name stands for another type.
 """
 import argparse
 import json
@@ -106,21 +107,36 @@ def print_members(client, d, name):
         print(offset, size, spelled, unescaped(member["name"]) or "(anon)", *([f":{lies['bits']}"] if lies else []))
 
 
+def print_symbol(client, d, name):
+    found = client.ask("symbol", d=d, name=escaped(name.encode()))
+    said = client.ask(found["class"], d=d, sym=found["sym"])
+    if found["class"] == "object":
+        return print(f"{client.name(d, said['t'])} {name}")
+    takes = [client.name(d, t) for t in said["args"]] + (["..."] if said["varargs"] else [])
+    print(f"{client.name(d, said['return'])} {name}({', '.join(takes) or 'void'})")
+
+
 def main():
     parser = argparse.ArgumentParser(description=__doc__, formatter_class=argparse.RawDescriptionHelpFormatter)
     parser.add_argument("program", help="a built ctfd")
     parser.add_argument("ctf", help="a file with the bytes of a CTF section")
-    parser.add_argument("name", nargs="?", help="a struct or a union, as C names it")
+    parser.add_argument("name", nargs="?", help="a struct or a union, as C names it, or a symbol")
+    parser.add_argument("--symbols", metavar="FILE", help="the program's symbol table")
     parser.add_argument("--strings", metavar="FILE", help="the strings of the program's symbol table")
     words = parser.parse_args()
     signal.signal(signal.SIGPIPE, signal.SIG_DFL)  # so that a reader such as head may leave
     client = Client(words.program)
     try:
         client.hand_in("ctf", words.ctf)
+        if words.symbols:
+            client.hand_in("sym", words.symbols)
         if words.strings:
             client.hand_in("str", words.strings)
         opened = client.ask("open")
-        return print_members(client, opened["d"], words.name) if words.name else print_types(client, opened)
+        if not words.name:
+            return print_types(client, opened)
+        show = print_symbol if words.symbols else print_members
+        return show(client, opened["d"], words.name)
     except Refused as fault:
         return f"refused: {fault}"
     finally:
