@@ -30,6 +30,56 @@ def mixed(count):
     return dictionary(b"".join(types), b"\0int\0")
 
 
+VISIBLE = 1 << 10
+
+
+def name_of(i):
+    """The name of a type of `named`."""
+    return b"type_%d" % i
+
+
+def named(count):
+    """Visible types, all but the pointers with a name of their own: integers, structs, typedefs, pointers."""
+    strings, types = bytearray(b"\0"), []
+    for i in range(1, count + 1):
+        name = len(strings)
+        if i % 4 == 0:
+            types.append(record(0, 3, VISIBLE, i - 1))
+            continue
+        strings += name_of(i) + b"\0"
+        if i % 4 == 1:
+            types.append(record(name, 1, VISIBLE, 4, struct.pack("<I", 0x01000020)))
+        elif i % 4 == 2:
+            members = b"".join(struct.pack("<IHH", name, i - 1, 32 * k) for k in range(14))
+            types.append(record(name, 6, VISIBLE | 14, 56, members))
+        else:
+            types.append(record(name, 10, VISIBLE, i - 1))
+    return dictionary(b"".join(types), bytes(strings))
+
+
+def written(i):
+    """How C writes a type of `named`, so that `find` finds it."""
+    if i % 4 == 0:
+        return written(i - 1) + b" *"
+    return (b"struct " if i % 4 == 2 else b"") + name_of(i)
+
+
+def overlapping(count, front=16_000_000):
+    """Visible integers whose names overlap: each is the end of one text of one byte, many million times."""
+    types = b"".join(
+        record(1 + front // count * i, 1, VISIBLE, 4, struct.pack("<I", 0x01000020)) for i in range(count)
+    )
+    return dictionary(types, b"\0" + front * b"n" + b"\0")
+
+
+def plain_names(count, size=16_000_000):
+    """As many visible integers, whose names share the same number of bytes."""
+    each = size // count
+    types = b"".join(record(1 + each * i, 1, VISIBLE, 4, struct.pack("<I", 0x01000020)) for i in range(count))
+    strings = b"".join((b"%d" % i).rjust(each - 1, b"n") + b"\0" for i in range(count))
+    return dictionary(types, b"\0" + strings)
+
+
 def unions(count):
     """Groups of an integer and 511 unions of two members, each of the type before it."""
     types = []

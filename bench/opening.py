@@ -3,11 +3,10 @@
 
 usage: opening.py PROGRAM
 
-Each dictionary is handed in and opened twenty times, then handed in and only checked, and then handed
+Each dictionary is handed in and opened some times, then handed in and only checked, and then handed
 in and dropped by a reset: the differences are what `open` and `check` cost (processor time, the least
-of five runs). Then the same
-is done once, and the instructions are counted by valgrind, for all types and for half of them:
-the ratio of the two says how the cost grows, and 2 is linear.
+of five runs). Then the same is done once, and the instructions are counted by valgrind, for all types
+and for half of them: the ratio of the two says how the cost grows, and 2 is linear.
 """
 import re
 import subprocess
@@ -15,9 +14,17 @@ import sys
 import tempfile
 
 import run
-from dictionaries import enumerators, mixed, parts, unions
+from dictionaries import enumerators, mixed, named, overlapping, parts, plain_names, unions
 
-TIMES = 20
+# What is opened, how many types it has, and how often it is opened in one run.
+DICTIONARIES = [
+    ("mixed", mixed, 32_766, 20),
+    ("unions", unions, 32_256, 20),
+    ("enumerators", enumerators, 128, 20),
+    ("named", named, 30_000, 20),
+    ("plain", plain_names, 32_766, 4),
+    ("overlapping", overlapping, 32_766, 4),
+]
 
 
 def lines(ctf, word, times):
@@ -27,10 +34,10 @@ def lines(ctf, word, times):
         yield '{"s":1,"op":"reset"}\n'
 
 
-def seconds(program, ctf, word):
-    """Processor time and peak memory of a stream with TIMES of the word."""
+def seconds(program, ctf, word, times):
+    """Processor time and peak memory of a stream with so many of the word."""
     with tempfile.NamedTemporaryFile("w", suffix=".jsonl") as file:
-        file.writelines(lines(ctf, word, TIMES))
+        file.writelines(lines(ctf, word, times))
         file.flush()
         used, _, memory = min(run.run([program, "serve"], file.name) for _ in range(5))
     return used, memory
@@ -54,13 +61,13 @@ def growth(program, make, count):
 
 
 def main(program):
-    for name, make, count in [("mixed", mixed, 32_766), ("unions", unions, 32_256), ("enumerators", enumerators, 128)]:
+    for name, make, count, times in DICTIONARIES:
         ctf = make(count)
-        opened, memory = seconds(program, ctf, "open")
-        checked, _ = seconds(program, ctf, "check")
-        dropped, _ = seconds(program, ctf, "reset")
-        cost, megabytes = max(0, 1000 * (opened - dropped) / TIMES), len(ctf) / 1_000_000
-        judged = max(0, 1000 * (checked - dropped) / TIMES)
+        opened, memory = seconds(program, ctf, "open", times)
+        checked, _ = seconds(program, ctf, "check", times)
+        dropped, _ = seconds(program, ctf, "reset", times)
+        cost, megabytes = max(0, 1000 * (opened - dropped) / times), len(ctf) / 1_000_000
+        judged = max(0, 1000 * (checked - dropped) / times)
         print(
             f"{name:12}{count:7} types {megabytes:6.2f} MB {judged:6.2f} ms for one check {cost:6.2f} ms for one open {cost / megabytes:6.2f} ms/MB"
             f"  to half the types {growth(program, make, count):5.2f} {memory:8} KiB"
