@@ -55,8 +55,8 @@ not_of tag o p same none x is = none x (same ∙ is)
 
 -- ---- one more
 
-grown : (t : Tables) (text : List ℕ) (item : ℕ) (entries : List Entry) (e : Entry) → list_any (is_early t text item) entries ≡ true → list_any (is_early t text item) (entries ++ e ∷ []) ≡ true
-grown t text item entries e h = let one = any_from (is_early t text item) entries h in any_to (is_early t text item) (entries ++ e ∷ []) one.0 one.2 (Contains-append_left entries (e ∷ []) one.0 one.1)
+grown : (t : Tables) (text : List ℕ) (item : ℕ) (entries : List Entry) (e : Entry) → list_any (is_early (name t) text item) entries ≡ true → list_any (is_early (name t) text item) (entries ++ e ∷ []) ≡ true
+grown t text item entries e h = let one = any_from (is_early (name t) text item) entries h in any_to (is_early (name t) text item) (entries ++ e ∷ []) one.0 one.2 (Contains-append_left entries (e ∷ []) one.0 one.1)
 
 pub by_next : {P : ℕ → Type 0} (i : ℕ) → ((j : ℕ) → j < i → P j) → P i → (j : ℕ) → j < i + 1 → P j
 by_next {P} i below here j lt = by_case (ltb j i) refl
@@ -66,9 +66,9 @@ by_next {P} i below here j lt = by_case (ltb j i) refl
     by_case false e = let same : i ≡ j = omega (arith, lt, ltb-false j i e) in rw same at here
 
 pub without : (t : Tables) (tag : Option Tag) (terms : List Term) (i : ℕ) (entries : List Entry) → HasEntries t tag terms i entries → IsEntryAt t tag terms i None → HasEntries t tag terms (i + 1) entries
-without t tag terms i entries has none = record { inside = has.inside; all = λ j x lt. by_next {P = λ j. slice_get terms j ≡ Some x → is_of tag x ≡ true → list_any (is_early t x.name j) entries ≡ true} i (λ k less. has.all k x less) (λ is of. absurd (let bad : false ≡ true = sym (none x is) ∙ of in cc)) j lt }
+without t tag terms i entries has none = record { inside = has.inside; all = λ j x lt. by_next {P = λ j. slice_get terms j ≡ Some x → is_of tag x ≡ true → list_any (is_early (name t) x.name j) entries ≡ true} i (λ k less. has.all k x less) (λ is of. absurd (let bad : false ≡ true = sym (none x is) ∙ of in cc)) j lt }
 
-entry_early : (t : Tables) (tag : Option Tag) (terms : List Term) (i : ℕ) (e : Entry) (x : Term) → e.item ≡ i → is_entry_of t tag terms e ≡ true → slice_get terms i ≡ Some x → is_early t x.name i e ≡ true
+entry_early : (t : Tables) (tag : Option Tag) (terms : List Term) (i : ℕ) (e : Entry) (x : Term) → e.item ≡ i → is_entry_of t tag terms e ≡ true → slice_get terms i ≡ Some x → is_early (name t) x.name i e ≡ true
 entry_early t tag terms i e x at says is =
     let here : is_called_by t tag e.reference (Some x) ≡ true = rw (at, is) at says in
     let parts = both (is_of tag x) (is_text (name t e.reference) x.name) here in
@@ -77,7 +77,7 @@ entry_early t tag terms i e x at says is =
 pub entered : (t : Tables) (tag : Option Tag) (terms : List Term) (i : ℕ) (entries : List Entry) (e : Entry) → HasEntries t tag terms i entries → IsEntryAt t tag terms i (Some e) → HasEntries t tag terms (i + 1) (entries ++ e ∷ [])
 entered t tag terms i entries e has says = record {
   inside = λ f h. inside_case f (Contains-append_cases entries (e ∷ []) f h);
-  all = λ j x lt. by_next {P = λ j. slice_get terms j ≡ Some x → is_of tag x ≡ true → list_any (is_early t x.name j) (entries ++ e ∷ []) ≡ true} i (λ k less is of. grown t x.name k entries e (has.all k x less is of)) (λ is of. any_to (is_early t x.name i) (entries ++ e ∷ []) e (entry_early t tag terms i e x says.0 says.1 is) (Contains-append_right entries (e ∷ []) e (itself e))) j lt;
+  all = λ j x lt. by_next {P = λ j. slice_get terms j ≡ Some x → is_of tag x ≡ true → list_any (is_early (name t) x.name j) (entries ++ e ∷ []) ≡ true} i (λ k less is of. grown t x.name k entries e (has.all k x less is of)) (λ is of. any_to (is_early (name t) x.name i) (entries ++ e ∷ []) e (entry_early t tag terms i e x says.0 says.1 is) (Contains-append_right entries (e ∷ []) e (itself e))) j lt;
 }
   where
     inside_case : (f : Entry) → Contains entries f ⊎ Contains (e ∷ []) f → is_entry_of t tag terms f ≡ true
@@ -97,7 +97,7 @@ same_parts e f h =
     parts_same : (a b c d : ℕ) → a ≡ c → b ≡ d → ◌≡◌ {A = Entry} (record { reference = a; item = b }) (record { reference = c; item = d })
     parts_same a b c d p q = rw (p, q) refl
 
-pub ordered : (t : Tables) (tag : Option Tag) (terms : List Term) (items : List Entry) (o : Order) → HasEntries t tag terms (length terms) items → Fits t items o → AreInOrder t tag terms o
+pub ordered : (t : Tables) (tag : Option Tag) (terms : List Term) (items : List Entry) (o : Order) → HasEntries t tag terms (length terms) items → Fits (name t) items o → AreInOrder t tag terms o
 ordered t tag terms items o has fits = record {
   has = record { inside = inside_of; all = all_of };
   named = fits.stands.named;
@@ -109,19 +109,19 @@ ordered t tag terms items o has fits = record {
         let one = any_from (same_entry e) items (fits.stands.inside e h) in
         rw (same_parts e one.0 one.2) (has.inside one.0 one.1)
 
-    all_of : (i : ℕ) (x : Term) → i < length terms → slice_get terms i ≡ Some x → is_of tag x ≡ true → list_any (is_early t x.name i) (entries_of o) ≡ true
+    all_of : (i : ℕ) (x : Term) → i < length terms → slice_get terms i ≡ Some x → is_of tag x ≡ true → list_any (is_early (name t) x.name i) (entries_of o) ≡ true
     all_of i x lt is of =
-        let one = has_first t x.name items i (has.all i x lt is of) in
-        let two = has_first t x.name (entries_of o) one.entry.item (fits.stands.all one.entry x.name one.there one.named) in
-        any_to (is_early t x.name i) (entries_of o) two.entry (early t x.name i two.entry (omega (arith, two.least, one.least)) two.named) two.there
+        let one = has_first (name t) x.name items i (has.all i x lt is of) in
+        let two = has_first (name t) x.name (entries_of o) one.entry.item (fits.stands.all one.entry x.name one.there one.named) in
+        any_to (is_early (name t) x.name i) (entries_of o) two.entry (early (name t) x.name i two.entry (omega (arith, two.least, one.least)) two.named) two.there
 
 -- what stands in order fits the items that it has
-pub fits_itself : (t : Tables) (tag : Option Tag) (terms : List Term) (o : Order) → AreInOrder t tag terms o → Fits t (entries_of o) o
+pub fits_itself : (t : Tables) (tag : Option Tag) (terms : List Term) (o : Order) → AreInOrder t tag terms o → Fits (name t) (entries_of o) o
 fits_itself t tag terms o in_order = record {
   stands = record {
     inside = λ e h. any_to (same_entry e) (entries_of o) e (same_itself e) h;
     named = in_order.named;
-    all = λ e text h is. any_to (is_early t text e.item) (entries_of o) e (early t text e.item e (omega arith) is) h;
+    all = λ e text h is. any_to (is_early (name t) text e.item) (entries_of o) e (early (name t) text e.item e (omega arith) is) h;
   };
   sorted = in_order.sorted;
 }
@@ -135,7 +135,7 @@ called_parts tag text x = by_case x.root (same_tag (tag_of x.body) tag) (bytes_e
     by_case true b c = refl
     by_case false b c = refl
 
-not_called : (t : Tables) (tag : Option Tag) (terms : List Term) (entries : List Entry) (text : List ℕ) (i : ℕ) (x : Term) → HasEntries t tag terms (length terms) entries → ((e : Entry) → Contains entries e → IsNamed t text e → e.item ≤ i → ⊥) → slice_get terms i ≡ Some x → is_called (record { tag = tag; name = text }) x ≡ false
+not_called : (t : Tables) (tag : Option Tag) (terms : List Term) (entries : List Entry) (text : List ℕ) (i : ℕ) (x : Term) → HasEntries t tag terms (length terms) entries → ((e : Entry) → Contains entries e → IsNamed (name t) text e → e.item ≤ i → ⊥) → slice_get terms i ≡ Some x → is_called (record { tag = tag; name = text }) x ≡ false
 not_called t tag terms entries text i x has none is = by_case (is_called (record { tag = tag; name = text }) x) refl
   where
     by_case : (u : Bool) → is_called (record { tag = tag; name = text }) x ≡ u → u ≡ false
@@ -143,10 +143,10 @@ not_called t tag terms entries text i x has none is = by_case (is_called (record
     by_case true e = absurd (
         let parts = both (is_of tag x) (bytes_eq x.name text) (sym (called_parts tag text x) ∙ e) in
         let same : x.name ≡ text = (bytes_eq-Decides x.name text).0 parts.1 in
-        let one = has_first t x.name entries i (has.all i x (slice_get_within terms i x is) is parts.0) in
+        let one = has_first (name t) x.name entries i (has.all i x (slice_get_within terms i x is) is parts.0) in
         none one.entry one.there (one.named ∙ ap Some same) one.least)
 
-pub found_is : (t : Tables) (tag : Option Tag) (terms : List Term) (entries : List Entry) (text : List ℕ) → HasEntries t tag terms (length terms) entries → (found : Option ℕ) → IsFound t entries text found → found ≡ first_place (is_called (record { tag = tag; name = text })) terms
+pub found_is : (t : Tables) (tag : Option Tag) (terms : List Term) (entries : List Entry) (text : List ℕ) → HasEntries t tag terms (length terms) entries → (found : Option ℕ) → IsFound (name t) entries text found → found ≡ first_place (is_called (record { tag = tag; name = text })) terms
 found_is t tag terms entries text has None none = sym (none_passes _ terms (λ i x is. not_called t tag terms entries text i x has (λ e h named le. none e h named) is))
 found_is t tag terms entries text has (Some n) least = by_term (slice_get terms n) refl
   where
@@ -158,7 +158,7 @@ found_is t tag terms entries text has (Some n) least = by_term (slice_get terms 
     by_term (Some x) e =
         let here : is_called_by t tag least.entry.reference (Some x) ≡ true = rw e at entry_says in
         let parts = both (is_of tag x) (is_text (name t least.entry.reference) x.name) here in
-        let named : name t least.entry.reference ≡ Some x.name = text_is t x.name least.entry parts.1 in
+        let named : name t least.entry.reference ≡ Some x.name = text_is (name t) x.name least.entry parts.1 in
         let same : ◌≡◌ {A = Option (List ℕ)} (Some x.name) (Some text) = sym named ∙ least.named in
         let text_same : x.name ≡ text = cc in
         let yes : is_called (record { tag = tag; name = text }) x ≡ true = called_parts tag text x ∙ rw parts.0 ((bytes_eq-Decides x.name text).1 text_same) in

@@ -11,7 +11,7 @@ ghost use Rattle.ctf_sections.specs.StringsView.{tables};
 use crate::sorts::Sort;
 use crate::types::entry_at;
 use ctf_check::Checked;
-use ctf_order::{Entry, Order};
+use ctf_order::{Entry, Order, Texts};
 use ctf_sections::Strings;
 use std::alloc::{AllocError, Global};
 
@@ -39,7 +39,7 @@ pub(crate) fn in_order(
         (dictionary_of dictionary.now).terms o) }
 {
     let entries = entries_of(alloc, dictionary, sort)?;
-    let order = Order::build(alloc, &dictionary.strings(), entries)?;
+    let order = Order::build(alloc, &Texts::Dictionary(dictionary.strings()), entries)?;
     Ok(order)
 }
 
@@ -49,5 +49,5 @@ pub(crate) fn first_of(order: &Order, strings: &Strings<'_>, name: &[u8]) -> Opt
         → AreInOrder (tables strings.now) tag terms order.now
         → result ≡ first_place (is_called (record { tag = tag; name = name.now })) terms }
 {
-    order.find(strings, name)
+    order.find(&Texts::Dictionary(*strings), name)
 }

@@ -6,6 +6,10 @@ use Rattle.std.specs.Option.{option_map}
 use Rattle.std.proofs.lemmas.Bool.{eqb-true}
 use Rattle.std.proofs.lemmas.List.{drop-drop, length-drop, take_all}
 use Rattle.ctf_model.specs.Name.{Tables, is_zero, name, table, text, text_at}
+use Rattle.ctf_sections.specs.StringsView.{tables}
+use Rattle.ctf_order.specs.Naming.{naming}
+use Rattle.ctf_order.specs.declared.texts.Texts.{Texts}
+use Rattle.ctf_order.specs.declared.texts.Texts.TheVariants.{Dictionary, Program}
 
 text_cons_case : (x : ℕ) (xs : List ℕ) (t : Bool) → is_zero x ≡ t → text (x ∷ xs) ≡ (if t then Some [] else option_map (λ b. x ∷ b) (text xs))
 text_cons_case x xs true e = rw e refl
@@ -34,7 +38,7 @@ text_rest bytes x zero h le = h
 text_rest [] x (suc k) h le = absurd cc
 text_rest (b ∷ bs) x (suc k) h le = rest_case b bs x k (λ y. text_rest bs y k) h le (is_zero b) refl
 
-pub text_at_rest : (o : Option (List ℕ)) (at k : ℕ) (x : List ℕ) → text_at o at ≡ Some x → k ≤ length x → text_at o (at + k) ≡ Some (drop k x)
+text_at_rest : (o : Option (List ℕ)) (at k : ℕ) (x : List ℕ) → text_at o at ≡ Some x → k ≤ length x → text_at o (at + k) ≡ Some (drop k x)
 text_at_rest None at k x h le = absurd cc
 text_at_rest (Some bytes) at k x h le = rw (← drop-drop k at bytes) (text_rest (drop at bytes) x k h le)
 
@@ -75,8 +79,12 @@ name_case t r k x same le false e h =
     let there : (r + k) % 2 ^ 31 == 0 ≡ false = ap (λ (n : ℕ). n == 0) (offset_more r k same) ∙ not_zero (r % 2 ^ 31) k e in
     by_offset t (r + k) there ∙ ap (λ q. text_at q ((r + k) % 2 ^ 31)) (table_same t r (r + k) same) ∙ ap (λ (n : ℕ). text_at (table t r) n) (offset_more r k same) ∙ text_at_rest (table t r) (r % 2 ^ 31) k x here le
 
-pub name_rest : (t : Tables) (r k : ℕ) (x : List ℕ) → r / 2 ^ 31 ≡ (r + k) / 2 ^ 31 → name t r ≡ Some x → k ≤ length x → name t (r + k) ≡ Some (drop k x)
-name_rest t r k x same h le = name_case t r k x same le (r % 2 ^ 31 == 0) refl h
+dictionary_rest : (t : Tables) (r k : ℕ) (x : List ℕ) → r / 2 ^ 31 ≡ (r + k) / 2 ^ 31 → name t r ≡ Some x → k ≤ length x → name t (r + k) ≡ Some (drop k x)
+dictionary_rest t r k x same h le = name_case t r k x same le (r % 2 ^ 31 == 0) refl h
+
+pub name_rest : (texts : Texts) (r k : ℕ) (x : List ℕ) → r / 2 ^ 31 ≡ (r + k) / 2 ^ 31 → naming texts r ≡ Some x → k ≤ length x → naming texts (r + k) ≡ Some (drop k x)
+name_rest (Dictionary strings) r k x same h le = dictionary_rest (tables strings) r k x same h le
+name_rest (Program strs) r k x same h le = text_at_rest (Some strs.now) r k x h le
 
 -- `&s[at..]`
 pub tail_all : {X : Type 0} (xs : List X) (at : ℕ) → take (length xs - at) (drop at xs) ≡ drop at xs

@@ -3,8 +3,7 @@ use Rattle.std.specs.Prelude.{◌≡◌, ◌≤◌, ℕ, ◌==◌, ◌&&◌, nat
 use Rattle.std.specs.List.{list_any, Contains}
 use Rattle.std.specs.List.Sorted.{IsSortedBy}
 use Rattle.std.specs.Ordering.{is_lt, nat_cmp, ordering_then}
-use Rattle.ctf_model.specs.Dictionary.{name_or_empty}
-use Rattle.ctf_model.specs.Name.{Tables, name}
+use Rattle.ctf_order.specs.Naming.{Naming, name_or_none}
 use Rattle.ctf_order.specs.Names.{by_front, is_text}
 use Rattle.ctf_order.specs.declared.entries.Entry.{Entry}
 use Rattle.ctf_order.specs.declared.order.Order.{Order}
@@ -12,11 +11,11 @@ use Rattle.ctf_order.specs.declared.order.Order.{Order}
 -- ---- which item a name finds
 
 -- an item has a name
-abbrev pub IsNamed : Tables → List ℕ → Entry → Type 0
-IsNamed t text e = name t e.reference ≡ Some text
+abbrev pub IsNamed : Naming → List ℕ → Entry → Type 0
+IsNamed t text e = t e.reference ≡ Some text
 
 -- the least item of a name
-pub record IsLeast (t : Tables) (items : List Entry) (text : List ℕ) (n : ℕ) : Type 0 where
+pub record IsLeast (t : Naming) (items : List Entry) (text : List ℕ) (n : ℕ) : Type 0 where
   pub entry : Entry
   pub there : Contains items entry
   pub named : IsNamed t text entry
@@ -24,26 +23,26 @@ pub record IsLeast (t : Tables) (items : List Entry) (text : List ℕ) (n : ℕ)
   pub least : (e : Entry) → Contains items e → IsNamed t text e → n ≤ e.item
 
 -- that, or none has the name
-abbrev pub IsFound : Tables → List Entry → List ℕ → Option ℕ → Type 0
+abbrev pub IsFound : Naming → List Entry → List ℕ → Option ℕ → Type 0
 IsFound t items text found = MatchOption found ((e : Entry) → Contains items e → IsNamed t text e → ⊥) (IsLeast t items text)
 
 -- ---- how they are kept
 
 -- by the order of names, and then by item
-abbrev pub precedes : Tables → Entry → Entry → Bool
-precedes t a b = is_lt (ordering_then (by_front (name_or_empty t a.reference) (name_or_empty t b.reference)) (nat_cmp a.item b.item))
+abbrev pub precedes : Naming → Entry → Entry → Bool
+precedes t a b = is_lt (ordering_then (by_front (name_or_none t a.reference) (name_or_none t b.reference)) (nat_cmp a.item b.item))
 
 abbrev pub same_entry : Entry → Entry → Bool
 same_entry e f = e.reference == f.reference && e.item == f.item
 
 -- an item of a name, and not greater than another
-abbrev pub is_early : Tables → List ℕ → ℕ → Entry → Bool
-is_early t text item e = nat_le e.item item && is_text (name t e.reference) text
+abbrev pub is_early : Naming → List ℕ → ℕ → Entry → Bool
+is_early t text item e = nat_le e.item item && is_text (t e.reference) text
 
 -- each of them is one of the items and has a name, and the least item of each name is one of them
-pub record Stands (t : Tables) (items entries : List Entry) : Type 0 where
+pub record Stands (t : Naming) (items entries : List Entry) : Type 0 where
   pub inside : (e : Entry) → Contains entries e → list_any (same_entry e) items ≡ true
-  pub named : (e : Entry) → Contains entries e → name t e.reference ≡ Some (name_or_empty t e.reference)
+  pub named : (e : Entry) → Contains entries e → t e.reference ≡ Some (name_or_none t e.reference)
   pub all : (e : Entry) (text : List ℕ) → Contains items e → IsNamed t text e → list_any (is_early t text e.item) entries ≡ true
 
 -- what is kept
@@ -51,6 +50,6 @@ abbrev pub entries_of : Order → List Entry
 entries_of o = o.entries.items
 
 -- and they stand in order
-pub record Fits (t : Tables) (items : List Entry) (o : Order) : Type 0 where
+pub record Fits (t : Naming) (items : List Entry) (o : Order) : Type 0 where
   pub stands : Stands t items (entries_of o)
   pub sorted : IsSortedBy (precedes t) (entries_of o)

@@ -1,3 +1,4 @@
+pub mod Naming
 pub mod Names
 pub mod Holding
 pub mod Lending

@@ -1,10 +1,9 @@
 //! The order of names: by length, and then by the bytes in front.
 ghost use Rattle.std.specs.Prelude.{◌≡◌, take};
-ghost use Rattle.ctf_model.specs.Name.{name as named};
+ghost use Rattle.ctf_order.specs.Naming.{naming};
 ghost use Rattle.ctf_order.specs.Names.{compared, by_front, is_text, front as front_of};
-ghost use Rattle.ctf_sections.specs.StringsView.{tables};
 
-use ctf_sections::Strings;
+use crate::texts::Texts;
 use std::cmp::Ordering;
 
 /// How many bytes at the front of a name are compared.
@@ -37,20 +36,20 @@ pub(crate) fn order(a: &[u8], b: &[u8]) -> Ordering
 
 /// Where the name of a reference stands against a text. It reads one byte more than the text has at
 /// most, however long the name is.
-pub(crate) fn compare(strings: &Strings<'_>, reference: u32, text: &[u8]) -> Ordering
-    ensures { result ≡ compared (named (tables strings.now) reference) text.now }
+pub(crate) fn compare(texts: &Texts<'_>, reference: u32, text: &[u8]) -> Ordering
+    ensures { result ≡ compared (naming texts.now reference) text.now }
 {
-    match strings.short_name(reference, text.len()) {
+    match texts.short_name(reference, text.len()) {
         Some(name) => order(name, text),
         None => Ordering::Greater,
     }
 }
 
 /// Whether a reference names a text. It reads one byte more than the text has at most.
-pub(crate) fn is_named(strings: &Strings<'_>, reference: u32, text: &[u8]) -> bool
-    ensures { result ≡ is_text (named (tables strings.now) reference) text.now }
+pub(crate) fn is_named(texts: &Texts<'_>, reference: u32, text: &[u8]) -> bool
+    ensures { result ≡ is_text (naming texts.now reference) text.now }
 {
-    match strings.short_name(reference, text.len()) {
+    match texts.short_name(reference, text.len()) {
         Some(name) => name == text,
         None => false,
     }

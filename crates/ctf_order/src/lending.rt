@@ -2,13 +2,13 @@
 ghost use Rattle.std.specs.Prelude.{◌≡◌, IfOk, map, option_copied};
 ghost use Rattle.std.specs.Option.{ForSome, option_map};
 ghost use Rattle.std.specs.List.Sorted.{IsSortedBy, IsPermutation};
-ghost use Rattle.ctf_model.specs.Name.{Tables, name as named_by};
+ghost use Rattle.ctf_order.specs.Naming.{naming};
+ghost use Rattle.ctf_order.specs.declared.texts.Texts.{Texts as AnyTexts};
 ghost use Rattle.ctf_order.specs.Lending.{goes_before, repeats, IsLent, IsNextLent, Lends};
-ghost use Rattle.ctf_sections.specs.StringsView.{tables};
 
 use crate::comparing::order;
 use crate::entries::Entry;
-use ctf_sections::Strings;
+use crate::texts::Texts;
 use std::alloc::{AllocError, Global};
 use std::cmp::Ordering;
 
@@ -21,8 +21,8 @@ pub(crate) struct Named<'a> {
 
 /// What a reference names that points into the name of another.
 fn rest_of<'a>(before: &Named<'a>, reference: u32) -> Option<&'a [u8]>
-    ensures { (t : Tables) → IsLent t before.now
-        → ForSome result (λ r. named_by t reference ≡ Some r.now) }
+    ensures { (texts : AnyTexts) → IsLent (naming texts) before.now
+        → ForSome result (λ r. naming texts reference ≡ Some r.now) }
 {
     let first = before.entry.reference;
     if first >> 31 != reference >> 31 {
@@ -36,20 +36,16 @@ fn rest_of<'a>(before: &Named<'a>, reference: u32) -> Option<&'a [u8]>
 }
 
 /// What a reference names. Where it points into the name of the one before it, no byte is read.
-fn name_after<'a>(
-    strings: &Strings<'a>,
-    before: Option<&Named<'a>>,
-    reference: u32,
-) -> Option<&'a [u8]>
-    requires { ForSome before (λ b. IsLent (tables strings.now) b.now) }
-    ensures { option_copied result ≡ named_by (tables strings.now) reference }
+fn name_after<'a>(texts: &Texts<'a>, before: Option<&Named<'a>>, reference: u32) -> Option<&'a [u8]>
+    requires { ForSome before (λ b. IsLent (naming texts.now) b.now) }
+    ensures { option_copied result ≡ naming texts.now reference }
 {
     if let Some(named) = before {
         if let Some(rest) = rest_of(named, reference) {
             return Some(rest);
         }
     }
-    strings.name(reference)
+    texts.name(reference)
 }
 
 /// Whether an item has the reference of a smaller one.
@@ -69,18 +65,14 @@ fn is_repeated(before: Option<&Named<'_>>, item: Entry) -> bool
 }
 
 /// An item beside its name, if it has one, and is not the repetition of a smaller one.
-fn next_named<'a>(
-    strings: &Strings<'a>,
-    before: Option<&Named<'a>>,
-    item: Entry,
-) -> Option<Named<'a>>
-    requires { ForSome before (λ b. IsLent (tables strings.now) b.now) }
-    ensures { IsNextLent (tables strings.now) (option_map (λ b. b.now.entry) before.entry) item result }
+fn next_named<'a>(texts: &Texts<'a>, before: Option<&Named<'a>>, item: Entry) -> Option<Named<'a>>
+    requires { ForSome before (λ b. IsLent (naming texts.now) b.now) }
+    ensures { IsNextLent (naming texts.now) (option_map (λ b. b.now.entry) before.entry) item result }
 {
     if is_repeated(before, item) {
         return None;
     }
-    let name = name_after(strings, before, item.reference)?;
+    let name = name_after(texts, before, item.reference)?;
     Some(Named { name, entry: item })
 }
 
@@ -88,14 +80,14 @@ fn next_named<'a>(
 /// their references rise, each table is read once at most.
 pub(crate) fn lent<'a>(
     alloc: Global,
-    strings: &Strings<'a>,
+    texts: &Texts<'a>,
     items: &[Entry],
 ) -> Result<Vec<Named<'a>>, AllocError>
-    ensures { IfOk result (λ named. Lends (tables strings.now) items.now named.items) }
+    ensures { IfOk result (λ named. Lends (naming texts.now) items.now named.items) }
 {
     let mut named = Vec::new(alloc);
     for item in items {
-        if let Some(next) = next_named(strings, named.last(), *item) {
+        if let Some(next) = next_named(texts, named.last(), *item) {
             named.push(next)?;
         }
     }

@@ -5,6 +5,8 @@ mod comparing;
 mod entries;
 mod lending;
 mod order;
+mod texts;
 
 pub use entries::Entry;
 pub use order::Order;
+pub use texts::Texts;

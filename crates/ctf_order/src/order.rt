@@ -1,14 +1,14 @@
 //! Items in the order of their names.
 ghost use Rattle.std.specs.Prelude.{◌≡◌, IfOk, List};
 ghost use Rattle.ctf_order.specs.Holding.{Fits, IsFound};
+ghost use Rattle.ctf_order.specs.Naming.{naming};
 ghost use Rattle.ctf_order.specs.Searching.{first_of};
 ghost use Rattle.ctf_order.specs.declared.entries.Entry.{Entry as Item};
-ghost use Rattle.ctf_sections.specs.StringsView.{tables};
 
 use crate::comparing::{compare, is_named};
 use crate::entries::Entry;
 use crate::lending::{Named, arrange, kept, lent};
-use ctf_sections::Strings;
+use crate::texts::Texts;
 use std::alloc::{AllocError, Global};
 use std::cmp::Ordering;
 
@@ -20,14 +20,14 @@ pub struct Order {
 }
 
 /// The first item of a name, in front of those whose names stand behind it.
-fn first_named(strings: &Strings<'_>, entries: &[Entry], text: &[u8]) -> Option<u32>
-    ensures { result ≡ first_of (tables strings.now) text.now entries.now }
+fn first_named(texts: &Texts<'_>, entries: &[Entry], text: &[u8]) -> Option<u32>
+    ensures { result ≡ first_of (naming texts.now) text.now entries.now }
 {
     for entry in entries {
-        if is_named(strings, entry.reference, text) {
+        if is_named(texts, entry.reference, text) {
             return Some(entry.item);
         }
-        if compare(strings, entry.reference, text).is_gt() {
+        if compare(texts, entry.reference, text).is_gt() {
             return None;
         }
     }
@@ -42,13 +42,13 @@ impl Order {
     /// comparison.
     pub fn build(
         alloc: Global,
-        strings: &Strings<'_>,
+        texts: &Texts<'_>,
         mut items: Vec<Entry>,
     ) -> Result<Order, AllocError>
-        ensures { IfOk result (λ o. Fits (tables strings.now) items.items o) }
+        ensures { IfOk result (λ o. Fits (naming texts.now) items.items o) }
     {
         items.sort_unstable();
-        let mut named = lent(alloc, strings, &items)?;
+        let mut named = lent(alloc, texts, &items)?;
         arrange(&mut named);
         Ok(Order {
             entries: kept(alloc, &named)?,
@@ -58,13 +58,13 @@ impl Order {
     /// The least item of a name. It is found by halves, and takes no memory. Of each name that it
     /// meets it reads one byte more than the text has at most; where many names of one length begin
     /// with the same 64 bytes it goes through these, and reads each table once at most.
-    pub fn find(&self, strings: &Strings<'_>, text: &[u8]) -> Option<u32>
-        ensures { (items : List Item) → Fits (tables strings.now) items self.now
-            → IsFound (tables strings.now) items text.now result }
+    pub fn find(&self, texts: &Texts<'_>, text: &[u8]) -> Option<u32>
+        ensures { (items : List Item) → Fits (naming texts.now) items self.now
+            → IsFound (naming texts.now) items text.now result }
     {
         let from = self
             .entries
-            .partition_point(|e| compare(strings, e.reference, text).is_lt());
-        first_named(strings, &self.entries[from..], text)
+            .partition_point(|e| compare(texts, e.reference, text).is_lt());
+        first_named(texts, &self.entries[from..], text)
     }
 }

@@ -8,4 +8,4 @@ mod strings;
 
 pub use ends::{end_of_names, up_to_zero};
 pub use header::Header;
-pub use strings::Strings;
+pub use strings::{Strings, short_text, text};

@@ -13,7 +13,7 @@ pub struct Strings<'a> {
 }
 
 /// The bytes from an offset on to before the first zero byte, if one follows.
-fn text(table: &[u8], offset: usize) -> Option<&[u8]>
+pub fn text(table: &[u8], offset: usize) -> Option<&[u8]>
     ensures { option_copied result ≡ text_at (Some table.now) offset }
 {
     let rest = table.get(offset..)?;
@@ -33,7 +33,7 @@ fn front(bytes: &[u8], most: usize) -> &[u8]
 }
 
 /// The text at an offset, if it has at most `most` bytes. It reads one byte more at most.
-fn short_text(table: &[u8], offset: usize, most: usize) -> Option<&[u8]>
+pub fn short_text(table: &[u8], offset: usize, most: usize) -> Option<&[u8]>
     ensures { option_copied result ≡ if_short most (text_at (Some table.now) offset) }
 {
     let rest = table.get(offset..)?;

@@ -2,8 +2,12 @@
 use Rattle.std.specs.Prelude.{◌≡◌}
 use Rattle.ctf_model.specs.Lists.{Lists}
 use Rattle.ctf_symbols.specs.Kept.{lefts_of}
+use Rattle.ctf_symbols.specs.Named.{SymbolsInOrder, LabelsInOrder}
 use Rattle.ctf_symbols.specs.declared.map.SymbolMap.{SymbolMap}
 
--- the map is that of the lists of a dictionary
+-- the map is that of a dictionary with these lists: where the entries of its symbols begin, and its considered symbols
+-- and its labels by their names
 pub record Fits (s : Lists) (m : SymbolMap) : Type 0 where
   pub places : m.lefts.items ≡ lefts_of s
+  pub symbols : SymbolsInOrder s m.symbols
+  pub labels : LabelsInOrder s m.labels

@@ -1,9 +1,11 @@
 -- How much is left of its section where the entry of each symbol begins. The words are ours.
-use Rattle.std.specs.Prelude.{ℕ, ◌+◌, ◌-◌, ◌*◌, ◌/◌, ◌%◌, List, [], ◌∷◌, length, drop, slice_index, nat_lt, Option, Some, None, if◌then◌else◌}
+use Rattle.std.specs.Prelude.{ℕ, ◌+◌, ◌-◌, ◌*◌, ◌/◌, ◌%◌, ◌==◌, List, [], ◌∷◌, length, drop, slice_index, nat_lt, Option, Some, None, if◌then◌else◌}
 use Rattle.ctf_model.specs.Entries.{entry_len}
 use Rattle.ctf_model.specs.Header.{section}
 use Rattle.ctf_model.specs.Lists.{Lists}
 use Rattle.ctf_model.specs.Symbols.{Symbol, symbols, is_considered, is_object}
+use Rattle.ctf_model.specs.declared.symbols.SymbolClass.{SymbolClass}
+use Rattle.ctf_model.specs.declared.symbols.SymbolClass.TheVariants.{Object, Function}
 use Rattle.ctf_model.specs.declared.sections.Section.TheVariants.{SObjects, SFunctions}
 
 -- of symbols that are numbered from n on, where this is left of both sections; 0 where a symbol has no entry
@@ -25,3 +27,8 @@ last_bytes n b = drop (length b - n) b
 -- what the symbol with a number stands for, if it is there
 abbrev pub sort_in : List ℕ → ℕ → Option ℕ
 sort_in sym number = if nat_lt number (length sym / 24) then Some (slice_index sym (24 * number + 4) % 16) else None
+
+-- the class of what stands for an object, or else for a function
+abbrev pub class_in : Option ℕ → SymbolClass
+class_in None = Function
+class_in (Some sort) = if sort == 1 then Object else Function

@@ -1,21 +1,13 @@
 //! How much is left of its section where the entry of each symbol begins.
-ghost use Rattle.std.specs.Prelude.{◌≡◌, ◌≤◌, ◌<◌, ◌^◌, length, drop, IfOk, None};
+ghost use Rattle.std.specs.Prelude.{◌≡◌, ◌≤◌, ◌<◌, ◌^◌, length, IfOk, None};
 ghost use Rattle.ctf_model.specs.Symbols.{considered, symbols_of};
 ghost use Rattle.ctf_entries.specs.NamesView.{strings_of};
 ghost use Rattle.ctf_entries.specs.Sound.{bad_place};
 ghost use Rattle.ctf_symbols.specs.Kept.{lefts_from};
 
+use crate::rows::behind_symbol;
 use ctf_entries::{Symbol, SymbolNames, behind_function, behind_object};
 use std::alloc::{AllocError, Global};
-
-/// The symbols behind the first one.
-fn behind_first(sym: &[u8]) -> &[u8]
-    requires { 24 ≤ length sym.now }
-    ensures { result.now ≡ drop 24 sym.now }
-{
-    let (_, behind) = sym.split_at(24);
-    behind
-}
 
 /// For each symbol of a table how much is left of its section where its entry begins, and 0 where
 /// it has none. Reads each symbol and each entry once.
@@ -41,7 +33,7 @@ pub(crate) fn lefts(
     let mut functions = functions;
     'symbols: while rest.len() >= 24 {
         let symbol = Symbol::read(rest, names);
-        rest = behind_first(rest);
+        rest = behind_symbol(rest);
         if !symbol.is_considered(number) {
             lefts.push(0)?;
         } else if symbol.is_object() {

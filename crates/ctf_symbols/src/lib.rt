@@ -2,9 +2,11 @@
 #![tactic(auto)]
 
 mod building;
+mod items;
 mod map;
 mod named;
 mod names;
+mod rows;
 
 pub use map::SymbolMap;
 pub use named::NamedSymbol;

@@ -1,7 +1,8 @@
 -- Bytes that are labels are rows of labels.
-use Rattle.std.proofs.Common.{◌≡◌, ℕ, zero, suc, ◌/◌, List, [], ◌∷◌, length, drop, Option, Some, None, refl, arith}
-use Rattle.std.specs.Prelude.{unwrap_or}
+use Rattle.std.proofs.Common.{◌≡◌, ℕ, zero, suc, ◌/◌, ◌<◌, ◌≤◌, false, List, [], ◌∷◌, length, drop, Option, Some, None, refl, arith}
+use Rattle.std.specs.Prelude.{IsSome, is_some, slice_get, unwrap_or}
 use Rattle.std.specs.Option.{option_map}
+use Rattle.std.proofs.lemmas.Option.{slice_get_past}
 use Rattle.ctf_model.specs.Bytes.{u32_at}
 use Rattle.ctf_model.specs.Dictionary.{AreLabels, Label, labels_in}
 use Rattle.ctf_model.specs.Name.{Tables, name}
@@ -24,3 +25,19 @@ labels_read t b h = read t (length b / 8) b h
 
 pub labels_good : (t : Tables) (b : List ℕ) → AreLabels t b (labels_in t (length b / 8) b) → AreGood (label_of t) 8 (length b / 8) b
 labels_good t b h = record { inside = omega arith; good = rw (labels_read t b h) refl }
+
+said_last : (text : Option (List ℕ)) (last : ℕ) (label : Option Label) → option_map (λ t. record { name = t; last = last }) text ≡ label → IsSome label → Some last ≡ option_map (λ x. x.last) label
+said_last None last label e some = absurd (let none : is_some label ≡ false = rw (← e) refl in cc)
+said_last (Some t) last label e some = rw (← e) refl
+
+-- the last type of the label that a row is
+pub last_is : (t : Tables) (b : List ℕ) (labels : List Label) (i : ℕ) → label_of t b ≡ slice_get labels i → i < length labels → Some (u32_at b 4) ≡ option_map (λ x. x.last) (slice_get labels i)
+last_is t b labels i e lt = said_last (name t (u32_at b 0)) (u32_at b 4) (slice_get labels i) e (there labels i lt)
+  where
+    there : (labels : List Label) (i : ℕ) → i < length labels → IsSome (slice_get labels i)
+    there [] i lt = absurd (omega arith)
+    there (x ∷ xs) zero lt = refl
+    there (x ∷ xs) (suc i) lt = there xs i (omega arith)
+
+pub no_last : (labels : List Label) (i : ℕ) → length labels ≤ i → None ≡ option_map (λ (x : Label). x.last) (slice_get labels i)
+no_last labels i le = rw (slice_get_past labels i le) refl

@@ -1,5 +1,6 @@
 //! The labels of a dictionary.
-ghost use Rattle.std.specs.Prelude.{◌≡◌, ◌/◌, length};
+ghost use Rattle.std.specs.Prelude.{◌≡◌, ◌/◌, length, slice_get};
+ghost use Rattle.std.specs.Option.{option_map};
 ghost use Rattle.ctf_model.specs.Dictionary.{AreLabels, labels_in};
 ghost use Rattle.ctf_sections.specs.StringsView.{tables};
 ghost use Rattle.ctf_views.specs.ItemsView.{label};
@@ -61,6 +62,21 @@ impl<'a> Row for LabelRow<'a> {
 
 /// The labels of a dictionary that are left.
 pub type Labels<'a> = Rows<'a, LabelRow<'a>>;
+
+impl<'a> Rows<'a, LabelRow<'a>> {
+    /// The last type of the label with a number, from 0, if it is there. No name is read.
+    #[tactic(auto, using(crate::proofs::Labelled::last_is, crate::proofs::Labelled::no_last))]
+    pub fn last_at(&self, index: usize) -> Option<u32>
+        ensures { result ≡ option_map (λ x. x.last) (slice_get self.now index) }
+    {
+        if index < self.len() {
+            let (_, bytes) = self.row_at(index);
+            Some(u32_at(bytes, 4))
+        } else {
+            None
+        }
+    }
+}
 
 /// The labels that stand in bytes, eight bytes each; a rest of fewer is none.
 pub fn read_labels<'a>(bytes: &'a [u8], strings: Strings<'a>) -> Labels<'a>

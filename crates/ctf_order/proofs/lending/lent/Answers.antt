@@ -1,13 +1,13 @@
 use Rattle.std.proofs.Common.{take, get_or}
 use Rattle.std.proofs.lemmas.List.{take_more}
-use Rattle.ctf_sections.specs.StringsView.{tables}
+use Rattle.ctf_order.specs.Naming.{naming}
 use Rattle.ctf_order.proofs.Lent.{last_there, left_out, taken}
 use Rattle.ctf_order.proofs.lending.lent.Goals as goal
 use Rattle.ctf_order.proofs.lending.lent.Goals.{in-Some+in_ok-push, in_default}
 
 pub loop-item-preserved : goal.loop-item-preserved
 loop-item-preserved c =
-    let t = tables c.args.strings.now in
+    let t = naming c.args.texts.now in
     let i = c.loop-item.item-index in
     let xs = c.args.items.now in
     let named = c.loop-item.named.items in

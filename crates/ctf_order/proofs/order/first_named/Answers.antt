@@ -1,7 +1,7 @@
 use Rattle.std.proofs.Common.{◌+◌, drop, get_or, sym, ap, ◌∙◌, arith}
 use Rattle.std.proofs.lemmas.List.{drop_all, drop_more}
 use Rattle.std.specs.Ordering.{is_gt}
-use Rattle.ctf_sections.specs.StringsView.{tables}
+use Rattle.ctf_order.specs.Naming.{naming}
 use Rattle.ctf_order.specs.Searching.{first_of}
 use Rattle.ctf_order.specs.declared.entries.Entry.{Entry}
 use Rattle.ctf_order.proofs.Search.{step_end, step_found, step_on, step_stop}
@@ -9,7 +9,7 @@ use Rattle.ctf_order.proofs.order.first_named.Goals as goal
 
 pub returns-then-is_named : goal.returns-then-is_named
 returns-then-is_named c =
-    let t = tables c.args.strings.now in
+    let t = naming c.args.texts.now in
     let text = c.args.text.now in
     let xs = c.args.entries.now in
     let i = c.loop-entry.entry-index in
@@ -18,7 +18,7 @@ returns-then-is_named c =
 
 pub returns-then-is_gt : goal.returns-then-is_gt
 returns-then-is_gt c =
-    let t = tables c.args.strings.now in
+    let t = naming c.args.texts.now in
     let text = c.args.text.now in
     let xs = c.args.entries.now in
     let i = c.loop-entry.entry-index in
@@ -27,7 +27,7 @@ returns-then-is_gt c =
 
 pub loop-entry-preserved : goal.loop-entry-preserved
 loop-entry-preserved c =
-    let t = tables c.args.strings.now in
+    let t = naming c.args.texts.now in
     let text = c.args.text.now in
     let xs = c.args.entries.now in
     let i = c.loop-entry.entry-index in
@@ -36,7 +36,7 @@ loop-entry-preserved c =
 
 pub returns : goal.returns
 returns c =
-    let t = tables c.args.strings.now in
+    let t = naming c.args.texts.now in
     let text = c.args.text.now in
     let xs = c.args.entries.now in
     let i = c.loop-entry.entry-index in

@@ -1,0 +1,18 @@
+-- What names are known by. The words are ours.
+use Rattle.std.specs.Prelude.{ℕ, List, [], Option, Some, unwrap_or}
+use Rattle.ctf_model.specs.Name.{name, text_at}
+use Rattle.ctf_sections.specs.StringsView.{tables}
+use Rattle.ctf_order.specs.declared.texts.Texts.{Texts}
+use Rattle.ctf_order.specs.declared.texts.Texts.TheVariants.{Dictionary, Program}
+
+-- what each number names, if it names something
+abbrev pub Naming : Type 0
+Naming = ℕ → Option (List ℕ)
+
+abbrev pub name_or_none : Naming → ℕ → List ℕ
+name_or_none names reference = unwrap_or (names reference) []
+
+-- references name what stands in the tables of a dictionary, offsets what stands in the strings of a program
+abbrev pub naming : Texts → Naming
+naming (Dictionary strings) = name (tables strings)
+naming (Program strs) = text_at (Some strs.now)
