@@ -4,6 +4,8 @@ use Rattle.std.specs.Prelude.{◌==◌, MatchOption, map, slice_get, unwrap_or, 
 use Rattle.std.specs.List.{Contains, enumerate_from}
 use Rattle.std.specs.Option.{option_map}
 use Rattle.std.specs.Str.{bytes_eq}
+use Rattle.std.proofs.Math.Logic.{∥∥₁_elim}
+use Rattle.std.proofs.Props.{props}
 use Rattle.std.proofs.lemmas.Option.{same_Some}
 use Rattle.std.proofs.lemmas.Slice.Eq.{bytes_eq-Decides}
 use Rattle.ctf_model.proofs.Denoted.{denotes_said}
@@ -104,7 +106,7 @@ one_found names items text (Some n) (Some m) p q = ap (λ (k : ℕ). Some k) (sa
 -- what is found in the order of names is the first of the name
 pub found_first : {A : Type 0} (names : Naming) (called : A → List ℕ) (xs : List (ℕ × A)) (o : Order) (text : List ℕ) (found : Option ℕ) → AreRising number 0 xs → AreInOrder names called xs o → ((items : List Entry) → Fits names items o → IsFound names items text found)
     → found ≡ option_map number (first_called called text xs)
-found_first names called xs o text found rising order finds = one_found names order.items text found _ (finds order.items order.fits) (first_found names called 0 xs order.items text rising order.each)
+found_first names called xs o text found rising order finds = ∥∥₁_elim order (search props) (λ h. one_found names h.items text found _ (finds h.items h.fits) (first_found names called 0 xs h.items text rising h.each))
 
 pub enumerated_rising : {A : Type 0} (n : ℕ) (xs : List A) → AreRising (number {A = A}) n (enumerate_from n xs)
 enumerated_rising n [] = tt

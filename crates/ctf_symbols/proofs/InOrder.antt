@@ -14,4 +14,4 @@ pub symbols_ordered : (s : Lists) (strings strs : Option (List ℕ)) (table : Li
 unfolding symbols
 symbols_ordered s strings strs table names items o n e t by each fits =
     let all : strings ≡ s.strs = n ∙ e in
-    record { items = items; each = rw (all, t) at each; fits = rw (by, e) at fits }
+    ∣ record { items = items; each = rw (all, t) at each; fits = rw (by, e) at fits } ∣₁

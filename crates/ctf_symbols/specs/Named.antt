@@ -22,11 +22,15 @@ AreItems names called [] items = items ≡ []
 AreItems names called (x ∷ xs) [] = ⊥
 AreItems names called (x ∷ xs) (e ∷ items) = (e.item ≡ x.0) × (names e.reference ≡ Some (called x.1)) × AreItems names called xs items
 
--- such items, in the order of their names
-pub record AreInOrder {A : Type 0} (names : Naming) (called : A → List ℕ) (xs : List (ℕ × A)) (o : Order) : Type 0 where
+-- such items, which an order fits
+pub record Ordered {A : Type 0} (names : Naming) (called : A → List ℕ) (xs : List (ℕ × A)) (o : Order) : Type 0 where
   pub items : List Entry
   pub each : AreItems names called xs items
   pub fits : Fits names items o
+
+-- there are such items
+abbrev pub AreInOrder : {A : Type 0} → Naming → (A → List ℕ) → List (ℕ × A) → Order → Type 0
+AreInOrder names called xs o = ∥ Ordered names called xs o ∥₁
 
 -- ---- of a dictionary
 

@@ -11,5 +11,5 @@ returns c =
     record {
       places = c.in_ok-lefts.ensures ∙ lefts_are s _ _ _ _ _ c.new-names.ensures p.strs p.sym p.objects p.functions;
       symbols = symbols_ordered s _ _ _ _ _ _ c.new-names.ensures p.strs p.sym c.program_texts.ensures c.in_ok-items.ensures c.in_ok-symbols.ensures;
-      labels = record { items = _; each = c.in_ok-items-2.ensures; fits = rw c.strings.ensures at c.in_ok-labels.ensures };
+      labels = ∣ record { items = _; each = c.in_ok-items-2.ensures; fits = rw c.strings.ensures at c.in_ok-labels.ensures } ∣₁;
     }
