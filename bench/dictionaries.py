@@ -64,7 +64,7 @@ def written(i):
     return (b"struct " if i % 4 == 2 else b"") + name_of(i)
 
 
-def overlapping(count, front=16_000_000):
+def overlapping_names(count, front=16_000_000):
     """Visible integers whose names overlap: each is the end of one text of one byte, many million times."""
     types = b"".join(
         record(1 + front // count * i, 1, VISIBLE, 4, struct.pack("<I", 0x01000020)) for i in range(count)
@@ -102,6 +102,52 @@ def child(t):
     return dictionary(record(0, 3, 0, t), b"\0p\0", 1)
 
 
+def symbol(name, sort, section=1, value=0x1000):
+    """A symbol of 24 bytes; sort 1 is an object, 2 a function."""
+    return struct.pack("<IBBHQQ", name, 0x10 | sort, 0, section, value, 8)
+
+
+def symbols(count):
+    """An integer, and a program with so many symbols: three functions of two arguments, and then an object."""
+    offsets, strs = [], bytearray(1)
+    for i in range(count):
+        offsets.append(len(strs))
+        strs += b"%s_%d\0" % (b"module_function" if i % 4 else b"object", i * 7_919 % 1_000_003)
+    table = b"".join(symbol(at, 2 if i % 4 else 1) for i, at in enumerate(offsets))
+    objects = struct.pack("<H", 1) * sum(i % 4 == 0 for i in range(count))
+    functions = struct.pack("<4H", 5 << 11 | 2, 1, 1, 1) * sum(i % 4 != 0 for i in range(count))
+    return told(objects, functions), table, bytes(strs)
+
+
+def told(objects, functions):
+    """A dictionary of an integer with entries of objects and of functions."""
+    ends = len(objects), len(objects) + len(functions)
+    pad = bytes(-ends[1] % 4)
+    types = record(1, 1, 0, 4, struct.pack("<I", 0x01000020))
+    at = ends[1] + len(pad)
+    header = b"\xf1\xcf\x02\x00" + struct.pack("<8I", 0, 0, 0, 0, ends[0], at, at + len(types), 5)
+    return header + objects + functions + pad + types + b"\0int\0"
+
+
+def endless(count):
+    """So many symbols over 16 MiB of strings without a zero byte, so that none of them has a name."""
+    table = b"".join(symbol(1 + i, 1) for i in range(count))
+    return told(b"", b""), table, 16_777_216 * b"n"
+
+
+def overlapping(count):
+    """So many objects, each named by the end of the name of the one before it."""
+    table = b"".join(symbol(1 + i, 1) for i in range(count))
+    return told(struct.pack("<H", 1) * count, b""), table, b"\0" + count * b"n" + b"\0"
+
+
+def labels(count):
+    """So many labels, each named by the end of the name of the one before it, the first by LONG_NAME."""
+    at = 8 * count
+    header = b"\xf1\xcf\x02\x00" + struct.pack("<8I", 0, 0, 0, at, at, at, at, 0)
+    return header + b"".join(struct.pack("<II", 0x80000001 + i, 1) for i in range(count)), b"", LONG_NAME
+
+
 LONG_NAME = b"\0" + 15_000_000 * b"n" + b"\0"
 
 
@@ -117,3 +163,9 @@ def parts(session, data, section="ctf"):
     for at in range(0, len(data), PIECE):
         piece = data[at : at + PIECE].hex()
         yield '{"s":%d,"op":"part","section":"%s","bytes":"%s"}\n' % (session, section, piece)
+
+
+def all_parts(session, lists):
+    """The requests that hand in a CTF section, a symbol table and its strings."""
+    for section, data in zip(("ctf", "sym", "str"), lists):
+        yield from parts(session, data, section)

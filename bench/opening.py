@@ -1,12 +1,13 @@
 #!/usr/bin/env python3
-"""Times what opening a dictionary costs, and how that grows with the number of its types.
+"""Times what opening a dictionary costs, and how that grows with the number of its types or symbols.
 
 usage: opening.py PROGRAM
 
-Each dictionary is handed in and opened some times, then handed in and only checked, and then handed
-in and dropped by a reset: the differences are what `open` and `check` cost (processor time, the least
-of five runs). Then the same is done once, and the instructions are counted by valgrind, for all types
-and for half of them: the ratio of the two says how the cost grows, and 2 is linear.
+Each dictionary is handed in and opened twenty times (twice where it has more than 8 MB), then handed
+in and only checked, and then handed in and dropped by a reset: the differences are what `open` and
+`check` cost (processor time, the least of five runs). Then the same is done once, and the instructions
+are counted by valgrind, for all types or symbols and for half of them: the ratio of the two says how
+the cost grows, and 2 is linear.
 """
 import re
 import subprocess
@@ -14,63 +15,90 @@ import sys
 import tempfile
 
 import run
-from dictionaries import enumerators, mixed, named, overlapping, parts, plain_names, unions
+from dictionaries import (
+    all_parts,
+    endless,
+    enumerators,
+    labels,
+    mixed,
+    named,
+    overlapping,
+    overlapping_names,
+    plain_names,
+    symbols,
+    unions,
+)
 
-# What is opened, how many types it has, and how often it is opened in one run.
-DICTIONARIES = [
-    ("mixed", mixed, 32_766, 20),
-    ("unions", unions, 32_256, 20),
-    ("enumerators", enumerators, 128, 20),
-    ("named", named, 30_000, 20),
-    ("plain", plain_names, 32_766, 4),
-    ("overlapping", overlapping, 32_766, 4),
-]
+
+def repeats(lists):
+    """How often a dictionary is opened."""
+    return 20 if sum(map(len, lists)) < 8_000_000 else 2
 
 
-def lines(ctf, word, times):
+def lines(lists, word, times):
     for _ in range(times):
-        yield from parts(1, ctf)
+        yield from all_parts(1, lists)
         yield '{"s":1,"op":"%s"}\n' % word
         yield '{"s":1,"op":"reset"}\n'
 
 
-def seconds(program, ctf, word, times):
-    """Processor time and peak memory of a stream with so many of the word."""
+def seconds(program, lists, word):
+    """Processor time for one of the word, with handing in, and peak memory."""
+    times = repeats(lists)
     with tempfile.NamedTemporaryFile("w", suffix=".jsonl") as file:
-        file.writelines(lines(ctf, word, times))
+        file.writelines(lines(lists, word, times))
         file.flush()
         used, _, memory = min(run.run([program, "serve"], file.name) for _ in range(5))
-    return used, memory
+    return used / times, memory
 
 
-def instructions(program, ctf, word):
+def instructions(program, lists, word):
     """The instructions of a stream with one of the word."""
     command = ["valgrind", "--tool=callgrind", "--callgrind-out-file=/dev/null", program, "serve"]
-    text = "".join(lines(ctf, word, 1)).encode()
+    text = "".join(lines(lists, word, 1)).encode()
     said = subprocess.run(command, input=text, stdout=subprocess.DEVNULL, stderr=subprocess.PIPE, check=True)
     return int(re.search(rb"Collected : (\d+)", said.stderr).group(1))
 
 
 def growth(program, make, count):
-    """How many times as many instructions all types take as half of them."""
+    """How many times as many instructions all types, or all symbols, take as half of them."""
     costs = []
     for size in (count // 2, count):
-        ctf = make(size)
-        costs.append(instructions(program, ctf, "open") - instructions(program, ctf, "reset"))
+        lists = make(size)
+        costs.append(instructions(program, lists, "open") - instructions(program, lists, "reset"))
     return costs[1] / costs[0]
 
 
+def alone(make):
+    """Such a dictionary without symbols."""
+    return lambda count: (make(count),)
+
+
+ROWS = [
+    ("mixed", alone(mixed), 32_766, "types"),
+    ("unions", alone(unions), 32_256, "types"),
+    ("enumerators", alone(enumerators), 128, "types"),
+    ("named", alone(named), 30_000, "types"),
+    ("plain names", alone(plain_names), 32_766, "types"),
+    ("overlapping names", alone(overlapping_names), 32_766, "types"),
+    ("symbols", symbols, 100_000, "symbols"),
+    ("overlapping", overlapping, 100_000, "symbols"),
+    ("endless", endless, 600_000, "symbols"),
+    ("labels", labels, 1_000_000, "labels"),
+]
+
+
 def main(program):
-    for name, make, count, times in DICTIONARIES:
-        ctf = make(count)
-        opened, memory = seconds(program, ctf, "open", times)
-        checked, _ = seconds(program, ctf, "check", times)
-        dropped, _ = seconds(program, ctf, "reset", times)
-        cost, megabytes = max(0, 1000 * (opened - dropped) / times), len(ctf) / 1_000_000
-        judged = max(0, 1000 * (checked - dropped) / times)
+    for name, make, count, what in ROWS:
+        lists = make(count)
+        opened, memory = seconds(program, lists, "open")
+        checked, _ = seconds(program, lists, "check")
+        dropped, _ = seconds(program, lists, "reset")
+        cost, megabytes = max(0, 1000 * (opened - dropped)), sum(map(len, lists)) / 1_000_000
+        judged = max(0, 1000 * (checked - dropped))
         print(
-            f"{name:12}{count:7} types {megabytes:6.2f} MB {judged:6.2f} ms for one check {cost:6.2f} ms for one open {cost / megabytes:6.2f} ms/MB"
-            f"  to half the types {growth(program, make, count):5.2f} {memory:8} KiB"
+            f"{name:18}{count:8} {what:7} {megabytes:6.2f} MB {judged:6.2f} ms for one check {cost:6.2f} ms for one open {cost / megabytes:6.2f} ms/MB"
+            f"  to half of them {growth(program, make, count):5.2f} {memory:8} KiB"
         )
 
 

@@ -1,7 +1,7 @@
 #!/usr/bin/env python3
 """Writes a stream of requests to standard output; the same stream at each run.
 
-usage: streams.py kinds | large | line | sessions | again | kind | record | members | size | known | find | hostile | parents | orphans
+usage: streams.py kinds | large | line | sessions | again | kind | record | members | size | known | find | symbol | hostile | parents | orphans
 
 kinds     an integer is handed in and opened once, and asked for its kind 100,000 times
 large     32,766 integers without names are opened once, and the last is asked for its kind 1,000 times
@@ -14,6 +14,7 @@ members   the same dictionary, of whose 5,000 structs each is asked for its 14 m
 size      the same dictionary, 10,000 of its types asked for their size
 known     30,000 visible types, most of them with a name of their own, are opened once, and 10,000 asked for their kind
 find      the same, 10,000 of the names looked for
+symbol    a program of 20,000 symbols is opened once, and 10,000 of them, spread over all, looked up by their names
 hostile   a struct of 1,023 members that all have one name of 15 MB is asked 100 times for its members and for a
           member that it hasn't, and a type of that name 100 times for its record
 parents   a parent of 20,000 types and 200 children, each of which imports it and is asked for a type of it
@@ -21,7 +22,7 @@ orphans   the same without the imports
 """
 import sys
 
-from dictionaries import LONG_NAME, child, long_names, mixed, named, parts, written
+from dictionaries import LONG_NAME, all_parts, child, long_names, mixed, named, parts, symbols, written
 
 INT = "f1cf0200" + 24 * "00" + "0c00000005000000" + "01000000000c040020000001" + "00696e7400"
 
@@ -97,6 +98,15 @@ def find():
     yield from of_names(lambda t: '{"s":7,"op":"find","d":1,"text":"%s"}\n' % written(t).decode())
 
 
+def symbol():
+    lists = symbols(20_000)
+    names = lists[2].split(b"\0")[1:]
+    yield from all_parts(7, lists)
+    yield '{"s":7,"op":"open"}\n'
+    for i in range(10_000):
+        yield '{"s":7,"op":"symbol","d":1,"name":"%s"}\n' % names[i * 7_001 % 20_000].decode()
+
+
 def hostile():
     yield from parts(7, long_names())
     yield from parts(7, LONG_NAME, "str")
@@ -139,6 +149,7 @@ STREAMS = {
     "size": size,
     "known": known,
     "find": find,
+    "symbol": symbol,
     "hostile": hostile,
     "parents": parents,
     "orphans": orphans,

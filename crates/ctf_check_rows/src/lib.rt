@@ -16,7 +16,11 @@ mod headers;
 #[cfg(test)]
 mod inputs;
 #[cfg(test)]
+mod labels;
+#[cfg(test)]
 mod memory;
+#[cfg(test)]
+mod named_symbols;
 #[cfg(test)]
 mod names;
 #[cfg(test)]

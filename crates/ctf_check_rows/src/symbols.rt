@@ -10,7 +10,7 @@ use std::alloc::{AllocError, Global};
 use std::test::Fail;
 
 /// A symbol of 24 bytes without a value.
-fn symbol(name: u8, info: u8, section: u16) -> [u8; 24] {
+pub fn symbol(name: u8, info: u8, section: u16) -> [u8; 24] {
     let [low, high] = section.to_le_bytes();
     [
         name, 0, 0, 0, info, 0, low, high, 0, 0, 0, 0, 0, 0, 0, 0, 0, 0, 0, 0, 0, 0, 0, 0,
@@ -18,11 +18,11 @@ fn symbol(name: u8, info: u8, section: u16) -> [u8; 24] {
 }
 
 /// The names of the symbols.
-const STRS: &[u8] = b"\0_START_\0x\0a\0b\0c\0f\0";
+pub const STRS: &[u8] = b"\0_START_\0x\0a\0b\0c\0f\0";
 
 /// Nothing; the linker's mark; an object in no section; an absolute one of the value 0; the objects
 /// `b` (4) and `c` (5); and the function `f` (6).
-fn program(alloc: Global) -> Result<Vec<u8>, AllocError> {
+pub fn program(alloc: Global) -> Result<Vec<u8>, AllocError> {
     let mut sym = Vec::new(alloc);
     for entry in [
         symbol(0, 0, 0),
@@ -39,7 +39,7 @@ fn program(alloc: Global) -> Result<Vec<u8>, AllocError> {
 }
 
 /// A dictionary of an integer, with sections of objects (2 bytes) and of functions.
-fn over(alloc: Global, parname: u8, sections: &[u8]) -> Result<Vec<u8>, AllocError> {
+pub fn over(alloc: Global, parname: u8, sections: &[u8]) -> Result<Vec<u8>, AllocError> {
     let behind = (sections.len() % 100) as u8;
     let header = [
         0xf1,

@@ -26,7 +26,7 @@ pub(crate) fn lefts(
     ensures { IfOk result (λ l. l.items ≡ lefts_from 0 (symbols_of (strings_of names.entry) sym.now)
         objects.now functions.now) }
 {
-    let mut lefts = Vec::new(alloc);
+    let mut lefts = Vec::with_capacity(alloc, sym.len() / 24)?;
     let mut number = 0;
     let mut rest = sym;
     let mut objects = objects;

@@ -2,6 +2,8 @@
 #![tactic(auto)]
 
 mod building;
+mod by_name;
+mod by_number;
 mod items;
 mod map;
 mod named;
