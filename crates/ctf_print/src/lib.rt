@@ -1,0 +1,12 @@
+//! Values in the memory of a program, as text.
+#![tactic(auto)]
+
+mod image;
+mod integers;
+mod numbers;
+mod showing;
+mod telling;
+mod text;
+mod values;
+
+pub use showing::show;
