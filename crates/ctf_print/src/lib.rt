@@ -1,6 +1,7 @@
 //! Values in the memory of a program, as text.
 #![tactic(auto)]
 
+mod enums;
 mod image;
 mod integers;
 mod numbers;

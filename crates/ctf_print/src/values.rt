@@ -11,8 +11,9 @@ ghost use Rattle.ctf_print.specs.Telling.{told_shown};
 ghost use Rattle.ctf_print.specs.ToldView.{told_seen};
 ghost use Rattle.ctf_print.specs.Written.{Refused, written};
 
+use crate::enums::show_enum;
 use crate::image::Image;
-use crate::integers::{show_enum, show_float, show_integer};
+use crate::integers::{show_float, show_integer};
 use crate::numbers::show_raw;
 use crate::telling::{Told, told_by};
 use crate::text::Text;

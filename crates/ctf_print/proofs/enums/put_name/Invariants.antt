@@ -1,6 +1,6 @@
 use Rattle.std.proofs.Common.{◌≡◌, drop}
 use Rattle.ctf_model.specs.Values.{name_of_value}
-use Rattle.ctf_print.proofs.integers.put_name.Given as goal
+use Rattle.ctf_print.proofs.enums.put_name.Given as goal
 
 abbrev pub invariant-loop-i : goal.invariant-loop-i
 invariant-loop-i l = record {

@@ -2,7 +2,7 @@ use Rattle.std.proofs.Common.{◌∙◌, sym, w64}
 use Rattle.std.proofs.Math.Facts.{to_z-of_z}
 use Rattle.ctf_views.specs.ItemsView.{enumerator}
 use Rattle.ctf_print.proofs.Names.{item_lent, named_here, named_later, named_nowhere}
-use Rattle.ctf_print.proofs.integers.put_name.Goals as goal
+use Rattle.ctf_print.proofs.enums.put_name.Goals as goal
 
 pub returns-then-has_value-clause-ok : goal.returns-then-has_value-clause-ok
 returns-then-has_value-clause-ok c =
