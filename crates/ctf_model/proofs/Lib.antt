@@ -33,3 +33,5 @@ pub mod DraftNumbers
 pub mod SoundDrafts
 pub mod UnderParents
 pub mod NextPlace
+pub mod ValueChains
+pub mod BoundedParents

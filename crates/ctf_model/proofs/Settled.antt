@@ -19,20 +19,20 @@ use Rattle.ctf_model.proofs.OwnTypes.{each_own, targets_are, own_of, not_zero, p
 -- ---- where chains end
 
 -- fewer than k own types follow on each other from here on, this one counted
-abbrev Ends : List (List ℕ) → ℕ → ℕ → Type 0
+abbrev pub Ends : List (List ℕ) → ℕ → ℕ → Type 0
 Ends es zero j = ⊥
 Ends es (suc k) j = IsWithin es k j
 
 -- the same of a number: it may name no own type
-abbrev EndsAt : Dictionary → ℕ → ℕ → Type 0
+abbrev pub EndsAt : Dictionary → ℕ → ℕ → Type 0
 EndsAt d k n = MatchOption (own_index d.child (length d.terms) n) (Unit {0}) (Ends (value_edges d) k)
 
-all_map : (P Q : ℕ → Type 0) → ((t : ℕ) → P t → Q t) → (ts : List ℕ) → AllByRecursion P ts → AllByRecursion Q ts
+pub all_map : (P Q : ℕ → Type 0) → ((t : ℕ) → P t → Q t) → (ts : List ℕ) → AllByRecursion P ts → AllByRecursion Q ts
 all_map P Q h [] a = tt
 all_map P Q h (t ∷ ts) a = (h t a.0, all_map P Q h ts a.1)
 
 -- from what an own type leads to, one fewer follow
-asked_end : (d : Dictionary) (k i : ℕ) → IsWithin (value_edges d) k i → AllByRecursion (EndsAt d k) (by_value (own_body d i))
+pub asked_end : (d : Dictionary) (k i : ℕ) → IsWithin (value_edges d) k i → AllByRecursion (EndsAt d k) (by_value (own_body d i))
 unfolding IsWithin
 asked_end d zero i w =
     let P : ℕ → Type 0 = λ j. ⊥ in
@@ -44,7 +44,7 @@ asked_end d (suc k) i w =
 -- ---- enough numbers
 
 -- a type of a dictionary, and where its number stands
-record Stands (d : Dictionary) (n i : ℕ) (z : Term) : Type 0 where
+pub record Stands (d : Dictionary) (n i : ℕ) (z : Term) : Type 0 where
   pub there : place d.child n ≡ Own i
   pub got : slice_get d.terms i ≡ Some z
 
@@ -63,10 +63,10 @@ settle_case figure asks parents d n x y h = ap (λ (r : Result ℕ Fault). cond 
     at (Parents i) e = refl
     at (Own i) e = found i e (slice_get d.terms i) refl
 
-stands_inside : (d : Dictionary) (n i : ℕ) (z : Term) → Stands d n i z → own_index d.child (length d.terms) n ≡ Some i
+pub stands_inside : (d : Dictionary) (n i : ℕ) (z : Term) → Stands d n i z → own_index d.child (length d.terms) n ≡ Some i
 stands_inside d n i z s = own_of d.child (length d.terms) n i s.there (slice_get_within d.terms i z s.got)
 
-body_is : (d : Dictionary) (n i : ℕ) (z : Term) → Stands d n i z → own_body d i ≡ z.body
+pub body_is : (d : Dictionary) (n i : ℕ) (z : Term) → Stands d n i z → own_body d i ≡ z.body
 body_is d n i z s = ap (λ (x : Term). x.body) (get_or_from_slice_get d.terms i z nothing s.got)
 
 pub settle : (figure : Figure) → AsksByValue figure → (parents : ℕ → Result ℕ Fault) (d : Dictionary) (k n x y : ℕ) → EndsAt d k n → k + 1 ≤ x → k + 1 ≤ y → comes_to figure parents d x n ≡ comes_to figure parents d y n

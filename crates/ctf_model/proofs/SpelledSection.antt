@@ -42,12 +42,12 @@ pub few_records : (s : Lists) (n : ℕ) → 12 < n → Keeps s n → (parts : Li
 few_records s n lt keeps parts rest cut = ⊎_elim (λ many. absurd (keeps 12 lt 32767 (parts, rest, cut, many, refl))) (λ few. few) (cases_lt 32766 (length parts))
 
 -- what holds of each, whatever stands in front of it and behind it, holds of all
-all_from_each : (P : List ℕ → Type 0) (parts : List (List ℕ)) → ((front : List (List ℕ)) (part : List ℕ) (back : List (List ℕ)) → parts ≡ front ++ part ∷ back → P part) → AllByRecursion P parts
+pub all_from_each : (P : List ℕ → Type 0) (parts : List (List ℕ)) → ((front : List (List ℕ)) (part : List ℕ) (back : List (List ℕ)) → parts ≡ front ++ part ∷ back → P part) → AllByRecursion P parts
 all_from_each P [] each = tt
 all_from_each P (part ∷ parts) each = (each [] part parts refl, all_from_each P parts (λ front other back e. each (part ∷ front) other back (ap (λ (ps : List (List ℕ)). part ∷ ps) e)))
 
 -- none has the mark of the long form where its kind has none
-no_stray : (s : Lists) (n : ℕ) → 14 < n → Keeps s n → (parts : List (List ℕ)) (rest : List ℕ) → IsCut (section s.ctf STypes) parts rest → AllByRecursion (λ part. ¬ HasStrayMark part) parts
+pub no_stray : (s : Lists) (n : ℕ) → 14 < n → Keeps s n → (parts : List (List ℕ)) (rest : List ℕ) → IsCut (section s.ctf STypes) parts rest → AllByRecursion (λ part. ¬ HasStrayMark part) parts
 no_stray s n lt keeps parts rest cut = all_from_each (λ part. ¬ HasStrayMark part) parts (λ front part back e stray. keeps 14 lt (length front + 1) (record { front = front; part = part; back = back; rest = rest; cut = subst (λ (ps : List (List ℕ)). IsCut (section s.ctf STypes) ps rest) e cut }, refl, inl stray))
 
 -- ---- all of them

@@ -61,3 +61,8 @@ pub mod DraftChanges
 pub mod DraftRows
 pub mod Fitting
 pub mod DraftLaws
+pub mod Pieces
+pub mod MemoryBits
+pub mod Values
+pub mod ValueRows
+pub mod ValueLaws

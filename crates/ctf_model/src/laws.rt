@@ -30,6 +30,7 @@ ghost use Rattle.ctf_model.specs.Laws.{
   SectionSpellsOneList,
 };
 ghost use Rattle.ctf_model.specs.TextLaws.{LinesHaveTheText, TextsAreReadBack};
+ghost use Rattle.ctf_model.specs.ValueLaws.{FaultlessParentsAreBounded, ValuesAreTheirRules};
 
 /// No whole record is the beginning of another.
 pub fn no_record_begins_another()
@@ -110,4 +111,12 @@ pub fn sound_drafts_stay_under_their_parents()
 /// A member that states no offset stands at the next place that its alignment allows.
 pub fn members_stand_next()
     ensures { PlacesAreNext }
+{}
+
+/// What a value shows is what its rule says of the values that it holds, in a dictionary that breaks
+/// no rule and over a parent that breaks none: the bound on how many types follow on each other
+/// shows in none, so a recursion of that depth shows them all.
+pub fn values_are_their_rules()
+    ensures parents { FaultlessParentsAreBounded }
+    ensures rules { ValuesAreTheirRules }
 {}

@@ -14,6 +14,7 @@ ghost use Rattle.ctf_model.specs.NameRows.{NamesAreSpelled, NamesOverParents};
 ghost use Rattle.ctf_model.specs.ParentRows.{ParentsAreImported, SlotsAreClosed};
 ghost use Rattle.ctf_model.specs.QuestionRows.{PathsAreLines, QuestionsAreAnswered, QuestionsAreLines, TextsSpell};
 ghost use Rattle.ctf_model.specs.SymbolRows.{SymbolsHaveFaults, SymbolsTell};
+ghost use Rattle.ctf_model.specs.ValueRows.{ValuesShow, ValuesOverParents};
 ghost use Rattle.ctf_model.specs.Rows.{BytesDenote, BytesHaveFaults, LinesAsk, LinesSay, ListsAreLong, NumbersName, OutputIs, SessionRuns};
 
 /// What bytes of a few types denote.
@@ -159,4 +160,14 @@ pub fn members_are_placed()
 /// Which enumerators and labels a draft takes.
 pub fn enumerators_and_labels_are_added()
     ensures { EnumeratorsAndLabelsAreAdded }
+{}
+
+/// What values of each kind show, or why not.
+pub fn values_show()
+    ensures { ValuesShow }
+{}
+
+/// What values of a child's and its parent's types show.
+pub fn values_over_parents()
+    ensures { ValuesOverParents }
 {}

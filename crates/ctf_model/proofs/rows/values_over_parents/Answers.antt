@@ -1,0 +1,12 @@
+use Rattle.std.proofs.Common.{refl}
+use Rattle.std.specs.Fmt.{digits}
+use Rattle.ctf_model.specs.Bytes.{number}
+use Rattle.ctf_model.specs.Figures.{comes_to, most_numbers}
+use Rattle.ctf_model.specs.MemoryBits.{hexadecimal}
+use Rattle.ctf_model.specs.Pieces.{followed_by}
+use Rattle.ctf_model.specs.Values.{most_values, name_of_value, shown_within}
+use Rattle.ctf_model.proofs.rows.values_over_parents.Goals as goal
+
+pub returns : goal.returns
+unfolding shown_within most_values followed_by number hexadecimal name_of_value comes_to most_numbers digits
+returns c = record { parents = refl; named = refl; array = refl; no_parent = refl; array_without = refl }

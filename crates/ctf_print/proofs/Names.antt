@@ -1,0 +1,36 @@
+-- The first enumerator of a value.
+use Rattle.std.proofs.Common.{◌≡◌, ℕ, ℤ, zero, suc, ◌+◌, true, false, List, [], ◌∷◌, length, drop, Option, Some, None, refl, sym, arith, ◌≤◌, ◌<◌}
+use Rattle.std.specs.Prelude.{IsSome, slice_get}
+use Rattle.std.specs.Ordering.{int_eq}
+use Rattle.std.specs.Option.{option_map}
+use Rattle.std.proofs.lemmas.List.{drop_all}
+use Rattle.ctf_model.specs.ReplyLines.{signed_decimal}
+use Rattle.ctf_model.specs.Term.{Enumerator}
+use Rattle.ctf_model.specs.Values.{name_of_value}
+
+from_here : (es : List Enumerator) (i : ℕ) (e : Enumerator) → slice_get es i ≡ Some e → drop i es ≡ e ∷ drop (i + 1) es
+from_here (x ∷ es) zero e h = let same : x ≡ e = cc in rw same refl
+from_here (x ∷ es) (suc i) e h = let next : suc i + 1 ≡ suc (i + 1) = omega arith in rw next (from_here es i e h)
+from_here [] i e h = absurd cc
+
+pub named_here : (es : List Enumerator) (i : ℕ) (e : Enumerator) (value : ℤ) → slice_get es i ≡ Some e → int_eq e.value value ≡ true → name_of_value (drop i es) value ≡ e.name
+unfolding name_of_value
+named_here es i e value h is = rw (from_here es i e h) (rw is refl)
+
+pub named_later : (es : List Enumerator) (i : ℕ) (e : Enumerator) (value : ℤ) → slice_get es i ≡ Some e → int_eq e.value value ≡ false → name_of_value (drop i es) value ≡ name_of_value (drop (i + 1) es) value
+unfolding name_of_value
+named_later es i e value h other = rw (from_here es i e h) (rw other refl)
+
+-- an item of a list, as it is lent
+pub item_lent : {A B : Type 0} (see : A → B) (o : Option A) (x : A) (y : Option B) → option_map see o ≡ y → o ≡ Some x → y ≡ Some (see x)
+item_lent see o x y h is = sym (rw is at h)
+
+pub some_lent : {A B : Type 0} (see : A → B) (o : Option A) (xs : List B) (i : ℕ) → option_map see o ≡ slice_get xs i → i < length xs → IsSome o
+some_lent see (Some x) xs i e h = refl
+some_lent see None [] i e h = absurd (omega arith)
+some_lent see None (x ∷ xs) zero e h = absurd cc
+some_lent see None (x ∷ xs) (suc i) e h = some_lent see None xs i e (omega arith)
+
+pub named_nowhere : (es : List Enumerator) (i : ℕ) (value : ℤ) → length es ≤ i → name_of_value (drop i es) value ≡ signed_decimal value
+unfolding name_of_value
+named_nowhere es i value h = rw (drop_all i es h) refl

@@ -1,0 +1,10 @@
+-- What is shown of bits as they are.
+use Rattle.std.proofs.Common.{◌≡◌, ℕ, ◌+◌, ◌*◌, ◌≤◌, List, length, codes, refl}
+use Rattle.std.proofs.lemmas.Bool.{le-ltb}
+use Rattle.ctf_model.specs.MemoryBits.{bits_at, hexadecimal, started_bytes}
+use Rattle.ctf_model.specs.Pieces.{followed_by, piece}
+use Rattle.ctf_model.specs.Values.{raw_shown}
+
+pub raw_is : (memory : List ℕ) (p width : ℕ) → p + width ≤ 8 * length memory → raw_shown memory p width ≡ followed_by (piece (codes "0x")) (piece (hexadecimal (started_bytes width) (bits_at memory p width)))
+unfolding followed_by
+raw_is memory p width h = let test = le-ltb (8 * length memory) (p + width) h in rw test refl

@@ -1,0 +1,4 @@
+pub mod ImageView
+pub mod Telling
+pub mod ToldView
+pub mod Written

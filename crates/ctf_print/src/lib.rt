@@ -1,0 +1,13 @@
+//! Values in the memory of a program, as text.
+#![tactic(auto)]
+
+mod enums;
+mod image;
+mod integers;
+mod numbers;
+mod showing;
+mod telling;
+mod text;
+mod values;
+
+pub use showing::show;

@@ -1,0 +1,49 @@
+//! Shows a value.
+ghost use Rattle.std.specs.Prelude.{◌≡◌, ◌⊎◌, IfErr, OnErr, OnOk, Err, Ok};
+ghost use Rattle.ctf_layout.specs.Fitting.{Fits};
+ghost use Rattle.ctf_model.specs.Refusals.{want_of_memory};
+ghost use Rattle.ctf_model.specs.Values.{value_text};
+ghost use Rattle.ctf_space.specs.SpaceView.{space_of};
+ghost use Rattle.ctf_print.specs.Written.{added};
+
+use crate::image::Image;
+use crate::text::Text;
+use crate::values::show_value;
+use ctf_layout::Layout;
+use ctf_model::{Fault, TypeNum, placeless};
+use ctf_space::Space;
+use std::alloc::Global;
+
+/// As many numbers of types as can follow on each other from a value on.
+const MOST_VALUES: u32 = 1027;
+
+/// Appends what a value shows that begins at a bit of the memory, counted from 0, by the number of
+/// its type. On a refusal nothing is appended.
+pub fn show(
+    alloc: Global,
+    space: &Space<'_>,
+    layout: &Layout,
+    number: TypeNum,
+    memory: &[u8],
+    offset: u64,
+    out: &mut Vec<u8>,
+) -> Result<(), Fault>
+    requires { Fits (space_of space.now) layout.now }
+    ensures exact_ok { OnOk result (added out.old.items
+        (value_text (space_of space.now) memory.now number.0 offset) ≡ Ok out.new.items) }
+    ensures exact_err { IfErr result (λ f. (f ≡ want_of_memory)
+        ⊎ (value_text (space_of space.now) memory.now number.0 offset ≡ Err f)) }
+    ensures kept { OnErr result (out.new.items ≡ out.old.items) }
+{
+    let image = Image {
+        space: *space,
+        layout,
+        memory,
+    };
+    let mut text = Text::new(alloc);
+    show_value(&image, number, u128::from(offset), MOST_VALUES, &mut text)?;
+    match out.extend_from_slice(text.as_slice()) {
+        Ok(()) => Ok(()),
+        Err(_) => Err(placeless(Fault::MEMORY)),
+    }
+}

@@ -1,0 +1,74 @@
+//! How the value of a type is shown.
+ghost use Rattle.std.specs.Prelude.{◌≡◌};
+ghost use Rattle.std.specs.Option.{option_map};
+ghost use Rattle.ctf_check.specs.FactsView.{shape_seen};
+ghost use Rattle.ctf_print.specs.Telling.{of_head, of_reference, told_in};
+ghost use Rattle.ctf_print.specs.ToldView.{told_seen};
+
+use ctf_check::Shape;
+use ctf_model::{Kind, TypeNum};
+use ctf_views::{ArrayInfo, Encoding, Enumerators, Members, Variant};
+
+/// How the value of a type is shown.
+#[derive(Drop)]
+pub enum Told<'a> {
+    Integer(Encoding),
+    Float(Encoding),
+    Pointer,
+    /// With the size that it says, in bytes.
+    Enum(Option<u64>, Enumerators<'a>),
+    /// A struct or a union.
+    Members(Members<'a>),
+    Array(ArrayInfo),
+    /// As that of another type.
+    As(TypeNum),
+    /// Not at all.
+    Incomplete,
+}
+
+/// A typedef or a qualifier, by the type that it refers to.
+fn by_reference<'a>(reference: Option<TypeNum>) -> Told<'a>
+    ensures { told_seen result ≡ of_reference (option_map (λ t. t.0) reference) }
+{
+    match reference {
+        Some(number) => Told::As(number),
+        None => Told::Incomplete,
+    }
+}
+
+/// A type with nothing behind its head.
+fn by_head<'a>(kind: Kind, reference: Option<TypeNum>) -> Told<'a>
+    ensures { told_seen result ≡ of_head kind (option_map (λ t. t.0) reference) }
+{
+    match kind {
+        Kind::KPointer => Told::Pointer,
+        Kind::KTypedef | Kind::KVolatile | Kind::KConst | Kind::KRestrict => {
+            by_reference(reference)
+        }
+        _ => Told::Incomplete,
+    }
+}
+
+/// How the value of a type of a shape is shown.
+pub fn told_by(x: Shape<'_>) -> Told<'_>
+    ensures { told_seen result ≡ told_in (shape_seen x.entry) }
+{
+    let Shape {
+        kind,
+        size,
+        reference,
+        behind,
+        ..
+    } = x;
+    match behind {
+        Variant::Members(members) => Told::Members(members),
+        Variant::Enumerators(enumerators) => Told::Enum(size, enumerators),
+        Variant::Array(info) => Told::Array(info),
+        Variant::Encoding(encoding) => match kind {
+            Kind::KFloat => Told::Float(encoding),
+            _ => Told::Integer(encoding),
+        },
+        Variant::Args(_) | Variant::Tag(_) => Told::Incomplete,
+        Variant::Nothing => by_head(kind, reference),
+    }
+}

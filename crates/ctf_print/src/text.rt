@@ -1,0 +1,102 @@
+//! A text of bounded length, and how pieces are put behind it.
+ghost use Rattle.std.specs.Prelude.{◌≡◌, [], IfErr, OnOk, Ok};
+ghost use Rattle.ctf_model.specs.Pieces.{ends, nothing, piece};
+ghost use Rattle.ctf_model.specs.Values.{label};
+ghost use Rattle.ctf_print.specs.Written.{Refused, comma_before, written};
+
+use ctf_model::{Fault, placeless};
+use std::alloc::Global;
+use std::marker::Model;
+
+/// The longest text that is answered, in bytes.
+const LONGEST_TEXT: usize = 65_536;
+
+/// A text that is no longer than one that is answered.
+#[derive(Drop)]
+pub struct Text {
+    bytes: Vec<u8>,
+}
+
+impl Model for Text {
+    ghost use Rattle.std.specs.Prelude.{ℕ, List, ◌≤◌, length};
+
+    ghost Value = { List ℕ };
+
+    ghost view = { λ t. t.bytes.items };
+
+    ghost invariant = { λ t. length t.bytes.items ≤ 65536 };
+}
+
+impl Text {
+    pub fn new(alloc: Global) -> Text
+        ensures { result ≡ [] }
+    {
+        Text {
+            bytes: Vec::new(alloc),
+        }
+    }
+
+    pub fn as_slice(&self) -> &[u8]
+        ensures { result.now ≡ self.now }
+    {
+        &self.bytes
+    }
+
+    /// Puts a piece behind the text, unless that gets too long.
+    #[tactic(auto, unfolding(crate::specs::Written::written))]
+    pub fn put(&mut self, bytes: &[u8]) -> Result<(), Fault>
+        ensures ok { OnOk result (written self.old (piece bytes.now) ≡ Ok self.new) }
+        ensures err { IfErr result (Refused self.old (piece bytes.now)) }
+    {
+        if LONGEST_TEXT - self.bytes.len() < bytes.len() {
+            return Err(placeless(Fault::TOO_LONG));
+        }
+        match self.bytes.extend_from_slice(bytes) {
+            Ok(()) => Ok(()),
+            Err(_) => Err(placeless(Fault::MEMORY)),
+        }
+    }
+
+    /// Puts no piece: a text as it stands is not too long.
+    #[tactic(auto, unfolding(crate::specs::Written::written), using(crate::proofs::Writes::nothing_written))]
+    pub fn put_nothing(&mut self) -> Result<(), Fault>
+        ensures ok { OnOk result (written self.old nothing ≡ Ok self.new) }
+        ensures err { IfErr result (Refused self.old nothing) }
+    {
+        let _ = &self.bytes;
+        Ok(())
+    }
+
+    /// Ends the text by a fault.
+    #[tactic(auto, unfolding(crate::specs::Written::written))]
+    pub fn end(&mut self, fault: Fault) -> Result<(), Fault>
+        ensures ok { OnOk result (written self.old (ends fault) ≡ Ok self.new) }
+        ensures err { IfErr result (Refused self.old (ends fault)) }
+    {
+        let _ = &self.bytes;
+        Err(fault)
+    }
+
+    /// Puts what stands before the item with a number, from 0.
+    pub fn put_comma(&mut self, item: usize) -> Result<(), Fault>
+        ensures ok { OnOk result (written self.old (comma_before item) ≡ Ok self.new) }
+        ensures err { IfErr result (Refused self.old (comma_before item)) }
+    {
+        if item == 0 {
+            return self.put_nothing();
+        }
+        self.put(b", ")
+    }
+
+    /// Puts the name of a member and what stands behind it, if it has a name.
+    pub fn put_label(&mut self, name: &[u8]) -> Result<(), Fault>
+        ensures ok { OnOk result (written self.old (label name.now) ≡ Ok self.new) }
+        ensures err { IfErr result (Refused self.old (label name.now)) }
+    {
+        if name.is_empty() {
+            return self.put_nothing();
+        }
+        self.put(name)?;
+        self.put(b" = ")
+    }
+}

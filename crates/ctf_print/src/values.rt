@@ -1,0 +1,190 @@
+//! Values and the values that they hold. Each shows what it may, up to the longest text; no more
+//! than so many values stand in each other.
+ghost use Rattle.std.specs.Prelude.{◌≡◌, ◌*◌, map, IfErr, OnOk, Ok};
+ghost use Rattle.ctf_model.specs.Figures.{size as size_of};
+ghost use Rattle.ctf_model.specs.Pieces.{separated};
+ghost use Rattle.ctf_model.specs.Space.{pointer_size};
+ghost use Rattle.ctf_model.specs.Values.{array_shown, elements_shown, member_shown, members_shown};
+ghost use Rattle.ctf_views.specs.ItemsView.{member as member_seen};
+ghost use Rattle.ctf_print.specs.ImageView.{memory_of, shows, types_of};
+ghost use Rattle.ctf_print.specs.Telling.{told_shown};
+ghost use Rattle.ctf_print.specs.ToldView.{told_seen};
+ghost use Rattle.ctf_print.specs.Written.{Refused, written};
+
+use crate::enums::show_enum;
+use crate::image::Image;
+use crate::integers::{show_float, show_integer};
+use crate::numbers::show_raw;
+use crate::telling::{Told, told_by};
+use crate::text::Text;
+use ctf_model::{DataModel, Fault, TypeNum, placeless};
+use ctf_views::{ArrayInfo, Member, Members};
+
+/// How many bits a pointer has.
+fn pointer_bits(model: DataModel) -> u128
+    ensures { result ≡ 8 * pointer_size model }
+{
+    match model {
+        DataModel::Lp64 => 64,
+        DataModel::Ilp32 => 32,
+    }
+}
+
+/// Puts the elements of an array, separated by commas.
+#[cycle(values)]
+fn show_elements(
+    image: &Image<'_>,
+    array: ArrayInfo,
+    at: u128,
+    nesting: u32,
+    out: &mut Text,
+) -> Result<(), Fault>
+    ensures ok { OnOk result (written out.old
+        (elements_shown (shows image.now nesting) at array.contents.0 array.count
+        (size_of (types_of image.now) array.contents.0)) ≡ Ok out.new) }
+    ensures err { IfErr result (Refused out.old
+        (elements_shown (shows image.now nesting) at array.contents.0 array.count
+        (size_of (types_of image.now) array.contents.0))) }
+{
+    if array.count == 0 {
+        return out.put_nothing();
+    }
+    let size = match image.size(array.contents) {
+        Ok(size) => size,
+        Err(fault) => return out.end(fault),
+    };
+    let mut place = at;
+    for i in 0..array.count {
+        out.put_comma(i as usize)?;
+        show_value(image, array.contents, place, nesting, out)?;
+        place = place.saturating_add(u128::from(size) * 8);
+    }
+    out.put_nothing()
+}
+
+#[cycle(values)]
+fn show_array(
+    image: &Image<'_>,
+    array: ArrayInfo,
+    at: u128,
+    nesting: u32,
+    out: &mut Text,
+) -> Result<(), Fault>
+    ensures ok { OnOk result (written out.old
+        (array_shown (shows image.now nesting) at array.contents.0 array.count
+        (size_of (types_of image.now) array.contents.0)) ≡ Ok out.new) }
+    ensures err { IfErr result (Refused out.old
+        (array_shown (shows image.now nesting) at array.contents.0 array.count
+        (size_of (types_of image.now) array.contents.0))) }
+{
+    out.put(b"[")?;
+    show_elements(image, array, at, nesting, out)?;
+    out.put(b"]")
+}
+
+#[cycle(values)]
+fn show_member(
+    image: &Image<'_>,
+    member: Member<'_>,
+    at: u128,
+    nesting: u32,
+    out: &mut Text,
+) -> Result<(), Fault>
+    ensures ok { OnOk result (written out.old
+        (member_shown (shows image.now nesting) at (member_seen member.entry)) ≡ Ok out.new) }
+    ensures err { IfErr result (Refused out.old
+        (member_shown (shows image.now nesting) at (member_seen member.entry))) }
+{
+    out.put_label(member.name)?;
+    let place = at.saturating_add(u128::from(member.offset));
+    show_value(image, member.tnum, place, nesting, out)
+}
+
+/// Puts members, separated by commas.
+#[cycle(values)]
+fn show_each_member(
+    image: &Image<'_>,
+    members: &Members<'_>,
+    at: u128,
+    nesting: u32,
+    out: &mut Text,
+) -> Result<(), Fault>
+    ensures ok { OnOk result (written out.old
+        (separated (map (member_shown (shows image.now nesting) at) members.now)) ≡ Ok out.new) }
+    ensures err { IfErr result (Refused out.old
+        (separated (map (member_shown (shows image.now nesting) at) members.now))) }
+{
+    for i in 0..members.len() {
+        out.put_comma(i)?;
+        show_member(image, members.get(i).unwrap(), at, nesting, out)?;
+    }
+    out.put_nothing()
+}
+
+#[cycle(values)]
+fn show_members(
+    image: &Image<'_>,
+    members: &Members<'_>,
+    at: u128,
+    nesting: u32,
+    out: &mut Text,
+) -> Result<(), Fault>
+    ensures ok { OnOk result (written out.old
+        (members_shown (shows image.now nesting) at members.now) ≡ Ok out.new) }
+    ensures err { IfErr result (Refused out.old
+        (members_shown (shows image.now nesting) at members.now)) }
+{
+    out.put(b"{")?;
+    show_each_member(image, members, at, nesting, out)?;
+    out.put(b"}")
+}
+
+/// Puts the value of a type that is shown so.
+#[cycle(values)]
+fn show_told(
+    image: &Image<'_>,
+    how: Told<'_>,
+    at: u128,
+    nesting: u32,
+    out: &mut Text,
+) -> Result<(), Fault>
+    ensures ok { OnOk result (written out.old
+        (told_shown (types_of image.now) (memory_of image.now) (shows image.now nesting) at
+        (told_seen how.entry)) ≡ Ok out.new) }
+    ensures err { IfErr result (Refused out.old
+        (told_shown (types_of image.now) (memory_of image.now) (shows image.now nesting) at
+        (told_seen how.entry))) }
+{
+    match how {
+        Told::Integer(encoding) => show_integer(image.memory, at, encoding, out),
+        Told::Float(encoding) => show_float(image.memory, at, encoding, out),
+        Told::Pointer => show_raw(image.memory, at, pointer_bits(image.space.model()), out),
+        Told::Enum(said, enumerators) => show_enum(image.memory, at, said, &enumerators, out),
+        Told::Members(members) => show_members(image, &members, at, nesting, out),
+        Told::Array(array) => show_array(image, array, at, nesting, out),
+        Told::As(number) => show_value(image, number, at, nesting, out),
+        Told::Incomplete => out.end(placeless(Fault::INCOMPLETE)),
+    }
+}
+
+/// Puts what the value of a number's type shows that begins at a bit.
+#[cycle(values)]
+pub fn show_value(
+    image: &Image<'_>,
+    number: TypeNum,
+    at: u128,
+    nesting: u32,
+    out: &mut Text,
+) -> Result<(), Fault>
+    ensures ok { OnOk result
+        (written out.old (shows image.now nesting number.0 at) ≡ Ok out.new) }
+    ensures err { IfErr result (Refused out.old (shows image.now nesting number.0 at)) }
+{
+    if nesting == 0 || number.0 == 0 {
+        return out.end(placeless(Fault::INCOMPLETE));
+    }
+    match image.space.term(number) {
+        Ok(found) => show_told(image, told_by(found.shape()), at, nesting - 1, out),
+        Err(fault) => out.end(fault),
+    }
+}
