@@ -4,3 +4,4 @@ pub mod Stepping
 pub mod SlotPlaces
 pub mod SlotOrder
 pub mod Fitting
+pub mod Telling

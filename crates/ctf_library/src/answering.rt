@@ -2,11 +2,13 @@
 ghost use Rattle.std.specs.Prelude.{◌≡◌, ◌≤◌, [], ◌∷◌, codes, length, map, take, true, None, Some, Ok, Err, IfOk, IfSome, IsNone, option_map, option_and_then};
 ghost use Rattle.ctf_model.specs.Answers.{number, says, word};
 ghost use Rattle.ctf_model.specs.KindNames.{name_of_kind, name_of_tag};
-ghost use Rattle.ctf_model.specs.Questions.{or_wrong_kind, list_fields, said_on, type_said, record_fields, member_fields, enumerator_fields, argument_fields, array_fields, encoding_fields, as_fields, type_fields, size_fields, align_fields, name_fields, position_fields, number_item, is_variadic as ends_open, named_arguments};
+ghost use Rattle.ctf_model.specs.Questions.{or_wrong_kind, list_fields, said_on, type_said, record_fields, member_fields, enumerator_fields, argument_fields, array_fields, encoding_fields, as_fields, type_fields, size_fields, align_fields, name_fields, position_fields, value_fields, number_item, is_variadic as ends_open, named_arguments};
 ghost use Rattle.ctf_model.specs.Shown.{members_in, enumerators_in, arguments_in, array_in, encoding_in, list_length};
 ghost use Rattle.ctf_model.specs.Steps.{is_quiet, is_quiet_on, slot_said, slot_space, MayAnswer};
 ghost use Rattle.ctf_model.specs.TypeNames.{spelled_name};
-ghost use Rattle.ctf_model.specs.declared.questions.TypeQuestion.TheVariants as about;
+ghost use Rattle.ctf_model.specs.Values.{value_text};
+ghost use Rattle.ctf_layout.specs.Fitting.{Fits};
+ghost use Rattle.ctf_library.specs.Telling.{IsTold};
 ghost use Rattle.std.specs.Result.{result_map_both};
 ghost use Rattle.ctf_library.specs.Fitting.{Serve};
 ghost use Rattle.ctf_layout.specs.Reached.{position_of};
@@ -22,9 +24,10 @@ use crate::tables::Tables;
 use crate::whole::whole_answer;
 use ctf_answers::{Answer, Items, Listed, Single, kind_name, tag_name};
 use ctf_check::Facts;
-use ctf_layout::{path, referred, resolve};
+use ctf_layout::{Layout, path, referred, resolve};
 use ctf_model::{Bytes, Fault, Kind, Question, TypeNum, TypeQuestion, Window, placeless};
 use ctf_names::{pointer_to, spell};
+use ctf_print::show;
 use ctf_records::Tag;
 use ctf_space::Space;
 use ctf_views::{Args, Variant};
@@ -255,35 +258,63 @@ fn name<'a>(alloc: Global, space: &Space<'_>, t: TypeNum) -> Result<Answer<'a>, 
     }
 }
 
-/// What a question is answered on a type that a number names, and that says this of itself, where
-/// the answer is lent and takes no memory.
-fn lent_answer<'a>(
+/// What a value of a type shows, in memory and from a bit on.
+fn value<'a>(
+    alloc: Global,
+    space: &Space<'_>,
+    layout: &Layout,
+    t: TypeNum,
+    memory: &[u8],
+    offset: u64,
+) -> Result<Answer<'a>, Fault>
+    requires { Fits (space_of space.now) layout.now }
+    ensures { MayAnswer (as_fields value_fields
+        (value_text (space_of space.now) memory.now t.0 offset)) result }
+{
+    let mut text = Vec::new(alloc);
+    match show(alloc, space, layout, t, memory, offset, &mut text) {
+        Ok(()) => Ok(Answer::done().with_text("text", Bytes::from(text))),
+        Err(fault) => Err(fault),
+    }
+}
+
+/// What is told of a type: an answer that is lent and takes no memory, or what text is to be made.
+pub(crate) enum Told<'a, 'q> {
+    Lent(Result<Answer<'a>, Fault>),
+    Name,
+    Value { memory: &'q [u8], offset: u64 },
+}
+
+/// What a question tells of a type that a number names, and that says this of itself.
+fn tell<'a, 'q>(
     x: Facts<'a>,
     space: &Space<'a>,
     tables: &Tables,
     t: TypeNum,
-    question: &TypeQuestion,
-) -> Option<Result<Answer<'a>, Fault>>
+    question: &'q TypeQuestion,
+) -> Told<'a, 'q>
     requires { Serve space.now tables.now }
-    ensures lent { IfSome result (λ answer. answer
-        ≡ said_on question.now (space_of space.now) t.0 (facts_seen x.entry)) }
-    ensures others { IsNone result → question.now ≡ about.Name }
+    ensures { IsTold question.now (space_of space.now) t.0 (facts_seen x.entry) result }
 {
     match question {
-        TypeQuestion::Kind => Some(Ok(kind(x.shape.kind))),
-        TypeQuestion::Record => Some(Ok(record_of(x))),
-        TypeQuestion::Members(window) => Some(members(x.shape.behind, *window)),
-        TypeQuestion::Enumerators(window) => Some(enumerators(x.shape.behind, *window)),
-        TypeQuestion::Args => Some(arguments(x.shape.behind, x.shape.reference)),
-        TypeQuestion::Array => Some(array(x.shape.behind)),
-        TypeQuestion::Encoding => Some(encoding(x.shape.behind)),
-        TypeQuestion::Reference => Some(type_answer(referred(x.shape))),
-        TypeQuestion::Resolve => Some(type_answer(resolve(space, t))),
-        TypeQuestion::Size => Some(size_answer(tables.layout.size(t))),
-        TypeQuestion::Align => Some(align_answer(tables.layout.align(t))),
-        TypeQuestion::Pointer => Some(type_answer(pointer_to(space, &tables.index, t))),
-        TypeQuestion::Path(names) => Some(position_answer(path(space, t, names.as_slice()))),
-        TypeQuestion::Name => None,
+        TypeQuestion::Kind => Told::Lent(Ok(kind(x.shape.kind))),
+        TypeQuestion::Record => Told::Lent(Ok(record_of(x))),
+        TypeQuestion::Members(window) => Told::Lent(members(x.shape.behind, *window)),
+        TypeQuestion::Enumerators(window) => Told::Lent(enumerators(x.shape.behind, *window)),
+        TypeQuestion::Args => Told::Lent(arguments(x.shape.behind, x.shape.reference)),
+        TypeQuestion::Array => Told::Lent(array(x.shape.behind)),
+        TypeQuestion::Encoding => Told::Lent(encoding(x.shape.behind)),
+        TypeQuestion::Reference => Told::Lent(type_answer(referred(x.shape))),
+        TypeQuestion::Resolve => Told::Lent(type_answer(resolve(space, t))),
+        TypeQuestion::Size => Told::Lent(size_answer(tables.layout.size(t))),
+        TypeQuestion::Align => Told::Lent(align_answer(tables.layout.align(t))),
+        TypeQuestion::Pointer => Told::Lent(type_answer(pointer_to(space, &tables.index, t))),
+        TypeQuestion::Path(names) => Told::Lent(position_answer(path(space, t, names.as_slice()))),
+        TypeQuestion::Name => Told::Name,
+        TypeQuestion::Show { memory, offset } => Told::Value {
+            memory: memory.as_slice(),
+            offset: *offset,
+        },
     }
 }
 
@@ -304,9 +335,10 @@ fn answer_on<'a>(
         Ok(found) => found,
         Err(fault) => return Err(fault),
     };
-    match lent_answer(found.facts(), space, tables, t, question) {
-        Some(answer) => answer,
-        None => name(alloc, space, t),
+    match tell(found.facts(), space, tables, t, question) {
+        Told::Lent(answer) => answer,
+        Told::Name => name(alloc, space, t),
+        Told::Value { memory, offset } => value(alloc, space, &tables.layout, t, memory, offset),
     }
 }
 

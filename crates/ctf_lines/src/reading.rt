@@ -1,7 +1,7 @@
 //! Reads the request of a line.
 ghost use Rattle.std.specs.Prelude.{◌≡◌, ◌≢◌, ◌≤◌, IfSome, Option, None, Some, IfOk, IfErr, Ok, Err, codes, option_map};
 ghost use Rattle.serde_json.specs.View.{view};
-ghost use Rattle.ctf_model.specs.Ask.{ask, number_in, text_in, list_named, slot_under as slot_named, slot_in, type_in, close_asked, import_asked, about_type as type_question_asked, about_slot as slot_question_asked, name_under as name_asked, symbol_asked, from_asked, count_asked, window_asked, names_asked, part_asked, word_asked, asked_with, request_asked, value_asked};
+ghost use Rattle.ctf_model.specs.Ask.{ask, number_in, text_in, list_named, slot_under as slot_named, slot_in, type_in, close_asked, import_asked, about_type as type_question_asked, about_slot as slot_question_asked, name_under as name_asked, symbol_asked, show_asked, from_asked, count_asked, window_asked, names_asked, part_asked, word_asked, asked_with, request_asked, value_asked};
 ghost use Rattle.ctf_model.specs.Refusals.{placeless};
 ghost use Rattle.ctf_model.specs.declared.faults.TheConstants.Fault.{MEMORY};
 ghost use Rattle.ctf_model.specs.declared.questions.SlotQuestion.TheVariants as whole;
@@ -123,6 +123,7 @@ fn read_word(alloc: Global, value: &Value, word: Word) -> Result<Option<Request>
         Word::DoPointer => Ok(about_type(value, Some(TypeQuestion::Pointer))),
         Word::DoFind => Ok(about_slot(value, find(alloc, value)?)),
         Word::DoPath => Ok(about_type(value, path(alloc, value)?)),
+        Word::DoShow => Ok(about_type(value, show(alloc, value)?)),
         Word::DoSymbol => Ok(about_slot(value, symbol(alloc, value)?)),
         Word::DoObject => Ok(about_slot(value, object(value))),
         Word::DoFunction => Ok(about_slot(value, function(value))),
@@ -228,6 +229,22 @@ fn names_under(alloc: Global, value: &Value) -> Result<Option<Names>, AllocError
     };
     match list.as_array() {
         Some(values) => names(alloc, values),
+        None => Ok(None),
+    }
+}
+
+/// The memory that a value stands in, and the bit that it begins at.
+fn show(alloc: Global, value: &Value) -> Result<Option<TypeQuestion>, AllocError>
+    ensures { IfOk result (λ question. question ≡ show_asked (view value.now)) }
+{
+    let Some(offset) = number(value, "offset", 0, u64::MAX) else {
+        return Ok(None);
+    };
+    let Some(digits) = text(value, "bytes") else {
+        return Ok(None);
+    };
+    match piece(alloc, digits)? {
+        Some(memory) => Ok(Some(TypeQuestion::Show { memory, offset })),
         None => Ok(None),
     }
 }

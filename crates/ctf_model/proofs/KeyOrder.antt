@@ -14,7 +14,7 @@ use Rattle.ctf_model.specs.Figures.{align, referred, resolved, size}
 use Rattle.ctf_model.specs.KeyOrder.{item_in_order, in_order, IsInOrder, KeysRise}
 use Rattle.ctf_model.specs.Lists.{Lists}
 use Rattle.ctf_model.specs.Paths.{path}
-use Rattle.ctf_model.specs.Questions.{at_most, windowed, or_wrong_kind, as_fields, member_fields, member_item, enumerator_fields, enumerator_item, number_item, named_arguments, argument_fields, array_fields, encoding_fields, type_fields, size_fields, align_fields, name_fields, position_fields, said_on, said_of}
+use Rattle.ctf_model.specs.Questions.{at_most, windowed, or_wrong_kind, as_fields, member_fields, member_item, enumerator_fields, enumerator_item, number_item, named_arguments, argument_fields, array_fields, encoding_fields, type_fields, size_fields, align_fields, name_fields, position_fields, value_fields, said_on, said_of}
 use Rattle.ctf_model.specs.SlotAnswers.{symbol_fields, signature_fields, label_item, label_fields, last_fields, info_fields, whole_said}
 use Rattle.ctf_model.specs.SymbolQuestions.{symbol_found, object_of, function_of, label_of}
 use Rattle.ctf_model.specs.Shown.{Facts, facts, members_in, enumerators_in, arguments_in, array_in, encoding_in, list_length}
@@ -23,6 +23,7 @@ use Rattle.ctf_model.specs.Steps.{change_step, with_slot, grants, slots_without,
 use Rattle.ctf_model.specs.Space.{Space, space_type}
 use Rattle.ctf_model.specs.Term.{Term}
 use Rattle.ctf_model.specs.TypeNames.{spelled_name}
+use Rattle.ctf_model.specs.Values.{value_text}
 use Rattle.ctf_model.specs.declared.faults.Fault.{Fault}
 use Rattle.ctf_model.specs.declared.questions.Question.TheVariants.{OfType, OfSlot}
 use Rattle.ctf_model.specs.declared.questions.SlotQuestion.{SlotQuestion}
@@ -104,6 +105,7 @@ on_type ask.Align s t x = figure align_fields (λ n. refl) (align s t)
 on_type ask.Name s t x = figure name_fields (λ name. refl) (spelled_name s t)
 on_type ask.Pointer s t x = figure type_fields (λ n. refl) (pointer_to s t)
 on_type (ask.Path names) s t x = figure position_fields (λ at. refl) (path s t names)
+on_type (ask.Show memory offset) s t x = figure value_fields (λ shown. refl) (value_text s memory t offset)
 
 of_type : (question : TypeQuestion) (s : Space) (t : ℕ) (found : Result Term Fault) → IsInOrder (said_of question s t found)
 of_type question s t (Ok x) = on_type question s t (facts x)

@@ -23,7 +23,7 @@ use Rattle.ctf_model.specs.declared.questions.SlotQuestion.TheVariants as whole
 use Rattle.ctf_model.specs.declared.questions.TypeQuestion.{TypeQuestion}
 use Rattle.ctf_model.specs.declared.questions.TypeQuestion.TheVariants as about
 use Rattle.ctf_model.specs.declared.words.Word.{Word}
-use Rattle.ctf_model.specs.declared.words.Word.TheVariants.{DoPart, DoCheck, DoOpen, DoClear, DoReset, DoClose, DoImport, DoKind, DoRecord, DoMembers, DoEnumerators, DoArgs, DoArray, DoEncoding, DoReference, DoResolve, DoSize, DoAlign, DoName, DoPointer, DoFind, DoPath, DoSymbol, DoObject, DoFunction, DoLabels, DoLabel, DoInfo}
+use Rattle.ctf_model.specs.declared.words.Word.TheVariants.{DoPart, DoCheck, DoOpen, DoClear, DoReset, DoClose, DoImport, DoKind, DoRecord, DoMembers, DoEnumerators, DoArgs, DoArray, DoEncoding, DoReference, DoResolve, DoSize, DoAlign, DoName, DoPointer, DoFind, DoPath, DoShow, DoSymbol, DoObject, DoFunction, DoLabels, DoLabel, DoInfo}
 use Rattle.ctf_model.specs.Text.{bytes_spelled_by}
 use Rattle.ctf_model.specs.Words.{words, word_named, is_text}
 use Rattle.ctf_model.specs.declared.questions.Window.{Window}
@@ -125,6 +125,10 @@ close_asked line = option_map (λ d. Changes (change.Close d)) (slot_in line)
 abbrev pub import_asked : Data → Option Request
 import_asked line = option_and_then (λ d. option_map (λ parent. Changes (change.Import d parent)) (slot_under (codes "parent") line)) (slot_in line)
 
+-- the memory that a value stands in, and the bit that it begins at
+abbrev pub show_asked : Data → Option TypeQuestion
+show_asked line = option_and_then (λ memory. option_map (λ offset. about.Show memory offset) (number_in 0 18446744073709551615 (codes "offset") line)) (option_and_then bytes_spelled (text_in (codes "bytes") line))
+
 -- what a word asks, with its fields
 abbrev pub asked_with : Data → Word → Option Request
 asked_with line DoPart = part_asked line
@@ -149,6 +153,7 @@ asked_with line DoName = about_type (Some about.Name) line
 asked_with line DoPointer = about_type (Some about.Pointer) line
 asked_with line DoFind = about_slot (option_map (λ written. whole.Find written) (name_under (codes "text") line)) line
 asked_with line DoPath = about_type (option_map (λ names. about.Path names) (names_asked line)) line
+asked_with line DoShow = about_type (show_asked line) line
 asked_with line DoSymbol = about_slot (option_map (λ name. whole.Symbol name) (name_under (codes "name") line)) line
 asked_with line DoObject = about_slot (option_map (λ number. whole.Object number) (symbol_asked line)) line
 asked_with line DoFunction = about_slot (option_map (λ number. whole.Function number) (symbol_asked line)) line

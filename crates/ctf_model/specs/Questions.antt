@@ -11,6 +11,7 @@ use Rattle.ctf_model.specs.Shown.{ArrayParts, EncodingParts, Facts, Shape, facts
 use Rattle.ctf_model.specs.Space.{Space, space_type}
 use Rattle.ctf_model.specs.Term.{Member, Enumerator, Term}
 use Rattle.ctf_model.specs.TypeNames.{spelled_name}
+use Rattle.ctf_model.specs.Values.{value_text}
 use Rattle.ctf_model.specs.declared.faults.Fault.{Fault}
 use Rattle.ctf_model.specs.declared.faults.TheConstants.Fault.{WRONG_KIND}
 use Rattle.ctf_model.specs.declared.questions.TypeQuestion.{TypeQuestion}
@@ -92,6 +93,10 @@ align_fields n = says (codes "align") (number n) ∷ []
 abbrev pub name_fields : List ℕ → Answer
 name_fields name = says (codes "name") (text name) ∷ []
 
+-- what a value shows
+abbrev pub value_fields : List ℕ → Answer
+value_fields shown = says (codes "text") (text shown) ∷ []
+
 -- how many bits lie in front of a member, and its type
 abbrev pub position_fields : Position → Answer
 position_fields at = says (codes "offset") (number at.offset) ∷ says (codes "t") (number at.tnum) ∷ []
@@ -124,6 +129,7 @@ said_on ask.Align s t x = as_fields align_fields (align s t)
 said_on ask.Name s t x = as_fields name_fields (spelled_name s t)
 said_on ask.Pointer s t x = as_fields type_fields (pointer_to s t)
 said_on (ask.Path names) s t x = as_fields position_fields (path s t names)
+said_on (ask.Show memory offset) s t x = as_fields value_fields (value_text s memory t offset)
 
 -- the same where the number may name no type
 abbrev pub said_of : TypeQuestion → Space → ℕ → Result Term Fault → Result Answer Fault

@@ -2,7 +2,7 @@
 use Rattle.std.specs.Prelude.{ℕ, List, [], ◌∷◌, Bool, Option, None, Some, nat_eq, codes, if◌then◌else◌}
 use Rattle.std.specs.Cmp.Lexicographic.{pointwise}
 use Rattle.ctf_model.specs.declared.words.Word.{Word}
-use Rattle.ctf_model.specs.declared.words.Word.TheVariants.{DoPart, DoCheck, DoOpen, DoClear, DoReset, DoClose, DoImport, DoKind, DoRecord, DoMembers, DoEnumerators, DoArgs, DoArray, DoEncoding, DoReference, DoResolve, DoSize, DoAlign, DoName, DoPointer, DoFind, DoPath, DoSymbol, DoObject, DoFunction, DoLabels, DoLabel, DoInfo}
+use Rattle.ctf_model.specs.declared.words.Word.TheVariants.{DoPart, DoCheck, DoOpen, DoClear, DoReset, DoClose, DoImport, DoKind, DoRecord, DoMembers, DoEnumerators, DoArgs, DoArray, DoEncoding, DoReference, DoResolve, DoSize, DoAlign, DoName, DoPointer, DoFind, DoPath, DoShow, DoSymbol, DoObject, DoFunction, DoLabels, DoLabel, DoInfo}
 use Rattle.ctf_model.specs.declared.words.Written.{Written}
 
 -- every word, and how a line writes it
@@ -30,6 +30,7 @@ words =
     (DoPointer, codes "pointer") ∷
     (DoFind, codes "find") ∷
     (DoPath, codes "path") ∷
+    (DoShow, codes "show") ∷
     (DoSymbol, codes "symbol") ∷
     (DoObject, codes "object") ∷
     (DoFunction, codes "function") ∷

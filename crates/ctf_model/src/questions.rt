@@ -44,6 +44,8 @@ pub enum TypeQuestion {
     Pointer,
     /// Where a member of a member lies, by their names from the outermost on.
     Path(Names),
+    /// What a value of it shows that begins at a bit of this memory.
+    Show { memory: Piece, offset: u64 },
 }
 
 /// A question on what a slot sees as a whole.

@@ -27,6 +27,7 @@ pub enum Word {
     DoPointer,
     DoFind,
     DoPath,
+    DoShow,
     DoSymbol,
     DoObject,
     DoFunction,
@@ -51,7 +52,7 @@ fn row(word: Word, text: &'static str) -> Written
 
 /// Every word.
 #[tactic(auto, unfolding(crate::specs::Words::words))]
-fn words() -> [Written; 28]
+fn words() -> [Written; 29]
     ensures { map row_of result ≡ all_words }
 {
     [
@@ -77,6 +78,7 @@ fn words() -> [Written; 28]
         row(Word::DoPointer, "pointer"),
         row(Word::DoFind, "find"),
         row(Word::DoPath, "path"),
+        row(Word::DoShow, "show"),
         row(Word::DoSymbol, "symbol"),
         row(Word::DoObject, "object"),
         row(Word::DoFunction, "function"),

@@ -4,12 +4,12 @@ use Rattle.ctf_space.specs.SpaceView.{space_of}
 use Rattle.ctf_library.proofs.SaidOfFacts.{said_of_facts}
 use Rattle.ctf_library.proofs.answering.answer_on.Goals as goal
 
-pub returns-in-Some-clause-answer : goal.returns-in-Some-clause-answer
-returns-in-Some-clause-answer c =
+pub returns-in-Lent-clause-answer : goal.returns-in-Lent-clause-answer
+returns-in-Lent-clause-answer c =
     let s = space_of c.args.space.now in
-    inl (c.in-Some.ensures.lent ∙ said_of_facts c.args.question.now s c.args.t.0 _ _ c.facts.ensures ∙ ap (said_of c.args.question.now s c.args.t.0) c.in-Ok.ensures)
+    inl (c.in-Lent.ensures ∙ said_of_facts c.args.question.now s c.args.t.0 _ _ c.facts.ensures ∙ ap (said_of c.args.question.now s c.args.t.0) c.in-Ok.ensures)
 
-pub returns-in-Some-clause-quiet : goal.returns-in-Some-clause-quiet
-returns-in-Some-clause-quiet c =
+pub returns-in-Lent-clause-quiet : goal.returns-in-Lent-clause-quiet
+returns-in-Lent-clause-quiet c =
     let s = space_of c.args.space.now in
-    λ quiet. c.in-Some.ensures.lent ∙ said_of_facts c.args.question.now s c.args.t.0 _ _ c.facts.ensures ∙ ap (said_of c.args.question.now s c.args.t.0) c.in-Ok.ensures
+    λ quiet. c.in-Lent.ensures ∙ said_of_facts c.args.question.now s c.args.t.0 _ _ c.facts.ensures ∙ ap (said_of c.args.question.now s c.args.t.0) c.in-Ok.ensures

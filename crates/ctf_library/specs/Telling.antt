@@ -1,0 +1,15 @@
+-- What is told of a type. The words are ours.
+use Rattle.std.specs.Prelude.{◌≡◌, ℕ}
+use Rattle.ctf_library.specs.declared.answering.Told.{Told}
+use Rattle.ctf_library.specs.declared.answering.Told.TheVariants.{Lent, Name, Value}
+use Rattle.ctf_model.specs.Questions.{said_on}
+use Rattle.ctf_model.specs.Shown.{Facts}
+use Rattle.ctf_model.specs.Space.{Space}
+use Rattle.ctf_model.specs.declared.questions.TypeQuestion.{TypeQuestion}
+use Rattle.ctf_model.specs.declared.questions.TypeQuestion.TheVariants as about
+
+-- a question is answered so, or asks for this text
+abbrev pub IsTold : TypeQuestion → Space → ℕ → Facts → Told → Type 0
+IsTold question s t x (Lent answer) = answer ≡ said_on question s t x
+IsTold question s t x Name = question ≡ about.Name
+IsTold question s t x (Value memory offset) = question ≡ about.Show memory.now offset
