@@ -85,7 +85,7 @@ pub(crate) fn lent<'a>(
 ) -> Result<Vec<Named<'a>>, AllocError>
     ensures { IfOk result (λ named. Lends (naming texts.now) items.now named.items) }
 {
-    let mut named = Vec::new(alloc);
+    let mut named = Vec::with_capacity(alloc, items.len())?;
     for item in items {
         if let Some(next) = next_named(texts, named.last(), *item) {
             named.push(next)?;

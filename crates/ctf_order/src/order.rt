@@ -39,7 +39,7 @@ impl Order {
     /// one reference the least is kept, since it is the one that is found.
     ///
     /// Each table is read once to find where names end, and then at most 64 bytes of a name at each
-    /// comparison.
+    /// comparison. While it runs it takes 24 bytes more for each item.
     pub fn build(
         alloc: Global,
         texts: &Texts<'_>,

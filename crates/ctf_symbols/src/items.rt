@@ -24,7 +24,7 @@ pub(crate) fn symbol_items(
     ensures { IfOk result (λ items. AreItems (program_names (strings_of names.entry)) called_symbol
         (considered (symbols_of (strings_of names.entry) sym.now)) items.items) }
 {
-    let mut items = Vec::new(alloc);
+    let mut items = Vec::with_capacity(alloc, sym.len() / 24)?;
     let mut number = 0;
     let mut rest = sym;
     'symbols: while rest.len() >= 24 {
@@ -46,9 +46,9 @@ pub(crate) fn label_items(alloc: Global, dictionary: &Checked<'_>) -> Result<Vec
     ensures { IfOk result (λ items. AreItems (name (tables_of dictionary.now)) called_label
         (enumerate_from 0 (dictionary_of dictionary.now).labels) items.items) }
 {
-    let mut items = Vec::new(alloc);
-    let mut item = 0;
     let mut rest = dictionary.label_bytes();
+    let mut items = Vec::with_capacity(alloc, rest.len() / 8)?;
+    let mut item = 0;
     'labels: while rest.len() >= 8 {
         items.push(Entry {
             reference: u32_at(rest, 0),

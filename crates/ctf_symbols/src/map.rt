@@ -25,7 +25,8 @@ pub struct SymbolMap {
 
 impl SymbolMap {
     /// The map of a dictionary. Reads each symbol and each entry a bounded number of times, and each
-    /// table of names once.
+    /// table of names once, and then sorts. While it runs it takes at most 32 bytes more for each
+    /// symbol, and then for each label.
     pub fn build(alloc: Global, dictionary: &Checked<'_>) -> Result<SymbolMap, AllocError>
         ensures { IfOk result (λ m. Fits (lists_of dictionary.now) m) }
     {

@@ -8,7 +8,7 @@ use Rattle.ctf_symbols.proofs.items.label_items.Goals as goal
 pub labels-init : goal.labels-init
 labels-init c =
     let d = c.args.dictionary.now in
-    (rw c.new-items.ensures.items (labels_at_first (lists_of d) d.faultless c.label_bytes-rest.result.now c.label_bytes-rest.ensures.bytes), omega (arith, c.label_bytes-rest.ensures.short))
+    (rw c.in_ok-items.ensures.items (labels_at_first (lists_of d) d.faultless c.label_bytes-rest.result.now c.label_bytes-rest.ensures.bytes), omega (arith, c.label_bytes-rest.ensures.short))
 
 pub labels-preserved : goal.labels-preserved
 labels-preserved c =
