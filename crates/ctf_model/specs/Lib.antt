@@ -66,3 +66,5 @@ pub mod MemoryBits
 pub mod Values
 pub mod ValueRows
 pub mod ValueLaws
+pub mod Dump
+pub mod DumpRows

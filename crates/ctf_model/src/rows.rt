@@ -7,6 +7,7 @@ ghost use Rattle.ctf_model.specs.DraftRows.{
   MembersArePlaced,
   TypesAreAdded,
 };
+ghost use Rattle.ctf_model.specs.DumpRows.{DumpsAre};
 ghost use Rattle.ctf_model.specs.FindRows.{NamesAreFound};
 ghost use Rattle.ctf_model.specs.FigureRows.{FiguresAre, FiguresOverParents, PathsLead};
 ghost use Rattle.ctf_model.specs.KindRows.{KindsDenote, KindsHaveFaults};
@@ -170,4 +171,9 @@ pub fn values_show()
 /// What values of a child's and its parent's types show.
 pub fn values_over_parents()
     ensures { ValuesOverParents }
+{}
+
+/// The text of dictionaries as they are dumped.
+pub fn dumps_are()
+    ensures { DumpsAre }
 {}

@@ -1,5 +1,5 @@
 //! A text of bounded length, and how pieces are put behind it.
-ghost use Rattle.std.specs.Prelude.{◌≡◌, [], IfErr, OnOk, Ok};
+ghost use Rattle.std.specs.Prelude.{◌≡◌, [], IfErr, IsOk, OnOk, Err, Ok};
 ghost use Rattle.ctf_model.specs.Pieces.{ends, nothing, piece};
 ghost use Rattle.ctf_model.specs.Values.{label};
 ghost use Rattle.ctf_print.specs.Written.{Refused, comma_before, written};
@@ -60,6 +60,7 @@ impl Text {
     /// Puts no piece: a text as it stands is not too long.
     #[tactic(auto, unfolding(crate::specs::Written::written), using(crate::proofs::Writes::nothing_written))]
     pub fn put_nothing(&mut self) -> Result<(), Fault>
+        ensures done { IsOk result }
         ensures ok { OnOk result (written self.old nothing ≡ Ok self.new) }
         ensures err { IfErr result (Refused self.old nothing) }
     {
@@ -70,6 +71,7 @@ impl Text {
     /// Ends the text by a fault.
     #[tactic(auto, unfolding(crate::specs::Written::written))]
     pub fn end(&mut self, fault: Fault) -> Result<(), Fault>
+        ensures fault { result ≡ Err fault }
         ensures ok { OnOk result (written self.old (ends fault) ≡ Ok self.new) }
         ensures err { IfErr result (Refused self.old (ends fault)) }
     {

@@ -1,0 +1,11 @@
+//! Shown values by the public call: what stands behind what was there, and what is refused.
+#![tactic(auto)]
+
+#[cfg(test)]
+mod inputs;
+#[cfg(test)]
+mod long;
+#[cfg(test)]
+mod over_parents;
+#[cfg(test)]
+mod values;
