@@ -46,6 +46,7 @@ mod sessions;
 #[cfg(test)]
 mod shelves;
 #[cfg(test)]
+mod shown;
 mod slots;
 #[cfg(test)]
 mod spelled;

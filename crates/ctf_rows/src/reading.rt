@@ -71,6 +71,7 @@ fn question_said(question: &TypeQuestion) -> (&'static str, Option<Window>) {
         TypeQuestion::Name => ("name", None),
         TypeQuestion::Pointer => ("pointer", None),
         TypeQuestion::Path(_) => ("path", None),
+        TypeQuestion::Show { .. } => ("show", None),
     }
 }
 
@@ -200,6 +201,30 @@ fn questions_are_read(rt: HostRuntime) {
         (
             "{\"s\":1,\"op\":\"path\",\"d\":16,\"t\":17,\"names\":[]}",
             about("path", 16, 17),
+        ),
+        (
+            "{\"s\":1,\"op\":\"show\",\"d\":16,\"t\":17,\"bytes\":\"\",\"offset\":0}",
+            about("show", 16, 17),
+        ),
+        (
+            "{\"s\":1,\"op\":\"symbol\",\"d\":2,\"name\":\"\"}",
+            about("symbol", 2, 0),
+        ),
+        (
+            "{\"s\":1,\"op\":\"object\",\"d\":3,\"sym\":4294967295}",
+            about("object", 3, 0),
+        ),
+        (
+            "{\"s\":1,\"op\":\"function\",\"d\":4,\"sym\":0}",
+            about("function", 4, 0),
+        ),
+        (
+            "{\"s\":1,\"op\":\"label\",\"d\":5,\"name\":\"a\"}",
+            about("label", 5, 0),
+        ),
+        (
+            "{\"s\":1,\"op\":\"info\",\"d\":6}",
+            about("info", 6, 0),
         ),
     ] {
         assert_eq!(rt; read(rt.alloc(), line), Ok((1, want)), "at {line}");
