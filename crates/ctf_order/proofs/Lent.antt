@@ -11,7 +11,7 @@ use Rattle.std.proofs.lemmas.List.Elements.{Contains-append_left, Contains-appen
 use Rattle.std.specs.List.Sorted.{IsPermutation, IsSortedBy}
 use Rattle.std.proofs.lemmas.List.{get_or-map, length-map}
 use Rattle.std.proofs.lemmas.List.Sorted.{Contains-permutation, IsPermutation-sym}
-use Rattle.ctf_order.specs.Naming.{Naming, name_or_none}
+use Rattle.ctf_order.specs.Naming.{Naming, name_or_empty}
 use Rattle.ctf_order.specs.Holding.{is_early, precedes, same_entry, Fits, IsNamed, Stands}
 use Rattle.ctf_order.specs.declared.order.Order.{Order}
 use Rattle.ctf_order.specs.Lending.{goes_before, repeats, HasLent, IsLent, Lends}
@@ -125,7 +125,7 @@ stands t items sorted named arranged same lends moved = record { inside = inside
         let here : Contains items e = rw one.2 at there in
         any_to (same_entry e) items e (same_itself e) here
 
-    named_of : (e : Entry) → Contains (map entry_in arranged) e → t e.reference ≡ Some (name_or_none t e.reference)
+    named_of : (e : Entry) → Contains (map entry_in arranged) e → t e.reference ≡ Some (name_or_empty t e.reference)
     named_of e h =
         let one = from_map arranged e h in
         let says : t e.reference ≡ Some one.0.name.now = rw one.2 at (lends.right one.0 (back one.0 one.1)) in

@@ -14,7 +14,7 @@ use Rattle.std.proofs.lemmas.Cmp.{then_total, nat_cmp_total, on_total}
 use Rattle.std.proofs.lemmas.List.MinMax.{ranks_by}
 use Rattle.std.proofs.lemmas.List.Sorted.{sorted_far}
 use Rattle.std.proofs.lemmas.Slice.Eq.{bytes_eq-Decides}
-use Rattle.ctf_order.specs.Naming.{Naming, name_or_none}
+use Rattle.ctf_order.specs.Naming.{Naming, name_or_empty}
 use Rattle.ctf_order.specs.Holding.{is_early, precedes, same_entry, IsFound, IsNamed, Stands}
 use Rattle.ctf_order.specs.Names.{by_front, compared, is_text}
 use Rattle.ctf_order.specs.Searching.{first_of}
@@ -24,10 +24,10 @@ use Rattle.ctf_order.proofs.Ranks.{names_total}
 -- ---- the order
 
 abbrev pub called : Naming → Entry → List ℕ
-called t e = name_or_none t e.reference
+called t e = name_or_empty t e.reference
 
 pub precedes_ranks : (t : Naming) → IsStrictWeakOrder (precedes t)
-precedes_ranks t = ranks_by (then_total (on_total (λ (e : Entry). name_or_none t e.reference) names_total) (on_total (λ (e : Entry). e.item) nat_cmp_total)) (λ e. e)
+precedes_ranks t = ranks_by (then_total (on_total (λ (e : Entry). name_or_empty t e.reference) names_total) (on_total (λ (e : Entry). e.item) nat_cmp_total)) (λ e. e)
 
 names_rank : IsStrictWeakOrder (λ x y. is_lt (by_front x y))
 names_rank = ranks_by names_total (λ x. x)

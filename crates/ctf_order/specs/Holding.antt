@@ -3,7 +3,7 @@ use Rattle.std.specs.Prelude.{◌≡◌, ◌≤◌, ℕ, ◌==◌, ◌&&◌, nat
 use Rattle.std.specs.List.{list_any, Contains}
 use Rattle.std.specs.List.Sorted.{IsSortedBy}
 use Rattle.std.specs.Ordering.{is_lt, nat_cmp, ordering_then}
-use Rattle.ctf_order.specs.Naming.{Naming, name_or_none}
+use Rattle.ctf_order.specs.Naming.{Naming, name_or_empty}
 use Rattle.ctf_order.specs.Names.{by_front, is_text}
 use Rattle.ctf_order.specs.declared.entries.Entry.{Entry}
 use Rattle.ctf_order.specs.declared.order.Order.{Order}
@@ -30,7 +30,7 @@ IsFound t items text found = MatchOption found ((e : Entry) → Contains items e
 
 -- by the order of names, and then by item
 abbrev pub precedes : Naming → Entry → Entry → Bool
-precedes t a b = is_lt (ordering_then (by_front (name_or_none t a.reference) (name_or_none t b.reference)) (nat_cmp a.item b.item))
+precedes t a b = is_lt (ordering_then (by_front (name_or_empty t a.reference) (name_or_empty t b.reference)) (nat_cmp a.item b.item))
 
 abbrev pub same_entry : Entry → Entry → Bool
 same_entry e f = e.reference == f.reference && e.item == f.item
@@ -42,7 +42,7 @@ is_early t text item e = nat_le e.item item && is_text (t e.reference) text
 -- each of them is one of the items and has a name, and the least item of each name is one of them
 pub record Stands (t : Naming) (items entries : List Entry) : Type 0 where
   pub inside : (e : Entry) → Contains entries e → list_any (same_entry e) items ≡ true
-  pub named : (e : Entry) → Contains entries e → t e.reference ≡ Some (name_or_none t e.reference)
+  pub named : (e : Entry) → Contains entries e → t e.reference ≡ Some (name_or_empty t e.reference)
   pub all : (e : Entry) (text : List ℕ) → Contains items e → IsNamed t text e → list_any (is_early t text e.item) entries ≡ true
 
 -- what is kept

@@ -9,8 +9,8 @@ use Rattle.ctf_order.specs.declared.texts.Texts.TheVariants.{Dictionary, Program
 abbrev pub Naming : Type 0
 Naming = ℕ → Option (List ℕ)
 
-abbrev pub name_or_none : Naming → ℕ → List ℕ
-name_or_none names reference = unwrap_or (names reference) []
+abbrev pub name_or_empty : Naming → ℕ → List ℕ
+name_or_empty names reference = unwrap_or (names reference) []
 
 -- references name what stands in the tables of a dictionary, offsets what stands in the strings of a program
 abbrev pub naming : Texts → Naming

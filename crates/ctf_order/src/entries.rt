@@ -1,6 +1,7 @@
 //! Items that have names.
 
-/// An item of a dictionary, by a number of its own, and the reference to its name.
+/// An item of a dictionary, by a number of its own, and the reference to its name: or the offset,
+/// where its name stands in the strings of a program.
 #[derive(Clone, Copy, Debug, PartialEq, Eq, PartialOrd, Ord)]
 pub struct Entry {
     pub reference: u32,
