@@ -1,1 +1,3 @@
 pub mod Among
+pub mod LabelMap
+pub mod Views

@@ -1,5 +1,5 @@
 //! Labels of a draft, in the order in which they were added.
-ghost use Rattle.std.specs.Prelude.{◌≡◌, ◌++◌, [], ◌∷◌, false, length, map, take, OnOk, OnErr};
+ghost use Rattle.std.specs.Prelude.{◌≡◌, ◌<◌, ◌^◌, ◌++◌, [], ◌∷◌, false, length, map, take, OnOk, OnErr};
 ghost use Rattle.std.specs.List.{list_any};
 ghost use Rattle.std.specs.Str.{bytes_eq};
 
@@ -33,7 +33,8 @@ impl Labels {
     }
 
     pub fn len(&self) -> usize
-        ensures { result ≡ length self.now }
+        ensures len { result ≡ length self.now }
+        ensures small { result < 2 ^ 63 }
     {
         self.map.len()
     }
@@ -52,10 +53,10 @@ impl Labels {
             ≡ self.old ++ (record { name = name.items; last = last }) ∷ []) }
         ensures err { OnErr result (self.new ≡ self.old) }
     {
-        match self.map.insert(name, last) {
-            Ok(_) => Ok(()),
-            Err(_) => Err(AllocError),
-        }
+        let Ok(_) = self.map.insert(name, last) else {
+            return Err(AllocError);
+        };
+        Ok(())
     }
 
     /// Keeps the first of them.
