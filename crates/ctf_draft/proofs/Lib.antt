@@ -1,3 +1,4 @@
 pub mod Among
 pub mod LabelMap
 pub mod Views
+pub mod Pending

@@ -2,3 +2,4 @@ pub mod TypeView
 pub mod NewView
 pub mod LabelView
 pub mod DraftView
+pub mod Pending

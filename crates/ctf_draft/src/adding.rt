@@ -20,7 +20,7 @@ use ctf_model::{Bytes, Fault, Place, TypeNum, placeless};
 const MOST_TYPES: usize = 32_766;
 
 /// As many members, enumerators or arguments as a type may have.
-const MOST_ITEMS: usize = 1023;
+pub(crate) const MOST_ITEMS: usize = 1023;
 
 impl Draft {
     /// Whether no type has the number, of the draft or of its parent.

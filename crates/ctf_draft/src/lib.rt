@@ -2,10 +2,13 @@
 #![tactic(auto)]
 
 mod adding;
+mod bodies;
 mod draft;
+mod items;
 mod labels;
 mod naming;
 mod new_types;
+mod pushing;
 mod types;
 
 pub use draft::Draft;
