@@ -54,7 +54,7 @@ module _ (parname parlabel : List ℕ) (parent : Option Dictionary) (model : Dat
 
 -- ---- in code
 
-taken_at : (items : List DraftType) (i : ℕ) (t : DraftType) → i < length items → t ≡ get_or items i t → slice_get (map type_of items) i ≡ Some (type_of t)
+pub taken_at : (items : List DraftType) (i : ℕ) (t : DraftType) → i < length items → t ≡ get_or items i t → slice_get (map type_of items) i ≡ Some (type_of t)
 taken_at items i t lt is = slice_get-map type_of items i ∙ ap (option_map type_of) (slice_get-get_or items i t lt ∙ ap Some (sym is))
 
 module _ (parname parlabel : List ℕ) (parent : Option Dictionary) (model : DataModel) (u v : ℕ) (items : List DraftType) (labels : List Label) (n i : ℕ) (t : DraftType) (is : t ≡ get_or items i t) (le : u ≤ length items)

@@ -4,11 +4,14 @@
 mod adding;
 mod bodies;
 mod draft;
+mod figures;
 mod items;
 mod labels;
 mod naming;
 mod new_types;
+mod parents;
 mod pushing;
+mod sizing;
 mod types;
 
 pub use draft::Draft;

@@ -1,6 +1,6 @@
 use Rattle.std.proofs.Common.{◌≡◌, List, ◌++◌, ◌∷◌, [], map, option_map, sym, ap, ◌∙◌, arith}
 use Rattle.std.proofs.lemmas.List.{map-append, length-map}
-use Rattle.ctf_model.specs.Dictionary.{said_by}
+use Rattle.ctf_draft.specs.ParentView.{parent_in}
 use Rattle.ctf_model.specs.NewTypes.{new_term}
 use Rattle.ctf_model.specs.Term.{Term}
 use Rattle.ctf_draft.specs.NewView.{new_of}
@@ -11,7 +11,7 @@ use Rattle.ctf_draft.proofs.draft.Draft.add.Goals as goal
 pub returns-clause-ok : goal.returns-clause-ok
 returns-clause-ok c =
     let d = c.self.inside in
-    let parent = option_map (λ p. said_by p.value.lists) d.parent in
+    let parent = parent_in d.parent in
     let terms = map type_of d.types.items in
     let x = new_term (new_of c.args.new) in
     let inside = c.self.invariant.0 in

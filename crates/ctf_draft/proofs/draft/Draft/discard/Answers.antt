@@ -1,6 +1,6 @@
 use Rattle.std.proofs.Common.{map, option_map}
 use Rattle.std.proofs.lemmas.List.{take-map}
-use Rattle.ctf_model.specs.Dictionary.{said_by}
+use Rattle.ctf_draft.specs.ParentView.{parent_in}
 use Rattle.ctf_draft.specs.TypeView.{type_of}
 use Rattle.ctf_draft.proofs.Views.{dropped}
 use Rattle.ctf_draft.proofs.draft.Draft.discard.Goals as goal
@@ -8,4 +8,4 @@ use Rattle.ctf_draft.proofs.draft.Draft.discard.Goals as goal
 pub returns-clause-draft : goal.returns-clause-draft
 returns-clause-draft c =
     let d = c.self.inside in
-    rw (← c.self.view_is, c.truncate.ensures.items, c.truncate-2.ensures, ← take-map type_of d.updated d.types.items) (dropped d.parname d.parlabel (option_map (λ p. said_by p.value.lists) d.parent) d.model d.updated d.updated_labels (map type_of d.types.items) d.labels)
+    rw (← c.self.view_is, c.truncate.ensures.items, c.truncate-2.ensures, ← take-map type_of d.updated d.types.items) (dropped d.parname d.parlabel (parent_in d.parent) d.model d.updated d.updated_labels (map type_of d.types.items) d.labels)

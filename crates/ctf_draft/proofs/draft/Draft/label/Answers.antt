@@ -1,7 +1,8 @@
 use Rattle.std.proofs.Common.{◌≡◌, ℕ, List, ◌++◌, ◌∷◌, [], map, option_map, sym, ap, ◌∙◌, arith}
 use Rattle.std.specs.List.{list_any}
 use Rattle.std.specs.Str.{bytes_eq}
-use Rattle.ctf_model.specs.Dictionary.{Label, said_by}
+use Rattle.ctf_model.specs.Dictionary.{Label}
+use Rattle.ctf_draft.specs.ParentView.{parent_in}
 use Rattle.ctf_model.specs.Drafts.{Draft, has_zero, held}
 use Rattle.ctf_draft.specs.TypeView.{type_of}
 use Rattle.ctf_draft.proofs.Views.{all_labels, label_free, labelled, one_label, seen, label_accepted}
@@ -10,7 +11,7 @@ use Rattle.ctf_draft.proofs.draft.Draft.label.Goals as goal
 pub returns-clause-ok : goal.returns-clause-ok
 returns-clause-ok c =
     let d = c.self.inside in
-    let parent = option_map (λ p. said_by p.value.lists) d.parent in
+    let parent = parent_in d.parent in
     let terms = map type_of d.types.items in
     let l : Label = record { name = c.args.name; last = c.args.last } in
     let inside = c.self.invariant.1 in
