@@ -4,3 +4,4 @@ pub mod Views
 pub mod Pending
 pub mod ValueTypes
 pub mod Figuring
+pub mod Reaches

@@ -1,5 +1,5 @@
 -- A pending type, and one that is written over.
-use Rattle.std.proofs.Common.{◌≡◌, ℕ, ◌+◌, ◌-◌, ◌<◌, ◌≤◌, Bool, true, false, cond, ltb, List, length, map, take, set, get_or, Option, Some, None, Result, Ok, is_some, refl, sym, ap, subst, ◌∙◌, arith}
+use Rattle.std.proofs.Common.{◌≡◌, ℕ, zero, suc, ◌+◌, ◌-◌, ◌<◌, ◌≤◌, Bool, true, false, cond, ltb, List, [], ◌∷◌, ◌++◌, length, map, take, drop, set, get_or, Option, Some, None, Result, Ok, Err, is_some, refl, sym, ap, subst, ◌∙◌, arith}
 use Rattle.std.specs.Prelude.{slice_get, option_map}
 use Rattle.std.proofs.lemmas.Bool.{ltb-true}
 use Rattle.std.proofs.lemmas.List.{length-map, length-take, map-set}
@@ -12,6 +12,8 @@ use Rattle.ctf_model.specs.Drafts.{Draft, count_of, held, pending_place, space_o
 use Rattle.ctf_model.specs.Space.{space_type}
 use Rattle.ctf_model.specs.Term.{Body, Term}
 use Rattle.ctf_model.specs.TypeNumbers.{or_no_type}
+use Rattle.ctf_model.specs.TypePlaces.{place}
+use Rattle.ctf_model.specs.declared.numbers.Place.TheVariants.{Own}
 use Rattle.ctf_model.specs.declared.data_model.DataModel.{DataModel}
 use Rattle.ctf_model.specs.declared.faults.Fault.{Fault}
 use Rattle.ctf_model.proofs.OwnTypes.{own_inside}
@@ -86,3 +88,18 @@ module _ (parname parlabel : List ℕ) (parent : Option Dictionary) (model : Dat
 
   pub left_here : (new : DraftType) → type_of new ≡ type_of t → seen parname parlabel parent model u v (map type_of (set items i new)) labels ≡ seen parname parlabel parent model u v (map type_of items) labels
   left_here new same = ap (λ (ts : List Term). seen parname parlabel parent model u v ts labels) (map-set_same type_of items i new t (same ∙ ap type_of is))
+
+-- the type at an own place
+pub seen_type : (parname parlabel : List ℕ) (parent : Option Dictionary) (model : DataModel) (u v : ℕ) (items : List DraftType) (labels : List Label) (n i : ℕ) (d : Draft) → seen parname parlabel parent model u v (map type_of items) labels ≡ d → place (is_some parent) n ≡ Own i → space_type (space_of d) n ≡ or_no_type (slice_get (map type_of items) i)
+seen_type parname parlabel parent model u v items labels n i d view at =
+    ap (λ (e : Draft). space_type (space_of e) n) (sym view) ∙ here (seen parname parlabel parent model u v (map type_of items) labels) at
+    ∙ ap (λ (ts : List Term). or_no_type (slice_get ts i)) (all_terms parname parlabel parent model u v (map type_of items) labels)
+  where
+    here : (e : Draft) → place (is_some e.parent) n ≡ Own i → space_type (space_of e) n ≡ or_no_type (slice_get (held e).terms i)
+    here e own = rw own refl
+
+-- none stands behind the last
+pub none_at : (items : List DraftType) (i : ℕ) → length items ≤ i → slice_get (map type_of items) i ≡ None
+none_at [] i le = refl
+none_at (t ∷ items) zero le = absurd (omega arith)
+none_at (t ∷ items) (suc i) le = none_at items i (omega arith)

@@ -6,3 +6,4 @@ pub mod DraftView
 pub mod Pending
 pub mod Sizing
 pub mod Elsewhere
+pub mod Reaching

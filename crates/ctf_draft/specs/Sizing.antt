@@ -1,9 +1,9 @@
 -- What the size of a type, and the type that it stands for, hang on. The words are ours.
-use Rattle.std.specs.Prelude.{ℕ, min, length, Option, Some, None, Result, Ok, Err}
+use Rattle.std.specs.Prelude.{ℕ, ◌*◌, min, length, Option, Some, None, Result, Ok, Err}
 use Rattle.ctf_model.specs.Chains.{by_value}
 use Rattle.ctf_model.specs.Figures.{enum_size, incomplete, times}
 use Rattle.ctf_model.specs.Space.{pointer_size}
-use Rattle.ctf_model.specs.Term.{Body}
+use Rattle.ctf_model.specs.Term.{Body, Term}
 use Rattle.ctf_model.specs.Term as term
 use Rattle.ctf_model.specs.declared.data_model.DataModel.{DataModel}
 use Rattle.ctf_model.specs.declared.faults.Fault.{Fault}
@@ -45,3 +45,12 @@ own_align model _ = Ok 0
 abbrev pub aligned_by : Body → ℕ
 aligned_by (term.struct said members) = min 1 (length members)
 aligned_by body = length (by_value body)
+
+abbrev pub width_found : Result Term Fault → Result (Option ℕ) Fault
+width_found (Err f) = Err f
+width_found (Ok x) = Ok (width x.body)
+
+-- how many bits a value of a size fills: all of them, where no width is said
+abbrev pub filled : ℕ → Option ℕ → ℕ
+filled size None = 8 * size
+filled size (Some bits) = bits

@@ -41,7 +41,7 @@ impl Draft {
     }
 
     /// The parent whose type a number names, if it does.
-    fn parent_of(&self, n: TypeNum) -> Option<&Parent>
+    pub(crate) fn parent_of(&self, n: TypeNum) -> Option<&Parent>
         requires some { 0 < n.0 }
         requires not_own { let d = self.now.draft in
             own_index_of (is_some d.parent) (count_of d) n.0 ≡ None }

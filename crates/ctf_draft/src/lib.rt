@@ -7,12 +7,16 @@ mod draft;
 mod figures;
 mod items;
 mod labels;
+mod marks;
 mod naming;
 mod new_types;
 mod parents;
 mod pushing;
+mod reach;
+mod reaching;
 mod sizing;
 mod types;
+mod widths;
 
 pub use draft::Draft;
 pub use labels::Labels;
