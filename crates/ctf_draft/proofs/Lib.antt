@@ -5,3 +5,5 @@ pub mod Pending
 pub mod ValueTypes
 pub mod Figuring
 pub mod Reaches
+pub mod Planned
+pub mod MemberAdded

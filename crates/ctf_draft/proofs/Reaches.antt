@@ -1,5 +1,5 @@
 -- How deep a type is, and how it is aligned, by the types that it leads to.
-use Rattle.std.proofs.Common.{◌≡◌, ℕ, zero, suc, ◌+◌, ◌-◌, ◌<◌, ◌≤◌, Bool, true, false, cond, ltb, List, [], ◌∷◌, ◌++◌, length, map, take, get_or, Option, Some, None, Result, Ok, Err, is_some, refl, sym, ap, subst, ◌∙◌, arith, set, ◌⊎◌, inl, inr, ◌≢◌}
+use Rattle.std.proofs.Common.{◌≡◌, ℕ, suc, ◌+◌, ◌-◌, ◌<◌, ◌≤◌, Bool, true, false, cond, ltb, List, [], ◌∷◌, length, map, take, get_or, Option, Some, None, Result, Ok, Err, is_some, refl, sym, ap, subst, ◌∙◌, arith, set, ◌⊎◌, inl, inr, ◌≢◌}
 use Rattle.std.specs.Prelude.{min, max, slice_get, slice_index, slice_index_or, slice_set, option_map, MatchOption}
 use Rattle.std.specs.List.{filter_map}
 use Rattle.std.proofs.Math.ListN as listn
@@ -18,16 +18,14 @@ use Rattle.ctf_model.specs.Dictionary.{Dictionary}
 use Rattle.ctf_model.specs.Drafts.{Draft, count_of, held, space_of}
 use Rattle.ctf_model.specs.FigureLaws.{nothing, own_body, value_edges}
 use Rattle.ctf_model.specs.Figures.{align, align_body, aligning, comes_to, first_of, greater, greatest, parents_figure}
-use Rattle.ctf_model.specs.Space.{Space}
 use Rattle.ctf_model.specs.Term.{Body, Member, Term}
 use Rattle.ctf_model.specs.Term as term
-use Rattle.ctf_model.specs.TypePlaces.{own_number}
 use Rattle.ctf_model.specs.declared.data_model.DataModel.{DataModel}
 use Rattle.ctf_model.specs.declared.faults.Fault.{Fault}
 use Rattle.ctf_model.proofs.FigureAsks.{figures_ask}
 use Rattle.ctf_model.proofs.OwnTypes.{own_inside}
 use Rattle.ctf_model.proofs.Settled.{most_is, own_figure}
-use Rattle.ctf_draft.specs.Reaching.{Answers, IsFound, IsReach, Knows, value_places}
+use Rattle.ctf_draft.specs.Reaching.{Answers, IsReach, Knows, value_places}
 use Rattle.ctf_draft.specs.Sizing.{aligned_by, own_align}
 use Rattle.ctf_draft.specs.declared.reach.Reach.{Reach}
 

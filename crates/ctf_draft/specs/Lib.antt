@@ -7,3 +7,4 @@ pub mod Pending
 pub mod Sizing
 pub mod Elsewhere
 pub mod Reaching
+pub mod Planning

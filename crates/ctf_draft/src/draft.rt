@@ -8,6 +8,7 @@ ghost use Rattle.ctf_model.specs.Drafts.{all_of, discarded, held, is_childs as i
 ghost use Rattle.ctf_model.specs.Refusals.{want_of_memory};
 
 use crate::labels::Labels;
+use crate::marks::Marks;
 use crate::naming::has_zero;
 use crate::parents::Parent;
 use crate::types::DraftType;
@@ -32,6 +33,7 @@ pub struct Draft {
     pub(crate) updated: usize,
     pub(crate) labels: Labels,
     updated_labels: usize,
+    pub(crate) marks: Marks,
 }
 
 impl Model for Draft {
@@ -102,6 +104,7 @@ impl Draft {
             updated: 0,
             labels: Labels::new(alloc),
             updated_labels: 0,
+            marks: Marks::new(alloc),
         })
     }
 

@@ -11,6 +11,8 @@ mod marks;
 mod naming;
 mod new_types;
 mod parents;
+mod placing;
+mod plan;
 mod pushing;
 mod reach;
 mod reaching;

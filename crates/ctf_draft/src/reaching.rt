@@ -30,11 +30,7 @@ fn longer(a: u16, b: u16) -> u16
 }
 
 /// The greater alignment, where another one counts.
-fn beside(
-    align: Result<u64, Fault>,
-    other: Result<u64, Fault>,
-    counts: bool,
-) -> Result<u64, Fault>
+fn beside(align: Result<u64, Fault>, other: Result<u64, Fault>, counts: bool) -> Result<u64, Fault>
     ensures { result ≡ (if counts then greater_of align other else align) }
 {
     if counts { greater(align, other) } else { align }

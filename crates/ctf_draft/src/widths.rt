@@ -1,5 +1,5 @@
 //! How many bits a value of a type fills.
-ghost use Rattle.std.specs.Prelude.{◌≡◌, ◌<◌, Some, option_map, slice_get};
+ghost use Rattle.std.specs.Prelude.{◌≡◌, ◌<◌, ◌^◌, IfOk, Some, option_map, slice_get};
 ghost use Rattle.ctf_check.specs.CheckedView.{dictionary_of};
 ghost use Rattle.ctf_check.specs.TypedView.{spelled};
 ghost use Rattle.ctf_draft.specs.Sizing.{filled as filled_of, width, width_found};
@@ -36,7 +36,8 @@ fn parents_width(parent: Checked<'_>, i: usize) -> Result<Option<u16>, Fault>
 
 /// How many bits a value of a size fills: the width of an integer or a float, else all bits.
 fn filled(size: u64, width: Option<u16>) -> u128
-    ensures { result ≡ filled_of size width }
+    ensures bits { result ≡ filled_of size width }
+    ensures small { result < 2 ^ 67 }
 {
     match width {
         Some(width) => u128::from(width),
@@ -67,7 +68,8 @@ impl Draft {
 
     /// How many bits a value of a type fills.
     pub(crate) fn bits_filled(&self, n: TypeNum) -> Result<u128, Fault>
-        ensures { result ≡ bits_filled_in (space_of self.now.draft) n.0 }
+        ensures bits { result ≡ bits_filled_in (space_of self.now.draft) n.0 }
+        ensures small { IfOk result (λ bits. bits < 2 ^ 67) }
     {
         let size = match self.size(n) {
             Ok(size) => size,

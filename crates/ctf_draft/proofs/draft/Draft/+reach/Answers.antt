@@ -1,12 +1,12 @@
-use Rattle.std.proofs.Common.{◌≡◌, ℕ, ◌+◌, ◌-◌, ◌≤◌, ◌<◌, length, sym, ap, refl, ◌∙◌, arith}
-use Rattle.std.specs.Prelude.{max, slice_set}
+use Rattle.std.proofs.Common.{◌≡◌, ◌+◌, ◌<◌, length, sym, ap, refl, ◌∙◌, arith}
+use Rattle.std.specs.Prelude.{max}
 use Rattle.ctf_chains.specs.Places.{steps_between}
 use Rattle.ctf_chains.proofs.Depths.{none_yet}
 use Rattle.ctf_model.specs.Chains.{by_value}
 use Rattle.ctf_model.specs.Drafts.{held, space_of}
 use Rattle.ctf_model.specs.FigureLaws.{own_body}
 use Rattle.ctf_model.specs.Figures.{align}
-use Rattle.ctf_draft.specs.Reaching.{IsReach, Knows, value_places}
+use Rattle.ctf_draft.specs.Reaching.{IsReach, value_places}
 use Rattle.ctf_draft.specs.Sizing.{aligned_by, own_align}
 use Rattle.ctf_draft.specs.TypeView.{body_of}
 use Rattle.ctf_draft.proofs.Reaches.{aligned_more, base_is, elsewhere_is, known_answers, longer_by, longer_none, named_is, none_read, one_kept, reach_is, read_count, too_deep}

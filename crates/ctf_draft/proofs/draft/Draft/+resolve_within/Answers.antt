@@ -1,4 +1,4 @@
-use Rattle.std.proofs.Common.{◌≡◌, ap, sym, refl, ◌∙◌, arith}
+use Rattle.std.proofs.Common.{ap, sym, refl, ◌∙◌, arith}
 use Rattle.std.specs.Prelude.{◌-◌, option_map}
 use Rattle.ctf_model.specs.Drafts.{held}
 use Rattle.ctf_model.specs.Figures.{comes_to, parents_figure, resolving}

@@ -1,4 +1,4 @@
-use Rattle.std.proofs.Common.{◌≡◌, ap, sym, ◌∙◌, arith}
+use Rattle.std.proofs.Common.{ap, sym, ◌∙◌, arith}
 use Rattle.std.specs.Prelude.{◌-◌}
 use Rattle.ctf_model.specs.Drafts.{held}
 use Rattle.ctf_model.specs.Figures.{comes_to, parents_figure, sizing, times}

@@ -1,4 +1,4 @@
-use Rattle.std.proofs.Common.{map, option_map}
+use Rattle.std.proofs.Common.{map}
 use Rattle.std.proofs.lemmas.List.{take-map}
 use Rattle.ctf_draft.specs.ParentView.{parent_in}
 use Rattle.ctf_draft.specs.TypeView.{type_of}

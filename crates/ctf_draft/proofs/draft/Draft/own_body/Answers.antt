@@ -1,7 +1,5 @@
-use Rattle.std.proofs.Common.{◌≡◌, List, map, ap, refl, ◌∙◌, arith, length}
-use Rattle.std.specs.Prelude.{option_map, slice_get}
+use Rattle.std.proofs.Common.{map, refl, arith}
 use Rattle.std.proofs.lemmas.List.{length-map}
-use Rattle.ctf_model.specs.Term.{Term}
 use Rattle.ctf_draft.specs.ParentView.{parent_in}
 use Rattle.ctf_draft.specs.TypeView.{type_of}
 use Rattle.ctf_draft.proofs.Pending.{taken_at}

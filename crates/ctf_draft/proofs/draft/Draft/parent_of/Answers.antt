@@ -1,4 +1,4 @@
-use Rattle.std.proofs.Common.{◌≡◌, ap, sym, refl, ◌∙◌}
+use Rattle.std.proofs.Common.{ap, sym, ◌∙◌}
 use Rattle.std.specs.Prelude.{is_some}
 use Rattle.ctf_draft.specs.ParentView.{parent_in}
 use Rattle.ctf_draft.proofs.Figuring.{named_by_none, named_nowhere}

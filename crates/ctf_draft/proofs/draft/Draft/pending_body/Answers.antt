@@ -1,4 +1,4 @@
-use Rattle.std.proofs.Common.{option_map, ap, arith}
+use Rattle.std.proofs.Common.{ap, arith}
 use Rattle.ctf_draft.specs.ParentView.{parent_in}
 use Rattle.ctf_draft.proofs.Pending.{body_here}
 use Rattle.ctf_draft.proofs.draft.Draft.pending_body.Goals as goal

@@ -1,4 +1,4 @@
-use Rattle.std.proofs.Common.{◌≡◌, ap, sym, ◌∙◌}
+use Rattle.std.proofs.Common.{ap, sym, ◌∙◌}
 use Rattle.ctf_model.specs.Drafts.{held}
 use Rattle.ctf_model.specs.Figures.{comes_to, parents_figure, sizing}
 use Rattle.ctf_model.proofs.Settled.{most_is}

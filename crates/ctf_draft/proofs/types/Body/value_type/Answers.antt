@@ -1,4 +1,3 @@
-use Rattle.std.proofs.Common.{◌≡◌}
 use Rattle.ctf_draft.proofs.ValueTypes.{member_type}
 use Rattle.ctf_draft.proofs.types.Body.value_type.Goals as goal
 
