@@ -7,3 +7,4 @@ pub mod Figuring
 pub mod Reaches
 pub mod Planned
 pub mod MemberAdded
+pub mod Rounds

@@ -7,4 +7,5 @@ pub mod Pending
 pub mod Sizing
 pub mod Elsewhere
 pub mod Reaching
+pub mod MarksView
 pub mod Planning

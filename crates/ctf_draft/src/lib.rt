@@ -7,6 +7,7 @@ mod draft;
 mod figures;
 mod items;
 mod labels;
+mod mark;
 mod marks;
 mod naming;
 mod new_types;
