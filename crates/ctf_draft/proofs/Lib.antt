@@ -1,1 +1,10 @@
 pub mod Among
+pub mod LabelMap
+pub mod Views
+pub mod Pending
+pub mod ValueTypes
+pub mod Figuring
+pub mod Reaches
+pub mod Planned
+pub mod MemberAdded
+pub mod Rounds

@@ -1,10 +1,9 @@
 -- What a draft in code stands for.
-use Rattle.std.specs.Prelude.{ℕ, List, map, take, drop, Option}
-use Rattle.ctf_model.specs.Dictionary.{Dictionary, Label}
+use Rattle.std.specs.Prelude.{ℕ, List, take, drop, Option}
+use Rattle.ctf_model.specs.Dictionary.{Label}
 use Rattle.ctf_model.specs.Drafts.{Contents, Draft}
 use Rattle.ctf_model.specs.Space.{Kept}
 use Rattle.ctf_model.specs.Term.{Term}
-use Rattle.ctf_model.specs.declared.data_model.DataModel.{DataModel}
 
 -- a draft, and the dictionary that its last update made
 pub record Owned : Type 0 where

@@ -1,5 +1,5 @@
 -- The new types that a draft is handed.
-use Rattle.std.specs.Prelude.{ℕ, List, map}
+use Rattle.std.specs.Prelude.{ℕ, map}
 use Rattle.ctf_model.specs.NewTypes as new
 use Rattle.ctf_model.specs.Term.{Scalar}
 use Rattle.ctf_records.specs.RecordView.{tag_of}

@@ -4,7 +4,6 @@ use Rattle.ctf_model.specs.Term as term
 use Rattle.ctf_model.specs.Term.{Scalar, Term}
 use Rattle.ctf_model.specs.declared.numbers.TypeNum.{TypeNum}
 use Rattle.ctf_records.specs.RecordView.{tag_of}
-use Rattle.ctf_views.specs.declared.parts.ArrayInfo.{ArrayInfo}
 use Rattle.ctf_views.specs.declared.parts.Encoding.{Encoding}
 use Rattle.ctf_draft.specs.declared.types.AggregateKind.{AggregateKind}
 use Rattle.ctf_draft.specs.declared.types.AggregateKind.TheVariants.{Struct, Union}

@@ -4,7 +4,7 @@ ghost use Rattle.std.specs.List.{list_any};
 ghost use Rattle.ctf_draft.specs.NewView.{new_body_of, new_of};
 ghost use Rattle.ctf_draft.specs.TypeView.{number_of};
 ghost use Rattle.ctf_model.specs.Adders.{against_type, add_label, add_type};
-ghost use Rattle.ctf_model.specs.Drafts.{is_absent as is_absent_in, is_unknown as is_unknown_in};
+ghost use Rattle.ctf_model.specs.Drafts.{is_absent as is_absent_in, is_unknown as is_unknown_in, next_number as next_number_in};
 ghost use Rattle.ctf_model.specs.Judgements.{first_met};
 ghost use Rattle.ctf_model.specs.NewTypes.{new_body, new_term};
 ghost use Rattle.ctf_model.specs.References.{references};
@@ -20,7 +20,7 @@ use ctf_model::{Bytes, Fault, Place, TypeNum, placeless};
 const MOST_TYPES: usize = 32_766;
 
 /// As many members, enumerators or arguments as a type may have.
-const MOST_ITEMS: usize = 1023;
+pub(crate) const MOST_ITEMS: usize = 1023;
 
 impl Draft {
     /// Whether no type has the number, of the draft or of its parent.
@@ -31,7 +31,7 @@ impl Draft {
             Place::Nowhere => true,
             Place::Own(i) => i >= self.types.len(),
             Place::Parents(i) => match &self.parent {
-                Some(parent) => i >= parent.view().count(),
+                Some(parent) => i >= parent.opened.view().count(),
                 None => true,
             },
         }
@@ -91,7 +91,9 @@ impl Draft {
     }
 
     /// The number that the next type gets.
-    fn next_number(&self) -> TypeNum {
+    fn next_number(&self) -> TypeNum
+        ensures { result.0 ≡ next_number_in self.now.draft }
+    {
         let first = if self.parent.is_some() { 0x8001 } else { 1 };
         TypeNum(self.types.len() as u16 + first)
     }
@@ -110,10 +112,10 @@ impl Draft {
             return Err(fault);
         }
         let number = self.next_number();
-        match self.types.push(made(self.alloc, new)) {
-            Ok(_) => Ok(number),
-            Err(_) => Err(placeless(Fault::MEMORY)),
-        }
+        let Ok(_) = self.types.push(made(self.alloc, new)) else {
+            return Err(placeless(Fault::MEMORY));
+        };
+        Ok(number)
     }
 
     /// Adds a label behind the others.
@@ -132,10 +134,10 @@ impl Draft {
         if self.labels.has(name.as_slice()) {
             return Err(placeless(Fault::DUPLICATE));
         }
-        match self.labels.push(name.into_vec(), last) {
-            Ok(_) => Ok(()),
-            Err(_) => Err(placeless(Fault::MEMORY)),
-        }
+        let Ok(_) = self.labels.push(name.into_vec(), last) else {
+            return Err(placeless(Fault::MEMORY));
+        };
+        Ok(())
     }
 }
 

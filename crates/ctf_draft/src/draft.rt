@@ -1,15 +1,20 @@
 //! A draft, and its life.
 ghost use Rattle.std.specs.Prelude.{◌≡◌, ◌⊎◌, ◌++◌, ◌==◌, not, is_some, length, map, None, Some, Ok, Err, IfOk, IfErr, option_map};
+ghost use Rattle.std.specs.Option.{ForSome};
+ghost use Rattle.ctf_draft.specs.ParentView.{FitsParent, parent_in};
 ghost use Rattle.ctf_draft.specs.TypeView.{type_of};
 ghost use Rattle.ctf_model.specs.Dictionary.{Denotes, said_by};
 ghost use Rattle.ctf_model.specs.Drafts.{all_of, discarded, held, is_childs as is_childs_parent, new_draft, pending_count, settled};
+ghost use Rattle.ctf_model.specs.Refusals.{want_of_memory};
 
 use crate::labels::Labels;
+use crate::marks::Marks;
 use crate::naming::has_zero;
+use crate::parents::Parent;
 use crate::types::DraftType;
 use ctf_model::{Bytes, DataModel, Fault, placeless};
 use ctf_space::Opened;
-use std::alloc::Global;
+use std::alloc::{AllocError, Global};
 use std::marker::Model;
 use std::rc::Rc;
 
@@ -21,13 +26,14 @@ pub struct Draft {
     pub(crate) alloc: Global,
     parname: Bytes,
     parlabel: Bytes,
-    pub(crate) parent: Option<Rc<Opened>>,
-    model: DataModel,
+    pub(crate) parent: Option<Parent>,
+    pub(crate) model: DataModel,
     dictionary: Option<Rc<Opened>>,
     pub(crate) types: Vec<DraftType>,
     pub(crate) updated: usize,
     pub(crate) labels: Labels,
     updated_labels: usize,
+    pub(crate) marks: Marks,
 }
 
 impl Model for Draft {
@@ -35,7 +41,8 @@ impl Model for Draft {
     ghost use Rattle.ctf_draft.specs.DraftView.{Owned, first_of, others_of};
     ghost use Rattle.ctf_draft.specs.TypeView.{type_of};
     ghost use Rattle.ctf_model.specs.Adders.{most_types};
-    ghost use Rattle.ctf_model.specs.Dictionary.{said_by};
+    ghost use Rattle.std.specs.Option.{ForSome};
+    ghost use Rattle.ctf_draft.specs.ParentView.{FitsParent, parent_in};
 
     ghost Value = { Owned };
 
@@ -43,7 +50,7 @@ impl Model for Draft {
       draft = record {
         parname = d.parname;
         parlabel = d.parlabel;
-        parent = option_map (λ p. said_by p.value.lists) d.parent;
+        parent = parent_in d.parent;
         model = d.model;
         updated = first_of d.updated d.updated_labels (map type_of d.types.items) d.labels;
         pending = others_of d.updated d.updated_labels (map type_of d.types.items) d.labels;
@@ -53,7 +60,8 @@ impl Model for Draft {
 
     ghost invariant = { λ d. (d.updated ≤ vec_len d.types)
         × (d.updated_labels ≤ length d.labels)
-        × (vec_len d.types ≤ most_types) };
+        × (vec_len d.types ≤ most_types)
+        × ForSome d.parent (FitsParent d.model) };
 }
 
 impl Draft {
@@ -70,8 +78,8 @@ impl Draft {
         requires named { is_some parent ≡ not (length parname == 0) }
         ensures ok { IfOk result (λ d. (new_draft (option_map (λ p. said_by p.value.lists) parent)
             parname parlabel model ≡ Ok d.draft) × (d.dictionary ≡ None)) }
-        ensures exact_err { IfErr result (λ f. new_draft
-            (option_map (λ p. said_by p.value.lists) parent) parname parlabel model ≡ Err f) }
+        ensures exact_err { IfErr result (λ f. (f ≡ want_of_memory) ⊎ (new_draft
+            (option_map (λ p. said_by p.value.lists) parent) parname parlabel model ≡ Err f)) }
     {
         if has_zero(parname.as_slice()) {
             return Err(placeless(Fault::NAME_HAS_ZERO));
@@ -82,6 +90,9 @@ impl Draft {
         if is_childs(&parent) {
             return Err(placeless(Fault::PARENT_IS_CHILD));
         }
+        let Ok(parent) = kept(alloc, parent, model) else {
+            return Err(placeless(Fault::MEMORY));
+        };
         Ok(Draft {
             alloc,
             parname,
@@ -93,6 +104,7 @@ impl Draft {
             updated: 0,
             labels: Labels::new(alloc),
             updated_labels: 0,
+            marks: Marks::new(alloc),
         })
     }
 
@@ -153,7 +165,10 @@ impl Draft {
     pub fn parent(&self) -> Option<&Rc<Opened>>
         ensures { option_map (λ p. said_by p.now.value.lists) result ≡ self.now.draft.parent }
     {
-        self.parent.as_ref()
+        match &self.parent {
+            Some(parent) => Some(&parent.opened),
+            None => None,
+        }
     }
 
     /// What the last update made; nothing before the first one.
@@ -177,5 +192,21 @@ fn is_childs(parent: &Option<Rc<Opened>>) -> bool
     match parent {
         Some(parent) => parent.view().child(),
         None => false,
+    }
+}
+
+/// A parent as a draft keeps it.
+fn kept(
+    alloc: Global,
+    parent: Option<Rc<Opened>>,
+    model: DataModel,
+) -> Result<Option<Parent>, AllocError>
+    ensures same { IfOk result (λ kept. parent_in kept
+        ≡ option_map (λ p. said_by p.value.lists) parent) }
+    ensures fits { IfOk result (λ kept. ForSome kept (FitsParent model)) }
+{
+    match parent {
+        Some(parent) => Ok(Some(Parent::build(alloc, parent, model)?)),
+        None => Ok(None),
     }
 }

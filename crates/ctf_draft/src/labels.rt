@@ -1,5 +1,5 @@
 //! Labels of a draft, in the order in which they were added.
-ghost use Rattle.std.specs.Prelude.{◌≡◌, ◌++◌, [], ◌∷◌, false, length, map, take, OnOk, OnErr};
+ghost use Rattle.std.specs.Prelude.{◌≡◌, ◌<◌, ◌^◌, ◌++◌, [], ◌∷◌, false, length, map, option_map, slice_get, take, OnOk, OnErr};
 ghost use Rattle.std.specs.List.{list_any};
 ghost use Rattle.std.specs.Str.{bytes_eq};
 
@@ -33,9 +33,21 @@ impl Labels {
     }
 
     pub fn len(&self) -> usize
-        ensures { result ≡ length self.now }
+        ensures len { result ≡ length self.now }
+        ensures small { result < 2 ^ 63 }
     {
         self.map.len()
+    }
+
+    /// A label: its name, and the last type that it covers.
+    pub fn get(&self, i: usize) -> Option<(&[u8], u32)>
+        ensures { option_map (λ p. record { name = p.0.now; last = p.1 }) result
+            ≡ slice_get self.now i }
+    {
+        match self.map.get_index(i) {
+            Some((name, last)) => Some((name.as_slice(), *last)),
+            None => None,
+        }
     }
 
     /// Whether a label has the name.
@@ -52,10 +64,10 @@ impl Labels {
             ≡ self.old ++ (record { name = name.items; last = last }) ∷ []) }
         ensures err { OnErr result (self.new ≡ self.old) }
     {
-        match self.map.insert(name, last) {
-            Ok(_) => Ok(()),
-            Err(_) => Err(AllocError),
-        }
+        let Ok(_) = self.map.insert(name, last) else {
+            return Err(AllocError);
+        };
+        Ok(())
     }
 
     /// Keeps the first of them.

@@ -2,11 +2,24 @@
 #![tactic(auto)]
 
 mod adding;
+mod bodies;
 mod draft;
+mod figures;
+mod items;
 mod labels;
+mod mark;
+mod marks;
 mod naming;
 mod new_types;
+mod parents;
+mod placing;
+mod plan;
+mod pushing;
+mod reach;
+mod reaching;
+mod sizing;
 mod types;
+mod widths;
 
 pub use draft::Draft;
 pub use labels::Labels;

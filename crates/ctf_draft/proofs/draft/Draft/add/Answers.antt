@@ -1,0 +1,24 @@
+use Rattle.std.proofs.Common.{◌≡◌, List, ◌++◌, ◌∷◌, [], map, sym, ap, ◌∙◌, arith}
+use Rattle.std.proofs.lemmas.List.{map-append, length-map}
+use Rattle.ctf_draft.specs.ParentView.{parent_in}
+use Rattle.ctf_model.specs.NewTypes.{new_term}
+use Rattle.ctf_model.specs.Term.{Term}
+use Rattle.ctf_draft.specs.NewView.{new_of}
+use Rattle.ctf_draft.specs.TypeView.{type_of}
+use Rattle.ctf_draft.proofs.Views.{added, one_type, seen, type_accepted}
+use Rattle.ctf_draft.proofs.draft.Draft.add.Goals as goal
+
+pub returns-clause-ok : goal.returns-clause-ok
+returns-clause-ok c =
+    let d = c.self.inside in
+    let parent = parent_in d.parent in
+    let terms = map type_of d.types.items in
+    let x = new_term (new_of c.args.new) in
+    let inside = c.self.invariant.0 in
+    let count = d.types.ok.0 in
+    let same = length-map d.types.items type_of in
+    let view = ap (λ o. o.draft) c.self.view_is in
+    let all : map type_of c.push.new.self.items ≡ terms ++ x ∷ [] = ap (map type_of) c.in-Ok.ensures.items ∙ map-append type_of d.types.items (c.made.result ∷ []) ∙ ap (λ (y : Term). terms ++ y ∷ []) c.made.ensures in
+    let one = one_type d.parname d.parlabel parent d.model d.updated d.updated_labels terms d.labels x (omega arith) in
+    type_accepted c.args.self.now.draft (new_of c.args.new) (sym c.against_type.ensures ∙ c.in_default.is)
+    ∙ added c.args.self.now.draft (seen d.parname d.parlabel parent d.model d.updated d.updated_labels terms d.labels) x (seen d.parname d.parlabel parent d.model d.updated d.updated_labels (map type_of c.push.new.self.items) d.labels) c.next_number-number.result.0 (sym view) (one ∙ ap (λ (ts : List Term). seen d.parname d.parlabel parent d.model d.updated d.updated_labels ts d.labels) (sym all)) (sym c.next_number-number.ensures)

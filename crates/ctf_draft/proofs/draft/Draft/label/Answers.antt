@@ -1,0 +1,24 @@
+use Rattle.std.proofs.Common.{◌≡◌, ℕ, List, ◌++◌, ◌∷◌, [], map, sym, ap, ◌∙◌, arith}
+use Rattle.std.specs.List.{list_any}
+use Rattle.std.specs.Str.{bytes_eq}
+use Rattle.ctf_model.specs.Dictionary.{Label}
+use Rattle.ctf_draft.specs.ParentView.{parent_in}
+use Rattle.ctf_model.specs.Drafts.{Draft, has_zero, held}
+use Rattle.ctf_draft.specs.TypeView.{type_of}
+use Rattle.ctf_draft.proofs.Views.{all_labels, label_free, labelled, one_label, seen, label_accepted}
+use Rattle.ctf_draft.proofs.draft.Draft.label.Goals as goal
+
+pub returns-clause-ok : goal.returns-clause-ok
+returns-clause-ok c =
+    let d = c.self.inside in
+    let parent = parent_in d.parent in
+    let terms = map type_of d.types.items in
+    let l : Label = record { name = c.args.name; last = c.args.last } in
+    let inside = c.self.invariant.1 in
+    let view = ap (λ o. o.draft) c.self.view_is in
+    let all : c.push.new.self ≡ d.labels ++ l ∷ [] = c.in-Ok.ensures.ok ∙ ap (λ (n : List ℕ). d.labels ++ (record { name = n; last = c.args.last }) ∷ []) c.into_vec.ensures in
+    let zeros : has_zero c.args.name ≡ c.has_zero.result = sym (c.has_zero.ensures ∙ ap has_zero c.as_slice.ensures) in
+    let names : list_any (bytes_eq c.args.name) (map (λ l. l.name) d.labels) ≡ c.has.result = sym (c.has.ensures ∙ ap (λ (n : List ℕ). list_any (bytes_eq n) (map (λ l. l.name) d.labels)) c.as_slice-2.ensures) in
+    let one = one_label d.parname d.parlabel parent d.model d.updated d.updated_labels terms d.labels l (omega arith) in
+    label_accepted c.args.self.now.draft l (label_free c.args.name c.args.self.now.draft d.labels (ap (λ (e : Draft). (held e).labels) (sym view) ∙ all_labels d.parname d.parlabel parent d.model d.updated d.updated_labels terms d.labels) (zeros ∙ c.if-has_zero.false) (names ∙ c.if-has.false))
+    ∙ labelled c.args.self.now.draft (seen d.parname d.parlabel parent d.model d.updated d.updated_labels terms d.labels) l (seen d.parname d.parlabel parent d.model d.updated d.updated_labels terms c.push.new.self) (sym view) (one ∙ ap (λ (ls : List Label). seen d.parname d.parlabel parent d.model d.updated d.updated_labels terms ls) (sym all))

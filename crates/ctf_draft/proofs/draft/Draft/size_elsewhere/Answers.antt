@@ -1,0 +1,13 @@
+use Rattle.std.proofs.Common.{sym, ◌∙◌}
+use Rattle.ctf_model.specs.Dictionary.{said_by}
+use Rattle.ctf_model.specs.Figures.{sizing}
+use Rattle.ctf_space.specs.SpaceView.{alone}
+use Rattle.ctf_draft.proofs.Figuring.{parents_step}
+use Rattle.ctf_draft.proofs.draft.Draft.size_elsewhere.Goals as goal
+
+pub returns-in-Some : goal.returns-in-Some
+returns-in-Some c =
+    let d = c.args.self.now.draft in
+    let p = said_by c.in-Some.parent.now.opened.value.lists in
+    let h = rw c.in-Some.is at c.parent_of.ensures in
+    λ k. c.size.ensures (alone p d.model) h.fits ∙ sym (parents_step d p d.model (sizing d.model) k c.args.n.0 h.index h.is h.at)

@@ -1,0 +1,21 @@
+-- Numbers that name no own type of a draft. The words are ours.
+use Rattle.std.specs.Prelude.{◌≡◌, ℕ, suc, true, Some, Err}
+use Rattle.ctf_model.specs.Dictionary.{said_by}
+use Rattle.ctf_model.specs.Drafts.{Draft, held}
+use Rattle.ctf_model.specs.Figures.{Figure, comes_to, parents_figure}
+use Rattle.ctf_model.specs.TypeNumbers.{no_type}
+use Rattle.ctf_model.specs.TypePlaces.{place}
+use Rattle.ctf_model.specs.declared.numbers.Place.TheVariants.{Parents}
+use Rattle.ctf_draft.specs.ParentView.{FitsParent}
+use Rattle.ctf_draft.specs.declared.parents.Parent.{Parent}
+
+-- it names no type
+pub record NamesNone (d : Draft) (n : ℕ) : Type 0 where
+  pub refused : (figure : Figure) (k : ℕ) → comes_to figure (parents_figure figure d.parent) (held d) (suc k) n ≡ Err no_type
+
+-- it names one of the parent, if that has so many
+pub record NamesParents (d : Draft) (n : ℕ) (p : Parent) : Type 0 where
+  pub is : d.parent ≡ Some (said_by p.opened.value.lists)
+  pub fits : FitsParent d.model p
+  pub index : ℕ
+  pub at : place true n ≡ Parents index

@@ -1,0 +1,38 @@
+-- Where a member goes, and what size that makes its struct or union. The words are ours.
+use Rattle.std.specs.Prelude.{ℕ, List, Option, None, Result, Ok, Err, if◌then◌else◌, take}
+use Rattle.ctf_model.specs.Adders.{against_member, against_place, body_at, is_deep, size_with}
+use Rattle.ctf_model.specs.Drafts.{Draft, space_of}
+use Rattle.ctf_model.specs.Judgements.{◌then◌, first_met, unless}
+use Rattle.ctf_model.specs.Placement.{bits_filled, last_member, member_place}
+use Rattle.ctf_model.specs.Refusals.{placeless}
+use Rattle.ctf_model.specs.Term.{Body, Member}
+use Rattle.ctf_model.specs.Term as term
+use Rattle.ctf_model.specs.declared.faults.Fault.{Fault}
+use Rattle.ctf_model.specs.declared.faults.TheConstants.Fault.{DEEP_MEMBER}
+use Rattle.ctf_draft.specs.declared.plan.Plan.{Plan}
+
+-- what is judged of a member before the types that its own type leads to
+abbrev pub against_name : Draft → ℕ → List ℕ → ℕ → Option Fault
+against_name d n name tnum = first_met (take 7 (against_member d n name tnum))
+
+-- if 64 bits hold them
+abbrev pub planned_with : ℕ → ℕ → Result Plan Fault
+planned_with offset size = unless (first_met (against_place offset size)) (Ok (record { offset = offset; size = size }))
+
+abbrev pub planned_at : Draft → ℕ → ℕ → ℕ → Result Plan Fault
+planned_at d n place bits = planned_with place (size_with d n place bits)
+
+abbrev pub planned_shallow : Draft → ℕ → ℕ → Option ℕ → Result Plan Fault
+planned_shallow d n tnum offset =
+    bits_filled (space_of d) tnum then λ bits.
+    member_place (space_of d) (body_at d n) tnum offset then λ place.
+    planned_at d n place bits
+
+-- the place and the size, or why there are none
+unfoldable pub planned : Draft → ℕ → ℕ → Option ℕ → Result Plan Fault
+planned d n tnum offset = if is_deep d tnum then Err (placeless DEEP_MEMBER) else planned_shallow d n tnum offset
+
+-- the member that another one of a struct stands behind
+abbrev pub stands_behind : Body → Option Member
+stands_behind (term.struct size members) = last_member members
+stands_behind _ = None

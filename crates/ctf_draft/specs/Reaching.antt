@@ -1,0 +1,33 @@
+-- How far steps by value lead, and what the alignment of a type is. The words are ours.
+use Rattle.std.specs.Prelude.{◌≡◌, ◌≤◌, ℕ, List, length, map, Option, Some, None, MatchOption, slice_index_or, is_some}
+use Rattle.ctf_chains.specs.Places.{Places}
+use Rattle.ctf_chains.specs.Search.{IsDepth}
+use Rattle.ctf_model.specs.Chains.{IsWithin, by_value, own_index}
+use Rattle.ctf_model.specs.Dictionary.{Dictionary}
+use Rattle.ctf_model.specs.Drafts.{Draft, held, space_of}
+use Rattle.ctf_model.specs.FigureLaws.{value_edges}
+use Rattle.ctf_model.specs.Figures.{align}
+use Rattle.ctf_model.specs.TypePlaces.{own_number}
+use Rattle.ctf_draft.specs.declared.reach.Reach.{Reach}
+
+-- of an own type, from 0: how long the longest chain from it is, and its alignment
+pub record IsReach (d : Draft) (i : ℕ) (r : Reach) : Type 0 where
+  pub depth : IsDepth (value_edges (held d)) i r.depth
+  pub aligned : r.align ≡ align (space_of d) (own_number (is_some d.parent) i)
+
+-- what a table says is right
+pub record Knows (d : Draft) (known : List (Option Reach)) : Type 0 where
+  pub right : (j : ℕ) (r : Reach) → slice_index_or known j None ≡ Some r → IsReach d j r
+
+-- what was found within a budget of steps
+pub record IsFound (d : Draft) (i budget : ℕ) (r : Reach) : Type 0 where
+  pub reach : IsReach d i r
+  pub affordable : r.depth ≤ budget
+
+-- none, where more steps lead from the type
+abbrev pub Answers : Draft → ℕ → ℕ → Option Reach → Type 0
+Answers d i budget found = MatchOption found (¬ IsWithin (value_edges (held d)) budget i) (IsFound d i budget)
+
+-- the own types that each own type leads to, as often as it names them
+abbrev pub value_places : Dictionary → Places
+value_places d = map (λ x. map (own_index d.child (length d.terms)) (by_value x.body)) d.terms

@@ -1,0 +1,56 @@
+-- What the size of a type, and the type that it stands for, hang on. The words are ours.
+use Rattle.std.specs.Prelude.{ℕ, ◌*◌, min, length, Option, Some, None, Result, Ok, Err}
+use Rattle.ctf_model.specs.Chains.{by_value}
+use Rattle.ctf_model.specs.Figures.{enum_size, incomplete, times}
+use Rattle.ctf_model.specs.Space.{pointer_size}
+use Rattle.ctf_model.specs.Term.{Body, Term}
+use Rattle.ctf_model.specs.Term as term
+use Rattle.ctf_model.specs.declared.data_model.DataModel.{DataModel}
+use Rattle.ctf_model.specs.declared.faults.Fault.{Fault}
+use Rattle.ctf_draft.specs.declared.sizing.Sizing.{Sizing}
+use Rattle.ctf_draft.specs.declared.sizing.Sizing.TheVariants.{Itself, One, Row}
+
+-- a size, where other types have those that f says
+abbrev pub sized : (ℕ → Result ℕ Fault) → Sizing → Result ℕ Fault
+sized f (Itself size) = size
+sized f (One t) = f t.0
+sized f (Row count t) = times count (f t.0)
+
+-- the type that a typedef or a qualifier stands for
+abbrev pub renamed : Body → Option ℕ
+renamed (term.typedef t) = Some t
+renamed (term.volatile t) = Some t
+renamed (term.const t) = Some t
+renamed (term.restrict t) = Some t
+renamed _ = None
+
+-- the width of an integer or a float
+abbrev pub width : Body → Option ℕ
+width (term.integer scalar) = Some scalar.bits
+width (term.float scalar) = Some scalar.bits
+width _ = None
+
+-- the alignment of a type apart from those that it hangs on
+abbrev pub own_align : DataModel → Body → Result ℕ Fault
+own_align model (term.integer scalar) = Ok scalar.size
+own_align model (term.float scalar) = Ok scalar.size
+own_align model (term.pointer t) = Ok (pointer_size model)
+own_align model (term.function returned arguments) = Ok (pointer_size model)
+own_align model (term.enum said enumerators) = Ok (enum_size said)
+own_align model (term.forward tag) = Err incomplete
+own_align model term.unknown = Err incomplete
+own_align model _ = Ok 0
+
+-- how many of the types that it leads to by value its alignment hangs on: of a struct's the first alone
+abbrev pub aligned_by : Body → ℕ
+aligned_by (term.struct said members) = min 1 (length members)
+aligned_by body = length (by_value body)
+
+abbrev pub width_found : Result Term Fault → Result (Option ℕ) Fault
+width_found (Err f) = Err f
+width_found (Ok x) = Ok (width x.body)
+
+-- how many bits a value of a size fills: all of them, where no width is said
+abbrev pub filled : ℕ → Option ℕ → ℕ
+filled size None = 8 * size
+filled size (Some bits) = bits

@@ -1,0 +1,30 @@
+//! What a type says by its kind.
+ghost use Rattle.std.specs.Prelude.{◌≡◌, map, option_map};
+ghost use Rattle.ctf_draft.specs.TypeView.{body_of, enumerator_of, member_of};
+ghost use Rattle.ctf_model.specs.Shown.{enumerators_in, members_in, shown};
+
+use crate::types::{Body, Enumerator, Member};
+
+impl Body {
+    /// The members of a struct or union.
+    pub(crate) fn members(&self) -> Option<&[Member]>
+        ensures { option_map (λ ms. map member_of ms.now) result
+            ≡ members_in (shown (body_of self.now)) }
+    {
+        match self {
+            Body::Aggregate(_, _, members) => Some(members.as_slice()),
+            _ => None,
+        }
+    }
+
+    /// The enumerators of an enum.
+    pub(crate) fn enumerators(&self) -> Option<&[Enumerator]>
+        ensures { option_map (λ es. map enumerator_of es.now) result
+            ≡ enumerators_in (shown (body_of self.now)) }
+    {
+        match self {
+            Body::Enum(_, enumerators) => Some(enumerators.as_slice()),
+            _ => None,
+        }
+    }
+}

@@ -1,0 +1,145 @@
+//! Sizes of types of a draft, and the types that they stand for.
+ghost use Rattle.std.specs.Prelude.{◌≡◌, ◌<◌, ℕ, suc, option_map, None, Some, slice_get, is_some, MatchOption};
+ghost use Rattle.std.specs.Result.{result_map_both};
+ghost use Rattle.ctf_draft.specs.Elsewhere.{NamesNone, NamesParents};
+ghost use Rattle.ctf_draft.specs.TypeView.{body_of};
+ghost use Rattle.ctf_model.specs.Chains.{own_index as own_index_of};
+ghost use Rattle.ctf_model.specs.Drafts.{count_of, held, space_of};
+ghost use Rattle.ctf_model.specs.Figures.{comes_to, parents_figure, resolving, sizing, size as size_in, resolved};
+
+use crate::draft::Draft;
+use crate::parents::Parent;
+use crate::sizing::{Sizing, repeated};
+use crate::types::Body;
+use ctf_layout::resolve;
+use ctf_model::{Fault, Place, TypeNum, placeless};
+use ctf_space::Space;
+
+/// As many numbers as can follow on each other: the longest chain of steps, one type more, and
+/// what stands behind that.
+const MOST_NUMBERS: u16 = 514;
+
+impl Draft {
+    /// The place of an own type, from 0, if the number names one.
+    pub(crate) fn own_index(&self, n: TypeNum) -> Option<usize>
+        ensures { let d = self.now.draft in
+            result ≡ own_index_of (is_some d.parent) (count_of d) n.0 }
+    {
+        match n.place(self.parent.is_some()) {
+            Place::Own(i) if i < self.types.len() => Some(i),
+            _ => None,
+        }
+    }
+
+    /// What an own type is.
+    pub(crate) fn own_body(&self, i: usize) -> &Body
+        requires { i < count_of self.now.draft }
+        ensures { option_map (λ x. x.body) (slice_get (held self.now.draft).terms i)
+            ≡ Some (body_of result.now) }
+    {
+        &self.types[i].body
+    }
+
+    /// The parent whose type a number names, if it does.
+    pub(crate) fn parent_of(&self, n: TypeNum) -> Option<&Parent>
+        requires some { 0 < n.0 }
+        requires not_own { let d = self.now.draft in
+            own_index_of (is_some d.parent) (count_of d) n.0 ≡ None }
+        ensures { MatchOption result (NamesNone self.now.draft n.0)
+            (λ p. NamesParents self.now.draft n.0 p.now) }
+    {
+        match &self.parent {
+            Some(parent) => match n.place(true) {
+                Place::Parents(_) => Some(parent),
+                _ => None,
+            },
+            None => None,
+        }
+    }
+
+    /// The size of a number that names no own type.
+    fn size_elsewhere(&self, n: TypeNum) -> Result<u64, Fault>
+        requires some { 0 < n.0 }
+        requires not_own { let d = self.now.draft in
+            own_index_of (is_some d.parent) (count_of d) n.0 ≡ None }
+        ensures { let s = space_of self.now.draft in (k : ℕ) → result ≡ comes_to
+            (sizing s.model) (parents_figure (sizing s.model) s.parent) s.own (suc k) n.0 }
+    {
+        match self.parent_of(n) {
+            Some(parent) => parent.layout.size(n),
+            None => Err(placeless(Fault::NO_TYPE)),
+        }
+    }
+
+    /// The size of a type, where so many numbers may follow on each other.
+    fn size_within(&self, n: TypeNum, most: u16) -> Result<u64, Fault>
+        ensures { let s = space_of self.now.draft in result ≡ comes_to
+            (sizing s.model) (parents_figure (sizing s.model) s.parent) s.own most n.0 }
+    {
+        if most == 0 {
+            return Err(placeless(Fault::INCOMPLETE));
+        }
+        if n.0 == 0 {
+            return Err(placeless(Fault::INCOMPLETE));
+        }
+        let Some(i) = self.own_index(n) else {
+            return self.size_elsewhere(n);
+        };
+        match self.own_body(i).sizing(self.model) {
+            Sizing::Itself(size) => size,
+            Sizing::One(t) => self.size_within(t, most - 1),
+            Sizing::Row(count, t) => repeated(count, self.size_within(t, most - 1)),
+        }
+    }
+
+    /// The size of a type, in bytes.
+    pub(crate) fn size(&self, n: TypeNum) -> Result<u64, Fault>
+        ensures { result ≡ size_in (space_of self.now.draft) n.0 }
+    {
+        self.size_within(n, MOST_NUMBERS)
+    }
+
+    /// What a number that names no own type stands for.
+    fn resolve_elsewhere(&self, n: TypeNum) -> Result<TypeNum, Fault>
+        requires some { 0 < n.0 }
+        requires not_own { let d = self.now.draft in
+            own_index_of (is_some d.parent) (count_of d) n.0 ≡ None }
+        ensures { let s = space_of self.now.draft in (k : ℕ)
+            → result_map_both (λ t. t.0) (λ f. f) result ≡ comes_to
+            resolving (parents_figure resolving s.parent) s.own (suc k) n.0 }
+    {
+        match self.parent_of(n) {
+            Some(parent) => resolve(&Space::own(parent.opened.view(), self.model), n),
+            None => Err(placeless(Fault::NO_TYPE)),
+        }
+    }
+
+    /// The type that a type stands for, where so many numbers may follow on each other.
+    fn resolve_within(&self, n: TypeNum, most: u16) -> Result<TypeNum, Fault>
+        ensures { let s = space_of self.now.draft in
+            result_map_both (λ t. t.0) (λ f. f) result ≡ comes_to
+            resolving (parents_figure resolving s.parent) s.own most n.0 }
+    {
+        if most == 0 {
+            return Err(placeless(Fault::INCOMPLETE));
+        }
+        if n.0 == 0 {
+            return Ok(n);
+        }
+        let Some(i) = self.own_index(n) else {
+            return self.resolve_elsewhere(n);
+        };
+        match self.own_body(i).renamed() {
+            Some(t) => self.resolve_within(t, most - 1),
+            None => Ok(n),
+        }
+    }
+
+    /// The type that a type stands for, typedefs and qualifiers followed.
+    pub(crate) fn resolved(&self, n: TypeNum) -> Result<TypeNum, Fault>
+        ensures { result_map_both (λ t. t.0) (λ f. f) result
+            ≡ resolved (space_of self.now.draft) n.0 }
+    {
+        self.resolve_within(n, MOST_NUMBERS)
+    }
+}

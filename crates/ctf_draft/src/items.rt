@@ -1,0 +1,174 @@
+//! What is added to a pending type.
+ghost use Rattle.std.specs.Prelude.{◌≡◌, ◌⊎◌, MatchOption, None, Some, true, Ok, Err, IfOk, IfErr, OnOk, OnErr};
+ghost use Rattle.ctf_draft.specs.Pending.{StandsPending};
+ghost use Rattle.ctf_draft.specs.Planning.{against_name};
+ghost use Rattle.ctf_draft.specs.TypeView.{body_of, enumerator_of, member_of};
+ghost use Rattle.ctf_model.specs.Adders.{add_enumerator, add_member, against_enumerator as against_enumerator_in, body_at, replaced, with_enumerator, with_member};
+ghost use Rattle.ctf_model.specs.Drafts.{is_settled};
+ghost use Rattle.ctf_model.specs.Judgements.{first_met};
+ghost use Rattle.ctf_model.specs.Refusals.{want_of_memory};
+
+use crate::adding::MOST_ITEMS;
+use crate::draft::Draft;
+use crate::naming::{has_zero, is_enumerator, is_member};
+use crate::pushing::{push_enumerator, push_member};
+use crate::types::{Body, Enumerator, Member};
+use ctf_model::{Bytes, Fault, Place, TypeNum, placeless};
+
+impl Draft {
+    /// The place of a pending type among all types, if the number names one.
+    pub(crate) fn pending_index(&self, n: TypeNum) -> Option<usize>
+        ensures { MatchOption result (is_settled self.now.draft n.0 ≡ true)
+            (λ i. StandsPending self.now.draft n.0 i) }
+    {
+        match n.place(self.parent.is_some()) {
+            Place::Own(i) if i < self.types.len() => {
+                if i < self.updated { None } else { Some(i) }
+            }
+            _ => None,
+        }
+    }
+
+    /// What a pending type is.
+    pub(crate) fn pending_body(&self, n: TypeNum, i: usize) -> &Body
+        requires { StandsPending self.now.draft n.0 i }
+        ensures { body_of result.now ≡ body_at self.now.draft n.0 }
+    {
+        &self.types[i].body
+    }
+
+    /// The place of the enum that an enumerator goes to, or why it doesn't.
+    fn enum_for(&self, n: TypeNum, name: &[u8]) -> Result<usize, Fault>
+        ensures place { IfOk result (λ i. StandsPending self.now.draft n.0 i) }
+        ensures ok { OnOk result
+            (first_met (against_enumerator_in self.now.draft n.0 name.now) ≡ None) }
+        ensures err { IfErr result (λ f.
+            first_met (against_enumerator_in self.now.draft n.0 name.now) ≡ Some f) }
+    {
+        if has_zero(name) {
+            return Err(placeless(Fault::NAME_HAS_ZERO));
+        }
+        if self.is_unknown(n) {
+            return Err(placeless(Fault::NO_TYPE));
+        }
+        let Some(i) = self.pending_index(n) else {
+            return Err(placeless(Fault::SETTLED));
+        };
+        let Some(enumerators) = self.pending_body(n, i).enumerators() else {
+            return Err(placeless(Fault::WRONG_KIND));
+        };
+        if enumerators.len() >= MOST_ITEMS {
+            return Err(placeless(Fault::VLEN_FULL));
+        }
+        if is_enumerator(name, enumerators) {
+            return Err(placeless(Fault::DUPLICATE));
+        }
+        Ok(i)
+    }
+
+    /// The place of the struct or union that a member goes to, or why it doesn't, as far as no
+    /// size is asked.
+    fn aggregate_for(&self, n: TypeNum, name: &[u8], tnum: TypeNum) -> Result<usize, Fault>
+        ensures place { IfOk result (λ i. StandsPending self.now.draft n.0 i) }
+        ensures ok { OnOk result (against_name self.now.draft n.0 name.now tnum.0 ≡ None) }
+        ensures err { IfErr result (λ f. against_name self.now.draft n.0 name.now tnum.0
+            ≡ Some f) }
+    {
+        if has_zero(name) {
+            return Err(placeless(Fault::NAME_HAS_ZERO));
+        }
+        if self.is_unknown(n) {
+            return Err(placeless(Fault::NO_TYPE));
+        }
+        let Some(i) = self.pending_index(n) else {
+            return Err(placeless(Fault::SETTLED));
+        };
+        let Some(members) = self.pending_body(n, i).members() else {
+            return Err(placeless(Fault::WRONG_KIND));
+        };
+        if members.len() >= MOST_ITEMS {
+            return Err(placeless(Fault::VLEN_FULL));
+        }
+        if is_member(name, members) {
+            return Err(placeless(Fault::DUPLICATE));
+        }
+        if self.is_absent(tnum) {
+            return Err(placeless(Fault::BAD_REF));
+        }
+        Ok(i)
+    }
+
+    /// Adds a member behind the others of the struct or union at a place, which then has a size.
+    fn put_member(&mut self, n: TypeNum, i: usize, member: Member, size: u64) -> Result<(), Fault>
+        requires { StandsPending self.old.draft n.0 i }
+        ensures ok { OnOk result (self.new.draft ≡ replaced self.old.draft n.0
+            (with_member (member_of member) size (body_at self.old.draft n.0))) }
+        ensures err { IfErr result (λ f. f ≡ want_of_memory) }
+        ensures as_before { OnErr result (self.new ≡ self.old) }
+        ensures dictionary { self.new.dictionary ≡ self.old.dictionary }
+    {
+        push_member(&mut self.types[i], member, size)
+    }
+
+    /// Adds a member behind the others of a pending struct or union, and answers its offset in
+    /// bits. Without a stated offset a union's stands at its beginning, and a struct's behind the
+    /// last member, at the next place that its type's alignment allows.
+    pub fn member(
+        &mut self,
+        n: TypeNum,
+        name: Bytes,
+        tnum: TypeNum,
+        offset: Option<u64>,
+    ) -> Result<u64, Fault>
+        ensures ok { IfOk result (λ at. add_member self.old.draft n.0 name tnum.0 offset
+            ≡ Ok (record { draft = self.new.draft; answer = at })) }
+        ensures exact_err { IfErr result (λ f. (f ≡ want_of_memory)
+            ⊎ (add_member self.old.draft n.0 name tnum.0 offset ≡ Err f)) }
+        ensures as_before { OnErr result (self.new ≡ self.old) }
+        ensures dictionary { self.new.dictionary ≡ self.old.dictionary }
+    {
+        let i = match self.aggregate_for(n, name.as_slice(), tnum) {
+            Ok(i) => i,
+            Err(fault) => return Err(fault),
+        };
+        let plan = match self.plan(n, i, tnum, offset) {
+            Ok(plan) => plan,
+            Err(fault) => return Err(fault),
+        };
+        let offset = plan.offset;
+        match self.put_member(n, i, Member { name, tnum, offset }, plan.size) {
+            Ok(()) => Ok(offset),
+            Err(fault) => Err(fault),
+        }
+    }
+
+    /// Adds an enumerator behind the others of the enum at a place.
+    fn put_enumerator(&mut self, n: TypeNum, i: usize, enumerator: Enumerator) -> Result<(), Fault>
+        requires { StandsPending self.old.draft n.0 i }
+        ensures ok { OnOk result (self.new.draft ≡ replaced self.old.draft n.0
+            (with_enumerator (enumerator_of enumerator) (body_at self.old.draft n.0))) }
+        ensures err { IfErr result (λ f. f ≡ want_of_memory) }
+        ensures as_before { OnErr result (self.new ≡ self.old) }
+        ensures dictionary { self.new.dictionary ≡ self.old.dictionary }
+    {
+        push_enumerator(&mut self.types[i], enumerator)
+    }
+
+    /// Adds an enumerator behind the others of a pending enum.
+    #[tactic(auto, unfolding(ctf_model::specs::Adders::add_enumerator))]
+    pub fn enumerator(&mut self, n: TypeNum, name: Bytes, value: i32) -> Result<(), Fault>
+        ensures ok { OnOk result (add_enumerator self.old.draft n.0
+            (record { name = name; value = value }) ≡ Ok self.new.draft) }
+        ensures exact_err { IfErr result (λ f. (f ≡ want_of_memory)
+            ⊎ (add_enumerator self.old.draft n.0 (record { name = name; value = value })
+            ≡ Err f)) }
+        ensures as_before { OnErr result (self.new ≡ self.old) }
+        ensures dictionary { self.new.dictionary ≡ self.old.dictionary }
+    {
+        let i = match self.enum_for(n, name.as_slice()) {
+            Ok(i) => i,
+            Err(fault) => return Err(fault),
+        };
+        self.put_enumerator(n, i, Enumerator { name, value })
+    }
+}

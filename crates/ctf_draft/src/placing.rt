@@ -1,0 +1,210 @@
+//! Where a member is placed.
+ghost use Rattle.std.specs.Prelude.{◌≡◌, ◌+◌, ◌<◌, ◌^◌, ◌⊎◌, ℕ, IfOk, IfErr, MatchOption, option_map, true, false, unwrap_or, Ok, Err};
+ghost use Rattle.ctf_draft.specs.Pending.{StandsPending};
+ghost use Rattle.ctf_draft.specs.Planning.{planned, planned_shallow, planned_with, stands_behind};
+ghost use Rattle.ctf_draft.specs.TypeView.{body_of, member_of};
+ghost use Rattle.ctf_model.specs.Adders.{body_at, is_deep};
+ghost use Rattle.ctf_model.specs.Drafts.{space_of};
+ghost use Rattle.ctf_model.specs.Figures.{align as align_in};
+ghost use Rattle.ctf_model.specs.Placement.{aligned_from as aligned_from_in, bytes_holding as bytes_holding_in, grown as grown_in, member_place as member_place_in, own_place as own_place_in};
+ghost use Rattle.ctf_model.specs.Refusals.{want_of_memory};
+ghost use Rattle.ctf_model.specs.Shown.{size_of};
+
+use crate::draft::Draft;
+use crate::marks::Marks;
+use crate::plan::Plan;
+use crate::types::{AggregateKind, Body, Member};
+use ctf_chains::LONGEST_CHAIN;
+use ctf_model::{Fault, TypeNum, placeless};
+use std::alloc::AllocError;
+
+/// As many whole bytes as hold so many bits.
+fn bytes_holding(bits: u128) -> u128
+    ensures { result ≡ bytes_holding_in bits }
+{
+    bits.div_ceil(8)
+}
+
+/// The first place, in whole bytes, that is not before some bit and that an alignment allows.
+fn aligned_from(bit: u128, align: u64) -> u128
+    requires { bit < 2 ^ 70 }
+    ensures place { result ≡ aligned_from_in bit align }
+    ensures small { result < 2 ^ 71 }
+{
+    8 * bytes_holding(bit).next_multiple_of(u128::from(align.max(1)))
+}
+
+/// A size that is large enough for bits from a place on too.
+fn grown(size: u64, offset: u128, bits: u128) -> u128
+    requires offset { offset < 2 ^ 71 }
+    requires bits { bits < 2 ^ 70 }
+    ensures { result ≡ grown_in size offset bits }
+{
+    u128::from(size).max(bytes_holding(offset + bits))
+}
+
+/// A place and a size, if 64 bits hold them.
+fn held(offset: u128, size: u128) -> Result<Plan, Fault>
+    ensures { result ≡ planned_with offset size }
+{
+    match (u64::try_from(offset), u64::try_from(size)) {
+        (Ok(offset), Ok(size)) => Ok(Plan { offset, size }),
+        _ => Err(placeless(Fault::BAD_OFFSET)),
+    }
+}
+
+impl Body {
+    /// The member that another one of a struct stands behind.
+    fn stands_behind(&self) -> Option<&Member>
+        ensures { option_map (λ m. member_of m.now) result ≡ stands_behind (body_of self.now) }
+    {
+        match self {
+            Body::Aggregate(AggregateKind::Struct, _, members) => members.as_slice().last(),
+            _ => None,
+        }
+    }
+
+    /// The size that it says, or 0.
+    fn said_size(&self) -> u64
+        ensures { result ≡ unwrap_or (size_of (body_of self.now)) 0 }
+    {
+        match self {
+            Body::Scalar(_, size, _) => *size,
+            Body::Aggregate(_, size, _) => *size,
+            Body::Enum(size, _) => *size,
+            _ => 0,
+        }
+    }
+}
+
+impl Draft {
+    /// The alignment of a type, if no more than 512 steps by value begin at it.
+    fn alignment(
+        &self,
+        marks: &mut Marks,
+        tnum: TypeNum,
+    ) -> Result<Option<Result<u64, Fault>>, AllocError>
+        ensures { IfOk result (λ found. MatchOption found (is_deep self.now.draft tnum.0 ≡ true)
+            (λ align. (is_deep self.now.draft tnum.0 ≡ false)
+            × (align ≡ align_in (space_of self.now.draft) tnum.0))) }
+    {
+        let Some(i) = self.own_index(tnum) else {
+            return Ok(Some(self.align_elsewhere(tnum)));
+        };
+        let Ok(()) = marks.renew(self.types.len()) else {
+            return Err(AllocError);
+        };
+        match self.reach(marks, i, LONGEST_CHAIN) {
+            Some(reach) => Ok(Some(reach.align)),
+            None => Ok(None),
+        }
+    }
+
+    /// The place that a member of a pending type has by itself, where its type has an alignment.
+    fn own_place(&self, n: TypeNum, i: usize, align: Result<u64, Fault>) -> Result<u128, Fault>
+        requires { StandsPending self.now.draft n.0 i }
+        ensures place { (tnum : ℕ) → align ≡ align_in (space_of self.now.draft) tnum
+            → result ≡ own_place_in (space_of self.now.draft) (body_at self.now.draft n.0) tnum }
+        ensures small { IfOk result (λ place. place < 2 ^ 71) }
+    {
+        let Some(last) = self.pending_body(n, i).stands_behind() else {
+            return Ok(0);
+        };
+        let bits = match self.bits_filled(last.tnum) {
+            Ok(bits) => bits,
+            Err(fault) => return Err(fault),
+        };
+        match align {
+            Ok(align) => Ok(aligned_from(u128::from(last.offset) + bits, align)),
+            Err(fault) => Err(fault),
+        }
+    }
+
+    /// The place of a member of a pending type: the one that is stated, or its own.
+    fn member_place(
+        &self,
+        n: TypeNum,
+        i: usize,
+        align: Result<u64, Fault>,
+        offset: Option<u64>,
+    ) -> Result<u128, Fault>
+        requires { StandsPending self.now.draft n.0 i }
+        ensures place { (tnum : ℕ) → align ≡ align_in (space_of self.now.draft) tnum
+            → result ≡ member_place_in (space_of self.now.draft) (body_at self.now.draft n.0)
+            tnum offset }
+        ensures small { IfOk result (λ place. place < 2 ^ 71) }
+    {
+        match offset {
+            Some(offset) => Ok(u128::from(offset)),
+            None => self.own_place(n, i, align),
+        }
+    }
+
+    /// Where a member goes whose type has an alignment, and what size that makes.
+    fn plan_shallow(
+        &self,
+        n: TypeNum,
+        i: usize,
+        tnum: TypeNum,
+        align: Result<u64, Fault>,
+        offset: Option<u64>,
+    ) -> Result<Plan, Fault>
+        requires pending { StandsPending self.now.draft n.0 i }
+        requires align { align ≡ align_in (space_of self.now.draft) tnum.0 }
+        ensures { result ≡ planned_shallow self.now.draft n.0 tnum.0 offset }
+    {
+        let bits = match self.bits_filled(tnum) {
+            Ok(bits) => bits,
+            Err(fault) => return Err(fault),
+        };
+        let place = match self.member_place(n, i, align, offset) {
+            Ok(place) => place,
+            Err(fault) => return Err(fault),
+        };
+        let said = self.pending_body(n, i).said_size();
+        held(place, grown(said, place, bits))
+    }
+
+    /// The same, with what is known of types in a table.
+    fn plan_by(
+        &self,
+        marks: &mut Marks,
+        n: TypeNum,
+        i: usize,
+        tnum: TypeNum,
+        offset: Option<u64>,
+    ) -> Result<Plan, Fault>
+        requires { StandsPending self.now.draft n.0 i }
+        ensures ok { IfOk result (λ p. planned self.now.draft n.0 tnum.0 offset ≡ Ok p) }
+        ensures err { IfErr result (λ f. (f ≡ want_of_memory)
+            ⊎ (planned self.now.draft n.0 tnum.0 offset ≡ Err f)) }
+    {
+        let Ok(found) = self.alignment(marks, tnum) else {
+            return Err(placeless(Fault::MEMORY));
+        };
+        match found {
+            Some(align) => self.plan_shallow(n, i, tnum, align, offset),
+            None => Err(placeless(Fault::DEEP_MEMBER)),
+        }
+    }
+
+    /// Where a member of a pending type goes, and what size that makes. The draft stays as it is.
+    pub(crate) fn plan(
+        &mut self,
+        n: TypeNum,
+        i: usize,
+        tnum: TypeNum,
+        offset: Option<u64>,
+    ) -> Result<Plan, Fault>
+        requires { StandsPending self.old.draft n.0 i }
+        ensures ok { IfOk result (λ p. planned self.old.draft n.0 tnum.0 offset ≡ Ok p) }
+        ensures err { IfErr result (λ f. (f ≡ want_of_memory)
+            ⊎ (planned self.old.draft n.0 tnum.0 offset ≡ Err f)) }
+        ensures same { self.new ≡ self.old }
+    {
+        let mut marks = std::mem::replace(&mut self.marks, Marks::new(self.alloc));
+        let plan = self.plan_by(&mut marks, n, i, tnum, offset);
+        self.marks = marks;
+        plan
+    }
+}

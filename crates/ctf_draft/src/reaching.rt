@@ -1,0 +1,101 @@
+//! How deep a type of a draft is, and how it is aligned.
+ghost use Rattle.std.specs.Prelude.{◌≡◌, ◌<◌, ◌≤◌, ℕ, suc, length, max, None, MatchOption, is_some, if◌then◌else◌};
+ghost use Rattle.ctf_draft.specs.Reaching.{Answers, IsFound, Knows};
+ghost use Rattle.ctf_model.specs.Chains.{longest_chain, own_index as own_index_of};
+ghost use Rattle.ctf_model.specs.Drafts.{count_of, space_of};
+ghost use Rattle.ctf_model.specs.Figures.{aligning, comes_to, greater as greater_of, parents_figure};
+
+use crate::draft::Draft;
+use crate::marks::Marks;
+use crate::reach::Reach;
+use crate::sizing::greater;
+use ctf_model::{Fault, TypeNum, placeless};
+
+/// What is known, if the budget is enough for it.
+fn within(known: Reach, budget: u16) -> Option<Reach>
+    ensures { MatchOption result (budget < known.depth)
+        (λ same. (same ≡ known) × (known.depth ≤ budget)) }
+{
+    if known.depth <= budget {
+        Some(known)
+    } else {
+        None
+    }
+}
+
+fn longer(a: u16, b: u16) -> u16
+    ensures { result ≡ max a b }
+{
+    a.max(b)
+}
+
+/// The greater alignment, where another one counts.
+fn beside(align: Result<u64, Fault>, other: Result<u64, Fault>, counts: bool) -> Result<u64, Fault>
+    ensures { result ≡ (if counts then greater_of align other else align) }
+{
+    if counts { greater(align, other) } else { align }
+}
+
+impl Draft {
+    /// The alignment of a number that names no own type.
+    pub(crate) fn align_elsewhere(&self, n: TypeNum) -> Result<u64, Fault>
+        requires not_own { let d = self.now.draft in
+            own_index_of (is_some d.parent) (count_of d) n.0 ≡ None }
+        ensures { let s = space_of self.now.draft in (k : ℕ) → result ≡ comes_to
+            (aligning s.model) (parents_figure (aligning s.model) s.parent) s.own (suc k) n.0 }
+    {
+        if n.0 == 0 {
+            return Err(placeless(Fault::INCOMPLETE));
+        }
+        match self.parent_of(n) {
+            Some(parent) => parent.layout.align(n),
+            None => Err(placeless(Fault::NO_TYPE)),
+        }
+    }
+
+    /// How deep an own type is and how it is aligned, if the budget is enough for its depth. Each
+    /// type that it leads to is looked at once.
+    pub(crate) fn reach(&self, marks: &mut Marks, i: usize, budget: u16) -> Option<Reach>
+        requires same { length marks.old ≡ count_of self.now.draft }
+        requires own { i < count_of self.now.draft }
+        requires budget { budget ≤ longest_chain }
+        requires knows { Knows self.now.draft marks.old }
+        ensures same { length marks.new ≡ length marks.old }
+        ensures knows { Knows self.now.draft marks.new }
+        ensures answer { Answers self.now.draft i budget result }
+    {
+        if let Some(known) = marks.get(i) {
+            return within(known, budget);
+        }
+        let body = self.own_body(i);
+        let counting = body.aligned_by();
+        let mut depth = 0;
+        let mut align = body.own_align(self.model);
+        for k in 0..body.value_count() {
+            let number = body.value_type(k);
+            let below = match self.own_index(number) {
+                Some(j) => {
+                    if budget == 0 {
+                        return None;
+                    }
+                    let Some(found) = self.reach(marks, j, budget - 1) else {
+                        return None;
+                    };
+                    Reach {
+                        depth: found.depth + 1,
+                        align: found.align,
+                    }
+                }
+                None => Reach {
+                    depth: 0,
+                    align: self.align_elsewhere(number),
+                },
+            };
+            depth = longer(depth, below.depth);
+            align = beside(align, below.align, k < counting);
+        }
+        let reach = Reach { depth, align };
+        marks.set(i, reach);
+        Some(reach)
+    }
+}
