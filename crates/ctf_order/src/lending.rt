@@ -67,7 +67,8 @@ fn is_repeated(before: Option<&Named<'_>>, item: Entry) -> bool
 /// An item beside its name, if it has one, and is not the repetition of a smaller one.
 fn next_named<'a>(texts: &Texts<'a>, before: Option<&Named<'a>>, item: Entry) -> Option<Named<'a>>
     requires { ForSome before (λ b. IsLent (naming texts.now) b.now) }
-    ensures { IsNextLent (naming texts.now) (option_map (λ b. b.now.entry) before.entry) item result }
+    ensures { let first = option_map (λ b. b.now.entry) before.entry in
+        IsNextLent (naming texts.now) first item result }
 {
     if is_repeated(before, item) {
         return None;

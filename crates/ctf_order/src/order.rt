@@ -12,8 +12,8 @@ use crate::texts::Texts;
 use std::alloc::{AllocError, Global};
 use std::cmp::Ordering;
 
-/// Items in the order of their names: plain numbers, which borrow nothing. It keeps 8 bytes for each
-/// reference that items have, whatever the names are.
+/// Items in the order of their names: plain numbers, which borrow nothing. It keeps 8 bytes for
+/// each reference that items have, whatever the names are.
 #[derive(Drop)]
 pub struct Order {
     entries: Vec<Entry>,

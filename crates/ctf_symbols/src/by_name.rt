@@ -61,7 +61,9 @@ impl SymbolMap {
         }
     }
 
-    /// The last type of the first label of a name, which is found by halves. Refused as NoLabel (38).
+    /// The last type of the first label of a name, which is found by halves.
+    ///
+    /// Refused as NoLabel (38).
     pub fn label(&self, dictionary: &Checked<'_>, name: &[u8]) -> Result<u32, Fault>
         requires fits { Fits (lists_of dictionary.now) self.now }
         ensures { result ≡ label_of (dictionary_of dictionary.now) name.now }
