@@ -3,8 +3,10 @@
 
 mod making;
 
-pub use making::{named, nameless};
+pub use making::{a_struct, add, fresh, integer, label, named, put, size_of};
 
+#[cfg(test)]
+mod kinds;
 #[cfg(test)]
 mod life;
 #[cfg(test)]
@@ -13,5 +15,3 @@ mod members;
 mod memory;
 #[cfg(test)]
 mod parents;
-#[cfg(test)]
-mod types;

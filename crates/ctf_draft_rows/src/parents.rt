@@ -1,12 +1,11 @@
 //! Drafts over a parent.
 
-use crate::nameless;
-use ctf_draft::{AggregateKind, Draft, NewBody, ReferenceKind};
+use crate::{a_struct, add, put};
+use ctf_draft::{Draft, NewBody, ReferenceKind};
 use ctf_model::{Bytes, DataModel, Fault, Parts, TypeNum, placeless};
 use ctf_space::Opened;
 use std::alloc::{AllocError, Global};
 use std::rc::Rc;
-use std::test::Fail;
 
 /// An integer named "int", a pointer to it, and an integer of one byte.
 const PARENT: [u8; 73] = *b"\xf1\xcf\x02\x00\
@@ -30,41 +29,38 @@ fn opened(alloc: Global, model: DataModel) -> Result<Rc<Opened>, AllocError> {
     }
 }
 
-#[test]
-fn a_childs_members_are_placed_by_the_parent(rt: HostRuntime) -> Result<(), Fail> {
-    let alloc = rt.alloc();
-    for (model, place) in [(DataModel::Lp64, 64), (DataModel::Ilp32, 32)] {
-        let parent = opened(alloc, model)?;
-        let parname = Bytes::from_slice(alloc, b"p")?;
-        let made = Draft::new(alloc, Some(parent), parname, Bytes::new(alloc), model);
-        assert!(rt; made.is_ok());
-        if let Ok(mut draft) = made {
-            let pointer = NewBody::Reference(ReferenceKind::Pointer, TypeNum(4));
-            assert_eq!(rt;
-                draft.add(nameless(alloc, pointer)),
-                Err(placeless(Fault::BAD_REF))
-            );
-            let pointer = NewBody::Reference(ReferenceKind::Pointer, TypeNum(1));
-            assert_eq!(rt; draft.add(nameless(alloc, pointer)), Ok(TypeNum(0x8001)));
-            let new = NewBody::Aggregate(AggregateKind::Struct, 0);
-            assert_eq!(rt; draft.add(nameless(alloc, new)), Ok(TypeNum(0x8002)));
-            let at = TypeNum(0x8002);
-            assert_eq!(rt;
-                draft.member(at, Bytes::new(alloc), TypeNum(3), None),
-                Ok(0)
-            );
-            assert_eq!(rt;
-                draft.member(at, Bytes::new(alloc), TypeNum(2), None),
-                Ok(place)
-            );
-            assert_eq!(rt;
-                draft.member(TypeNum(1), Bytes::new(alloc), TypeNum(2), None),
-                Err(placeless(Fault::SETTLED))
-            );
-            assert!(rt; draft.parent().is_some());
-            assert_eq!(rt; draft.parname(), b"p".as_slice());
-            assert!(rt; draft.model() == model);
-        }
+/// A draft over the parent, for 4 bytes a pointer.
+fn over_parent(alloc: Global) -> Option<Draft> {
+    let Ok(parent) = opened(alloc, DataModel::Ilp32) else {
+        return None;
+    };
+    let Ok(parname) = Bytes::from_slice(alloc, b"p") else {
+        return None;
+    };
+    match Draft::new(
+        alloc,
+        Some(parent),
+        parname,
+        Bytes::new(alloc),
+        DataModel::Ilp32,
+    ) {
+        Ok(draft) => Some(draft),
+        Err(_) => None,
     }
-    Ok(())
+}
+
+#[test]
+fn a_childs_members_are_placed_by_the_parent(rt: HostRuntime) {
+    let alloc = rt.alloc();
+    let Some(mut draft) = over_parent(alloc) else {
+        assert!(rt; false);
+        return;
+    };
+    let absent = NewBody::Reference(ReferenceKind::Pointer, TypeNum(4));
+    assert!(rt; add(alloc, &mut draft, absent) == Err(placeless(Fault::BAD_REF)));
+    assert!(rt; add(alloc, &mut draft, a_struct()) == Ok(TypeNum(0x8001)));
+    assert!(rt; put(alloc, &mut draft, 0x8001, b"c", 3, None) == Ok(0));
+    assert!(rt; put(alloc, &mut draft, 0x8001, b"p", 2, None) == Ok(32));
+    assert!(rt; put(alloc, &mut draft, 1, b"a", 3, None) == Err(placeless(Fault::SETTLED)));
+    assert!(rt; draft.parent().is_some());
 }
