@@ -222,10 +222,7 @@ fn questions_are_read(rt: HostRuntime) {
             "{\"s\":1,\"op\":\"label\",\"d\":5,\"name\":\"a\"}",
             about("label", 5, 0),
         ),
-        (
-            "{\"s\":1,\"op\":\"info\",\"d\":6}",
-            about("info", 6, 0),
-        ),
+        ("{\"s\":1,\"op\":\"info\",\"d\":6}", about("info", 6, 0)),
     ] {
         assert_eq!(rt; read(rt.alloc(), line), Ok((1, want)), "at {line}");
     }
