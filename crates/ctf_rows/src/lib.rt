@@ -47,6 +47,7 @@ mod sessions;
 mod shelves;
 #[cfg(test)]
 mod shown;
+#[cfg(test)]
 mod slots;
 #[cfg(test)]
 mod spelled;
