@@ -3,10 +3,11 @@
 # usage: tests/program.sh PROGRAM
 # PROGRAM is crates/ctfd/out/ctfd once `rt run` in crates/ctfd has built it. Prints a row for each
 # case, which ends in "yes" or in what was wrong; the status is 1 where one was wrong.
-# Not part of the gate, which runs the stored run of crates/ctfd alone. Needs /dev/full.
+# Not part of the gate, which runs the stored run of crates/ctfd alone. Needs /dev/full and Python.
 set -u
 program=$(realpath "$1")
-first=$(realpath "$(dirname "$0")/../examples/first.jsonl")
+examples=$(realpath "$(dirname "$0")/../examples")
+first=$examples/first.jsonl
 work=$(mktemp -d)
 trap 'rm -r "$work"' EXIT
 failed=0
@@ -79,4 +80,80 @@ status=$?;                      expect "a reply before the next line" 0 '^{"ok":
 yes '{"s":7,"op":"reset"}' | head -n 200000 > "$work/many"
 { "$program" serve < "$work/many" 2> "$work/err"; echo $? > "$work/status"; } | head -n 1 > "$work/out"
 status=$(cat "$work/status");   expect "a reader that leaves" 3 '^{"ok":{},"s":7}$' '^ctfd: Write$'
+
+# Dumps. A dictionary of an int; a child that names type 3 of its parent; one with two types.
+cd "$work" || exit 1
+section() { # PARNAME TYPES STRINGS LENGTH-OF-TYPES LENGTH-OF-STRINGS, each in printf's escapes
+    printf '\xf1\xcf\x02\0\0\0\0\0'"$1"'\0\0\0\0\0\0\0\0\0\0\0\0\0\0\0\0\0\0\0'"$4"'\0\0\0'"$5"'\0\0\0'"$2$3"
+}
+section '\0' '\x01\0\0\0\0\x0c\x04\0\x20\0\0\x01' '\0int\0' '\x0c' '\x05' > int
+section '\x01' '\0\0\0\0\0\x18\x03\0' '\0p\0' '\x08' '\x03' > child
+section '\0' '\0\0\0\0\0\x18\0\0\0\0\0\0\0\x18\0\0' '' '\x10' '\0' > two
+section '\0' '\0\0\0\0\0\x18\0\0\0\0\0\0\0\x18\0\0\0\0\0\0\0\x18\0\0' '' '\x18' '\0' > three
+cp int longest; truncate -s 16777216 longest
+cp int long; truncate -s 16777217 long
+mkdir folder
+
+# dumps NAME FILE WORD..: a dump of these files is what FILE holds.
+dumps() {
+    local name=$1 file=$2
+    shift 2
+    ends /dev/null dump "$@"
+    cmp -s out "$file" || status="$status, another text"
+    expect "$name" 0 '^ctf types=' ''
+}
+cat > int.dump << 'EOF'
+ctf types=1 child=no parname="" parlabel=""
+type 1 integer "int" root size=4 encoding=1 offset=0 bits=32 : "int" bytes=4 align=4
+EOF
+cat > child.dump << 'EOF'
+ctf types=1 child=yes parname="p" parlabel=""
+type 32769 pointer "" hidden to=3 : "void **" bytes=8 align=8
+EOF
+dumps "a dump" int.dump int
+dumps "a dump over a parent" child.dump child --parent three
+dumps "a dump of a real program" "$examples/lua.dump" "$examples/lua.ctf" --sym "$examples/lua.sym" --str "$examples/lua.str"
+"$examples/../tests/dump.py" "$examples"/zlib.{ctf,sym,str} > zlib.dump
+dumps "a dump of another, by two programs" zlib.dump "$examples/zlib.ctf" --sym "$examples/zlib.sym" --str "$examples/zlib.str"
+dumps "a file at the limit" int.dump longest
+
+ends /dev/null dump;            expect "a dump of nothing" 2 '' 'CTF'
+ends /dev/null dump a b;        expect "a dump of two" 2 '' "'b'"
+ends /dev/null dump a --bad b;  expect "an option that is not there" 2 '' '--bad'
+ends /dev/null dump a --sym;    expect "an option without its file" 2 '' '--sym'
+ends /dev/null dump a --sym b --sym b
+                                expect "an option twice" 2 '' '--sym'
+ends /dev/null dump --help;     expect "help of dump" 0 '^Usage: .* <CTF>$' ''
+ends /dev/null dump none;       expect "a missing file" 3 '' '^ctfd: none: Read$'
+ends /dev/null dump '';         expect "a file without a name" 3 '' '^ctfd: : Read$'
+ends /dev/null dump folder;     expect "a folder" 3 '' '^ctfd: folder: Read$'
+ends /dev/null dump long;       expect "a file above the limit" 1 '' '^ctfd: long: StageFull at 0$'
+ends /dev/null dump /dev/zero;  expect "a file without end" 1 '' '^ctfd: /dev/zero: StageFull at 0$'
+ends /dev/null dump /dev/null;  expect "an empty file" 1 '' '^ctfd: /dev/null: TooShort at 0$'
+ends /dev/null dump int --sym child
+                                expect "a refused symbol table" 1 '' '^ctfd: int: BadSymtab at 0$'
+ends /dev/null dump child --parent "$first"
+                                expect "a refused parent" 1 '' '^ctfd: .*first.jsonl: BadMagic at 0$'
+ends /dev/null dump child --parent two
+                                expect "a parent that is too short" 1 '' '^ctfd: child: ParentShort at 3$'
+ends /dev/null dump child --parent child
+                                expect "a parent that is a child" 1 '' '^ctfd: child: ParentIsChild at 0$'
+ends /dev/null dump int --parent two
+                                expect "a parent of no child" 1 '' '^ctfd: int: NotChild at 0$'
+# Files are read in the order dictionary, parent, symbols, strings, and judged when all were read.
+ends /dev/null dump long --parent none
+                                expect "a long file before a missing one" 1 '' '^ctfd: long: StageFull at 0$'
+ends /dev/null dump /dev/null --str c --sym b --parent a
+                                expect "the order of files: a parent" 3 '' '^ctfd: a: Read$'
+ends /dev/null dump /dev/null --str c --sym b --parent int
+                                expect "the order of files: symbols" 3 '' '^ctfd: b: Read$'
+ends /dev/null dump /dev/null --str c --sym int
+                                expect "the order of files: strings" 3 '' '^ctfd: c: Read$'
+fills /dev/null dump int;       expect "a dump, and a full output" 3 '' '^ctfd: Write$'
+"$program" dump int 2> err >&-
+status=$?;                      expect "a dump, and a closed output" 3 '' '^ctfd: Write$'
+"$program" dump "$examples/lua.ctf" --sym "$examples/lua.sym" --str "$examples/lua.str" 2> err | head -n 1 > out
+status=${PIPESTATUS[0]};        expect "a dump, and a reader that leaves" 3 '^ctf types=526 ' '^ctfd: Write$'
+(ulimit -v 32768; "$program" dump longest > out 2> err)
+status=$?;                      expect "a dump without memory" 4 '' '^ctfd: Memory$'
 exit $failed

@@ -2,6 +2,8 @@
 #![tactic(auto)]
 
 #[cfg(test)]
+mod dumped_files;
+#[cfg(test)]
 mod dumps;
 #[cfg(test)]
 mod inputs;

@@ -1,14 +1,32 @@
 //! The command line.
 
-use crate::{serving, status};
+use crate::{dumping, serving, status};
 use clap::error::ErrorKind;
-use clap::{Command, Error};
+use clap::{Arg, ArgMatches, Command, Error};
 use ctf_wire::RunFault;
 use std::alloc::{AllocError, Global};
 use std::{env, io};
 
 /// What `--version` prints. docs/PROTOCOL.md says what a version promises.
 const VERSION: &str = "0.2.0";
+
+/// An option that names a file.
+fn file_option<'a>(alloc: Global, name: &'a str, help: &'a str) -> Arg<'a> {
+    Arg::new(alloc, name).long(name).value_name("F").help(help)
+}
+
+fn dump_command<'a>(alloc: Global) -> Result<Command<'a>, AllocError> {
+    let ctf = Arg::new(alloc, "ctf")
+        .value_name("CTF")
+        .required(true)
+        .help("The dictionary, as a file of a CTF section");
+    Command::new(alloc, "dump")
+        .about("Prints a dictionary as text, one line for each type, member and symbol")
+        .arg(ctf)?
+        .arg(file_option(alloc, "parent", "Its parent's CTF section"))?
+        .arg(file_option(alloc, "sym", "The program's symbol table"))?
+        .arg(file_option(alloc, "str", "The strings of that symbol table"))
+}
 
 /// The commands that there are.
 fn command<'a>(alloc: Global) -> Result<Command<'a>, AllocError> {
@@ -20,17 +38,26 @@ fn command<'a>(alloc: Global) -> Result<Command<'a>, AllocError> {
         .version(VERSION)
         .about("A type service over CTF dictionaries")
         .subcommand_required(true)
-        .subcommand(serve)
+        .subcommand(serve)?
+        .subcommand(dump_command(alloc)?)
 }
 
-/// Reads the words that the program was called with.
-fn parse(rt: &HostRuntime) -> Result<(), Error> {
+/// Does what a command says, and answers the exit status.
+fn obey(rt: &HostRuntime, matches: &ArgMatches<'_>) -> u8 {
+    match matches.subcommand_matches("dump") {
+        Some(words) => dumping::run(rt, words),
+        None => serving::run(rt),
+    }
+}
+
+/// Reads the words that the program was called with, and does what they say.
+fn parse(rt: &HostRuntime) -> Result<u8, Error> {
     let mut command = command(rt.alloc())?;
     match env::args(rt) {
         Ok(words) => {
             let words: Vec<String> = words.collect(rt.alloc())?;
-            command.try_get_matches_from(words.as_slice())?;
-            Ok(())
+            let matches = command.try_get_matches_from(words.as_slice())?;
+            Ok(obey(rt, &matches))
         }
         Err(error) if error.kind() == io::ErrorKind::InvalidData => {
             Err(command.error(ErrorKind::InvalidValue, "an argument is not UTF-8")?)
@@ -53,7 +80,7 @@ fn tell(rt: &HostRuntime, error: &Error) -> u8 {
 /// Does what the words say, and answers the exit status.
 pub fn run(rt: &HostRuntime) -> u8 {
     match parse(rt) {
-        Ok(()) => serving::run(rt),
+        Ok(status) => status,
         Err(error) => tell(rt, &error),
     }
 }

@@ -2,6 +2,8 @@
 #![tactic(auto)]
 
 mod commands;
+mod dumping;
+mod files;
 mod serving;
 mod status;
 

@@ -1,0 +1,77 @@
+-- Which file of a dump is refused, and how a dump ends. Source: ours.
+use Rattle.std.specs.Prelude.{◌≡◌, ◌⊎◌, ⊤, ℕ, List, Option, Some, None}
+use Rattle.std.specs.Option.{option_map}
+use Rattle.ctf_dump.specs.declared.ends.DumpEnd.{DumpEnd}
+use Rattle.ctf_dump.specs.declared.ends.DumpEnd.TheVariants.{Unread, Refused, Memory, Write}
+use Rattle.ctf_dump.specs.declared.inputs.InputFile.{InputFile}
+use Rattle.ctf_dump.specs.declared.inputs.Inputs.{Inputs}
+use Rattle.ctf_model.specs.Faults.{first_fault}
+use Rattle.ctf_model.specs.Lists.{Lists}
+use Rattle.ctf_model.specs.Steps.{fault_over}
+use Rattle.ctf_model.specs.declared.faults.Fault.{Fault}
+
+-- ---- what is dumped
+
+abbrev pub bytes_of : Option InputFile → Option (List ℕ)
+bytes_of file = option_map (λ f. f.bytes.now) file
+
+-- the dictionary, with the symbols and strings of its program
+abbrev pub own_lists : Inputs → Lists
+own_lists i = record { ctf = i.ctf.bytes.now; sym = bytes_of i.sym; strs = bytes_of i.str }
+
+-- a parent, which is handed in by itself
+abbrev pub parent_lists : InputFile → Lists
+parent_lists f = record { ctf = f.bytes.now; sym = None; strs = None }
+
+-- ---- what is refused
+
+-- a file by its name, and its fault
+pub record Refusal : Type 0 where
+  pub file : List ℕ
+  pub fault : Fault
+
+-- the refusal of a file that has this fault
+abbrev pub in_file : InputFile → Option Fault → Option Refusal
+in_file f fault = option_map (λ x. record { file = f.name.now; fault = x }) fault
+
+-- the first of two
+abbrev pub or_else : Option Refusal → Option Refusal → Option Refusal
+or_else None second = second
+or_else (Some r) second = Some r
+
+-- the parent is judged by itself, and then as the parent of this dictionary, whose file is named where it does not fit
+abbrev pub over : Inputs → Option InputFile → Option Refusal
+over i None = None
+over i (Some p) = or_else (in_file p (first_fault (parent_lists p))) (in_file i.ctf (fault_over (own_lists i) (parent_lists p)))
+
+-- the dictionary is judged first
+abbrev pub refusal : Inputs → Option Refusal
+refusal i = or_else (in_file i.ctf (first_fault (own_lists i))) (over i i.parent)
+
+-- ---- how a dump ends
+
+-- before anything was written: memory can be wanted at any time
+abbrev pub RefusedBy : Option Refusal → DumpEnd → Type 0
+RefusedBy r (Unread file) = ⊥
+RefusedBy r (Refused file fault) = r ≡ Some (record { file = file.now; fault = fault })
+RefusedBy r Memory = ⊤
+RefusedBy r Write = ⊥
+
+-- early: a write fails only where nothing is refused
+abbrev pub EndsBy : Option Refusal → DumpEnd → Type 0
+EndsBy r (Unread file) = ⊥
+EndsBy r (Refused file fault) = r ≡ Some (record { file = file.now; fault = fault })
+EndsBy r Memory = ⊤
+EndsBy r Write = r ≡ None
+
+-- the exit status beside such an end
+abbrev pub status_after : DumpEnd → ℕ
+status_after (Refused file fault) = 1
+status_after (Unread file) = 3
+status_after Write = 3
+status_after Memory = 4
+
+-- the exit statuses that a dump of these may have: it is done or a write failed, or it is refused; memory can be wanted at any time
+abbrev pub MayAnswer : Option Refusal → ℕ → Type 0
+MayAnswer None status = (status ≡ 0) ⊎ ((status ≡ 3) ⊎ (status ≡ 4))
+MayAnswer (Some r) status = (status ≡ 1) ⊎ (status ≡ 4)

@@ -1,0 +1,45 @@
+//! Files that are read whole.
+ghost use Rattle.std.specs.Prelude.{◌≡◌, ◌<◌, ◌≤◌, IfOk, IfErr, IfSome, length, vec_len};
+ghost use Rattle.ctf_dump.specs.Refused.{status_after};
+
+use ctf_dump::DumpEnd;
+use ctf_model::{Fault, placeless};
+use std::alloc::Global;
+use std::fs::File;
+use std::io::{ErrorKind, Read};
+
+/// The greatest length of a file, in bytes.
+const LONGEST_FILE: u32 = 16_777_216;
+
+/// What is left of a reader, unless it is longer than so many bytes. `name` is what an error calls
+/// it.
+pub fn read_whole<R: Read + Drop>(
+    alloc: Global,
+    name: &str,
+    reader: R,
+    longest: u32,
+) -> Result<Vec<u8>, DumpEnd<'_>>
+    ensures short { IfOk result (λ v. vec_len v ≤ longest) }
+    ensures refused { IfErr result (λ e. status_after e ≡ 1
+        → IfSome (R.remaining reader) (λ bytes. longest < length bytes)) }
+{
+    let mut bytes = Vec::new(alloc);
+    let mut front = reader.take(u64::from(longest) + 1);
+    match front.read_to_end(&mut bytes) {
+        Ok(_) if bytes.len() > longest as usize => {
+            Err(DumpEnd::Refused(name, placeless(Fault::STAGE_FULL)))
+        }
+        Ok(_) => Ok(bytes),
+        Err(error) if error.kind() == ErrorKind::OutOfMemory => Err(DumpEnd::Memory),
+        Err(_) => Err(DumpEnd::Unread(name)),
+    }
+}
+
+/// The bytes of the file with a name.
+pub fn read_file<'a>(rt: &HostRuntime, name: &'a str) -> Result<Vec<u8>, DumpEnd<'a>> {
+    match File::open(rt, name) {
+        Ok(file) => read_whole(rt.alloc(), name, file, LONGEST_FILE),
+        Err(error) if error.kind() == ErrorKind::OutOfMemory => Err(DumpEnd::Memory),
+        Err(_) => Err(DumpEnd::Unread(name)),
+    }
+}
