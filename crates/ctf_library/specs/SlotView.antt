@@ -1,7 +1,11 @@
--- What a slot shows.
+-- What slots and publications show.
 use Rattle.std.specs.Prelude.{option_map}
 use Rattle.ctf_model.specs.State as state
+use Rattle.ctf_library.specs.declared.publications.Publication.{Publication}
 use Rattle.ctf_library.specs.declared.slots.Slot.{Slot}
 
 abbrev pub slot_of : Slot → state.Slot
-slot_of slot = record { number = slot.number; lists = slot.dictionary.value.lists; parent = option_map (λ p. p.value.lists) slot.parent }
+slot_of slot = record { number = slot.number; lists = slot.own.value; parent = option_map (λ i. i.parent.value) slot.imported }
+
+abbrev pub publication_of : Publication → state.Publication
+publication_of p = record { name = p.name; lists = p.loaded.value }

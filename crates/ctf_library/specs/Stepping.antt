@@ -1,18 +1,17 @@
 -- The step of a change in a library. The words are ours.
-use Rattle.std.specs.Prelude.{◌≡◌, None, Result}
+use Rattle.std.specs.Prelude.{◌≡◌, Result}
 use Rattle.ctf_answers.specs.Replies.{said}
 use Rattle.ctf_answers.specs.declared.counts.Counts.{Counts}
 use Rattle.ctf_model.specs.Runs.{Answered}
 use Rattle.ctf_model.specs.State.{State}
-use Rattle.ctf_model.specs.Steps.{change_step}
+use Rattle.ctf_model.specs.Steps.{Outcome}
 use Rattle.ctf_model.specs.declared.faults.Fault.{Fault}
-use Rattle.ctf_model.specs.declared.requests.Change.{Change}
 
--- a change made its step, or memory was refused and nothing changed
-abbrev pub Makes : State → Change → Result Counts Fault → State → Type 0
-Makes old change result new = Answered old (change_step old change None) (said result) new
+-- a step was made, or memory was refused and nothing changed
+abbrev pub Makes : State → Outcome → Result Counts Fault → State → Type 0
+Makes old outcome result new = Answered old outcome (said result) new
 
--- a change made its step, whatever memory there is
-pub record Does (old : State) (change : Change) (result : Result Counts Fault) (new : State) : Type 0 where
-  pub reply : said result ≡ (change_step old change None).reply
-  pub state : new ≡ (change_step old change None).state
+-- a step was made, whatever memory there is
+pub record Does (outcome : Outcome) (result : Result Counts Fault) (new : State) : Type 0 where
+  pub reply : said result ≡ outcome.reply
+  pub state : new ≡ outcome.state

@@ -10,7 +10,7 @@ ghost use Rattle.ctf_model.specs.Values.{value_text};
 ghost use Rattle.ctf_layout.specs.Fitting.{Fits};
 ghost use Rattle.ctf_library.specs.Telling.{IsTold};
 ghost use Rattle.std.specs.Result.{result_map_both};
-ghost use Rattle.ctf_library.specs.Fitting.{Serve};
+ghost use Rattle.ctf_library.specs.Fitting.{AreTablesOf, Serve};
 ghost use Rattle.ctf_layout.specs.Reached.{position_of};
 ghost use Rattle.ctf_answers.specs.Items.{items_of};
 ghost use Rattle.ctf_answers.specs.Singles.{single_of};
@@ -348,15 +348,26 @@ impl Slot {
     /// What its questions see.
     fn space(&self) -> Space<'_>
         ensures space { space_of result ≡ slot_space (slot_of self.now) }
-        ensures lists { own_lists result ≡ self.now.dictionary.value.lists }
+        ensures lists { own_lists result ≡ self.now.own.value }
         ensures parent { parent_lists result
-            ≡ option_map (λ p. p.value.lists) self.now.parent }
+            ≡ option_map (λ i. i.parent.value) self.now.imported }
     {
-        let own = self.dictionary.view();
-        let model = self.dictionary.model();
-        match &self.parent {
-            Some(parent) => Space::again(own, parent.view(), model),
+        let own = self.own.view();
+        let model = self.own.model();
+        match &self.imported {
+            Some(imported) => Space::again(own, imported.parent.view(), model),
             None => Space::own(own, model),
+        }
+    }
+
+    /// The tables of what its questions see.
+    fn tables(&self) -> &Tables
+        ensures { AreTablesOf self.now.own.value
+            (option_map (λ i. i.parent.value) self.now.imported) result.now }
+    {
+        match &self.imported {
+            Some(imported) => &imported.tables,
+            None => self.own.tables(),
         }
     }
 
@@ -373,10 +384,10 @@ impl Slot {
         let space = self.space();
         match question {
             Question::OfType { t, question } => {
-                answer_on(alloc, &space, &self.tables, *t, question)
+                answer_on(alloc, &space, self.tables(), *t, question)
             }
             Question::OfSlot(question) => {
-                whole_answer(&space, &self.tables, &self.symbols, question)
+                whole_answer(&space, self.tables(), self.own.symbols(), question)
             }
         }
     }

@@ -3,10 +3,13 @@
 
 mod answering;
 mod library;
+mod loaded;
 mod places;
+mod publications;
 mod slots;
 mod staging;
 mod tables;
 mod whole;
 
 pub use library::Library;
+pub use loaded::Loaded;

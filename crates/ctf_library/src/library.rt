@@ -1,27 +1,21 @@
 //! The library of one session.
-ghost use Rattle.std.specs.Prelude.{◌≡◌, ◌⊎◌, None, Some, Ok, true, OnOk, IfOk, IfErr};
-ghost use Rattle.ctf_model.specs.Faults.{first_fault};
-ghost use Rattle.ctf_model.specs.OwnedLists.{lists_owned};
-ghost use Rattle.ctf_model.specs.Refusals.{want_of_memory};
+ghost use Rattle.std.specs.Prelude.{◌≡◌, None, Some, true, option_map};
+ghost use Rattle.ctf_model.specs.Publications.{published_as};
 ghost use Rattle.ctf_model.specs.State.{empty_state};
-ghost use Rattle.ctf_model.specs.Steps.{answer_to, fault_over, has_room as room_in, is_quiet, is_quiet_change, MayAnswer};
-ghost use Rattle.ctf_answers.specs.Replies.{said};
-ghost use Rattle.ctf_library.specs.Fitting.{AreTablesOf};
-ghost use Rattle.ctf_symbols.specs.Fitting.{Fits};
+ghost use Rattle.ctf_model.specs.Steps.{answer_to, change_step, checks, clears, closes, has_room as room_in, imports, is_quiet, is_quiet_change, MayAnswer, opens, parts, publishes, publishes_lists, resets, takes};
 ghost use Rattle.ctf_library.specs.Stepping.{Does, Makes};
-ghost use Rattle.ctf_model.specs.declared.data_model.DataModel.TheVariants.{Lp64};
 
+use crate::loaded::Loaded;
 use crate::places::{find_slot, push_slot, remove_slot, set_parent};
-use crate::slots::{Loaded, Slot};
+use crate::publications::{Publication, find_published};
+use crate::slots::{Imported, Slot};
 use crate::staging::{add_first_piece, add_piece, judge};
-use crate::tables::{Tables, tables_over};
+use crate::tables::tables_over;
 use ctf_answers::{Answer, Counts};
 use ctf_model::{
-    Change, DataModel, Fault, ListName, Parts, Question, SlotNumber, no_parts, placeless,
+    Change, Fault, ListName, Parts, PublicationName, Question, SlotNumber, no_parts, placeless,
 };
-use ctf_space::Opened;
-use ctf_symbols::SymbolMap;
-use std::alloc::{AllocError, Global};
+use std::alloc::Global;
 use std::marker::Model;
 use std::mem;
 use std::rc::Rc;
@@ -29,21 +23,23 @@ use std::rc::Rc;
 /// How many slots may be in use.
 const MOST_SLOTS: usize = 255;
 
-/// What one session holds: its slots, the number of the next one, and the staged lists.
+/// What one session holds: its slots, the number of the next one, the staged lists, and what it
+/// published.
 #[derive(Drop)]
 pub struct Library {
     alloc: Global,
     slots: Vec<Slot>,
     next: u64,
     stage: Parts,
+    published: Vec<Publication>,
 }
 
 impl Model for Library {
-    ghost use Rattle.std.specs.Prelude.{◌≡◌, ◌≤◌, ◌^◌, None, [], map, true};
+    ghost use Rattle.std.specs.Prelude.{◌≡◌, ◌≤◌, ◌^◌, None, map, true};
     ghost use Rattle.ctf_library.specs.SlotOrder.{rise_between};
     ghost use Rattle.ctf_model.specs.OwnedLists.{lists_owned};
     ghost use Rattle.ctf_model.specs.State.{State};
-    ghost use Rattle.ctf_library.specs.SlotView.{slot_of};
+    ghost use Rattle.ctf_library.specs.SlotView.{publication_of, slot_of};
 
     ghost Value = { State };
 
@@ -51,47 +47,11 @@ impl Model for Library {
       slots = map slot_of l.slots.items;
       next = l.next;
       stage = lists_owned l.stage;
-      published = [];
+      published = map publication_of l.published.items;
     } };
 
     ghost invariant = { λ l. (l.next ≤ 2 ^ 32)
         × (rise_between 0 l.slots.items l.next ≡ true) };
-}
-
-/// What is kept beside a dictionary: the map of its symbols, and its tables.
-fn kept(alloc: Global, dictionary: &Opened) -> Result<(SymbolMap, Tables), AllocError>
-    requires { dictionary.now.model ≡ Lp64 }
-    ensures mapped { IfOk result (λ k. Fits dictionary.now.lists k.0) }
-    ensures made { IfOk result (λ k. AreTablesOf dictionary.now.lists None k.1) }
-{
-    let symbols = SymbolMap::build(alloc, &dictionary.view())?;
-    let tables = Tables::build(alloc, dictionary)?;
-    Ok((symbols, tables))
-}
-
-/// A dictionary of lists, to be shared, or its first fault with the lists.
-fn opened(alloc: Global, parts: Parts) -> Result<Loaded, (Fault, Parts)>
-    ensures ok { IfOk result (λ o. o.dictionary.value.lists ≡ lists_owned parts) }
-    ensures exact_ok { OnOk result (first_fault (lists_owned parts) ≡ None) }
-    ensures exact_err { IfErr result (λ e. (e.0 ≡ want_of_memory)
-        ⊎ (first_fault (lists_owned parts) ≡ Some e.0)) }
-    ensures back { IfErr result (λ e. lists_owned e.1 ≡ lists_owned parts) }
-{
-    let dictionary = match Opened::build(alloc, parts, DataModel::Lp64) {
-        Ok(dictionary) => dictionary,
-        Err(refused) => return Err(refused),
-    };
-    match kept(alloc, &dictionary) {
-        Ok((symbols, tables)) => match Rc::new(alloc, dictionary) {
-            Ok(dictionary) => Ok(Loaded {
-                dictionary,
-                symbols,
-                tables,
-            }),
-            Err(failed) => Err((placeless(Fault::MEMORY), failed.value.into_parts())),
-        },
-        Err(_) => Err((placeless(Fault::MEMORY), dictionary.into_parts())),
-    }
 }
 
 impl Library {
@@ -104,16 +64,25 @@ impl Library {
             slots: Vec::new(alloc),
             next: 1,
             stage: no_parts(alloc),
+            published: Vec::new(alloc),
         }
     }
 
-    /// Makes the step of a change. Want of memory changes nothing.
+    /// What it has published under a name.
+    pub fn published(&self, name: &[u8]) -> Option<&Rc<Loaded>>
+        ensures { option_map (λ l. l.now.value) result ≡ published_as name.now self.now.published }
+    {
+        find_published(&self.published, name)
+    }
+
+    /// Makes the step of a change, with what was found for a take. Want of memory changes nothing.
     #[tactic(auto, unfolding(ctf_model::specs::Steps::change_step))]
-    pub fn step(&mut self, change: &Change) -> Result<Counts, Fault>
-        ensures step { Makes self.old change.now result self.new }
+    pub fn step(&mut self, change: &Change, found: Option<Rc<Loaded>>) -> Result<Counts, Fault>
+        ensures step { Makes self.old
+            (change_step self.old change.now (option_map (λ l. l.value) found)) result self.new }
         // These take no memory.
-        ensures quiet { is_quiet_change change.now ≡ true
-            → Does self.old change.now result self.new }
+        ensures quiet { is_quiet_change change.now ≡ true → Does
+            (change_step self.old change.now (option_map (λ l. l.value) found)) result self.new }
     {
         match change {
             Change::Part { section, bytes } => self.part(*section, bytes.as_slice()),
@@ -123,12 +92,13 @@ impl Library {
             Change::Reset => self.reset(),
             Change::Close { d } => self.close(d.get()),
             Change::Import { d, parent } => self.import(d.get(), parent.get()),
+            Change::Publish { d, name } => self.publish(d.get(), name),
+            Change::Take { .. } => self.take(found),
         }
     }
 
-    #[tactic(auto, unfolding(ctf_model::specs::Steps::change_step))]
     fn part(&mut self, list: ListName, piece: &[u8]) -> Result<Counts, Fault>
-        ensures { Makes self.old (Change.Part list piece.now) result self.new }
+        ensures { Makes self.old (parts list piece.now self.old) result self.new }
     {
         let added = match list {
             ListName::Ctf => add_piece(&mut self.stage.ctf, piece),
@@ -141,9 +111,8 @@ impl Library {
         }
     }
 
-    #[tactic(auto, unfolding(ctf_model::specs::Steps::change_step))]
     fn check(&self) -> Result<Counts, Fault>
-        ensures { Makes self.now Change.Check result self.now }
+        ensures { Makes self.now (checks self.now) result self.now }
     {
         match judge(self.alloc, &self.stage) {
             Ok(()) => Ok(Counts::done()),
@@ -158,9 +127,8 @@ impl Library {
         self.slots.len() < MOST_SLOTS && self.next <= u64::from(u32::MAX)
     }
 
-    #[tactic(auto, unfolding(ctf_model::specs::Steps::change_step))]
     fn open(&mut self) -> Result<Counts, Fault>
-        ensures { Makes self.old Change.Open result self.new }
+        ensures { Makes self.old (opens self.old) result self.new }
     {
         if !self.has_room() {
             return Err(placeless(Fault::SLOTS_FULL));
@@ -169,10 +137,10 @@ impl Library {
             return Err(placeless(Fault::MEMORY));
         }
         let parts = mem::replace(&mut self.stage, no_parts(self.alloc));
-        match opened(self.alloc, parts) {
+        match Loaded::shared(self.alloc, parts) {
             Ok(loaded) => {
                 let number = self.next as u32;
-                let types = loaded.dictionary.view().count() as u64;
+                let types = loaded.view().count() as u64;
                 push_slot(&mut self.slots, number, loaded);
                 self.next += 1;
                 Ok(Counts::two("d", u64::from(number), "types", types))
@@ -184,26 +152,23 @@ impl Library {
         }
     }
 
-    #[tactic(auto, unfolding(ctf_model::specs::Steps::change_step))]
     fn clear(&mut self) -> Result<Counts, Fault>
-        ensures { Does self.old Change.Clear result self.new }
+        ensures { Does (clears self.old) result self.new }
     {
         self.stage = no_parts(self.alloc);
         Ok(Counts::done())
     }
 
-    #[tactic(auto, unfolding(ctf_model::specs::Steps::change_step))]
     fn reset(&mut self) -> Result<Counts, Fault>
-        ensures { Does self.old Change.Reset result self.new }
+        ensures { Does (resets self.old) result self.new }
     {
         self.slots.clear();
         self.next = 1;
         self.clear()
     }
 
-    #[tactic(auto, unfolding(ctf_model::specs::Steps::change_step))]
     fn close(&mut self, d: u32) -> Result<Counts, Fault>
-        ensures { Does self.old (Change.Close d) result self.new }
+        ensures { Does (closes d self.old) result self.new }
     {
         let Some(_closed) = remove_slot(&mut self.slots, d) else {
             return Err(placeless(Fault::NO_SLOT));
@@ -211,9 +176,8 @@ impl Library {
         Ok(Counts::done())
     }
 
-    #[tactic(auto, unfolding(ctf_model::specs::Steps::change_step))]
     fn import(&mut self, d: u32, parent: u32) -> Result<Counts, Fault>
-        ensures { Makes self.old (Change.Import d parent) result self.new }
+        ensures { Makes self.old (imports d parent self.old) result self.new }
     {
         let Some(child) = find_slot(&self.slots, d) else {
             return Err(placeless(Fault::NO_SLOT));
@@ -221,15 +185,68 @@ impl Library {
         let Some(source) = find_slot(&self.slots, parent) else {
             return Err(placeless(Fault::NO_SLOT));
         };
-        let tables = match tables_over(self.alloc, child, source) {
+        let tables = match tables_over(self.alloc, &child.own, &source.own) {
             Ok(tables) => tables,
             Err(fault) => return Err(fault),
         };
-        let Ok(dictionary) = source.dictionary.clone() else {
+        let Ok(parent) = source.own.clone() else {
             return Err(placeless(Fault::MEMORY));
         };
-        set_parent(&mut self.slots, d, dictionary, tables);
+        set_parent(&mut self.slots, d, Imported { parent, tables });
         Ok(Counts::done())
+    }
+
+    fn publish(&mut self, d: u32, name: &PublicationName) -> Result<Counts, Fault>
+        ensures { Makes self.old (publishes d name.now self.old) result self.new }
+    {
+        let Some(slot) = find_slot(&self.slots, d) else {
+            return Err(placeless(Fault::NO_SLOT));
+        };
+        let Ok(loaded) = slot.own.clone() else {
+            return Err(placeless(Fault::MEMORY));
+        };
+        self.publish_loaded(name, loaded)
+    }
+
+    /// Publishes a dictionary that stands in no slot, under a name that has none yet.
+    pub fn publish_loaded(
+        &mut self,
+        name: &PublicationName,
+        loaded: Rc<Loaded>,
+    ) -> Result<Counts, Fault>
+        ensures { Makes self.old (publishes_lists name.now loaded.value self.old) result self.new }
+    {
+        if self.published(name.as_slice()).is_some() {
+            return Err(placeless(Fault::NAME_TAKEN));
+        }
+        let Ok(name) = name.copied(self.alloc) else {
+            return Err(placeless(Fault::MEMORY));
+        };
+        if self.published.reserve(1).is_err() {
+            return Err(placeless(Fault::MEMORY));
+        }
+        self.published.push_reserved(Publication { name, loaded });
+        Ok(Counts::done())
+    }
+
+    fn take(&mut self, found: Option<Rc<Loaded>>) -> Result<Counts, Fault>
+        ensures { Makes self.old (takes (option_map (λ l. l.value) found) self.old)
+            result self.new }
+    {
+        if !self.has_room() {
+            return Err(placeless(Fault::SLOTS_FULL));
+        }
+        let Some(loaded) = found else {
+            return Err(placeless(Fault::NOT_PUBLISHED));
+        };
+        if self.slots.reserve(1).is_err() {
+            return Err(placeless(Fault::MEMORY));
+        }
+        let number = self.next as u32;
+        let types = loaded.view().count() as u64;
+        push_slot(&mut self.slots, number, loaded);
+        self.next += 1;
+        Ok(Counts::two("d", u64::from(number), "types", types))
     }
 
     /// Answers a question to a slot. Names and lists are lent from its dictionary, or its parent.

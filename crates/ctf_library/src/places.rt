@@ -6,11 +6,9 @@ ghost use Rattle.ctf_library.specs.SlotOrder.{rise_between};
 ghost use Rattle.ctf_library.specs.SlotPlaces.{place_of};
 ghost use Rattle.ctf_library.specs.Fitting.{AreTablesOf};
 ghost use Rattle.ctf_library.specs.SlotView.{slot_of};
-ghost use Rattle.ctf_model.specs.declared.data_model.DataModel.TheVariants.{Lp64};
 
-use crate::slots::{Loaded, Slot};
-use crate::tables::Tables;
-use ctf_space::Opened;
+use crate::loaded::Loaded;
+use crate::slots::{Imported, Slot};
 use std::rc::Rc;
 
 /// The place of the slot of a number, found by halves.
@@ -39,25 +37,18 @@ pub fn find_slot(slots: &[Slot], number: u32) -> Option<&Slot>
     }
 }
 
-/// A new slot for a dictionary that was opened, behind the others, where room was made for it.
-pub fn push_slot(slots: &mut Vec<Slot>, number: u32, loaded: Loaded)
+/// A new slot for a dictionary, behind the others, where room was made for it.
+pub fn push_slot(slots: &mut Vec<Slot>, number: u32, loaded: Rc<Loaded>)
     requires room { vec_len slots.old < vec_capacity slots.old }
     ensures slots { map slot_of slots.new.items ≡ map slot_of slots.old.items
-        ++ record { number = number; lists = loaded.dictionary.value.lists; parent = None } ∷ [] }
+        ++ record { number = number; lists = loaded.value; parent = None } ∷ [] }
     ensures rise { rise_between 0 slots.old.items number ≡ true
         → rise_between 0 slots.new.items (number + 1) ≡ true }
 {
-    let Loaded {
-        dictionary,
-        symbols,
-        tables,
-    } = loaded;
     slots.push_reserved(Slot {
         number,
-        dictionary,
-        symbols,
-        parent: None,
-        tables,
+        own: loaded,
+        imported: None,
     });
 }
 
@@ -78,20 +69,19 @@ pub fn remove_slot(slots: &mut Vec<Slot>, number: u32) -> Option<Slot>
 }
 
 /// Gives the slot of a number a parent that serves it, and its tables over that.
-pub fn set_parent(slots: &mut Vec<Slot>, number: u32, parent: Rc<Opened>, tables: Tables)
+pub fn set_parent(slots: &mut Vec<Slot>, number: u32, imported: Imported)
     requires order { IsNonDecreasingBy (λ s. s.number) slots.old.items }
     requires fits { IfSome (slot_at number (map slot_of slots.old.items))
-        (λ slot. fault_over slot.lists parent.value.lists ≡ None) }
+        (λ slot. fault_over slot.lists imported.parent.value ≡ None) }
     requires made { IfSome (slot_at number (map slot_of slots.old.items))
-        (λ slot. AreTablesOf slot.lists (Some parent.value.lists) tables) }
+        (λ slot. AreTablesOf slot.lists (Some imported.parent.value) imported.tables) }
     ensures slots { map slot_of slots.new.items
-        ≡ slots_with_parent number parent.value.lists (map slot_of slots.old.items) }
+        ≡ slots_with_parent number imported.parent.value (map slot_of slots.old.items) }
     ensures rise { (next : ℕ) → rise_between 0 slots.old.items next ≡ true
         → rise_between 0 slots.new.items next ≡ true }
 {
     if let Some(place) = find_place(slots, number) {
         let slot = &mut slots[place];
-        slot.parent = Some(parent);
-        slot.tables = tables;
+        slot.imported = Some(imported);
     }
 }

@@ -6,7 +6,7 @@ ghost use Rattle.ctf_model.specs.Refusals.{want_of_memory};
 ghost use Rattle.ctf_model.specs.Steps.{fault_over};
 ghost use Rattle.ctf_model.specs.declared.data_model.DataModel.TheVariants.{Lp64};
 
-use crate::slots::Slot;
+use crate::loaded::Loaded;
 use ctf_layout::Layout;
 use ctf_model::{Fault, placeless};
 use ctf_names::NameIndex;
@@ -45,20 +45,15 @@ impl Tables {
     }
 }
 
-/// The tables of the dictionary of one slot over that of another as its parent, or the fault of
-/// such an import.
-pub(crate) fn tables_over(alloc: Global, child: &Slot, parent: &Slot) -> Result<Tables, Fault>
-    ensures ok { IfOk result (λ t. AreTablesOf child.now.dictionary.value.lists
-        (Some parent.now.dictionary.value.lists) t) }
-    ensures exact_ok { OnOk result (fault_over child.now.dictionary.value.lists
-        parent.now.dictionary.value.lists ≡ None) }
+/// The tables of a dictionary over another as its parent, or the fault of such an import.
+pub(crate) fn tables_over(alloc: Global, child: &Loaded, parent: &Loaded) -> Result<Tables, Fault>
+    ensures ok { IfOk result (λ t. AreTablesOf child.now (Some parent.now) t) }
+    ensures exact_ok { OnOk result (fault_over child.now parent.now ≡ None) }
     ensures exact_err { IfErr result (λ f. (f ≡ want_of_memory)
-        ⊎ (fault_over child.now.dictionary.value.lists parent.now.dictionary.value.lists
-        ≡ Some f)) }
+        ⊎ (fault_over child.now parent.now ≡ Some f)) }
 {
-    let model = child.dictionary.model();
-    match Space::over(child.dictionary.view(), parent.dictionary.view(), model) {
-        Ok(space) => match Tables::over(alloc, &space, &parent.tables) {
+    match Space::over(child.view(), parent.view(), child.model()) {
+        Ok(space) => match Tables::over(alloc, &space, parent.tables()) {
             Ok(tables) => Ok(tables),
             Err(AllocError) => Err(placeless(Fault::MEMORY)),
         },

@@ -1,7 +1,7 @@
 //! Reads the request of a line.
 ghost use Rattle.std.specs.Prelude.{◌≡◌, ◌≢◌, ◌≤◌, IfSome, Option, None, Some, IfOk, IfErr, Ok, Err, codes, option_map};
 ghost use Rattle.serde_json.specs.View.{view};
-ghost use Rattle.ctf_model.specs.Ask.{ask, number_in, text_in, list_named, slot_under as slot_named, slot_in, type_in, close_asked, import_asked, about_type as type_question_asked, about_slot as slot_question_asked, name_under as name_asked, symbol_asked, show_asked, from_asked, count_asked, window_asked, names_asked, part_asked, word_asked, asked_with, request_asked, value_asked};
+ghost use Rattle.ctf_model.specs.Ask.{ask, number_in, text_in, list_named, slot_under as slot_named, slot_in, type_in, close_asked, import_asked, publication_asked, publish_asked, take_asked, about_type as type_question_asked, about_slot as slot_question_asked, name_under as name_asked, symbol_asked, show_asked, from_asked, count_asked, window_asked, names_asked, part_asked, word_asked, asked_with, request_asked, value_asked};
 ghost use Rattle.ctf_model.specs.Refusals.{placeless};
 ghost use Rattle.ctf_model.specs.declared.faults.TheConstants.Fault.{MEMORY};
 ghost use Rattle.ctf_model.specs.declared.questions.SlotQuestion.TheVariants as whole;
@@ -10,8 +10,8 @@ ghost use Rattle.ctf_model.specs.declared.questions.TypeQuestion.TheVariants as 
 use crate::lines::FromLine;
 use crate::spelled::{name, names, piece};
 use ctf_model::{
-    Change, Fault, ListName, Names, Piece, Question, Request, SlotNumber, SlotQuestion, TypeNum,
-    TypeQuestion, Window, Word, placeless,
+    Change, Fault, ListName, Names, Piece, PublicationName, Question, Request, SlotNumber,
+    SlotQuestion, TypeNum, TypeQuestion, Window, Word, placeless,
 };
 use serde_json::Value;
 use std::alloc::{AllocError, Global};
@@ -108,6 +108,8 @@ fn read_word(alloc: Global, value: &Value, word: Word) -> Result<Option<Request>
         Word::DoReset => Ok(Some(Request::Changes(Change::Reset))),
         Word::DoClose => Ok(close(value)),
         Word::DoImport => Ok(import(value)),
+        Word::DoPublish => publish(alloc, value),
+        Word::DoTake => take(alloc, value),
         Word::DoKind => Ok(about_type(value, Some(TypeQuestion::Kind))),
         Word::DoRecord => Ok(about_type(value, Some(TypeQuestion::Record))),
         Word::DoMembers => Ok(about_type(value, members(value))),
@@ -160,6 +162,46 @@ fn import(value: &Value) -> Option<Request>
     let d = slot(value)?;
     let parent = slot_under(value, "parent")?;
     Some(Request::Changes(Change::Import { d, parent }))
+}
+
+/// The name of a publication, which stands in a field as it is, without escapes.
+fn publication(alloc: Global, value: &Value) -> Result<Option<PublicationName>, AllocError>
+    ensures { IfOk result (λ name. name ≡ publication_asked (view value.now)) }
+{
+    let Some(name) = text(value, "name") else {
+        return Ok(None);
+    };
+    Ok(PublicationName::new(Vec::from_slice(
+        alloc,
+        name.as_bytes(),
+    )?))
+}
+
+fn publish(alloc: Global, value: &Value) -> Result<Option<Request>, AllocError>
+    ensures { IfOk result (λ request. request ≡ publish_asked (view value.now)) }
+{
+    let Some(d) = slot(value) else {
+        return Ok(None);
+    };
+    match publication(alloc, value)? {
+        Some(name) => Ok(Some(Request::Changes(Change::Publish { d, name }))),
+        None => Ok(None),
+    }
+}
+
+fn take(alloc: Global, value: &Value) -> Result<Option<Request>, AllocError>
+    ensures { IfOk result (λ request. request ≡ take_asked (view value.now)) }
+{
+    let Some(owner) = number(value, "owner", 0, u64::from(u32::MAX)) else {
+        return Ok(None);
+    };
+    match publication(alloc, value)? {
+        Some(name) => Ok(Some(Request::Changes(Change::Take {
+            owner: owner as u32,
+            name,
+        }))),
+        None => Ok(None),
+    }
 }
 
 fn type_number(value: &Value) -> Option<TypeNum>

@@ -1,6 +1,6 @@
 -- The keys of each answer stand in byte order.
 use Rattle.std.proofs.Common.{◌≡◌, ℕ, Bool, true, false, List, [], ◌∷◌, ◌++◌, map, take, drop, Option, None, Some, Result, Ok, Err, codes, refl, sym, ap, ◌∙◌}
-use Rattle.std.specs.Prelude.{◌&&◌, nat_lt, length, option_and_then}
+use Rattle.std.specs.Prelude.{◌&&◌, is_some, nat_lt, length, option_and_then}
 use Rattle.std.specs.List.{list_all}
 use Rattle.std.specs.Option.{option_map}
 use Rattle.std.specs.Cmp.Derive.{both_true}
@@ -14,12 +14,13 @@ use Rattle.ctf_model.specs.Figures.{align, referred, resolved, size}
 use Rattle.ctf_model.specs.KeyOrder.{item_in_order, in_order, IsInOrder, KeysRise}
 use Rattle.ctf_model.specs.Lists.{Lists}
 use Rattle.ctf_model.specs.Paths.{path}
+use Rattle.ctf_model.specs.Publications.{published_as}
 use Rattle.ctf_model.specs.Questions.{at_most, windowed, or_wrong_kind, as_fields, member_fields, member_item, enumerator_fields, enumerator_item, number_item, named_arguments, argument_fields, array_fields, encoding_fields, type_fields, size_fields, align_fields, name_fields, position_fields, value_fields, said_on, said_of}
-use Rattle.ctf_model.specs.SlotAnswers.{symbol_fields, signature_fields, label_item, label_fields, last_fields, info_fields, whole_said}
+use Rattle.ctf_model.specs.SlotAnswers.{symbol_fields, signature_fields, label_item, last_fields, whole_said}
 use Rattle.ctf_model.specs.SymbolQuestions.{symbol_found, object_of, function_of, label_of}
 use Rattle.ctf_model.specs.Shown.{Facts, facts, members_in, enumerators_in, arguments_in, array_in, encoding_in, list_length}
 use Rattle.ctf_model.specs.State.{State, Slot}
-use Rattle.ctf_model.specs.Steps.{change_step, with_slot, grants, slots_without, imports_unless, fault_over, stages, opens, opens_unless, has_room, accepts_unless, longest_list, slot_at, slot_space, said_by_slot}
+use Rattle.ctf_model.specs.Steps.{change_step, with_slot, grants, slots_without, imports_unless, fault_over, publishes_lists, takes, takes_found, stages, opens, opens_unless, has_room, accepts_unless, longest_list, slot_at, slot_space, said_by_slot}
 use Rattle.ctf_model.specs.Space.{Space, space_type}
 use Rattle.ctf_model.specs.Term.{Term}
 use Rattle.ctf_model.specs.TypeNames.{spelled_name}
@@ -156,6 +157,22 @@ importing d None parent state = tt
 importing d (Some c) None state = tt
 importing d (Some c) (Some p) state = imported (fault_over c.lists p.lists) d p.lists state
 
+published : (taken : Bool) (name : List ℕ) (lists : Lists) (state : State) → is_some (published_as name state.published) ≡ taken → IsInOrder (publishes_lists name lists state).reply.outcome
+published true name lists state e = rw e tt
+published false name lists state e = rw e refl
+
+publishing : (name : List ℕ) (slot : Option Slot) (state : State) → IsInOrder (with_slot (λ s. publishes_lists name s.lists state) slot state).reply.outcome
+publishing name None state = tt
+publishing name (Some slot) state = published _ name slot.lists state refl
+
+taken : (found : Option Lists) (state : State) → IsInOrder (takes_found found state).reply.outcome
+taken None state = tt
+taken (Some lists) state = refl
+
+taking : (found : Option Lists) (state : State) (room : Bool) → has_room state ≡ room → IsInOrder (takes found state).reply.outcome
+taking found state true e = rw e (taken found state)
+taking found state false e = rw e tt
+
 pub keys_rise : KeysRise
 unfolding change_step
 keys_rise state (Changes (change.Part list piece)) found = staging list _ state _ refl
@@ -165,4 +182,6 @@ keys_rise state (Changes change.Clear) found = refl
 keys_rise state (Changes change.Reset) found = refl
 keys_rise state (Changes (change.Close d)) found = closed d (slot_at d state.slots) state
 keys_rise state (Changes (change.Import d p)) found = importing d (slot_at d state.slots) (slot_at p state.slots) state
+keys_rise state (Changes (change.Publish d name)) found = publishing name (slot_at d state.slots) state
+keys_rise state (Changes (change.Take owner name)) found = taking found state _ refl
 keys_rise state (Asks d question) found = of_slot question (slot_at d state.slots)

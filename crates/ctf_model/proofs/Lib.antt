@@ -23,6 +23,7 @@ pub mod Unique
 pub mod Walk
 pub mod KeyOrder
 pub mod Asking
+pub mod SessionRuns
 pub mod OwnTypes
 pub mod Settled
 pub mod FigureAsks

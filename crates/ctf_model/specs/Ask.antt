@@ -8,6 +8,7 @@ use Rattle.serde_json.specs.Data.{Data, Items, no_items, item}
 use Rattle.serde_json.specs.Find.{get, as_array, as_number, as_u64, as_str}
 use Rattle.serde_json.specs.Read.{read}
 use Rattle.ctf_model.specs.Lines.{longest_line}
+use Rattle.ctf_model.specs.Publications.{is_publication_name}
 use Rattle.ctf_model.specs.Refusals.{placeless}
 use Rattle.ctf_model.specs.declared.faults.Fault.{Fault}
 use Rattle.ctf_model.specs.declared.faults.TheConstants.Fault.{NOT_JSON, BAD_REQUEST, LONG_LINE}
@@ -23,7 +24,7 @@ use Rattle.ctf_model.specs.declared.questions.SlotQuestion.TheVariants as whole
 use Rattle.ctf_model.specs.declared.questions.TypeQuestion.{TypeQuestion}
 use Rattle.ctf_model.specs.declared.questions.TypeQuestion.TheVariants as about
 use Rattle.ctf_model.specs.declared.words.Word.{Word}
-use Rattle.ctf_model.specs.declared.words.Word.TheVariants.{DoPart, DoCheck, DoOpen, DoClear, DoReset, DoClose, DoImport, DoKind, DoRecord, DoMembers, DoEnumerators, DoArgs, DoArray, DoEncoding, DoReference, DoResolve, DoSize, DoAlign, DoName, DoPointer, DoFind, DoPath, DoShow, DoSymbol, DoObject, DoFunction, DoLabels, DoLabel, DoInfo}
+use Rattle.ctf_model.specs.declared.words.Word.TheVariants.{DoPart, DoCheck, DoOpen, DoClear, DoReset, DoClose, DoImport, DoPublish, DoTake, DoKind, DoRecord, DoMembers, DoEnumerators, DoArgs, DoArray, DoEncoding, DoReference, DoResolve, DoSize, DoAlign, DoName, DoPointer, DoFind, DoPath, DoShow, DoSymbol, DoObject, DoFunction, DoLabels, DoLabel, DoInfo}
 use Rattle.ctf_model.specs.Text.{bytes_spelled_by}
 use Rattle.ctf_model.specs.Words.{words, word_named, is_text}
 use Rattle.ctf_model.specs.declared.questions.Window.{Window}
@@ -125,6 +126,23 @@ close_asked line = option_map (λ d. Changes (change.Close d)) (slot_in line)
 abbrev pub import_asked : Data → Option Request
 import_asked line = option_and_then (λ d. option_map (λ parent. Changes (change.Import d parent)) (slot_under (codes "parent") line)) (slot_in line)
 
+-- the name of a publication is a text as it stands, without escapes
+abbrev pub publication_named : List ℕ → Option (List ℕ)
+publication_named name = if is_publication_name name then Some name else None
+
+abbrev pub publication_asked : Data → Option (List ℕ)
+publication_asked line = option_and_then publication_named (text_in (codes "name") line)
+
+abbrev pub publish_asked : Data → Option Request
+publish_asked line = option_and_then (λ d. option_map (λ name. Changes (change.Publish d name)) (publication_asked line)) (slot_in line)
+
+-- any session may be taken from, the operator's among them
+abbrev pub owner_asked : Data → Option ℕ
+owner_asked line = number_in 0 4294967295 (codes "owner") line
+
+abbrev pub take_asked : Data → Option Request
+take_asked line = option_and_then (λ owner. option_map (λ name. Changes (change.Take owner name)) (publication_asked line)) (owner_asked line)
+
 -- the memory that a value stands in, and the bit that it begins at
 abbrev pub show_asked : Data → Option TypeQuestion
 show_asked line = option_and_then (λ memory. option_map (λ offset. about.Show memory offset) (number_in 0 18446744073709551615 (codes "offset") line)) (option_and_then bytes_spelled (text_in (codes "bytes") line))
@@ -138,6 +156,8 @@ asked_with line DoClear = Some (Changes change.Clear)
 asked_with line DoReset = Some (Changes change.Reset)
 asked_with line DoClose = close_asked line
 asked_with line DoImport = import_asked line
+asked_with line DoPublish = publish_asked line
+asked_with line DoTake = take_asked line
 asked_with line DoKind = about_type (Some about.Kind) line
 asked_with line DoRecord = about_type (Some about.Record) line
 asked_with line DoMembers = about_type (option_map (λ window. about.Members window) (window_asked line)) line

@@ -20,6 +20,7 @@ pub mod TypePlaces
 pub mod TypeNumbers
 pub mod Refusals
 pub mod State
+pub mod Publications
 pub mod OwnedLists
 pub mod Space
 pub mod Answers
@@ -41,6 +42,7 @@ pub mod Text
 pub mod TextLaws
 pub mod Steps
 pub mod Runs
+pub mod SessionLaws
 pub mod FaultNames
 pub mod Lines
 pub mod Ask

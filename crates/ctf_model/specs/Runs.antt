@@ -2,10 +2,13 @@
 use Rattle.std.specs.Prelude.{◌≡◌, ◌≢◌, ◌⊎◌, ℕ, ◌==◌, List, [], ◌∷◌, Option, None, Err, if◌then◌else◌}
 use Rattle.ctf_model.specs.Answers.{Reply}
 use Rattle.ctf_model.specs.Lists.{Lists}
+use Rattle.ctf_model.specs.Publications.{published_as}
 use Rattle.ctf_model.specs.Refusals.{want_of_memory}
 use Rattle.ctf_model.specs.State.{State}
 use Rattle.ctf_model.specs.Steps.{step, Outcome}
+use Rattle.ctf_model.specs.declared.requests.Change.TheVariants.{Take}
 use Rattle.ctf_model.specs.declared.requests.Request.{Request}
+use Rattle.ctf_model.specs.declared.requests.Request.TheVariants.{Changes}
 
 -- ---- a session by itself
 
@@ -31,9 +34,10 @@ pub record Call : Type 0 where
   pub session : ℕ
   pub request : Request
 
--- what a request finds where each session's library is this; no word takes yet
+-- what a request finds where each session's library is this: a take, what its owner has published under the name
 abbrev pub found_in : (ℕ → State) → Request → Option Lists
-found_in libraries request = None
+found_in libraries (Changes (Take owner name)) = published_as name (libraries owner).published
+found_in libraries _ = None
 
 -- what a session was given by a history of all sessions: its own requests, each with what the owner's own run had published
 abbrev pub given : (ℕ → State) → List Call → ℕ → List Given
@@ -46,6 +50,10 @@ given start (call ∷ earlier) s =
 -- the library of a session's own run after a history of all sessions
 abbrev pub own_state : (ℕ → State) → List Call → ℕ → State
 own_state start calls s = private_state (start s) (given start calls s)
+
+-- the replies of a session's own run after a history of all sessions, the newest first
+abbrev pub own_replies : (ℕ → State) → List Call → ℕ → List Reply
+own_replies start calls s = private_replies (start s) (given start calls s)
 
 -- ---- one call among many libraries
 

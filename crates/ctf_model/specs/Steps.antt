@@ -1,11 +1,12 @@
 -- The reply to a request in the library of one session, and what the library is then. Source: ours.
-use Rattle.std.specs.Prelude.{◌≡◌, ◌⊎◌, ℕ, ◌+◌, ◌==◌, ◌&&◌, List, [], ◌∷◌, ◌++◌, length, Bool, true, false, Option, None, Some, Result, Ok, Err, unwrap_or, nat_lt, nat_le, codes, if◌then◌else◌}
+use Rattle.std.specs.Prelude.{◌≡◌, ◌⊎◌, ℕ, ◌+◌, ◌==◌, ◌&&◌, List, [], ◌∷◌, ◌++◌, length, Bool, true, false, Option, None, Some, Result, Ok, Err, is_some, unwrap_or, nat_lt, nat_le, codes, if◌then◌else◌}
 use Rattle.std.specs.Option.{option_map}
 use Rattle.ctf_model.specs.Answers.{Answer, Reply, says}
 use Rattle.ctf_model.specs.Answers as answers
 use Rattle.ctf_model.specs.Dictionary.{said_by}
 use Rattle.ctf_model.specs.Faults.{first_fault}
 use Rattle.ctf_model.specs.Lists.{Lists}
+use Rattle.ctf_model.specs.Publications.{published_as}
 use Rattle.ctf_model.specs.Refusals.{placeless, want_of_memory}
 use Rattle.ctf_model.specs.State.{State, Slot, empty_state, empty_stage}
 use Rattle.ctf_model.specs.Questions.{type_said}
@@ -13,7 +14,7 @@ use Rattle.ctf_model.specs.SlotAnswers.{whole_said}
 use Rattle.ctf_model.specs.Space.{Space, import_fault}
 use Rattle.ctf_model.specs.declared.data_model.DataModel.TheVariants.{Lp64}
 use Rattle.ctf_model.specs.declared.faults.Fault.{Fault}
-use Rattle.ctf_model.specs.declared.faults.TheConstants.Fault.{NO_SLOT, SLOTS_FULL, STAGE_FULL}
+use Rattle.ctf_model.specs.declared.faults.TheConstants.Fault.{NO_SLOT, SLOTS_FULL, STAGE_FULL, NAME_TAKEN, NOT_PUBLISHED}
 use Rattle.ctf_model.specs.declared.requests.ListName.{ListName}
 use Rattle.ctf_model.specs.declared.requests.ListName.TheVariants.{Ctf, Sym, Str}
 use Rattle.ctf_model.specs.declared.requests.Request.{Request}
@@ -198,9 +199,29 @@ abbrev pub imports : ℕ → ℕ → State → Outcome
 imports d p state =
     with_slot (λ child. with_slot (λ parent. imports_unless (fault_over child.lists parent.lists) d parent.lists state) (slot_at p state.slots) state) (slot_at d state.slots) state
 
+-- ---- publish and take
+
+-- a name is given once
+abbrev pub publishes_lists : List ℕ → Lists → State → Outcome
+publishes_lists name lists state =
+    if is_some (published_as name state.published) then refuses NAME_TAKEN state
+    else grants [] (record state { published = state.published ++ record { name = name; lists = lists } ∷ [] })
+
+-- the dictionary of a slot, as it stands
+abbrev pub publishes : ℕ → List ℕ → State → Outcome
+publishes d name state = with_slot (λ slot. publishes_lists name slot.lists state) (slot_at d state.slots) state
+
+-- a slot is made of what was found, without any parent
+abbrev pub takes_found : Option Lists → State → Outcome
+takes_found None state = refuses NOT_PUBLISHED state
+takes_found (Some lists) state = adds_slot lists state
+
+abbrev pub takes : Option Lists → State → Outcome
+takes found state = if has_room state then takes_found found state else refuses SLOTS_FULL state
+
 -- ---- every request
 
--- what a take found is read by a take alone; no word takes yet
+-- what a take found is read by a take alone
 unfoldable pub change_step : State → Change → Option Lists → Outcome
 change_step state (change.Part list piece) found = parts list piece state
 change_step state change.Check found = checks state
@@ -209,6 +230,8 @@ change_step state change.Clear found = clears state
 change_step state change.Reset found = resets state
 change_step state (change.Close d) found = closes d state
 change_step state (change.Import d parent) found = imports d parent state
+change_step state (change.Publish d name) found = publishes d name state
+change_step state (change.Take owner name) found = takes found state
 
 -- a change that takes no memory
 abbrev pub is_quiet_change : Change → Bool

@@ -2,7 +2,7 @@
 use Rattle.std.specs.Prelude.{ℕ, List, [], ◌∷◌, Bool, Option, None, Some, nat_eq, codes, if◌then◌else◌}
 use Rattle.std.specs.Cmp.Lexicographic.{pointwise}
 use Rattle.ctf_model.specs.declared.words.Word.{Word}
-use Rattle.ctf_model.specs.declared.words.Word.TheVariants.{DoPart, DoCheck, DoOpen, DoClear, DoReset, DoClose, DoImport, DoKind, DoRecord, DoMembers, DoEnumerators, DoArgs, DoArray, DoEncoding, DoReference, DoResolve, DoSize, DoAlign, DoName, DoPointer, DoFind, DoPath, DoShow, DoSymbol, DoObject, DoFunction, DoLabels, DoLabel, DoInfo}
+use Rattle.ctf_model.specs.declared.words.Word.TheVariants.{DoPart, DoCheck, DoOpen, DoClear, DoReset, DoClose, DoImport, DoPublish, DoTake, DoKind, DoRecord, DoMembers, DoEnumerators, DoArgs, DoArray, DoEncoding, DoReference, DoResolve, DoSize, DoAlign, DoName, DoPointer, DoFind, DoPath, DoShow, DoSymbol, DoObject, DoFunction, DoLabels, DoLabel, DoInfo}
 use Rattle.ctf_model.specs.declared.words.Written.{Written}
 
 -- every word, and how a line writes it
@@ -15,6 +15,8 @@ words =
     (DoReset, codes "reset") ∷
     (DoClose, codes "close") ∷
     (DoImport, codes "import") ∷
+    (DoPublish, codes "publish") ∷
+    (DoTake, codes "take") ∷
     (DoKind, codes "kind") ∷
     (DoRecord, codes "record") ∷
     (DoMembers, codes "members") ∷

@@ -10,10 +10,12 @@ mod layers;
 mod lists;
 mod names;
 mod numbers;
+mod publications;
 mod questions;
 mod requests;
 mod rows;
 mod sections;
+mod session_laws;
 mod symbols;
 mod words;
 
@@ -31,6 +33,7 @@ pub use layers::{Layer, Qualifier};
 pub use lists::{Parts, no_parts};
 pub use names::Names;
 pub use numbers::{Place, SlotNumber, TypeNum};
+pub use publications::{LONGEST_NAME, PublicationName};
 pub use questions::{Question, SlotQuestion, TypeQuestion, Window};
 pub use requests::{Change, ListName, Request};
 pub use rows::{
@@ -42,5 +45,8 @@ pub use rows::{
     types_are_added,
 };
 pub use sections::Section;
+pub use session_laws::{
+    each_session_runs_alone, same_given_same_replies, steps_happen, unreached_sessions_do_not_matter,
+};
 pub use symbols::SymbolClass;
 pub use words::Word;

@@ -2,6 +2,7 @@
 
 use crate::bytes::Piece;
 use crate::numbers::SlotNumber;
+use crate::publications::PublicationName;
 use crate::questions::Question;
 
 /// The list that a part belongs to.
@@ -29,6 +30,13 @@ pub enum Change {
     Close { d: SlotNumber },
     /// Gives a slot the dictionary of another one as its parent.
     Import { d: SlotNumber, parent: SlotNumber },
+    /// Gives the dictionary of a slot a name, under which any session may take it.
+    Publish {
+        d: SlotNumber,
+        name: PublicationName,
+    },
+    /// Makes a slot of what a session has published.
+    Take { owner: u32, name: PublicationName },
 }
 
 /// A request of a session. Each value keeps the ranges of its fields in its type.

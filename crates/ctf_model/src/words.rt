@@ -12,6 +12,8 @@ pub enum Word {
     DoReset,
     DoClose,
     DoImport,
+    DoPublish,
+    DoTake,
     DoKind,
     DoRecord,
     DoMembers,
@@ -52,7 +54,7 @@ fn row(word: Word, text: &'static str) -> Written
 
 /// Every word.
 #[tactic(auto, unfolding(crate::specs::Words::words))]
-fn words() -> [Written; 29]
+fn words() -> [Written; 31]
     ensures { map row_of result ≡ all_words }
 {
     [
@@ -63,6 +65,8 @@ fn words() -> [Written; 29]
         row(Word::DoReset, "reset"),
         row(Word::DoClose, "close"),
         row(Word::DoImport, "import"),
+        row(Word::DoPublish, "publish"),
+        row(Word::DoTake, "take"),
         row(Word::DoKind, "kind"),
         row(Word::DoRecord, "record"),
         row(Word::DoMembers, "members"),

@@ -37,7 +37,7 @@ fn ask_library(
         return Ok(());
     };
     match request {
-        Request::Changes(change) => write_change(out, session, library.step(&change)),
+        Request::Changes(change) => write_change(out, session, library.step(&change, None)),
         Request::Asks { d, question } => {
             let outcome = library.answer(d, &question);
             Reply { session, outcome }.write(out)

@@ -13,9 +13,10 @@ use Rattle.ctf_model.specs.declared.faults.Fault.{Fault}
 use Rattle.ctf_model.specs.Answers.{Reply}
 use Rattle.ctf_model.specs.declared.requests.Request.{Request}
 use Rattle.ctf_model.proofs.Asking.{ask-long}
+use Rattle.ctf_model.proofs.SessionRuns.{found_same}
 use Rattle.ctf_wire.specs.Served.{Answers}
 use Rattle.ctf_wire.specs.Serving.{ask_stored, LineSteps, BrokerStep, ServesAlone}
-use Rattle.ctf_wire.specs.Table.{Libraries, library_at}
+use Rattle.ctf_broker.specs.Table.{Libraries, library_at}
 
 -- a line that is too long to be stored asks what its place does
 asked_stored : (line : List ℕ) → ask_stored (stored line) ≡ ask line
@@ -29,14 +30,10 @@ asked_stored line = by_length (leb (length line) 1048576) refl
 abbrev Holds : (ℕ → State) → List Call → (ℕ → State) → Type 0
 Holds start calls now = (s : ℕ) → now s ≡ own_state start calls s
 
--- what is found depends on the libraries at each session alone
-found_same : (a b : ℕ → State) (request : Request) → found_in a request ≡ found_in b request
-found_same a b request = refl
-
 -- the step in a library that is its own run
 own_step : (start now : ℕ → State) (calls : List Call) (s : ℕ) (request : Request) → Holds start calls now → step (now s) request (found_in now request) ≡ step (own_state start calls s) request (found_in (own_state start calls) request)
 own_step start now calls s request held =
-    ap (λ (l : State). step l request (found_in now request)) (held s) ∙ ap (step (own_state start calls s) request) (found_same now (own_state start calls) request)
+    ap (λ (l : State). step l request (found_in now request)) (held s) ∙ ap (step (own_state start calls s) request) (found_same now (own_state start calls) request held)
 
 -- a granted call joins the history
 granted_holds : (start old new : ℕ → State) (calls : List Call) (s : ℕ) (request : Request) (reply : Reply) → Holds start calls old → Steps old s request reply new → IsGranted old s request reply new

@@ -5,7 +5,7 @@ use Rattle.ctf_wire.specs.Endings.{EndsBy, ReadsAll, ReadsSome, Breaks}
 use Rattle.ctf_wire.specs.Served.{Serves, BrokenOff}
 use Rattle.ctf_wire.specs.Serving.{BrokerStep, WritesOut, BreaksOff, ServesTo}
 use Rattle.ctf_wire.specs.Streams.{Pulled, Pushed}
-use Rattle.ctf_wire.specs.Table.{Libraries}
+use Rattle.ctf_broker.specs.Table.{Libraries}
 use Rattle.ctf_wire.specs.declared.run_faults.RunFault.{RunFault}
 use Rattle.ctf_wire.specs.declared.run_faults.RunFault.TheVariants as fault
 

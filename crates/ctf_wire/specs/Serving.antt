@@ -13,7 +13,7 @@ use Rattle.ctf_model.specs.declared.requests.Request.{Request}
 use Rattle.ctf_wire.specs.Endings.{EndsBy}
 use Rattle.ctf_wire.specs.Served.{Answers, BeginsWith, Sent, SentFront}
 use Rattle.ctf_wire.specs.Streams.{Pulled, Pushed}
-use Rattle.ctf_wire.specs.Table.{Libraries, library_at}
+use Rattle.ctf_broker.specs.Table.{Libraries, library_at}
 use Rattle.ctf_wire.specs.declared.run_faults.RunFault.{RunFault}
 
 -- what a line asks, where none stands for one that was too long to be stored

@@ -1,7 +1,6 @@
 //! The sessions that requests belong to, and the run over a reader and a writer.
 #![tactic(auto)]
 
-mod broker;
 mod engine;
 mod feeding;
 mod machines;
@@ -15,8 +14,8 @@ mod sinks;
 mod sources;
 mod writers;
 
-pub use broker::Broker;
 pub use ctf_answers::{Answer, Counts, Reply, Single};
+pub use ctf_broker::Broker;
 pub use ctf_library::Library;
 pub use ctf_lines::{FromLine, ToLine, memory_line};
 pub use readers::FromReader;

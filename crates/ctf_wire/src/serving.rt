@@ -7,15 +7,15 @@ ghost use Rattle.ctf_answers.specs.Replies.{reply_of, said_to};
 ghost use Rattle.ctf_wire.specs.Endings.{IsReady, PullsAtMost};
 ghost use Rattle.ctf_wire.specs.Room.{HasShortRoom, Replies};
 ghost use Rattle.ctf_wire.specs.Serving.{BrokerStep, ServesAlone, ServesTo};
-ghost use Rattle.ctf_wire.specs.Table.{library_at};
+ghost use Rattle.ctf_broker.specs.Table.{library_at};
 
-use crate::broker::Broker;
 use crate::engine::answer_bounded;
 use crate::machines::Machine;
 use crate::run_faults::RunFault;
 use crate::sinks::Sink;
 use crate::sources::Source;
 use ctf_answers::{Counts, Reply};
+use ctf_broker::Broker;
 use ctf_lines::{FromLine, ToLine, write_change};
 use ctf_model::{Fault, Request, placeless};
 use std::alloc::Global;

@@ -1,4 +1,4 @@
-use Rattle.ctf_wire.specs.Table.{library_at}
+use Rattle.ctf_broker.specs.Table.{library_at}
 use Rattle.ctf_wire.proofs.QuestionSteps.{question_step}
 use Rattle.ctf_wire.proofs.serving.answer_request.Goals as goal
 

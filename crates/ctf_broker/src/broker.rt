@@ -1,18 +1,25 @@
 //! The libraries of all sessions.
 ghost use Rattle.std.specs.Prelude.{◌≡◌, ◌≢◌, ℕ, [], true};
-ghost use Rattle.ctf_model.specs.Runs.{IsGranted, Steps};
+ghost use Rattle.ctf_model.specs.Runs.{Answered, IsGranted, Steps};
 ghost use Rattle.ctf_model.specs.State.{empty_state};
-ghost use Rattle.ctf_model.specs.Steps.{answer_to, is_quiet, is_quiet_change, MayAnswer};
-ghost use Rattle.ctf_answers.specs.Replies.{said_to};
+ghost use Rattle.ctf_model.specs.Steps.{answer_to, is_quiet, is_quiet_change, MayAnswer, publishes_lists};
+ghost use Rattle.ctf_model.specs.declared.data_model.DataModel.TheVariants.{Lp64};
+ghost use Rattle.ctf_answers.specs.Replies.{said, said_to};
 ghost use Rattle.ctf_model.specs.declared.requests.Request.TheVariants.{Changes};
-ghost use Rattle.ctf_wire.specs.Table.{kept_for, library_at};
+ghost use Rattle.ctf_broker.specs.Table.{kept_for, library_at};
 
+use crate::libraries::{found_by, publish_in, step_in};
 use ctf_answers::{Answer, Counts};
-use ctf_library::Library;
-use ctf_model::{Change, Fault, Question, SlotNumber, placeless};
+use ctf_library::{Library, Loaded};
+use ctf_model::{Change, Fault, PublicationName, Question, SlotNumber, placeless};
+use ctf_space::Opened;
 use std::alloc::Global;
 use std::collections::BTreeMap;
 use std::marker::Model;
+use std::rc::Rc;
+
+/// The operator's session, which makes no requests.
+const OPERATOR: u32 = 0;
 
 /// The libraries of all sessions, each made at the session's first change.
 #[derive(Drop)]
@@ -22,7 +29,7 @@ pub struct Broker {
 }
 
 impl Model for Broker {
-    ghost use Rattle.ctf_wire.specs.Table.{Libraries};
+    ghost use Rattle.ctf_broker.specs.Table.{Libraries};
 
     ghost Value = { Libraries };
 
@@ -41,11 +48,30 @@ impl Broker {
     }
 
     /// What its libraries are made with.
-    pub(crate) fn allocator(&self) -> Global {
+    pub fn allocator(&self) -> Global {
         self.alloc
     }
 
-    /// Makes the step of a change: the session's own library makes it, and all others stay.
+    /// Publishes a dictionary for the operator, under a name that has none yet.
+    pub fn load(&mut self, name: &PublicationName, dictionary: Opened) -> Result<Counts, Fault>
+        requires { dictionary.model ≡ Lp64 }
+        ensures own { Answered (library_at self.old 0)
+            (publishes_lists name.now dictionary.lists (library_at self.old 0))
+            (said result) (library_at self.new 0) }
+        ensures others { (other : ℕ) → other ≢ 0
+            → kept_for self.new other ≡ kept_for self.old other }
+    {
+        let Ok(loaded) = Loaded::of(self.alloc, dictionary) else {
+            return Err(placeless(Fault::MEMORY));
+        };
+        let Ok(loaded) = Rc::new(self.alloc, loaded) else {
+            return Err(placeless(Fault::MEMORY));
+        };
+        publish_in(self.alloc, &mut self.libraries, OPERATOR, name, loaded)
+    }
+
+    /// Makes the step of a change: the session's own library makes it, with what its owner has
+    /// published for a take, and all others stay.
     ///
     /// The library is found in a time that grows with the logarithm of the number of sessions.
     pub fn step(&mut self, session: u32, change: &Change) -> Result<Counts, Fault>
@@ -59,7 +85,10 @@ impl Broker {
             → IsGranted (library_at self.old) session (Changes change.now)
             (said_to session result) (library_at self.new) }
     {
-        step_in(self.alloc, &mut self.libraries, session, change)
+        let Ok(found) = found_by(&self.libraries, change) else {
+            return Err(placeless(Fault::MEMORY));
+        };
+        step_in(self.alloc, &mut self.libraries, session, change, found)
     }
 
     /// Answers a question of a session. Names and lists are lent from its own library.
@@ -78,32 +107,5 @@ impl Broker {
             Some(library) => library.answer(d, question),
             None => Err(placeless(Fault::NO_SLOT)),
         }
-    }
-}
-
-/// Makes the step of a change in the session's own library, which is made where there is none yet.
-fn step_in(
-    alloc: Global,
-    libraries: &mut BTreeMap<u32, Library>,
-    session: u32,
-    change: &Change,
-) -> Result<Counts, Fault>
-    ensures step { Steps (library_at libraries.old.entries) session (Changes change.now)
-        (said_to session result) (library_at libraries.new.entries) }
-    ensures others { (other : ℕ) → other ≢ session
-        → kept_for libraries.new.entries other ≡ kept_for libraries.old.entries other }
-    ensures quiet { is_quiet_change change.now ≡ true
-        → (library_at libraries.old.entries session).slots ≢ []
-        → IsGranted (library_at libraries.old.entries) session (Changes change.now)
-        (said_to session result) (library_at libraries.new.entries) }
-{
-    if let Some(library) = libraries.get_mut(&session) {
-        return library.step(change);
-    }
-    let mut library = Library::new(alloc);
-    let outcome = library.step(change);
-    match libraries.insert(session, library) {
-        Ok(_) => outcome,
-        Err(_) => Err(placeless(Fault::MEMORY)),
     }
 }

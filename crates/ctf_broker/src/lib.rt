@@ -1,0 +1,7 @@
+//! The libraries of all sessions, and how a dictionary that one of them published comes to others.
+#![tactic(auto)]
+
+mod broker;
+mod libraries;
+
+pub use broker::Broker;

@@ -1,0 +1,91 @@
+//! Sessions and their libraries.
+ghost use Rattle.std.specs.Prelude.{◌≡◌, ◌≢◌, ℕ, [], IfOk, OnErr, true, false};
+ghost use Rattle.std.specs.Option.{option_map};
+ghost use Rattle.ctf_answers.specs.Replies.{said, said_to};
+ghost use Rattle.ctf_model.specs.Runs.{Answered, IsGranted, Steps, found_in};
+ghost use Rattle.ctf_model.specs.Steps.{is_quiet_change, publishes_lists};
+ghost use Rattle.ctf_model.specs.declared.requests.Request.TheVariants.{Changes};
+ghost use Rattle.ctf_broker.specs.Table.{kept_for, library_at};
+
+use ctf_answers::Counts;
+use ctf_library::{Library, Loaded};
+use ctf_model::{Change, Fault, PublicationName, placeless};
+use std::alloc::{AllocError, Global};
+use std::collections::BTreeMap;
+use std::rc::Rc;
+
+/// What a change finds: a take, what its owner has published under the name.
+pub fn found_by(
+    libraries: &BTreeMap<u32, Library>,
+    change: &Change,
+) -> Result<Option<Rc<Loaded>>, AllocError>
+    ensures ok { IfOk result (λ found. option_map (λ l. l.value) found
+        ≡ found_in (library_at libraries.now.entries) (Changes change.now)) }
+    ensures err { OnErr result (is_quiet_change change.now ≡ false) }
+{
+    let Change::Take { owner, name } = change else {
+        return Ok(None);
+    };
+    let Some(library) = libraries.get(owner) else {
+        return Ok(None);
+    };
+    match library.published(name.as_slice()) {
+        Some(loaded) => Ok(Some(loaded.clone()?)),
+        None => Ok(None),
+    }
+}
+
+/// Makes the step of a change in the session's own library, which is made where there is none yet.
+pub fn step_in(
+    alloc: Global,
+    libraries: &mut BTreeMap<u32, Library>,
+    session: u32,
+    change: &Change,
+    found: Option<Rc<Loaded>>,
+) -> Result<Counts, Fault>
+    requires found { option_map (λ l. l.value) found
+        ≡ found_in (library_at libraries.old.entries) (Changes change.now) }
+    ensures step { Steps (library_at libraries.old.entries) session (Changes change.now)
+        (said_to session result) (library_at libraries.new.entries) }
+    ensures others { (other : ℕ) → other ≢ session
+        → kept_for libraries.new.entries other ≡ kept_for libraries.old.entries other }
+    ensures quiet { is_quiet_change change.now ≡ true
+        → (library_at libraries.old.entries session).slots ≢ []
+        → IsGranted (library_at libraries.old.entries) session (Changes change.now)
+        (said_to session result) (library_at libraries.new.entries) }
+{
+    if let Some(library) = libraries.get_mut(&session) {
+        return library.step(change, found);
+    }
+    let mut library = Library::new(alloc);
+    let outcome = library.step(change, found);
+    match libraries.insert(session, library) {
+        Ok(_) => outcome,
+        Err(_) => Err(placeless(Fault::MEMORY)),
+    }
+}
+
+/// Publishes a dictionary in the library of a session, which is made where there is none yet.
+pub fn publish_in(
+    alloc: Global,
+    libraries: &mut BTreeMap<u32, Library>,
+    session: u32,
+    name: &PublicationName,
+    loaded: Rc<Loaded>,
+) -> Result<Counts, Fault>
+    ensures own { Answered (library_at libraries.old.entries session)
+        (publishes_lists name.now loaded.value (library_at libraries.old.entries session))
+        (said result) (library_at libraries.new.entries session) }
+    ensures others { (other : ℕ) → other ≢ session
+        → kept_for libraries.new.entries other ≡ kept_for libraries.old.entries other }
+{
+    if let Some(library) = libraries.get_mut(&session) {
+        return library.publish_loaded(name, loaded);
+    }
+    let mut library = Library::new(alloc);
+    let outcome = library.publish_loaded(name, loaded);
+    match libraries.insert(session, library) {
+        Ok(_) => outcome,
+        Err(_) => Err(placeless(Fault::MEMORY)),
+    }
+}

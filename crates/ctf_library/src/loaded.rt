@@ -1,0 +1,132 @@
+//! A dictionary with all that is kept of it by itself.
+ghost use Rattle.std.specs.Prelude.{◌≡◌, ◌⊎◌, None, Some, IfOk, IfErr, OnOk};
+ghost use Rattle.ctf_check.specs.CheckedView.{lists_of};
+ghost use Rattle.ctf_library.specs.Fitting.{AreTablesOf};
+ghost use Rattle.ctf_model.specs.Faults.{first_fault};
+ghost use Rattle.ctf_model.specs.OwnedLists.{lists_owned};
+ghost use Rattle.ctf_model.specs.Refusals.{want_of_memory};
+ghost use Rattle.ctf_model.specs.declared.data_model.DataModel.TheVariants.{Lp64};
+ghost use Rattle.ctf_symbols.specs.Fitting.{Fits};
+
+use crate::tables::Tables;
+use ctf_check::Checked;
+use ctf_model::{DataModel, Fault, Parts, placeless};
+use ctf_space::Opened;
+use ctf_symbols::SymbolMap;
+use std::alloc::{AllocError, Global};
+use std::marker::Model;
+use std::rc::Rc;
+
+/// A dictionary that was opened, the map of its symbols, and the tables that it has without a
+/// parent.
+///
+/// None of it ever changes, so slots of any sessions, publications and the slots that imported it
+/// share it. A contract sees its lists alone.
+#[derive(Drop)]
+pub struct Loaded {
+    dictionary: Opened,
+    symbols: SymbolMap,
+    tables: Tables,
+}
+
+impl Model for Loaded {
+    ghost use Rattle.std.specs.Prelude.{◌≡◌, None};
+    ghost use Rattle.ctf_library.specs.Fitting.{AreTablesOf};
+    ghost use Rattle.ctf_model.specs.Lists.{Lists};
+    ghost use Rattle.ctf_model.specs.declared.data_model.DataModel.TheVariants.{Lp64};
+    ghost use Rattle.ctf_symbols.specs.Fitting.{Fits};
+
+    ghost Value = { Lists };
+
+    ghost view = { λ l. l.dictionary.lists };
+
+    ghost invariant = { λ l. (l.dictionary.model ≡ Lp64)
+        × Fits l.dictionary.lists l.symbols
+        × AreTablesOf l.dictionary.lists None l.tables };
+}
+
+/// What is kept beside a dictionary: the map of its symbols, and its tables.
+fn kept(alloc: Global, dictionary: &Opened) -> Result<(SymbolMap, Tables), AllocError>
+    requires { dictionary.now.model ≡ Lp64 }
+    ensures mapped { IfOk result (λ k. Fits dictionary.now.lists k.0) }
+    ensures made { IfOk result (λ k. AreTablesOf dictionary.now.lists None k.1) }
+{
+    let symbols = SymbolMap::build(alloc, &dictionary.view())?;
+    let tables = Tables::build(alloc, dictionary)?;
+    Ok((symbols, tables))
+}
+
+impl Loaded {
+    /// A dictionary that was opened, or the same again where memory was refused.
+    pub fn of(alloc: Global, dictionary: Opened) -> Result<Loaded, Opened>
+        requires { dictionary.model ≡ Lp64 }
+        ensures ok { IfOk result (λ l. l ≡ dictionary.lists) }
+        ensures back { IfErr result (λ d. d ≡ dictionary) }
+    {
+        match kept(alloc, &dictionary) {
+            Ok((symbols, tables)) => Ok(Loaded {
+                dictionary,
+                symbols,
+                tables,
+            }),
+            Err(_) => Err(dictionary),
+        }
+    }
+
+    /// A dictionary of lists, to be shared, or its first fault with the lists.
+    pub fn shared(alloc: Global, parts: Parts) -> Result<Rc<Loaded>, (Fault, Parts)>
+        ensures ok { IfOk result (λ l. l.value ≡ lists_owned parts) }
+        ensures exact_ok { OnOk result (first_fault (lists_owned parts) ≡ None) }
+        ensures exact_err { IfErr result (λ e. (e.0 ≡ want_of_memory)
+            ⊎ (first_fault (lists_owned parts) ≡ Some e.0)) }
+        ensures back { IfErr result (λ e. lists_owned e.1 ≡ lists_owned parts) }
+    {
+        let dictionary = match Opened::build(alloc, parts, DataModel::Lp64) {
+            Ok(dictionary) => dictionary,
+            Err(refused) => return Err(refused),
+        };
+        match Loaded::of(alloc, dictionary) {
+            Ok(loaded) => match Rc::new(alloc, loaded) {
+                Ok(shared) => Ok(shared),
+                Err(failed) => Err((placeless(Fault::MEMORY), failed.value.into_parts())),
+            },
+            Err(dictionary) => Err((placeless(Fault::MEMORY), dictionary.into_parts())),
+        }
+    }
+
+    /// Its lists, handed back.
+    fn into_parts(self) -> Parts
+        ensures { lists_owned result ≡ self }
+    {
+        let Loaded { dictionary, .. } = self;
+        dictionary.into_parts()
+    }
+
+    /// The dictionary, lent.
+    pub fn view(&self) -> Checked<'_>
+        ensures { lists_of result ≡ self.now }
+    {
+        self.dictionary.view()
+    }
+
+    /// The data model of its program.
+    pub(crate) fn model(&self) -> DataModel
+        ensures { result ≡ Lp64 }
+    {
+        self.dictionary.model()
+    }
+
+    /// The map of its symbols.
+    pub(crate) fn symbols(&self) -> &SymbolMap
+        ensures { Fits self.now result.now }
+    {
+        &self.symbols
+    }
+
+    /// Its tables without a parent.
+    pub(crate) fn tables(&self) -> &Tables
+        ensures { AreTablesOf self.now None result.now }
+    {
+        &self.tables
+    }
+}

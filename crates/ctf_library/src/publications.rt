@@ -1,0 +1,28 @@
+//! Dictionaries under the names that they were published by.
+ghost use Rattle.std.specs.Prelude.{◌≡◌, map, option_map};
+ghost use Rattle.ctf_library.specs.SlotView.{publication_of};
+ghost use Rattle.ctf_model.specs.Publications.{published_as};
+
+use crate::loaded::Loaded;
+use ctf_model::PublicationName;
+use std::rc::Rc;
+
+/// A dictionary under the name that it was published by.
+#[derive(Drop)]
+pub struct Publication {
+    pub(crate) name: PublicationName,
+    pub(crate) loaded: Rc<Loaded>,
+}
+
+/// What is published under a name.
+pub fn find_published<'a>(published: &'a [Publication], name: &[u8]) -> Option<&'a Rc<Loaded>>
+    ensures { option_map (λ rc. rc.now.value) result
+        ≡ published_as name.now (map publication_of published.now) }
+{
+    for publication in published {
+        if publication.name.as_slice() == name {
+            return Some(&publication.loaded);
+        }
+    }
+    None
+}
