@@ -36,3 +36,13 @@ pub mod UnderParents
 pub mod NextPlace
 pub mod ValueChains
 pub mod BoundedParents
+pub mod WrittenHeads
+pub mod WrittenItems
+pub mod FoundAgain
+pub mod KeptNames
+pub mod RecordedTypes
+pub mod NamedSites
+pub mod WrittenPieces
+pub mod WrittenParts
+pub mod WrittenBytes
+pub mod WrittenDrafts

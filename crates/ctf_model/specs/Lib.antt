@@ -70,3 +70,8 @@ pub mod ValueRows
 pub mod ValueLaws
 pub mod Dump
 pub mod DumpRows
+pub mod WrittenNames
+pub mod WrittenRecords
+pub mod Written
+pub mod WritingLaws
+pub mod WritingRows

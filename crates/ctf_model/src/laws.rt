@@ -31,6 +31,14 @@ ghost use Rattle.ctf_model.specs.Laws.{
 };
 ghost use Rattle.ctf_model.specs.TextLaws.{LinesHaveTheText, TextsAreReadBack};
 ghost use Rattle.ctf_model.specs.ValueLaws.{FaultlessParentsAreBounded, ValuesAreTheirRules};
+ghost use Rattle.ctf_model.specs.WritingLaws.{
+  BytesAreJudgedAlike,
+  NamesAreFoundAgain,
+  RecordsSpell,
+  WrittenDenotes,
+  WrittenIsChild,
+  WrittenIsImported,
+};
 
 /// No whole record is the beginning of another.
 pub fn no_record_begins_another()
@@ -119,4 +127,21 @@ pub fn members_stand_next()
 pub fn values_are_their_rules()
     ensures parents { FaultlessParentsAreBounded }
     ensures rules { ValuesAreTheirRules }
+{}
+
+/// A name stands where its reference says, and a type is spelled by its record: in the short form
+/// and in the long one, whatever its kind.
+pub fn written_records_spell()
+    ensures names { NamesAreFoundAgain }
+    ensures records { RecordsSpell }
+{}
+
+/// The written bytes of a sound draft denote what it holds and nothing else, are those of a child
+/// just where it has a parent, and can then be imported over that parent. They have the very fault
+/// for which they would not be written.
+pub fn written_bytes_denote()
+    ensures denoted { WrittenDenotes }
+    ensures child { WrittenIsChild }
+    ensures imported { WrittenIsImported }
+    ensures alike { BytesAreJudgedAlike }
 {}

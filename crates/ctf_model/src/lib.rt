@@ -27,7 +27,7 @@ pub use laws::{
     drafts_are_sound, faultless_exactly_where_denoted, first_fault_is_the_least, keys_rise,
     members_stand_next, no_record_begins_another, own_figures_are_their_rules,
     parents_figures_are_their_own, records_are_a_cut, section_spells_one_list,
-    sound_drafts_stay_under_their_parents,
+    sound_drafts_stay_under_their_parents, written_bytes_denote, written_records_spell,
 };
 pub use layers::{Layer, Qualifier};
 pub use lists::{Parts, no_parts};
@@ -37,11 +37,12 @@ pub use publications::{LONGEST_NAME, PublicationName};
 pub use questions::{Question, SlotQuestion, TypeQuestion, Window};
 pub use requests::{Change, ListName, Request};
 pub use rows::{
-    bytes_denote, bytes_have_faults, drafts_live, enumerators_and_labels_are_added, figures_are,
-    figures_over_parents, kinds_denote, kinds_have_faults, lines_ask, lines_say, lists_are_long,
-    members_are_added, members_are_placed, names_are_found, names_are_spelled, names_over_parents,
-    numbers_name, output_is, parents_are_imported, paths_lead, questions_are_answered,
-    questions_are_lines, session_runs, slots_are_closed, symbols_have_faults, symbols_tell,
+    bytes_denote, bytes_have_faults, dictionaries_are_written, drafts_live,
+    enumerators_and_labels_are_added, figures_are, figures_over_parents, kinds_denote,
+    kinds_have_faults, lines_ask, lines_say, lists_are_long, members_are_added, members_are_placed,
+    names_are_found, names_are_spelled, names_are_written, names_over_parents, numbers_name,
+    output_is, parents_are_imported, paths_lead, questions_are_answered, questions_are_lines,
+    records_are_written, session_runs, slots_are_closed, symbols_have_faults, symbols_tell,
     types_are_added,
 };
 pub use sections::Section;

@@ -16,6 +16,7 @@ ghost use Rattle.ctf_model.specs.ParentRows.{ParentsAreImported, SlotsAreClosed}
 ghost use Rattle.ctf_model.specs.QuestionRows.{PathsAreLines, QuestionsAreAnswered, QuestionsAreLines, TextsSpell};
 ghost use Rattle.ctf_model.specs.SymbolRows.{SymbolsHaveFaults, SymbolsTell};
 ghost use Rattle.ctf_model.specs.ValueRows.{ValuesShow, ValuesOverParents};
+ghost use Rattle.ctf_model.specs.WritingRows.{DictionariesAreWritten, NamesAreWritten, RecordsAreWritten};
 ghost use Rattle.ctf_model.specs.Rows.{BytesDenote, BytesHaveFaults, LinesAsk, LinesSay, ListsAreLong, NumbersName, OutputIs, SessionRuns};
 
 /// What bytes of a few types denote.
@@ -176,4 +177,19 @@ pub fn values_over_parents()
 /// The text of dictionaries as they are dumped.
 pub fn dumps_are()
     ensures { DumpsAre }
+{}
+
+/// The bytes of small dictionaries, and why some are not written.
+pub fn dictionaries_are_written()
+    ensures { DictionariesAreWritten }
+{}
+
+/// Which strings are written, and where names stand in them.
+pub fn names_are_written()
+    ensures { NamesAreWritten }
+{}
+
+/// The record of each kind of type, in each form.
+pub fn records_are_written()
+    ensures { RecordsAreWritten }
 {}

@@ -1,0 +1,41 @@
+-- What the written bytes of a sound draft denote.
+use Rattle.std.proofs.Common.{◌≡◌, ℕ, ◌≤◌, List, length, Some, None, Ok, refl, sym, subst}
+use Rattle.std.specs.Prelude.{is_some}
+use Rattle.ctf_model.proofs.Denoted.{one_dictionary}
+use Rattle.ctf_model.proofs.UnderParents.{misses_none, names_short, stays_under}
+use Rattle.ctf_model.proofs.WrittenBytes.{IsWritable, alike, whole}
+use Rattle.ctf_model.specs.Dictionary.{Dictionary, Denotes}
+use Rattle.ctf_model.specs.DraftLaws.{IsSound}
+use Rattle.ctf_model.specs.Drafts.{Draft, held}
+use Rattle.ctf_model.specs.Faults.{first_fault}
+use Rattle.ctf_model.specs.Header.{fields, is_child}
+use Rattle.ctf_model.specs.Space.{import_fault}
+use Rattle.ctf_model.specs.Written.{bytes_of, lists_of, most_written, unwritten, written}
+
+writable : (d : Draft) → IsSound d → IsWritable (held d)
+writable d ok = record {
+  child = ok.all.child;
+  parname = ok.all.parname;
+  parlabel = ok.all.parlabel;
+  labels = ok.all.labels;
+  count = ok.all.count;
+  terms = ok.all.terms;
+  missing = misses_none d ok;
+  short = names_short d ok;
+  symbols = refl;
+  entries = refl;
+}
+
+pub draft_denoted : (d : Draft) (bytes : List ℕ) → IsSound d → written (held d) ≡ Ok bytes → Denotes (lists_of bytes) (held d)
+draft_denoted d bytes ok e = whole (held d) bytes (writable d ok) e
+
+pub draft_child : (d : Draft) (bytes : List ℕ) → IsSound d → written (held d) ≡ Ok bytes → is_child (fields bytes) ≡ is_some d.parent
+draft_child d bytes ok e = sym (draft_denoted d bytes ok e).child
+
+pub draft_imported : (d : Draft) (parent : Dictionary) (bytes : List ℕ) (child : Dictionary) → IsSound d → d.parent ≡ Some parent → written (held d) ≡ Ok bytes → Denotes (lists_of bytes) child → import_fault (record { child = child; parent = parent }) ≡ None
+draft_imported d parent bytes child ok p e denotes =
+    let same : held d ≡ child = one_dictionary (lists_of bytes) (held d) child (draft_denoted d bytes ok e) denotes in
+    subst (λ (c : Dictionary). import_fault (record { child = c; parent = parent }) ≡ None) same (stays_under d parent ok p)
+
+pub draft_alike : (d : Draft) → IsSound d → length (bytes_of (held d)) ≤ most_written → first_fault (lists_of (bytes_of (held d))) ≡ unwritten (held d)
+draft_alike d ok small = alike (held d) (writable d ok) small

@@ -1,0 +1,14 @@
+use Rattle.std.proofs.Common.{refl}
+use Rattle.ctf_model.specs.Adders.{add_type, add_member}
+use Rattle.ctf_model.specs.Chains.{edges, within}
+use Rattle.ctf_model.specs.DraftChanges.{after}
+use Rattle.ctf_model.specs.Faults.{first_deep}
+use Rattle.ctf_model.specs.Figures.{comes_to, most_numbers}
+use Rattle.ctf_model.specs.Written.{bytes_of, labels_written, records_written, unwritten, written}
+use Rattle.ctf_model.specs.WrittenNames.{distinct, reference, strings_of, used_names}
+use Rattle.ctf_model.specs.WrittenRecords.{record_bytes}
+use Rattle.ctf_model.proofs.rows.dictionaries_are_written.Goals as goal
+
+pub returns : goal.returns
+unfolding add_type add_member edges within after first_deep comes_to most_numbers bytes_of labels_written records_written unwritten written distinct reference strings_of used_names record_bytes
+returns c = record { empty = refl; one_int = refl; pending_too = refl; structs = refl; over_parent = refl; labelled = refl; in_itself = refl; values_first = refl; pointers_in_circles = refl }

@@ -1,0 +1,7 @@
+use Rattle.std.proofs.Common.{refl}
+use Rattle.ctf_model.specs.WrittenNames.{distinct, reference, strings_of, used_names}
+use Rattle.ctf_model.proofs.rows.names_are_written.Goals as goal
+
+pub returns : goal.returns
+unfolding distinct reference strings_of used_names
+returns c = record { once = refl; empty = refl; first = refl; last = refl }

@@ -1,0 +1,9 @@
+pub mod Offsets
+pub mod Distinct
+pub mod Joining
+pub mod Lengths
+pub mod Growing
+pub mod HeldNames
+pub mod Header
+pub mod HeldParts
+pub mod Leading

@@ -1,0 +1,6 @@
+pub mod Offsets
+pub mod Uses
+pub mod Once
+pub mod Tables
+pub mod HeldView
+pub mod Leading

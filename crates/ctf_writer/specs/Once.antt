@@ -1,0 +1,9 @@
+-- Names that are added one after the other.
+use Rattle.std.specs.Prelude.{◌≡◌, ℕ, List, [], fold}
+use Rattle.ctf_model.specs.Dictionary.{Dictionary}
+use Rattle.ctf_model.specs.WrittenNames.{strings_of, used_names}
+use Rattle.ctf_writer.specs.Offsets.{with_name}
+
+-- adding each name at its use gives the strings of a dictionary
+abbrev pub AddingGivesStrings : Type 0
+AddingGivesStrings = (d : Dictionary) → fold with_name [] (used_names d) ≡ strings_of d

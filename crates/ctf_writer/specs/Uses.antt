@@ -1,0 +1,16 @@
+-- How names are added at their uses. Source: ours.
+use Rattle.std.specs.Prelude.{◌≡◌, ◌<◌, ℕ, List, length, fold, ◌⊎◌}
+use Rattle.ctf_model.specs.Refusals.{placeless, want_of_memory}
+use Rattle.ctf_model.specs.Written.{most_written}
+use Rattle.ctf_model.specs.WrittenNames.{string_bytes}
+use Rattle.ctf_model.specs.declared.faults.Fault.{Fault}
+use Rattle.ctf_model.specs.declared.faults.TheConstants.Fault.{DICT_TOO_BIG}
+use Rattle.ctf_writer.specs.Offsets.{with_name}
+
+-- the names, and those of more uses
+abbrev pub with_names : List (List ℕ) → List (List ℕ) → List (List ℕ)
+with_names names uses = fold with_name names uses
+
+-- memory was refused, or the strings of these names alone are longer than a dictionary may be
+abbrev pub IsRefused : List (List ℕ) → Fault → Type 0
+IsRefused names f = (f ≡ want_of_memory) ⊎ ((f ≡ placeless DICT_TOO_BIG) × (most_written < length (string_bytes names)))

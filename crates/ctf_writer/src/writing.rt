@@ -1,0 +1,167 @@
+//! What a draft holds as bytes.
+ghost use Rattle.std.specs.Prelude.{◌≡◌, ◌+◌, ◌<◌, ◌≤◌, ◌^◌, ◌⊎◌, ◌++◌, length, IfErr, IfOk, MatchOption, Err, Ok, vec_len, vec_capacity};
+ghost use Rattle.std.specs.List.{All, AllByRecursion, flat_map};
+ghost use Rattle.ctf_draft.specs.TypeView.{type_of};
+ghost use Rattle.ctf_model.specs.DraftLaws.{IsSound};
+ghost use Rattle.ctf_model.specs.Drafts.{held as held_by};
+ghost use Rattle.ctf_model.specs.Fitting.{Fits};
+ghost use Rattle.ctf_model.specs.Refusals.{want_of_memory};
+ghost use Rattle.ctf_model.specs.WritingLaws.{IsKept};
+ghost use Rattle.ctf_model.specs.Written.{bytes_of, fields_over, header_bytes, labels_written, most_written, records_written, written};
+ghost use Rattle.ctf_model.specs.WrittenNames.{strings_of as strings_in};
+ghost use Rattle.ctf_writer.specs.HeldView.{dictionary_of, uses, written_type};
+ghost use Rattle.ctf_writer.specs.Tables.{names};
+
+use crate::chains::judge_chains;
+use crate::labels::put_labels;
+use crate::lent::Held;
+use crate::numbers::{put, put_u32};
+use crate::records::put_record;
+use crate::sizes::records_len;
+use crate::strings::{LONGEST, Strings};
+use crate::uses::strings_of;
+use ctf_draft::{Draft, DraftType};
+use ctf_model::{Fault, placeless};
+use std::alloc::Global;
+
+/// The length of the header.
+const HEADER: usize = 36;
+
+/// What the header says: the references of the parent's label and name, and the lengths of labels,
+/// records and strings.
+#[derive(Clone, Copy)]
+struct Heading {
+    parlabel: u32,
+    parname: u32,
+    labels: u32,
+    records: u32,
+    strings: u32,
+}
+
+/// Appends a header.
+fn put_header(out: &mut Vec<u8>, heading: Heading)
+    requires room { vec_len out.old + 36 ≤ vec_capacity out.old }
+    requires fits { heading.labels + heading.records < 2 ^ 32 }
+    ensures items { out.new.items ≡ out.old.items ++ header_bytes (fields_over heading.parlabel
+        heading.parname heading.labels heading.records heading.strings) }
+    ensures len { vec_len out.new ≡ vec_len out.old + 36 }
+    ensures capacity { vec_capacity out.new ≡ vec_capacity out.old }
+{
+    put(out, &[0xf1, 0xcf, 2, 0]);
+    put_u32(out, heading.parlabel);
+    put_u32(out, heading.parname);
+    put_u32(out, 0);
+    put_u32(out, heading.labels);
+    put_u32(out, heading.labels);
+    put_u32(out, heading.labels);
+    put_u32(out, heading.labels + heading.records);
+    put_u32(out, heading.strings);
+}
+
+/// Appends the records of types.
+fn put_records(out: &mut Vec<u8>, strings: &Strings<'_>, types: &[DraftType])
+    requires room { vec_len out.old
+        + length (flat_map (written_type (names strings.now)) types.now) ≤ vec_capacity out.old }
+    requires fits { All (λ t. Fits (type_of t)) types.now }
+    requires kept { All (λ t. AllByRecursion (IsKept (names strings.now)) (uses t)) types.now }
+    ensures items { out.new.items
+        ≡ out.old.items ++ flat_map (written_type (names strings.now)) types.now }
+    ensures len { vec_len out.new ≡ vec_len out.old
+        + length (flat_map (written_type (names strings.now)) types.now) }
+    ensures capacity { vec_capacity out.new ≡ vec_capacity out.old }
+{
+    for t in types {
+        put_record(out, strings, t);
+    }
+}
+
+/// How long the parts are, and the whole.
+#[derive(Clone, Copy)]
+struct Lengths {
+    labels: usize,
+    records: usize,
+    whole: usize,
+}
+
+/// The lengths of what is written, if it isn't more than a dictionary's may be.
+fn lengths_of(held: Held<'_>, strings: &Strings<'_>) -> Option<Lengths>
+    requires fits { AllByRecursion Fits (dictionary_of held).terms }
+    requires strings { names strings.now ≡ strings_in (dictionary_of held) }
+    ensures { MatchOption result (most_written < length (bytes_of (dictionary_of held)))
+        (λ l. (l.labels ≡ length (labels_written (dictionary_of held)))
+        × (l.records ≡ length (records_written (dictionary_of held)))
+        × (l.whole ≡ length (bytes_of (dictionary_of held))) × (l.whole ≤ most_written)) }
+{
+    if held.labels.len() > LONGEST / 8 {
+        return None;
+    }
+    let labels = 8 * held.labels.len();
+    let Some(records) = records_len(held.types) else {
+        return None;
+    };
+    let whole = HEADER + labels + records + strings.len();
+    if whole > LONGEST {
+        return None;
+    }
+    Some(Lengths {
+        labels,
+        records,
+        whole,
+    })
+}
+
+/// Appends what is held, whose parts have these lengths.
+fn put_held(out: &mut Vec<u8>, held: Held<'_>, strings: &Strings<'_>, lengths: Lengths)
+    requires fits { AllByRecursion Fits (dictionary_of held).terms }
+    requires strings { names strings.now ≡ strings_in (dictionary_of held) }
+    requires labels { lengths.labels ≡ length (labels_written (dictionary_of held)) }
+    requires records { lengths.records ≡ length (records_written (dictionary_of held)) }
+    requires short { length (bytes_of (dictionary_of held)) ≤ most_written }
+    requires room { vec_len out.old + length (bytes_of (dictionary_of held))
+        ≤ vec_capacity out.old }
+    ensures items { out.new.items ≡ out.old.items ++ bytes_of (dictionary_of held) }
+{
+    let heading = Heading {
+        parlabel: strings.reference(held.parlabel),
+        parname: strings.reference(held.parname),
+        labels: lengths.labels as u32,
+        records: lengths.records as u32,
+        strings: strings.len() as u32,
+    };
+    put_header(out, heading);
+    put_labels(out, strings, held.labels);
+    put_records(out, strings, held.types);
+    strings.put(out);
+}
+
+/// What is held as bytes, or why it isn't written.
+fn write_held(alloc: Global, held: Held<'_>) -> Result<Vec<u8>, Fault>
+    requires { AllByRecursion Fits (dictionary_of held).terms }
+    ensures ok { IfOk result (λ bytes. written (dictionary_of held) ≡ Ok bytes.items) }
+    ensures exact_err { IfErr result (λ f. (f ≡ want_of_memory)
+        ⊎ (written (dictionary_of held) ≡ Err f)) }
+{
+    judge_chains(alloc, held)?;
+    let strings = strings_of(alloc, held)?;
+    let Some(lengths) = lengths_of(held, &strings) else {
+        return Err(placeless(Fault::DICT_TOO_BIG));
+    };
+    let Ok(mut out) = Vec::with_capacity(alloc, lengths.whole) else {
+        return Err(placeless(Fault::MEMORY));
+    };
+    put_held(&mut out, held, &strings, lengths);
+    Ok(out)
+}
+
+/// All that a draft holds, updated and pending, as the bytes of a dictionary; or why it isn't
+/// written: a chain of types that is too long, or too many bytes.
+///
+/// Takes time in proportion to the bytes, and reserves them at once, in their exact number.
+pub fn write(alloc: Global, draft: &Draft) -> Result<Vec<u8>, Fault>
+    requires sound { IsSound draft.now.draft }
+    ensures ok { IfOk result (λ bytes. written (held_by draft.now.draft) ≡ Ok bytes.items) }
+    ensures exact_err { IfErr result (λ f. (f ≡ want_of_memory)
+        ⊎ (written (held_by draft.now.draft) ≡ Err f)) }
+{
+    write_held(alloc, Held::of(draft))
+}
