@@ -57,3 +57,9 @@ module _ {X : Type 0} (uses : X → List (List ℕ)) (names now : List (List ℕ
   refused_among f h =
       let all : with_names names (flat_map uses xs) ≡ with_names (with_names now (uses x)) (flat_map uses (drop (i + 1) xs)) = ap (with_names names) cut_at ∙ fold-append with_name names (flat_map uses (take i xs)) (uses x ++ flat_map uses (drop (i + 1) xs)) ∙ ap (λ (ns : List (List ℕ)). with_names ns (uses x ++ flat_map uses (drop (i + 1) xs))) (sym e) ∙ fold-append with_name now (uses x) (flat_map uses (drop (i + 1) xs)) in
       subst (λ (ns : List (List ℕ)). IsRefused ns f) (sym all) (refused_more (with_names now (uses x)) (flat_map uses (drop (i + 1) xs)) f h)
+
+-- one more name
+pub name_more_at : {X : Type 0} (name : X → List ℕ) (names now new : List (List ℕ)) (xs : List X) (i : ℕ) (x : X) → i < length xs → x ≡ get_or xs i x → now ≡ with_names names (map name (take i xs)) → new ≡ with_name now (name x) → new ≡ with_names names (map name (take (i + 1) xs))
+name_more_at {X} name names now new xs i x lt is e more =
+    let taken : map name (take (i + 1) xs) ≡ map name (take i xs) ++ name x ∷ [] = ap (map name) (take_more xs i x lt) ∙ map-append name (take i xs) (get_or xs i x ∷ []) ∙ ap (λ (y : X). map name (take i xs) ++ name y ∷ []) (sym is) in
+    more ∙ ap (λ (ns : List (List ℕ)). with_name ns (name x)) e ∙ sym (fold-append with_name names (map name (take i xs)) (name x ∷ [])) ∙ ap (with_names names) (sym taken)

@@ -13,6 +13,9 @@ use Rattle.ctf_chains.specs.Deep.{IsLeastDeep}
 use Rattle.ctf_chains.specs.Places.{led_to, steps_between}
 use Rattle.ctf_chains.specs.Steps.{steps}
 use Rattle.ctf_chains.specs.declared.chain.Chain.{Chain}
+use Rattle.ctf_chains.specs.declared.chain.Chain.TheVariants.{ByValue}
+use Rattle.ctf_draft.specs.declared.types.AggregateKind.{AggregateKind}
+use Rattle.ctf_draft.specs.declared.types.AggregateKind.TheVariants.{Struct, Union}
 use Rattle.ctf_writer.specs.Leading.{type_places, draft_places}
 use Rattle.ctf_draft.specs.TypeView.{aggregate_body, body_of, member_of, reference_body, type_of}
 use Rattle.ctf_writer.specs.HeldView.{dictionary_of}
@@ -81,3 +84,8 @@ member_step ms k d lt =
 -- the same of what a draft lends
 pub found_held : (chain : Chain) (h : Held) (found : Option ℕ) → IsLeastDeep (steps_between (draft_places chain h.child h.types.now)) longest_chain found → option_map (λ i. i + 1) found ≡ deep_by (steps chain) (dictionary_of h)
 found_held chain h found least = found_place chain h.child h.types.now found least
+
+-- the type of a member of a struct or union, by its number
+pub aggregate_step : (kind : AggregateKind) (size : ℕ) (ms : List Member) (k : ℕ) (d : Member) → k < length (steps ByValue (aggregate_body kind size (map member_of ms))) → (get_or ms k d).tnum.0 ≡ get_or (steps ByValue (aggregate_body kind size (map member_of ms))) k 0
+aggregate_step Struct size ms k d lt = member_step ms k d lt
+aggregate_step Union size ms k d lt = member_step ms k d lt

@@ -1,6 +1,6 @@
 //! The types of a draft as records that lead to each other, and the chains of these that are too
 //! long.
-ghost use Rattle.std.specs.Prelude.{◌≡◌, ◌<◌, ◌⊎◌, length, map, None, Some, IfErr, IfOk, OnOk, Option, slice_index};
+ghost use Rattle.std.specs.Prelude.{◌≡◌, ◌+◌, ◌<◌, ◌⊎◌, length, map, None, Some, IfErr, IfOk, OnOk, Option, slice_index};
 ghost use Rattle.ctf_chains.specs.Steps.{steps};
 ghost use Rattle.ctf_draft.specs.TypeView.{body_of};
 ghost use Rattle.ctf_model.specs.Chains.{by_value, declarator, own_index as own_index_of};
@@ -91,6 +91,14 @@ impl<'a, L: Ledger> Graph<L> for Leading<'a> {
     }
 }
 
+/// The number that a fault has for a type: counted from 1.
+fn counted(types: &[DraftType], i: usize) -> u64
+    requires { i < length types.now }
+    ensures { result ≡ i + 1 }
+{
+    i as u64 + 1
+}
+
 /// The first type that a chain of one sort of more than 512 steps begins at, counted from 1.
 fn deep_with<L: Ledger>(
     alloc: Global,
@@ -101,7 +109,7 @@ fn deep_with<L: Ledger>(
     requires name { blank.name ≡ L.name }
     requires parts { blank.parts ≡ L.parts }
     requires some { 0 < blank.parts }
-    ensures { IfOk result (λ place. place ≡ deep_by (steps chain) (dictionary_of held)) }
+    ensures { IfOk result (λ place. place ≡ deep_by (steps chain) (dictionary_of held.entry)) }
 {
     let graph = Leading {
         types: held.types,
@@ -110,25 +118,25 @@ fn deep_with<L: Ledger>(
     };
     let mut work = Ticks::<L>::new(blank);
     match first_deep(alloc, &graph, &mut work)? {
-        Some(i) => Ok(Some(i as u64 + 1)),
+        Some(i) => Ok(Some(counted(held.types, i))),
         None => Ok(None),
     }
 }
 
 /// The same in a ledger of its own, which nobody reads.
 fn deep(alloc: Global, held: Held<'_>, chain: Chain) -> Result<Option<u64>, AllocError>
-    ensures { IfOk result (λ place. place ≡ deep_by (steps chain) (dictionary_of held)) }
+    ensures { IfOk result (λ place. place ≡ deep_by (steps chain) (dictionary_of held.entry)) }
 {
     deep_with::<Brand>(alloc, held, chain, Blank::new(1))
 }
 
 /// Judges the chains of a draft's types: by value first, then those of declarators.
 pub(crate) fn judge_chains(alloc: Global, held: Held<'_>) -> Result<(), Fault>
-    ensures ok { OnOk result ((deep_by by_value (dictionary_of held) ≡ None)
-        × (deep_by declarator (dictionary_of held) ≡ None)) }
+    ensures ok { OnOk result ((deep_by by_value (dictionary_of held.entry) ≡ None)
+        × (deep_by declarator (dictionary_of held.entry) ≡ None)) }
     ensures err { IfErr result (λ f. (f ≡ want_of_memory) ⊎ ((later : Option Fault)
-        → or_later 15 (deep_by by_value (dictionary_of held))
-        (or_later 16 (deep_by declarator (dictionary_of held)) later) ≡ Some f)) }
+        → or_later 15 (deep_by by_value (dictionary_of held.entry))
+        (or_later 16 (deep_by declarator (dictionary_of held.entry)) later) ≡ Some f)) }
 {
     let Ok(by_value) = deep(alloc, held, Chain::ByValue) else {
         return Err(placeless(Fault::MEMORY));

@@ -91,8 +91,8 @@ fn add_labels<'a>(strings: &mut Strings<'a>, labels: &'a Labels) -> Result<(), F
 
 /// The names of all that a draft holds.
 pub(crate) fn strings_of<'a>(alloc: Global, held: Held<'a>) -> Result<Strings<'a>, Fault>
-    ensures ok { IfOk result (λ s. names s ≡ strings_in (dictionary_of held)) }
-    ensures refused { IfErr result (IsRefused (strings_in (dictionary_of held))) }
+    ensures ok { IfOk result (λ s. names s ≡ strings_in (dictionary_of held.entry)) }
+    ensures refused { IfErr result (IsRefused (strings_in (dictionary_of held.entry))) }
 {
     let mut strings = Strings::new(alloc);
     strings.add(held.parlabel)?;

@@ -87,10 +87,10 @@ struct Lengths {
 fn lengths_of(held: Held<'_>, strings: &Strings<'_>) -> Option<Lengths>
     requires fits { AllByRecursion Fits (dictionary_of held).terms }
     requires strings { names strings.now ≡ strings_in (dictionary_of held) }
-    ensures { MatchOption result (most_written < length (bytes_of (dictionary_of held)))
-        (λ l. (l.labels ≡ length (labels_written (dictionary_of held)))
-        × (l.records ≡ length (records_written (dictionary_of held)))
-        × (l.whole ≡ length (bytes_of (dictionary_of held))) × (l.whole ≤ most_written)) }
+    ensures { MatchOption result (most_written < length (bytes_of (dictionary_of held.entry)))
+        (λ l. (l.labels ≡ length (labels_written (dictionary_of held.entry)))
+        × (l.records ≡ length (records_written (dictionary_of held.entry)))
+        × (l.whole ≡ length (bytes_of (dictionary_of held.entry))) × (l.whole ≤ most_written)) }
 {
     if held.labels.len() > LONGEST / 8 {
         return None;
@@ -119,7 +119,7 @@ fn put_held(out: &mut Vec<u8>, held: Held<'_>, strings: &Strings<'_>, lengths: L
     requires short { length (bytes_of (dictionary_of held)) ≤ most_written }
     requires room { vec_len out.old + length (bytes_of (dictionary_of held))
         ≤ vec_capacity out.old }
-    ensures items { out.new.items ≡ out.old.items ++ bytes_of (dictionary_of held) }
+    ensures items { out.new.items ≡ out.old.items ++ bytes_of (dictionary_of held.entry) }
 {
     let heading = Heading {
         parlabel: strings.reference(held.parlabel),
@@ -137,9 +137,9 @@ fn put_held(out: &mut Vec<u8>, held: Held<'_>, strings: &Strings<'_>, lengths: L
 /// What is held as bytes, or why it isn't written.
 fn write_held(alloc: Global, held: Held<'_>) -> Result<Vec<u8>, Fault>
     requires { AllByRecursion Fits (dictionary_of held).terms }
-    ensures ok { IfOk result (λ bytes. written (dictionary_of held) ≡ Ok bytes.items) }
+    ensures ok { IfOk result (λ bytes. written (dictionary_of held.entry) ≡ Ok bytes.items) }
     ensures exact_err { IfErr result (λ f. (f ≡ want_of_memory)
-        ⊎ (written (dictionary_of held) ≡ Err f)) }
+        ⊎ (written (dictionary_of held.entry) ≡ Err f)) }
 {
     judge_chains(alloc, held)?;
     let strings = strings_of(alloc, held)?;
