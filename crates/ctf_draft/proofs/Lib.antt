@@ -6,5 +6,6 @@ pub mod ValueTypes
 pub mod Figuring
 pub mod Reaches
 pub mod Planned
+pub mod Sounding
 pub mod MemberAdded
 pub mod Rounds

@@ -1,17 +1,18 @@
 -- A draft in code as the definitions see it: its types and labels in two parts.
 use Rattle.std.proofs.Common.{◌≡◌, ℕ, false, zero, suc, ◌+◌, ◌-◌, ◌≤◌, List, [], ◌∷◌, ◌++◌, length, map, take, drop, set, Option, None, Result, Ok, refl, ap, arith}
-use Rattle.std.proofs.lemmas.List.{take-append-le, drop-append-le, take-append-drop, length-drop, drop-set-add, take-set-le}
+use Rattle.std.proofs.Math.Seq.{drop-length}
+use Rattle.std.proofs.lemmas.List.{take_all, take-append-le, drop-append-le, take-append-drop, length-drop, drop-set-add, take-set-le}
 use Rattle.std.specs.List.{list_any}
 use Rattle.std.specs.Str.{bytes_eq}
 use Rattle.ctf_model.specs.Adders.{Added, add_label, add_type, against_label, against_type, with_label, with_pending, with_type}
 use Rattle.ctf_model.specs.Dictionary.{Dictionary, Label}
-use Rattle.ctf_model.specs.Drafts.{Draft, all_of, discarded, has_zero, held, next_number, pending_count}
+use Rattle.ctf_model.specs.Drafts.{Draft, all_of, discarded, has_zero, held, next_number, pending_count, settled}
 use Rattle.ctf_model.specs.Judgements.{first_met}
 use Rattle.ctf_model.specs.NewTypes.{NewType, new_term}
 use Rattle.ctf_model.specs.Term.{Term}
 use Rattle.ctf_model.specs.declared.data_model.DataModel.{DataModel}
 use Rattle.ctf_model.specs.declared.faults.Fault.{Fault}
-use Rattle.ctf_draft.specs.DraftView.{first_of, others_of}
+use Rattle.ctf_draft.specs.DraftView.{made_of}
 
 taken_again : {X : Type 0} (n : ℕ) (xs : List X) → take n (take n xs) ≡ take n xs
 taken_again zero xs = refl
@@ -27,7 +28,7 @@ none_behind (suc n) (x ∷ xs) = none_behind n xs
 
 module _ (parname parlabel : List ℕ) (parent : Option Dictionary) (model : DataModel) (u v : ℕ) where
   abbrev pub seen : List Term → List Label → Draft
-  seen terms labels = record { parname = parname; parlabel = parlabel; parent = parent; model = model; updated = first_of u v terms labels; pending = others_of u v terms labels }
+  seen terms labels = made_of parname parlabel parent model u v terms labels
 
   pub all_terms : (terms : List Term) (labels : List Label) → (all_of (seen terms labels)).terms ≡ terms
   all_terms terms labels = take-append-drop u terms
@@ -49,6 +50,11 @@ module _ (parname parlabel : List ℕ) (parent : Option Dictionary) (model : Dat
 
   pub one_other : (terms : List Term) (labels : List Label) (place : ℕ) (x : Term) → with_pending (seen terms labels) (set (drop u terms) place x) ≡ seen (set terms (u + place) x) labels
   one_other terms labels place x = rw (take-set-le u terms (u + place) x (omega arith), drop-set-add u terms place x) refl
+
+-- all of it is updated
+pub settled_is : (parname parlabel : List ℕ) (parent : Option Dictionary) (model : DataModel) (u v : ℕ) (terms : List Term) (labels : List Label) → seen parname parlabel parent model (length terms) (length labels) terms labels ≡ settled (seen parname parlabel parent model u v terms labels)
+settled_is parname parlabel parent model u v terms labels =
+    rw (take_all (length terms) terms (omega arith), take_all (length labels) labels (omega arith), drop-length terms, drop-length labels, take-append-drop u terms, take-append-drop v labels) refl
 
 -- ---- what is accepted
 

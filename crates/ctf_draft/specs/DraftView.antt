@@ -1,9 +1,10 @@
 -- What a draft in code stands for.
 use Rattle.std.specs.Prelude.{ℕ, List, take, drop, Option}
-use Rattle.ctf_model.specs.Dictionary.{Label}
+use Rattle.ctf_model.specs.Dictionary.{Dictionary, Label}
 use Rattle.ctf_model.specs.Drafts.{Contents, Draft}
 use Rattle.ctf_model.specs.Space.{Kept}
 use Rattle.ctf_model.specs.Term.{Term}
+use Rattle.ctf_model.specs.declared.data_model.DataModel.{DataModel}
 
 -- a draft, and the dictionary that its last update made
 pub record Owned : Type 0 where
@@ -16,3 +17,14 @@ first_of types labels terms all = record { terms = take types terms; labels = ta
 
 abbrev pub others_of : ℕ → ℕ → List Term → List Label → Contents
 others_of types labels terms all = record { terms = drop types terms; labels = drop labels all }
+
+-- the draft of these parts
+abbrev pub made_of : List ℕ → List ℕ → Option Dictionary → DataModel → ℕ → ℕ → List Term → List Label → Draft
+made_of parname parlabel parent model types labels terms all = record {
+  parname = parname;
+  parlabel = parlabel;
+  parent = parent;
+  model = model;
+  updated = first_of types labels terms all;
+  pending = others_of types labels terms all;
+}

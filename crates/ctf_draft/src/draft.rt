@@ -4,6 +4,7 @@ ghost use Rattle.std.specs.Option.{ForSome};
 ghost use Rattle.ctf_draft.specs.ParentView.{FitsParent, parent_in};
 ghost use Rattle.ctf_draft.specs.TypeView.{type_of};
 ghost use Rattle.ctf_model.specs.Dictionary.{Denotes, said_by};
+ghost use Rattle.ctf_model.specs.DraftLaws.{IsSound};
 ghost use Rattle.ctf_model.specs.Drafts.{all_of, discarded, held, is_childs as is_childs_parent, new_draft, pending_count, settled};
 ghost use Rattle.ctf_model.specs.Refusals.{want_of_memory};
 
@@ -20,7 +21,8 @@ use std::rc::Rc;
 
 /// A dictionary that is being made: types and labels that the last update made part of it, and
 /// pending ones behind these. A contract sees which these are, and the dictionary that the last
-/// update made.
+/// update made. Every draft is sound, with what is pending and without it: its types fit the
+/// format, and name no type that isn't there. `types` says so.
 #[derive(Drop)]
 pub struct Draft {
     pub(crate) alloc: Global,
@@ -38,30 +40,27 @@ pub struct Draft {
 
 impl Model for Draft {
     ghost use Rattle.std.specs.Prelude.{◌≤◌, length, map, option_map, vec_len};
-    ghost use Rattle.ctf_draft.specs.DraftView.{Owned, first_of, others_of};
+    ghost use Rattle.ctf_draft.specs.DraftView.{Owned, made_of};
     ghost use Rattle.ctf_draft.specs.TypeView.{type_of};
     ghost use Rattle.ctf_model.specs.Adders.{most_types};
+    ghost use Rattle.ctf_model.specs.DraftLaws.{IsSound};
     ghost use Rattle.std.specs.Option.{ForSome};
     ghost use Rattle.ctf_draft.specs.ParentView.{FitsParent, parent_in};
 
     ghost Value = { Owned };
 
     ghost view = { λ d. record {
-      draft = record {
-        parname = d.parname;
-        parlabel = d.parlabel;
-        parent = parent_in d.parent;
-        model = d.model;
-        updated = first_of d.updated d.updated_labels (map type_of d.types.items) d.labels;
-        pending = others_of d.updated d.updated_labels (map type_of d.types.items) d.labels;
-      };
+      draft = made_of d.parname d.parlabel (parent_in d.parent) d.model d.updated d.updated_labels
+          (map type_of d.types.items) d.labels;
       dictionary = option_map (λ p. p.value) d.dictionary;
     } };
 
     ghost invariant = { λ d. (d.updated ≤ vec_len d.types)
         × (d.updated_labels ≤ length d.labels)
         × (vec_len d.types ≤ most_types)
-        × ForSome d.parent (FitsParent d.model) };
+        × ForSome d.parent (FitsParent d.model)
+        × IsSound (made_of d.parname d.parlabel (parent_in d.parent) d.model d.updated
+        d.updated_labels (map type_of d.types.items) d.labels) };
 }
 
 impl Draft {
@@ -138,7 +137,8 @@ impl Draft {
 
     /// Its types, updated ones first.
     pub fn types(&self) -> &[DraftType]
-        ensures { map type_of result.now ≡ (all_of self.now.draft).terms }
+        ensures types { map type_of result.now ≡ (all_of self.now.draft).terms }
+        ensures sound { IsSound self.now.draft }
     {
         self.types.as_slice()
     }

@@ -4,6 +4,7 @@ ghost use Rattle.ctf_draft.specs.Pending.{StandsPending};
 ghost use Rattle.ctf_draft.specs.Planning.{against_name};
 ghost use Rattle.ctf_draft.specs.TypeView.{body_of, enumerator_of, member_of};
 ghost use Rattle.ctf_model.specs.Adders.{add_enumerator, add_member, against_enumerator as against_enumerator_in, body_at, replaced, with_enumerator, with_member};
+ghost use Rattle.ctf_model.specs.DraftLaws.{IsSound};
 ghost use Rattle.ctf_model.specs.Drafts.{is_settled};
 ghost use Rattle.ctf_model.specs.Judgements.{first_met};
 ghost use Rattle.ctf_model.specs.Refusals.{want_of_memory};
@@ -100,7 +101,9 @@ impl Draft {
 
     /// Adds a member behind the others of the struct or union at a place, which then has a size.
     fn put_member(&mut self, n: TypeNum, i: usize, member: Member, size: u64) -> Result<(), Fault>
-        requires { StandsPending self.old.draft n.0 i }
+        requires pending { StandsPending self.old.draft n.0 i }
+        requires sound { IsSound self.old.draft → IsSound (replaced self.old.draft n.0
+            (with_member (member_of member) size (body_at self.old.draft n.0))) }
         ensures ok { OnOk result (self.new.draft ≡ replaced self.old.draft n.0
             (with_member (member_of member) size (body_at self.old.draft n.0))) }
         ensures err { IfErr result (λ f. f ≡ want_of_memory) }
@@ -144,7 +147,9 @@ impl Draft {
 
     /// Adds an enumerator behind the others of the enum at a place.
     fn put_enumerator(&mut self, n: TypeNum, i: usize, enumerator: Enumerator) -> Result<(), Fault>
-        requires { StandsPending self.old.draft n.0 i }
+        requires pending { StandsPending self.old.draft n.0 i }
+        requires sound { IsSound self.old.draft → IsSound (replaced self.old.draft n.0
+            (with_enumerator (enumerator_of enumerator) (body_at self.old.draft n.0))) }
         ensures ok { OnOk result (self.new.draft ≡ replaced self.old.draft n.0
             (with_enumerator (enumerator_of enumerator) (body_at self.old.draft n.0))) }
         ensures err { IfErr result (λ f. f ≡ want_of_memory) }

@@ -2,6 +2,7 @@
 ghost use Rattle.std.specs.Prelude.{◌≡◌};
 ghost use Rattle.ctf_draft.specs.NewView.{new_body_of, new_of};
 ghost use Rattle.ctf_draft.specs.TypeView.{body_of, type_of};
+ghost use Rattle.ctf_model.specs.Fitting.{FitsNew};
 ghost use Rattle.ctf_model.specs.NewTypes.{new_body, new_term};
 
 use crate::types::{AggregateKind, Body, DraftType, ReferenceKind, ScalarKind};
@@ -35,7 +36,8 @@ pub struct NewType {
 
 /// What a new type is once it is added: its lists are empty. It takes no memory.
 fn body_from(alloc: Global, new: NewBody) -> Body
-    ensures { body_of result ≡ new_body (new_body_of new) }
+    ensures made { body_of result ≡ new_body (new_body_of new) }
+    ensures fits { FitsNew (new_body_of new) }
 {
     match new {
         NewBody::Unknown => Body::Unknown,
@@ -51,7 +53,8 @@ fn body_from(alloc: Global, new: NewBody) -> Body
 
 /// The type that a new type makes.
 pub(crate) fn made(alloc: Global, new: NewType) -> DraftType
-    ensures { type_of result ≡ new_term (new_of new) }
+    ensures made { type_of result ≡ new_term (new_of new) }
+    ensures fits { FitsNew (new_body_of new.body) }
 {
     let NewType { name, root, body } = new;
     let body = body_from(alloc, body);

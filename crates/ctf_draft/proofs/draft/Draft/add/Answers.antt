@@ -1,15 +1,20 @@
-use Rattle.std.proofs.Common.{◌≡◌, List, ◌++◌, ◌∷◌, [], map, sym, ap, ◌∙◌, arith}
+use Rattle.std.proofs.Common.{◌≡◌, List, ◌++◌, ◌∷◌, [], Ok, length, map, sym, ap, subst, ◌∙◌, arith}
 use Rattle.std.proofs.lemmas.List.{map-append, length-map}
 use Rattle.ctf_draft.specs.ParentView.{parent_in}
+use Rattle.ctf_model.specs.Adders.{Added, add_type}
+use Rattle.ctf_model.specs.DraftLaws.{IsSound}
 use Rattle.ctf_model.specs.NewTypes.{new_term}
+use Rattle.ctf_model.proofs.SoundDrafts.{type_sound}
 use Rattle.ctf_model.specs.Term.{Term}
 use Rattle.ctf_draft.specs.NewView.{new_of}
 use Rattle.ctf_draft.specs.TypeView.{type_of}
-use Rattle.ctf_draft.proofs.Views.{added, one_type, seen, type_accepted}
+use Rattle.ctf_draft.proofs.Views.{added, all_terms, one_type, seen, type_accepted}
 use Rattle.ctf_draft.proofs.draft.Draft.add.Goals as goal
+use Rattle.ctf_draft.proofs.draft.Draft.add.Goals.{In-Ok}
 
-pub returns-clause-ok : goal.returns-clause-ok
-returns-clause-ok c =
+-- the type is accepted
+accepted : (c : In-Ok) → add_type c.args.self.now.draft (new_of c.args.new) ≡ Ok (record { draft = seen c.self.inside.parname c.self.inside.parlabel (parent_in c.self.inside.parent) c.self.inside.model c.self.inside.updated c.self.inside.updated_labels (map type_of c.push.new.self.items) c.self.inside.labels; answer = c.next_number-number.result.0 })
+accepted c =
     let d = c.self.inside in
     let parent = parent_in d.parent in
     let terms = map type_of d.types.items in
@@ -18,7 +23,23 @@ returns-clause-ok c =
     let count = d.types.ok.0 in
     let same = length-map d.types.items type_of in
     let view = ap (λ o. o.draft) c.self.view_is in
-    let all : map type_of c.push.new.self.items ≡ terms ++ x ∷ [] = ap (map type_of) c.in-Ok.ensures.items ∙ map-append type_of d.types.items (c.made.result ∷ []) ∙ ap (λ (y : Term). terms ++ y ∷ []) c.made.ensures in
+    let all : map type_of c.push.new.self.items ≡ terms ++ x ∷ [] = ap (map type_of) c.in-Ok.ensures.items ∙ map-append type_of d.types.items (c.made.result ∷ []) ∙ ap (λ (y : Term). terms ++ y ∷ []) c.made.ensures.made in
     let one = one_type d.parname d.parlabel parent d.model d.updated d.updated_labels terms d.labels x (omega arith) in
     type_accepted c.args.self.now.draft (new_of c.args.new) (sym c.against_type.ensures ∙ c.in_default.is)
     ∙ added c.args.self.now.draft (seen d.parname d.parlabel parent d.model d.updated d.updated_labels terms d.labels) x (seen d.parname d.parlabel parent d.model d.updated d.updated_labels (map type_of c.push.new.self.items) d.labels) c.next_number-number.result.0 (sym view) (one ∙ ap (λ (ts : List Term). seen d.parname d.parlabel parent d.model d.updated d.updated_labels ts d.labels) (sym all)) (sym c.next_number-number.ensures)
+
+pub returns-clause-ok : goal.returns-clause-ok
+returns-clause-ok c = accepted (goal.at.returns-clause-ok c).In-Ok
+
+pub invariant_of-self-2 : goal.invariant_of-self-2
+invariant_of-self-2 c =
+    let d = c.self.inside in
+    let parent = parent_in d.parent in
+    let terms = map type_of c.push.new.self.items in
+    let after : Added = record { draft = seen d.parname d.parlabel parent d.model d.updated d.updated_labels terms d.labels; answer = c.next_number-number.result.0 } in
+    let before = subst IsSound (ap (λ o. o.draft) c.self.view_is) c.self.invariant.4 in
+    let sound = type_sound c.args.self.now.draft (new_of c.args.new) after before c.made.ensures.fits (accepted (goal.at.invariant_of-self-2 c).In-Ok) in
+    let few = sound.all.count in
+    let count = ap length (all_terms d.parname d.parlabel parent d.model d.updated d.updated_labels terms d.labels) in
+    let same = length-map c.push.new.self.items type_of in
+    (omega (arith, c.in-Ok.ensures.len, c.self.invariant.0), c.self.invariant.1, omega (arith, few, count, same, c.push.new.self.ok.0), c.self.invariant.3, sound)

@@ -1,0 +1,34 @@
+-- Drafts in code are sound.
+use Rattle.std.proofs.Common.{◌≡◌, ℕ, false, List, length, Option, None, Result, Ok, Err, is_some, refl, sym, subst}
+use Rattle.std.specs.Prelude.{not, ◌==◌, OnErr, OnOk, FitsSigned}
+use Rattle.std.specs.Int.{w32}
+use Rattle.ctf_model.specs.Adders.{add_enumerator, against_enumerator, body_at, replaced, with_enumerator, with_member}
+use Rattle.ctf_model.specs.Dictionary.{Dictionary}
+use Rattle.ctf_model.specs.DraftLaws.{IsSound}
+use Rattle.ctf_model.specs.Drafts.{Draft, empty_draft, has_zero, is_childs, new_draft}
+use Rattle.ctf_model.specs.Judgements.{first_met}
+use Rattle.ctf_model.specs.Term.{Enumerator}
+use Rattle.ctf_model.specs.declared.data_model.DataModel.{DataModel}
+use Rattle.ctf_model.proofs.SoundDrafts.{enumerator_sound, member_sound, new_sound}
+use Rattle.ctf_draft.specs.Planning.{against_name, planned}
+use Rattle.ctf_draft.specs.declared.plan.Plan.{Plan}
+use Rattle.ctf_draft.proofs.MemberAdded.{member_accepted}
+
+-- of what went well or left all as it was
+pub either_sound : {A E : Type 0} (r : Result A E) (before changed after : Draft) → OnOk r (after ≡ changed) → OnErr r (after ≡ before) → IsSound before → IsSound changed → IsSound after
+either_sound (Ok a) before changed after is same old new = subst IsSound (sym is) new
+either_sound (Err e) before changed after is same old new = subst IsSound (sym same) old
+
+pub empty_sound : (parent : Option Dictionary) (parname parlabel : List ℕ) (model : DataModel) → is_some parent ≡ not (length parname == 0) → has_zero parname ≡ false → has_zero parlabel ≡ false → is_childs parent ≡ false → IsSound (empty_draft parent parname parlabel model)
+unfolding new_draft
+empty_sound parent parname parlabel model named clean clean_label grown_up =
+    new_sound parent parname parlabel model (empty_draft parent parname parlabel model) named (rw (clean, clean_label, grown_up) refl)
+
+-- a member that is added as it is planned
+pub planned_sound : (d : Draft) (n : ℕ) (name : List ℕ) (tnum : ℕ) (offset : Option ℕ) (p : Plan) → IsSound d → against_name d n name tnum ≡ None → planned d n tnum offset ≡ Ok p → IsSound (replaced d n (with_member (record { name = name; tnum = tnum; offset = p.offset }) p.size (body_at d n)))
+planned_sound d n name tnum offset p ok none h =
+    member_sound d n name tnum offset (record { draft = replaced d n (with_member (record { name = name; tnum = tnum; offset = p.offset }) p.size (body_at d n)); answer = p.offset }) ok (member_accepted d n name tnum offset p none h)
+
+pub enumerated_sound : (d : Draft) (n : ℕ) (e : Enumerator) → IsSound d → FitsSigned w32 e.value → first_met (against_enumerator d n e.name) ≡ None → IsSound (replaced d n (with_enumerator e (body_at d n)))
+unfolding add_enumerator
+enumerated_sound d n e ok low none = enumerator_sound d n e (replaced d n (with_enumerator e (body_at d n))) ok low (rw none refl)

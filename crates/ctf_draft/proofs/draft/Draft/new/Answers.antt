@@ -1,0 +1,19 @@
+use Rattle.std.proofs.Common.{◌≡◌, false, option_map, sym, ap, ◌∙◌, arith}
+use Rattle.ctf_layout.proofs.Tables.{same_some}
+use Rattle.ctf_model.specs.Dictionary.{said_by}
+use Rattle.ctf_model.specs.Drafts.{has_zero}
+use Rattle.ctf_draft.proofs.Sounding.{empty_sound}
+use Rattle.ctf_draft.proofs.draft.Draft.new.Goals as goal
+
+pub invariant_of-result : goal.invariant_of-result
+invariant_of-result c =
+    let clean : has_zero c.args.parname ≡ false = sym (c.has_zero.ensures ∙ ap has_zero c.as_slice.ensures) ∙ c.if-has_zero.false in
+    let clean_label : has_zero c.args.parlabel ≡ false = sym (c.has_zero-2.ensures ∙ ap has_zero c.as_slice-2.ensures) ∙ c.if-has_zero-2.false in
+    let parent = option_map (λ p. said_by p.value.lists) c.args.parent in (
+      omega arith,
+      omega arith,
+      omega (arith, c.new.ensures.len),
+      c.in-Ok.ensures.fits,
+      rw (c.new.ensures.items, c.new-2.ensures, c.in-Ok.ensures.same)
+          (empty_sound parent c.args.parname c.args.parlabel c.args.model (same_some (λ p. said_by p.value.lists) c.args.parent ∙ c.requires.named) clean clean_label (sym c.is_childs.ensures ∙ c.if-is_childs.false)),
+    )
