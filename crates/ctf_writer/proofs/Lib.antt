@@ -7,3 +7,4 @@ pub mod HeldNames
 pub mod Header
 pub mod HeldParts
 pub mod Leading
+pub mod Made

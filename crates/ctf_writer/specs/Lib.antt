@@ -4,3 +4,4 @@ pub mod Once
 pub mod Tables
 pub mod HeldView
 pub mod Leading
+pub mod Updating

@@ -1,5 +1,6 @@
 //! What a draft lends to be written.
 ghost use Rattle.std.specs.Prelude.{◌≡◌};
+ghost use Rattle.ctf_model.specs.DraftLaws.{IsSound};
 ghost use Rattle.ctf_model.specs.Drafts.{held};
 ghost use Rattle.ctf_writer.specs.HeldView.{dictionary_of};
 
@@ -17,7 +18,8 @@ pub struct Held<'a> {
 
 impl<'a> Held<'a> {
     pub fn of(draft: &'a Draft) -> Held<'a>
-        ensures { dictionary_of result ≡ held draft.now.draft }
+        ensures dictionary { dictionary_of result ≡ held draft.now.draft }
+        ensures sound { IsSound draft.now.draft }
     {
         Held {
             child: draft.parent().is_some(),

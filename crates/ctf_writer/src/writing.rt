@@ -2,7 +2,6 @@
 ghost use Rattle.std.specs.Prelude.{◌≡◌, ◌+◌, ◌<◌, ◌≤◌, ◌^◌, ◌⊎◌, ◌++◌, length, IfErr, IfOk, MatchOption, Err, Ok, vec_len, vec_capacity};
 ghost use Rattle.std.specs.List.{All, AllByRecursion, flat_map};
 ghost use Rattle.ctf_draft.specs.TypeView.{type_of};
-ghost use Rattle.ctf_model.specs.DraftLaws.{IsSound};
 ghost use Rattle.ctf_model.specs.Drafts.{held as held_by};
 ghost use Rattle.ctf_model.specs.Fitting.{Fits};
 ghost use Rattle.ctf_model.specs.Refusals.{want_of_memory};
@@ -11,6 +10,7 @@ ghost use Rattle.ctf_model.specs.Written.{bytes_of, fields_over, header_bytes, l
 ghost use Rattle.ctf_model.specs.WrittenNames.{strings_of as strings_in};
 ghost use Rattle.ctf_writer.specs.HeldView.{dictionary_of, uses, written_type};
 ghost use Rattle.ctf_writer.specs.Tables.{names};
+ghost use Rattle.ctf_writer.specs.Updating.{StandsFor};
 
 use crate::chains::judge_chains;
 use crate::labels::put_labels;
@@ -158,8 +158,8 @@ fn write_held(alloc: Global, held: Held<'_>) -> Result<Vec<u8>, Fault>
 ///
 /// Takes time in proportion to the bytes, and reserves them at once, in their exact number.
 pub fn write(alloc: Global, draft: &Draft) -> Result<Vec<u8>, Fault>
-    requires sound { IsSound draft.now.draft }
     ensures ok { IfOk result (λ bytes. written (held_by draft.now.draft) ≡ Ok bytes.items) }
+    ensures stands { IfOk result (λ bytes. StandsFor draft.now.draft bytes.items) }
     ensures exact_err { IfErr result (λ f. (f ≡ want_of_memory)
         ⊎ (written (held_by draft.now.draft) ≡ Err f)) }
 {

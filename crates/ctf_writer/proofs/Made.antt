@@ -1,0 +1,36 @@
+-- The dictionary that an update makes.
+use Rattle.std.proofs.Common.{◌≡◌, ℕ, List, ◌++◌, [], is_some, Option, Some, None, Ok, refl, sym, ap, subst, ◌∙◌}
+use Rattle.std.proofs.lemmas.List.{append-nil}
+use Rattle.ctf_model.proofs.Denoted.{denotes_said}
+use Rattle.ctf_model.proofs.WrittenDrafts.{draft_denoted, draft_imported}
+use Rattle.ctf_model.specs.Dictionary.{Dictionary, Label, Denotes, said_by}
+use Rattle.ctf_model.specs.DraftLaws.{IsSound}
+use Rattle.ctf_model.specs.Drafts.{Contents, Draft, all_of, followed_by, held, no_contents, settled}
+use Rattle.ctf_model.specs.Faults.{first_fault}
+use Rattle.ctf_model.specs.Space.{Kept}
+use Rattle.ctf_model.specs.Term.{Term}
+use Rattle.ctf_model.specs.Written.{lists_of, written}
+use Rattle.ctf_writer.specs.Updating.{IsMadeOf, StandsFor}
+
+pub stands_for : (d : Draft) (bytes : List ℕ) → IsSound d → written (held d) ≡ Ok bytes → StandsFor d bytes
+stands_for d bytes sound is =
+    let denotes = draft_denoted d bytes sound is in
+    record {
+      denotes = denotes;
+      under = λ parent has. draft_imported d parent bytes (said_by (lists_of bytes)) sound has is (denotes_said (lists_of bytes) denotes.faultless);
+    }
+
+-- nothing behind all of it
+none_behind : (all : Contents) → followed_by all no_contents ≡ all
+none_behind all = ap (λ (terms : List Term). record { terms = terms; labels = all.labels ++ no_contents.labels }) (append-nil all.terms) ∙ ap (λ (labels : List Label). record { terms = all.terms; labels = labels }) (append-nil all.labels)
+
+pub held_stays : (d : Draft) → held (settled d) ≡ held d
+held_stays d = ap (λ (all : Contents). record {
+  child = is_some d.parent;
+  parname = d.parname;
+  parlabel = d.parlabel;
+  labels = all.labels;
+  terms = all.terms;
+  symbols = [];
+  entries = [];
+}) (none_behind (all_of d))

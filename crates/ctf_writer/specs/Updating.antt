@@ -1,0 +1,23 @@
+-- What written bytes stand for, and what an update of a draft makes. Source: libctf(3LIB), ctf_update.
+use Rattle.std.specs.Prelude.{◌≡◌, ℕ, List, Ok, None}
+use Rattle.std.specs.Option.{ForSome}
+use Rattle.ctf_model.specs.Dictionary.{Denotes, said_by}
+use Rattle.ctf_model.specs.Drafts.{Draft, held, settled}
+use Rattle.ctf_model.specs.Space.{Kept, import_fault}
+use Rattle.ctf_model.specs.Written.{lists_of, written}
+
+-- the bytes denote what the draft holds, and can be imported over its parent
+pub record StandsFor (d : Draft) (bytes : List ℕ) : Type 0 where
+  pub denotes : Denotes (lists_of bytes) (held d)
+  pub under : ForSome d.parent (λ parent. import_fault (record { child = said_by (lists_of bytes); parent = parent }) ≡ None)
+
+-- the dictionary is what is written of the draft, and nothing else
+pub record IsMadeOf (d : Draft) (made : Kept) : Type 0 where
+  pub written : written (held d) ≡ Ok made.lists.ctf
+  pub alone : made.lists ≡ lists_of made.lists.ctf
+  pub model : made.model ≡ d.model
+  pub stands : StandsFor d made.lists.ctf
+
+-- an updated draft is written as it was before
+abbrev pub UpdatesWriteTheSame : Type 0
+UpdatesWriteTheSame = (d : Draft) → written (held (settled d)) ≡ written (held d)

@@ -1,0 +1,53 @@
+//! What was added to a draft becomes part of its dictionary.
+ghost use Rattle.std.specs.Prelude.{◌≡◌, ◌⊎◌, IfErr, IfOk, OnErr, OnOk, MatchOption, None, Err};
+ghost use Rattle.ctf_model.specs.Drafts.{held as held_by, settled};
+ghost use Rattle.ctf_model.specs.Faults.{first_fault};
+ghost use Rattle.ctf_model.specs.Refusals.{want_of_memory};
+ghost use Rattle.ctf_model.specs.Written.{lists_of, written};
+ghost use Rattle.ctf_writer.specs.Updating.{IsMadeOf};
+
+use crate::writing::write;
+use ctf_draft::Draft;
+use ctf_model::{Bytes, DataModel, Fault, Parts, placeless};
+use ctf_space::Opened;
+use std::alloc::Global;
+use std::rc::Rc;
+
+/// The dictionary that bytes without a fault are.
+fn opened(alloc: Global, bytes: Vec<u8>, model: DataModel) -> Result<Rc<Opened>, Fault>
+    requires faultless { first_fault (lists_of bytes.items) ≡ None }
+    ensures ok { IfOk result (λ d. d.value ≡ record { lists = lists_of bytes.items; model = model }) }
+    ensures err { IfErr result (λ f. f ≡ want_of_memory) }
+{
+    let parts = Parts {
+        ctf: Bytes::from(bytes),
+        sym: None,
+        strs: None,
+    };
+    let dictionary = match Opened::build(alloc, parts, model) {
+        Ok(dictionary) => dictionary,
+        Err((fault, _)) => return Err(fault),
+    };
+    match Rc::new(alloc, dictionary) {
+        Ok(dictionary) => Ok(dictionary),
+        Err(_) => Err(placeless(Fault::MEMORY)),
+    }
+}
+
+/// Makes all that was added part of the draft's dictionary, which is what `write` writes from now
+/// on; or leaves the draft as it was, with the fault for which it isn't written.
+///
+/// The bytes can be lent from `draft.dictionary()`.
+pub fn update(alloc: Global, draft: &mut Draft) -> Result<(), Fault>
+    ensures draft { OnOk result (draft.new.draft ≡ settled draft.old.draft) }
+    ensures dictionary { OnOk result
+        (MatchOption draft.new.dictionary ⊥ (IsMadeOf draft.old.draft)) }
+    ensures exact_err { IfErr result (λ f. (f ≡ want_of_memory)
+        ⊎ (written (held_by draft.old.draft) ≡ Err f)) }
+    ensures kept { OnErr result (draft.new ≡ draft.old) }
+{
+    let bytes = write(alloc, draft)?;
+    let dictionary = opened(alloc, bytes, draft.model())?;
+    draft.settle(dictionary);
+    Ok(())
+}
