@@ -1,5 +1,5 @@
 -- The header, and what stands behind it, appended part by part.
-use Rattle.std.proofs.Common.{◌≡◌, ℕ, ◌+◌, List, [], ◌∷◌, ◌++◌, length, refl, sym, ap, ◌∙◌}
+use Rattle.std.proofs.Common.{◌≡◌, ℕ, ◌+◌, List, [], ◌∷◌, ◌++◌, ap, ◌∙◌}
 use Rattle.std.proofs.lemmas.List.{append_assoc}
 use Rattle.ctf_model.specs.Written.{fields_over, header_bytes}
 use Rattle.ctf_model.specs.WrittenRecords.{u32}

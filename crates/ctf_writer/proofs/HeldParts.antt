@@ -1,5 +1,5 @@
 -- What a draft lends, part by part: its types fit, its names are kept, and its bytes are its parts.
-use Rattle.std.proofs.Common.{◌≡◌, ℕ, ◌+◌, ◌<◌, ◌≤◌, List, [], ◌∷◌, ◌++◌, length, map, Option, Some, None, Ok, Err, refl, sym, ap, subst, ◌∙◌, arith, ◌⊎◌, inl, inr, Bool, true, false, ltb}
+use Rattle.std.proofs.Common.{◌≡◌, ℕ, ◌+◌, ◌<◌, ◌≤◌, List, ◌∷◌, ◌++◌, length, map, Option, Some, None, Ok, Err, refl, sym, ap, subst, ◌∙◌, arith, ◌⊎◌, inl, inr, true, false, ltb}
 use Rattle.std.specs.List.{flat_map, All, AllByRecursion}
 use Rattle.std.proofs.lemmas.Bool.{le-ltb, lt-ltb}
 use Rattle.std.proofs.lemmas.List.Elements.{All-from_recursion}
@@ -15,7 +15,7 @@ use Rattle.ctf_model.specs.Fitting.{Fits}
 use Rattle.ctf_model.specs.Refusals.{placeless, want_of_memory}
 use Rattle.ctf_model.specs.Term.{Term}
 use Rattle.ctf_model.specs.WritingLaws.{IsKept}
-use Rattle.ctf_model.specs.Written.{bytes_of, bytes_unless, deep_by, fields_over, header_bytes, label_bytes, labels_written, most_written, records_written, too_big, unwritten, written}
+use Rattle.ctf_model.specs.Written.{bytes_of, deep_by, fields_over, header_bytes, label_bytes, labels_written, most_written, records_written, too_big, unwritten, written}
 use Rattle.ctf_model.specs.WrittenNames.{names_of, reference, string_bytes, strings_of, used_names}
 use Rattle.ctf_model.specs.WrittenRecords.{record_bytes}
 use Rattle.ctf_model.specs.declared.faults.Fault.{Fault}

@@ -1,12 +1,11 @@
 -- Where the steps of a draft's types lead, and the least type from which they lead too far.
-use Rattle.std.proofs.Common.{◌≡◌, ◌↔◌, ℕ, zero, suc, true, false, not, ◌+◌, ◌<◌, Bool, List, [], ◌∷◌, length, map, get_or, Option, Some, None, refl, sym, ap, subst, ◌∙◌, arith}
-use Rattle.std.specs.List.{filter_map, list_all, AllByRecursion}
+use Rattle.std.proofs.Common.{◌≡◌, ℕ, ◌+◌, ◌<◌, Bool, List, [], ◌∷◌, length, map, get_or, Option, Some, None, refl, sym, ap, subst, ◌∙◌, arith}
+use Rattle.std.specs.List.{filter_map}
 use Rattle.std.specs.Option.{option_map}
-use Rattle.std.proofs.lemmas.Bool.{and_parts, eqb-true}
 use Rattle.std.proofs.lemmas.List.{length-map, get_or-map}
 use Rattle.ctf_model.proofs.ChainRules.{DeepFrom, deep_agrees}
 use Rattle.ctf_model.proofs.FirstFault.{Agrees}
-use Rattle.ctf_model.specs.Chains.{edges, own_index, longest_chain, within, IsWithin, targets}
+use Rattle.ctf_model.specs.Chains.{edges, own_index, longest_chain}
 use Rattle.ctf_model.specs.Faults.{first_deep}
 use Rattle.ctf_model.specs.Term.{Body, Term}
 use Rattle.ctf_chains.specs.Deep.{IsLeastDeep}
@@ -17,7 +16,7 @@ use Rattle.ctf_chains.specs.declared.chain.Chain.TheVariants.{ByValue}
 use Rattle.ctf_draft.specs.declared.types.AggregateKind.{AggregateKind}
 use Rattle.ctf_draft.specs.declared.types.AggregateKind.TheVariants.{Struct, Union}
 use Rattle.ctf_writer.specs.Leading.{type_places, draft_places}
-use Rattle.ctf_draft.specs.TypeView.{aggregate_body, body_of, member_of, reference_body, type_of}
+use Rattle.ctf_draft.specs.TypeView.{aggregate_body, body_of, member_of, type_of}
 use Rattle.ctf_writer.specs.HeldView.{dictionary_of}
 use Rattle.ctf_writer.specs.declared.lent.Held.{Held}
 use Rattle.ctf_model.specs.Written.{deep_by}

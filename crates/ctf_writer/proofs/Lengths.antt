@@ -1,8 +1,8 @@
 -- How long written parts are.
-use Rattle.std.proofs.Common.{◌≡◌, ℕ, suc, mul-suc, ◌+◌, ◌*◌, ◌%◌, ◌<◌, ◌≤◌, Bool, true, false, ltb, cond, List, [], ◌∷◌, ◌++◌, length, map, take, get_or, Option, Some, None, refl, sym, ap, ◌∙◌, arith}
+use Rattle.std.proofs.Common.{◌≡◌, ℕ, suc, mul-suc, ◌+◌, ◌*◌, ◌%◌, ◌<◌, ◌≤◌, Bool, true, false, ltb, cond, List, [], ◌∷◌, ◌++◌, length, map, take, get_or, refl, ap, ◌∙◌, arith}
 use Rattle.std.specs.List.{flat_map}
 use Rattle.std.proofs.lemmas.Bool.{ltb-true, ltb-false}
-use Rattle.std.proofs.lemmas.List.{append-nil, length-append, length-map}
+use Rattle.std.proofs.lemmas.List.{append-nil, length-append}
 use Rattle.std.proofs.lemmas.List.Folds.{length-flat_map-take}
 use Rattle.ctf_model.specs.Record.{member_len}
 use Rattle.ctf_model.specs.Term as term
@@ -20,7 +20,7 @@ use Rattle.ctf_model.specs.Dictionary.{Dictionary, Label}
 use Rattle.ctf_model.specs.Fitting.{FitsBody, FitsMembers}
 use Rattle.ctf_model.specs.WrittenNames.{listed_names, reference, strings_of, string_bytes}
 use Rattle.ctf_model.specs.Written.{bytes_of, label_bytes, labels_written, records_written}
-use Rattle.ctf_model.specs.WrittenRecords.{argument_bytes, element_bytes, enumerator_bytes, field_of, halves, list_len, member_bytes, scalar_bytes, u16, u32, variant_bytes}
+use Rattle.ctf_model.specs.WrittenRecords.{argument_bytes, enumerator_bytes, field_of, halves, list_len, member_bytes, scalar_bytes, u16, u32, variant_bytes}
 
 one_member : (names : List (List ℕ)) (size : ℕ) (m : term.Member) → length (member_bytes names size m) ≡ member_len size
 one_member names size m = at (ltb size 8192)

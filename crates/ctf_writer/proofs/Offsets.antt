@@ -1,5 +1,5 @@
 -- Names with their offsets: how they grow, and what is found in them.
-use Rattle.std.proofs.Common.{◌≡◌, ℕ, zero, suc, ◌+◌, ◌<◌, ◌≤◌, Bool, true, false, cond, List, [], ◌∷◌, ◌++◌, length, map, Option, Some, None, refl, sym, ap, ◌∙◌, arith, is_some}
+use Rattle.std.proofs.Common.{◌≡◌, ℕ, ◌+◌, Bool, true, false, cond, List, [], ◌∷◌, ◌++◌, length, map, Option, Some, None, refl, sym, ap, ◌∙◌, arith, is_some}
 use Rattle.std.specs.Prelude.{◌||◌}
 use Rattle.std.specs.Borrow.{Bor}
 use Rattle.std.specs.List.{list_any, flat_map, before_first}
@@ -9,7 +9,7 @@ use Rattle.std.proofs.lemmas.List.{length-append, map-append, append_assoc}
 use Rattle.std.proofs.lemmas.Option.{same_Some}
 use Rattle.ctf_model.specs.WrittenNames.{closed, string_bytes, reference, is_empty}
 use Rattle.ctf_model.proofs.FoundAgain.{first_here, first_later}
-use Rattle.ctf_writer.specs.Offsets.{Entry, names_in, offsets_from, AreOffsets, with_name}
+use Rattle.ctf_writer.specs.Offsets.{Entry, names_in, offsets_from, AreOffsets}
 
 -- the test by which a name is looked up
 abbrev pub is_name : List ℕ → Bor (List ℕ) → Bool

@@ -1,8 +1,6 @@
 -- What a draft lends to be written stands for. Source: ours.
 use Rattle.std.specs.Prelude.{ℕ, List, [], map}
 use Rattle.ctf_model.specs.Dictionary.{Dictionary, Label}
-use Rattle.ctf_model.specs.Term.{Term}
-use Rattle.ctf_model.specs.Written.{label_bytes}
 use Rattle.ctf_model.specs.WrittenNames.{names_of}
 use Rattle.ctf_model.specs.WrittenRecords.{enumerator_bytes, member_bytes, record_bytes, u16}
 use Rattle.ctf_model.specs.declared.numbers.TypeNum.{TypeNum}

@@ -1,5 +1,5 @@
 -- Names that are added one after the other.
-use Rattle.std.specs.Prelude.{◌≡◌, ℕ, List, [], fold}
+use Rattle.std.specs.Prelude.{◌≡◌, [], fold}
 use Rattle.ctf_model.specs.Dictionary.{Dictionary}
 use Rattle.ctf_model.specs.WrittenNames.{strings_of, used_names}
 use Rattle.ctf_writer.specs.Offsets.{with_name}

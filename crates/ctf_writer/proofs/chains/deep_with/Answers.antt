@@ -1,8 +1,7 @@
-use Rattle.std.proofs.Common.{◌≡◌, ℕ, ◌+◌, ◌<◌, List, Option, Some, None, arith, ap, length, map, subst, sym, ◌∙◌}
+use Rattle.std.proofs.Common.{ℕ, ◌+◌, ◌<◌, Option, Some, arith, ap, length, subst, sym, ◌∙◌}
 use Rattle.std.specs.Prelude.{IfSome}
 use Rattle.std.specs.Option.{option_map}
 use Rattle.std.proofs.lemmas.List.{length-map}
-use Rattle.ctf_draft.specs.declared.types.DraftType.{DraftType}
 use Rattle.ctf_writer.specs.Leading.{draft_places, type_places}
 use Rattle.ctf_writer.proofs.Leading.{found_held}
 use Rattle.ctf_writer.proofs.chains.deep_with.Goals as goal

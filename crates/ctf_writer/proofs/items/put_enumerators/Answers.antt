@@ -1,4 +1,4 @@
-use Rattle.std.proofs.Common.{arith, sym}
+use Rattle.std.proofs.Common.{arith}
 use Rattle.ctf_writer.specs.Tables.{names}
 use Rattle.ctf_writer.specs.HeldView.{written_enumerator}
 use Rattle.ctf_writer.proofs.Joining.{items_more, len_more, room_for}

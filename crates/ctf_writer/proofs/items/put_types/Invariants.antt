@@ -1,4 +1,4 @@
-use Rattle.std.proofs.Common.{◌≡◌, ◌++◌, ◌+◌, ◌≤◌, take, length, vec_capacity, vec_len}
+use Rattle.std.proofs.Common.{◌≡◌, ◌++◌, ◌+◌, take, length, vec_capacity, vec_len}
 use Rattle.std.specs.List.{flat_map}
 use Rattle.ctf_writer.specs.HeldView.{written_argument}
 use Rattle.ctf_writer.proofs.items.put_types.Given as goal

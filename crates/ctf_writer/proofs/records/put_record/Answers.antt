@@ -1,4 +1,4 @@
-use Rattle.std.proofs.Common.{◌≡◌, ℕ, List, ◌++◌, arith, ap, length, ◌∙◌}
+use Rattle.std.proofs.Common.{◌≡◌, ℕ, ◌++◌, arith, ap, length, ◌∙◌}
 use Rattle.ctf_model.specs.WrittenNames.{reference}
 use Rattle.ctf_model.specs.WrittenRecords.{u16, u32, field_bytes}
 use Rattle.ctf_writer.specs.Tables.{names}

@@ -1,4 +1,4 @@
-use Rattle.std.proofs.Common.{◌≡◌, ℕ, List, ◌++◌, ◌+◌, ◌≤◌, arith, ap, sym, subst, length, map, ◌∙◌}
+use Rattle.std.proofs.Common.{ℕ, List, ◌++◌, arith, ap, sym, subst, length, map, ◌∙◌}
 use Rattle.std.proofs.lemmas.List.Elements.{All-from_recursion}
 use Rattle.std.specs.List.{AllByRecursion, flat_map}
 use Rattle.ctf_model.specs.Fitting.{FitsMember}

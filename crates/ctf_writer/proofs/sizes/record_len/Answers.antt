@@ -1,4 +1,4 @@
-use Rattle.std.proofs.Common.{◌≡◌, ℕ, ap, arith, length}
+use Rattle.std.proofs.Common.{ℕ, ap, arith, length}
 use Rattle.ctf_model.specs.WrittenRecords.{field_bytes}
 use Rattle.ctf_draft.specs.TypeView.{type_of}
 use Rattle.ctf_writer.proofs.Joining.{record_len}

@@ -1,8 +1,6 @@
-use Rattle.std.proofs.Common.{◌≡◌, ℕ, ◌+◌, ◌<◌, ◌≤◌, ◌++◌, List, [], Option, Ok, Err, Some, arith, sym, ap, subst, ◌∙◌, length, ◌⊎◌, inl, inr}
-use Rattle.std.specs.Prelude.{Result}
+use Rattle.std.proofs.Common.{◌≡◌, ℕ, ◌≤◌, ◌++◌, List, Option, Ok, Err, Some, arith, sym, ap, ◌∙◌, length, ◌⊎◌, inl, inr}
 use Rattle.std.proofs.lemmas.Result.{err_from_is_err_and}
 use Rattle.ctf_model.specs.Refusals.{want_of_memory}
-use Rattle.ctf_model.specs.WrittenNames.{strings_of}
 use Rattle.ctf_model.specs.Written.{bytes_of, deep_by, most_written, written}
 use Rattle.ctf_model.specs.Chains.{by_value, declarator}
 use Rattle.ctf_model.specs.Dictionary.{Dictionary}
