@@ -3,7 +3,7 @@
 
 mod making;
 
-pub use making::{a_struct, add, fresh, integer, label, named, put, size_of};
+pub use making::{a_struct, add, enumerator, fresh, integer, label, named, put, size_of};
 
 #[cfg(test)]
 mod kinds;
@@ -15,3 +15,7 @@ mod members;
 mod memory;
 #[cfg(test)]
 mod parents;
+#[cfg(test)]
+mod updated;
+#[cfg(test)]
+mod written;

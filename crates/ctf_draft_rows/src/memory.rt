@@ -6,6 +6,7 @@
 use crate::{a_struct, add, fresh, integer};
 use ctf_draft::Draft;
 use ctf_model::{Bytes, DataModel, Fault, TypeNum, placeless};
+use ctf_writer::{update, write};
 use std::alloc::Global;
 
 /// A struct behind an integer, if memory was there for both.
@@ -43,6 +44,33 @@ fn what_was_there_stays(rt: HostRuntime) {
         match draft.label(Bytes::new(alloc), 1) {
             Ok(_) => assert!(rt; draft.labels().len() == 1),
             Err(fault) => assert!(rt; fault == want && draft.labels().len() == 0),
+        }
+    }
+}
+
+/// Whether the last update made a dictionary of that many types.
+fn has_types(draft: &Draft, count: usize) -> bool {
+    match draft.dictionary() {
+        Some(dictionary) => dictionary.view().count() == count,
+        None => false,
+    }
+}
+
+#[test]
+fn what_is_not_updated_stays_pending(rt: HostRuntime) {
+    let alloc = rt.alloc();
+    let want = placeless(Fault::MEMORY);
+    if let Some(mut draft) = with_struct(alloc) {
+        match write(alloc, &draft) {
+            Ok(bytes) => assert!(rt; bytes.len() == 57),
+            Err(fault) => assert!(rt; fault == want),
+        }
+        match update(alloc, &mut draft) {
+            Ok(()) => assert!(rt; draft.pending() == 0 && has_types(&draft, 2)),
+            Err(fault) => {
+                assert!(rt; fault == want && draft.pending() == 2);
+                assert!(rt; draft.dictionary().is_none());
+            }
         }
     }
 }
