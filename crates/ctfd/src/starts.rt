@@ -10,6 +10,7 @@ use std::fmt;
 use std::fmt::{Display, Formatter};
 
 /// Why the service did not start. Nothing was served then.
+#[derive(Clone, Copy)]
 pub enum NotStarted<'a> {
     /// A word is no NAME=FILE.
     Misused,
