@@ -12,9 +12,7 @@ ghost use Rattle.ctf_broker.specs.Table.{kept_for, library_at};
 use crate::libraries::{found_by, publish_in, step_in};
 use ctf_answers::{Answer, Counts};
 use ctf_library::{Library, Loaded};
-use ctf_model::{
-    Bytes, Change, Fault, Parts, PublicationName, Question, SlotNumber, placeless,
-};
+use ctf_model::{Bytes, Change, Fault, Parts, PublicationName, Question, SlotNumber, placeless};
 use ctf_space::Opened;
 use std::alloc::Global;
 use std::collections::BTreeMap;
@@ -75,11 +73,7 @@ impl Broker {
 
     /// Publishes a CTF section for the operator, without the symbols and strings of a program. It is
     /// judged before its name is.
-    pub fn load_section(
-        &mut self,
-        name: &PublicationName,
-        ctf: Vec<u8>,
-    ) -> Result<Counts, Fault>
+    pub fn load_section(&mut self, name: &PublicationName, ctf: Vec<u8>) -> Result<Counts, Fault>
         ensures own { Answered (library_at self.old 0)
             (loads_section name.now ctf.items (library_at self.old 0))
             (said result) (library_at self.new 0) }

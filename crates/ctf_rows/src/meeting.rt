@@ -39,10 +39,7 @@ const MEET: [(&str, &str); 20] = [
         "{\"ok\":{\"d\":2,\"types\":1},\"s\":1}\n",
     ),
     // The owner resets: those who took it keep it, and others take it too.
-    (
-        "{\"s\":1,\"op\":\"reset\"}\n",
-        "{\"ok\":{},\"s\":1}\n",
-    ),
+    ("{\"s\":1,\"op\":\"reset\"}\n", "{\"ok\":{},\"s\":1}\n"),
     (
         "{\"s\":1,\"op\":\"kind\",\"d\":1,\"t\":1}\n",
         "{\"fault\":{\"code\":49,\"name\":\"NoSlot\",\"place\":0},\"s\":1}\n",
@@ -311,10 +308,7 @@ const IMPORTS: [(&str, &str); 16] = [
         "{\"ok\":{\"kind\":\"struct\"},\"s\":2}\n",
     ),
     // Its own parent stays, whatever the owner does.
-    (
-        "{\"s\":1,\"op\":\"reset\"}\n",
-        "{\"ok\":{},\"s\":1}\n",
-    ),
+    ("{\"s\":1,\"op\":\"reset\"}\n", "{\"ok\":{},\"s\":1}\n"),
     (
         "{\"s\":2,\"op\":\"close\",\"d\":2}\n",
         "{\"ok\":{},\"s\":2}\n",

@@ -36,10 +36,7 @@ const CHILD: [(&str, &str); 1] = [(
 
 /// The slot that was taken is closed, and the owner of the publication resets.
 const LEAVES: [(&str, &str); 3] = [
-    (
-        "{\"s\":2,\"op\":\"close\",\"d\":1}",
-        "{\"ok\":{},\"s\":2}",
-    ),
+    ("{\"s\":2,\"op\":\"close\",\"d\":1}", "{\"ok\":{},\"s\":2}"),
     ("{\"s\":1,\"op\":\"reset\"}", "{\"ok\":{},\"s\":1}"),
     (
         "{\"s\":2,\"op\":\"kind\",\"d\":1,\"t\":3}",
