@@ -46,12 +46,12 @@ fills() {
 
 ends /dev/null;                 expect "no command" 2 '' 'Usage'
 ends /dev/null bad;             expect "a command that is not there" 2 '' 'bad'
-ends /dev/null serve more;      expect "a word too many" 2 '' 'more'
+ends /dev/null serve more;      expect "a word without a file" 2 '' '^ctfd: usage: NAME=FILE$'
 ends /dev/null $'\xff';         expect "a command that is not UTF-8" 2 '' 'not UTF-8'
 ends "$first" serve $'a\xffb';  expect "a word that is not UTF-8" 2 '' 'not UTF-8'
 ends /dev/null --help;          expect "help" 0 'Usage' ''
 ends /dev/null help;            expect "help, as a command" 0 'Usage' ''
-ends /dev/null serve --help;    expect "help of serve" 0 'Usage' ''
+ends /dev/null serve --help;    expect "help of serve" 0 '^Usage: .* \[NAME=FILE\]\.\.\.$' ''
 ends /dev/null --version;       expect "version" 0 '^ctfd [0-9]*\.[0-9]*\.[0-9]*$' ''
 ends /dev/null -V;              expect "version, by its letter" 0 '^ctfd [0-9]*\.[0-9]*\.[0-9]*$' ''
 fills /dev/null --help;         expect "help, and a full output" 3 '' '^ctfd: Write$'
@@ -156,4 +156,55 @@ status=$?;                      expect "a dump, and a closed output" 3 '' '^ctfd
 status=${PIPESTATUS[0]};        expect "a dump, and a reader that leaves" 3 '^ctf types=526 ' '^ctfd: Write$'
 (ulimit -v 32768; "$program" dump longest > out 2> err)
 status=$?;                      expect "a dump without memory" 4 '' '^ctfd: Memory$'
+
+# Publications. All words are judged before a file is read, and files one after the other: is it
+# read, how long is it, which rule does it break, is its name taken.
+echo '{"s":1,"op":"take","owner":0,"name":"base"}' > take
+cp int a=b
+section '\0' '\x01\0\0\x80\0\x0c\x04\0\x20\0\0\x01' '' '\x0c' '\0' > outer
+found='^{"ok":{"d":1,"types":1},"s":1}$'
+name64=$(printf 'n%.0s' $(seq 64))
+ends take serve base=int;       expect "a file that is taken" 0 "$found" ''
+ends take serve;                expect "no file to be taken" 0 '"NotPublished"' ''
+ends take serve other=int;      expect "a file by another name" 0 '"NotPublished"' ''
+ends take serve base=child other=two
+                                expect "two files" 0 "$found" ''
+ends take serve base=a=b;       expect "a file with = in its name" 0 "$found" ''
+ends take serve base=longest;   expect "a served file at the limit" 0 "$found" ''
+ends take serve "${name64}=int" base=int
+                                expect "a name of 64 characters" 0 "$found" ''
+ends take serve -- -._=int base=int
+                                expect "a name that begins with -" 0 "$found" ''
+ends take serve "base=$examples/lua.ctf"
+                                expect "a real program to be taken" 0 '^{"ok":{"d":1,"types":526},"s":1}$' ''
+ends "$examples/meeting.jsonl" serve base=int
+cmp -s out "$examples/meeting.replies" || status="$status, other replies"
+                                expect "sessions that meet" 0 "$found" ''
+ends take serve base;           expect "a word without =" 2 '' '^ctfd: usage: NAME=FILE$'
+ends take serve =int;           expect "a word without a name" 2 '' '^ctfd: usage: NAME=FILE$'
+ends take serve 'a b=int';      expect "a name with a blank" 2 '' '^ctfd: usage: NAME=FILE$'
+ends take serve "n$name64=int"; expect "a name of 65 characters" 2 '' '^ctfd: usage: NAME=FILE$'
+ends take serve base=none bad;  expect "words before files" 2 '' '^ctfd: usage: NAME=FILE$'
+ends take serve --bad;          expect "serve with an option" 2 '' '--bad'
+ends take serve base=none;      expect "a served file that is missing" 3 '' '^ctfd: none: Read$'
+ends take serve base=;          expect "a served file without a name" 3 '' '^ctfd: : Read$'
+ends take serve base=folder;    expect "a folder to be served" 3 '' '^ctfd: folder: Read$'
+ends take serve base=long;      expect "a served file above the limit" 1 '' '^ctfd: long: StageFull at 0$'
+ends take serve base=/dev/zero; expect "a served file without end" 1 '' '^ctfd: /dev/zero: StageFull at 0$'
+ends take serve base=/dev/null; expect "a served file that is empty" 1 '' '^ctfd: /dev/null: TooShort at 0$'
+ends take serve base=outer;     expect "names in strings that are not there" 1 '' '^ctfd: outer: BadName at 36$'
+ends take serve base=take;      expect "a served file of another kind" 1 '' '^ctfd: take: BadMagic at 0$'
+ends take serve base=int base=two
+                                expect "a name twice" 1 '' '^ctfd: two: NameTaken at 0$'
+ends take serve base=int base=take
+                                expect "a rule before a name" 1 '' '^ctfd: take: BadMagic at 0$'
+ends take serve base=int base=long
+                                expect "a length before a name" 1 '' '^ctfd: long: StageFull at 0$'
+ends take serve base=int base=none
+                                expect "a read before a name" 3 '' '^ctfd: none: Read$'
+ends take serve a=take b=none;  expect "the first file's fault" 1 '' '^ctfd: take: BadMagic at 0$'
+ends take serve a=none b=take;  expect "the first file's read" 3 '' '^ctfd: none: Read$'
+fills take serve base=int;      expect "a taken file, and a full output" 3 '' '^ctfd: Write$'
+(ulimit -v 32768; "$program" serve base=longest < take > out 2> err)
+status=$?;                      expect "a served file without memory" 4 '' '^ctfd: Memory$'
 exit $failed

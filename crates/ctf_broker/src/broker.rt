@@ -6,12 +6,13 @@ ghost use Rattle.ctf_model.specs.Steps.{answer_to, is_quiet, is_quiet_change, Ma
 ghost use Rattle.ctf_model.specs.declared.data_model.DataModel.TheVariants.{Lp64};
 ghost use Rattle.ctf_answers.specs.Replies.{said, said_to};
 ghost use Rattle.ctf_model.specs.declared.requests.Request.TheVariants.{Changes};
+ghost use Rattle.ctf_broker.specs.Loading.{loads_section};
 ghost use Rattle.ctf_broker.specs.Table.{kept_for, library_at};
 
 use crate::libraries::{found_by, publish_in, step_in};
 use ctf_answers::{Answer, Counts};
 use ctf_library::{Library, Loaded};
-use ctf_model::{Change, Fault, PublicationName, Question, SlotNumber, placeless};
+use ctf_model::{Bytes, Change, Fault, Parts, PublicationName, Question, SlotNumber, placeless};
 use ctf_space::Opened;
 use std::alloc::Global;
 use std::collections::BTreeMap;
@@ -68,6 +69,26 @@ impl Broker {
             return Err(placeless(Fault::MEMORY));
         };
         publish_in(self.alloc, &mut self.libraries, OPERATOR, name, loaded)
+    }
+
+    /// Publishes a CTF section for the operator, without the symbols and strings of a program. It is
+    /// judged before its name is.
+    pub fn load_section(&mut self, name: &PublicationName, ctf: Vec<u8>) -> Result<Counts, Fault>
+        ensures own { Answered (library_at self.old 0)
+            (loads_section name.now ctf.items (library_at self.old 0))
+            (said result) (library_at self.new 0) }
+        ensures others { (other : ℕ) → other ≢ 0
+            → kept_for self.new other ≡ kept_for self.old other }
+    {
+        let parts = Parts {
+            ctf: Bytes::from(ctf),
+            sym: None,
+            strs: None,
+        };
+        match Loaded::shared(self.alloc, parts) {
+            Ok(loaded) => publish_in(self.alloc, &mut self.libraries, OPERATOR, name, loaded),
+            Err((fault, _parts)) => Err(fault),
+        }
     }
 
     /// Makes the step of a change: the session's own library makes it, with what its owner has

@@ -171,10 +171,7 @@ fn publication(alloc: Global, value: &Value) -> Result<Option<PublicationName>, 
     let Some(name) = text(value, "name") else {
         return Ok(None);
     };
-    Ok(PublicationName::new(Vec::from_slice(
-        alloc,
-        name.as_bytes(),
-    )?))
+    Ok(PublicationName::new(Vec::from_slice(alloc, name.as_bytes())?))
 }
 
 fn publish(alloc: Global, value: &Value) -> Result<Option<Request>, AllocError>

@@ -101,11 +101,13 @@ one_more start between new event earlier h happens s false m own true e =
     let found = found_same between later event.request (λ q. (h q).1) in
     let here : between event.session ≡ later s = (h event.session).1 ∙ ap later same in
     let out : step (between event.session) event.request (found_in between event.request) ≡ step (later s) event.request (found_in later event.request) =
-      ap (λ (l : State). step l event.request (found_in between event.request)) here ∙ ap (step (later s) event.request) found in
+    ap (λ (l : State). step l event.request (found_in between event.request)) here ∙ ap (step (later s) event.request) found in
     let reply : event.reply ≡ addressed s (step (later s) event.request (found_in later event.request)).reply =
-      own.0 ∙ ap (λ (x : ℕ). addressed x (step (between event.session) event.request (found_in between event.request)).reply) same ∙ ap (λ (o : Outcome). addressed s o.reply) out in
-    rw (m, e) (ap (λ (p : Reply). p ∷ replies_to s (granted earlier)) reply ∙ ap (λ (ps : List Reply). addressed s (step (later s) event.request (found_in later event.request)).reply ∷ ps) (h s).0,
-      ap new (sym same) ∙ own.1 ∙ ap (λ (o : Outcome). o.state) out)
+    own.0 ∙ ap (λ (x : ℕ). addressed x (step (between event.session) event.request (found_in between event.request)).reply) same ∙ ap (λ (o : Outcome). addressed s o.reply) out in
+    rw (m, e) (
+      ap (λ (p : Reply). p ∷ replies_to s (granted earlier)) reply ∙ ap (λ (ps : List Reply). addressed s (step (later s) event.request (found_in later event.request)).reply ∷ ps) (h s).0,
+      ap new (sym same) ∙ own.1 ∙ ap (λ (o : Outcome). o.state) out,
+    )
 
 pub each_alone : EachRunsAlone
 each_alone start new [] run s = (refl, run s)

@@ -53,6 +53,7 @@ pub mod KindRows
 pub mod QuestionRows
 pub mod SymbolRows
 pub mod ParentRows
+pub mod MeetingRows
 pub mod KeyOrder
 pub mod Judgements
 pub mod NewTypes

@@ -1,8 +1,9 @@
 -- Worked rows for sessions that meet. The values were worked out by hand.
-use Rattle.std.specs.Prelude.{◌≡◌, ℕ, ◌==◌, List, [], ◌∷◌, None, codes, if◌then◌else◌}
+use Rattle.std.specs.Prelude.{◌≡◌, ℕ, ◌==◌, List, [], ◌∷◌, None, Ok, Err, codes, if◌then◌else◌}
+use Rattle.ctf_model.specs.Ask.{ask}
 use Rattle.ctf_model.specs.Output.{own_reply}
 use Rattle.ctf_model.specs.ReplyLines.{reply_line}
-use Rattle.ctf_model.specs.Rows.{alone, int_bytes}
+use Rattle.ctf_model.specs.Rows.{alone, fault, int_bytes}
 use Rattle.ctf_model.specs.Runs.{Call, given, own_state}
 use Rattle.ctf_model.specs.SessionLaws.{calls_among}
 use Rattle.ctf_model.specs.State.{State, Slot, empty_state}
@@ -59,3 +60,13 @@ pub record SessionsMeet : Type 0 where
   pub reset_stays : replied then_reset 4 (Take 1 base) ≡ codes "{\"ok\":{\"d\":1,\"types\":1},\"s\":4}\n"
   pub taker_keeps : own_state world then_reset 2 ≡ own_state world taken 2
   pub left_out : given world (calls_among (1 ∷ 2 ∷ []) (call 2 (Take 1 base) ∷ call 3 Clear ∷ published)) 2 ≡ given world taken 2
+
+-- ---- what lines ask
+
+pub record MeetingsAreAsked : Type 0 where
+  pub publish : ask (codes "{\"s\":1,\"op\":\"publish\",\"d\":2,\"name\":\"Az09._-\"}") ≡ Ok (1, Changes (Publish 2 (codes "Az09._-")))
+  pub take : ask (codes "{\"s\":2,\"op\":\"take\",\"owner\":1,\"name\":\"base\"}") ≡ Ok (2, Changes (Take 1 base))
+  pub operators : ask (codes "{\"s\":2,\"op\":\"take\",\"owner\":0,\"name\":\"base\"}") ≡ Ok (2, Changes (Take 0 base))
+  pub empty_name : ask (codes "{\"s\":1,\"op\":\"publish\",\"d\":2,\"name\":\"\"}") ≡ Err (1, fault 58 0)
+  pub other_byte : ask (codes "{\"s\":1,\"op\":\"publish\",\"d\":2,\"name\":\"a/b\"}") ≡ Err (1, fault 58 0)
+  pub no_owner : ask (codes "{\"s\":1,\"op\":\"take\",\"name\":\"base\"}") ≡ Err (1, fault 58 0)

@@ -39,15 +39,16 @@ pub use requests::{Change, ListName, Request};
 pub use rows::{
     bytes_denote, bytes_have_faults, dictionaries_are_written, drafts_live,
     enumerators_and_labels_are_added, figures_are, figures_over_parents, kinds_denote,
-    kinds_have_faults, lines_ask, lines_say, lists_are_long, members_are_added, members_are_placed,
-    names_are_found, names_are_spelled, names_are_written, names_over_parents, numbers_name,
-    output_is, parents_are_imported, paths_lead, questions_are_answered, questions_are_lines,
-    records_are_written, session_runs, slots_are_closed, symbols_have_faults, symbols_tell,
-    types_are_added,
+    kinds_have_faults, lines_ask, lines_say, lists_are_long, meetings_are_asked, members_are_added,
+    members_are_placed, names_are_found, names_are_spelled, names_are_written, names_over_parents,
+    numbers_name, output_is, parents_are_imported, paths_lead, questions_are_answered,
+    questions_are_lines, records_are_written, session_runs, sessions_meet, slots_are_closed,
+    symbols_have_faults, symbols_tell, types_are_added,
 };
 pub use sections::Section;
 pub use session_laws::{
-    each_session_runs_alone, same_given_same_replies, steps_happen, unreached_sessions_do_not_matter,
+    each_session_runs_alone, same_given_same_replies, steps_happen,
+    unreached_sessions_do_not_matter,
 };
 pub use symbols::SymbolClass;
 pub use words::Word;

@@ -17,7 +17,10 @@ pub enum ListName {
 #[derive(Drop)]
 pub enum Change {
     /// Adds bytes to a staged list.
-    Part { section: ListName, bytes: Piece },
+    Part {
+        section: ListName,
+        bytes: Piece,
+    },
     /// Judges the staged lists.
     Check,
     /// Makes a slot of the staged lists.
@@ -27,16 +30,24 @@ pub enum Change {
     /// Closes all slots and clears the stage.
     Reset,
     /// Closes a slot.
-    Close { d: SlotNumber },
+    Close {
+        d: SlotNumber,
+    },
     /// Gives a slot the dictionary of another one as its parent.
-    Import { d: SlotNumber, parent: SlotNumber },
+    Import {
+        d: SlotNumber,
+        parent: SlotNumber,
+    },
     /// Gives the dictionary of a slot a name, under which any session may take it.
     Publish {
         d: SlotNumber,
         name: PublicationName,
     },
     /// Makes a slot of what a session has published.
-    Take { owner: u32, name: PublicationName },
+    Take {
+        owner: u32,
+        name: PublicationName,
+    },
 }
 
 /// A request of a session. Each value keeps the ranges of its fields in its type.

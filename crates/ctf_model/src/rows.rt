@@ -11,6 +11,7 @@ ghost use Rattle.ctf_model.specs.DumpRows.{DumpsAre};
 ghost use Rattle.ctf_model.specs.FindRows.{NamesAreFound};
 ghost use Rattle.ctf_model.specs.FigureRows.{FiguresAre, FiguresOverParents, PathsLead};
 ghost use Rattle.ctf_model.specs.KindRows.{KindsDenote, KindsHaveFaults};
+ghost use Rattle.ctf_model.specs.MeetingRows.{MeetingsAreAsked, SessionsMeet};
 ghost use Rattle.ctf_model.specs.NameRows.{NamesAreSpelled, NamesOverParents};
 ghost use Rattle.ctf_model.specs.ParentRows.{ParentsAreImported, SlotsAreClosed};
 ghost use Rattle.ctf_model.specs.QuestionRows.{PathsAreLines, QuestionsAreAnswered, QuestionsAreLines, TextsSpell};
@@ -107,6 +108,16 @@ pub fn parents_are_imported()
 /// What closing a slot and clearing the stage do.
 pub fn slots_are_closed()
     ensures { SlotsAreClosed }
+{}
+
+/// What sessions are answered that publish and take.
+pub fn sessions_meet()
+    ensures { SessionsMeet }
+{}
+
+/// How a session asks for that in lines.
+pub fn meetings_are_asked()
+    ensures { MeetingsAreAsked }
 {}
 
 /// What types come to: what they stand for, their sizes and alignments.

@@ -90,9 +90,9 @@ fn a_broker_answers(rt: HostRuntime) -> Result<(), Fail> {
 fn an_empty_library_refuses(rt: HostRuntime) {
     let mut library = Library::new(rt.alloc());
     let too_short = placeless(Fault::TOO_SHORT);
-    assert!(rt; library.step(&Change::Open).err() == Some(too_short));
-    assert!(rt; library.step(&Change::Check).err() == Some(too_short));
-    assert!(rt; library.step(&Change::Reset).is_ok());
+    assert!(rt; library.step(&Change::Open, None).err() == Some(too_short));
+    assert!(rt; library.step(&Change::Check, None).err() == Some(too_short));
+    assert!(rt; library.step(&Change::Reset, None).is_ok());
 }
 
 #[test]

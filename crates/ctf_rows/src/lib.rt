@@ -22,11 +22,15 @@ mod kinds;
 #[cfg(test)]
 mod layouts;
 #[cfg(test)]
+mod loads;
+#[cfg(test)]
 mod long_replies;
 #[cfg(test)]
 mod look_up;
 #[cfg(test)]
 mod marks;
+#[cfg(test)]
+mod meeting;
 #[cfg(test)]
 mod noted;
 #[cfg(test)]
@@ -55,6 +59,8 @@ mod spelled;
 mod stage;
 #[cfg(test)]
 mod symbols;
+#[cfg(test)]
+mod takers;
 #[cfg(test)]
 mod windows;
 #[cfg(test)]

@@ -52,6 +52,14 @@ fn change_said(change: &Change) -> Said {
         Change::Reset => plain("reset"),
         Change::Close { .. } => plain("close"),
         Change::Import { .. } => plain("import"),
+        Change::Publish { d, name } => match (d.get(), name.as_slice()) {
+            (7, b"base") => plain("publish"),
+            _ => plain("another publish"),
+        },
+        Change::Take { owner, name } => match (owner, name.as_slice()) {
+            (8, b"base") => plain("take"),
+            _ => plain("another take"),
+        },
     }
 }
 
@@ -142,6 +150,14 @@ fn changes_are_read(rt: HostRuntime) {
         ("{\"op\":\"check\",\"s\":1}", plain("check")),
         ("{\"s\":1,\"op\":\"open\"}", plain("open")),
         ("{\"s\":1,\"op\":\"reset\"}", plain("reset")),
+        (
+            "{\"s\":1,\"op\":\"publish\",\"d\":7,\"name\":\"base\"}",
+            plain("publish"),
+        ),
+        (
+            "{\"s\":1,\"op\":\"take\",\"owner\":8,\"name\":\"base\"}",
+            plain("take"),
+        ),
     ] {
         assert_eq!(rt; read(rt.alloc(), line), Ok((1, want)), "at {line}");
     }

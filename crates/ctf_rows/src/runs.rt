@@ -55,6 +55,16 @@ impl Write for Fives {
 
 /// How a run ends, and what it writes, where the reader gives pieces of a size.
 pub fn served(alloc: Global, input: &[u8], size: usize) -> (Result<(), RunFault>, Vec<u8>) {
+    served_by(alloc, &mut Broker::new(alloc), input, size)
+}
+
+/// The same from a broker on that holds something.
+pub fn served_by(
+    alloc: Global,
+    broker: &mut Broker,
+    input: &[u8],
+    size: usize,
+) -> (Result<(), RunFault>, Vec<u8>) {
     let mut source = FromReader::new(Pieces {
         rest: input,
         size,
@@ -65,7 +75,7 @@ pub fn served(alloc: Global, input: &[u8], size: usize) -> (Result<(), RunFault>
         bytes: Vec::new(alloc),
     };
     let mut sink = ToWriter::new(&mut fives);
-    let end = serve(alloc, &mut Broker::new(alloc), &mut source, &mut sink);
+    let end = serve(alloc, broker, &mut source, &mut sink);
     (end, fives.bytes)
 }
 

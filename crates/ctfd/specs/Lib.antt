@@ -1,1 +1,3 @@
 pub mod Status
+pub mod Asked
+pub mod Starts

@@ -28,25 +28,37 @@ fn dump_command<'a>(alloc: Global) -> Result<Command<'a>, AllocError> {
         .arg(file_option(alloc, "str", "The strings of that symbol table"))
 }
 
+fn serve_command<'a>(alloc: Global) -> Result<Command<'a>, AllocError> {
+    let publications = Arg::new(alloc, "publications")
+        .value_name("NAME=FILE")
+        .num_args(..)
+        .help("A CTF section that sessions may take from owner 0 by this name");
+    Command::new(alloc, "serve")
+        .about(
+            "Answers requests on standard input, one JSON line each, \
+            with one line each on standard output",
+        )
+        .arg(publications)
+}
+
 /// The commands that there are.
 fn command<'a>(alloc: Global) -> Result<Command<'a>, AllocError> {
-    let serve = Command::new(alloc, "serve").about(
-        "Answers requests on standard input, one JSON line each, \
-        with one line each on standard output",
-    );
     Command::new(alloc, "ctfd")
         .version(VERSION)
         .about("A type service over CTF dictionaries")
         .subcommand_required(true)
-        .subcommand(serve)?
+        .subcommand(serve_command(alloc)?)?
         .subcommand(dump_command(alloc)?)
 }
 
 /// Does what a command says, and answers the exit status.
 fn obey(rt: &HostRuntime, matches: &ArgMatches<'_>) -> u8 {
-    match matches.subcommand_matches("dump") {
-        Some(words) => dumping::run(rt, words),
-        None => serving::run(rt),
+    if let Some(words) = matches.subcommand_matches("dump") {
+        return dumping::run(rt, words);
+    }
+    match matches.subcommand_matches("serve") {
+        Some(words) => serving::run(rt, words),
+        None => status::MISUSED,
     }
 }
 

@@ -5,7 +5,9 @@ mod commands;
 mod dumping;
 mod files;
 mod serving;
+mod starts;
 mod status;
+mod wanted;
 
 use std::process::ExitCode;
 

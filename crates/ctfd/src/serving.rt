@@ -1,6 +1,11 @@
-//! `ctfd serve`: the service on standard input and output.
+//! `ctfd serve`: files are published, and then standard input is served to standard output.
 
+use crate::files::read_file;
+use crate::starts::NotStarted;
 use crate::status;
+use crate::wanted::{Wanted, all_wanted};
+use clap::ArgMatches;
+use ctf_dump::DumpEnd;
 use ctf_wire::{Broker, FromReader, RunFault, ToWriter, serve};
 use std::alloc::Global;
 use std::io;
@@ -9,16 +14,60 @@ use std::io::{Read, Write};
 /// Serves the lines of a reader, and writes their replies to a writer.
 pub fn serve_lines<R: Read + Drop, W: Write + Drop>(
     alloc: Global,
+    broker: &mut Broker,
     reader: R,
     writer: W,
 ) -> Result<(), RunFault> {
-    let mut broker = Broker::new(alloc);
     let mut source = FromReader::new(reader);
     let mut sink = ToWriter::new(writer);
-    serve(alloc, &mut broker, &mut source, &mut sink)
+    serve(alloc, broker, &mut source, &mut sink)
 }
 
-/// Serves standard input, and answers the exit status.
-pub fn run(rt: &HostRuntime) -> u8 {
-    status::end(rt, serve_lines(rt.alloc(), rt.reader(), io::writer(rt)))
+/// Publishes a file for the operator.
+fn publish<'a>(
+    rt: &HostRuntime,
+    broker: &mut Broker,
+    wanted: &Wanted<'a>,
+) -> Result<(), NotStarted<'a>> {
+    let bytes = match read_file(rt, wanted.file) {
+        Ok(bytes) => bytes,
+        Err(end) => return Err(NotStarted::File(end)),
+    };
+    match broker.load_section(&wanted.name, bytes) {
+        Ok(_) => Ok(()),
+        Err(fault) => Err(NotStarted::by(wanted.file, fault)),
+    }
+}
+
+/// A broker that has published what the words ask for, in their order. All words are judged before
+/// a file is read.
+fn start<'a>(rt: &HostRuntime, words: &ArgMatches<'a>) -> Result<Broker, NotStarted<'a>> {
+    let mut broker = Broker::new(rt.alloc());
+    let Some(words) = words.get_strs("publications") else {
+        return Ok(broker);
+    };
+    let Ok(wanted) = all_wanted(rt.alloc(), words) else {
+        return Err(NotStarted::File(DumpEnd::Memory));
+    };
+    let Some(wanted) = wanted else {
+        return Err(NotStarted::Misused);
+    };
+    for wanted in &wanted {
+        publish(rt, &mut broker, wanted)?;
+    }
+    Ok(broker)
+}
+
+/// Publishes the files that the words name, serves standard input, and answers the exit status.
+pub fn run(rt: &HostRuntime, words: &ArgMatches<'_>) -> u8 {
+    match start(rt, words) {
+        Ok(mut broker) => status::end(
+            rt,
+            serve_lines(rt.alloc(), &mut broker, rt.reader(), io::writer(rt)),
+        ),
+        Err(end) => {
+            let _ = eprintln!(rt; "ctfd: {end}");
+            end.status()
+        }
+    }
 }
