@@ -70,6 +70,20 @@ pub fn put(
     draft.member(TypeNum(n), name, TypeNum(tnum), offset)
 }
 
+/// Adds an enumerator.
+pub fn put_value(
+    alloc: Global,
+    draft: &mut Draft,
+    n: u16,
+    name: &[u8],
+    value: i32,
+) -> Result<(), Fault> {
+    let Ok(name) = Bytes::from_slice(alloc, name) else {
+        return Err(placeless(Fault::MEMORY));
+    };
+    draft.enumerator(TypeNum(n), name, value)
+}
+
 /// Adds a label.
 pub fn label(alloc: Global, draft: &mut Draft, name: &[u8], last: u32) -> Result<(), Fault> {
     let Ok(name) = Bytes::from_slice(alloc, name) else {
