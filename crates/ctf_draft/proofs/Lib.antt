@@ -5,6 +5,8 @@ pub mod Pending
 pub mod ValueTypes
 pub mod Figuring
 pub mod Reaches
+pub mod Kept
+pub mod Known
 pub mod Planned
 pub mod Sounding
 pub mod MemberAdded

@@ -1,10 +1,10 @@
 -- How deep a type is, and how it is aligned, by the types that it leads to.
 use Rattle.std.proofs.Common.{◌≡◌, ℕ, suc, ◌+◌, ◌-◌, ◌<◌, ◌≤◌, Bool, true, false, cond, ltb, List, [], ◌∷◌, length, map, take, get_or, Option, Some, None, Result, Ok, Err, is_some, refl, sym, ap, subst, ◌∙◌, arith, set, ◌⊎◌, inl, inr, ◌≢◌}
 use Rattle.std.specs.Prelude.{min, max, slice_get, slice_index, slice_index_or, slice_set, option_map, MatchOption}
-use Rattle.std.specs.List.{filter_map}
+use Rattle.std.specs.List.{AllByRecursion, filter_map}
 use Rattle.std.proofs.Math.ListN as listn
 use Rattle.std.proofs.lemmas.Bool.{ltb-true, ltb-false}
-use Rattle.std.proofs.lemmas.List.{get_or-map, get_or-set_other, length-map, take_all}
+use Rattle.std.proofs.lemmas.List.{get_or-map, get_or-set_other, length-map, take_all, take_more}
 use Rattle.std.proofs.lemmas.Grind.{get_or-set_at}
 use Rattle.std.proofs.lemmas.Option.{get_or_from_slice_get, same_Some}
 use Rattle.ctf_chains.specs.Places.{led_to, places_at, steps_between}
@@ -22,10 +22,11 @@ use Rattle.ctf_model.specs.Term.{Body, Member, Term}
 use Rattle.ctf_model.specs.Term as term
 use Rattle.ctf_model.specs.declared.data_model.DataModel.{DataModel}
 use Rattle.ctf_model.specs.declared.faults.Fault.{Fault}
+use Rattle.ctf_model.proofs.Alls.{all_joined}
 use Rattle.ctf_model.proofs.FigureAsks.{figures_ask}
 use Rattle.ctf_model.proofs.OwnTypes.{own_inside}
 use Rattle.ctf_model.proofs.Settled.{most_is, own_figure}
-use Rattle.ctf_draft.specs.Reaching.{Answers, IsReach, Knows, value_places}
+use Rattle.ctf_draft.specs.Reaching.{Answers, IsKnown, IsKnownAt, IsReach, Knows, value_places}
 use Rattle.ctf_draft.specs.Sizing.{aligned_by, own_align}
 use Rattle.ctf_draft.specs.declared.reach.Reach.{Reach}
 
@@ -173,24 +174,54 @@ reach_is d i k depth a r lt short whole longest aligned same_depth same_align =
     let every : min k (aligned_by body) ≡ aligned_by body = omega arith in
     let rule = own_figure (aligning d.model) (figures_ask.aligning_asks d.model) (space_of d) depth i short lt deep.within in
     record {
+      inside = lt;
       depth = subst (IsDepth (value_edges (held d)) i) (sym same_depth) deep;
       aligned = same_align ∙ aligned ∙ ap (λ (m : ℕ). greater (own_align d.model body) (greatest_of (align (space_of d)) (take m (by_value body)))) every ∙ sym (align_is d.model (align (space_of d)) body) ∙ sym rule;
     }
 
 -- ---- the table
 
-pub one_kept : (d : Draft) (known : List (Option Reach)) (i : ℕ) (r : Reach) → i < length known → Knows d known → IsReach d i r → Knows d (slice_set known i (Some r))
-one_kept d known i r lt knows is = record { right = λ j q e. at j q (same_or_not j i) e }
+-- nothing that is known is lost
+pub known_grows : (known : List (Option Reach)) (i : ℕ) (r : Reach) → i < length known → (j : ℕ) → IsKnown known j → IsKnown (slice_set known i (Some r)) j
+known_grows known i r lt j k = at (same_or_not j i)
   where
+    at : (j ≡ i) ⊎ (j ≢ i) → IsKnown (slice_set known i (Some r)) j
+    at (inl same) = ap is_some (get_or-set_at known i j (Some r) None same lt)
+    at (inr other) = ap is_some (get_or-set_other known i j (Some r) None other) ∙ k
+
+pub known_here : (known : List (Option Reach)) (i : ℕ) (r : Reach) → i < length known → IsKnown (slice_set known i (Some r)) i
+known_here known i r lt = ap is_some (get_or-set_at known i i (Some r) None refl lt)
+
+pub below_grows : (d : Draft) (a b : List (Option Reach)) → ((j : ℕ) → IsKnown a j → IsKnown b j) → (ns : List ℕ) → AllByRecursion (IsKnownAt d a) ns → AllByRecursion (IsKnownAt d b) ns
+below_grows d a b f [] h = tt
+below_grows d a b f (n ∷ ns) h = (at (own_index (is_some d.parent) (count_of d) n) h.0, below_grows d a b f ns h.1)
+  where
+    at : (o : Option ℕ) → MatchOption o (Unit {0}) (IsKnown a) → MatchOption o (Unit {0}) (IsKnown b)
+    at None k = tt
+    at (Some j) k = f j k
+
+-- of one more of the types that a type leads to something is known
+pub below_more : (d : Draft) (known : List (Option Reach)) (ns : List ℕ) (k n : ℕ) → k < length ns → n ≡ slice_index ns k → IsKnownAt d known n → AllByRecursion (IsKnownAt d known) (take k ns) → AllByRecursion (IsKnownAt d known) (take (k + 1) ns)
+below_more d known ns k n lt is here h =
+    let one : IsKnownAt d known (slice_index ns k) = subst (IsKnownAt d known) is here in
+    subst (AllByRecursion (IsKnownAt d known)) (sym (take_more ns k 0 lt)) (all_joined (IsKnownAt d known) (take k ns) (slice_index ns k ∷ []) h (one, tt))
+
+pub one_kept : (d : Draft) (known : List (Option Reach)) (i : ℕ) (r : Reach) → i < length known → Knows d known → IsReach d i r → AllByRecursion (IsKnownAt d known) (by_value (own_body (held d) i)) → Knows d (slice_set known i (Some r))
+one_kept d known i r lt knows is below = record {
+  right = λ j q e. at j q (same_or_not j i) e;
+  closed = λ j q e. below_grows d known (slice_set known i (Some r)) (known_grows known i r lt) (by_value (own_body (held d) j)) (under j q (same_or_not j i) e);
+}
+  where
+    under : (j : ℕ) (q : Reach) → (j ≡ i) ⊎ (j ≢ i) → get_or (set known i (Some r)) j None ≡ Some q → AllByRecursion (IsKnownAt d known) (by_value (own_body (held d) j))
+    under j q (inl same) e = rw same below
+    under j q (inr other) e = knows.closed j q (sym (get_or-set_other known i j (Some r) None other) ∙ e)
+
     at : (j : ℕ) (q : Reach) → (j ≡ i) ⊎ (j ≢ i) → get_or (set known i (Some r)) j None ≡ Some q → IsReach d j q
     at j q (inl same) e =
         let here : get_or (set known i (Some r)) j None ≡ Some r = get_or-set_at known i j (Some r) None same lt in
         let one : r ≡ q = same_Some _ _ (sym here ∙ e) in
         rw same (subst (IsReach d i) one is)
     at j q (inr other) e = knows.right j q (sym (get_or-set_other known i j (Some r) None other) ∙ e)
-
-pub none_kept : (d : Draft) (known : List (Option Reach)) → ((j : ℕ) → slice_index_or known j None ≡ None) → Knows d known
-none_kept d known h = record { right = λ j r e. let none = h j in absurd cc }
 
 either : (a b m : ℕ) → m ≡ max a b → (m ≡ a) ⊎ (m ≡ b)
 either a b m e = at (ltb a b) refl
@@ -234,6 +265,17 @@ module _ (d : Draft) (i : ℕ) (body : Body) (got : option_map (λ x. x.body) (s
         deep_target (value_places (held d)) budget i k j inside (led ∙ to)
         (λ le v. deep le (subst (λ (es : List (List ℕ)). IsWithin es (budget - 1) j) (edges_are (held d)) v))
         (subst (λ (es : List (List ℕ)). IsWithin es budget i) (sym (edges_are (held d))) w)
+
+    -- something is known of it then
+    pub below_named : (j : ℕ) (known : List (Option Reach)) → o ≡ Some j → IsKnown known j → AllByRecursion (IsKnownAt d known) (take k (by_value (own_body (held d) i))) → AllByRecursion (IsKnownAt d known) (take (k + 1) (by_value (own_body (held d) i)))
+    below_named j known to known_j h =
+        let here : own_index (is_some d.parent) (count_of d) n ≡ Some j = sym own ∙ to in
+        below_more d known (by_value (own_body (held d) i)) k n inside_own named (subst (λ (q : Option ℕ). MatchOption q (Unit {0}) (IsKnown known)) (sym here) known_j) h
+
+    pub below_unnamed : (known : List (Option Reach)) → o ≡ None → AllByRecursion (IsKnownAt d known) (take k (by_value (own_body (held d) i))) → AllByRecursion (IsKnownAt d known) (take (k + 1) (by_value (own_body (held d) i)))
+    below_unnamed known to h =
+        let here : own_index (is_some d.parent) (count_of d) n ≡ None = sym own ∙ to in
+        below_more d known (by_value (own_body (held d) i)) k n inside_own named (subst (λ (q : Option ℕ). MatchOption q (Unit {0}) (IsKnown known)) (sym here) tt) h
 
     pub longer_by : (l m j : ℕ) (r : Reach) → o ≡ Some j → IsReach d j r → m ≡ max l (r.depth + 1) → IsLongest (steps_between (value_places (held d))) (led_to (take k (places_at (value_places (held d)) i))) l → IsLongest (steps_between (value_places (held d))) (led_to (take (k + 1) (places_at (value_places (held d)) i))) m
     longer_by l m j r to h e longest =

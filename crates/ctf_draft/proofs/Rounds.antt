@@ -1,8 +1,8 @@
 -- Marks of earlier rounds.
-use Rattle.std.proofs.Common.{◌≡◌, ℕ, zero, suc, ◌<◌, ◌≤◌, Bool, true, false, cond, eqb, leb, List, [], ◌∷◌, ◌++◌, map, take, set, get_or, Some, None, Result, Ok, Err, refl, ap, ◌∙◌, arith}
-use Rattle.std.specs.Prelude.{◌&&◌, replicate, OnOk}
+use Rattle.std.proofs.Common.{◌≡◌, ℕ, zero, suc, ◌<◌, ◌≤◌, Bool, true, false, cond, eqb, leb, List, [], ◌∷◌, ◌++◌, length, map, take, set, get_or, Some, None, refl, ap, ◌∙◌, arith}
+use Rattle.std.specs.Prelude.{◌&&◌, replicate}
 use Rattle.std.proofs.lemmas.Bool.{eqb-true, eqb-false, leb-true, le-leb}
-use Rattle.std.proofs.lemmas.List.{map-set}
+use Rattle.std.proofs.lemmas.List.{map-set, take_all}
 use Rattle.ctf_draft.specs.MarksView.{are_within, said_in}
 use Rattle.ctf_draft.specs.declared.mark.Mark.{Mark}
 use Rattle.ctf_draft.specs.declared.reach.Reach.{Reach}
@@ -59,6 +59,22 @@ none_said r s (x ∷ xs) lt h zero = at (eqb x.round s) refl
     at false e = refl
 none_said r s (x ∷ xs) lt h (suc j) = none_said r s xs lt (parts (leb x.round r) (are_within r xs) h).1 j
 
+-- room for more says nothing
+pub same_said : (r k : ℕ) (old : Mark) → old.round ≡ 0 → 0 < r → (xs : List Mark) (j : ℕ) → get_or (map (said_in r) (xs ++ replicate k old)) j None ≡ get_or (map (said_in r) xs) j None
+same_said r zero old none lt [] j = refl
+same_said r (suc k) old none lt [] zero = at (eqb old.round r) refl
+  where
+    at : (b : Bool) → eqb old.round r ≡ b → cond b (Some old.reach) None ≡ None
+    at true e = let same : old.round ≡ r = eqb-true old.round r e in absurd (omega arith)
+    at false e = refl
+same_said r (suc k) old none lt [] (suc j) = same_said r k old none lt [] j
+same_said r k old none lt (x ∷ xs) zero = refl
+same_said r k old none lt (x ∷ xs) (suc j) = same_said r k old none lt xs j
+
+pub room_said : (r : ℕ) (b : Bool) (n k : ℕ) (old : Mark) (xs ys : List Mark) → ys ≡ cond b (take n xs ++ replicate k old) xs → old.round ≡ 0 → 0 < r → length xs ≤ n → (j : ℕ) → get_or (map (said_in r) ys) j None ≡ get_or (map (said_in r) xs) j None
+room_said r true n k old xs ys is none lt le j = rw (is, take_all n xs le) (same_said r k old none lt xs j)
+room_said r false n k old xs ys is none lt le j = rw is refl
+
 same_round : (r : ℕ) → eqb r r ≡ true
 same_round r = at (eqb r r) refl
   where
@@ -69,8 +85,3 @@ same_round r = at (eqb r r) refl
 -- a mark of this round says what it is
 pub said_now : (r i : ℕ) (reach : Reach) (xs : List Mark) → map (said_in r) (set xs i (record { round = r; reach = reach })) ≡ set (map (said_in r) xs) i (Some reach)
 said_now r i reach xs = map-set (said_in r) xs i (record { round = r; reach = reach }) ∙ ap (set (map (said_in r) xs) i) (ap (λ (b : Bool). cond b (Some reach) None) (same_round r))
-
--- what holds holds where it went well
-pub when_ok : {A E : Type 0} (r : Result A E) (P : Type 0) → P → OnOk r P
-when_ok (Ok a) P h = h
-when_ok (Err e) P h = tt

@@ -1,23 +1,34 @@
 -- How far steps by value lead, and what the alignment of a type is. The words are ours.
-use Rattle.std.specs.Prelude.{◌≡◌, ◌≤◌, ℕ, List, length, map, Option, Some, None, MatchOption, slice_index_or, is_some}
+use Rattle.std.specs.Prelude.{◌≡◌, ◌<◌, ◌≤◌, ℕ, true, List, length, map, Option, Some, None, MatchOption, slice_index_or, is_some}
+use Rattle.std.specs.List.{AllByRecursion}
 use Rattle.ctf_chains.specs.Places.{Places}
 use Rattle.ctf_chains.specs.Search.{IsDepth}
 use Rattle.ctf_model.specs.Chains.{IsWithin, by_value, own_index}
 use Rattle.ctf_model.specs.Dictionary.{Dictionary}
-use Rattle.ctf_model.specs.Drafts.{Draft, held, space_of}
-use Rattle.ctf_model.specs.FigureLaws.{value_edges}
+use Rattle.ctf_model.specs.Drafts.{Draft, count_of, held, space_of}
+use Rattle.ctf_model.specs.FigureLaws.{own_body, value_edges}
 use Rattle.ctf_model.specs.Figures.{align}
 use Rattle.ctf_model.specs.TypePlaces.{own_number}
 use Rattle.ctf_draft.specs.declared.reach.Reach.{Reach}
 
 -- of an own type, from 0: how long the longest chain from it is, and its alignment
 pub record IsReach (d : Draft) (i : ℕ) (r : Reach) : Type 0 where
+  pub inside : i < count_of d
   pub depth : IsDepth (value_edges (held d)) i r.depth
   pub aligned : r.align ≡ align (space_of d) (own_number (is_some d.parent) i)
 
--- what a table says is right
+-- something is known of a type
+abbrev pub IsKnown : List (Option Reach) → ℕ → Type 0
+IsKnown known j = is_some (slice_index_or known j None) ≡ true
+
+-- or the number names no own type
+abbrev pub IsKnownAt : Draft → List (Option Reach) → ℕ → Type 0
+IsKnownAt d known n = MatchOption (own_index (is_some d.parent) (count_of d) n) (Unit {0}) (IsKnown known)
+
+-- what a table says is right, and it says something of all that a type leads to of which it does
 pub record Knows (d : Draft) (known : List (Option Reach)) : Type 0 where
   pub right : (j : ℕ) (r : Reach) → slice_index_or known j None ≡ Some r → IsReach d j r
+  pub closed : (j : ℕ) (r : Reach) → slice_index_or known j None ≡ Some r → AllByRecursion (IsKnownAt d known) (by_value (own_body (held d) j))
 
 -- what was found within a budget of steps
 pub record IsFound (d : Draft) (i budget : ℕ) (r : Reach) : Type 0 where

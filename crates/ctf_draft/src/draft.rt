@@ -46,6 +46,7 @@ impl Model for Draft {
     ghost use Rattle.ctf_model.specs.DraftLaws.{IsSound};
     ghost use Rattle.std.specs.Option.{ForSome};
     ghost use Rattle.ctf_draft.specs.ParentView.{FitsParent, parent_in};
+    ghost use Rattle.ctf_draft.specs.Reaching.{Knows};
 
     ghost Value = { Owned };
 
@@ -60,7 +61,9 @@ impl Model for Draft {
         × (vec_len d.types ≤ most_types)
         × ForSome d.parent (FitsParent d.model)
         × IsSound (made_of d.parname d.parlabel (parent_in d.parent) d.model d.updated
-        d.updated_labels (map type_of d.types.items) d.labels) };
+        d.updated_labels (map type_of d.types.items) d.labels)
+        × Knows (made_of d.parname d.parlabel (parent_in d.parent) d.model d.updated
+        d.updated_labels (map type_of d.types.items) d.labels) d.marks };
 }
 
 impl Draft {
@@ -119,6 +122,7 @@ impl Draft {
         ensures draft { self.new.draft ≡ discarded self.old.draft }
         ensures dictionary { self.new.dictionary ≡ self.old.dictionary }
     {
+        self.marks.forget();
         self.types.truncate(self.updated);
         self.labels.truncate(self.updated_labels);
     }

@@ -110,6 +110,7 @@ impl Draft {
         ensures as_before { OnErr result (self.new ≡ self.old) }
         ensures dictionary { self.new.dictionary ≡ self.old.dictionary }
     {
+        self.marks.leave(i);
         push_member(&mut self.types[i], member, size)
     }
 
@@ -156,6 +157,7 @@ impl Draft {
         ensures as_before { OnErr result (self.new ≡ self.old) }
         ensures dictionary { self.new.dictionary ≡ self.old.dictionary }
     {
+        self.marks.leave(i);
         push_enumerator(&mut self.types[i], enumerator)
     }
 

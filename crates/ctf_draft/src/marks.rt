@@ -1,5 +1,5 @@
-//! What is known of each type while a member is placed.
-ghost use Rattle.std.specs.Prelude.{◌≡◌, ◌<◌, ℕ, None, Some, [], length, slice_index_or, slice_set, OnOk};
+//! What is known of each type from the members that were placed.
+ghost use Rattle.std.specs.Prelude.{◌≡◌, ◌<◌, ◌≤◌, ◌⊎◌, ℕ, None, Some, [], is_some, length, slice_index_or, slice_set, OnOk};
 
 use crate::mark::Mark;
 use crate::reach::Reach;
@@ -16,7 +16,7 @@ const OLD: Mark = Mark {
 };
 
 /// For each type what is known of it in this round, if anything is. What was found in earlier
-/// rounds is forgotten without a walk over it.
+/// rounds is forgotten, which takes no walk over it.
 #[derive(Drop)]
 pub(crate) struct Marks {
     marks: Vec<Mark>,
@@ -24,7 +24,7 @@ pub(crate) struct Marks {
 }
 
 impl Model for Marks {
-    ghost use Rattle.std.specs.Prelude.{◌≡◌, List, Option, map, true};
+    ghost use Rattle.std.specs.Prelude.{◌≡◌, ◌<◌, List, Option, map, true};
     ghost use Rattle.ctf_draft.specs.MarksView.{are_within, said_in};
     ghost use Rattle.ctf_draft.specs.declared.reach.Reach.{Reach};
 
@@ -32,33 +32,57 @@ impl Model for Marks {
 
     ghost view = { λ m. map (said_in m.round) m.marks.items };
 
-    ghost invariant = { λ m. are_within m.round m.marks.items ≡ true };
+    ghost invariant = { λ m. (0 < m.round) × (are_within m.round m.marks.items ≡ true) };
 }
 
 impl Marks {
-    pub(crate) fn new(alloc: Global) -> Marks {
+    pub(crate) fn new(alloc: Global) -> Marks
+        ensures { result ≡ [] }
+    {
         Marks {
             marks: Vec::new(alloc),
-            round: 0,
+            round: 1,
         }
     }
 
-    /// Forgets all, for so many types.
-    pub(crate) fn renew(&mut self, count: usize) -> Result<(), AllocError>
-        ensures len { OnOk result (length self.new ≡ count) }
-        ensures open { OnOk result ((j : ℕ) → slice_index_or self.new j None ≡ None) }
+    /// Has room for so many types.
+    pub(crate) fn make_room(&mut self, count: usize) -> Result<(), AllocError>
+        ensures room { OnOk result (count ≤ length self.new) }
+        ensures same { (j : ℕ) → slice_index_or self.new j None ≡ slice_index_or self.old j None }
+    {
+        if self.marks.len() < count {
+            self.marks.resize(count, OLD)
+        } else {
+            Ok(())
+        }
+    }
+
+    /// Forgets all.
+    pub(crate) fn forget(&mut self)
+        ensures { (j : ℕ) → slice_index_or self.new j None ≡ None }
     {
         match self.round.checked_add(1) {
-            Some(round) => {
-                self.round = round;
-                self.marks.resize(count, OLD)
-            }
-            None => {
-                self.marks.clear();
-                self.round = 1;
-                self.marks.resize(count, OLD)
-            }
+            Some(round) => self.round = round,
+            None => self.marks.clear(),
         }
+    }
+
+    /// Forgets all, if something is known of a type.
+    pub(crate) fn leave(&mut self, i: usize)
+        ensures left { (self.new ≡ self.old)
+            ⊎ ((j : ℕ) → slice_index_or self.new j None ≡ None) }
+        ensures unknown { slice_index_or self.new i None ≡ None }
+    {
+        if self.has(i) {
+            self.forget();
+        }
+    }
+
+    /// Whether something is known of a type.
+    fn has(&self, i: usize) -> bool
+        ensures { result ≡ is_some (slice_index_or self.now i None) }
+    {
+        i < self.marks.len() && self.get(i).is_some()
     }
 
     /// What is known of a type.

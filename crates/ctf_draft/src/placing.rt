@@ -1,6 +1,7 @@
 //! Where a member is placed.
 ghost use Rattle.std.specs.Prelude.{◌≡◌, ◌+◌, ◌<◌, ◌^◌, ◌⊎◌, ℕ, IfOk, IfErr, MatchOption, option_map, true, false, unwrap_or, Ok, Err};
 ghost use Rattle.ctf_draft.specs.Pending.{StandsPending};
+ghost use Rattle.ctf_draft.specs.Reaching.{Knows};
 ghost use Rattle.ctf_draft.specs.Planning.{planned, planned_shallow, planned_with, stands_behind};
 ghost use Rattle.ctf_draft.specs.TypeView.{body_of, member_of};
 ghost use Rattle.ctf_model.specs.Adders.{body_at, is_deep};
@@ -84,14 +85,17 @@ impl Draft {
         marks: &mut Marks,
         tnum: TypeNum,
     ) -> Result<Option<Result<u64, Fault>>, AllocError>
-        ensures { IfOk result (λ found. MatchOption found (is_deep self.now.draft tnum.0 ≡ true)
+        requires { Knows self.now.draft marks.old }
+        ensures found { IfOk result (λ found. MatchOption found
+            (is_deep self.now.draft tnum.0 ≡ true)
             (λ align. (is_deep self.now.draft tnum.0 ≡ false)
             × (align ≡ align_in (space_of self.now.draft) tnum.0))) }
+        ensures knows { Knows self.now.draft marks.new }
     {
         let Some(i) = self.own_index(tnum) else {
             return Ok(Some(self.align_elsewhere(tnum)));
         };
-        let Ok(()) = marks.renew(self.types.len()) else {
+        let Ok(()) = marks.make_room(self.types.len()) else {
             return Err(AllocError);
         };
         match self.reach(marks, i, LONGEST_CHAIN) {
@@ -174,10 +178,12 @@ impl Draft {
         tnum: TypeNum,
         offset: Option<u64>,
     ) -> Result<Plan, Fault>
-        requires { StandsPending self.now.draft n.0 i }
+        requires pending { StandsPending self.now.draft n.0 i }
+        requires knows { Knows self.now.draft marks.old }
         ensures ok { IfOk result (λ p. planned self.now.draft n.0 tnum.0 offset ≡ Ok p) }
         ensures err { IfErr result (λ f. (f ≡ want_of_memory)
             ⊎ (planned self.now.draft n.0 tnum.0 offset ≡ Err f)) }
+        ensures knows { Knows self.now.draft marks.new }
     {
         let Ok(found) = self.alignment(marks, tnum) else {
             return Err(placeless(Fault::MEMORY));

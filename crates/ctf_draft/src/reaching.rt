@@ -1,6 +1,6 @@
 //! How deep a type of a draft is, and how it is aligned.
 ghost use Rattle.std.specs.Prelude.{◌≡◌, ◌<◌, ◌≤◌, ℕ, suc, length, max, None, MatchOption, is_some, if◌then◌else◌};
-ghost use Rattle.ctf_draft.specs.Reaching.{Answers, IsFound, Knows};
+ghost use Rattle.ctf_draft.specs.Reaching.{Answers, IsFound, IsKnown, Knows};
 ghost use Rattle.ctf_model.specs.Chains.{longest_chain, own_index as own_index_of};
 ghost use Rattle.ctf_model.specs.Drafts.{count_of, space_of};
 ghost use Rattle.ctf_model.specs.Figures.{aligning, comes_to, greater as greater_of, parents_figure};
@@ -54,14 +54,16 @@ impl Draft {
     }
 
     /// How deep an own type is and how it is aligned, if the budget is enough for its depth. Each
-    /// type that it leads to is looked at once.
+    /// type that it leads to is looked at once, and not beyond those of which this is known.
     pub(crate) fn reach(&self, marks: &mut Marks, i: usize, budget: u16) -> Option<Reach>
-        requires same { length marks.old ≡ count_of self.now.draft }
+        requires room { count_of self.now.draft ≤ length marks.old }
         requires own { i < count_of self.now.draft }
         requires budget { budget ≤ longest_chain }
         requires knows { Knows self.now.draft marks.old }
-        ensures same { length marks.new ≡ length marks.old }
+        ensures room { count_of self.now.draft ≤ length marks.new }
         ensures knows { Knows self.now.draft marks.new }
+        ensures grows { (j : ℕ) → IsKnown marks.old j → IsKnown marks.new j }
+        ensures known { MatchOption result (Unit {0}) (λ r. IsKnown marks.new i) }
         ensures answer { Answers self.now.draft i budget result }
     {
         if let Some(known) = marks.get(i) {

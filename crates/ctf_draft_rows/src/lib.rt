@@ -2,8 +2,13 @@
 #![tactic(auto)]
 
 mod making;
+mod reading;
 
-pub use making::{a_struct, add, enumerator, fresh, integer, label, named, put, size_of};
+pub use making::{a_struct, add, fresh, integer, label, named, put, put_value, size_of};
+pub use reading::{
+    aggregate_at, array_at, enum_at, enumerator_at, function_at, is_unknown, member_at, name_at,
+    reference_at, scalar_at, tag_at,
+};
 
 #[cfg(test)]
 mod kinds;
@@ -13,6 +18,8 @@ mod life;
 mod members;
 #[cfg(test)]
 mod memory;
+#[cfg(test)]
+mod orders;
 #[cfg(test)]
 mod parents;
 #[cfg(test)]

@@ -71,7 +71,7 @@ pub fn put(
 }
 
 /// Adds an enumerator.
-pub fn enumerator(
+pub fn put_value(
     alloc: Global,
     draft: &mut Draft,
     n: u16,

@@ -1,6 +1,6 @@
 //! Drafts as the bytes of a dictionary.
 
-use crate::{a_struct, add, enumerator, fresh, integer, label, named, put};
+use crate::{a_struct, add, fresh, integer, label, named, put, put_value};
 use ctf_draft::{AggregateKind, Draft, NewBody, ReferenceKind, ScalarKind};
 use ctf_model::{DataModel, Fault, TypeNum, placeless};
 use ctf_records::Tag;
@@ -125,7 +125,7 @@ fn add_tagged(alloc: Global, draft: &mut Draft) -> Result<TypeNum, Fault> {
     )?;
     put(alloc, draft, 8, b"f", 3, None)?;
     named(alloc, draft, b"e", NewBody::Enum(4))?;
-    enumerator(alloc, draft, 9, b"A", -1)?;
+    put_value(alloc, draft, 9, b"A", -1)?;
     named(alloc, draft, b"w", NewBody::Forward(Tag::Struct))
 }
 

@@ -8,6 +8,8 @@ use Rattle.ctf_model.proofs.SoundDrafts.{type_sound}
 use Rattle.ctf_model.specs.Term.{Term}
 use Rattle.ctf_draft.specs.NewView.{new_of}
 use Rattle.ctf_draft.specs.TypeView.{type_of}
+use Rattle.ctf_draft.specs.Reaching.{Knows}
+use Rattle.ctf_draft.proofs.Known.{type_known}
 use Rattle.ctf_draft.proofs.Views.{added, all_terms, one_type, seen, type_accepted}
 use Rattle.ctf_draft.proofs.draft.Draft.add.Goals as goal
 use Rattle.ctf_draft.proofs.draft.Draft.add.Goals.{In-Ok}
@@ -42,4 +44,8 @@ invariant_of-self-2 c =
     let few = sound.all.count in
     let count = ap length (all_terms d.parname d.parlabel parent d.model d.updated d.updated_labels terms d.labels) in
     let same = length-map c.push.new.self.items type_of in
-    (omega (arith, c.in-Ok.ensures.len, c.self.invariant.0), c.self.invariant.1, omega (arith, few, count, same, c.push.new.self.ok.0), c.self.invariant.3, sound)
+    let x = new_term (new_of c.args.new) in
+    let old = map type_of d.types.items in
+    let all : terms ≡ old ++ x ∷ [] = ap (map type_of) c.in-Ok.ensures.items ∙ map-append type_of d.types.items (c.made.result ∷ []) ∙ ap (λ (y : Term). old ++ y ∷ []) c.made.ensures.made in
+    let knows = subst (λ (ts : List Term). Knows (seen d.parname d.parlabel parent d.model d.updated d.updated_labels ts d.labels) d.marks) (sym all) (type_known d.parname d.parlabel parent d.model d.marks d.updated d.updated_labels old d.labels x c.self.invariant.4 c.self.invariant.5) in
+    (omega (arith, c.in-Ok.ensures.len, c.self.invariant.0), c.self.invariant.1, omega (arith, few, count, same, c.push.new.self.ok.0), c.self.invariant.3, sound, knows)

@@ -4,6 +4,7 @@ use Rattle.ctf_model.specs.DraftLaws.{IsSound}
 use Rattle.ctf_model.proofs.SoundDrafts.{life_sound}
 use Rattle.ctf_draft.specs.ParentView.{parent_in}
 use Rattle.ctf_draft.specs.TypeView.{type_of}
+use Rattle.ctf_draft.proofs.Known.{none_known}
 use Rattle.ctf_draft.proofs.Views.{dropped, seen}
 use Rattle.ctf_draft.proofs.draft.Draft.discard.Goals as goal
 
@@ -25,4 +26,5 @@ invariant_of-self c =
       c.self.invariant.3,
       rw (c.truncate.ensures.items, c.truncate-2.ensures, ← take-map type_of d.updated d.types.items)
           (subst IsSound (sym (dropped d.parname d.parlabel parent d.model d.updated d.updated_labels terms d.labels)) (life_sound (seen d.parname d.parlabel parent d.model d.updated d.updated_labels terms d.labels) c.self.invariant.4).0),
+      none_known _ c.forget.new.self c.forget.ensures,
     )

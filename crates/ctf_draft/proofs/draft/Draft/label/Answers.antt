@@ -9,6 +9,7 @@ use Rattle.ctf_model.proofs.SoundDrafts.{label_sound}
 use Rattle.ctf_draft.specs.ParentView.{parent_in}
 use Rattle.ctf_model.specs.Drafts.{Draft, has_zero, held}
 use Rattle.ctf_draft.specs.TypeView.{type_of}
+use Rattle.ctf_draft.proofs.Known.{terms_known}
 use Rattle.ctf_draft.proofs.Views.{all_labels, label_free, labelled, one_label, seen, label_accepted}
 use Rattle.ctf_draft.proofs.draft.Draft.label.Goals as goal
 use Rattle.ctf_draft.proofs.draft.Draft.label.Goals.{In-Ok}
@@ -40,4 +41,4 @@ invariant_of-self-2 c =
     let more = ap length all in
     let len = length-append d.labels (l ∷ []) in
     let sound = subst IsSound (ap (λ o. o.draft) c.self.view_is) c.self.invariant.4 in
-    (c.self.invariant.0, omega (arith, more, len, c.self.invariant.1), c.self.invariant.2, c.self.invariant.3, label_sound c.args.self.now.draft l _ sound (omega (arith, c.ranges.last.fits)) (accepted (goal.at.invariant_of-self-2 c).In-Ok))
+    (c.self.invariant.0, omega (arith, more, len, c.self.invariant.1), c.self.invariant.2, c.self.invariant.3, label_sound c.args.self.now.draft l _ sound (omega (arith, c.ranges.last.fits)) (accepted (goal.at.invariant_of-self-2 c).In-Ok), terms_known d.parname d.parlabel (parent_in d.parent) d.model d.marks d.updated d.updated_labels d.updated d.updated_labels (map type_of d.types.items) d.labels c.push.new.self c.self.invariant.5)

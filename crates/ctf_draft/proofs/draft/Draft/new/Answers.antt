@@ -1,7 +1,8 @@
-use Rattle.std.proofs.Common.{◌≡◌, false, option_map, sym, ap, ◌∙◌, arith}
+use Rattle.std.proofs.Common.{◌≡◌, false, None, option_map, slice_index_or, sym, ap, ◌∙◌, arith}
 use Rattle.ctf_layout.proofs.Tables.{same_some}
 use Rattle.ctf_model.specs.Dictionary.{said_by}
 use Rattle.ctf_model.specs.Drafts.{has_zero}
+use Rattle.ctf_draft.proofs.Known.{none_known}
 use Rattle.ctf_draft.proofs.Sounding.{empty_sound}
 use Rattle.ctf_draft.proofs.draft.Draft.new.Goals as goal
 
@@ -16,4 +17,5 @@ invariant_of-result c =
       c.in-Ok.ensures.fits,
       rw (c.new.ensures.items, c.new-2.ensures, c.in-Ok.ensures.same)
           (empty_sound parent c.args.parname c.args.parlabel c.args.model (same_some (λ p. said_by p.value.lists) c.args.parent ∙ c.requires.named) clean clean_label (sym c.is_childs.ensures ∙ c.if-is_childs.false)),
+      none_known _ c.new-3.result (λ j. ap (λ known. slice_index_or known j None) c.new-3.ensures),
     )

@@ -1,4 +1,6 @@
-use Rattle.std.proofs.Common.{◌≤◌, length, map, option_map, set, sym, ap, subst, ◌∙◌, arith}
+use Rattle.std.proofs.Common.{◌≤◌, List, length, map, option_map, set, sym, ap, subst, ◌∙◌, arith}
+use Rattle.std.proofs.lemmas.List.{map-set}
+use Rattle.ctf_model.specs.Term.{Term}
 use Rattle.std.proofs.lemmas.Result.{on_ok_weaker, on_err_weaker}
 use Rattle.ctf_model.specs.Adders.{body_at, replaced, with_member}
 use Rattle.ctf_draft.specs.ParentView.{parent_in}
@@ -7,6 +9,8 @@ use Rattle.ctf_model.specs.Drafts.{Draft}
 use Rattle.ctf_draft.specs.DraftView.{Owned}
 use Rattle.ctf_draft.specs.TypeView.{member_of, type_of}
 use Rattle.ctf_draft.proofs.Pending.{left_here, put_here}
+use Rattle.ctf_draft.specs.Reaching.{Knows}
+use Rattle.ctf_draft.proofs.Known.{left_known, other_known}
 use Rattle.ctf_draft.proofs.Sounding.{either_sound}
 use Rattle.ctf_draft.proofs.Views.{seen}
 use Rattle.ctf_draft.proofs.draft.Draft.put_member.Goals as goal
@@ -37,4 +41,8 @@ invariant_of-self c =
     let changed = on_ok_weaker c.push_member.result (put_here d.parname d.parlabel parent d.model d.updated d.updated_labels d.types.items d.labels n c.args.i c.index_mut.result.now c.index_mut.ensures.value few e view c.requires.pending change c.push_member.new.to) c.push_member.ensures.ok in
     let left = on_err_weaker c.push_member.result (λ same. left_here d.parname d.parlabel parent d.model d.updated d.updated_labels d.types.items d.labels n c.args.i c.index_mut.result.now c.index_mut.ensures.value few e view c.requires.pending c.push_member.new.to same) c.push_member.ensures.as_before in
     let sound = c.requires.sound (subst IsSound view c.self.invariant.4) in
-    (c.self.invariant.0, c.self.invariant.1, c.self.invariant.2, c.self.invariant.3, either_sound c.push_member.result before (replaced e n (change (body_at e n))) after changed left c.self.invariant.4 sound)
+    let new = c.push_member.new.to in
+    let all = map-set type_of d.types.items c.args.i new in
+    let left_marks = left_known before d.marks c.leave.new.self c.leave.ensures.left c.self.invariant.5 in
+    let knows = subst (λ (ts : List Term). Knows (seen d.parname d.parlabel parent d.model d.updated d.updated_labels ts d.labels) c.leave.new.self) (sym all) (other_known d.parname d.parlabel parent d.model c.leave.new.self d.updated d.updated_labels (map type_of d.types.items) d.labels c.args.i (type_of new) c.leave.ensures.unknown left_marks) in
+    (c.self.invariant.0, c.self.invariant.1, c.self.invariant.2, c.self.invariant.3, either_sound c.push_member.result before (replaced e n (change (body_at e n))) after changed left c.self.invariant.4 sound, knows)
