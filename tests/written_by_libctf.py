@@ -18,6 +18,7 @@ What is expected was worked out by hand from the types.
 import ctypes
 import difflib
 import pathlib
+import re
 import struct
 import sys
 
@@ -33,11 +34,11 @@ EXPECTED = """\
 10 of 2 by 3
 0x6: (kind 1) int (format 0x1) (size 0x4) (aligned at 0x4)
 0x7: (kind 6) struct s (size 0x4) (aligned at 0x4)
-    [0x0] i: ID 0x2
+     [0x0] i: ID 0x2
 0x8: (kind 7) union u (size 0x8) (aligned at 0x8)
-    [0x0] f: ID 0x3
+     [0x0] f: ID 0x3
 0x9: (kind 8) enum e (size 0x4) (aligned at 0x4)
-    A: -1
+     A: -1
 0xa: (kind 9) struct w
 0xb: (kind 10) t (size 0x4) (aligned at 0x4) -> 0x2
 0xc: (kind 11) volatile int (size 0x4) (aligned at 0x4) -> 0x2
@@ -83,8 +84,7 @@ class Read:
         state = ctypes.c_void_p()
         while text := self.libctf.ctf_dump(self.dictionary, ctypes.byref(state), TYPES, None, None):
             for line in filter(str.strip, text.decode().split("\n")):
-                first, *rest = line.rstrip().replace(" -> 0x", "\0-> 0x").replace(": ID 0x", ":\0ID 0x").split("\0")
-                yield " ".join([first, *(more.split(":")[0] for more in rest[:1])]).replace("     ", "    ")
+                yield re.sub(r"((->|ID) 0x\w+):.*", r"\1", line.rstrip())
 
     def array(self, number):
         array = Array()
