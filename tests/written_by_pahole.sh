@@ -10,8 +10,8 @@
 # has to have a symbol table, and in it no function: they want to be told something of each, and nothing is
 # told here.
 #
-# The lists below were worked out by hand from the types, with these ways of the readers, which they have with
-# the dictionaries of others too (examples/lua.ctf):
+# The lists below were worked out by hand from the types, with these ways of the readers, of which those on
+# the sizes of enums and on forwards were seen with the dictionary of another tool too (examples/lua.ctf):
 # - Of type 1, an unknown one, they say no more than number, place and visibility, on standard error.
 # - A float's width in a struct is that of C's type of its name. `f` is no such name, so the member has none.
 # - An enum's size in bytes is taken for bits, so 4 are no byte, and "packed". Values are without sign: -1 is
