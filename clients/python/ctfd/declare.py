@@ -16,16 +16,22 @@ CUT = "/* .. */"
 
 
 class Declarator(NamedTuple):
-    """A declaration in its parts: `base left name right`, as `int (* f )(void)`."""
+    """A declaration in its parts: `qualifiers base left name right`, as `const int (* f )(void)`."""
 
-    base: str
+    qualifiers: List[str]
+    base: Type
     left: str
     right: str
+
+    @property
+    def spelled(self) -> str:
+        """The base with its qualifiers."""
+        return " ".join([*self.qualifiers, base(self.base)])
 
     def around(self, name: str) -> str:
         """The declaration of a name; with "" that of the type alone."""
         inner = self.left + name + self.right if name else self.left.rstrip() + self.right
-        return f"{self.base} {inner}".rstrip()
+        return f"{self.spelled} {inner}".rstrip()
 
 
 def declaration(declared: Type, name: str = "") -> str:
@@ -70,7 +76,7 @@ def _declarator(declared: Type, depth: int, budget: List[int]) -> Declarator:
             else:
                 qualifiers.append(kind)
         else:
-            return Declarator(" ".join([*qualifiers, base(declared)]), left, right)
+            return Declarator(qualifiers, declared, left, right)
 
 
 def _arguments(signature: Signature, depth: int, budget: List[int]) -> str:

@@ -3,14 +3,14 @@ from __future__ import annotations
 
 from typing import List
 
-from .declare import base, declaration, declarator
+from .declare import Declarator, base, declaration, declarator
 from .layout import Layout, Place, layout
 from .text import printable
 from .types import Type
 
 LINE = 64
 TYPE, NAME, TAB = 26, 22, 8
-DEEPEST = 64
+DEEPEST, LONGEST = 64, 20_000
 AGGREGATES = ("struct", "union")
 
 
@@ -24,14 +24,12 @@ def listing(listed: Type) -> str:
     return "\n".join(Listing(places=True).definition(listed))
 
 
-def inner(place: Place) -> bool:
-    """Whether a member's type is written out in place: a struct or union without a name."""
-    stripped = place.member.type.stripped
-    return stripped.kind in AGGREGATES and not stripped.name
-
-
 class Listing:
-    """The lines of one type, made from top to bottom; `line` counts the cache lines told."""
+    """The lines of one type, made from top to bottom; `line` counts the cache lines told.
+
+    A struct or union without a name is written out where a member is declared with it. That ends
+    at a depth and at a number of lines: a hostile type doubles at each level.
+    """
 
     def __init__(self, places: bool) -> None:
         self.places = places
@@ -68,28 +66,29 @@ class Listing:
             if self.places:
                 self._gap(place, depth)
                 self._boundary(start + place.start // 8, depth)
-            if inner(place) and depth < DEEPEST:
-                self._inner(place, depth, start)
+            said = declarator(place.member.type)
+            unnamed = said.base.kind in AGGREGATES and not said.base.name
+            if unnamed and depth < DEEPEST and len(self.lines) < LONGEST:
+                self._inner(place, said, depth, start)
             else:
-                self._member(place, depth, start)
+                self._member(place, said, depth, start)
 
-    def _inner(self, place: Place, depth: int, start: int) -> None:
-        stripped = place.member.type.stripped
-        qualifiers = declarator(place.member.type).base.rsplit(stripped.kind, 1)[0]
-        self.lines.append("\t" * depth + f"{qualifiers}{stripped.kind} {{")
-        self._members(layout(stripped), depth + 1, start + place.member.offset // 8)
-        name = printable(place.member.name)
-        self._line("} " + name + ";" if name else "};", place, depth, start)
+    def _inner(self, place: Place, said: Declarator, depth: int, start: int) -> None:
+        """A member whose struct or union has no name."""
+        head = " ".join([*said.qualifiers, said.base.kind, "{"])
+        self.lines.append("\t" * depth + head)
+        self._members(layout(said.base), depth + 1, start + place.member.offset // 8)
+        name = said.left + printable(place.member.name) + said.right
+        self._line(f"}} {name};" if name else "};", place, depth, start)
 
-    def _member(self, place: Place, depth: int, start: int) -> None:
+    def _member(self, place: Place, said: Declarator, depth: int, start: int) -> None:
         """One member: its type in a column of its own, then its name, and where it lies."""
-        said = declarator(place.member.type)
         cut = said.left.find("(")
         outer, declared = (said.left, "") if cut < 0 else (said.left[:cut], said.left[cut:])
         declared += printable(place.member.name) + said.right
         if place.width is not None:
             declared += f":{place.width}"
-        spelled = f"{said.base} {outer}".rstrip()
+        spelled = f"{said.spelled} {outer}".rstrip()
         if not self.places:
             glue = "" if outer.endswith("*") else " "
             self.lines.append("\t" * depth + f"{spelled}{glue}{declared}".rstrip() + ";")
@@ -107,9 +106,10 @@ class Listing:
         if place.width is None:
             lies = f"/* {byte:5} {'?' if size is None else size:>5} */"
         else:
-            first = start + place.start // 8 // (size or 1) * (size or 1)
-            lies = f"/* {first:5}:{start * 8 + place.start - 8 * first:2} {size or 0:2} */"
-        self.lines.append("\t" * depth + f"{written:<{column}}{lies}")
+            unit = 8 * (size or 1)
+            first, bit = divmod(place.start, unit)
+            lies = f"/* {start + first * unit // 8:5}:{bit:2} {size or 0:2} */"
+        self.lines.append("\t" * depth + f"{written:<{column - 1}} {lies}")
 
     def _gap(self, place: Place, depth: int) -> None:
         told = [(place.bit_hole, "bit"), (place.hole, "byte")]
