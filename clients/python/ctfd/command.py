@@ -14,7 +14,7 @@ from typing import List, Optional
 
 from . import declare
 from .dictionary import Dictionary, open_file
-from .faults import Error, NotFound
+from .faults import Error, NotFound, Refused
 from .listing import definition, listing
 from .text import printable
 from .types import Signature, Type
@@ -68,11 +68,22 @@ def _print_all(types: Dictionary) -> None:
     own = types.types()
     types.fetch([(op, t.number) for t in own for op in ("record", "size", "name")])
     for t in own:
-        try:
-            size, spelled = ("-" if t.size is None else t.size), printable(t.spelled)
-        except Error as error:
-            size, spelled = "-", f"({getattr(error, 'name', error)})"
-        print(f"{t.number:>6} {size:>8}  {spelled}")
+        print(f"{t.number:>6} {_size(t):>8}  {_spelled(t)}")
+
+
+def _size(t: Type) -> str:
+    try:
+        return "-" if t.size is None else str(t.size)
+    except Refused:
+        return "-"
+
+
+def _spelled(t: Type) -> str:
+    """The type's name, or in brackets why there is none."""
+    try:
+        return printable(t.spelled)
+    except Refused as fault:
+        return f"({fault.name})"
 
 
 def _print_named(types: Dictionary, name: str, plain: bool) -> None:

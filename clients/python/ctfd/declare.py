@@ -30,7 +30,8 @@ class Declarator(NamedTuple):
 
     def around(self, name: str) -> str:
         """The declaration of a name; with "" that of the type alone."""
-        inner = self.left + name + self.right if name else self.left.rstrip() + self.right
+        closed = not name and self.right.startswith(")")  # as in "(*const)()"
+        inner = (self.left.rstrip() if closed else self.left) + name + self.right
         return f"{self.spelled} {inner}".rstrip()
 
 
