@@ -1,4 +1,4 @@
-"""Prints the types of a program: one as pahole does, with places, sizes and holes, or a list of all.
+"""Prints the types of a program: one as pahole does, with places and holes, or a list of all.
 
 FILE is an ELF file with a section .SUNW_ctf or .ctf, or the bytes of such a section. NAME is a
 type as C names it ("struct lua_State", "TValue"), or a function or object of the program. The
@@ -36,7 +36,8 @@ def main(arguments: Optional[List[str]] = None) -> int:
 
 def _parser() -> argparse.ArgumentParser:
     parser = argparse.ArgumentParser(
-        prog="ctfd-types", description=__doc__, formatter_class=argparse.RawDescriptionHelpFormatter)
+        prog="ctfd-types", description=__doc__,
+        formatter_class=argparse.RawDescriptionHelpFormatter)
     parser.add_argument("file", metavar="FILE", help="an ELF file or a CTF section")
     parser.add_argument("name", metavar="NAME", nargs="?", help="a type or a symbol")
     parser.add_argument("--plain", action="store_true", help="C alone, without places")

@@ -16,7 +16,7 @@ CUT = "/* .. */"
 
 
 class Declarator(NamedTuple):
-    """A declaration in its parts: `qualifiers base left name right`, as `const int (* f )(void)`."""
+    """A declaration in its parts: `qualifiers base left name right`: `const int (* f )(void)`."""
 
     qualifiers: List[str]
     base: Type

@@ -31,7 +31,7 @@ WORDS = {
 
 def open_file(session: Session, path: str, sym: Optional[bytes] = None,
               strings: Optional[bytes] = None) -> Dictionary:
-    """Opens the dictionary of a file (see `ctfd.source`), with other symbols or strings if given."""
+    """Opens the dictionary of a file (see `ctfd.source`); symbols and strings may be given."""
     found = source.read(path)
     if sym is not None or strings is not None:
         found = Source(found.ctf, sym, found.strings if strings is None else strings, "given")
@@ -122,7 +122,8 @@ class Dictionary:
         items: List[Any] = []
         total = 1
         while len(items) < total:
-            page = self.session.ask_all([(op, {"d": self.slot, "t": t, "from": len(items), "count": PAGE})])[0]
+            asked = {"d": self.slot, "t": t, "from": len(items), "count": PAGE}
+            page = self.session.ask_all([(op, asked)])[0]
             if isinstance(page, Refused):
                 return page
             items += page[LISTS[op]]

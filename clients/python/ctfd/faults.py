@@ -38,7 +38,8 @@ class Refused(Error):
 
     def _text(self) -> str:
         place = f" at {self.place}" if self.place else ""
-        asked = ", ".join([self.op, *(f"{key} {_short(value)}" for key, value in self.fields.items())])
+        fields = [f"{key} {_short(value)}" for key, value in self.fields.items()]
+        asked = ", ".join([self.op, *fields])
         return f"{self.name}{place} ({asked})" + (f": {self.advice}" if self.advice else "")
 
 
@@ -97,7 +98,7 @@ ADVICE: Dict[str, str] = {
     "TooShort": "fewer than 4 bytes were handed in: is the file empty?",
     "BadMagic": "not the start of a CTF section: f2df is GNU's CTF, 7f454c46 a whole ELF file,"
     " cff1 big-endian CTF, and none of these is read",
-    "BadVersion": "only version 2 is read: convert the program's DWARF with a tool that writes that",
+    "BadVersion": "only version 2 is read: convert the program's DWARF by a tool that writes it",
     "Compressed": "inflate the body and clear bit 0 of byte 3, as ctfd.source.inflate does",
     "ShortHeader": "the header has 36 bytes: the file is cut off",
     "BadOrder": "the header is damaged, or the body is compressed and its flag was cleared",
@@ -110,7 +111,7 @@ ADVICE: Dict[str, str] = {
     "BadName": "a name is in no string table: hand in the strings of the program's symbol table,"
     " .strtab of the very file that has the section",
     "BadReference": "a record names a type that is not there: damage, or a child without parname",
-    "ValueDeep": "a value holds itself, or more than 512 others in each other: no C program has that",
+    "ValueDeep": "a value holds itself, or 512 others in each other: no C program has that",
     "DeclDeep": "a declaration goes on for more than 512 steps: no C program has that",
     "BadFuncs": "is this the symbol table that the section was written for? Else leave it out",
     "BadSymbolType": "is this the symbol table that the section was written for? Else leave it out",

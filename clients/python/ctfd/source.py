@@ -71,8 +71,9 @@ def foreign(ctf: bytes) -> str:
     if magic == b"\xcf\xf1":
         return "CTF of a big-endian machine, which is not read"
     if magic != b"\xf1\xcf":
-        return (f"neither an ELF file nor a CTF section: it begins with {ctf[:4].hex() or 'nothing'},"
-                " and CTF with f1cf02")
+        begins = ctf[:4].hex() or "nothing"
+        return (f"neither an ELF file nor a CTF section: it begins with {begins}, and CTF with"
+                " f1cf02")
     if version in (1, 3):
         writer = "very old tools" if version == 1 else "newer releases of FreeBSD"
         return f"CTF version {version}, as {writer} write it, which is not read; {ADVICE}"
@@ -98,7 +99,8 @@ def inflate(ctf: bytes, path: str = "the file") -> bytes:
         raise Unreadable(f"{path}: its body does not inflate ({error}): damage") from error
     if len(body) != wanted:
         said = f"more than {wanted}" if len(body) > wanted else str(len(body))
-        raise Unreadable(f"{path}: its body inflates to {said} bytes, where its header says {wanted}")
+        raise Unreadable(f"{path}: its body inflates to {said} bytes, where its header says"
+                         f" {wanted}")
     return ctf[:3] + bytes([ctf[3] & 0xFE]) + ctf[4:HEADER] + body
 
 

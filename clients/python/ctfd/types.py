@@ -4,7 +4,7 @@ from __future__ import annotations
 from typing import TYPE_CHECKING, Any, List, NamedTuple, Optional, Tuple
 
 from . import text
-from .faults import Incomplete
+from .faults import Incomplete, Refused
 
 if TYPE_CHECKING:
     from .dictionary import Dictionary
@@ -14,7 +14,7 @@ POINTER_SIZE = 8
 
 
 class Member(NamedTuple):
-    """A member of a struct or union; `offset` is in bits, a bit-field's place within not counted."""
+    """A member of a struct or union; `offset` is in bits, without that of a bit-field's type."""
 
     name: str
     type: Type
@@ -218,7 +218,8 @@ class PointerTo(Type):
         return ("*", *self.target._identity(), type(self.target))
 
     def _ask(self, op: str) -> Any:
-        raise TypeError(f"{op}: no question for a pointer that is not in the dictionary")
+        fault = {"code": 30, "name": "WrongKind", "place": 0}  # as the service says of a pointer
+        raise Refused(fault, op, {"type": self.spelled})
 
     def gather(self) -> Type:
         self.target.gather()

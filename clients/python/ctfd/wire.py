@@ -160,7 +160,7 @@ class Session:
         self.number = number
 
     def ask_all(self, requests: Sequence[Request]) -> List[Outcome]:
-        """What many requests are answered, in one round. A refusal stands in its request's place."""
+        """What many requests are answered, in one round; a refusal stands in its place."""
         replies = self.client.replies(self.number, requests)
         return [_outcome(reply, op, fields) for (op, fields), reply in zip(requests, replies)]
 
@@ -171,7 +171,8 @@ class Session:
             raise outcome
         return outcome
 
-    def open(self, ctf: bytes, sym: Optional[bytes] = None, strings: Optional[bytes] = None) -> Answer:
+    def open(self, ctf: bytes, sym: Optional[bytes] = None,
+             strings: Optional[bytes] = None) -> Answer:
         """Hands in the lists of a dictionary and opens it, in one round: `d` and `types`.
 
         The stage is cleared first, and once more where the dictionary is refused.

@@ -36,7 +36,9 @@ class WithService(unittest.TestCase):
     def example(self, name: str, symbols: bool = False) -> ctfd.Dictionary:
         """A dictionary of the examples, with its .sym and .str where symbols are wanted."""
         path = EXAMPLES / name
-        sym, strings = ((path.with_suffix(s).read_bytes() if symbols else None) for s in (".sym", ".str"))
+        if not symbols:
+            return ctfd.open_file(self.session, str(path))
+        sym, strings = (path.with_suffix(suffix).read_bytes() for suffix in (".sym", ".str"))
         return ctfd.open_file(self.session, str(path), sym, strings)
 
 
@@ -69,7 +71,8 @@ def object_file(folder: str, ctf: bytes, section: str = ".SUNW_ctf", code: str =
     (place / "section").write_bytes(ctf)
     made = place / "code.o"
     subprocess.run(["gcc", "-c", str(place / "code.c"), "-o", str(made)], check=True)
-    subprocess.run(["objcopy", "--add-section", f"{section}={place / 'section'}", str(made)], check=True)
+    added = f"{section}={place / 'section'}"
+    subprocess.run(["objcopy", "--add-section", added, str(made)], check=True)
     return made
 
 

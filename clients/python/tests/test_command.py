@@ -32,14 +32,16 @@ class Command(unittest.TestCase):
 
     def test_a_function(self) -> None:
         beside = ("--symbols", str(EXAMPLES / "lua.sym"), "--strings", str(EXAMPLES / "lua.str"))
-        self.assertEqual(self.told(*beside, LUA, "closepaux"), "void closepaux(lua_State *, void *);\n")
+        told = self.told(*beside, LUA, "closepaux")
+        self.assertEqual(told, "void closepaux(lua_State *, void *);\n")
 
     def test_a_child(self) -> None:
         with tempfile.TemporaryDirectory() as folder:
             for name, ctf in zip(("parent", "child"), staged("parent.jsonl")):
                 (Path(folder) / name).write_bytes(ctf)
             child, parent = f"{folder}/child", f"{folder}/parent"
-            self.assertEqual(self.told("--parent", parent, child), " 32769        8  struct point *\n")
+            told = self.told("--parent", parent, child)
+            self.assertEqual(told, " 32769        8  struct point *\n")
             self.assertEqual(self.told(child), " 32769        8  (NoParent)\n")
             self.assertIn("NotChild", self.refused("--parent", child, parent))
 

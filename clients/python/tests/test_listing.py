@@ -9,8 +9,8 @@ from typing import List
 
 import ctfd
 
-from .support import (EXAMPLES, STRUCT, TOOLS, WithService, dictionary, integer, object_file, record,
-                      staged)
+from .support import (EXAMPLES, STRUCT, TOOLS, WithService, dictionary, integer, object_file,
+                      record, staged)
 
 DEBUG = """\
 struct lua_Debug {
@@ -84,7 +84,8 @@ class Declarations(WithService):
     def test_functions(self) -> None:
         types = self.example("lua.ctf")
         handler = types.find("struct sigaction").member("__sigaction_handler").type
-        self.assertEqual(ctfd.declaration(handler.member("sa_sigaction").type, "act"), "void (*act)(int, siginfo_t *, void *)")
+        told = ctfd.declaration(handler.member("sa_sigaction").type, "act")
+        self.assertEqual(told, "void (*act)(int, siginfo_t *, void *)")
         self.assertEqual(ctfd.definition(types.find("lua_CFunction")),
                          "typedef int (*lua_CFunction)(lua_State *);")
 
@@ -102,7 +103,8 @@ class Listings(WithService):
         self.assertEqual(ctfd.definition(self.example("lua.ctf").find("struct MatchState")), MATCH)
 
     def test_bit_fields(self) -> None:
-        self.assertEqual(ctfd.listing(self.opened(staged("bits.jsonl")[0]).find("struct flags")), FLAGS)
+        flags = self.opened(staged("bits.jsonl")[0]).find("struct flags")
+        self.assertEqual(ctfd.listing(flags), FLAGS)
 
     def test_a_struct_that_doubles_at_each_level(self) -> None:
         records = [integer(1)]
@@ -125,18 +127,21 @@ class BesidePahole(WithService):
             for block in listed:
                 word, tag = block.split(None, 2)[:2]
                 if tag not in OTHERS:
-                    self.assertEqual(squeezed(ctfd.listing(types.find(f"{word} {tag}"))), squeezed(block))
+                    mine = ctfd.listing(types.find(f"{word} {tag}"))
+                    self.assertEqual(squeezed(mine), squeezed(block))
 
     def pahole(self, name: str) -> List[str]:
         with tempfile.TemporaryDirectory() as folder:
             made = object_file(folder, (EXAMPLES / name).read_bytes())
-            said = subprocess.run(["pahole", "-F", "ctf", str(made)], capture_output=True, text=True)
+            said = subprocess.run(["pahole", "-F", "ctf", str(made)],
+                                  capture_output=True, text=True)
         return re.findall(r"^(?:struct|union) \w+ \{\n.*?^\};", said.stdout, re.M | re.S)
 
 
 def squeezed(listed: str) -> List[str]:
     """Its lines without blanks between stars, and with one blank for many."""
-    return [re.sub(r"\s*\*(?!/)", "*", re.sub(r"\s+", " ", line)).strip() for line in listed.splitlines()]
+    return [re.sub(r"\s*\*(?!/)", "*", re.sub(r"\s+", " ", line)).strip()
+            for line in listed.splitlines()]
 
 
 if __name__ == "__main__":

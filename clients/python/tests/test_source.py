@@ -19,13 +19,16 @@ def compressed(ctf: bytes, body: bytes = b"") -> bytes:
 def elf(ctf: bytes, link: int = 2, sym: bytes = b"", strings: bytes = b"\0") -> bytes:
     """An ELF file of the sections .SUNW_ctf, .symtab and .strtab, which has all names."""
     names = b"\0.SUNW_ctf\0.symtab\0.strtab\0"
-    listed = [(0, 0, b"", 0), (1, 1, ctf, link), (11, 2, sym, 3), (19, 3, strings, 0), (19, 3, names, 0)]
+    listed = [(0, 0, b"", 0), (1, 1, ctf, link), (11, 2, sym, 3), (19, 3, strings, 0),
+              (19, 3, names, 0)]
     body, headers = b"", b""
     for name, kind, data, linked in listed:
-        headers += struct.pack("<IIQQQQIIQQ", name, kind, 0, 0, 64 + len(body), len(data), linked, 0, 0, 0)
+        start = 64 + len(body)
+        headers += struct.pack("<IIQQQQIIQQ", name, kind, 0, 0, start, len(data), linked, 0, 0, 0)
         body += data
-    return (b"\x7fELF\x02\x01\x01" + bytes(9) + struct.pack("<HHIQQQIHHHHHH", 1, 62, 1, 0, 0, 64 + len(body),
-            0, 64, 0, 0, 64, len(listed), 4) + body + headers)
+    rest = struct.pack("<HHIQQQIHHHHHH", 1, 62, 1, 0, 0, 64 + len(body), 0, 64, 0, 0, 64,
+                       len(listed), 4)
+    return b"\x7fELF\x02\x01\x01" + bytes(9) + rest + body + headers
 
 
 class Inflating(unittest.TestCase):
@@ -91,7 +94,8 @@ class ElfFiles(WithService):
 
     def test_symbols_answer_by_name(self) -> None:
         sym, strings = ((EXAMPLES / f"lua.{s}").read_bytes() for s in ("sym", "str"))
-        slot = ctfd.open_source(self.session, source.of_bytes(elf(compressed(LUA), 2, sym, strings)))
+        whole = elf(compressed(LUA), 2, sym, strings)
+        slot = ctfd.open_source(self.session, source.of_bytes(whole))
         said = slot.symbol("closepaux")
         assert isinstance(said, ctfd.Signature)
         self.assertEqual([t.spelled for t in said.arguments], ["lua_State *", "void *"])

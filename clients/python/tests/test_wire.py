@@ -69,7 +69,8 @@ class Faults(WithService):
 
     def test_refusals_stand_in_their_place(self) -> None:
         slot = self.opened(dictionary([integer(1)], b"\0int\0")).slot
-        first, second = self.session.ask_all([("kind", {"d": slot, "t": 9}), ("kind", {"d": slot, "t": 1})])
+        asked = [("kind", {"d": slot, "t": t}) for t in (9, 1)]
+        first, second = self.session.ask_all(asked)
         self.assertIsInstance(first, ctfd.Refused)
         self.assertEqual(second, {"kind": "integer"})
 
@@ -102,7 +103,8 @@ class Ends(unittest.TestCase):
             ctfd.Client("/nowhere/ctfd")
 
     def test_a_silent_service(self) -> None:
-        with ctfd.Client(sys.executable, ["-c", "import sys; sys.stdin.read()"], patience=0.2) as client:
+        silent = ["-c", "import sys; sys.stdin.read()"]
+        with ctfd.Client(sys.executable, silent, patience=0.2) as client:
             with self.assertRaises(ctfd.Gone):
                 client.session().ask("reset")
             with self.assertRaises(ctfd.Gone):
