@@ -8,7 +8,6 @@ from __future__ import annotations
 
 import argparse
 import os
-import signal
 import sys
 from typing import List, Optional
 
@@ -23,14 +22,17 @@ from .wire import Client
 
 def main(arguments: Optional[List[str]] = None) -> int:
     """The command; its exit status."""
-    if hasattr(signal, "SIGPIPE"):
-        signal.signal(signal.SIGPIPE, signal.SIG_DFL)  # so that a reader such as head may leave
     words = _parser().parse_args(arguments)
     try:
         with Client(words.service) as client:
-            return _run(client, words)
+            _run(client, words)
+        sys.stdout.flush()
+        return 0
+    except BrokenPipeError:  # a reader such as head has left
+        os.dup2(os.open(os.devnull, os.O_WRONLY), sys.stdout.fileno())
+        return 0
     except Error as error:
-        print(f"ctfd-types: {printable(str(error))}", file=sys.stderr)
+        _warn(str(error))
         return 1
 
 
@@ -49,19 +51,18 @@ def _parser() -> argparse.ArgumentParser:
     return parser
 
 
-def _run(client: Client, words: argparse.Namespace) -> int:
+def _run(client: Client, words: argparse.Namespace) -> None:
     session = client.session()
     types = open_file(session, words.file, _bytes(words.symbols), _bytes(words.strings))
     if types.how == "refused":
-        print(f"ctfd-types: {words.file}: its symbol table is not the one that the types were"
-              " written for: nothing is told of symbols", file=sys.stderr)
+        _warn(f"{words.file}: its symbol table is not the one that the types were written for:"
+              " nothing is told of symbols")
     if words.parent:
         types.import_parent(open_file(session, words.parent))
     if words.name is None:
         _print_all(types)
     else:
         _print_named(types, words.name, words.plain)
-    return 0
 
 
 def _print_all(types: Dictionary) -> None:
@@ -109,9 +110,16 @@ def _symbol(types: Dictionary, name: str) -> str:
     except NotFound as fault:
         raise Error(f"{name}: neither a type nor a symbol of which something is told"
                     f" ({fault.name})") from fault
+    if types.how == "guessed":
+        _warn("the section names no symbol table: that of the file is taken, and if it is not the"
+              " one that the types were written for, this is another symbol's")
     if isinstance(said, Signature):
         return declare.function(said, name) + ";"
     return declare.declaration(said, name) + ";"
+
+
+def _warn(said: str) -> None:
+    print(f"ctfd-types: {printable(said)}", file=sys.stderr)
 
 
 def _bytes(path: Optional[str]) -> Optional[bytes]:

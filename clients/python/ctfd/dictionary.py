@@ -31,7 +31,10 @@ WORDS = {
 
 def open_file(session: Session, path: str, sym: Optional[bytes] = None,
               strings: Optional[bytes] = None) -> Dictionary:
-    """Opens the dictionary of a file (see `ctfd.source`); symbols and strings may be given."""
+    """Opens the dictionary of a file (see `ctfd.source`).
+
+    Where symbols or strings are given, they stand in place of the file's symbols.
+    """
     found = source.read(path)
     if sym is not None or strings is not None:
         found = Source(found.ctf, sym, found.strings if strings is None else strings, "given")
