@@ -42,6 +42,8 @@ def _parser() -> argparse.ArgumentParser:
         formatter_class=argparse.RawDescriptionHelpFormatter)
     parser.add_argument("file", metavar="FILE", help="an ELF file or a CTF section")
     parser.add_argument("name", metavar="NAME", nargs="?", help="a type or a symbol")
+    parser.add_argument("--all", action="store_true",
+                        help="all types of the name, hidden ones too, and not the first alone")
     parser.add_argument("--plain", action="store_true", help="C alone, without places")
     parser.add_argument("--parent", metavar="FILE", help="the dictionary of which FILE is a child")
     parser.add_argument("--symbols", metavar="FILE", help="the bytes of the program's symbol table")
@@ -62,7 +64,7 @@ def _run(client: Client, words: argparse.Namespace) -> None:
     if words.name is None:
         _print_all(types)
     else:
-        _print_named(types, words.name, words.plain)
+        _print_named(types, words)
 
 
 def _print_all(types: Dictionary) -> None:
@@ -88,13 +90,15 @@ def _spelled(t: Type) -> str:
         return f"({fault.name})"
 
 
-def _print_named(types: Dictionary, name: str, plain: bool) -> None:
+def _print_named(types: Dictionary, words: argparse.Namespace) -> None:
+    found = types.find_all(words.name) if words.all else []
     try:
-        found = types.find(name)
+        found = found or [types.find(words.name)]
     except NotFound:
-        print(_symbol(types, name))
+        print(_symbol(types, words.name))
         return
-    print((definition if plain else listing)(_worth_listing(found)))
+    for t in found:
+        print((definition if words.plain else listing)(_worth_listing(t)))
 
 
 def _worth_listing(found: Type) -> Type:

@@ -162,8 +162,13 @@ class Dictionary:
         return found
 
     def find_all(self, name: Name) -> List[Type]:
-        """All own types with a name, hidden ones among them: one name may stand for several."""
-        base, _ = normal(name)
+        """All own types with a name, hidden ones among them: one name may stand for several.
+
+        A name with stars is that of none.
+        """
+        base, stars = normal(name)
+        if stars:
+            return []
         types = self.types()
         self.fetch([("record", t.number) for t in types])
         return [t for t in types if _called(t) == base]

@@ -29,30 +29,38 @@ class Gathering:
         self.named: Set[int] = set()
 
     def run(self, start: Iterable[int]) -> None:
-        """Asks for what `start` and all below it need."""
-        held, named = list(start), []
-        while held or named:
+        """Asks for what `start` and all below it need.
+
+        A round has the records of the types that the last one led to, and the lists of those
+        whose records it told.
+        """
+        held: List[int] = list(start)
+        named: List[int] = []
+        details: List[Tuple[str, int]] = []
+        while held or named or details:
             held = [t for t in dict.fromkeys(held) if t and t not in self.held]
             self.held.update(held)
             named = [t for t in dict.fromkeys(named) if t and t not in self.held | self.named]
             self.named.update(named)
-            self._ask(held, named)
-            held, named = self._next(held, named)
+            records = [("record", t) for t in held + named]
+            self.dictionary.fetch(records + [("size", t) for t in held] + details)
+            told = held + named + [t for _, t in details]
+            details = self._details(held + named)
+            held, named = self._next(told)
 
-    def _ask(self, held: List[int], named: List[int]) -> None:
-        records = [("record", t) for t in held + named]
-        self.dictionary.fetch(records + [("size", t) for t in held])
+    def _details(self, told: List[int]) -> List[Tuple[str, int]]:
+        """The lists that are to be asked of types whose records are known."""
         details: List[Tuple[str, int]] = []
-        for t in held + named:
+        for t in told:
             record = self._known("record", t)
             op = DETAIL.get(record["kind"]) if record else None
             if op and (t in self.held or op not in ONLY_HELD):
                 details.append((op, t))
-        self.dictionary.fetch(details)
+        return details
 
-    def _next(self, held: List[int], named: List[int]) -> Tuple[List[int], List[int]]:
+    def _next(self, told: List[int]) -> Tuple[List[int], List[int]]:
         more: Tuple[List[int], List[int]] = ([], [])
-        for t in held + named:
+        for t in told:
             by_value, by_name = self._parts(t, t in self.held)
             more[0].extend(by_value)
             more[1].extend(by_name)

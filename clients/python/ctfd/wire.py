@@ -12,7 +12,8 @@ import os
 import selectors
 import subprocess
 from types import TracebackType
-from typing import Any, Deque, Dict, Iterable, List, Optional, Sequence, Tuple, Type, Union
+from typing import (Any, Deque, Dict, Iterable, List, NoReturn, Optional, Sequence, Tuple, Type,
+                    Union)
 
 from .faults import Error, Gone, Refused, refused
 
@@ -141,7 +142,7 @@ class Client:
                 self._end("the service said more than was asked")
             self._owed.popleft().reply = json.loads(line)
 
-    def _end(self, why: str) -> None:
+    def _end(self, why: str) -> NoReturn:
         self._gone = why
         raise Gone(why)
 

@@ -3,7 +3,7 @@ import tempfile
 import unittest
 from pathlib import Path
 
-from .support import EXAMPLES, PROGRAM, TOOLS, object_file, run, staged
+from .support import EXAMPLES, PROGRAM, TOOLS, dictionary, integer, object_file, run, staged
 from .test_listing import DEBUG, MATCH
 
 LUA = str(EXAMPLES / "lua.ctf")
@@ -25,6 +25,15 @@ class Command(unittest.TestCase):
         self.assertEqual(self.told(LUA, "struct lua_Debug"), DEBUG + "\n")
         self.assertEqual(self.told(LUA, "lua_Debug"), DEBUG + "\n")
         self.assertEqual(self.told("--plain", LUA, "MatchState"), MATCH + "\n")
+
+    def test_all_types_of_a_name(self) -> None:
+        two = dictionary([integer(1), integer(1, 16, 2)], b"\0int\0")
+        with tempfile.NamedTemporaryFile() as file:
+            file.write(two)
+            file.flush()
+            self.assertEqual(self.told(file.name, "int"), "int;\n")
+            self.assertEqual(self.told("--all", file.name, "int"), "int;\nint;\n")
+            self.assertEqual(self.told("--all", file.name, "int *"), "int *;\n")
 
     def test_all_types(self) -> None:
         lines = self.told(LUA).splitlines()

@@ -1,12 +1,14 @@
 """Pipelines that never block, faults, and a service that ends or is silent."""
 import json
 import os
+import re
 import signal
 import sys
 import threading
 import unittest
 
 import ctfd
+from ctfd.faults import ADVICE
 from ctfd.wire import PIECE
 
 from .support import EXAMPLES, PROGRAM, WithService, dictionary, integer
@@ -95,6 +97,15 @@ class Faults(WithService):
         self.assertEqual(self.session.ask("kind", d=2, t=1), {"kind": "integer"})
         with self.assertRaises(ctfd.Refused):
             self.session.ask("kind", d=1, t=1)  # what was opened of cut lists is closed again
+
+
+class Advice(unittest.TestCase):
+    def test_each_fault_that_can_be_answered_has_its_advice(self) -> None:
+        told = (EXAMPLES.parent / "docs" / "FAULTS.md").read_text()
+        answered = told.split("## Codes that are not answered yet")[0]
+        names = re.findall(r"^\| \d+ \| (\w+) \|", answered, re.M)
+        self.assertEqual(len(names), 49)
+        self.assertEqual([name for name in names if not ADVICE.get(name)], [])
 
 
 class Ends(unittest.TestCase):
