@@ -38,7 +38,7 @@ class Client:
 
     `patience` is how many seconds it may be silent before it counts as gone; None is for ever.
     An exception amid a call (Ctrl-C, say) leaves its replies owed, and the next call reads past
-    them. The service is in a process session of its own, so a terminal's Ctrl-C does not end it.
+    them; where it came amid one of the few steps that belong together, the next call says Gone. The service is in a process session of its own, so a terminal's Ctrl-C does not end it.
     """
 
     def __init__(self, program: str = "ctfd", arguments: Sequence[str] = ("serve",),
@@ -52,8 +52,10 @@ class Client:
         os.set_blocking(self._replies, False)
         self._unsent = bytearray()
         self._unread = bytearray()
+        self._lines: Deque[bytearray] = collections.deque()
         self._owed: Deque[Owed] = collections.deque()
         self._gone: Optional[str] = None
+        self._torn = False  # amid the few steps that an interrupt must not part
         self._last_session = 0
         self.requests = self.rounds = 0
 
@@ -76,12 +78,17 @@ class Client:
 
     def replies(self, session: int, requests: Iterable[Request]) -> List[Answer]:
         """The whole reply to each request, in order: all are written while replies are read."""
+        if self._torn and not self._gone:
+            self._gone = "an interrupt came where replies can't be told apart: start a new client"
         if self._gone:
             raise Gone(self._gone)
         lines = [_line(session, op, fields) for op, fields in requests]
         mine = [Owed() for _ in lines]
+        written = b"".join(lines)
+        self._torn = True
         self._owed.extend(mine)
-        self._unsent += b"".join(lines)
+        self._unsent += written
+        self._torn = False
         self.requests += len(lines)
         self.rounds += 1
         self._run(mine)
@@ -100,6 +107,7 @@ class Client:
             self._process.wait()
 
     def _run(self, mine: List[Owed]) -> None:
+        self._answer()  # what an interrupted call has read already
         with selectors.DefaultSelector() as ready:
             ready.register(self._replies, selectors.EVENT_READ)
             if self._unsent:
@@ -116,31 +124,46 @@ class Client:
 
     def _write(self) -> bool:
         """Writes some of what is unsent; whether any is left."""
+        self._torn = True
         try:
             written = os.write(self._requests, self._unsent[:WRITE])
         except BlockingIOError:
-            return True
+            written = 0
         except BrokenPipeError:
             self._end(self._how_it_ended())
         del self._unsent[:written]
+        self._torn = False
         return bool(self._unsent)
 
     def _read(self) -> None:
+        self._torn = True
         try:
             data = os.read(self._replies, READ)
         except BlockingIOError:
+            self._torn = False
             return
         if not data:
             self._end(self._how_it_ended())
         self._unread += data
-        if b"\n" not in data:
-            return
-        *lines, rest = self._unread.split(b"\n")
-        self._unread = rest
-        for line in lines:
+        self._torn = False
+        if b"\n" in data:
+            *lines, rest = self._unread.split(b"\n")
+            self._torn = True
+            self._lines.extend(lines)
+            self._unread = rest
+            self._torn = False
+            self._answer()
+
+    def _answer(self) -> None:
+        """Gives the lines that were read to those whom they are owed."""
+        while self._lines:
             if not self._owed:
                 self._end("the service said more than was asked")
-            self._owed.popleft().reply = json.loads(line)
+            reply = json.loads(self._lines[0])
+            self._torn = True
+            self._owed.popleft().reply = reply
+            self._lines.popleft()
+            self._torn = False
 
     def _end(self, why: str) -> NoReturn:
         self._gone = why
