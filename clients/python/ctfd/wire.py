@@ -53,6 +53,8 @@ class Client:
         self._unsent = bytearray()
         self._unread = bytearray()
         self._lines: Deque[bytearray] = collections.deque()
+        self._pieces: Deque[bytes] = collections.deque()
+        self._written: Deque[int] = collections.deque()
         self._owed: Deque[Owed] = collections.deque()
         self._gone: Optional[str] = None
         self._torn = False  # amid the few steps that an interrupt must not part
@@ -86,7 +88,7 @@ class Client:
         mine = [Owed() for _ in lines]
         written = b"".join(lines)
         self._torn = True
-        self._owed.extend(mine)
+        self._owed += mine
         self._unsent += written
         self._torn = False
         self.requests += len(lines)
@@ -107,7 +109,8 @@ class Client:
             self._process.wait()
 
     def _run(self, mine: List[Owed]) -> None:
-        self._answer()  # what an interrupted call has read already
+        self._forget()  # what an interrupted call has written and read already
+        self._answer()
         with selectors.DefaultSelector() as ready:
             ready.register(self._replies, selectors.EVENT_READ)
             if self._unsent:
@@ -122,47 +125,58 @@ class Client:
                     elif not self._write():
                         ready.unregister(self._requests)
 
+    # What an interrupt must not part has no call in it, since Python takes signals behind calls;
+    # and what the system did is kept by `map`, which is one call with its `extend`.
+
     def _write(self) -> bool:
         """Writes some of what is unsent; whether any is left."""
-        self._torn = True
         try:
-            written = os.write(self._requests, self._unsent[:WRITE])
+            self._written.extend(map(os.write, [self._requests], [self._unsent[:WRITE]]))
         except BlockingIOError:
-            written = 0
+            return True
         except BrokenPipeError:
             self._end(self._how_it_ended())
-        del self._unsent[:written]
-        self._torn = False
+        self._forget()
         return bool(self._unsent)
 
-    def _read(self) -> None:
-        self._torn = True
-        try:
-            data = os.read(self._replies, READ)
-        except BlockingIOError:
-            self._torn = False
-            return
-        if not data:
-            self._end(self._how_it_ended())
-        self._unread += data
-        self._torn = False
-        if b"\n" in data:
-            *lines, rest = self._unread.split(b"\n")
+    def _forget(self) -> None:
+        """Drops what was written."""
+        while self._written:
             self._torn = True
-            self._lines.extend(lines)
-            self._unread = rest
+            del self._unsent[:self._written[0]]
+            del self._written[0]
             self._torn = False
-            self._answer()
+
+    def _read(self) -> None:
+        try:
+            self._pieces.extend(map(os.read, [self._replies], [READ]))
+        except BlockingIOError:
+            return
+        self._answer()
 
     def _answer(self) -> None:
         """Gives the lines that were read to those whom they are owed."""
+        while self._pieces:
+            if not self._pieces[0]:
+                self._end(self._how_it_ended())
+            self._torn = True
+            self._unread += self._pieces[0]
+            del self._pieces[0]
+            self._torn = False
+        if b"\n" in self._unread:
+            *lines, rest = self._unread.split(b"\n")
+            self._torn = True
+            self._lines += lines
+            self._unread = rest
+            self._torn = False
         while self._lines:
             if not self._owed:
                 self._end("the service said more than was asked")
             reply = json.loads(self._lines[0])
             self._torn = True
-            self._owed.popleft().reply = reply
-            self._lines.popleft()
+            self._owed[0].reply = reply
+            del self._owed[0]
+            del self._lines[0]
             self._torn = False
 
     def _end(self, why: str) -> NoReturn:
