@@ -65,7 +65,7 @@ def main():
     parser.add_argument("ctf", help="a file with the bytes of a CTF section, or a program with one")
     parser.add_argument("name", nargs="?", help="a struct or a union, as C names it, or a symbol")
     parser.add_argument("--symbols", metavar="FILE", help="the program's symbol table")
-    parser.add_argument("--strings", metavar="FILE", help="the strings of the program's symbol table")
+    parser.add_argument("--strings", metavar="FILE", help="the strings of that table")
     words = parser.parse_args()
     signal.signal(signal.SIGPIPE, signal.SIG_DFL)  # so that a reader such as head may leave
     symbols, strings = (path and Path(path).read_bytes() for path in (words.symbols, words.strings))

@@ -38,7 +38,8 @@ class Client:
 
     `patience` is how many seconds it may be silent before it counts as gone; None is for ever.
     An exception amid a call (Ctrl-C, say) leaves its replies owed, and the next call reads past
-    them; where it came amid one of the few steps that belong together, the next call says Gone. The service is in a process session of its own, so a terminal's Ctrl-C does not end it.
+    them; where it came amid one of the few steps that belong together, the next call says Gone.
+    The service is in a process session of its own, so a terminal's Ctrl-C does not end it.
     """
 
     def __init__(self, program: str = "ctfd", arguments: Sequence[str] = ("serve",),
