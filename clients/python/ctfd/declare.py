@@ -1,0 +1,104 @@
+"""C's declaration of a type or of something that has it.
+
+The declarator is written from the inside out, along the type. It is cut at a depth and at a
+number of steps: a function may take a pointer to itself, and a hostile one may take many.
+"""
+from __future__ import annotations
+
+from typing import List, NamedTuple
+
+from .text import printable
+from .types import QUALIFIERS, Signature, Type
+
+DEEPEST = 4
+STEPS = 4096
+CUT = "/* .. */"
+
+
+class Declarator(NamedTuple):
+    """A declaration in its parts: `qualifiers base left name right`: `const int (* f )(void)`."""
+
+    qualifiers: List[str]
+    base: Type
+    left: str
+    right: str
+
+    @property
+    def spelled(self) -> str:
+        """The base with its qualifiers."""
+        return " ".join([*self.qualifiers, base(self.base)])
+
+    def around(self, name: str) -> str:
+        """The declaration of a name; with "" that of the type alone."""
+        closed = not name and self.right.startswith(")")  # as in "(*const)()"
+        inner = (self.left.rstrip() if closed else self.left) + name + self.right
+        return f"{self.spelled} {inner}".rstrip()
+
+
+def declaration(declared: Type, name: str = "") -> str:
+    """How C declares `name` with this type, arguments of functions and all."""
+    return declarator(declared).around(printable(name))
+
+
+def function(signature: Signature, name: str) -> str:
+    """How C declares a function by a symbol's signature."""
+    arguments = _arguments(signature, 0, [STEPS])
+    return declarator(signature.returns).around(f"{printable(name)}({arguments})")
+
+
+def declarator(declared: Type) -> Declarator:
+    """The parts of a declaration."""
+    return _declarator(declared, 0, [STEPS])
+
+
+def _declarator(declared: Type, depth: int, budget: List[int]) -> Declarator:
+    """`budget` holds the steps that are left, for all declarators of one declaration."""
+    left, right = "", ""
+    qualifiers: List[str] = []
+    while True:
+        budget[0] -= 1
+        kind = declared.kind
+        if kind == "pointer":
+            declared = declared.reference
+            left = "*" + left
+            if declared.stripped.kind in ("array", "function"):
+                left, right = "(" + left, right + ")"
+        elif kind == "array":
+            right += f"[{declared.count}]"
+            declared = declared.contents
+        elif kind == "function":
+            signature = declared.signature
+            right += f"({_arguments(signature, depth, budget)})"
+            declared = signature.returns
+        elif kind in QUALIFIERS:
+            declared = declared.reference
+            if declared.stripped.kind == "pointer":
+                left = f"{kind} {left}"
+            else:
+                qualifiers.append(kind)
+        else:
+            return Declarator(qualifiers, declared, left, right)
+
+
+def _arguments(signature: Signature, depth: int, budget: List[int]) -> str:
+    if depth >= DEEPEST or budget[0] <= 0:
+        return CUT
+    listed: List[str] = []
+    for argument in signature.arguments:
+        if budget[0] <= 0:
+            return ", ".join([*listed, CUT])
+        listed.append(_declarator(argument, depth + 1, budget).around(""))
+    if signature.varargs:
+        listed.append("...")
+    return ", ".join(listed) or "void"
+
+
+def base(named: Type) -> str:
+    """A type that is neither pointer, array, function nor qualifier, by its name."""
+    if named.kind == "void":
+        return "void"
+    word = named.tag if named.kind == "forward" else named.kind
+    name = printable(named.name)
+    if word in ("struct", "union", "enum"):
+        return f"{word} {name}" if name else f"{word} {{...}}"
+    return name or "(anon)"

@@ -1,0 +1,214 @@
+"""An open dictionary: its types, names and symbols, with what was answered kept."""
+from __future__ import annotations
+
+from typing import Any, Dict, Iterable, List, Optional, Tuple, Union
+
+from . import source, text
+from .faults import BadSymbols, NoMemory, Refused
+from .gather import Gathering
+from .source import Source
+from .text import Name
+from .types import PointerTo, QUALIFIERS, Signature, Type
+from .wire import Answer, Outcome, Session
+
+OWN_OF_CHILD = 0x8000
+LONG_REPLY = 56
+PAGE = 8
+LISTS = {"members": "members", "enumerators": "enumerators"}
+
+# What C allows to be written, and what compilers call it in a dictionary.
+WORDS = {
+    "unsigned": "unsigned int", "signed": "int", "signed int": "int",
+    "long": "long int", "signed long": "long int",
+    "unsigned long": "long unsigned int", "unsigned long int": "long unsigned int",
+    "long unsigned": "long unsigned int",
+    "long long": "long long int", "unsigned long long": "long long unsigned int",
+    "unsigned long long int": "long long unsigned int",
+    "short": "short int", "unsigned short": "short unsigned int",
+    "unsigned short int": "short unsigned int", "bool": "_Bool",
+}
+
+
+def open_file(session: Session, path: str, sym: Optional[bytes] = None,
+              strings: Optional[bytes] = None) -> Dictionary:
+    """Opens the dictionary of a file (see `ctfd.source`).
+
+    Where symbols or strings are given, they stand in place of the file's symbols.
+    """
+    found = source.read(path)
+    if sym is not None or strings is not None:
+        found = Source(found.ctf, sym, found.strings if strings is None else strings, "given")
+    return open_source(session, found)
+
+
+def open_source(session: Session, found: Source) -> Dictionary:
+    """Opens a dictionary. If guessed symbols do not fit it is opened without, and `how` says so."""
+    try:
+        opened = session.open(found.ctf, found.sym, found.strings)
+    except BadSymbols:
+        if found.how != "guessed":
+            raise
+        opened = session.open(found.ctf, None, found.strings)
+        found = found._replace(sym=None, how="refused")
+    return Dictionary(session, opened["d"], found.how)
+
+
+def taken(session: Session, owner: int, name: str) -> Dictionary:
+    """The dictionary that another session published; owner 0 is the operator."""
+    return Dictionary(session, session.ask("take", owner=owner, name=name)["d"])
+
+
+class Dictionary:
+    """Slot `slot` of a session.
+
+    `how` tells where its symbols come from, as in `Source`, or "refused" where guessed ones did
+    not fit. A child shares what its parent was answered, so the parent's slot stays open.
+    """
+
+    def __init__(self, session: Session, slot: int, how: str = "none") -> None:
+        self.session = session
+        self.slot = slot
+        self.how = how
+        self.parent: Optional[Dictionary] = None
+        self._answers: Dict[Tuple[str, int], Outcome] = {}
+        info = session.ask("info", d=slot)
+        self.is_child: bool = info["child"]
+        self.own: int = info["types"]
+        self.parent_name = text.name(info["parname"])
+        self.parent_label = text.name(info["parlabel"])
+
+    def import_parent(self, parent: Dictionary) -> None:
+        """Gives a child its parent, a dictionary of the same session."""
+        self.session.ask("import", d=self.slot, parent=parent.slot)
+        self.parent = parent
+        self._answers.clear()
+
+    def close(self) -> None:
+        self.session.ask("close", d=self.slot)
+
+    # Questions, and what is known of their answers.
+
+    def _home(self, t: int) -> Dictionary:
+        return self.parent if self.parent is not None and 0 < t < OWN_OF_CHILD else self
+
+    def known(self, op: str, t: int) -> Optional[Answer]:
+        """What was answered already; None where nothing or a refusal was."""
+        outcome = self._home(t)._answers.get((op, t))
+        return None if isinstance(outcome, Refused) else outcome
+
+    def fetch(self, questions: Iterable[Tuple[str, int]]) -> None:
+        """Asks those of (word, type) that are not known yet, in one round."""
+        new = [(self._home(t), op, t) for op, t in dict.fromkeys(questions)
+               if (op, t) not in self._home(t)._answers]
+        if not new:
+            return
+        outcomes = self.session.ask_all([(op, {"d": home.slot, "t": t}) for home, op, t in new])
+        for (home, op, t), outcome in zip(new, outcomes):
+            if isinstance(outcome, Refused) and outcome.code == LONG_REPLY and op in LISTS:
+                outcome = home._by_pages(op, t)
+            if not isinstance(outcome, NoMemory):  # that may be answered another time
+                home._answers[op, t] = outcome
+
+    def answer(self, op: str, t: int) -> Answer:
+        """What a word answers of a type, asked once; raises its refusal."""
+        home = self._home(t)
+        self.fetch([(op, t)])
+        outcome = home._answers.get((op, t))
+        if outcome is None:
+            return self.session.ask(op, d=home.slot, t=t)
+        if isinstance(outcome, Refused):
+            raise outcome.with_traceback(None)
+        return outcome
+
+    def _by_pages(self, op: str, t: int) -> Outcome:
+        """A list that is too long for one reply."""
+        items: List[Any] = []
+        total = 1
+        while len(items) < total:
+            asked = {"d": self.slot, "t": t, "from": len(items), "count": PAGE}
+            page = self.session.ask_all([(op, asked)])[0]
+            if isinstance(page, Refused):
+                return page
+            items += page[LISTS[op]]
+            total = page["total"]
+        return {LISTS[op]: items, "total": total}
+
+    def gather(self, numbers: Iterable[int]) -> None:
+        """Asks in few rounds for all that declarations and layouts of these types need."""
+        Gathering(self).run(numbers)
+
+    # Types, by number and by name.
+
+    def type(self, t: int) -> Type:
+        """The type of a number; 0 is void."""
+        return Type(self._home(t), t)
+
+    def types(self) -> List[Type]:
+        """The dictionary's own types, in order."""
+        first = OWN_OF_CHILD + 1 if self.is_child else 1
+        return [self.type(t) for t in range(first, first + self.own)]
+
+    def find(self, name: Name) -> Type:
+        """The type that C's name says, as "struct x **"; the least, where several have the name.
+
+        Qualifiers are left out, and pointers that the dictionary has not are made here.
+        """
+        base, stars = normal(name)
+        found = self.type(0)
+        if base != "void":
+            found = self.type(self.session.ask("find", d=self.slot, text=text.escape(base))["t"])
+        for _ in range(stars):
+            found = PointerTo(found)
+        return found
+
+    def find_all(self, name: Name) -> List[Type]:
+        """All own types with a name, hidden ones among them: one name may stand for several.
+
+        A name with stars is that of none.
+        """
+        base, stars = normal(name)
+        if stars:
+            return []
+        types = self.types()
+        self.fetch([("record", t.number) for t in types])
+        return [t for t in types if _called(t) == base]
+
+    # Symbols.
+
+    def symbol(self, name: Name) -> Union[Type, Signature]:
+        """What is told of the first symbol of a name: an object's type, a function's signature."""
+        found = self.session.ask("symbol", d=self.slot, name=text.escape(name))
+        if found["class"] == "object":
+            return self.object(found["sym"])
+        return self.function(found["sym"])
+
+    def object(self, number: int) -> Type:
+        """The type of the object with a number in the symbol table."""
+        return self.type(self.session.ask("object", d=self.slot, sym=number)["t"])
+
+    def function(self, number: int) -> Signature:
+        """The signature of the function with a number in the symbol table."""
+        return self.signature(self.session.ask("function", d=self.slot, sym=number))
+
+    def signature(self, said: Answer) -> Signature:
+        """What `args` or `function` answered, with types."""
+        arguments = [self.type(t) for t in said["args"]]
+        return Signature(self.type(said["return"]), arguments, said["varargs"])
+
+    def labels(self) -> List[Tuple[str, int]]:
+        """The labels, each with the number of the last type that it covers."""
+        said = self.session.ask("labels", d=self.slot)["labels"]
+        return [(text.name(label["name"]), label["last"]) for label in said]
+
+
+def normal(name: Name) -> Tuple[str, int]:
+    """A written name as a dictionary has it, without qualifiers, and its stars."""
+    words = text.raw(name).decode("utf-8", "surrogateescape")
+    kept = [word for word in words.replace("*", " ").split() if word not in QUALIFIERS]
+    base = " ".join(kept)
+    return WORDS.get(base, base), words.count("*")
+
+
+def _called(t: Type) -> str:
+    word = t.tag if t.kind == "forward" else t.kind
+    return f"{word} {t.name}" if word in ("struct", "union", "enum") else t.name

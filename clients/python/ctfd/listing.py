@@ -1,0 +1,151 @@
+"""Types as C writes them, with places, sizes and holes as pahole prints them."""
+from __future__ import annotations
+
+from typing import List
+
+from .declare import Declarator, base, declaration, declarator
+from .layout import Layout, Place, layout
+from .text import printable
+from .types import Type
+
+LINE = 64
+TYPE, NAME, TAB = 26, 22, 8
+DEEPEST, LONGEST = 64, 20_000
+AGGREGATES = ("struct", "union")
+
+
+def definition(listed: Type) -> str:
+    """A type in full as C defines it, without places."""
+    return "\n".join(Listing(places=False).definition(listed))
+
+
+def listing(listed: Type) -> str:
+    """A type in full with the place and size of each member in bytes, as pahole prints it."""
+    return "\n".join(Listing(places=True).definition(listed))
+
+
+class Listing:
+    """The lines of one type, made from top to bottom; `line` counts the cache lines told.
+
+    A struct or union without a name is written out where a member is declared with it. That ends
+    at a depth and at a number of lines: a hostile type doubles at each level.
+    """
+
+    def __init__(self, places: bool) -> None:
+        self.places = places
+        self.line = 0
+        self.lines: List[str] = []
+
+    def definition(self, listed: Type) -> List[str]:
+        """All lines of a type."""
+        if listed.kind in AGGREGATES:
+            whole = layout(listed)
+            self.lines.append(f"{base(listed) if listed.name else listed.kind} {{")
+            self._members(whole, 1, 0)
+            if self.places and listed.kind == "struct":
+                self._summary(whole)
+            self.lines.append("};")
+        elif listed.kind == "enum":
+            self._enumerators(listed)
+        elif listed.kind == "typedef":
+            self.lines.append(f"typedef {declaration(listed.reference, listed.name)};")
+        else:
+            self.lines.append(f"{declaration(listed)};")
+        return self.lines
+
+    def _enumerators(self, listed: Type) -> None:
+        self.lines.append(f"{base(listed) if listed.name else 'enum'} {{")
+        listed_width = max((len(printable(e.name)) for e in listed.enumerators), default=0)
+        for name, value in listed.enumerators:
+            self.lines.append(f"\t{printable(name):<{listed_width}} = {value},")
+        self.lines.append("};")
+
+    def _members(self, whole: Layout, depth: int, start: int) -> None:
+        """The members, where the whole begins at byte `start`."""
+        for place in whole.places:
+            if self.places:
+                self._gap(place, depth)
+                self._boundary(start + place.start // 8, depth)
+            said = declarator(place.member.type)
+            unnamed = said.base.kind in AGGREGATES and not said.base.name
+            if unnamed and depth < DEEPEST and len(self.lines) < LONGEST:
+                self._inner(place, said, depth, start)
+            else:
+                self._member(place, said, depth, start)
+
+    def _inner(self, place: Place, said: Declarator, depth: int, start: int) -> None:
+        """A member whose struct or union has no name."""
+        head = " ".join([*said.qualifiers, said.base.kind, "{"])
+        self.lines.append("\t" * depth + head)
+        self._members(layout(said.base), depth + 1, start + place.member.offset // 8)
+        name = said.left + printable(place.member.name) + said.right
+        self._line(f"}} {name};" if name else "};", place, depth, start)
+
+    def _member(self, place: Place, said: Declarator, depth: int, start: int) -> None:
+        """One member: its type in a column of its own, then its name, and where it lies."""
+        cut = said.left.find("(")
+        outer, declared = (said.left, "") if cut < 0 else (said.left[:cut], said.left[cut:])
+        declared += printable(place.member.name) + said.right
+        if place.width is not None:
+            declared += f":{place.width}"
+        spelled = f"{said.spelled} {outer}".rstrip()
+        if not self.places:
+            glue = "" if outer.endswith("*") else " "
+            self.lines.append("\t" * depth + f"{spelled}{glue}{declared}".rstrip() + ";")
+            return
+        column = max(0, TYPE - TAB * (depth - 1))
+        self._line(f"{spelled:<{column}} {declared}".rstrip() + ";", place, depth, start)
+
+    def _line(self, written: str, place: Place, depth: int, start: int) -> None:
+        if not self.places:
+            self.lines.append("\t" * depth + written)
+            return
+        column = max(0, TYPE - TAB * (depth - 1)) + 1 + NAME
+        size = place.member.type.size
+        byte = start + place.start // 8
+        if place.width is None:
+            lies = f"/* {byte:5} {'?' if size is None else size:>5} */"
+        else:
+            unit = 8 * (size or 1)
+            first, bit = divmod(place.start, unit)
+            lies = f"/* {start + first * unit // 8:5}:{bit:2} {size or 0:2} */"
+        self.lines.append("\t" * depth + f"{written:<{column - 1}} {lies}")
+
+    def _gap(self, place: Place, depth: int) -> None:
+        told = [(place.bit_hole, "bit"), (place.hole, "byte")]
+        for length, unit in told:
+            if length:
+                plural = "s" if length > 1 else ""
+                hole = "\t" * depth + f"/* XXX {length} {unit}{plural} hole, try to pack */"
+                self.lines += ["", hole, ""]
+
+    def _boundary(self, byte: int, depth: int) -> None:
+        """A word where a cache line begins at a member or began within the last."""
+        line, past = divmod(byte, LINE)
+        if line > self.line:
+            ago = f" was {past} bytes ago" if past else ""
+            told = f"/* --- cacheline {line} boundary ({line * LINE} bytes){ago} --- */"
+            self.lines.append("\t" * depth + told)
+            self.line = line
+
+    def _summary(self, whole: Layout) -> None:
+        self.lines.append("")
+        lines = (whole.size + LINE - 1) // LINE
+        self._note(f"size: {whole.size}, cachelines: {lines}, members: {len(whole.places)}")
+        holes, bit_holes = whole.holes, whole.bit_holes
+        if holes:
+            total = sum(place.bits for place in whole.places if place.width is None) // 8
+            self._note(f"sum members: {total}, holes: {len(holes)}, sum holes: {sum(holes)}")
+        if bit_holes:
+            total = sum(place.width or 0 for place in whole.places)
+            self._note(f"sum bitfield members: {total} bits, bit holes: {len(bit_holes)},"
+                       f" sum bit holes: {sum(bit_holes)} bits")
+        if whole.padding >= 8:
+            self._note(f"padding: {whole.padding // 8}")
+        if whole.padding % 8:
+            self._note(f"bit_padding: {whole.padding % 8} bits")
+        if whole.size % LINE:
+            self._note(f"last cacheline: {whole.size % LINE} bytes")
+
+    def _note(self, said: str) -> None:
+        self.lines.append(f"\t/* {said} */")

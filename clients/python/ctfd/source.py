@@ -1,0 +1,126 @@
+"""What is handed in for a file: its CTF section, inflated, and the symbols and strings beside it.
+
+A file is an ELF file with a section .SUNW_ctf or .ctf, or the bytes of such a section by
+themselves. What the service does not read is told as what it is.
+"""
+from __future__ import annotations
+
+import struct
+import zlib
+from typing import NamedTuple, Optional, Tuple
+
+from . import elf
+from .elf import Elf, Section
+from .faults import Unreadable
+
+HEADER = 36
+LONGEST = 16_777_216
+SECTIONS = (".SUNW_ctf", ".ctf")
+ARCHIVE = struct.pack("<Q", 0x8B47F2A4D7623EEB)
+ADVICE = "make CTF of version 2 from the program's DWARF, as illumos' ctfconvert does"
+
+
+class Source(NamedTuple):
+    """The lists of a dictionary.
+
+    `how` tells where `sym` and `strings` come from: "linked", named by the section itself;
+    "guessed", the file's symbol table, which may not be the one that the section was written for;
+    "given", handed in by the caller; or "none".
+    """
+
+    ctf: bytes
+    sym: Optional[bytes] = None
+    strings: Optional[bytes] = None
+    how: str = "none"
+
+
+def read(path: str) -> Source:
+    """What a file has to hand in; Unreadable where the service would not read it."""
+    try:
+        with open(path, "rb") as file:
+            data = file.read()
+    except OSError as error:
+        raise Unreadable(f"{path}: {error.strerror}") from error
+    return of_bytes(data, path)
+
+
+def of_bytes(data: bytes, path: str = "the file") -> Source:
+    """As `read`, of a file's bytes."""
+    if data[:4] == elf.MAGIC:
+        return _of_elf(Elf(data, path))
+    return Source(plain(data, path))
+
+
+def plain(ctf: bytes, path: str = "the file") -> bytes:
+    """The bytes of a section as the service takes them: inflated, and known to be of its format."""
+    reason = foreign(ctf)
+    if reason:
+        raise Unreadable(f"{path}: {reason}")
+    return inflate(ctf, path)
+
+
+def foreign(ctf: bytes) -> str:
+    """What a section is, where it is no little-endian CTF of version 2; else ""."""
+    magic, version = ctf[:2], ctf[2] if len(ctf) > 2 else 0
+    if magic in (b"\xf2\xdf", b"\xdf\xf2"):
+        order = "big-endian " if magic == b"\xdf\xf2" else ""
+        return (f"{order}GNU CTF (of gcc -gctf), which has a magic of its own, here with format"
+                f" number {version}: it is not read; {ADVICE}")
+    if ctf[:8] == ARCHIVE:
+        return f"an archive of GNU CTF (of gcc -gctf), which is not read; {ADVICE}"
+    if magic == b"\xcf\xf1":
+        return "CTF of a big-endian machine, which is not read"
+    if magic != b"\xf1\xcf":
+        begins = ctf[:4].hex() or "nothing"
+        return (f"neither an ELF file nor a CTF section: it begins with {begins}, and CTF with"
+                " f1cf02")
+    if version in (1, 3):
+        writer = "very old tools" if version == 1 else "newer releases of FreeBSD"
+        return f"CTF version {version}, as {writer} write it, which is not read; {ADVICE}"
+    return ""
+
+
+def inflate(ctf: bytes, path: str = "the file") -> bytes:
+    """A section with its body inflated and the flag of that cleared; one without the flag as it is.
+
+    What the header says is the bound: a small body may inflate to anything.
+    """
+    if len(ctf) < HEADER or not ctf[3] & 1:
+        return ctf
+    names, length = struct.unpack_from("<II", ctf, 28)
+    wanted = names + length
+    if HEADER + wanted > LONGEST:
+        raise Unreadable(f"{path}: its body inflates to {wanted} bytes, and the service takes"
+                         f" {LONGEST} in all")
+    inflater = zlib.decompressobj()
+    try:
+        body = inflater.decompress(ctf[HEADER:], wanted + 1)
+    except zlib.error as error:
+        raise Unreadable(f"{path}: its body does not inflate ({error}): damage") from error
+    if len(body) != wanted:
+        said = f"more than {wanted}" if len(body) > wanted else str(len(body))
+        raise Unreadable(f"{path}: its body inflates to {said} bytes, where its header says"
+                         f" {wanted}")
+    return ctf[:3] + bytes([ctf[3] & 0xFE]) + ctf[4:HEADER] + body
+
+
+def _of_elf(file: Elf) -> Source:
+    section = next((s for s in map(file.named, SECTIONS) if s and s.kind != elf.NOBITS), None)
+    if section is None:
+        raise Unreadable(f"{file.path}: an ELF file without {' or '.join(SECTIONS)}: compile it"
+                         " with debug information and let a tool such as ctfconvert add one")
+    sym, strings, how = _symbols(file, section)
+    return Source(plain(file.bytes(section), f"{file.path}, {section.name}"), sym, strings, how)
+
+
+def _symbols(file: Elf, section: Section) -> Tuple[Optional[bytes], Optional[bytes], str]:
+    """The symbol table and strings that go with a section, and how they were found."""
+    table, how = file.numbered(section.link), "linked"
+    if table is not None and table.kind == elf.STRTAB:
+        return None, file.bytes(table), how
+    if table is None or table.kind not in (elf.SYMTAB, elf.DYNSYM):
+        table, how = file.named(".symtab") or file.named(".dynsym"), "guessed"
+    strings = file.numbered(table.link) if table else None
+    if table is None or strings is None:
+        return None, None, "none"
+    return file.bytes(table), file.bytes(strings), how

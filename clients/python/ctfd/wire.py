@@ -1,0 +1,255 @@
+"""The service as a process, and the sessions in it.
+
+Requests are written and replies read in one loop over pipes that do not block: a client that
+writes all before it reads stops both sides for good once the pipes are full. No threads are used,
+so this runs inside a debugger too.
+"""
+from __future__ import annotations
+
+import collections
+import json
+import os
+import selectors
+import subprocess
+from types import TracebackType
+from typing import (Any, Deque, Dict, Iterable, List, NoReturn, Optional, Sequence, Tuple, Type,
+                    Union)
+
+from .faults import Error, Gone, Refused, refused
+
+Answer = Dict[str, Any]
+Request = Tuple[str, Dict[str, Any]]
+Outcome = Union[Answer, Refused]
+
+PIECE = 262_144
+READ = 262_144
+WRITE = 65_536
+
+
+class Owed:
+    """A reply that is still to come. It stays owed where a call is interrupted."""
+
+    def __init__(self) -> None:
+        self.reply: Optional[Answer] = None
+
+
+class Client:
+    """One service, started here.
+
+    `patience` is how many seconds it may be silent before it counts as gone; None is for ever.
+    An exception amid a call (Ctrl-C, say) leaves its replies owed, and the next call reads past
+    them; where it came amid one of the few steps that belong together, the next call says Gone.
+    The service is in a process session of its own, so a terminal's Ctrl-C does not end it.
+    """
+
+    def __init__(self, program: str = "ctfd", arguments: Sequence[str] = ("serve",),
+                 patience: Optional[float] = 60) -> None:
+        self.patience = patience
+        self._process = _started([program, *arguments])
+        assert self._process.stdin and self._process.stdout
+        self._requests = self._process.stdin.fileno()
+        self._replies = self._process.stdout.fileno()
+        os.set_blocking(self._requests, False)
+        os.set_blocking(self._replies, False)
+        self._unsent = bytearray()
+        self._unread = bytearray()
+        self._lines: Deque[bytearray] = collections.deque()
+        self._pieces: Deque[bytes] = collections.deque()
+        self._written: Deque[int] = collections.deque()
+        self._owed: Deque[Owed] = collections.deque()
+        self._gone: Optional[str] = None
+        self._torn = False  # amid the few steps that an interrupt must not part
+        self._last_session = 0
+        self.requests = self.rounds = 0
+
+    def __enter__(self) -> Client:
+        return self
+
+    def __exit__(self, kind: Optional[Type[BaseException]], error: Optional[BaseException],
+                 trace: Optional[TracebackType]) -> None:
+        self.close()
+
+    @property
+    def pid(self) -> int:
+        """The service's process."""
+        return self._process.pid
+
+    def session(self) -> Session:
+        """A session that this client has not used yet."""
+        self._last_session += 1
+        return Session(self, self._last_session)
+
+    def replies(self, session: int, requests: Iterable[Request]) -> List[Answer]:
+        """The whole reply to each request, in order: all are written while replies are read."""
+        if self._torn and not self._gone:
+            self._gone = "an interrupt came where replies can't be told apart: start a new client"
+        if self._gone:
+            raise Gone(self._gone)
+        lines = [_line(session, op, fields) for op, fields in requests]
+        mine = [Owed() for _ in lines]
+        written = b"".join(lines)
+        self._torn = True
+        self._owed += mine
+        self._unsent += written
+        self._torn = False
+        self.requests += len(lines)
+        self.rounds += 1
+        self._run(mine)
+        return [owed.reply for owed in mine if owed.reply is not None]
+
+    def close(self) -> None:
+        """Ends the service: it ends by itself where its input does."""
+        self._gone = self._gone or "the client was closed"
+        for pipe in (self._process.stdin, self._process.stdout):
+            if pipe:
+                pipe.close()
+        try:
+            self._process.wait(5)
+        except subprocess.TimeoutExpired:
+            self._process.kill()
+            self._process.wait()
+
+    def _run(self, mine: List[Owed]) -> None:
+        self._forget()  # what an interrupted call has written and read already
+        self._answer()
+        with selectors.DefaultSelector() as ready:
+            ready.register(self._replies, selectors.EVENT_READ)
+            if self._unsent:
+                ready.register(self._requests, selectors.EVENT_WRITE)
+            while mine and mine[-1].reply is None:
+                events = ready.select(self.patience)
+                if not events:
+                    self._end(f"the service has been silent for {self.patience} seconds")
+                for key, _ in events:
+                    if key.fd == self._replies:
+                        self._read()
+                    elif not self._write():
+                        ready.unregister(self._requests)
+
+    # What an interrupt must not part has no call in it, since Python takes signals behind calls;
+    # and what the system did is kept by `map`, which is one call with its `extend`.
+
+    def _write(self) -> bool:
+        """Writes some of what is unsent; whether any is left."""
+        try:
+            self._written.extend(map(os.write, [self._requests], [self._unsent[:WRITE]]))
+        except BlockingIOError:
+            return True
+        except BrokenPipeError:
+            self._end(self._how_it_ended())
+        self._forget()
+        return bool(self._unsent)
+
+    def _forget(self) -> None:
+        """Drops what was written."""
+        while self._written:
+            self._torn = True
+            del self._unsent[:self._written[0]]
+            del self._written[0]
+            self._torn = False
+
+    def _read(self) -> None:
+        try:
+            self._pieces.extend(map(os.read, [self._replies], [READ]))
+        except BlockingIOError:
+            return
+        self._answer()
+
+    def _answer(self) -> None:
+        """Gives the lines that were read to those whom they are owed."""
+        while self._pieces:
+            if not self._pieces[0]:
+                self._end(self._how_it_ended())
+            self._torn = True
+            self._unread += self._pieces[0]
+            del self._pieces[0]
+            self._torn = False
+        if b"\n" in self._unread:
+            *lines, rest = self._unread.split(b"\n")
+            self._torn = True
+            self._lines += lines
+            self._unread = rest
+            self._torn = False
+        while self._lines:
+            if not self._owed:
+                self._end("the service said more than was asked")
+            reply = json.loads(self._lines[0])
+            self._torn = True
+            self._owed[0].reply = reply
+            del self._owed[0]
+            del self._lines[0]
+            self._torn = False
+
+    def _end(self, why: str) -> NoReturn:
+        self._gone = why
+        raise Gone(why)
+
+    def _how_it_ended(self) -> str:
+        try:
+            return f"the service ended with status {self._process.wait(1)}"
+        except subprocess.TimeoutExpired:
+            return "the service has closed its pipes"
+
+
+class Session:
+    """A session of the service: what it opens and stages is its own."""
+
+    def __init__(self, client: Client, number: int) -> None:
+        self.client = client
+        self.number = number
+
+    def ask_all(self, requests: Sequence[Request]) -> List[Outcome]:
+        """What many requests are answered, in one round; a refusal stands in its place."""
+        replies = self.client.replies(self.number, requests)
+        return [_outcome(reply, op, fields) for (op, fields), reply in zip(requests, replies)]
+
+    def ask(self, op: str, **fields: Any) -> Answer:
+        """What one request is answered; raises its refusal."""
+        outcome = self.ask_all([(op, fields)])[0]
+        if isinstance(outcome, Refused):
+            raise outcome
+        return outcome
+
+    def open(self, ctf: bytes, sym: Optional[bytes] = None,
+             strings: Optional[bytes] = None) -> Answer:
+        """Hands in the lists of a dictionary and opens it, in one round: `d` and `types`.
+
+        The stage is cleared first, and once more where the dictionary is refused.
+        """
+        requests: List[Request] = [("clear", {})]
+        for section, data in (("ctf", ctf), ("sym", sym), ("str", strings)):
+            requests += _parts(section, data)
+        outcomes = self.ask_all([*requests, ("open", {})])
+        opened = outcomes[-1]
+        fault = next((o for o in outcomes if isinstance(o, Refused)), None)
+        if isinstance(opened, Refused) or fault:
+            if not isinstance(opened, Refused):
+                self.ask("close", d=opened["d"])
+            self.ask("clear")
+            raise fault or Error("open was refused")
+        return opened
+
+
+def _started(command: Sequence[str]) -> "subprocess.Popen[bytes]":
+    try:
+        return subprocess.Popen(command, stdin=subprocess.PIPE, stdout=subprocess.PIPE,
+                                bufsize=0, start_new_session=True)
+    except OSError as error:
+        raise Gone(f"the service {command[0]} can't be started: {error.strerror}") from error
+
+
+def _line(session: int, op: str, fields: Answer) -> bytes:
+    request = {"s": session, "op": op, **fields}
+    return json.dumps(request, separators=(",", ":")).encode("ascii") + b"\n"
+
+
+def _outcome(reply: Answer, op: str, fields: Answer) -> Outcome:
+    return refused(reply["fault"], op, fields) if "fault" in reply else reply["ok"]
+
+
+def _parts(section: str, data: Optional[bytes]) -> List[Request]:
+    """The requests that stage a list; none for a list that there is not."""
+    if data is None:
+        return []
+    pieces = [data[start:start + PIECE] for start in range(0, len(data), PIECE)] or [b""]
+    return [("part", {"section": section, "bytes": piece.hex()}) for piece in pieces]

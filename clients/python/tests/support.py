@@ -1,0 +1,82 @@
+"""What the tests share: the service to ask, the examples, and small dictionaries made here."""
+from __future__ import annotations
+
+import json
+import os
+import shutil
+import struct
+import subprocess
+import unittest
+from pathlib import Path
+from typing import List, Optional
+
+import ctfd
+
+EXAMPLES = Path(__file__).resolve().parents[3] / "examples"
+COMMAND = Path(__file__).resolve().parents[1] / "ctfd-types"
+PROGRAM = os.environ.get("CTFD", "")
+TOOLS = all(shutil.which(tool) for tool in ("gcc", "objcopy"))
+
+INTEGER, POINTER, ARRAY, FUNCTION, STRUCT, CONST = 1, 3, 4, 5, 6, 12
+
+
+class WithService(unittest.TestCase):
+    """A test case with a client and a session of its own."""
+
+    def setUp(self) -> None:
+        if not PROGRAM:
+            self.skipTest("CTFD names no built service")
+        self.client = ctfd.Client(PROGRAM)
+        self.addCleanup(self.client.close)
+        self.session = self.client.session()
+
+    def opened(self, ctf: bytes) -> ctfd.Dictionary:
+        return ctfd.open_source(self.session, ctfd.Source(ctf))
+
+    def example(self, name: str, symbols: bool = False) -> ctfd.Dictionary:
+        """A dictionary of the examples, with its .sym and .str where symbols are wanted."""
+        path = EXAMPLES / name
+        if not symbols:
+            return ctfd.open_file(self.session, str(path))
+        sym, strings = (path.with_suffix(suffix).read_bytes() for suffix in (".sym", ".str"))
+        return ctfd.open_file(self.session, str(path), sym, strings)
+
+
+def staged(name: str) -> List[bytes]:
+    """The dictionaries that a file of requests hands in, each by one `part`."""
+    requests = map(json.loads, (EXAMPLES / name).read_text().splitlines())
+    return [bytes.fromhex(r["bytes"]) for r in requests
+            if r["op"] == "part" and r["section"] == "ctf" and len(r["bytes"]) > 72]
+
+
+def record(kind: int, length: int, size: int, name: int = 0, tail: bytes = b"") -> bytes:
+    """A type's record in the short form, visible to look-ups."""
+    return struct.pack("<IHH", name, kind << 11 | 1 << 10 | length, size) + tail
+
+
+def dictionary(records: List[bytes], names: bytes = b"\0") -> bytes:
+    """A section of these types and nothing else."""
+    body = b"".join(records)
+    return b"\xf1\xcf\x02\0" + struct.pack("<8I", *[0] * 6, len(body), len(names)) + body + names
+
+
+def integer(name: int, bits: int = 32, size: int = 4) -> bytes:
+    return record(INTEGER, 0, size, name, struct.pack("<I", 1 << 24 | bits))
+
+
+def object_file(folder: str, ctf: bytes, section: str = ".SUNW_ctf", code: str = "") -> Path:
+    """An object file of gcc with a section added by objcopy."""
+    place = Path(folder)
+    (place / "code.c").write_text(code)
+    (place / "section").write_bytes(ctf)
+    made = place / "code.o"
+    subprocess.run(["gcc", "-c", str(place / "code.c"), "-o", str(made)], check=True)
+    added = f"{section}={place / 'section'}"
+    subprocess.run(["objcopy", "--add-section", added, str(made)], check=True)
+    return made
+
+
+def run(*words: str, program: Optional[str] = None) -> "subprocess.CompletedProcess[str]":
+    """The command, run as a user would."""
+    environment = {**os.environ, "CTFD": PROGRAM if program is None else program}
+    return subprocess.run([str(COMMAND), *words], capture_output=True, text=True, env=environment)

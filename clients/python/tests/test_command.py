@@ -1,0 +1,75 @@
+"""The command `ctfd-types`, run as a user would."""
+import tempfile
+import unittest
+from pathlib import Path
+
+from .support import EXAMPLES, PROGRAM, TOOLS, dictionary, integer, object_file, run, staged
+from .test_listing import DEBUG, MATCH
+
+LUA = str(EXAMPLES / "lua.ctf")
+
+
+@unittest.skipUnless(PROGRAM, "CTFD names no built service")
+class Command(unittest.TestCase):
+    def told(self, *words: str) -> str:
+        done = run(*words)
+        self.assertEqual((done.returncode, done.stderr), (0, ""))
+        return done.stdout
+
+    def refused(self, *words: str) -> str:
+        done = run(*words)
+        self.assertEqual((done.returncode, done.stdout), (1, ""))
+        return done.stderr
+
+    def test_one_type(self) -> None:
+        self.assertEqual(self.told(LUA, "struct lua_Debug"), DEBUG + "\n")
+        self.assertEqual(self.told(LUA, "lua_Debug"), DEBUG + "\n")
+        self.assertEqual(self.told("--plain", LUA, "MatchState"), MATCH + "\n")
+
+    def test_all_types_of_a_name(self) -> None:
+        two = dictionary([integer(1), integer(1, 16, 2)], b"\0int\0")
+        with tempfile.NamedTemporaryFile() as file:
+            file.write(two)
+            file.flush()
+            self.assertEqual(self.told(file.name, "int"), "int;\n")
+            self.assertEqual(self.told("--all", file.name, "int"), "int;\nint;\n")
+            self.assertEqual(self.told("--all", file.name, "int *"), "int *;\n")
+
+    def test_all_types(self) -> None:
+        lines = self.told(LUA).splitlines()
+        self.assertEqual((len(lines), lines[3]), (526, "     4       24  struct __va_list_tag"))
+
+    def test_a_function(self) -> None:
+        beside = ("--symbols", str(EXAMPLES / "lua.sym"), "--strings", str(EXAMPLES / "lua.str"))
+        told = self.told(*beside, LUA, "closepaux")
+        self.assertEqual(told, "void closepaux(lua_State *, void *);\n")
+
+    def test_a_child(self) -> None:
+        with tempfile.TemporaryDirectory() as folder:
+            for name, ctf in zip(("parent", "child"), staged("parent.jsonl")):
+                (Path(folder) / name).write_bytes(ctf)
+            child, parent = f"{folder}/child", f"{folder}/parent"
+            told = self.told("--parent", parent, child)
+            self.assertEqual(told, " 32769        8  struct point *\n")
+            self.assertEqual(self.told(child), " 32769        8  (NoParent)\n")
+            self.assertIn("NotChild", self.refused("--parent", child, parent))
+
+    @unittest.skipUnless(TOOLS, "no gcc or objcopy here")
+    def test_an_object_file(self) -> None:
+        with tempfile.TemporaryDirectory() as folder:
+            made = object_file(folder, Path(LUA).read_bytes())
+            self.assertEqual(self.told(str(made), "lua_Debug"), DEBUG + "\n")
+
+    def test_what_is_refused(self) -> None:
+        self.assertIn("nothing: neither a type nor a symbol", self.refused(LUA, "nothing"))
+        self.assertIn("neither an ELF file nor a CTF section", self.refused(__file__))
+        self.assertIn("No such file", self.refused("/nowhere"))
+        self.assertIn("can't be started", run(LUA, program="/nowhere").stderr)
+        with tempfile.NamedTemporaryFile() as file:
+            file.write(Path(LUA).read_bytes()[:9000])
+            file.flush()
+            self.assertIn("PastEnd (open): the list is cut off", self.refused(file.name))
+
+
+if __name__ == "__main__":
+    unittest.main()

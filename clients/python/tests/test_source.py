@@ -1,0 +1,129 @@
+"""Files: ELF, compressed sections, and formats that are told as what they are."""
+import struct
+import tempfile
+import unittest
+import zlib
+
+import ctfd
+from ctfd import source
+
+from .support import EXAMPLES, TOOLS, WithService, object_file
+
+LUA = (EXAMPLES / "lua.ctf").read_bytes()
+
+
+def compressed(ctf: bytes, body: bytes = b"") -> bytes:
+    return ctf[:3] + b"\x01" + ctf[4:36] + zlib.compress(body or ctf[36:])
+
+
+def elf(ctf: bytes, link: int = 2, sym: bytes = b"", strings: bytes = b"\0") -> bytes:
+    """An ELF file of the sections .SUNW_ctf, .symtab and .strtab, which has all names."""
+    names = b"\0.SUNW_ctf\0.symtab\0.strtab\0"
+    listed = [(0, 0, b"", 0), (1, 1, ctf, link), (11, 2, sym, 3), (19, 3, strings, 0),
+              (19, 3, names, 0)]
+    body, headers = b"", b""
+    for name, kind, data, linked in listed:
+        start = 64 + len(body)
+        headers += struct.pack("<IIQQQQIIQQ", name, kind, 0, 0, start, len(data), linked, 0, 0, 0)
+        body += data
+    rest = struct.pack("<HHIQQQIHHHHHH", 1, 62, 1, 0, 0, 64 + len(body), 0, 64, 0, 0, 64,
+                       len(listed), 4)
+    return b"\x7fELF\x02\x01\x01" + bytes(9) + rest + body + headers
+
+
+class Inflating(unittest.TestCase):
+    def test_a_compressed_section(self) -> None:
+        self.assertEqual(source.inflate(compressed(LUA)), LUA)
+        self.assertEqual(source.inflate(LUA), LUA)
+
+    def test_the_header_bounds_what_is_inflated(self) -> None:
+        bomb = compressed(LUA, bytes(100_000_000))
+        with self.assertRaisesRegex(ctfd.Unreadable, "more than 22979 bytes"):
+            source.inflate(bomb)
+        with self.assertRaisesRegex(ctfd.Unreadable, "inflates to 5 bytes"):
+            source.inflate(compressed(LUA, b"short"))
+        with self.assertRaisesRegex(ctfd.Unreadable, "the service takes"):
+            source.inflate(compressed(LUA[:28] + struct.pack("<II", 1 << 31, 1 << 31)))
+
+    def test_damage(self) -> None:
+        with self.assertRaisesRegex(ctfd.Unreadable, "damage"):
+            source.inflate(compressed(LUA)[:36] + b"no zlib")
+        with self.assertRaisesRegex(ctfd.Unreadable, "where its header says"):
+            source.inflate(compressed(LUA)[:200])
+
+
+class Foreign(unittest.TestCase):
+    def told(self, data: bytes, words: str) -> None:
+        with self.assertRaisesRegex(ctfd.Unreadable, words):
+            source.of_bytes(data)
+
+    def test_formats_are_told_as_what_they_are(self) -> None:
+        self.told(b"\xf2\xdf\x04\0" + bytes(60), "GNU CTF .*format number 4")
+        self.told(b"\xdf\xf2\x04\0" + bytes(60), "big-endian GNU CTF")
+        self.told(struct.pack("<Q", 0x8B47F2A4D7623EEB), "archive of GNU CTF")
+        self.told(b"\xcf\xf1\x02\0" + bytes(60), "big-endian machine")
+        self.told(b"\xf1\xcf\x01\0" + bytes(60), "CTF version 1, as very old tools")
+        self.told(b"\xf1\xcf\x03\0" + bytes(60), "CTF version 3, as newer releases of FreeBSD")
+        self.told(b"", "begins with nothing")
+        self.told(b"#!/bin/sh", "begins with 23212f62")
+        self.told(b"\x7fELF\x02\x02" + bytes(60), "big-endian ELF")
+        self.told(b"\x7fELF\x01\x01" + bytes(60), "32 bits")
+
+    def test_a_foreign_section_in_an_elf_file(self) -> None:
+        self.told(elf(b"\xf2\xdf\x04\0" + bytes(60)), "SUNW_ctf: GNU CTF")
+
+    def test_no_such_file(self) -> None:
+        with self.assertRaisesRegex(ctfd.Unreadable, "No such file"):
+            source.read("/nowhere/at/all")
+
+
+class ElfFiles(WithService):
+    def test_strings_and_symbols_by_the_link(self) -> None:
+        whole = source.of_bytes(elf(LUA, 2, bytes(24), b"\0s\0"))
+        self.assertEqual(whole, ctfd.Source(LUA, bytes(24), b"\0s\0", "linked"))
+        only = source.of_bytes(elf(LUA, 3, bytes(24), b"\0s\0"))
+        self.assertEqual(only, ctfd.Source(LUA, None, b"\0s\0", "linked"))
+        guess = source.of_bytes(elf(LUA, 0, bytes(24), b"\0s\0"))
+        self.assertEqual(guess, ctfd.Source(LUA, bytes(24), b"\0s\0", "guessed"))
+
+    def test_a_file_that_is_cut_off_anywhere(self) -> None:
+        whole = elf(LUA[:60], 2, bytes(24), b"\0s\0")
+        for length in range(len(whole)):
+            with self.assertRaises(ctfd.Unreadable):
+                source.of_bytes(whole[:length])
+
+    def test_symbols_answer_by_name(self) -> None:
+        sym, strings = ((EXAMPLES / f"lua.{s}").read_bytes() for s in ("sym", "str"))
+        whole = elf(compressed(LUA), 2, sym, strings)
+        slot = ctfd.open_source(self.session, source.of_bytes(whole))
+        said = slot.symbol("closepaux")
+        assert isinstance(said, ctfd.Signature)
+        self.assertEqual([t.spelled for t in said.arguments], ["lua_State *", "void *"])
+
+    def test_guessed_symbols_that_do_not_fit_are_left_out(self) -> None:
+        slot = ctfd.open_source(self.session, source.of_bytes(elf(LUA, 0, bytes(23))))
+        self.assertEqual((slot.how, slot.own), ("refused", 526))
+        with self.assertRaises(ctfd.BadSymbols):
+            ctfd.open_source(self.session, source.of_bytes(elf(LUA, 2, bytes(23))))
+
+    @unittest.skipUnless(TOOLS, "no gcc or objcopy here")
+    def test_an_object_file_of_gcc(self) -> None:
+        for section in source.SECTIONS:
+            for ctf in (LUA, compressed(LUA)):
+                with tempfile.TemporaryDirectory() as folder:
+                    made = object_file(folder, ctf, section)
+                    found = source.read(str(made))
+                self.assertEqual((found.ctf, found.how), (LUA, "guessed"))
+                slot = ctfd.open_source(self.session, found)
+                self.assertEqual(slot.find("struct lua_State").size, 200)
+
+    @unittest.skipUnless(TOOLS, "no gcc or objcopy here")
+    def test_an_object_file_without_a_section(self) -> None:
+        with tempfile.TemporaryDirectory() as folder:
+            made = object_file(folder, LUA, ".other")
+            with self.assertRaisesRegex(ctfd.Unreadable, "without .SUNW_ctf or .ctf"):
+                source.read(str(made))
+
+
+if __name__ == "__main__":
+    unittest.main()
