@@ -17,7 +17,6 @@ use ctf_space::Opened;
 use std::alloc::Global;
 use std::collections::BTreeMap;
 use std::marker::Model;
-use std::rc::Rc;
 
 /// The operator's session, which makes no requests.
 const OPERATOR: u32 = 0;
@@ -65,9 +64,6 @@ impl Broker {
         let Ok(loaded) = Loaded::of(self.alloc, dictionary) else {
             return Err(placeless(Fault::MEMORY));
         };
-        let Ok(loaded) = Rc::new(self.alloc, loaded) else {
-            return Err(placeless(Fault::MEMORY));
-        };
         publish_in(self.alloc, &mut self.libraries, OPERATOR, name, loaded)
     }
 
@@ -85,7 +81,7 @@ impl Broker {
             sym: None,
             strs: None,
         };
-        match Loaded::shared(self.alloc, parts) {
+        match Loaded::build(self.alloc, parts) {
             Ok(loaded) => publish_in(self.alloc, &mut self.libraries, OPERATOR, name, loaded),
             Err((fault, _parts)) => Err(fault),
         }

@@ -1,7 +1,10 @@
 //! The library of one session: its slots and staged lists, and what its requests are answered.
 #![tactic(auto)]
 
+mod additions;
 mod answering;
+mod drafting;
+mod held;
 mod library;
 mod loaded;
 mod places;

@@ -40,11 +40,16 @@ pub mod SymbolQuestions
 pub mod SlotAnswers
 pub mod Text
 pub mod TextLaws
+pub mod HeldAnswers
+pub mod Creations
+pub mod Additions
+pub mod DraftSteps
 pub mod Steps
 pub mod Runs
 pub mod SessionLaws
 pub mod FaultNames
 pub mod Lines
+pub mod Addables
 pub mod Ask
 pub mod ReplyLines
 pub mod Output

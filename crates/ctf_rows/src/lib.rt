@@ -12,6 +12,8 @@ mod calls;
 #[cfg(test)]
 mod dictionaries;
 #[cfg(test)]
+mod drafting;
+#[cfg(test)]
 mod failures;
 #[cfg(test)]
 mod figures;

@@ -1,7 +1,10 @@
 //! Lines that are read as requests, word by word.
 
 use ctf_lines::FromLine;
-use ctf_model::{Change, ListName, Names, Question, Request, SlotQuestion, TypeQuestion, Window};
+use ctf_model::{
+    Change, DraftStep, HeldQuestion, ListName, Names, Question, Request, SlotQuestion,
+    TypeQuestion, Window,
+};
 use std::alloc::Global;
 use std::test::Fail;
 
@@ -60,6 +63,12 @@ fn change_said(change: &Change) -> Said {
             (8, b"base") => plain("take"),
             _ => plain("another take"),
         },
+        Change::Create(_) => plain("create"),
+        Change::Draft { d, step } => match step {
+            DraftStep::Add(_) => about("add", d.get(), 0),
+            DraftStep::Update => about("update", d.get(), 0),
+            DraftStep::Discard => about("discard", d.get(), 0),
+        },
     }
 }
 
@@ -92,7 +101,14 @@ fn slot_question_said(question: &SlotQuestion) -> (&'static str, Option<Window>)
         SlotQuestion::Function(_) => ("function", None),
         SlotQuestion::Labels(window) => ("labels", Some(*window)),
         SlotQuestion::Label(_) => ("label", None),
-        SlotQuestion::Info => ("info", None),
+    }
+}
+
+/// The word of a question on what a slot holds.
+fn held_question_said(question: HeldQuestion) -> &'static str {
+    match question {
+        HeldQuestion::Info => "info",
+        HeldQuestion::Bytes { .. } => "bytes",
     }
 }
 
@@ -121,6 +137,10 @@ fn describe(request: &Request) -> Said {
                 window,
             }
         }
+        Request::Asks {
+            d,
+            question: Question::OfHeld(question),
+        } => about(held_question_said(*question), d.get(), 0),
     }
 }
 
