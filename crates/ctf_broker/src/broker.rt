@@ -11,7 +11,7 @@ ghost use Rattle.ctf_broker.specs.Table.{kept_for, library_at};
 
 use crate::libraries::{found_by, publish_in, step_in};
 use ctf_answers::{Answer, Counts};
-use ctf_library::{Library, Loaded};
+use ctf_library::{Library, Loaded, Pool};
 use ctf_model::{Bytes, Change, Fault, Parts, PublicationName, Question, SlotNumber, placeless};
 use ctf_space::Opened;
 use std::alloc::Global;
@@ -21,11 +21,13 @@ use std::marker::Model;
 /// The operator's session, which makes no requests.
 const OPERATOR: u32 = 0;
 
-/// The libraries of all sessions, each made at the session's first change.
+/// The libraries of all sessions, each made at the session's first change, and the dictionaries
+/// that they opened lately.
 #[derive(Drop)]
 pub struct Broker {
     alloc: Global,
     libraries: BTreeMap<u32, Library>,
+    pool: Pool,
 }
 
 impl Model for Broker {
@@ -44,6 +46,7 @@ impl Broker {
         Broker {
             alloc,
             libraries: BTreeMap::new(alloc),
+            pool: Pool::new(alloc),
         }
     }
 
@@ -105,7 +108,8 @@ impl Broker {
         let Ok(found) = found_by(&self.libraries, change) else {
             return Err(placeless(Fault::MEMORY));
         };
-        step_in(self.alloc, &mut self.libraries, session, change, found)
+        let pool = &mut self.pool;
+        step_in(self.alloc, &mut self.libraries, pool, session, change, found)
     }
 
     /// Answers a question of a session. Names and lists are lent from its own library.

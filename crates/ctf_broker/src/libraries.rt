@@ -8,7 +8,7 @@ ghost use Rattle.ctf_model.specs.declared.requests.Request.TheVariants.{Changes}
 ghost use Rattle.ctf_broker.specs.Table.{kept_for, library_at};
 
 use ctf_answers::Counts;
-use ctf_library::{Library, Loaded};
+use ctf_library::{Library, Loaded, Pool};
 use ctf_model::{Change, Fault, PublicationName, placeless};
 use std::alloc::{AllocError, Global};
 use std::collections::BTreeMap;
@@ -38,6 +38,7 @@ pub fn found_by(
 pub fn step_in(
     alloc: Global,
     libraries: &mut BTreeMap<u32, Library>,
+    pool: &mut Pool,
     session: u32,
     change: &Change,
     found: Option<Loaded>,
@@ -54,10 +55,10 @@ pub fn step_in(
         (said_to session result) (library_at libraries.new.entries) }
 {
     if let Some(library) = libraries.get_mut(&session) {
-        return library.step(change, found);
+        return library.step(change, found, pool);
     }
     let mut library = Library::new(alloc);
-    let outcome = library.step(change, found);
+    let outcome = library.step(change, found, pool);
     match libraries.insert(session, library) {
         Ok(_) => outcome,
         Err(_) => Err(placeless(Fault::MEMORY)),

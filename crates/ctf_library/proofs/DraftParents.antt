@@ -1,11 +1,12 @@
 -- What is added to a draft changes neither its parent nor its data model.
-use Rattle.std.proofs.Common.{◌≡◌, ℕ, List, Option, Some, None, Result, Ok, Err, refl, ap, sym, subst, ◌∙◌, ◌⊎◌, inl, inr}
+use Rattle.std.proofs.Common.{◌≡◌, ℕ, List, Option, Some, None, Result, Ok, Err, refl, ap, sym, subst, ◌∙◌, inl, inr}
+use Rattle.std.specs.Prelude.{option_map, is_some}
 use Rattle.ctf_answers.specs.declared.counts.Counts.{Counts}
 use Rattle.ctf_library.specs.Drafting.{IsEnlarged, IsUnder}
 use Rattle.ctf_model.specs.Additions.{Enlarged, body_of, enlarged, numbered, silent}
 use Rattle.ctf_model.specs.Adders.{Added, add_enumerator, add_label, add_member, add_type, against_enumerator, against_label, against_member, against_place, against_type, body_at, put_member, replaced, replaced_at, size_with, with_enumerator, with_label, with_member, with_type}
-use Rattle.ctf_model.specs.Dictionary.{Label}
-use Rattle.ctf_model.specs.Drafts.{Draft, next_number, pending_place, space_of}
+use Rattle.ctf_model.specs.Dictionary.{Dictionary, Label, said_by}
+use Rattle.ctf_model.specs.Drafts.{Draft, against_draft, empty_draft, new_draft, next_number, pending_place, space_of}
 use Rattle.ctf_model.specs.Judgements.{first_met, unless, ◌then◌}
 use Rattle.ctf_model.specs.Lists.{Lists}
 use Rattle.ctf_model.specs.NewTypes.{NewType, new_term}
@@ -14,6 +15,7 @@ use Rattle.ctf_model.specs.Space.{space_type}
 use Rattle.ctf_model.specs.Term.{Body, Enumerator, Member, Term}
 use Rattle.ctf_model.specs.declared.additions.Addition.{Addition}
 use Rattle.ctf_model.specs.declared.additions.Addition.TheVariants as add
+use Rattle.ctf_model.specs.declared.data_model.DataModel.TheVariants.{Lp64}
 use Rattle.ctf_model.specs.declared.faults.Fault.{Fault}
 
 pub record AreAlike (a b : Draft) : Type 0 where
@@ -104,9 +106,36 @@ still_under old new x result above h under = at (enlarged old x) refl h
   where
     by : AreAlike old new → IsUnder new above
     by alike = record { parent = alike.parent ∙ under.parent; model = alike.model ∙ under.model }
+
     same : new ≡ old → IsUnder new above
     same e = by (record { parent = ap (λ (d : Draft). d.parent) e; model = ap (λ (d : Draft). d.model) e })
+
     at : (r : Result Enlarged Fault) → enlarged old x ≡ r → IsEnlarged r result old new → IsUnder new above
     at (Ok a) e (inl done) = by (subst (λ (d : Draft). AreAlike old d) (sym done.1) (enlarged_alike old x a e))
     at (Ok a) e (inr none) = same none.1
     at (Err f) e none = same none.1
+
+-- ---- new drafts
+
+made_of : (above : Option Dictionary) (parname parlabel : List ℕ) (d : Draft) → new_draft above parname parlabel Lp64 ≡ Ok d → (d.parent ≡ above) × (d.model ≡ Lp64)
+unfolding new_draft
+made_of above parname parlabel d e =
+    let done = unless_ok (first_met (against_draft above parname parlabel)) (Ok (empty_draft above parname parlabel Lp64)) d e in
+    let is : empty_draft above parname parlabel Lp64 ≡ d = cc in
+    (ap (λ (x : Draft). x.parent) (sym is), ap (λ (x : Draft). x.model) (sym is))
+
+map_twice : {A B C : Type 0} (f : A → B) (g : B → C) (o : Option A) → option_map (λ a. g (f a)) o ≡ option_map g (option_map f o)
+map_twice f g None = refl
+map_twice f g (Some a) = refl
+
+pub made_under : {P : Type 0} (lists : P → Lists) (parent : Option P) (above : Option Lists) (parname parlabel : List ℕ) (d : Draft) → option_map lists parent ≡ above → new_draft (option_map (λ p. said_by (lists p)) parent) parname parlabel Lp64 ≡ Ok d → IsUnder d above
+made_under lists parent above parname parlabel d same e =
+    let made = made_of (option_map (λ p. said_by (lists p)) parent) parname parlabel d e in
+    record { parent = made.0 ∙ map_twice lists said_by parent ∙ ap (option_map said_by) same; model = made.1 }
+
+-- one is there just where its lists are
+pub there : {P R : Type 0} (lists : P → Lists) (o : Option P) (now : R → Lists) (r : Option R) → option_map lists o ≡ option_map now r → is_some o ≡ is_some r
+there lists None now None e = refl
+there lists None now (Some r) e = absurd cc
+there lists (Some p) now None e = absurd cc
+there lists (Some p) now (Some r) e = refl

@@ -7,3 +7,4 @@ pub mod Opening
 pub mod DraftParents
 pub mod DraftSteps
 pub mod DraftPlaces
+pub mod Creating

@@ -204,8 +204,8 @@ impl Slot {
         creation: &Creation,
     ) -> Result<Slot, Fault>
         requires { is_some parent ≡ not (length creation.now.parname == 0) }
-        ensures ok { IfOk result (λ slot. created_slot number (option_copied parent.entry) creation.now
-            ≡ Ok (slot_of slot)) }
+        ensures ok { IfOk result (λ slot. (created_slot number (option_copied parent.entry)
+            creation.now ≡ Ok (slot_of slot)) × (slot.number ≡ number)) }
         ensures exact_err { IfErr result (λ f. (f ≡ want_of_memory)
             ⊎ (created_slot number (option_copied parent.entry) creation.now ≡ Err f)) }
     {
@@ -242,6 +242,7 @@ fn new_draft(alloc: Global, parent: Option<&Loaded>, creation: &Creation) -> Res
     requires { is_some parent ≡ not (length creation.now.parname == 0) }
     ensures ok { IfOk result (λ d. new_draft_of (option_map said_by (option_copied parent.entry))
         creation.now.parname creation.now.parlabel Lp64 ≡ Ok d.draft) }
+    ensures under { IfOk result (λ d. IsUnder d.draft (option_copied parent.entry)) }
     ensures exact_err { IfErr result (λ f. (f ≡ want_of_memory)
         ⊎ (new_draft_of (option_map said_by (option_copied parent.entry)) creation.now.parname
         creation.now.parlabel Lp64 ≡ Err f)) }

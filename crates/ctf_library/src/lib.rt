@@ -8,6 +8,7 @@ mod held;
 mod library;
 mod loaded;
 mod places;
+mod pool;
 mod publications;
 mod slots;
 mod staging;
@@ -16,3 +17,4 @@ mod whole;
 
 pub use library::Library;
 pub use loaded::Loaded;
+pub use pool::Pool;

@@ -12,6 +12,7 @@ ghost use Rattle.ctf_library.specs.Stepping.{Does, Makes};
 use crate::held::pending;
 use crate::loaded::Loaded;
 use crate::places::{find_slot, push_slot, remove_slot, set_parent, step_draft};
+use crate::pool::Pool;
 use crate::publications::{Publication, find_published};
 use crate::slots::{Imported, Slot};
 use crate::staging::{add_first_piece, add_piece, judge};
@@ -80,9 +81,15 @@ impl Library {
         find_published(&self.published, name)
     }
 
-    /// Makes the step of a change, with what was found for a take. Want of memory changes nothing.
+    /// Makes the step of a change, with what was found for a take, whatever the pool holds. Want of
+    /// memory changes nothing.
     #[tactic(auto, unfolding(ctf_model::specs::Steps::change_step))]
-    pub fn step(&mut self, change: &Change, found: Option<Loaded>) -> Result<Counts, Fault>
+    pub fn step(
+        &mut self,
+        change: &Change,
+        found: Option<Loaded>,
+        pool: &mut Pool,
+    ) -> Result<Counts, Fault>
         ensures step { Makes self.old
             (change_step self.old change.now found) result self.new }
         // These take no memory.
@@ -92,7 +99,7 @@ impl Library {
         match change {
             Change::Part { section, bytes } => self.part(*section, bytes.as_slice()),
             Change::Check => self.check(),
-            Change::Open => self.open(),
+            Change::Open => self.open(pool),
             Change::Clear => self.clear(),
             Change::Reset => self.reset(),
             Change::Close { d } => self.close(d.get()),
@@ -134,7 +141,7 @@ impl Library {
         self.slots.len() < MOST_SLOTS && self.next <= u64::from(u32::MAX)
     }
 
-    fn open(&mut self) -> Result<Counts, Fault>
+    fn open(&mut self, pool: &mut Pool) -> Result<Counts, Fault>
         ensures { Makes self.old (opens self.old) result self.new }
     {
         if !self.has_room() {
@@ -144,7 +151,7 @@ impl Library {
             return Err(placeless(Fault::MEMORY));
         }
         let parts = mem::replace(&mut self.stage, no_parts(self.alloc));
-        match Loaded::build(self.alloc, parts) {
+        match pool.open(parts) {
             Ok(loaded) => {
                 let number = self.next as u32;
                 let types = loaded.view().count() as u64;
@@ -285,11 +292,11 @@ impl Library {
         if self.slots.reserve(1).is_err() {
             return Err(placeless(Fault::MEMORY));
         }
-        let number = self.next as u32;
         let slot = match self.created(creation) {
             Ok(slot) => slot,
             Err(fault) => return Err(fault),
         };
+        let number = slot.number;
         push_slot(&mut self.slots, slot);
         self.next += 1;
         Ok(Counts::one("d", u64::from(number)))

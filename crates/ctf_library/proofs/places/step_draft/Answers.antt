@@ -1,4 +1,4 @@
-use Rattle.std.proofs.Common.{List, map, Some, refl, ap, sym, ◌∙◌, arith}
+use Rattle.std.proofs.Common.{List, map, Some, Err, refl, ap, sym, ◌∙◌, arith}
 use Rattle.ctf_library.specs.SlotPlaces.{place_of}
 use Rattle.ctf_library.specs.SlotView.{slot_of}
 use Rattle.ctf_library.specs.declared.slots.Slot as own
@@ -24,10 +24,10 @@ pub returns-in-Some-clause-rise : goal.returns-in-Some-clause-rise
 returns-in-Some-clause-rise c = λ next h. rise_set 0 c.args.slots.now.items next c.in-Some.place c.index_mut.result.now _ (c.step.ensures.number ∙ ap (λ (s : own.Slot). s.number) c.index_mut.ensures.value) h
 
 pub returns-in-Some-clause-quiet : goal.returns-in-Some-clause-quiet
-returns-in-Some-clause-quiet c = λ e want. discard_is_quiet (slot_of c.index_mut.result.now) _ (rw e at c.step.ensures.quiet e) want
+returns-in-Some-clause-quiet c = λ e want. discard_is_quiet (slot_of c.index_mut.result.now) c.args.step.now _ e (c.step.ensures.quiet e) want
 
 pub returns-in-None-clause-slots : goal.returns-in-None-clause-slots
 returns-in-None-clause-slots c =
     let placed = ap (λ (xs : List own.Slot). place_of c.args.number (map slot_of xs)) (sym c.deref.ensures.value) ∙ sym c.in-None.ensures in
     let none = (is_nowhere c.args.number (map slot_of c.args.slots.now.items) placed).found in
-    rw none (refl, refl)
+    rw none (ap Err c.placeless.ensures, refl)

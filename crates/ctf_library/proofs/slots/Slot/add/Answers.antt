@@ -1,4 +1,4 @@
-use Rattle.std.proofs.Common.{◌≡◌, Option, Some, ap, subst}
+use Rattle.std.proofs.Common.{◌≡◌, ap, subst}
 use Rattle.std.specs.Prelude.{option_map}
 use Rattle.ctf_draft.specs.declared.draft.Draft.{Draft}
 use Rattle.ctf_library.specs.Drafting.{IsUnder}
