@@ -108,8 +108,14 @@ impl Broker {
         let Ok(found) = found_by(&self.libraries, change) else {
             return Err(placeless(Fault::MEMORY));
         };
-        let pool = &mut self.pool;
-        step_in(self.alloc, &mut self.libraries, pool, session, change, found)
+        step_in(
+            self.alloc,
+            &mut self.libraries,
+            &mut self.pool,
+            session,
+            change,
+            found,
+        )
     }
 
     /// Answers a question of a session. Names and lists are lent from its own library.
