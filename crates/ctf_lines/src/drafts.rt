@@ -1,7 +1,8 @@
 //! Reads requests on drafts.
 ghost use Rattle.std.specs.Prelude.{◌≡◌, IfOk};
 ghost use Rattle.serde_json.specs.View.{view};
-ghost use Rattle.ctf_model.specs.Ask.{add_asked, create_asked, discard_asked, name_or_empty as name_or_empty_asked, parent_asked, update_asked};
+ghost use Rattle.ctf_model.specs.Ask.{add_asked, create_asked, discard_asked, parent_asked, update_asked};
+ghost use Rattle.ctf_model.specs.LineFields.{name_or_empty as name_or_empty_asked};
 
 use crate::additions::addition;
 use crate::reading::{name_under, slot, slot_under};

@@ -1,7 +1,8 @@
 //! Reads the request of a line.
 ghost use Rattle.std.specs.Prelude.{◌≡◌, ◌≢◌, ◌≤◌, IfSome, Option, None, Some, IfOk, IfErr, Ok, Err, codes, option_map};
 ghost use Rattle.serde_json.specs.View.{view};
-ghost use Rattle.ctf_model.specs.Ask.{ask, number_in, text_in, list_named, slot_under as slot_named, slot_in, type_in, close_asked, import_asked, publication_asked, publish_asked, take_asked, about_type as type_question_asked, about_slot as slot_question_asked, about_held as held_question_asked, bytes_asked, name_under as name_asked, symbol_asked, show_asked, from_asked, count_asked, window_asked, names_asked, part_asked, word_asked, asked_with, request_asked, value_asked};
+ghost use Rattle.ctf_model.specs.Ask.{ask, list_named, close_asked, import_asked, publication_asked, publish_asked, take_asked, about_type as type_question_asked, about_slot as slot_question_asked, about_held as held_question_asked, bytes_asked, symbol_asked, show_asked, names_asked, part_asked, word_asked, asked_with, request_asked, value_asked};
+ghost use Rattle.ctf_model.specs.LineFields.{number_in, text_in, slot_under as slot_named, slot_in, type_in, name_under as name_asked, from_asked, count_asked, window_asked};
 ghost use Rattle.ctf_model.specs.Refusals.{placeless};
 ghost use Rattle.ctf_model.specs.declared.faults.TheConstants.Fault.{MEMORY};
 ghost use Rattle.ctf_model.specs.declared.questions.SlotQuestion.TheVariants as whole;

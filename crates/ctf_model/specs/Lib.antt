@@ -50,6 +50,8 @@ pub mod SessionLaws
 pub mod FaultNames
 pub mod Lines
 pub mod Addables
+pub mod LineFields
+pub mod AskAdditions
 pub mod Ask
 pub mod ReplyLines
 pub mod Output

@@ -2,7 +2,8 @@ use Rattle.std.proofs.Common.{refl}
 use Rattle.std.specs.Str.{is_utf8, chars}
 use Rattle.hex.proofs.OnLiterals.{hex_on_literals}
 use Rattle.serde_json.proofs.OnLiterals.{serde_json_on_literals}
-use Rattle.ctf_model.specs.Ask.{ask, each_said}
+use Rattle.ctf_model.specs.Ask.{ask}
+use Rattle.ctf_model.specs.LineFields.{each_said}
 use Rattle.ctf_model.specs.Text.{bytes_spelled_by}
 use Rattle.ctf_model.specs.Words.{words}
 use Rattle.ctf_model.proofs.rows.paths_are_lines.Goals as goal
