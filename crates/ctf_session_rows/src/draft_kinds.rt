@@ -452,6 +452,110 @@ const SPELLED: [(&str, &str); 33] = [
     ),
 ];
 
+/// Fields at the ends of their ranges, past these, and absent ones.
+const FIELDS: [(&str, &str); 25] = [
+    (
+        "{\"s\":7,\"op\":\"create\"}\n",
+        "{\"ok\":{\"d\":1},\"s\":7}\n",
+    ),
+    (
+        "{\"s\":7,\"op\":\"add\",\"d\":1,\"what\":\"integer\",\"encoding\":255,\"offset\":255,\"bits\":65535,\"size\":18446744073709551615}\n",
+        "{\"ok\":{\"t\":1},\"s\":7}\n",
+    ),
+    (
+        "{\"s\":7,\"op\":\"add\",\"d\":1,\"what\":\"integer\",\"encoding\":256,\"offset\":0,\"bits\":32,\"size\":4}\n",
+        "{\"fault\":{\"code\":58,\"name\":\"BadRequest\",\"place\":0},\"s\":7}\n",
+    ),
+    (
+        "{\"s\":7,\"op\":\"add\",\"d\":1,\"what\":\"integer\",\"encoding\":1,\"offset\":256,\"bits\":32,\"size\":4}\n",
+        "{\"fault\":{\"code\":58,\"name\":\"BadRequest\",\"place\":0},\"s\":7}\n",
+    ),
+    (
+        "{\"s\":7,\"op\":\"add\",\"d\":1,\"what\":\"integer\",\"encoding\":1,\"offset\":0,\"bits\":65536,\"size\":4}\n",
+        "{\"fault\":{\"code\":58,\"name\":\"BadRequest\",\"place\":0},\"s\":7}\n",
+    ),
+    (
+        "{\"s\":7,\"op\":\"add\",\"d\":1,\"what\":\"integer\",\"encoding\":1,\"offset\":0,\"bits\":32,\"size\":-1}\n",
+        "{\"fault\":{\"code\":58,\"name\":\"BadRequest\",\"place\":0},\"s\":7}\n",
+    ),
+    (
+        "{\"s\":7,\"op\":\"add\",\"d\":1,\"what\":\"float\",\"encoding\":1,\"offset\":0,\"bits\":32}\n",
+        "{\"fault\":{\"code\":58,\"name\":\"BadRequest\",\"place\":0},\"s\":7}\n",
+    ),
+    (
+        "{\"s\":7,\"op\":\"add\",\"d\":1,\"what\":\"array\",\"contents\":1,\"index\":1,\"count\":4294967295}\n",
+        "{\"ok\":{\"t\":2},\"s\":7}\n",
+    ),
+    (
+        "{\"s\":7,\"op\":\"add\",\"d\":1,\"what\":\"array\",\"contents\":1,\"index\":1,\"count\":4294967296}\n",
+        "{\"fault\":{\"code\":58,\"name\":\"BadRequest\",\"place\":0},\"s\":7}\n",
+    ),
+    (
+        "{\"s\":7,\"op\":\"add\",\"d\":1,\"what\":\"array\",\"contents\":65536,\"index\":1,\"count\":1}\n",
+        "{\"fault\":{\"code\":58,\"name\":\"BadRequest\",\"place\":0},\"s\":7}\n",
+    ),
+    (
+        "{\"s\":7,\"op\":\"add\",\"d\":1,\"what\":\"array\",\"contents\":1,\"count\":1}\n",
+        "{\"fault\":{\"code\":58,\"name\":\"BadRequest\",\"place\":0},\"s\":7}\n",
+    ),
+    (
+        "{\"s\":7,\"op\":\"add\",\"d\":1,\"what\":\"unknown\",\"name\":5}\n",
+        "{\"fault\":{\"code\":58,\"name\":\"BadRequest\",\"place\":0},\"s\":7}\n",
+    ),
+    (
+        "{\"s\":7,\"op\":\"add\",\"d\":1,\"what\":\"unknown\",\"name\":\"\\\\\"}\n",
+        "{\"fault\":{\"code\":58,\"name\":\"BadRequest\",\"place\":0},\"s\":7}\n",
+    ),
+    (
+        "{\"s\":7,\"op\":\"add\",\"d\":1,\"what\":\"unknown\",\"name\":\"\\\\x6A\"}\n",
+        "{\"fault\":{\"code\":58,\"name\":\"BadRequest\",\"place\":0},\"s\":7}\n",
+    ),
+    (
+        "{\"s\":7,\"op\":\"add\",\"d\":1,\"what\":\"struct\",\"name\":\"\\\\xff\\\\x22\",\"size\":8}\n",
+        "{\"ok\":{\"t\":3},\"s\":7}\n",
+    ),
+    (
+        "{\"s\":7,\"op\":\"add\",\"d\":1,\"what\":\"member\",\"t\":3,\"name\":\"m\",\"type\":1,\"offset\":18446744073709551616}\n",
+        "{\"fault\":{\"code\":58,\"name\":\"BadRequest\",\"place\":0},\"s\":7}\n",
+    ),
+    (
+        "{\"s\":7,\"op\":\"add\",\"d\":1,\"what\":\"member\",\"t\":3}\n",
+        "{\"fault\":{\"code\":58,\"name\":\"BadRequest\",\"place\":0},\"s\":7}\n",
+    ),
+    (
+        "{\"s\":7,\"op\":\"add\",\"what\":\"unknown\"}\n",
+        "{\"fault\":{\"code\":58,\"name\":\"BadRequest\",\"place\":0},\"s\":7}\n",
+    ),
+    (
+        "{\"s\":7,\"op\":\"add\",\"d\":1}\n",
+        "{\"fault\":{\"code\":58,\"name\":\"BadRequest\",\"place\":0},\"s\":7}\n",
+    ),
+    (
+        "{\"s\":7,\"op\":\"add\",\"d\":1,\"what\":\"forward\",\"name\":\"f\"}\n",
+        "{\"fault\":{\"code\":58,\"name\":\"BadRequest\",\"place\":0},\"s\":7}\n",
+    ),
+    (
+        "{\"s\":7,\"op\":\"add\",\"d\":1,\"what\":\"enumerator\",\"t\":3,\"value\":1.5}\n",
+        "{\"fault\":{\"code\":58,\"name\":\"BadRequest\",\"place\":0},\"s\":7}\n",
+    ),
+    (
+        "{\"s\":7,\"op\":\"update\",\"d\":1}\n",
+        "{\"ok\":{\"types\":3},\"s\":7}\n",
+    ),
+    (
+        "{\"s\":7,\"op\":\"encoding\",\"d\":1,\"t\":1}\n",
+        "{\"ok\":{\"bits\":65535,\"encoding\":255,\"offset\":255},\"s\":7}\n",
+    ),
+    (
+        "{\"s\":7,\"op\":\"array\",\"d\":1,\"t\":2}\n",
+        "{\"ok\":{\"contents\":1,\"count\":4294967295,\"index\":1},\"s\":7}\n",
+    ),
+    (
+        "{\"s\":7,\"op\":\"record\",\"d\":1,\"t\":3}\n",
+        "{\"ok\":{\"kind\":\"struct\",\"name\":\"\\\\xff\\\\x22\",\"root\":true,\"size\":8,\"vlen\":0},\"s\":7}\n",
+    ),
+];
+
 #[test]
 fn each_kind_is_added(rt: HostRuntime) -> Result<(), Fail> {
     assert!(rt; are_answered(rt.alloc(), &KINDS)?);
@@ -473,5 +577,11 @@ fn sizes_are_written(rt: HostRuntime) -> Result<(), Fail> {
 #[test]
 fn types_of_a_draft_have_names(rt: HostRuntime) -> Result<(), Fail> {
     assert!(rt; are_answered(rt.alloc(), &SPELLED)?);
+    Ok(())
+}
+
+#[test]
+fn fields_have_ranges(rt: HostRuntime) -> Result<(), Fail> {
+    assert!(rt; are_answered(rt.alloc(), &FIELDS)?);
     Ok(())
 }

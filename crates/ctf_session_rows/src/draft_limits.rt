@@ -1,4 +1,4 @@
-//! How many drafts there may be, and how many arguments.
+//! How many drafts and arguments there may be, and how long a chain.
 
 use crate::Told;
 use ctf_rows::{put_line, repeat};
@@ -143,5 +143,63 @@ fn many_arguments(alloc: Global) -> Result<Told, AllocError> {
 #[test]
 fn a_function_takes_1023_arguments(rt: HostRuntime) -> Result<(), Fail> {
     assert!(rt; many_arguments(rt.alloc())?.are_answered(rt.alloc()));
+    Ok(())
+}
+
+/// What is said to a chain of 512 pointers, and to one more.
+const DEEP_POINTERS: [(&str, &str); 7] = [
+    (
+        "{\"s\":7,\"op\":\"update\",\"d\":1}",
+        "{\"ok\":{\"types\":513},\"s\":7}",
+    ),
+    (
+        "{\"s\":7,\"op\":\"add\",\"d\":1,\"what\":\"pointer\",\"type\":513}",
+        "{\"ok\":{\"t\":514},\"s\":7}",
+    ),
+    (
+        "{\"s\":7,\"op\":\"update\",\"d\":1}",
+        "{\"fault\":{\"code\":16,\"name\":\"DeclDeep\",\"place\":514},\"s\":7}",
+    ),
+    (
+        "{\"s\":7,\"op\":\"info\",\"d\":1}",
+        "{\"ok\":{\"child\":false,\"draft\":true,\"imported\":false,\"labels\":0,\"parlabel\":\"\",\"parname\":\"\",\"pending\":1,\"types\":513},\"s\":7}",
+    ),
+    (
+        "{\"s\":7,\"op\":\"kind\",\"d\":1,\"t\":514}",
+        "{\"fault\":{\"code\":24,\"name\":\"NoType\",\"place\":0},\"s\":7}",
+    ),
+    (
+        "{\"s\":7,\"op\":\"discard\",\"d\":1}",
+        "{\"ok\":{\"types\":513},\"s\":7}",
+    ),
+    (
+        "{\"s\":7,\"op\":\"update\",\"d\":1}",
+        "{\"ok\":{\"types\":513},\"s\":7}",
+    ),
+];
+
+fn many_pointers(alloc: Global) -> Result<Told, AllocError> {
+    let mut told = Told::new(alloc);
+    told.put_rows(&MADE)?;
+    for t in 1..513_u16 {
+        let number = format!(in alloc; "{t}")?;
+        let front = b"{\"s\":7,\"op\":\"add\",\"d\":1,\"what\":\"pointer\",\"type\":";
+        put_line(&mut told.input, front, number.as_bytes(), b"}")?;
+        let next = t.wrapping_add(1);
+        let number = format!(in alloc; "{next}")?;
+        put_line(
+            &mut told.want,
+            b"{\"ok\":{\"t\":",
+            number.as_bytes(),
+            b"},\"s\":7}",
+        )?;
+    }
+    told.put_rows(&DEEP_POINTERS)?;
+    Ok(told)
+}
+
+#[test]
+fn a_chain_of_513_pointers_is_refused(rt: HostRuntime) -> Result<(), Fail> {
+    assert!(rt; many_pointers(rt.alloc())?.are_answered(rt.alloc()));
     Ok(())
 }
