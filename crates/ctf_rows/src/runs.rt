@@ -119,3 +119,15 @@ pub fn put_part(out: &mut Vec<u8>, list: &str, digits: &[u8]) -> Result<(), Allo
 pub fn put_open(out: &mut Vec<u8>) -> Result<(), AllocError> {
     put_line(out, b"{\"s\":7,\"op\":\"open\"}", b"", b"")
 }
+
+/// Whether lines that a run begins with are answered just these replies.
+pub fn are_answered(alloc: Global, rows: &[(&str, &str)]) -> Result<bool, AllocError> {
+    let mut input = Vec::new(alloc);
+    let mut want = Vec::new(alloc);
+    for (line, reply) in rows {
+        input.extend_from_slice(line.as_bytes())?;
+        want.extend_from_slice(reply.as_bytes())?;
+    }
+    let (_end, written) = served(alloc, &input, 4096);
+    Ok(written.as_slice() == want.as_slice())
+}

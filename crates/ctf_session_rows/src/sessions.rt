@@ -1,7 +1,6 @@
 //! Sessions side by side: each is answered as if it were alone.
 
-use crate::questions::are_answered;
-use crate::runs::served;
+use ctf_rows::{are_answered, served};
 use std::alloc::AllocError;
 use std::test::Fail;
 

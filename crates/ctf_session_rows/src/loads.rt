@@ -2,8 +2,8 @@
 ghost use Rattle.std.specs.Prelude.{◌≡◌, IfOk};
 ghost use Rattle.ctf_model.specs.declared.data_model.DataModel.TheVariants.{Lp64};
 
-use crate::runs::served_by;
 use ctf_model::{Bytes, DataModel, Fault, Parts, PublicationName, placeless};
+use ctf_rows::served_by;
 use ctf_space::Opened;
 use ctf_wire::Broker;
 use std::alloc::{AllocError, Global};

@@ -1,7 +1,7 @@
 //! Many children over a parent that was taken, whose owner then has nothing.
 
-use crate::put_line;
-use crate::runs::served;
+use crate::Told;
+use ctf_rows::put_line;
 use std::alloc::{AllocError, Global};
 use std::test::Fail;
 
@@ -44,82 +44,56 @@ const LEAVES: [(&str, &str); 3] = [
     ),
 ];
 
-/// Lines that go in, and the replies that are wanted.
-#[derive(Drop)]
-struct Told {
-    input: Vec<u8>,
-    want: Vec<u8>,
+/// Opens a child as the slot of a number, over slot 1.
+fn put_child(told: &mut Told, number: &[u8]) -> Result<(), AllocError> {
+    told.put_rows(&CHILD)?;
+    put_line(&mut told.input, b"{\"s\":2,\"op\":\"open\"}", b"", b"")?;
+    put_line(
+        &mut told.want,
+        b"{\"ok\":{\"d\":",
+        number,
+        b",\"types\":1},\"s\":2}",
+    )?;
+    put_line(
+        &mut told.input,
+        b"{\"s\":2,\"op\":\"import\",\"d\":",
+        number,
+        b",\"parent\":1}",
+    )?;
+    put_line(&mut told.want, b"{\"ok\":{},\"s\":2}", b"", b"")
 }
 
-impl Told {
-    fn new(alloc: Global) -> Told {
-        Told {
-            input: Vec::new(alloc),
-            want: Vec::new(alloc),
-        }
-    }
-
-    fn put(&mut self, rows: &[(&str, &str)]) -> Result<(), AllocError> {
-        for (line, reply) in rows {
-            put_line(&mut self.input, line.as_bytes(), b"", b"")?;
-            put_line(&mut self.want, reply.as_bytes(), b"", b"")?;
-        }
-        Ok(())
-    }
-
-    /// Opens a child as the slot of a number, over slot 1.
-    fn put_child(&mut self, number: &[u8]) -> Result<(), AllocError> {
-        self.put(&CHILD)?;
-        put_line(&mut self.input, b"{\"s\":2,\"op\":\"open\"}", b"", b"")?;
-        put_line(
-            &mut self.want,
-            b"{\"ok\":{\"d\":",
-            number,
-            b",\"types\":1},\"s\":2}",
-        )?;
-        put_line(
-            &mut self.input,
-            b"{\"s\":2,\"op\":\"import\",\"d\":",
-            number,
-            b",\"parent\":1}",
-        )?;
-        put_line(&mut self.want, b"{\"ok\":{},\"s\":2}", b"", b"")
-    }
-
-    /// Asks the child in the slot of a number for a type of its parent.
-    fn put_question(&mut self, number: &[u8]) -> Result<(), AllocError> {
-        put_line(
-            &mut self.input,
-            b"{\"s\":2,\"op\":\"kind\",\"d\":",
-            number,
-            b",\"t\":3}",
-        )?;
-        put_line(
-            &mut self.want,
-            b"{\"ok\":{\"kind\":\"struct\"},\"s\":2}",
-            b"",
-            b"",
-        )
-    }
+/// Asks the child in the slot of a number for a type of its parent.
+fn put_question(told: &mut Told, number: &[u8]) -> Result<(), AllocError> {
+    put_line(
+        &mut told.input,
+        b"{\"s\":2,\"op\":\"kind\",\"d\":",
+        number,
+        b",\"t\":3}",
+    )?;
+    put_line(
+        &mut told.want,
+        b"{\"ok\":{\"kind\":\"struct\"},\"s\":2}",
+        b"",
+        b"",
+    )
 }
 
 #[test]
 fn a_taken_parent_stays_with_each_child(rt: HostRuntime) -> Result<(), Fail> {
     let mut told = Told::new(rt.alloc());
-    told.put(&TAKES)?;
+    told.put_rows(&TAKES)?;
     for child in 0..CHILDREN {
         let number = child.wrapping_add(2);
         let number = format!(in rt.alloc(); "{number}")?;
-        told.put_child(number.as_bytes())?;
+        put_child(&mut told, number.as_bytes())?;
     }
-    told.put(&LEAVES)?;
+    told.put_rows(&LEAVES)?;
     for child in 0..CHILDREN {
         let number = child.wrapping_add(2);
         let number = format!(in rt.alloc(); "{number}")?;
-        told.put_question(number.as_bytes())?;
+        put_question(&mut told, number.as_bytes())?;
     }
-    let (end, written) = served(rt.alloc(), &told.input, 4096);
-    assert_eq!(rt; end, Ok(()));
-    assert_eq!(rt; written.as_slice(), told.want.as_slice());
+    assert!(rt; told.are_answered(rt.alloc()));
     Ok(())
 }
