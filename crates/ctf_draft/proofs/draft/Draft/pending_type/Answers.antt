@@ -1,7 +1,7 @@
 use Rattle.std.proofs.Common.{ap, arith}
 use Rattle.ctf_draft.specs.ParentView.{parent_in}
 use Rattle.ctf_draft.proofs.Pending.{body_here}
-use Rattle.ctf_draft.proofs.draft.Draft.pending_body.Goals as goal
+use Rattle.ctf_draft.proofs.draft.Draft.pending_type.Goals as goal
 
 pub returns : goal.returns
 returns c =
