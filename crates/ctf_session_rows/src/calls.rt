@@ -1,7 +1,7 @@
 //! The calls below `serve`, each once, with memory enough.
 
 use ctf_answers::Reply;
-use ctf_library::Library;
+use ctf_library::{Library, Pool};
 use ctf_lines::{FromLine, ToLine, memory_line, write_change};
 use ctf_model::{Change, Fault, Request, placeless};
 use ctf_wire::Broker;
@@ -30,6 +30,7 @@ const REPLIES: &str = "{\"ok\":{\"length\":53},\"s\":7}\n\
 fn ask_library(
     alloc: Global,
     library: &mut Library,
+    pool: &mut Pool,
     line: &str,
     out: &mut Vec<u8>,
 ) -> Result<(), AllocError> {
@@ -37,7 +38,7 @@ fn ask_library(
         return Ok(());
     };
     match request {
-        Request::Changes(change) => write_change(out, session, library.step(&change, None)),
+        Request::Changes(change) => write_change(out, session, library.step(&change, None, pool)),
         Request::Asks { d, question } => {
             let outcome = library.answer(d, &question);
             Reply { session, outcome }.write(out)
@@ -48,9 +49,10 @@ fn ask_library(
 #[test]
 fn a_library_answers(rt: HostRuntime) -> Result<(), Fail> {
     let mut library = Library::new(rt.alloc());
+    let mut pool = Pool::new(rt.alloc());
     let mut out = Vec::new(rt.alloc());
     for line in LINES {
-        ask_library(rt.alloc(), &mut library, line, &mut out)?;
+        ask_library(rt.alloc(), &mut library, &mut pool, line, &mut out)?;
     }
     assert_eq!(rt; out.as_slice(), REPLIES.as_bytes());
     Ok(())
@@ -89,10 +91,11 @@ fn a_broker_answers(rt: HostRuntime) -> Result<(), Fail> {
 #[test]
 fn an_empty_library_refuses(rt: HostRuntime) {
     let mut library = Library::new(rt.alloc());
+    let mut pool = Pool::new(rt.alloc());
     let too_short = placeless(Fault::TOO_SHORT);
-    assert!(rt; library.step(&Change::Open, None).err() == Some(too_short));
-    assert!(rt; library.step(&Change::Check, None).err() == Some(too_short));
-    assert!(rt; library.step(&Change::Reset, None).is_ok());
+    assert!(rt; library.step(&Change::Open, None, &mut pool).err() == Some(too_short));
+    assert!(rt; library.step(&Change::Check, None, &mut pool).err() == Some(too_short));
+    assert!(rt; library.step(&Change::Reset, None, &mut pool).is_ok());
 }
 
 #[test]

@@ -1,5 +1,5 @@
-//! Worked rows: what the service answers to sessions side by side, on slots, publications and drafts, and
-//! how a run over a reader and a writer in memory goes on and ends.
+//! Worked rows: what the service answers to sessions side by side, on slots, publications and
+//! drafts, and how a run over a reader and a writer in memory goes on and ends.
 #![tactic(auto)]
 
 mod told;
@@ -36,6 +36,8 @@ mod meeting;
 mod noted;
 #[cfg(test)]
 mod parents;
+#[cfg(test)]
+mod pools;
 #[cfg(test)]
 mod reading;
 #[cfg(test)]
