@@ -4,11 +4,11 @@
 
 mod lines;
 mod repeats;
-mod runs;
+mod requests;
 
 pub use lines::put_line;
 pub use repeats::repeat;
-pub use runs::{INT, Pieces, are_answered, put_open, put_part, served, served_bounded, served_by};
+pub use requests::{INT, put_open, put_part};
 
 #[cfg(test)]
 mod dictionaries;

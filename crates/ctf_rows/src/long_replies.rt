@@ -1,6 +1,7 @@
 //! Replies that would be too long.
 
-use crate::{repeat, served};
+use crate::repeat;
+use ctf_runs::served;
 use std::alloc::{AllocError, Global};
 use std::test::Fail;
 

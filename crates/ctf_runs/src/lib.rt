@@ -1,0 +1,6 @@
+//! Runs of the service over a reader and a writer in memory, for the crates of rows.
+#![tactic(auto)]
+
+mod runs;
+
+pub use runs::{Pieces, are_answered, served, served_bounded, served_by};
