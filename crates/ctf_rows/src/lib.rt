@@ -2,18 +2,12 @@
 //! memory.
 #![tactic(auto)]
 
-mod lines;
-mod repeats;
-mod requests;
+mod digits;
 
-pub use lines::put_line;
-pub use repeats::repeat;
-pub use requests::{INT, put_open, put_part};
+pub use digits::put_byte;
 
 #[cfg(test)]
 mod dictionaries;
-#[cfg(test)]
-mod digits;
 #[cfg(test)]
 mod figures;
 #[cfg(test)]
