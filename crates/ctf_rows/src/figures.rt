@@ -1,7 +1,7 @@
 //! The words `resolve`, `size`, `align` and `path` of an integer and of structs, and lines that are no
 //! such questions.
 
-use crate::are_answered;
+use ctf_runs::are_answered;
 use std::test::Fail;
 
 /// An integer.

@@ -1,6 +1,6 @@
 //! Sizes and offsets up to the greatest number, and past it.
 
-use crate::are_answered;
+use ctf_runs::are_answered;
 use std::test::Fail;
 
 /// A struct of 2^63 bytes, and an array of two of it.

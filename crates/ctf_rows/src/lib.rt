@@ -2,18 +2,12 @@
 //! memory.
 #![tactic(auto)]
 
-mod lines;
-mod repeats;
-mod runs;
+mod digits;
 
-pub use lines::put_line;
-pub use repeats::repeat;
-pub use runs::{INT, Pieces, are_answered, put_open, put_part, served, served_bounded, served_by};
+pub use digits::put_byte;
 
 #[cfg(test)]
 mod dictionaries;
-#[cfg(test)]
-mod digits;
 #[cfg(test)]
 mod figures;
 #[cfg(test)]

@@ -1,6 +1,6 @@
 //! Replies that would be too long.
 
-use crate::{repeat, served};
+use ctf_runs::{repeat, served};
 use std::alloc::{AllocError, Global};
 use std::test::Fail;
 

@@ -1,6 +1,6 @@
 //! What types of every kind come to, alone and in each other: sizes, alignments and offsets.
 
-use crate::are_answered;
+use ctf_runs::are_answered;
 use std::test::Fail;
 
 /// A type of each other kind.

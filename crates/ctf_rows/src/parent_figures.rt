@@ -1,6 +1,6 @@
 //! What a child's types come to, before it has a parent and over it.
 
-use crate::are_answered;
+use ctf_runs::are_answered;
 use std::test::Fail;
 
 /// A child of p with a pointer to type 3 of its parent, and a typedef of it; and its parent.

@@ -1,6 +1,6 @@
 //! Questions on types through `serve`: every word, and each of its refusals.
 
-use crate::are_answered;
+use ctf_runs::are_answered;
 use std::test::Fail;
 
 /// Two functions, one of an argument and one that takes more, and an integer.

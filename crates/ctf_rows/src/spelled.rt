@@ -1,7 +1,7 @@
 //! The word `name`: names of types, as C spells them.
 
-use crate::digits::put_byte;
-use crate::{are_answered, put_open, put_part, repeat, served};
+use crate::put_byte;
+use ctf_runs::{are_answered, put_open, put_part, repeat, served};
 use std::alloc::{AllocError, Global};
 use std::test::Fail;
 

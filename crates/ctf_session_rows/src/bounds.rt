@@ -1,7 +1,7 @@
 //! Runs that end before their input does.
 
 use crate::first_run::{LINES, REPLIES};
-use ctf_rows::served_bounded;
+use ctf_runs::served_bounded;
 use ctf_wire::RunFault;
 
 /// The bytes of a text's first two lines, where they are this long.

@@ -1,6 +1,6 @@
 //! Types of each kind in drafts.
 
-use ctf_rows::are_answered;
+use ctf_runs::are_answered;
 use std::test::Fail;
 
 /// Types of each other kind, and fields that are not good.

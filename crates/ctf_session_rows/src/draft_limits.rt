@@ -1,7 +1,7 @@
 //! How many drafts and arguments there may be, and how long a chain.
 
 use crate::Told;
-use ctf_rows::{put_line, repeat};
+use ctf_runs::{put_line, repeat};
 use std::alloc::{AllocError, Global};
 use std::test::Fail;
 
@@ -60,49 +60,49 @@ fn drafts_fill_slots(rt: HostRuntime) -> Result<(), Fail> {
     Ok(())
 }
 
-/// A name and the number of the type that a function returns, how many arguments it has, and the
-/// reply.
+/// A name and the number of the type that a function returns, how many arguments it has behind its
+/// first, and the reply.
 const FUNCTIONS: [(&str, &str, usize, &str); 5] = [
     (
         "\\\\x00",
         "9",
-        1024,
+        1023,
         "{\"fault\":{\"code\":46,\"name\":\"NameHasZero\",\"place\":0},\"s\":7}",
     ),
     (
         "f",
         "9",
-        1024,
+        1023,
         "{\"fault\":{\"code\":43,\"name\":\"VlenFull\",\"place\":0},\"s\":7}",
     ),
     (
         "f",
         "1",
-        1024,
+        1023,
         "{\"fault\":{\"code\":43,\"name\":\"VlenFull\",\"place\":0},\"s\":7}",
     ),
     (
         "f",
         "9",
-        1023,
+        1022,
         "{\"fault\":{\"code\":39,\"name\":\"BadRef\",\"place\":0},\"s\":7}",
     ),
-    ("f", "1", 1023, "{\"ok\":{\"t\":2},\"s\":7}"),
+    ("f", "1", 1022, "{\"ok\":{\"t\":2},\"s\":7}"),
 ];
 
-/// Appends the line that adds a function with so many arguments.
+/// Appends the line that adds a function with an argument and so many more.
 fn put_function(
     alloc: Global,
     input: &mut Vec<u8>,
     name: &str,
     returned: &str,
-    count: usize,
+    more: usize,
 ) -> Result<(), AllocError> {
     let mut back = Vec::new(alloc);
     back.extend_from_slice(b"\",\"type\":")?;
     back.extend_from_slice(returned.as_bytes())?;
     back.extend_from_slice(b",\"args\":[1")?;
-    repeat(&mut back, b",1", count - 1)?;
+    repeat(&mut back, b",1", more)?;
     back.extend_from_slice(b"]}")?;
     let front = b"{\"s\":7,\"op\":\"add\",\"d\":1,\"what\":\"function\",\"name\":\"";
     put_line(input, front, name.as_bytes(), &back)
@@ -132,8 +132,8 @@ const MOST: [(&str, &str); 2] = [
 fn many_arguments(alloc: Global) -> Result<Told, AllocError> {
     let mut told = Told::new(alloc);
     told.put_rows(&MADE)?;
-    for (name, returned, count, reply) in FUNCTIONS {
-        put_function(alloc, &mut told.input, name, returned, count)?;
+    for (name, returned, more, reply) in FUNCTIONS {
+        put_function(alloc, &mut told.input, name, returned, more)?;
         put_line(&mut told.want, reply.as_bytes(), b"", b"")?;
     }
     told.put_rows(&MOST)?;

@@ -1,7 +1,7 @@
 //! Members of structs and unions in drafts: where they stand, and which are refused.
 
 use crate::Told;
-use ctf_rows::are_answered;
+use ctf_runs::are_answered;
 use std::alloc::{AllocError, Global};
 use std::test::Fail;
 

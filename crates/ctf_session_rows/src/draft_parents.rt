@@ -1,6 +1,6 @@
 //! Drafts as parents, and drafts over a parent.
 
-use ctf_rows::are_answered;
+use ctf_runs::are_answered;
 use std::test::Fail;
 
 /// A draft that a child imports, and a draft over it.

@@ -1,6 +1,6 @@
 //! Enumerators and labels of drafts.
 
-use ctf_rows::are_answered;
+use ctf_runs::are_answered;
 use std::test::Fail;
 
 /// An enum and a label, and their bytes.

@@ -1,6 +1,6 @@
 //! A draft from its making to its bytes, and what is published of it.
 
-use ctf_rows::are_answered;
+use ctf_runs::are_answered;
 use std::test::Fail;
 
 /// A draft that gets an integer, and loses a struct.

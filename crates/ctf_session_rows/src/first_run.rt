@@ -1,6 +1,6 @@
 //! The first run: a dictionary is handed in, opened and asked.
 
-use ctf_rows::{put_open, put_part, served};
+use ctf_runs::{put_open, put_part, served};
 use std::test::Fail;
 
 /// Hands in the integer `int`, opens it and asks for the kind of type 1.

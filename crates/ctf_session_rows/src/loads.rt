@@ -3,7 +3,7 @@ ghost use Rattle.std.specs.Prelude.{◌≡◌, IfOk};
 ghost use Rattle.ctf_model.specs.declared.data_model.DataModel.TheVariants.{Lp64};
 
 use ctf_model::{Bytes, DataModel, Fault, Parts, PublicationName, placeless};
-use ctf_rows::served_by;
+use ctf_runs::served_by;
 use ctf_space::Opened;
 use ctf_wire::Broker;
 use std::alloc::{AllocError, Global};

@@ -1,6 +1,6 @@
 //! Sessions that meet: one publishes, others take.
 
-use ctf_rows::are_answered;
+use ctf_runs::are_answered;
 use std::test::Fail;
 
 /// Sessions 1 to 4, which meet at the integer `int`.

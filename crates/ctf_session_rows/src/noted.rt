@@ -1,6 +1,6 @@
 //! Runs of three lines over a reader of 7 bytes a call and a writer of 5, which notes its flushes.
 
-use ctf_rows::Pieces;
+use ctf_runs::Pieces;
 use ctf_wire::{Broker, FromReader, RunFault, ToWriter, serve_bounded};
 use std::alloc::Global;
 use std::io;

@@ -1,6 +1,6 @@
 //! Children over their parents, and slots that are closed.
 
-use ctf_rows::are_answered;
+use ctf_runs::are_answered;
 use std::test::Fail;
 
 /// A child with a pointer to type 3 of its parent, a dictionary of three types, and one of two.

@@ -1,6 +1,6 @@
 //! Lines that are requests, and lines that are none.
 
-use ctf_rows::served;
+use ctf_runs::served;
 use std::test::Fail;
 
 /// Lines, and what they are answered.

@@ -1,6 +1,6 @@
 //! Sessions side by side: each is answered as if it were alone.
 
-use ctf_rows::{are_answered, served};
+use ctf_runs::{are_answered, served};
 use std::alloc::AllocError;
 use std::test::Fail;
 

@@ -1,6 +1,6 @@
 //! Slots: their numbers, and how many there may be.
 
-use ctf_rows::{put_line, put_open, put_part, served};
+use ctf_runs::{put_line, put_open, put_part, served};
 use std::alloc::AllocError;
 use std::test::Fail;
 

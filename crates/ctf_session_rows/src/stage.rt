@@ -1,6 +1,6 @@
 //! The stage: how long a list may be, and what a refusal leaves.
 
-use ctf_rows::{INT, put_line, put_open, put_part, served};
+use ctf_runs::{INT, put_line, put_open, put_part, served};
 use std::alloc::{AllocError, Global};
 use std::test::Fail;
 

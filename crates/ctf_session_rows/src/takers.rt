@@ -1,7 +1,7 @@
 //! Many children over a parent that was taken, whose owner then has nothing.
 
 use crate::Told;
-use ctf_rows::put_line;
+use ctf_runs::put_line;
 use std::alloc::{AllocError, Global};
 use std::test::Fail;
 

@@ -1,14 +1,9 @@
 //! Runs of the service over a reader and a writer in memory.
 
-use crate::put_line;
 use ctf_wire::{Broker, FromReader, RunFault, ToWriter, serve, serve_bounded};
 use std::alloc::{AllocError, Global};
 use std::io;
 use std::io::{ErrorKind, Read, Write};
-
-/// A dictionary with one type, the integer `int` of 32 bits, in hexadecimal digits.
-pub const INT: &str = "f1cf0200000000000000000000000000000000000000000000000000\
-    0c0000000500000001000000000c04002000000100696e7400";
 
 /// Gives its bytes in pieces; the read of the number `failing`, counted from 1, fails.
 #[derive(Drop)]
@@ -106,18 +101,6 @@ pub fn served_bounded(
         if reads < 1000 { reads } else { 1000 },
     );
     (end, fives.bytes)
-}
-
-/// Appends the line by which session 7 hands in bytes, as hexadecimal digits, for a list.
-pub fn put_part(out: &mut Vec<u8>, list: &str, digits: &[u8]) -> Result<(), AllocError> {
-    out.extend_from_slice(b"{\"s\":7,\"op\":\"part\",\"section\":\"")?;
-    out.extend_from_slice(list.as_bytes())?;
-    put_line(out, b"\",\"bytes\":\"", digits, b"\"}")
-}
-
-/// Appends the line by which session 7 opens what is staged.
-pub fn put_open(out: &mut Vec<u8>) -> Result<(), AllocError> {
-    put_line(out, b"{\"s\":7,\"op\":\"open\"}", b"", b"")
 }
 
 /// Whether lines that a run begins with are answered just these replies.
