@@ -7,9 +7,7 @@ ghost use Rattle.ctf_model.specs.declared.addables.Addable.TheVariants as adds;
 
 use crate::drafts::name_or_empty;
 use crate::reading::{number, text, type_number};
-use ctf_model::{
-    Addable, Addition, Declared, NewArray, NewKind, NewScalar, TypeNum, TypeNums,
-};
+use ctf_model::{Addable, Addition, Declared, NewArray, NewKind, NewScalar, TypeNum, TypeNums};
 use serde_json::Value;
 use std::alloc::{AllocError, Global};
 

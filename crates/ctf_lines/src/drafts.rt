@@ -59,7 +59,10 @@ pub(crate) fn add(alloc: Global, value: &Value) -> Result<Option<Request>, Alloc
         return Ok(None);
     };
     match addition(alloc, value)? {
-        Some(addition) => Ok(Some(Request::Changes(Change::Draft { d, step: DraftStep::Add(addition) }))),
+        Some(addition) => Ok(Some(Request::Changes(Change::Draft {
+            d,
+            step: DraftStep::Add(addition),
+        }))),
         None => Ok(None),
     }
 }
@@ -68,12 +71,18 @@ pub(crate) fn update(value: &Value) -> Option<Request>
     ensures { result ≡ update_asked (view value.now) }
 {
     let d = slot(value)?;
-    Some(Request::Changes(Change::Draft { d, step: DraftStep::Update }))
+    Some(Request::Changes(Change::Draft {
+        d,
+        step: DraftStep::Update,
+    }))
 }
 
 pub(crate) fn discard(value: &Value) -> Option<Request>
     ensures { result ≡ discard_asked (view value.now) }
 {
     let d = slot(value)?;
-    Some(Request::Changes(Change::Draft { d, step: DraftStep::Discard }))
+    Some(Request::Changes(Change::Draft {
+        d,
+        step: DraftStep::Discard,
+    }))
 }

@@ -12,8 +12,8 @@ use crate::drafts::{add, create, discard, update};
 use crate::lines::FromLine;
 use crate::spelled::{name, names, piece};
 use ctf_model::{
-    Change, Fault, HeldQuestion, ListName, Names, Piece, PublicationName, Question, Request, SlotNumber,
-    SlotQuestion, TypeNum, TypeQuestion, Window, Word, placeless,
+    Change, Fault, HeldQuestion, ListName, Names, Piece, PublicationName, Question, Request,
+    SlotNumber, SlotQuestion, TypeNum, TypeQuestion, Window, Word, placeless,
 };
 use serde_json::Value;
 use std::alloc::{AllocError, Global};
@@ -296,7 +296,11 @@ fn show(alloc: Global, value: &Value) -> Result<Option<TypeQuestion>, AllocError
 }
 
 /// The name that a field spells.
-pub(crate) fn name_under(alloc: Global, value: &Value, key: &str) -> Result<Option<Piece>, AllocError>
+pub(crate) fn name_under(
+    alloc: Global,
+    value: &Value,
+    key: &str,
+) -> Result<Option<Piece>, AllocError>
     ensures { IfOk result (λ name. name ≡ name_asked key.now (view value.now)) }
 {
     match value.get(key) {

@@ -182,4 +182,3 @@ json line = if is_utf8 line then read line else None
 -- a line's session and request, or its session or 0 and the refusal
 unfoldable pub ask : List ℕ → Result (ℕ × Request) (ℕ × Fault)
 ask line = if nat_lt longest_line (length line) then Err (0, placeless LONG_LINE) else value_asked (json line)
-

@@ -105,5 +105,8 @@ pub enum Addition {
         value: i32,
     },
     /// A label, and the last type that it covers.
-    Label { name: Piece, last: u32 },
+    Label {
+        name: Piece,
+        last: u32,
+    },
 }

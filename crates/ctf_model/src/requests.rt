@@ -64,7 +64,10 @@ pub enum Change {
     /// Makes a slot of a new draft.
     Create(Creation),
     /// Makes a step of the draft of a slot.
-    Draft { d: SlotNumber, step: DraftStep },
+    Draft {
+        d: SlotNumber,
+        step: DraftStep,
+    },
 }
 
 /// A request of a session. Each value keeps the ranges of its fields in its type.
