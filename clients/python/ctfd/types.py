@@ -191,13 +191,16 @@ class Type:
         Its offset counts from the start of this type. Raises KeyError where there is none.
         """
         todo = [(m, m.offset) for m in self.resolved.members]
+        searched = {self.resolved}
         while todo:
             inner: List[Tuple[Member, int]] = []
             for member, offset in todo:
                 if member.name == name:
                     return Member(name, member.type, offset)
                 part = member.type.resolved
-                if not member.name and part.kind in ("struct", "union"):
+                is_open = not member.name and part.kind in ("struct", "union")
+                if is_open and part not in searched:  # a hostile type doubles at each level
+                    searched.add(part)
                     inner += [(m, offset + m.offset) for m in part.members]
             todo = inner
         raise KeyError(name)

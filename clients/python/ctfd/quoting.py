@@ -1,0 +1,70 @@
+"""Characters and texts in quotes, as gdb prints them where its charset is ASCII."""
+from __future__ import annotations
+
+from itertools import groupby
+from typing import List, Optional
+
+from .types import QUALIFIERS, Type
+
+PREFIXES = {"wchar_t": "L", "char16_t": "u", "char32_t": "U"}
+DOTS = "..."
+
+_NAMED = {7: "\\a", 8: "\\b", 9: "\\t", 10: "\\n", 11: "\\v", 12: "\\f", 13: "\\r"}
+
+
+def prefix(t: Type) -> Optional[str]:
+    """What stands in front of texts of a wide character's type, which goes by its name."""
+    while t.kind == "typedef" or t.kind in QUALIFIERS:
+        if t.kind == "typedef" and t.name in PREFIXES:
+            return PREFIXES[t.name]
+        t = t.reference
+    return None
+
+
+def character(code: int, quote: str) -> str:
+    """One character, escaped where it is not plain."""
+    if code in _NAMED:
+        return _NAMED[code]
+    if chr(code & 0x7F) in ("\\", quote) and code < 0x80:
+        return "\\" + chr(code)
+    return chr(code) if 0x20 <= code < 0x7F else _octal(code)
+
+
+def _octal(code: int) -> str:
+    """The bytes of a character that is not plain; of a wide one those from the highest that is."""
+    size = max(1, (code.bit_length() + 7) // 8)
+    return "".join(f"\\{byte:03o}" for byte in code.to_bytes(size, "little"))
+
+
+def one(code: int, before: str = "") -> str:
+    """A character in its quotes."""
+    return f"{before}'{character(code, chr(39))}'"
+
+
+def quoted(codes: List[int], limit: int, repeats: int, more: bool = False, before: str = "") -> str:
+    """A text in quotes: cut at a limit, and what repeats more often than `repeats` counted.
+
+    `more` says that it goes on behind what is here.
+    """
+    printed, segments, plain = 0, [], ""
+    for code, group in groupby(codes):
+        length = len(list(group))
+        if printed >= limit:
+            more = True
+            break
+        if repeats and length > repeats:
+            segments += [_plain(plain, before)] if plain else []
+            segments.append(f"{one(code, before)} <repeats {length} times>")
+            printed, plain = printed + repeats, ""
+        else:
+            kept = min(length, limit - printed)
+            more = more or kept < length
+            plain += character(code, '"') * kept
+            printed += kept
+    if plain or not segments:
+        segments.append(_plain(plain, before))
+    return ", ".join(segments) + (DOTS if more else "")
+
+
+def _plain(escaped: str, before: str) -> str:
+    return f'{before}"{escaped}"'
