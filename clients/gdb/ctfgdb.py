@@ -75,12 +75,13 @@ def shown(target, operand, hexadecimal=False):
     if isinstance(operand, Number) and operand.type is None:
         return hex(operand.number) if hexadecimal else str(operand.number)
     t = operand.type.gather()
+    at = operand.address if isinstance(operand, Located) else None
+    if t.resolved.kind == "function":
+        return f"{{{declaration(t)}}} {gdb.format_address(operand.address)}"
     if t.size is None:
         raise BadExpression(f"{declaration(t)} has no size")
     printer = formats.Formatter(target, style(hexadecimal))
-    if t.resolved.kind == "array" and not t.size and isinstance(operand, Located):
-        return f"0x{operand.address:x}"
-    return printer.top(t, Steps(target).read(operand, bounds()))
+    return printer.top(t, Steps(target).read(operand, bounds()), at)
 
 
 def typed(target, text):
@@ -241,7 +242,7 @@ class List(Command):
         followed = lists.follow(Steps(target), head, words[1], inside, bounds())
         printer = formats.Formatter(target, style())
         for number, (address, value) in enumerate(followed.nodes):
-            print(f"[{number}] 0x{address:x} {printer.value(followed.type, value)}")
+            print(f"[{number}] 0x{address:x} {printer.value(followed.type, value, address)}")
         if followed.back is not None:
             print(f"back to [{followed.back}]")
         if followed.lost is not None:

@@ -172,22 +172,31 @@ class Inferior:
         _, _, label = gdb.format_address(address).partition(" ")
         return label
 
-    def string(self, address, limit):
-        """The text at an address, as gdb prints it."""
+    def string(self, address, limit, size=1, before=""):
+        """The text at an address, as gdb prints it; its characters have `size` bytes."""
+        codes, lost = self._codes(address, limit, size)
+        if lost is not None and not codes:
+            return f"<error: Cannot access memory at address 0x{lost:x}>"
+        ends = 0 in codes
+        text = codes[:codes.index(0)] if ends else codes
+        repeats = gdb.parameter("print repeats") or 0
+        told = quoted(text, limit, repeats, not ends and lost is None, before)
+        return told + (f"<error: Cannot access memory at address 0x{lost:x}>"
+                       if lost is not None and not ends and len(text) < limit else "")
+
+    def _codes(self, address, limit, size):
+        """Characters up to a zero or one past the limit, and the address that can't be read."""
         data = b""
-        lost = ""
-        while len(data) <= limit and b"\0" not in data:
+        codes = []
+        while len(codes) <= limit and 0 not in codes:
             at = address + len(data)
             try:
                 data += bytes(gdb.selected_inferior().read_memory(at, STEP - at % STEP))
             except (gdb.MemoryError, OverflowError):
-                lost = f"<error: Cannot access memory at address 0x{at:x}>"
-                break
-        if lost and not data:
-            return lost
-        text, end, _ = data.partition(b"\0")
-        repeats = gdb.parameter("print repeats") or 0
-        return quoted(list(text), limit, repeats, not end and not lost) + lost
+                return codes, at
+            whole = len(data) // size * size
+            codes = [int.from_bytes(data[n:n + size], "little") for n in range(0, whole, size)]
+        return codes, None
 
 
 def _is_main(program):

@@ -59,7 +59,7 @@ class Maker:
 
     def type(self, t):
         """The number of a type of gdb; 0 for void."""
-        key = (t.code, str(t), t.sizeof)
+        key = described(t)
         if key in self.known:
             return self.known[key]
         if t != t.unqualified():
@@ -99,9 +99,9 @@ class Maker:
         return number
 
     def array(self, t, key):
-        low, high = t.range()
         contents, index = self.type(t.target()), self.type(gdb.lookup_type("int"))
-        return self.record(key, ARRAY, "", 0, struct.pack("<HHI", contents, index, high - low + 1))
+        count = t.sizeof // (t.target().sizeof or 1)
+        return self.record(key, ARRAY, "", 0, struct.pack("<HHI", contents, index, count))
 
     def function(self, t, key):
         number = self.keep(key)
@@ -168,6 +168,23 @@ WRITERS = {
 }
 
 
+def described(t):
+    """What two types have in common only where they are the same.
+
+    A struct, union or enum without a name goes by its members, also within an array or behind a
+    pointer: gdb spells all of them alike.
+    """
+    base = t
+    while base.code in (gdb.TYPE_CODE_ARRAY, gdb.TYPE_CODE_PTR):
+        base = base.target()
+    inner = ()
+    if base.code in (gdb.TYPE_CODE_STRUCT, gdb.TYPE_CODE_UNION) and not base.tag:
+        inner = tuple((f.name, f.bitpos, *described(f.type)) for f in base.fields())
+    elif base.code == gdb.TYPE_CODE_ENUM and not base.tag:
+        inner = tuple((e.name, e.enumval) for e in base.fields())
+    return (t.code, str(t), t.sizeof, inner)
+
+
 def symbols(program):
     """The kind and name of each symbol of which a dictionary tells something."""
     file = Elf(program.read_bytes(), str(program))
@@ -183,7 +200,7 @@ def symbols(program):
             yield kind, name
 
 
-def described(name):
+def declared(name):
     """What gdb knows of a symbol; None where the compiler told nothing."""
     found = gdb.lookup_global_symbol(name) or gdb.lookup_static_symbol(name)
     return found.type if found else None
@@ -193,7 +210,7 @@ def main():
     maker = Maker()
     objects, functions = b"", b""
     for kind, name in symbols(pathlib.Path(os.environ["MADE_OF"])):
-        t = described(name)
+        t = declared(name)
         if kind == OBJECT_SYMBOL:
             objects += struct.pack("<H", maker.type(t) if t else 0)
         elif t is None:

@@ -13,6 +13,7 @@ enum twice { FIRST = 1, SECOND = 1, THIRD = 2 };
 enum overlapping { LOW = 1, BOTH = 3 };
 enum gapped { EMPTY = 0, ENDS = 9, MIDDLE = 2 };
 enum wide { NONE = 0, TOP = 0x40000000 };
+enum access { CLOSED, OPEN = 1, HIDDEN = 2, SEALED = 4, LAST = 0x40000000 };
 
 struct unknown;
 
@@ -98,6 +99,10 @@ struct large { long head; int rows[40][60]; char text[600]; struct pair tail; };
 
 struct empty { };
 
+struct nothing { int before, none[0], behind; };
+
+struct qualified_pair { const struct { int x, y; } inner; volatile enum color color; };
+
 struct flexible { int count; struct pair pairs[]; };
 
 struct {
@@ -139,6 +144,7 @@ enum apart aparts[4] = { 1, 5, 4, 0 };
 enum twice twices[4] = { 1, 2, 3, 0 };
 enum overlapping overlappings[4] = { 1, 3, 2, 0 };
 enum gapped gappeds[4] = { 0, 9, 11, 16 };
+enum access access = OPEN | SEALED, accesses[6] = { 0, 3, 8, 12, 4, LAST | HIDDEN };
 enum wide wides[3] = { NONE, TOP, (enum wide) 0x40000001 };
 float single = 0.1f, singles[6] = { 1, -2.5f, 1e30f, 1e-40f, 3.0e-5f, 16777216 };
 double twofold = 0.1, doubles[8] = { 0, -0.0, 1e100, 5e-324, 3.141592653589793, 1e16, 123456789, 100 };
@@ -157,6 +163,13 @@ struct nested *at_nested = &nested;
 struct qualified qualified = { 1, 2, 3, "constant", word_of };
 struct large large = { 7, { { 1, 2, 3 }, { 4 } }, "text in a large struct", { 8, 9 } };
 struct empty empty;
+struct nothing nothing = { 1, { }, 2 };
+struct qualified_pair qualified_pair = { { 1, 2 }, BLUE };
+struct pair table[2][3] = { { { 1, 2 }, { 3, 4 }, { 5, 6 } }, { { 7, 8 } } };
+int squares[30][20];
+union any unions[2] = { { .f = 1.5f }, { .low = 3, .high = 4 } };
+unsigned short wides_of[4] = { 65, 0x263a, 0xffff, 0 };
+wchar_t wide_letter = L'w', wide_other = 0x263a;
 struct flexible flexible = { 2, { { 1, 2 }, { 3, 4 } } };
 struct pair pairs[4] = { { 1, 2 }, { 1, 2 }, { 3, 4 } }, *at_pair = &pairs[2];
 struct node first, second, *head = &first, *const nodes[3] = { &first, &second, 0 };
@@ -200,6 +213,8 @@ static void set(void)
 	for (int n = 0; n < 3; n++)
 		items[n].link = (struct link) { n < 2 ? &items[n + 1].link : &list,
 			n ? &items[n - 1].link : &list };
+	for (int n = 0; n < 600; n++)
+		squares[n / 20][n % 20] = n * n;
 	for (int n = 0; n < 300; n++)
 		many[n] = n < 100 || n >= 150 ? n * n : 5;
 }

@@ -11,6 +11,7 @@ from __future__ import annotations
 import re
 from typing import List
 
+from .faults import NotFound
 from .operands import BadExpression, Code, Number, Operand, Steps, Target
 from .types import QUALIFIERS
 
@@ -117,7 +118,8 @@ class Evaluation:
     def _is_cast(self) -> bool:
         """Whether a type in parentheses is next.
 
-        A name alone is one where an operand follows that no sign begins: `(x) - 1` is none.
+        A name alone is one where an operand follows; before a sign, as in `(x) - 1`, where a type
+        has that name.
         """
         inside = self._inside()
         if not inside or not all(word == "*" or _NAME.match(word) for word in inside):
@@ -125,7 +127,16 @@ class Evaluation:
         behind = self.tokens[self.at + len(inside) + 2:][:1]
         if inside[0] in TAGS + QUALIFIERS or inside[-1] == "*" or len(inside) > 1:
             return inside[0] != "*"
-        return bool(behind) and behind[0] not in (")", "]", ".", "->", "[", "+", "-")
+        if not behind or behind[0] in (")", "]", ".", "->", "["):
+            return False
+        return behind[0] not in ("+", "-") or self._is_type(inside[0])
+
+    def _is_type(self, name: str) -> bool:
+        try:
+            self.target.find(name)
+        except NotFound:
+            return False
+        return True
 
     def _type(self) -> str:
         """The type of a cast."""

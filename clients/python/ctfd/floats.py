@@ -60,7 +60,7 @@ def _extended(raw: bytes) -> str:
     with decimal.localcontext() as context:
         context.prec, context.Emin, context.Emax = 60, -100_000, 100_000
         power = decimal.Decimal(2) ** (max(exponent, 1) - 16383 - 63)
-        return sign + _general(decimal.Decimal(significand) * power, 18)
+        return sign + _general(decimal.Decimal(significand) * power, 21)
 
 
 def _general(value: decimal.Decimal, digits: int) -> str:

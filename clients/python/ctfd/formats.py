@@ -2,16 +2,17 @@
 from __future__ import annotations
 
 from dataclasses import dataclass
-from typing import List, Protocol
+from typing import Callable, List, Optional, Protocol, Sequence
 
 from . import floats
 from .declare import declaration
-from .parse import Characters, Leaf, Lost, Parts, Value, is_character
+from .parse import CHARACTER, Characters, Leaf, Lost, Parts, Value, is_character
 from .quoting import DOTS, one, prefix, quoted
 from .text import printable
 from .types import Enumerator, Type
 
 SIGNED, BOOLEAN = 1, 4
+EXTENDED_BITS = 80
 LOST = {"Incomplete": "incomplete type", "ShortMemory": "not read", "cut": "cut"}
 
 
@@ -21,8 +22,11 @@ class Texts(Protocol):
     def label(self, address: int) -> str:
         """The symbol at an address as `<main+4>`, or ""."""
 
-    def string(self, address: int, limit: int) -> str:
-        """The text at an address in quotes, or why it can't be read."""
+    def string(self, address: int, limit: int, size: int = 1, before: str = "") -> str:
+        """The text at an address in quotes, or why it can't be read.
+
+        Its characters have `size` bytes, and `before` stands in front of the quotes.
+        """
 
 
 @dataclass(frozen=True)
@@ -45,14 +49,15 @@ class Formatter:
     texts: Texts
     style: Style = Style()
 
-    def top(self, t: Type, value: Value) -> str:
-        """A value by itself: a pointer's type stands in front of it."""
-        plain = t.kind == "pointer" and t.reference.stripped.name == "char"
+    def top(self, t: Type, value: Value, at: Optional[int] = None) -> str:
+        """A value by itself, which lies at an address: a pointer's type stands in front of it."""
+        pointer = t.stripped
+        plain = pointer.kind == "pointer" and is_text(pointer.reference)
         if t.resolved.kind == "pointer" and not plain and not self.style.hexadecimal:
-            return f"({declaration(t)}) {self.value(t, value)}"
-        return self.value(t, value)
+            return f"({declaration(t)}) {self.value(t, value, at)}"
+        return self.value(t, value, at)
 
-    def value(self, t: Type, value: Value, depth: int = 0) -> str:
+    def value(self, t: Type, value: Value, at: Optional[int] = None, depth: int = 0) -> str:
         """A value of a type, which stands in `depth` others."""
         resolved = t.resolved
         if isinstance(value, Lost):
@@ -63,42 +68,51 @@ class Formatter:
             if depth > self.style.deepest:
                 return "{...}"
             aggregate = resolved.kind in ("struct", "union")
-            return (self._aggregate if aggregate else self._array)(resolved, value, depth)
+            return (self._aggregate if aggregate else self._array)(resolved, value, at, depth)
         return self._leaf(t, resolved, value)
 
-    def _aggregate(self, t: Type, value: Parts, depth: int) -> str:
+    def _aggregate(self, t: Type, value: Parts, at: Optional[int], depth: int) -> str:
         told: List[str] = []
         for member, held in zip(t.members, value.items):
             name = f"{printable(member.name)} = " if member.name else ""
-            told.append(name + self.value(member.type, held, depth + 1))
+            place = None if at is None else at + member.offset // 8
+            told.append(name + self.value(member.type, held, place, depth + 1))
         return "{" + (", ".join(told) or "<No data fields>") + "}"
 
-    def _array(self, t: Type, value: Parts, depth: int) -> str:
+    def _array(self, t: Type, value: Parts, at: Optional[int], depth: int) -> str:
         wide = prefix(t.contents)
+        if not value.total:
+            return "{}" if at is None else self._address(at)
         if wide is not None and not self.style.hexadecimal:
-            return self._wide(value, wide)
-        told: List[str] = []
+            codes = [int(item.text) for item in value.items if isinstance(item, Leaf)]
+            return self._quoted(codes, value.total, wide)
+        size = t.contents.size or 0
+
+        def told(number: int) -> str:
+            place = None if at is None else at + number * size
+            return self.value(t.contents, value.items[number], place, depth + 1)
+
+        return self._elements(value.items, value.total, told)
+
+    def _elements(self, items: Sequence[object], total: int, told: Callable[[int], str]) -> str:
+        """The elements up to the limit; those that repeat are told once and counted."""
+        repeats = self.style.repeats
+        listed: List[str] = []
         at = printed = 0
-        while at < len(value.items) and printed < self.style.elements:
+        while at < len(items) and printed < self.style.elements:
             end = at + 1
-            while self.style.repeats and end < len(value.items) \
-                    and value.items[end] == value.items[at]:
+            while repeats and end < len(items) and items[end] == items[at]:
                 end += 1
-            many = bool(self.style.repeats) and end - at > self.style.repeats
-            item = self.value(t.contents, value.items[at], depth + 1)
-            told.append(f"{item} <repeats {end - at} times>" if many else item)
-            printed += self.style.repeats if many else 1
+            many = bool(repeats) and end - at > repeats
+            listed.append(told(at) + (f" <repeats {end - at} times>" if many else ""))
+            printed += repeats if many else 1
             at = end if many else at + 1
-        return "{" + ", ".join(told) + (DOTS if at < value.total else "") + "}"
+        return "{" + ", ".join(listed) + (DOTS if at < total else "") + "}"
 
     def _characters(self, value: Characters) -> str:
         if self.style.hexadecimal:
-            return "{" + ", ".join(f"0x{byte:x}" for byte in value.data) + "}"
+            return self._elements(value.data, value.total, lambda n: f"0x{value.data[n]:x}")
         return self._quoted(list(value.data), value.total, "")
-
-    def _wide(self, value: Parts, before: str) -> str:
-        codes = [int(item.text) for item in value.items if isinstance(item, Leaf)]
-        return self._quoted(codes, value.total, before)
 
     def _quoted(self, codes: List[int], total: int, before: str) -> str:
         """A text; one that is here whole loses the zero behind it."""
@@ -116,19 +130,29 @@ class Formatter:
         if kind == "enum":
             return self._enum(resolved, value.text)
         if kind == "float" and value.text.startswith("0x"):
-            raw = bytes.fromhex(value.text[2:])[::-1]
-            return value.text if self.style.hexadecimal else floats.number(raw, resolved.encoding)
+            return self._float(resolved, value.text)
         return value.text
 
+    def _float(self, t: Type, shown: str) -> str:
+        if self.style.hexadecimal:
+            kept = EXTENDED_BITS if t.encoding.flags == floats.EXTENDED else 8 * (t.size or 0)
+            return hex(int(shown, 16) & (1 << kept) - 1)
+        return floats.number(bytes.fromhex(shown[2:])[::-1], t.encoding)
+
     def _pointer(self, t: Type, address: int) -> str:
-        told = f"0x{address:x}"
         if not address or self.style.hexadecimal:
-            return told
-        label = self.texts.label(address)
-        text = ""
+            return f"0x{address:x}"
+        told, limit = self._address(address), self.style.elements
+        wide = prefix(t.reference)
+        if wide is not None:
+            return f"{told} {self.texts.string(address, limit, t.reference.size or 1, wide)}"
         if is_character(t.reference.resolved):
-            text = self.texts.string(address, self.style.elements)
-        return " ".join(part for part in (told, label, text) if part)
+            return f"{told} {self.texts.string(address, limit)}"
+        return told
+
+    def _address(self, address: int) -> str:
+        """An address with the symbol that it lies in."""
+        return f"0x{address:x} {self.texts.label(address)}".rstrip()
 
     def _integer(self, t: Type, resolved: Type, shown: str) -> str:
         if shown == "void":
@@ -138,13 +162,15 @@ class Formatter:
         if shown.startswith("0x") and flags & SIGNED and number >> bits - 1:
             number -= 1 << bits
         if self.style.hexadecimal:
-            return hex(number & (1 << bits) - 1)
+            return hex(number & (1 << 8 * (resolved.size or 0)) - 1)
         if flags & BOOLEAN and number in (0, 1):
             return "true" if number else "false"
         wide = prefix(t)
         if wide is not None:
             return f"{number} {one(number, wide)}"
-        return f"{number} {one(number & 255)}" if is_character(resolved) else str(number)
+        if flags & CHARACTER and resolved.size == 1:
+            return f"{number} {one(number & 255)}"
+        return str(number)
 
     def _enum(self, t: Type, shown: str) -> str:
         if self.style.hexadecimal:
@@ -156,17 +182,21 @@ class Formatter:
         return printable(shown)
 
 
+def is_text(t: Type) -> bool:
+    """Whether a pointer to this type is a text by itself, which is shown without its type."""
+    return t.stripped.name == "char" or prefix(t) is not None
+
+
 def flags_of(enumerators: List[Enumerator], number: int) -> str:
     """A number that is none of an enum's, as the flags that it is made of.
 
-    That holds for an enum whose values share no bits and have theirs side by side.
+    That holds for an enum each of whose values is one bit, or 0.
     """
     told: List[str] = []
-    seen, left = 0, number
+    left = number
     for name, bits in enumerators:
-        if bits < 0 or bits & seen or not _side_by_side(bits):
+        if bits < 0 or bits & bits - 1:
             return str(number)
-        seen |= bits
         if bits & left:
             told.append(printable(name))
             left &= ~bits
@@ -176,6 +206,3 @@ def flags_of(enumerators: List[Enumerator], number: int) -> str:
         told.append(f"unknown: 0x{left:x}")
     return f"({' | '.join(told)})"
 
-
-def _side_by_side(bits: int) -> bool:
-    return bits & (bits + (bits & -bits)) == 0

@@ -7,7 +7,7 @@ from typing import List, NamedTuple, Optional, Protocol, Union
 from .declare import declaration
 from .faults import Error
 from .parse import Leaf, Value
-from .types import PointerTo, Signature, Type
+from .types import FunctionOf, PointerTo, Signature, Type
 from .values import AGGREGATES, Bounds, Wanted, value, values
 
 ADDRESS = (1 << 64) - 1
@@ -80,7 +80,7 @@ class Steps:
         if isinstance(operand, Number):
             return operand
         if isinstance(operand, Code):
-            return Number(None, operand.address)
+            return self.address(operand)
         kind = operand.type.resolved.kind
         if kind == "array":
             return Number(PointerTo(operand.type.resolved.contents), operand.address)
@@ -102,7 +102,8 @@ class Steps:
     def address(self, operand: Operand) -> Number:
         """A pointer to a place."""
         if isinstance(operand, Code):
-            return Number(None, operand.address)
+            told = operand.signature
+            return Number(PointerTo(FunctionOf(told)) if told else None, operand.address)
         if isinstance(operand, Number):
             raise BadExpression("only what lies in memory has an address")
         if operand.bit or operand.type.bit_field:

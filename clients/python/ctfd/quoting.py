@@ -25,15 +25,13 @@ def character(code: int, quote: str) -> str:
     """One character, escaped where it is not plain."""
     if code in _NAMED:
         return _NAMED[code]
-    if chr(code & 0x7F) in ("\\", quote) and code < 0x80:
-        return "\\" + chr(code)
-    return chr(code) if 0x20 <= code < 0x7F else _octal(code)
+    if not 0x20 <= code < 0x7F:
+        return _escaped(code)
+    return ("\\" if chr(code) in ("\\", quote) else "") + chr(code)
 
 
-def _octal(code: int) -> str:
-    """The bytes of a character that is not plain; of a wide one those from the highest that is."""
-    size = max(1, (code.bit_length() + 7) // 8)
-    return "".join(f"\\{byte:03o}" for byte in code.to_bytes(size, "little"))
+def _escaped(code: int) -> str:
+    return f"\\{code:03o}" if code <= 0o777 else f"\\x{code:x}"
 
 
 def one(code: int, before: str = "") -> str:

@@ -237,3 +237,25 @@ class PointerTo(Type):
         from .declare import declaration
 
         return declaration(self)
+
+
+class FunctionOf(Type):
+    """The type of a function by a symbol's signature, made here."""
+
+    kind, name, tag = "function", "", ""  # type: ignore[assignment]
+    size = align = 0  # type: ignore[assignment]
+    is_root = False  # type: ignore[assignment]
+
+    def __init__(self, signature: Signature) -> None:
+        super().__init__(signature.returns.dictionary, 0)
+        self.told = signature
+
+    def _identity(self) -> Tuple[Any, ...]:
+        return "()", id(self.told)
+
+    def gather(self) -> Type:
+        return self
+
+    @property
+    def signature(self) -> Signature:
+        return self.told

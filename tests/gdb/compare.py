@@ -1,0 +1,55 @@
+"""Asks the plug-in for each expression on a program without debug information, then gdb itself.
+
+usage: TWIN=FILE EXPRESSIONS=FILE gdb -batch -nx -x compare.py PROGRAM
+
+The program was stopped; TWIN is the same with debug information, which is loaded only when the
+plug-in has answered all. A line of EXPRESSIONS is a command, `print`, `print/x` or `whatis`, and
+an expression; behind ` | ` may stand what gdb is asked instead. Prints those that differ, and how
+many lines and values are the same; the status is 1 where one differs.
+"""
+import os
+import pathlib
+import re
+
+import gdb
+
+
+def answer(command):
+    """What gdb prints for a command, without the number of a value in its history."""
+    try:
+        told = gdb.execute(command, to_string=True).strip()
+    except gdb.error as error:
+        return f"error: {error}"
+    return plain(re.sub(r"^\$\d+ = ", "", told))
+
+
+def plain(told):
+    """An answer without the blanks that gdb puts beside the qualifiers of pointers."""
+    return re.sub(r"\b(const|volatile)\[", r"\1 [", re.sub(r"\* (const|volatile)", r"*\1", told))
+
+
+def wanted():
+    """Each line as what is asked of the plug-in and what of gdb."""
+    for line in pathlib.Path(os.environ["EXPRESSIONS"]).read_text().splitlines():
+        if line and not line.startswith("#"):
+            asked, _, other = line.partition(" | ")
+            yield asked, f"{asked.split()[0]} {other}" if other else asked
+
+
+def main():
+    lines = list(wanted())
+    by_ctf = [answer(f"ctf {asked}") for asked, _ in lines]
+    start = int(gdb.parse_and_eval("(unsigned long) &_start")) - int(os.environ["ENTRY"], 16)
+    gdb.execute(f"add-symbol-file {os.environ['TWIN']} -o {start}", to_string=True)
+    by_gdb = [answer(other) for _, other in lines]
+    same = [told for told, known in zip(by_ctf, by_gdb) if told == known]
+    for (asked, _), told, known in zip(lines, by_ctf, by_gdb):
+        if told != known:
+            print(f"{asked}\n  ctf {told}\n  gdb {known}")
+    leaves = sum(told.count(",") + 1 for told in same)
+    print(f"{len(same)} of {len(lines)} the same, {leaves} values in them")
+    gdb.execute("set confirm off")
+    gdb.execute(f"quit {0 if len(same) == len(lines) else 1}")
+
+
+main()
