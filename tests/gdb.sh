@@ -33,8 +33,8 @@ nm stripped | awk '$2 ~ /^[BDdbRr]$/ && $3 !~ /^_/ {
 cat "$tests/gdb/expressions.txt" >> expressions
 
 export TWIN=twin EXPRESSIONS=expressions CTFD=$program LC_ALL=C
-ENTRY=0x$(nm stripped | awk '$3 == "_start" { print $1 }')
-export ENTRY
+KNOWN=$(nm stripped | awk '$3 == "_start" { print $3 "=0x" $1 }')
+export KNOWN
 gdb -batch -nx -ex 'set width 0' -ex 'set charset ASCII' -ex 'set max-value-size unlimited' \
     -ex "source $tests/../clients/gdb/ctfgdb.py" -ex 'ctf load' -ex 'break *stop' -ex 'run' \
     -x "$tests/gdb/compare.py" stripped

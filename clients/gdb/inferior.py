@@ -180,7 +180,8 @@ class Inferior:
         ends = 0 in codes
         text = codes[:codes.index(0)] if ends else codes
         repeats = gdb.parameter("print repeats") or 0
-        told = quoted(text, limit, repeats, not ends and lost is None, before)
+        more = len(text) > limit or (not ends and lost is None)
+        told = quoted(text[:limit], limit, repeats, more, before)
         return told + (f"<error: Cannot access memory at address 0x{lost:x}>"
                        if lost is not None and not ends and len(text) < limit else "")
 

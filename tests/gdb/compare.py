@@ -1,6 +1,6 @@
 """Asks the plug-in for each expression on a program without debug information, then gdb itself.
 
-usage: TWIN=FILE EXPRESSIONS=FILE gdb -batch -nx -x compare.py PROGRAM
+usage: TWIN=FILE EXPRESSIONS=FILE KNOWN=FUNCTION=ADDRESS gdb -batch -nx -x compare.py PROGRAM
 
 The program was stopped; TWIN is the same with debug information, which is loaded only when the
 plug-in has answered all. A line of EXPRESSIONS is a command, `print`, `print/x` or `whatis`, and
@@ -36,11 +36,16 @@ def wanted():
             yield asked, f"{asked.split()[0]} {other}" if other else asked
 
 
+def slide():
+    """How far from the addresses in its file the program runs, by the function KNOWN."""
+    name, address = os.environ["KNOWN"].split("=")
+    return int(gdb.parse_and_eval(f"(unsigned long) &{name}")) - int(address, 16)
+
+
 def main():
     lines = list(wanted())
     by_ctf = [answer(f"ctf {asked}") for asked, _ in lines]
-    start = int(gdb.parse_and_eval("(unsigned long) &_start")) - int(os.environ["ENTRY"], 16)
-    gdb.execute(f"add-symbol-file {os.environ['TWIN']} -o {start}", to_string=True)
+    gdb.execute(f"add-symbol-file {os.environ['TWIN']} -o {slide()}", to_string=True)
     by_gdb = [answer(other) for _, other in lines]
     same = [told for told, known in zip(by_ctf, by_gdb) if told == known]
     for (asked, _), told, known in zip(lines, by_ctf, by_gdb):

@@ -207,6 +207,7 @@ def declared(name):
 
 
 def main():
+    sys.setrecursionlimit(20_000)  # from struct to struct by their pointers
     maker = Maker()
     objects, functions = b"", b""
     for kind, name in symbols(pathlib.Path(os.environ["MADE_OF"])):

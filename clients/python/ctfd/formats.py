@@ -112,9 +112,9 @@ class Formatter:
     def _characters(self, value: Characters) -> str:
         if self.style.hexadecimal:
             return self._elements(value.data, value.total, lambda n: f"0x{value.data[n]:x}")
-        return self._quoted(list(value.data), value.total, "")
+        return self._quoted(value.data, value.total, "")
 
-    def _quoted(self, codes: List[int], total: int, before: str) -> str:
+    def _quoted(self, codes: Sequence[int], total: int, before: str) -> str:
         """A text; one that is here whole loses the zero behind it."""
         whole = len(codes) == total
         if whole and codes and codes[-1] == 0:

@@ -2,7 +2,7 @@
 from __future__ import annotations
 
 from itertools import groupby
-from typing import List, Optional
+from typing import Optional, Sequence
 
 from .types import QUALIFIERS, Type
 
@@ -39,26 +39,26 @@ def one(code: int, before: str = "") -> str:
     return f"{before}'{character(code, chr(39))}'"
 
 
-def quoted(codes: List[int], limit: int, repeats: int, more: bool = False, before: str = "") -> str:
-    """A text in quotes: cut at a limit, and what repeats more often than `repeats` counted.
+def quoted(codes: Sequence[int], limit: int, repeats: int, more: bool = False,
+           before: str = "") -> str:
+    """A text in quotes: what repeats more often than `repeats` is told once and counted.
 
-    `more` says that it goes on behind what is here.
+    It ends with the character at which the limit is reached, and all that repeat it. `more` says
+    that it goes on behind what is here.
     """
     printed, segments, plain = 0, [], ""
     for code, group in groupby(codes):
-        length = len(list(group))
         if printed >= limit:
             more = True
             break
+        length = sum(1 for _ in group)
+        printed += length
         if repeats and length > repeats:
             segments += [_plain(plain, before)] if plain else []
             segments.append(f"{one(code, before)} <repeats {length} times>")
-            printed, plain = printed + repeats, ""
+            plain = ""
         else:
-            kept = min(length, limit - printed)
-            more = more or kept < length
-            plain += character(code, '"') * kept
-            printed += kept
+            plain += character(code, '"') * length
     if plain or not segments:
         segments.append(_plain(plain, before))
     return ", ".join(segments) + (DOTS if more else "")

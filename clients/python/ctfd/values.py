@@ -16,7 +16,7 @@ from .wire import Request
 
 WHOLE = 400_000
 MANY = 4096
-LONG_TEXT = 1024
+LONG_TEXT, MOST_TEXT = 1024, 65_536
 AGGREGATES = ("struct", "union")
 COMPOSED = (*AGGREGATES, "array")
 
@@ -114,7 +114,7 @@ class Reading:
 
     def _characters(self, piece: Piece, t: Type) -> Value:
         """The bytes themselves: `show` would spell each as a number."""
-        kept = min(t.count, max(self.bounds.elements + 1, LONG_TEXT))
+        kept = min(t.count, MOST_TEXT)
         data = self._memory(piece, kept)
         short = len(data) < kept
         return Lost("ShortMemory") if short and not data else Characters(data, t.count)

@@ -64,10 +64,10 @@ class Large(WithService):
         self.assertEqual(told.items[8:], [Leaf("8"), Leaf("9"), *[Lost("ShortMemory")] * 2])
 
     def test_long_arrays_of_characters_are_taken_from_memory(self) -> None:
-        types = self.opened(dictionary([integer(INT), character(), array(2, 70_000)], NAMES))
+        types = self.opened(dictionary([integer(INT), character(), array(2, 1_000_000)], NAMES))
         before = self.client.requests
-        told = value(types.type(3), b"x" * 70_000)
-        self.assertEqual(told, Characters(b"x" * 1024, 70_000))
+        told = value(types.type(3), b"x" * 1_000_000)
+        self.assertEqual(told, Characters(b"x" * 65_536, 1_000_000))
         self.assertLess(self.client.requests - before, 10)
 
 
