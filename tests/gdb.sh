@@ -6,9 +6,8 @@
 # gcc, objcopy and nm; says so and ends with status 0 where one is missing. Prints each answer that
 # differs, then how many are the same; the status is 1 where one differs. Not part of the gate.
 #
-# tests/gdb/values.c is compiled twice over: as it is, and stripped of its debug information, with a
-# CTF section that tests/gdb/make_ctf.py writes from what gdb reads of that information. One gdb
-# runs the stripped program up to stop(), asks the plug-in for every object and for each line of
+# tests/gdb/values.c is compiled with debug information, and tests/gdb/with_ctf.sh makes a program
+# without, which has a CTF section that was written from what gdb reads of it. One gdb runs the stripped program up to stop(), asks the plug-in for every object and for each line of
 # tests/gdb/expressions.txt, then loads the debug information and asks itself.
 set -eu
 program=$(realpath "$1")
@@ -22,10 +21,7 @@ trap 'rm -r "$work"' EXIT
 cd "$work"
 
 gcc -g -O0 -fpie -pie -nostdlib -ffreestanding -fno-stack-protector -o twin "$tests/gdb/values.c"
-: > nothing
-objcopy --strip-debug --add-section .SUNW_ctf=nothing twin stripped
-MADE_OF=stripped MADE=made.ctf gdb -batch -nx -x "$tests/gdb/make_ctf.py" twin
-objcopy --update-section .SUNW_ctf=made.ctf stripped
+"$tests/gdb/with_ctf.sh" twin stripped
 
 nm stripped | awk '$2 ~ /^[BDdbRr]$/ && $3 !~ /^_/ {
     print "print " $3; print "print/x " $3; print "print &" $3; print "whatis " $3; print "whatis &" $3 }' |

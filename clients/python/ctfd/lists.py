@@ -2,7 +2,7 @@
 from __future__ import annotations
 
 from dataclasses import dataclass
-from typing import List, NamedTuple, Optional
+from typing import Dict, List, NamedTuple, Optional
 
 from .faults import Error
 from .operands import BadExpression, Located, Operand, Steps
@@ -24,7 +24,7 @@ class Followed(NamedTuple):
     """The nodes of a list, and how it ended.
 
     `back` is the number of the node that the last one leads to again, and `more` says that the
-    limit ended it; `lost` is the address of a link that can't be read.
+    limit ended it; `lost` is the address of a link that can't be read, in a node after the last.
     """
 
     type: Type
@@ -57,23 +57,21 @@ def follow(steps: Steps, head: Operand, member: str, inside: Optional[Type],
     the kernel's list_head, and `head` is the list's own link, which is no node.
     """
     chain = _embedded(steps, head, member, inside) if inside else _plain(steps, head, member)
-    addresses: List[int] = []
-    seen = {}
-    at: Optional[int] = chain.first
-    lost = None
-    while at and at != chain.end and at not in seen and len(addresses) < bounds.elements:
-        seen[at] = len(addresses)
-        addresses.append(at - chain.back)
+    seen: Dict[int, int] = {}
+    at, lost = chain.first, None
+    while at and at != chain.end and at not in seen and len(seen) < bounds.elements:
         following = _pointer(steps, at + chain.link)
         if following is None:
             lost = at + chain.link
             break
+        seen[at] = len(seen)
         at = following
+    addresses = [pointed - chain.back for pointed in seen]
     told = values([Wanted(chain.type, address) for address in addresses], steps.target.read, bounds)
-    more = bool(at) and at != chain.end and at not in seen
     nodes = [Node(address, value) for address, value in zip(addresses, told)]
-    back = seen.get(at) if at and lost is None and at != chain.end else None
-    return Followed(chain.type, nodes, back, more and lost is None, lost)
+    ended = not at or at == chain.end or lost is not None
+    return Followed(chain.type, nodes, None if ended else seen.get(at),
+                    not ended and at not in seen, lost)
 
 
 def _plain(steps: Steps, head: Operand, member: str) -> Chain:

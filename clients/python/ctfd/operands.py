@@ -113,7 +113,7 @@ class Steps:
     def member(self, operand: Operand, name: str) -> Located:
         """A member of a struct or union, or of the one that a pointer points to."""
         whole = operand if isinstance(operand, Located) else self.behind(operand)
-        if whole.type.resolved.kind == "pointer":
+        if whole.type.resolved.kind in ("pointer", "array"):
             whole = self.behind(whole)
         if whole.type.resolved.kind not in AGGREGATES:
             raise BadExpression(f"{declaration(whole.type)} is no struct and no union")

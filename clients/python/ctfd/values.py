@@ -9,7 +9,7 @@ from __future__ import annotations
 from dataclasses import dataclass, field
 from typing import Callable, Dict, List, NamedTuple, Optional, Tuple
 
-from .faults import Refused
+from .faults import Error, Refused
 from .parse import Characters, Leaf, Lost, Parts, Unclear, Value, is_character, parse
 from .types import PointerTo, Type
 from .wire import Request
@@ -47,6 +47,7 @@ class Piece:
     wanted: Wanted
     into: List[Value]
     index: int
+    is_part: bool = False
     memory: Optional[bytes] = None
 
     def put(self, value: Value) -> None:
@@ -122,7 +123,12 @@ class Reading:
     def _memory(self, piece: Piece, length: int) -> bytes:
         """The bytes of a piece; of one that is not at the start of a byte, the bytes it is in."""
         if piece.memory is None:
-            piece.memory = self.read(piece.wanted.at + piece.wanted.bit // 8, length)
+            try:
+                piece.memory = self.read(piece.wanted.at + piece.wanted.bit // 8, length)
+            except Error:
+                if not piece.is_part:
+                    raise
+                piece.memory = b""  # the other parts may be there
         return piece.memory[:length]
 
     def _is_split(self, t: Type) -> bool:
@@ -183,7 +189,7 @@ class Reading:
         """A part that begins some bits behind the start of a whole."""
         first, bit = divmod(whole.wanted.bit % 8 + offset, 8)
         start = whole.wanted.at + whole.wanted.bit // 8
-        part = Piece(Wanted(t, start + first, bit), into, index)
+        part = Piece(Wanted(t, start + first, bit), into, index, True)
         if whole.memory is not None:
             part.memory = whole.memory[first:first + span(t, bit)]
         return part

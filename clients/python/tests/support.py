@@ -64,6 +64,11 @@ def integer(name: int, bits: int = 32, size: int = 4) -> bytes:
     return record(INTEGER, 0, size, name, struct.pack("<I", 1 << 24 | bits))
 
 
+def array(contents: int, count: int, size: int = 0) -> bytes:
+    """An array, which is indexed by type 1."""
+    return record(ARRAY, 0, size, 0, struct.pack("<HHI", contents, 1, count))
+
+
 def member(name: int, t: int, offset: int) -> bytes:
     """A member of a struct of less than 8192 bytes; the offset is in bits."""
     return struct.pack("<IHH", name, t, offset)

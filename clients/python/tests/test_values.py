@@ -2,18 +2,15 @@
 import struct
 import unittest
 
+from ctfd.faults import Error
 from ctfd.parse import Characters, Leaf, Lost, Parts, Unclear, parse
 from ctfd.values import Bounds, Wanted, value, values
 
-from .support import (ARRAY, ENUM, INTEGER, STRUCT, UNION, WithService, dictionary, integer, member,
+from .support import (ENUM, INTEGER, STRUCT, UNION, WithService, array, dictionary, integer, member,
                       record)
 
 NAMES = b"\0int\0a\0b\0char\0"
 INT, A, B, CHAR = 1, 5, 7, 9
-
-
-def array(contents: int, count: int, size: int = 0) -> bytes:
-    return record(ARRAY, 0, size, 0, struct.pack("<HHI", contents, 1, count))
 
 
 def character() -> bytes:
@@ -62,6 +59,19 @@ class Large(WithService):
         assert isinstance(told, Parts)
         self.assertEqual(told.total, 1_000_000)
         self.assertEqual(told.items[8:], [Leaf("8"), Leaf("9"), *[Lost("ShortMemory")] * 2])
+
+    def test_memory_that_ends_within_a_value(self) -> None:
+        types = self.opened(dictionary([integer(INT), array(1, 200_000)], NAMES))
+
+        def read(at: int, size: int) -> bytes:
+            if at >= 8:
+                raise Error("nothing is there")
+            return struct.pack("<2i", 5, 6)[at:at + size]
+
+        (told,) = values([Wanted(types.type(2), 0)], read, Bounds(elements=3))
+        self.assertEqual(told, Parts([Leaf("5"), Leaf("6"), Lost("ShortMemory")], 200_000))
+        with self.assertRaisesRegex(Error, "nothing is there"):
+            values([Wanted(types.type(1), 8)], read)
 
     def test_long_arrays_of_characters_are_taken_from_memory(self) -> None:
         types = self.opened(dictionary([integer(INT), character(), array(2, 1_000_000)], NAMES))
