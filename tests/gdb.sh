@@ -7,7 +7,8 @@
 # differs, then how many are the same; the status is 1 where one differs. Not part of the gate.
 #
 # tests/gdb/values.c is compiled with debug information, and tests/gdb/with_ctf.sh makes a program
-# without, which has a CTF section that was written from what gdb reads of it. One gdb runs the stripped program up to stop(), asks the plug-in for every object and for each line of
+# without, which has a CTF section that was written from what gdb reads of it. One gdb runs the
+# stripped program up to stop(), asks the plug-in for every object and for each line of
 # tests/gdb/expressions.txt, then loads the debug information and asks itself.
 set -eu
 program=$(realpath "$1")

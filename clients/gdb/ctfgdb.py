@@ -6,7 +6,8 @@ import sys
 
 import gdb
 
-HERE = pathlib.Path(__file__).resolve().parent
+# Not __file__: where a script sources this one, that is the script's.
+HERE = pathlib.Path((lambda: None).__code__.co_filename).resolve().parent
 sys.path[:0] = [str(HERE), str(HERE.parent / "python")]
 
 import ctfd  # noqa: E402
@@ -78,8 +79,10 @@ def shown(target, operand, hexadecimal=False):
     at = operand.address if isinstance(operand, Located) else None
     if t.resolved.kind == "function":
         return f"{{{declaration(t)}}} {gdb.format_address(operand.address)}"
+    if t.resolved.kind == "void":
+        raise BadExpression("void has no value: cast the pointer")
     if t.size is None:
-        raise BadExpression(f"{declaration(t)} has no size")
+        return "<incomplete type>"
     printer = formats.Formatter(target, style(hexadecimal))
     return printer.top(t, Steps(target).read(operand, bounds()), at)
 
@@ -89,6 +92,8 @@ def typed(target, text):
     try:
         return target.find(text)
     except ctfd.NotFound:
+        if text.split()[:1] and text.split()[0] in expressions.TAGS:
+            raise
         return expressions.evaluate(text, target)
 
 
@@ -140,7 +145,7 @@ class Load(Command):
         if parent:
             found.types.import_parent(parent.types)
         STATE.loaded.insert(0, Loaded(found, parent))
-        print(STATE.loaded[0].told())
+        print("\n".join(filter(None, [STATE.loaded[0].told(), STATE.loaded[0].warning()])))
 
 
 class Unload(Command):

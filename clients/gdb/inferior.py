@@ -51,21 +51,25 @@ class Loaded:
         return None
 
     def told(self):
-        """A line on what this is."""
+        """A line on what this is and where it runs."""
         types = self.program.types
         said = f"{self.program.path}: {types.own} types, {len(self.program.symbols)} symbols"
-        said += {
-            "guessed": " (of the file's symbol table; if it is not the one that the types were"
-                       " written for, they are told wrongly)",
-            "refused": " (the file's symbol table is not the one that the types were written for)",
-        }.get(types.how, "")
         if types.is_child and not self.parent:
-            said += f"; its parent {types.parent_name or 'without a name'} is not loaded"
+            said += f", without its parent {types.parent_name}"
         try:
             slide = self.slide()
         except BadExpression:
-            return printable(said)
+            slide = 0
         return printable(said) + (f", at 0x{slide:x}" if slide else "")
+
+    def warning(self):
+        """What is to be known of its symbols, or ""."""
+        return {
+            "guessed": "the section names no symbol table: if the file's is not the one that the"
+                       " types were written for, names are told wrongly",
+            "refused": "the file's symbol table is not the one that the types were written for:"
+                       " nothing is told of names",
+        }.get(self.program.types.how, "")
 
     def named(self, part):
         """Lines on the types and symbols that have a text in their names."""
@@ -133,7 +137,13 @@ class Inferior:
 
     def register(self, name):
         """A register or another of gdb's variables, as a number."""
-        return self._evaluated(f"(unsigned long) ${name}")
+        try:
+            value = gdb.parse_and_eval(f"${name}")
+            if value.type.code == gdb.TYPE_CODE_VOID:
+                raise BadExpression(f"there is no register or variable ${name}")
+            return int(value) & ADDRESS
+        except gdb.error as error:
+            raise BadExpression(str(error))
 
     def symbol(self, name):
         """What a name stands for; one that no file knows is gdb's, and has no type."""
@@ -147,13 +157,10 @@ class Inferior:
         if untold:
             raise BadExpression(f"the dictionary tells no type of {name}: cast its address, as"
                                 f" *(TYPE *) &{name}")
-        return Number(None, self._evaluated(f"(unsigned long) &'{name}'"))
-
-    def _evaluated(self, expression):
         try:
-            return int(gdb.parse_and_eval(expression)) & ADDRESS
-        except gdb.error as error:
-            raise BadExpression(str(error))
+            return Number(None, int(gdb.parse_and_eval(f"(unsigned long) &'{name}'")))
+        except gdb.error:
+            raise BadExpression(f"no symbol {name} in the files that were loaded, or in gdb")
 
     def find(self, name):
         """The type of a name, in the first file that has it."""

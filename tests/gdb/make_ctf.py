@@ -119,7 +119,7 @@ class Maker:
 
     def aggregate(self, t, key):
         kind = STRUCT if t.code == gdb.TYPE_CODE_STRUCT else UNION
-        if "<incomplete type>" in str(t):
+        if not t.fields() and not is_complete(t):
             return self.record(key, FORWARD, t.tag, kind)
         number = self.keep(key)
         members = b""
@@ -166,6 +166,14 @@ WRITERS = {
     gdb.TYPE_CODE_STRUCT: Maker.aggregate, gdb.TYPE_CODE_UNION: Maker.aggregate,
     gdb.TYPE_CODE_ENUM: Maker.enum, gdb.TYPE_CODE_TYPEDEF: Maker.typedef,
 }
+
+
+def is_complete(t):
+    """Whether a struct or union without members is declared in full anywhere."""
+    try:
+        return bool(gdb.lookup_type(str(t)))
+    except gdb.error:
+        return not t.tag
 
 
 def described(t):

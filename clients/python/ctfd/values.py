@@ -17,6 +17,7 @@ from .wire import Request
 WHOLE = 400_000
 MANY = 4096
 LONG_TEXT, MOST_TEXT = 1024, 65_536
+LONGEST_TEXT = 65_536
 AGGREGATES = ("struct", "union")
 COMPOSED = (*AGGREGATES, "array")
 
@@ -25,7 +26,10 @@ Read = Callable[[int, int], bytes]
 
 @dataclass
 class Bounds:
-    """What the reading of values may cost: elements of each array that is cut, requests, text."""
+    """What the reading of values may cost: elements of each array that is cut, requests, text.
+
+    Text counts also where the service has made it in vain.
+    """
 
     elements: int = 200
     requests: int = 8192
@@ -88,10 +92,12 @@ class Reading:
         roots: List[Value] = [Lost("unread")] * len(wanted)
         level = [Piece(one, roots, number) for number, one in enumerate(wanted)]
         while level:
+            room = max(1, self.bounds.text // LONGEST_TEXT)  # what a round could answer at most
+            level, later = level[:room], level[room:]
             refused: List[Tuple[Piece, str]] = []
             asked = [piece for piece in level if self._must_ask(piece, refused)]
             refused += self._ask(asked)
-            level = [part for piece, why in refused for part in self._parts(piece, why)]
+            level = later + [part for piece, why in refused for part in self._parts(piece, why)]
         return roots
 
     def _must_ask(self, piece: Piece, refused: List[Tuple[Piece, str]]) -> bool:
@@ -153,6 +159,7 @@ class Reading:
         refused: List[Tuple[Piece, str]] = []
         for piece, outcome in zip(asked, outcomes):
             if isinstance(outcome, Refused):
+                self.bounds.text -= LONGEST_TEXT if outcome.name == "TooLong" else 0
                 refused.append((piece, outcome.name))
                 continue
             self.bounds.text -= len(outcome["text"])
