@@ -18,6 +18,7 @@ NAMED = ("struct", "union", "enum", "typedef", "integer", "float", "forward")
 
 _LIBRARY = re.compile(r"(0x[0-9a-f]+)\s+0x[0-9a-f]+\s+(?:Yes|No)\s+(?:\(\*\)\s+)?(.*)")
 _ENTRY = re.compile(r"AT_ENTRY.*?(0x[0-9a-f]+)")
+_PLACED = re.compile(r"Entry point: (0x[0-9a-f]+)")
 
 
 class Loaded:
@@ -26,21 +27,21 @@ class Loaded:
     def __init__(self, program, parent):
         self.program = program
         self.parent = parent
-        self.last_slide = None
         self.is_main = _is_main(program)
 
     def slide(self):
-        """How far from its file's addresses the program runs; after its end as it did before."""
+        """How far from its file's addresses it is in memory."""
         image = self.program.image
         if image is None:
             raise BadExpression(f"{self.program.path} is a section alone: it has no addresses")
         if image.is_fixed:
             return 0
-        found = _slide_of_main(image) if self.is_main else self._slide_of_library()
-        self.last_slide = self.last_slide if found is None else found
-        if self.last_slide is None and not self.is_main:
+        if self.is_main:
+            return _slide_of_main(image)
+        found = self._slide_of_library()
+        if found is None:
             raise BadExpression(f"{self.program.path} is not part of the program")
-        return self.last_slide or 0
+        return found
 
     def _slide_of_library(self):
         """By where gdb says that its section .text is."""
@@ -223,12 +224,12 @@ def _is_main(program):
 
 
 def _slide_of_main(image):
-    """By the program's auxiliary vector, of a process or a core file; None where there is none."""
+    """By the auxiliary vector of a process or a core file, else by where gdb has put the file."""
     try:
         found = _ENTRY.search(gdb.execute("info auxv", to_string=True))
-    except gdb.error:
-        return None
-    return int(found[1], 16) - image.entry if found else None
+    except gdb.error:  # it does not run, or not any more
+        found = _PLACED.search(gdb.execute("info files", to_string=True))
+    return int(found[1], 16) - image.entry if found else 0
 
 
 def _same(one, other):
