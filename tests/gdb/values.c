@@ -104,6 +104,7 @@ struct nothing { int before, none[0], behind; };
 struct qualified_pair { const struct { int x, y; } inner; volatile enum color color; };
 
 struct flexible { int count; struct pair pairs[]; };
+struct trailing { int length; char text[]; };
 
 struct {
 	int one;
@@ -171,6 +172,7 @@ union any unions[2] = { { .f = 1.5f }, { .low = 3, .high = 4 } };
 unsigned short wides_of[4] = { 65, 0x263a, 0xffff, 0 };
 wchar_t wide_letter = L'w', wide_other = 0x263a;
 struct flexible flexible = { 2, { { 1, 2 }, { 3, 4 } } };
+struct trailing trailing = { 5, "text" };
 struct pair pairs[4] = { { 1, 2 }, { 1, 2 }, { 3, 4 } }, *at_pair = &pairs[2];
 struct node first, second, *head = &first, *const nodes[3] = { &first, &second, 0 };
 struct node **at_head = &head;

@@ -63,7 +63,7 @@ class Formatter:
         if isinstance(value, Lost):
             return f"<{LOST.get(value.why, value.why)}>"
         if isinstance(value, Characters):
-            return self._characters(value)
+            return self._characters(value, at)
         if isinstance(value, Parts):
             if depth > self.style.deepest:
                 return "{...}"
@@ -109,7 +109,9 @@ class Formatter:
             at = end if many else at + 1
         return "{" + ", ".join(listed) + (DOTS if at < total else "") + "}"
 
-    def _characters(self, value: Characters) -> str:
+    def _characters(self, value: Characters, at: Optional[int]) -> str:
+        if not value.total and at is not None:
+            return self._address(at) if self.style.hexadecimal else self._text(at)
         if self.style.hexadecimal:
             return self._elements(value.data, value.total, lambda n: f"0x{value.data[n]:x}")
         return self._quoted(value.data, value.total, "")
@@ -142,13 +144,17 @@ class Formatter:
     def _pointer(self, t: Type, address: int) -> str:
         if not address or self.style.hexadecimal:
             return f"0x{address:x}"
-        told, limit = self._address(address), self.style.elements
         wide = prefix(t.reference)
         if wide is not None:
-            return f"{told} {self.texts.string(address, limit, t.reference.size or 1, wide)}"
+            return self._text(address, t.reference.size or 1, wide)
         if is_character(t.reference.resolved):
-            return f"{told} {self.texts.string(address, limit)}"
-        return told
+            return self._text(address)
+        return self._address(address)
+
+    def _text(self, address: int, size: int = 1, before: str = "") -> str:
+        """An address and the text there."""
+        text = self.texts.string(address, self.style.elements, size, before)
+        return f"{self._address(address)} {text}"
 
     def _address(self, address: int) -> str:
         """An address with the symbol that it lies in."""
