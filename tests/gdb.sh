@@ -16,7 +16,8 @@ tests=$(realpath "$(dirname "$0")")
 for tool in gdb gcc objcopy nm; do
     command -v "$tool" > /dev/null || { echo "skipped: no $tool here"; exit 0; }
 done
-gdb -batch -nx -ex 'python print(1)' > /dev/null 2>&1 || { echo "skipped: gdb has no Python"; exit 0; }
+gdb -batch -nx -ex 'python print(1)' > /dev/null 2>&1 ||
+    { echo "skipped: gdb has no Python"; exit 0; }
 work=$(mktemp -d)
 trap 'rm -r "$work"' EXIT
 cd "$work"
@@ -25,8 +26,8 @@ gcc -g -O0 -fpie -pie -nostdlib -ffreestanding -fno-stack-protector -o twin "$te
 "$tests/gdb/with_ctf.sh" twin stripped
 
 nm stripped | awk '$2 ~ /^[BDdbRr]$/ && $3 !~ /^_/ {
-    print "print " $3; print "print/x " $3; print "print &" $3; print "whatis " $3; print "whatis &" $3 }' |
-    sort > expressions
+    print "print " $3; print "print/x " $3; print "print &" $3
+    print "whatis " $3; print "whatis &" $3 }' | sort > expressions
 cat "$tests/gdb/expressions.txt" >> expressions
 
 export TWIN=twin EXPRESSIONS=expressions CTFD=$program LC_ALL=C

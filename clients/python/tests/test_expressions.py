@@ -91,7 +91,7 @@ class Nodes(WithService):
 
     def test_addresses_and_casts(self) -> None:
         self.assertEqual(self.number("&first.next->next"), START + 32)
-        self.assertEqual(self.told("(int) 0x1ffffffff"), Number(self.target.find("int"), 0xFFFFFFFF))
+        self.assertEqual(self.number("(int) 0x1ffffffff"), 0xFFFFFFFF)
         self.assertEqual(self.number("(int) - 1"), 0xFFFFFFFF)
         self.assertEqual(self.number("(first.number) - 1"), 0)
         said = self.told("&first")
@@ -141,7 +141,7 @@ class Nodes(WithService):
 
 class Embedded(WithService):
     def test_links_within_nodes(self) -> None:
-        """struct link { struct link *next, *previous; }; struct node { int number; struct link link; }"""
+        """struct node { int number; struct link { struct link *next, *previous; } link; }"""
         link = member(NEXT, 2, 0) + member(LOW, 2, 64)
         node = member(NUMBER, 1, 0) + member(LINK, 3, 64)
         types = self.opened(dictionary(

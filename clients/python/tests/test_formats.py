@@ -54,7 +54,8 @@ class Quotes(unittest.TestCase):
         self.assertEqual(one(0x263A, "L"), "L'\\x263a'")
 
     def test_repeats_and_the_limit(self) -> None:
-        self.assertEqual(quoted(b"ab" + b"c" * 11 + b"d", 200, 10), "\"ab\", 'c' <repeats 11 times>, \"d\"")
+        self.assertEqual(quoted(b"ab" + b"c" * 11 + b"d", 200, 10),
+                         "\"ab\", 'c' <repeats 11 times>, \"d\"")
         self.assertEqual(quoted(b"c" * 10, 200, 10), '"cccccccccc"')
         self.assertEqual(quoted(b"abcdef", 4, 10), '"abcd"...')
         self.assertEqual(quoted(b"abccc", 3, 10), '"abccc"')
@@ -99,7 +100,8 @@ class Whole(WithService):
     def test_numbers(self) -> None:
         self.assertEqual(self.told("unsigned char", b"\xc8"), "200 '\\310'")
         self.assertEqual(self.told("int", b"\xfe\xff\xff\xff"), "-2")
-        self.assertEqual(self.told("int", b"\xfe\xff\xff\xff", Style(hexadecimal=True)), "0xfffffffe")
+        self.assertEqual(self.told("int", b"\xfe\xff\xff\xff", Style(hexadecimal=True)),
+                         "0xfffffffe")
         self.assertEqual(self.told("double", struct.pack("<d", -2.5)), "-2.5")
         self.assertEqual(self.told("expkind", struct.pack("<i", 1)), "VNIL")
         self.assertEqual(self.told("expkind", struct.pack("<i", 77)), "77")
