@@ -1,4 +1,4 @@
-"""Commands of gdb that print types and values by a program's CTF: `source` this file, `help ctf`."""
+"""gdb commands that print types and values by CTF: `source` this file, then `help ctf`."""
 import pathlib
 import sys
 

@@ -33,7 +33,7 @@ class Bounds:
 
     elements: int = 200
     requests: int = 8192
-    text: int = 8_388_608
+    text: int = 4_194_304
 
 
 class Wanted(NamedTuple):
