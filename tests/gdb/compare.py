@@ -4,14 +4,19 @@ usage: TWIN=FILE EXPRESSIONS=FILE KNOWN=FUNCTION=ADDRESS gdb -batch -nx -x compa
 
 The program was stopped; TWIN is the same with debug information, which is loaded only when the
 plug-in has answered all. A line of EXPRESSIONS is a command, `print`, `print/x` or `whatis`, and
-an expression; behind ` | ` may stand what gdb is asked instead. Prints those that differ, and how
-many lines and values are the same; the status is 1 where one differs.
+an expression; behind ` | ` may stand what gdb is asked instead. All are asked under several of
+gdb's settings for printing. Prints those that differ, and how many answers and values are the same;
+the status is 1 where one differs.
 """
 import os
 import pathlib
 import re
 
 import gdb
+
+USUAL = {"elements": 200, "repeats": 10, "max-depth": 20, "symbol": "on"}
+SETTINGS = ({}, {"elements": 4, "repeats": 2}, {"max-depth": 1, "symbol": "off"}, {"max-depth": 2}, {"max-depth": 0},
+            {"elements": "unlimited", "repeats": "unlimited", "max-depth": "unlimited"})
 
 
 def answer(command):
@@ -42,19 +47,32 @@ def slide():
     return int(gdb.parse_and_eval(f"(unsigned long) &{name}")) - int(address, 16)
 
 
+def answers(commands):
+    """What the commands answer, under each of the settings."""
+    told = []
+    for settings in SETTINGS:
+        for name, value in settings.items():
+            gdb.execute(f"set print {name} {value}")
+        told += [answer(command) for command in commands]
+        for name in settings:
+            gdb.execute(f"set print {name} {USUAL[name]}")
+    return told
+
+
 def main():
     lines = list(wanted())
-    by_ctf = [answer(f"ctf {asked}") for asked, _ in lines]
+    by_ctf = answers([f"ctf {asked}" for asked, _ in lines])
     gdb.execute(f"add-symbol-file {os.environ['TWIN']} -o {slide()}", to_string=True)
-    by_gdb = [answer(other) for _, other in lines]
+    by_gdb = answers([other for _, other in lines])
     same = [told for told, known in zip(by_ctf, by_gdb) if told == known]
-    for (asked, _), told, known in zip(lines, by_ctf, by_gdb):
+    for number, (told, known) in enumerate(zip(by_ctf, by_gdb)):
         if told != known:
-            print(f"{asked}\n  ctf {told}\n  gdb {known}")
+            asked, settings = lines[number % len(lines)][0], SETTINGS[number // len(lines)]
+            print(f"{asked} {settings or ''}\n  ctf {told}\n  gdb {known}")
     leaves = sum(told.count(",") + 1 for told in same)
-    print(f"{len(same)} of {len(lines)} the same, {leaves} values in them")
+    print(f"{len(same)} of {len(by_ctf)} the same, {leaves} values in them")
     gdb.execute("set confirm off")
-    gdb.execute(f"quit {0 if len(same) == len(lines) else 1}")
+    gdb.execute(f"quit {0 if len(same) == len(by_ctf) else 1}")
 
 
 main()

@@ -83,6 +83,12 @@ struct node {
 	int (*rows)[3];
 };
 
+struct deep {
+	struct { struct pair pair; int row[2]; char text[4]; struct { union { struct pair both; int one; }; }; };
+	struct { struct { struct { int x[2]; } c; } b; } a;
+	wchar_t wide[3];
+};
+
 struct link { struct link *next, *previous; };
 
 struct item { int number; struct link link; char name[8]; };
@@ -160,6 +166,7 @@ struct bits more_bits[2] = { { 7, 15, 2047, 0, 1, 3, 63, 1 }, { 0, -16, 1, 1, -1
 union any any = { .bytes = { 0, 0, 0x80, 0x3f, 1, 2, 3, 4 } };
 struct nested nested = { 1, { 2, { 3 }, { 'd', BLUE } }, { 4, 5 }, { { 6, 7 }, { 8, 9 }, { 10, 11 } },
 	{ .i = 12 }, { { 13 } } };
+struct deep deep = { { { 1, 2 }, { 3, 4 }, "txt", { { { 5, 6 } } } }, { { { { 7, 8 } } } }, L"w" };
 struct nested *at_nested = &nested;
 struct qualified qualified = { 1, 2, 3, "constant", word_of };
 struct large large = { 7, { { 1, 2, 3 }, { 4 } }, "text in a large struct", { 8, 9 } };

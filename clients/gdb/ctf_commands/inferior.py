@@ -70,9 +70,9 @@ class Inferior:
                 refused = refused or fault
         raise refused or BadExpression("no types are loaded: ctf load FILE")
 
-    def label(self, address: int) -> str:
-        """The symbol at an address as `<main+4>`, or ""."""
-        if not gdb.parameter("print symbol"):
+    def label(self, address: int, is_code: bool = False) -> str:
+        """The symbol at an address as `<main+4>`, or ""; `print symbol` leaves out that of data."""
+        if not is_code and not gdb.parameter("print symbol"):
             return ""
         return gdb.format_address(address).partition(" ")[2]
 

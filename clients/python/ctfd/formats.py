@@ -19,8 +19,8 @@ LOST = {"Incomplete": "incomplete type", "ShortMemory": "not read", "cut": "cut"
 class Texts(Protocol):
     """What stands behind addresses."""
 
-    def label(self, address: int) -> str:
-        """The symbol at an address as `<main+4>`, or ""."""
+    def label(self, address: int, is_code: bool = False) -> str:
+        """The symbol at an address as `<main+4>`, or "". It may be left out where it is data."""
 
     def string(self, address: int, limit: int, size: int = 1, before: str = "") -> str:
         """The text at an address in quotes, or why it can't be read.
@@ -62,21 +62,33 @@ class Formatter:
         resolved = t.resolved
         if isinstance(value, Lost):
             return f"<{LOST.get(value.why, value.why)}>"
+        if isinstance(value, Leaf):
+            return self._leaf(t, resolved, value)
+        if depth >= self.style.deepest and not self._is_string(resolved, value):
+            return "{...}"
         if isinstance(value, Characters):
             return self._characters(value, at)
-        if isinstance(value, Parts):
-            if depth > self.style.deepest:
-                return "{...}"
-            aggregate = resolved.kind in ("struct", "union")
-            return (self._aggregate if aggregate else self._array)(resolved, value, at, depth)
-        return self._leaf(t, resolved, value)
+        aggregate = resolved.kind in ("struct", "union")
+        return (self._aggregate if aggregate else self._array)(resolved, value, at, depth)
+
+    def _is_string(self, t: Type, value: Value) -> bool:
+        """Whether a value is printed as a text, which is cut at no depth."""
+        if isinstance(value, Characters):
+            return value.total > 0
+        return t.kind == "array" and prefix(t.contents) is not None and t.count > 0
 
     def _aggregate(self, t: Type, value: Parts, at: Optional[int], depth: int) -> str:
+        """All members; one without a name is no deeper than those beside it."""
         told: List[str] = []
         for member, held in zip(t.members, value.items):
-            name = f"{printable(member.name)} = " if member.name else ""
             place = None if at is None else at + member.offset // 8
-            told.append(name + self.value(member.type, held, place, depth + 1))
+            if member.name:
+                inner = self.value(member.type, held, place, depth + 1)
+                told.append(f"{printable(member.name)} = {inner}")
+            elif isinstance(held, Parts):
+                told.append(self._aggregate(member.type.resolved, held, place, depth))
+            else:
+                told.append(self.value(member.type, held, place, depth + 1))
         return "{" + (", ".join(told) or "<No data fields>") + "}"
 
     def _array(self, t: Type, value: Parts, at: Optional[int], depth: int) -> str:
@@ -147,18 +159,19 @@ class Formatter:
         wide = prefix(t.reference)
         if wide is not None:
             return self._text(address, t.reference.size or 1, wide)
-        if is_character(t.reference.resolved):
+        target = t.reference.resolved
+        if is_character(target):
             return self._text(address)
-        return self._address(address)
+        return self._address(address, target.kind == "function")
 
     def _text(self, address: int, size: int = 1, before: str = "") -> str:
         """An address and the text there."""
         text = self.texts.string(address, self.style.elements, size, before)
         return f"{self._address(address)} {text}"
 
-    def _address(self, address: int) -> str:
+    def _address(self, address: int, is_code: bool = False) -> str:
         """An address with the symbol that it lies in."""
-        return f"0x{address:x} {self.texts.label(address)}".rstrip()
+        return f"0x{address:x} {self.texts.label(address, is_code)}".rstrip()
 
     def _integer(self, t: Type, resolved: Type, shown: str) -> str:
         if shown == "void":

@@ -14,7 +14,7 @@ from .support import WithService
 class NoTexts:
     """Addresses behind which nothing is known."""
 
-    def label(self, address: int) -> str:
+    def label(self, address: int, is_code: bool = False) -> str:
         return "<main+4>" if address == 0x1004 else ""
 
     def string(self, address: int, limit: int, size: int = 1, before: str = "") -> str:
@@ -111,7 +111,7 @@ class Whole(WithService):
         self.assertEqual(told, "{name = 0x0, func = <not read>}")
 
     def test_depth(self) -> None:
-        told = self.told("TValue", bytes(16), Style(deepest=0))
+        told = self.told("TValue", bytes(16), Style(deepest=1))
         self.assertEqual(told, "{value_ = {...}, tt_ = 0 '\\000'}")
 
 
