@@ -91,7 +91,7 @@ class Load(Command):
     """ctf load [FILE [PARENT]]: takes the types of a file, that of the program if none is named.
 
     FILE is an ELF file with a section .SUNW_ctf or .ctf, or the bytes of such a section; PARENT
-    is the file of the dictionary of which FILE's is a child."""
+    is the file of the dictionary of which FILE's is a child. A file that was loaded is read anew."""
 
     word = "load"
 
@@ -108,6 +108,7 @@ class Load(Command):
         except ctfd.Refused:
             one.close()
             raise
+        STATE.forget([old for old in STATE.loaded if old.program.path == found.path])
         STATE.loaded.insert(0, one)
         print("\n".join(filter(None, [one.told(), one.warning()])))
 
@@ -122,9 +123,7 @@ class Unload(Command):
         gone = [one for one in STATE.loaded if not words or one.program.path == words[0]]
         if words and not gone:
             raise BadExpression(f"{words[0]} is not loaded")
-        for one in gone:
-            STATE.loaded.remove(one)
-            one.close()
+        STATE.forget(gone)
         if not STATE.loaded:
             STATE.close()
 

@@ -74,7 +74,7 @@ class Loaded:
     def named(self, part: str) -> Iterator[str]:
         """Lines on the types and symbols that have a text in their names."""
         types = self.program.types
-        own = types.types()
+        own = types.types() + (self.parent.types.types() if self.parent else [])
         types.fetch([("record", t.number) for t in own])
         found = [t for t in own if t.kind in NAMED and part in t.name]
         types.fetch([(op, t.number) for t in found for op in ("name", "size")])

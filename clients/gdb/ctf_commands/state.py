@@ -40,6 +40,12 @@ class State:
         self.service = None
         self.loaded = []
 
+    def forget(self, gone: List[Loaded]) -> None:
+        """Gives some files back."""
+        for one in gone:
+            self.loaded.remove(one)
+            one.close()
+
     def target(self) -> Inferior:
         """The program that gdb looks at, with the types that were loaded."""
         if not self.loaded:
