@@ -15,7 +15,7 @@ import re
 import gdb
 
 USUAL = {"elements": 200, "repeats": 10, "max-depth": 20, "symbol": "on"}
-SETTINGS = ({}, {"elements": 4, "repeats": 2}, {"max-depth": 1, "symbol": "off"}, {"max-depth": 2}, {"max-depth": 0},
+SETTINGS = ({}, {"elements": 4, "repeats": 2}, {"max-depth": 1, "symbol": "off"},
             {"elements": "unlimited", "repeats": "unlimited", "max-depth": "unlimited"})
 
 

@@ -7,7 +7,7 @@ a level in one round. What that may cost is bounded: a hostile type doubles at e
 from __future__ import annotations
 
 from dataclasses import dataclass, field
-from typing import Callable, Dict, List, NamedTuple, Optional, Tuple
+from typing import Callable, Dict, List, NamedTuple, Optional, Tuple, TypeVar
 
 from .faults import Error, Refused
 from .parse import Characters, Leaf, Lost, Parts, Unclear, Value, is_character, parse
@@ -22,17 +22,17 @@ AGGREGATES = ("struct", "union")
 COMPOSED = (*AGGREGATES, "array")
 
 Read = Callable[[int, int], bytes]
+Item = TypeVar("Item")
 
 
 @dataclass
 class Bounds:
-    """What the reading of values may cost: elements of each array that is cut, requests, text.
-
-    Text counts also where the service has made it in vain.
+    """What the reading of values may cost: elements of each array that is split, values and parts
+    of values that are read one by one, and text, also where the service has made it in vain.
     """
 
     elements: int = 200
-    requests: int = 8192
+    pieces: int = 65_536
     text: int = 4_194_304
 
 
@@ -89,21 +89,36 @@ class Reading:
     apart: Dict[Type, bool] = field(default_factory=dict)
 
     def run(self, wanted: List[Wanted]) -> List[Value]:
-        roots: List[Value] = [Lost("unread")] * len(wanted)
-        level = [Piece(one, roots, number) for number, one in enumerate(wanted)]
+        roots: List[Value] = [Lost("cut")] * len(wanted)
+        level = [Piece(one, roots, number) for number, one in enumerate(self._allowed(wanted))]
         while level:
-            room = max(1, self.bounds.text // LONGEST_TEXT)  # what a round could answer at most
-            level, later = level[:room], level[room:]
+            end = self._end_of_round(level)
+            level, later = level[:end], level[end:]
             refused: List[Tuple[Piece, str]] = []
             asked = [piece for piece in level if self._must_ask(piece, refused)]
             refused += self._ask(asked)
             level = later + [part for piece, why in refused for part in self._parts(piece, why)]
         return roots
 
+    def _end_of_round(self, level: List[Piece]) -> int:
+        """How many pieces may be asked for at once, if each long one takes all that it can."""
+        room = max(1, self.bounds.text // LONGEST_TEXT)
+        for number, piece in enumerate(level):
+            room -= not _is_short(piece.wanted.type.resolved)
+            if room < 0:
+                return number
+        return len(level)
+
+    def _allowed(self, pieces: List[Item]) -> List[Item]:
+        """The first of some pieces, as many as may be read yet."""
+        kept = pieces[:self.bounds.pieces]
+        self.bounds.pieces -= len(kept)
+        return kept
+
     def _must_ask(self, piece: Piece, refused: List[Tuple[Piece, str]]) -> bool:
         """Whether the service is asked; else the piece has its value, or is to be split."""
         t = piece.wanted.type.resolved
-        if self.bounds.requests <= 0 or self.bounds.text <= 0:
+        if self.bounds.text <= 0:
             piece.put(Lost("cut"))
             return False
         if t.kind == "array" and is_character(t.contents.resolved) and piece.wanted.bit % 8 == 0:
@@ -147,17 +162,13 @@ class Reading:
         return self.apart[t]
 
     def _ask(self, pieces: List[Piece]) -> List[Tuple[Piece, str]]:
-        """Shows what can be shown, in a round for each session; the rest with why not."""
-        asked = pieces[:self.bounds.requests]
-        for piece in pieces[len(asked):]:
-            piece.put(Lost("cut"))
-        self.bounds.requests -= len(asked)
-        if not asked:
+        """Shows what can be shown, in one round; the rest with why not."""
+        if not pieces:
             return []
-        session = asked[0].wanted.type.dictionary.session
-        outcomes = session.ask_all([self._request(piece) for piece in asked])
+        session = pieces[0].wanted.type.dictionary.session
+        outcomes = session.ask_all([self._request(piece) for piece in pieces])
         refused: List[Tuple[Piece, str]] = []
-        for piece, outcome in zip(asked, outcomes):
+        for piece, outcome in zip(pieces, outcomes):
             if isinstance(outcome, Refused):
                 self.bounds.text -= LONGEST_TEXT if outcome.name == "TooLong" else 0
                 refused.append((piece, outcome.name))
@@ -178,19 +189,25 @@ class Reading:
     def _parts(self, piece: Piece, why: str) -> List[Piece]:
         """The members or elements of a value; none where it has none, and then it is lost."""
         t = piece.wanted.type.resolved
+        if self.bounds.pieces <= 0:
+            piece.put(Lost("cut"))
+            return []
         if t.kind in AGGREGATES:
             places = [(member.type, member.offset) for member in t.members]
-            total = len(places)
+            items: List[Value] = [Lost("cut")] * len(places)
+            piece.put(Parts(items, len(places)))
+            places = self._allowed(places)
         elif t.kind == "array" and t.contents.size:
-            step, total = 8 * t.contents.size, t.count
-            places = [(t.contents, n * step) for n in range(min(total, self.bounds.elements))]
+            step = 8 * t.contents.size
+            count = min(t.count, self.bounds.elements, self.bounds.pieces)
+            places = self._allowed([(t.contents, number * step) for number in range(count)])
+            items = [Lost("cut")] * len(places)
+            piece.put(Parts(items, t.count))
         else:
             piece.put(Lost(why))
             return []
-        items: List[Value] = [Lost("cut")] * len(places)
-        piece.put(Parts(items, total))
         return [self._part(piece, inner, offset, items, number)
-                for number, (inner, offset) in enumerate(places[:self.bounds.requests])]
+                for number, (inner, offset) in enumerate(places)]
 
     def _part(self, whole: Piece, t: Type, offset: int, into: List[Value], index: int) -> Piece:
         """A part that begins some bits behind the start of a whole."""
@@ -216,6 +233,11 @@ def held_by(whole: Type) -> List[Type]:
         elif t.kind == "array":
             todo.append(t.contents.resolved)
     return list(seen)
+
+
+def _is_short(t: Type) -> bool:
+    """Whether the text of a value has a few dozen characters at most."""
+    return t.kind in ("integer", "float", "pointer") and (t.size or 0) <= 16
 
 
 def _is_unclear(t: Type) -> bool:

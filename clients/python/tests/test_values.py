@@ -95,9 +95,20 @@ class Hostile(WithService):
     def test_a_union_that_doubles_ends_at_the_bounds(self) -> None:
         types = self.opened(self.doubling(UNION, 24))
         before = self.client.requests
-        told = value(types.type(25), bytes(4), Bounds(requests=64, text=300_000))
+        told = value(types.type(25), bytes(4), Bounds(pieces=64, text=300_000))
         self.assertIsInstance(told, Parts)
         self.assertLess(self.client.requests - before, 256)
+
+    def test_arrays_of_arrays_end_at_the_bounds(self) -> None:
+        """char [60000][60000][60000]: none is asked for, and each has as many parts."""
+        types = self.opened(dictionary(
+            [integer(INT), character(), array(2, 60_000, 60_000), array(3, 60_000), array(4, 60_000)],
+            NAMES))
+        told = value(types.type(5), b"x" * 10, Bounds(elements=3000, pieces=4000))
+        assert isinstance(told, Parts) and isinstance(told.items[0], Parts)
+        self.assertEqual(told.items[0].items[0], Characters(b"x" * 10, 60_000))
+        self.assertEqual(len(told.items[0].items), 999)
+        self.assertEqual(told.items[-1], Lost("cut"))
 
     def test_values_that_lie_deep_in_each_other(self) -> None:
         wholes = [record(STRUCT, 1, 4, 0, member(A, level + 1, 0)) for level in range(500)]
