@@ -16,6 +16,7 @@ import gdb
 
 USUAL = {"elements": 200, "repeats": 10, "max-depth": 20, "symbol": "on"}
 SETTINGS = ({}, {"elements": 4, "repeats": 2}, {"max-depth": 1, "symbol": "off"},
+            {"max-depth": 2}, {"max-depth": 0},
             {"elements": "unlimited", "repeats": "unlimited", "max-depth": "unlimited"})
 
 
