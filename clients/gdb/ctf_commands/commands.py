@@ -91,7 +91,8 @@ class Load(Command):
     """ctf load [FILE [PARENT]]: takes the types of a file, that of the program if none is named.
 
     FILE is an ELF file with a section .SUNW_ctf or .ctf, or the bytes of such a section; PARENT
-    is the file of the dictionary of which FILE's is a child. A file that was loaded is read anew."""
+    is the file of the dictionary of which FILE's is a child. A file that is loaded already is read
+    anew."""
 
     word = "load"
 

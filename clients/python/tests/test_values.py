@@ -102,8 +102,8 @@ class Hostile(WithService):
     def test_arrays_of_arrays_end_at_the_bounds(self) -> None:
         """char [60000][60000][60000]: none is asked for, and each has as many parts."""
         types = self.opened(dictionary(
-            [integer(INT), character(), array(2, 60_000, 60_000), array(3, 60_000), array(4, 60_000)],
-            NAMES))
+            [integer(INT), character(), array(2, 60_000, 60_000), array(3, 60_000),
+             array(4, 60_000)], NAMES))
         told = value(types.type(5), b"x" * 10, Bounds(elements=3000, pieces=4000))
         assert isinstance(told, Parts) and isinstance(told.items[0], Parts)
         self.assertEqual(told.items[0].items[0], Characters(b"x" * 10, 60_000))
