@@ -177,7 +177,7 @@ struct pair table[2][3] = { { { 1, 2 }, { 3, 4 }, { 5, 6 } }, { { 7, 8 } } };
 int squares[30][20];
 union any unions[2] = { { .f = 1.5f }, { .low = 3, .high = 4 } };
 unsigned short wides_of[4] = { 65, 0x263a, 0xffff, 0 };
-wchar_t wide_letter = L'w', wide_other = 0x263a;
+wchar_t wide_letter = L'w', wide_other = 0x263a, wide_negative = -1, wide_all[3] = { -2, 200, 0x263a };
 struct flexible flexible = { 2, { { 1, 2 }, { 3, 4 } } };
 struct trailing trailing = { 5, "text" };
 struct pair pairs[4] = { { 1, 2 }, { 1, 2 }, { 3, 4 } }, *at_pair = &pairs[2];

@@ -75,6 +75,8 @@ class Command(gdb.Command):
             raise gdb.GdbError(f"{printable(str(error))}; load the files again")
         except ctfd.Error as error:
             raise gdb.GdbError(printable(str(error)))
+        except RecursionError:
+            raise gdb.GdbError("values of this type lie too deep in each other: ask for a part")
 
     def run(self, arguments: str) -> None:
         raise NotImplementedError

@@ -16,6 +16,7 @@ from .operands import BadExpression, Code, Number, Operand, Steps, Target
 from .types import QUALIFIERS
 
 DEEPEST = 64
+LONGEST = 24
 TAGS = ("struct", "union", "enum")
 
 _TOKEN = re.compile(r"\s*(->|0[xX][0-9a-fA-F]+|[0-9]+|\$?[A-Za-z_]\w*|'[^']*'|[-+*&.()\[\]])")
@@ -162,6 +163,8 @@ class Evaluation:
             self._expect(")")
             return found
         if _NUMBER.match(token) and token[0].isdigit():
+            if len(token) > LONGEST:
+                raise BadExpression(f"{token[:LONGEST]}.. is no number of 64 bits")
             return Number(None, int(token, 0 if token[:2] in ("0x", "0X") else 10))
         if token.startswith("$"):
             return Number(None, self.target.register(token[1:]))

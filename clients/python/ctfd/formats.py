@@ -93,12 +93,12 @@ class Formatter:
 
     def _array(self, t: Type, value: Parts, at: Optional[int], depth: int) -> str:
         wide = prefix(t.contents)
+        size = t.contents.size or 0
         if not value.total:
             return "{}" if at is None else self._address(at)
         if wide is not None and not self.style.hexadecimal:
-            codes = [int(item.text) for item in value.items if isinstance(item, Leaf)]
+            codes = [_code(item, size) for item in value.items]
             return self._quoted(codes, value.total, wide)
-        size = t.contents.size or 0
 
         def told(number: int) -> str:
             place = None if at is None else at + number * size
@@ -186,7 +186,7 @@ class Formatter:
             return "true" if number else "false"
         wide = prefix(t)
         if wide is not None:
-            return f"{number} {one(number, wide)}"
+            return f"{number} {one(number & (1 << 8 * (resolved.size or 0)) - 1, wide)}"
         if flags & CHARACTER and resolved.size == 1:
             return f"{number} {one(number & 255)}"
         return str(number)
@@ -199,6 +199,12 @@ class Formatter:
         if shown.lstrip("-").isdigit():
             return flags_of(t.enumerators, int(shown))
         return printable(shown)
+
+
+def _code(value: Value, size: int) -> int:
+    """The bits of a wide character as a number; 0 where it can't be read."""
+    shown = value.text if isinstance(value, Leaf) else "0"
+    return int(shown) & (1 << 8 * size) - 1 if shown != "void" else 0
 
 
 def is_text(t: Type) -> bool:

@@ -7,6 +7,7 @@ from typing import Optional, Sequence
 from .types import QUALIFIERS, Type
 
 PREFIXES = {"wchar_t": "L", "char16_t": "u", "char32_t": "U"}
+WIDTHS = (1, 2, 4)
 DOTS = "..."
 
 _NAMED = {7: "\\a", 8: "\\b", 9: "\\t", 10: "\\n", 11: "\\v", 12: "\\f", 13: "\\r"}
@@ -14,6 +15,8 @@ _NAMED = {7: "\\a", 8: "\\b", 9: "\\t", 10: "\\n", 11: "\\v", 12: "\\f", 13: "\\
 
 def prefix(t: Type) -> Optional[str]:
     """What stands in front of texts of a wide character's type, which goes by its name."""
+    if t.resolved.kind != "integer" or (t.resolved.size or 0) not in WIDTHS:
+        return None
     while t.kind == "typedef" or t.kind in QUALIFIERS:
         if t.kind == "typedef" and t.name in PREFIXES:
             return PREFIXES[t.name]
@@ -22,7 +25,7 @@ def prefix(t: Type) -> Optional[str]:
 
 
 def character(code: int, quote: str) -> str:
-    """One character, escaped where it is not plain."""
+    """One character, by its bits as a number, escaped where it is not plain."""
     if code in _NAMED:
         return _NAMED[code]
     if not 0x20 <= code < 0x7F:
