@@ -71,8 +71,9 @@ class Command(gdb.Command):
         try:
             self.run(arguments.strip())
         except ctfd.Gone as error:
+            advice = "load the files again" if STATE.service else "CTFD names the program to start"
             STATE.close()
-            raise gdb.GdbError(f"{printable(str(error))}; load the files again")
+            raise gdb.GdbError(f"{printable(str(error))}; {advice}")
         except ctfd.Error as error:
             raise gdb.GdbError(printable(str(error)))
         except RecursionError:
