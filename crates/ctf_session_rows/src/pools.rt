@@ -52,6 +52,15 @@ fn the_oldest_gives_way(rt: HostRuntime) -> Result<(), Fail> {
     Ok(())
 }
 
+/// Whether lists are refused as too short, and come back with all their bytes.
+fn come_back(pool: &mut Pool, parts: Parts) -> bool {
+    let length = parts.ctf.len();
+    match pool.open(parts) {
+        Ok(_) => false,
+        Err((fault, parts)) => fault.code == Fault::TOO_SHORT && parts.ctf.len() == length,
+    }
+}
+
 #[test]
 fn faulty_lists_come_back(rt: HostRuntime) -> Result<(), Fail> {
     let mut pool = Pool::new(rt.alloc());
@@ -61,12 +70,6 @@ fn faulty_lists_come_back(rt: HostRuntime) -> Result<(), Fail> {
         sym: None,
         strs: None,
     };
-    match pool.open(parts) {
-        Ok(_) => assert!(rt; false),
-        Err((fault, parts)) => {
-            assert!(rt; fault.code == Fault::TOO_SHORT);
-            assert_eq!(rt; parts.ctf.as_slice(), &INT[..3]);
-        }
-    }
+    assert!(rt; come_back(&mut pool, parts));
     Ok(())
 }
