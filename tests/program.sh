@@ -180,6 +180,10 @@ ends take serve "base=$examples/lua.ctf"
 ends "$examples/meeting.jsonl" serve base=int
 cmp -s out "$examples/meeting.replies" || status="$status, other replies"
                                 expect "sessions that meet" 0 "$found" ''
+"$program" serve < "$examples/draft.jsonl" > out 2> err
+status=$?
+cmp -s out "$examples/draft.replies" || status="$status, other replies"
+                                expect "a dictionary that is made" 0 '"FixedParent"' ''
 ends take serve base;           expect "a word without =" 2 '' '^ctfd: usage: NAME=FILE$'
 ends take serve =int;           expect "a word without a name" 2 '' '^ctfd: usage: NAME=FILE$'
 ends take serve 'a b=int';      expect "a name with a blank" 2 '' '^ctfd: usage: NAME=FILE$'

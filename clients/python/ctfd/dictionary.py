@@ -154,12 +154,19 @@ class Dictionary:
         Qualifiers are left out, and pointers that the dictionary has not are made here.
         """
         base, stars = normal(name)
-        found = self.type(0)
-        if base != "void":
-            found = self.type(self.session.ask("find", d=self.slot, text=text.escape(base))["t"])
+        found = self.type(0) if base == "void" else self._found(base)
         for _ in range(stars):
             found = PointerTo(found)
         return found
+
+    def _found(self, base: str) -> Type:
+        """The type of a name, in whichever of its spellings the dictionary has it."""
+        asked = [{"d": self.slot, "text": text.escape(one)} for one in spellings(base)]
+        outcomes = self.session.ask_all([("find", fields) for fields in asked])
+        found = next((one for one in outcomes if not isinstance(one, Refused)), outcomes[0])
+        if isinstance(found, Refused):
+            raise found
+        return self.type(found["t"])
 
     def find_all(self, name: Name) -> List[Type]:
         """All own types with a name, hidden ones among them: one name may stand for several.
@@ -171,7 +178,7 @@ class Dictionary:
             return []
         types = self.types()
         self.fetch([("record", t.number) for t in types])
-        return [t for t in types if _called(t) == base]
+        return [t for t in types if _called(t) in spellings(base)]
 
     # Symbols.
 
@@ -207,6 +214,11 @@ def normal(name: Name) -> Tuple[str, int]:
     kept = [word for word in words.replace("*", " ").split() if word not in QUALIFIERS]
     base = " ".join(kept)
     return WORDS.get(base, base), words.count("*")
+
+
+def spellings(base: str) -> List[str]:
+    """A name without qualifiers, and what else C allows to be written for it."""
+    return [base, *(other for other, usual in WORDS.items() if usual == base)]
 
 
 def _called(t: Type) -> str:

@@ -2,7 +2,7 @@
 from __future__ import annotations
 
 import struct
-from typing import List, NamedTuple, Optional
+from typing import Iterator, List, NamedTuple, Optional
 
 from .faults import Unreadable
 
@@ -10,6 +10,8 @@ MAGIC = b"\x7fELF"
 NOBITS, SYMTAB, STRTAB, DYNSYM = 8, 2, 3, 11
 COMPRESSED = 0x800
 EXTENDED = 0xFFFF
+OBJECT, FUNCTION = 1, 2
+SYMBOL = struct.Struct("<IBBHQQ")
 
 
 class Section(NamedTuple):
@@ -21,6 +23,16 @@ class Section(NamedTuple):
     offset: int
     size: int
     link: int
+    address: int = 0
+
+
+class Symbol(NamedTuple):
+    """A symbol: its number in the table, and its address in the file."""
+
+    number: int
+    name: str
+    address: int
+    is_function: bool
 
 
 class Elf:
@@ -55,7 +67,7 @@ class Elf:
             raise IndexError
         headers = [self._header(start + number * size) for number in range(count)]
         strings = self._cut(headers[names][4], headers[names][5]) if names else b""
-        return [Section(_text(strings, h[0]), h[1], h[2], h[4], h[5], h[6]) for h in headers]
+        return [Section(_text(strings, h[0]), h[1], h[2], h[4], h[5], h[6], h[3]) for h in headers]
 
     def _header(self, offset: int) -> tuple:
         return struct.unpack_from("<IIQQQQIIQQ", self.data, offset)
@@ -64,6 +76,16 @@ class Elf:
         if offset + size > len(self.data):
             raise Unreadable(f"{self.path}: an ELF file with a section that is cut off")
         return self.data[offset:offset + size]
+
+    @property
+    def is_fixed(self) -> bool:
+        """Whether it is a program that runs at the addresses in the file."""
+        return self.data[16:18] == b"\x02\0"
+
+    @property
+    def entry(self) -> int:
+        """The address at which the program begins."""
+        return int.from_bytes(self.data[24:32], "little")
 
     def named(self, name: str) -> Optional[Section]:
         """The first section of a name."""
@@ -81,6 +103,14 @@ class Elf:
             raise Unreadable(f"{self.path}: {section.name} is compressed as ELF has it:"
                              " objcopy --decompress-debug-sections undoes that")
         return self._cut(section.offset, section.size)
+
+
+def symbols(table: bytes, strings: bytes) -> Iterator[Symbol]:
+    """The functions and objects of a symbol table that have a name and a section."""
+    for number, (name, info, _, section, value, _) in enumerate(SYMBOL.iter_unpack(
+            table[:len(table) // SYMBOL.size * SYMBOL.size])):
+        if name and section and info & 15 in (OBJECT, FUNCTION):
+            yield Symbol(number, _text(strings, name), value, info & 15 == FUNCTION)
 
 
 def _text(strings: bytes, offset: int) -> str:

@@ -191,13 +191,16 @@ class Type:
         Its offset counts from the start of this type. Raises KeyError where there is none.
         """
         todo = [(m, m.offset) for m in self.resolved.members]
+        searched = {self.resolved}
         while todo:
             inner: List[Tuple[Member, int]] = []
             for member, offset in todo:
                 if member.name == name:
                     return Member(name, member.type, offset)
                 part = member.type.resolved
-                if not member.name and part.kind in ("struct", "union"):
+                is_open = not member.name and part.kind in ("struct", "union")
+                if is_open and part not in searched:  # a hostile type doubles at each level
+                    searched.add(part)
                     inner += [(m, offset + m.offset) for m in part.members]
             todo = inner
         raise KeyError(name)
@@ -234,3 +237,25 @@ class PointerTo(Type):
         from .declare import declaration
 
         return declaration(self)
+
+
+class FunctionOf(Type):
+    """The type of a function by a symbol's signature, made here."""
+
+    kind, name, tag = "function", "", ""  # type: ignore[assignment]
+    size = align = 0  # type: ignore[assignment]
+    is_root = False  # type: ignore[assignment]
+
+    def __init__(self, signature: Signature) -> None:
+        super().__init__(signature.returns.dictionary, 0)
+        self.told = signature
+
+    def _identity(self) -> Tuple[Any, ...]:
+        return "()", id(self.told)
+
+    def gather(self) -> Type:
+        return self
+
+    @property
+    def signature(self) -> Signature:
+        return self.told

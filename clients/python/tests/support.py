@@ -17,7 +17,7 @@ COMMAND = Path(__file__).resolve().parents[1] / "ctfd-types"
 PROGRAM = os.environ.get("CTFD", "")
 TOOLS = all(shutil.which(tool) for tool in ("gcc", "objcopy"))
 
-INTEGER, POINTER, ARRAY, FUNCTION, STRUCT, CONST = 1, 3, 4, 5, 6, 12
+INTEGER, POINTER, ARRAY, FUNCTION, STRUCT, UNION, ENUM, CONST = 1, 3, 4, 5, 6, 7, 8, 12
 
 
 class WithService(unittest.TestCase):
@@ -62,6 +62,16 @@ def dictionary(records: List[bytes], names: bytes = b"\0") -> bytes:
 
 def integer(name: int, bits: int = 32, size: int = 4) -> bytes:
     return record(INTEGER, 0, size, name, struct.pack("<I", 1 << 24 | bits))
+
+
+def array(contents: int, count: int, size: int = 0) -> bytes:
+    """An array, which is indexed by type 1."""
+    return record(ARRAY, 0, size, 0, struct.pack("<HHI", contents, 1, count))
+
+
+def member(name: int, t: int, offset: int) -> bytes:
+    """A member of a struct of less than 8192 bytes; the offset is in bits."""
+    return struct.pack("<IHH", name, t, offset)
 
 
 def object_file(folder: str, ctf: bytes, section: str = ".SUNW_ctf", code: str = "") -> Path:

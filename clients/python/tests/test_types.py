@@ -129,6 +129,20 @@ class Small(WithService):
         self.assertEqual(types.find(found.raw_name), found)
         self.assertEqual(ctfd.declaration(found, "x"), 'a"\\\\x1b\\xff x')
 
+    def test_names_that_compilers_spell_in_two_ways(self) -> None:
+        for name in (b"unsigned long", b"long unsigned int"):
+            types = self.opened(dictionary([integer(1, 64, 8)], b"\0" + name + b"\0"))
+            for asked in ("unsigned long", "long unsigned int", "const unsigned long int"):
+                self.assertEqual(types.find(asked), types.type(1), asked)
+                self.assertEqual(types.find_all(asked), [types.type(1)], asked)
+
+    def test_unnamed_members_that_double_at_each_level(self) -> None:
+        wholes = [record(STRUCT, 2, 4, 0, struct.pack("<IHHIHH", 0, t, 0, 0, t, 0))
+                  for t in range(1, 65)]
+        types = self.opened(dictionary([integer(1), *wholes], b"\0int\0"))
+        with self.assertRaises(KeyError):
+            types.type(65).gather().member("nothing")
+
     def test_members_of_unnamed_members(self) -> None:
         """struct { struct { int a; }; struct { int b; }; }: b is reached too."""
         one, two = (record(STRUCT, 1, 4, 0, struct.pack("<IHH", name, 1, 0)) for name in (5, 7))

@@ -11,22 +11,23 @@ ghost use Rattle.ctf_broker.specs.Table.{kept_for, library_at};
 
 use crate::libraries::{found_by, publish_in, step_in};
 use ctf_answers::{Answer, Counts};
-use ctf_library::{Library, Loaded};
+use ctf_library::{Library, Loaded, Pool};
 use ctf_model::{Bytes, Change, Fault, Parts, PublicationName, Question, SlotNumber, placeless};
 use ctf_space::Opened;
 use std::alloc::Global;
 use std::collections::BTreeMap;
 use std::marker::Model;
-use std::rc::Rc;
 
 /// The operator's session, which makes no requests.
 const OPERATOR: u32 = 0;
 
-/// The libraries of all sessions, each made at the session's first change.
+/// The libraries of all sessions, each made at the session's first change, and the dictionaries
+/// that they opened lately.
 #[derive(Drop)]
 pub struct Broker {
     alloc: Global,
     libraries: BTreeMap<u32, Library>,
+    pool: Pool,
 }
 
 impl Model for Broker {
@@ -45,6 +46,7 @@ impl Broker {
         Broker {
             alloc,
             libraries: BTreeMap::new(alloc),
+            pool: Pool::new(alloc),
         }
     }
 
@@ -65,9 +67,6 @@ impl Broker {
         let Ok(loaded) = Loaded::of(self.alloc, dictionary) else {
             return Err(placeless(Fault::MEMORY));
         };
-        let Ok(loaded) = Rc::new(self.alloc, loaded) else {
-            return Err(placeless(Fault::MEMORY));
-        };
         publish_in(self.alloc, &mut self.libraries, OPERATOR, name, loaded)
     }
 
@@ -85,7 +84,7 @@ impl Broker {
             sym: None,
             strs: None,
         };
-        match Loaded::shared(self.alloc, parts) {
+        match Loaded::build(self.alloc, parts) {
             Ok(loaded) => publish_in(self.alloc, &mut self.libraries, OPERATOR, name, loaded),
             Err((fault, _parts)) => Err(fault),
         }
@@ -109,7 +108,14 @@ impl Broker {
         let Ok(found) = found_by(&self.libraries, change) else {
             return Err(placeless(Fault::MEMORY));
         };
-        step_in(self.alloc, &mut self.libraries, session, change, found)
+        step_in(
+            self.alloc,
+            &mut self.libraries,
+            &mut self.pool,
+            session,
+            change,
+            found,
+        )
     }
 
     /// Answers a question of a session. Names and lists are lent from its own library.

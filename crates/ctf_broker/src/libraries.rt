@@ -8,18 +8,17 @@ ghost use Rattle.ctf_model.specs.declared.requests.Request.TheVariants.{Changes}
 ghost use Rattle.ctf_broker.specs.Table.{kept_for, library_at};
 
 use ctf_answers::Counts;
-use ctf_library::{Library, Loaded};
+use ctf_library::{Library, Loaded, Pool};
 use ctf_model::{Change, Fault, PublicationName, placeless};
 use std::alloc::{AllocError, Global};
 use std::collections::BTreeMap;
-use std::rc::Rc;
 
 /// What a change finds: a take, what its owner has published under the name.
 pub fn found_by(
     libraries: &BTreeMap<u32, Library>,
     change: &Change,
-) -> Result<Option<Rc<Loaded>>, AllocError>
-    ensures ok { IfOk result (λ found. option_map (λ l. l.value) found
+) -> Result<Option<Loaded>, AllocError>
+    ensures ok { IfOk result (λ found. found
         ≡ found_in (library_at libraries.now.entries) (Changes change.now)) }
     ensures err { OnErr result (is_quiet_change change.now ≡ false) }
 {
@@ -30,7 +29,7 @@ pub fn found_by(
         return Ok(None);
     };
     match library.published(name.as_slice()) {
-        Some(loaded) => Ok(Some(loaded.clone()?)),
+        Some(loaded) => Ok(Some(loaded.share()?)),
         None => Ok(None),
     }
 }
@@ -39,11 +38,12 @@ pub fn found_by(
 pub fn step_in(
     alloc: Global,
     libraries: &mut BTreeMap<u32, Library>,
+    pool: &mut Pool,
     session: u32,
     change: &Change,
-    found: Option<Rc<Loaded>>,
+    found: Option<Loaded>,
 ) -> Result<Counts, Fault>
-    requires found { option_map (λ l. l.value) found
+    requires found { found
         ≡ found_in (library_at libraries.old.entries) (Changes change.now) }
     ensures step { Steps (library_at libraries.old.entries) session (Changes change.now)
         (said_to session result) (library_at libraries.new.entries) }
@@ -55,10 +55,10 @@ pub fn step_in(
         (said_to session result) (library_at libraries.new.entries) }
 {
     if let Some(library) = libraries.get_mut(&session) {
-        return library.step(change, found);
+        return library.step(change, found, pool);
     }
     let mut library = Library::new(alloc);
-    let outcome = library.step(change, found);
+    let outcome = library.step(change, found, pool);
     match libraries.insert(session, library) {
         Ok(_) => outcome,
         Err(_) => Err(placeless(Fault::MEMORY)),
@@ -71,10 +71,10 @@ pub fn publish_in(
     libraries: &mut BTreeMap<u32, Library>,
     session: u32,
     name: &PublicationName,
-    loaded: Rc<Loaded>,
+    loaded: Loaded,
 ) -> Result<Counts, Fault>
     ensures own { Answered (library_at libraries.old.entries session)
-        (publishes_lists name.now loaded.value (library_at libraries.old.entries session))
+        (publishes_lists name.now loaded (library_at libraries.old.entries session))
         (said result) (library_at libraries.new.entries session) }
     ensures others { (other : ℕ) → other ≢ session
         → kept_for libraries.new.entries other ≡ kept_for libraries.old.entries other }

@@ -1,16 +1,15 @@
 -- What is known of types stays right while other types change.
-use Rattle.std.proofs.Common.{◌≡◌, ℕ, zero, suc, ◌<◌, ◌≤◌, Bool, true, false, cond, eqb, List, [], ◌∷◌, ◌++◌, length, map, set, get_or, Option, Some, None, Result, Ok, Err, is_some, refl, sym, ap, subst, ◌∙◌, arith}
-use Rattle.std.specs.Prelude.{MatchOption, slice_get, slice_index_or, option_map}
+use Rattle.std.proofs.Common.{◌≡◌, ℕ, zero, suc, ◌<◌, cond, eqb, List, [], ◌∷◌, length, Option, Some, None, Result, refl, sym, ap, subst, ◌∙◌}
+use Rattle.std.specs.Prelude.{MatchOption, slice_get, option_map}
 use Rattle.std.specs.List.{AllByRecursion, cons_option, filter_map}
 use Rattle.std.proofs.lemmas.Option.{slice_get-get_or, slice_get_within}
 use Rattle.ctf_chains.specs.Search.{IsDepth}
 use Rattle.ctf_model.specs.Chains.{IsWithin, by_value, own_index, targets}
 use Rattle.ctf_model.specs.Dictionary.{Dictionary}
 use Rattle.ctf_model.specs.FigureLaws.{AsksByValue, nothing, own_body, value_edges}
-use Rattle.ctf_model.specs.Figures.{Figure, at_place, comes_to, most_numbers, of_found}
+use Rattle.ctf_model.specs.Figures.{Figure, at_place, comes_to}
 use Rattle.ctf_model.specs.Term.{Term}
-use Rattle.ctf_model.specs.TypeNumbers.{or_no_type}
-use Rattle.ctf_model.specs.TypePlaces.{own_number, place}
+use Rattle.ctf_model.specs.TypePlaces.{place}
 use Rattle.ctf_model.specs.declared.faults.Fault.{Fault}
 use Rattle.ctf_model.specs.declared.numbers.Place.{Place}
 use Rattle.ctf_model.specs.declared.numbers.Place.TheVariants.{Nowhere, Own, Parents}

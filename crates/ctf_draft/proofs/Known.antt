@@ -1,14 +1,11 @@
 -- What is known of the types of a draft stays right when something is added to it.
-use Rattle.std.proofs.Common.{◌≡◌, ℕ, zero, suc, ◌+◌, ◌-◌, ◌<◌, ◌≤◌, Bool, true, false, cond, eqb, ltb, leb, List, [], ◌∷◌, ◌++◌, length, map, set, get_or, Option, Some, None, Result, is_some, refl, sym, ap, subst, ◌∙◌, arith, ◌⊎◌, inl, inr, ◌≢◌, length-append}
-use Rattle.std.specs.Prelude.{◌&&◌, not, MatchOption, slice_index_or}
+use Rattle.std.proofs.Common.{◌≡◌, ℕ, ◌<◌, ◌≤◌, Bool, true, false, List, [], ◌∷◌, ◌++◌, length, map, set, get_or, Option, Some, None, is_some, refl, sym, ap, subst, ◌∙◌, arith, ◌⊎◌, inl, inr, ◌≢◌, length-append}
+use Rattle.std.specs.Prelude.{MatchOption, slice_index_or}
 use Rattle.std.specs.List.{AllByRecursion, list_any}
-use Rattle.std.specs.Result.{is_err}
-use Rattle.std.proofs.Math.ListN as listn
 use Rattle.std.proofs.lemmas.Bool.{leb-false, lt-ltb}
 use Rattle.std.proofs.lemmas.List.{get_or-set_other, get_or_append_left, length-set}
 use Rattle.std.proofs.lemmas.Option.{slice_get-get_or}
-use Rattle.ctf_chains.proofs.Lists.{same_or_not}
-use Rattle.ctf_model.specs.Chains.{by_value, longest_chain, own_index, own_index_at}
+use Rattle.ctf_model.specs.Chains.{by_value, own_index, own_index_at}
 use Rattle.ctf_model.specs.Dictionary.{Dictionary, Label}
 use Rattle.ctf_model.specs.DraftLaws.{IsSound, NamesThere}
 use Rattle.ctf_model.specs.Drafts.{Draft, all_of, count_of, held, is_absent, space_of}
@@ -19,7 +16,6 @@ use Rattle.ctf_model.specs.Term.{Body, Member, Term}
 use Rattle.ctf_model.specs.Term as term
 use Rattle.ctf_model.specs.TypePlaces.{own_number, place}
 use Rattle.ctf_model.specs.declared.data_model.DataModel.{DataModel}
-use Rattle.ctf_model.specs.declared.faults.Fault.{Fault}
 use Rattle.ctf_model.specs.declared.numbers.Place.{Place}
 use Rattle.ctf_model.specs.declared.numbers.Place.TheVariants.{Nowhere, Own, Parents}
 use Rattle.ctf_model.proofs.Alls.{all_got, none_all}
@@ -27,8 +23,7 @@ use Rattle.ctf_model.proofs.Anywhere.{all_map}
 use Rattle.ctf_model.proofs.DraftNumbers.{there_not_missing}
 use Rattle.ctf_model.proofs.FigureAsks.{figures_ask}
 use Rattle.ctf_model.proofs.OwnTypes.{own_of, place_of_own}
-use Rattle.ctf_draft.specs.DraftView.{made_of}
-use Rattle.ctf_draft.specs.Reaching.{IsKnown, IsKnownAt, IsReach, Knows}
+use Rattle.ctf_draft.specs.Reaching.{IsKnown, IsKnownAt, Knows}
 use Rattle.ctf_draft.specs.declared.reach.Reach.{Reach}
 use Rattle.ctf_draft.proofs.Kept.{Stay, StaysSame, same_depth, same_figure}
 use Rattle.ctf_draft.proofs.Views.{all_terms, seen}

@@ -1,9 +1,10 @@
 //! What a type says by its kind.
-ghost use Rattle.std.specs.Prelude.{◌≡◌, map, option_map};
+ghost use Rattle.std.specs.Prelude.{◌≡◌, [], map, option_map, unwrap_or};
 ghost use Rattle.ctf_draft.specs.TypeView.{body_of, enumerator_of, member_of};
+ghost use Rattle.ctf_model.specs.Adders.{is_among};
 ghost use Rattle.ctf_model.specs.Shown.{enumerators_in, members_in, shown};
 
-use crate::types::{Body, Enumerator, Member};
+use crate::types::{Body, DraftType, Enumerator, Member};
 
 impl Body {
     /// The members of a struct or union.
@@ -25,6 +26,30 @@ impl Body {
         match self {
             Body::Enum(_, enumerators) => Some(enumerators.as_slice()),
             _ => None,
+        }
+    }
+}
+
+impl DraftType {
+    /// Whether a member has the name, where that isn't empty.
+    pub(crate) fn has_member(&self, name: &[u8]) -> bool
+        ensures { result ≡ is_among name.now (map (λ m. m.name)
+            (unwrap_or (members_in (shown (body_of self.now.body))) [])) }
+    {
+        match &self.body {
+            Body::Aggregate(_, _, _) => self.taken.has(name),
+            _ => false,
+        }
+    }
+
+    /// Whether an enumerator has the name, where that isn't empty.
+    pub(crate) fn has_enumerator(&self, name: &[u8]) -> bool
+        ensures { result ≡ is_among name.now (map (λ e. e.name)
+            (unwrap_or (enumerators_in (shown (body_of self.now.body))) [])) }
+    {
+        match &self.body {
+            Body::Enum(_, _) => self.taken.has(name),
+            _ => false,
         }
     }
 }

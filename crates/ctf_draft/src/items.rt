@@ -1,9 +1,9 @@
 //! What is added to a pending type.
-ghost use Rattle.std.specs.Prelude.{◌≡◌, ◌⊎◌, MatchOption, None, Some, true, Ok, Err, IfOk, IfErr, OnOk, OnErr};
+ghost use Rattle.std.specs.Prelude.{◌≡◌, ◌⊎◌, MatchOption, None, Some, true, false, map, Ok, Err, IfOk, IfErr, OnOk, OnErr};
 ghost use Rattle.ctf_draft.specs.Pending.{StandsPending};
 ghost use Rattle.ctf_draft.specs.Planning.{against_name};
 ghost use Rattle.ctf_draft.specs.TypeView.{body_of, enumerator_of, member_of};
-ghost use Rattle.ctf_model.specs.Adders.{add_enumerator, add_member, against_enumerator as against_enumerator_in, body_at, replaced, with_enumerator, with_member};
+ghost use Rattle.ctf_model.specs.Adders.{add_enumerator, add_member, against_enumerator as against_enumerator_in, body_at, is_among, present_enumerators, present_members, replaced, with_enumerator, with_member};
 ghost use Rattle.ctf_model.specs.DraftLaws.{IsSound};
 ghost use Rattle.ctf_model.specs.Drafts.{is_settled};
 ghost use Rattle.ctf_model.specs.Judgements.{first_met};
@@ -11,9 +11,9 @@ ghost use Rattle.ctf_model.specs.Refusals.{want_of_memory};
 
 use crate::adding::MOST_ITEMS;
 use crate::draft::Draft;
-use crate::naming::{has_zero, is_enumerator, is_member};
+use crate::naming::has_zero;
 use crate::pushing::{push_enumerator, push_member};
-use crate::types::{Body, Enumerator, Member};
+use crate::types::{Body, DraftType, Enumerator, Member};
 use ctf_model::{Bytes, Fault, Place, TypeNum, placeless};
 
 impl Draft {
@@ -30,12 +30,20 @@ impl Draft {
         }
     }
 
+    /// A pending type.
+    fn pending_type(&self, n: TypeNum, i: usize) -> &DraftType
+        requires { StandsPending self.now.draft n.0 i }
+        ensures { body_of result.now.body ≡ body_at self.now.draft n.0 }
+    {
+        &self.types[i]
+    }
+
     /// What a pending type is.
     pub(crate) fn pending_body(&self, n: TypeNum, i: usize) -> &Body
         requires { StandsPending self.now.draft n.0 i }
         ensures { body_of result.now ≡ body_at self.now.draft n.0 }
     {
-        &self.types[i].body
+        &self.pending_type(n, i).body
     }
 
     /// The place of the enum that an enumerator goes to, or why it doesn't.
@@ -45,6 +53,8 @@ impl Draft {
             (first_met (against_enumerator_in self.now.draft n.0 name.now) ≡ None) }
         ensures err { IfErr result (λ f.
             first_met (against_enumerator_in self.now.draft n.0 name.now) ≡ Some f) }
+        ensures fresh { OnOk result (is_among name.now
+            (map (λ e. e.name) (present_enumerators self.now.draft n.0)) ≡ false) }
     {
         if has_zero(name) {
             return Err(placeless(Fault::NAME_HAS_ZERO));
@@ -55,13 +65,14 @@ impl Draft {
         let Some(i) = self.pending_index(n) else {
             return Err(placeless(Fault::SETTLED));
         };
-        let Some(enumerators) = self.pending_body(n, i).enumerators() else {
+        let to = self.pending_type(n, i);
+        let Some(enumerators) = to.body.enumerators() else {
             return Err(placeless(Fault::WRONG_KIND));
         };
         if enumerators.len() >= MOST_ITEMS {
             return Err(placeless(Fault::VLEN_FULL));
         }
-        if is_enumerator(name, enumerators) {
+        if to.has_enumerator(name) {
             return Err(placeless(Fault::DUPLICATE));
         }
         Ok(i)
@@ -74,6 +85,8 @@ impl Draft {
         ensures ok { OnOk result (against_name self.now.draft n.0 name.now tnum.0 ≡ None) }
         ensures err { IfErr result (λ f. against_name self.now.draft n.0 name.now tnum.0
             ≡ Some f) }
+        ensures fresh { OnOk result (is_among name.now
+            (map (λ m. m.name) (present_members self.now.draft n.0)) ≡ false) }
     {
         if has_zero(name) {
             return Err(placeless(Fault::NAME_HAS_ZERO));
@@ -84,13 +97,14 @@ impl Draft {
         let Some(i) = self.pending_index(n) else {
             return Err(placeless(Fault::SETTLED));
         };
-        let Some(members) = self.pending_body(n, i).members() else {
+        let to = self.pending_type(n, i);
+        let Some(members) = to.body.members() else {
             return Err(placeless(Fault::WRONG_KIND));
         };
         if members.len() >= MOST_ITEMS {
             return Err(placeless(Fault::VLEN_FULL));
         }
-        if is_member(name, members) {
+        if to.has_member(name) {
             return Err(placeless(Fault::DUPLICATE));
         }
         if self.is_absent(tnum) {
@@ -102,6 +116,8 @@ impl Draft {
     /// Adds a member behind the others of the struct or union at a place, which then has a size.
     fn put_member(&mut self, n: TypeNum, i: usize, member: Member, size: u64) -> Result<(), Fault>
         requires pending { StandsPending self.old.draft n.0 i }
+        requires fresh { is_among member.name
+            (map (λ m. m.name) (present_members self.old.draft n.0)) ≡ false }
         requires sound { IsSound self.old.draft → IsSound (replaced self.old.draft n.0
             (with_member (member_of member) size (body_at self.old.draft n.0))) }
         ensures ok { OnOk result (self.new.draft ≡ replaced self.old.draft n.0
@@ -111,7 +127,7 @@ impl Draft {
         ensures dictionary { self.new.dictionary ≡ self.old.dictionary }
     {
         self.marks.leave(i);
-        push_member(&mut self.types[i], member, size)
+        push_member(self.alloc, &mut self.types[i], member, size)
     }
 
     /// Adds a member behind the others of a pending struct or union, and answers its offset in
@@ -149,6 +165,8 @@ impl Draft {
     /// Adds an enumerator behind the others of the enum at a place.
     fn put_enumerator(&mut self, n: TypeNum, i: usize, enumerator: Enumerator) -> Result<(), Fault>
         requires pending { StandsPending self.old.draft n.0 i }
+        requires fresh { is_among enumerator.name
+            (map (λ e. e.name) (present_enumerators self.old.draft n.0)) ≡ false }
         requires sound { IsSound self.old.draft → IsSound (replaced self.old.draft n.0
             (with_enumerator (enumerator_of enumerator) (body_at self.old.draft n.0))) }
         ensures ok { OnOk result (self.new.draft ≡ replaced self.old.draft n.0
@@ -158,7 +176,7 @@ impl Draft {
         ensures dictionary { self.new.dictionary ≡ self.old.dictionary }
     {
         self.marks.leave(i);
-        push_enumerator(&mut self.types[i], enumerator)
+        push_enumerator(self.alloc, &mut self.types[i], enumerator)
     }
 
     /// Adds an enumerator behind the others of a pending enum.

@@ -18,6 +18,7 @@ mod pushing;
 mod reach;
 mod reaching;
 mod sizing;
+mod taken;
 mod types;
 mod widths;
 

@@ -1,10 +1,12 @@
 //! Types as they are added to a draft, without members or enumerators.
-ghost use Rattle.std.specs.Prelude.{◌≡◌};
+ghost use Rattle.std.specs.Prelude.{◌≡◌, []};
 ghost use Rattle.ctf_draft.specs.NewView.{new_body_of, new_of};
+ghost use Rattle.ctf_draft.specs.TakenView.{names_in};
 ghost use Rattle.ctf_draft.specs.TypeView.{body_of, type_of};
 ghost use Rattle.ctf_model.specs.Fitting.{FitsNew};
 ghost use Rattle.ctf_model.specs.NewTypes.{new_body, new_term};
 
+use crate::taken::Taken;
 use crate::types::{AggregateKind, Body, DraftType, ReferenceKind, ScalarKind};
 use ctf_model::{Bytes, TypeNum};
 use ctf_records::Tag;
@@ -37,6 +39,7 @@ pub struct NewType {
 /// What a new type is once it is added: its lists are empty. It takes no memory.
 fn body_from(alloc: Global, new: NewBody) -> Body
     ensures made { body_of result ≡ new_body (new_body_of new) }
+    ensures bare { names_in result ≡ [] }
     ensures fits { FitsNew (new_body_of new) }
 {
     match new {
@@ -58,5 +61,11 @@ pub(crate) fn made(alloc: Global, new: NewType) -> DraftType
 {
     let NewType { name, root, body } = new;
     let body = body_from(alloc, body);
-    DraftType { name, root, body }
+    let taken = Taken::new(alloc);
+    DraftType {
+        name,
+        root,
+        body,
+        taken,
+    }
 }

@@ -1,14 +1,23 @@
 //! Members and enumerators, behind the others of a type.
-ghost use Rattle.std.specs.Prelude.{◌≡◌, IfErr, OnErr, OnOk};
-ghost use Rattle.ctf_draft.specs.TypeView.{enumerator_of, member_of, type_of};
-ghost use Rattle.ctf_model.specs.Adders.{with_body, with_enumerator, with_member};
+ghost use Rattle.std.specs.Prelude.{◌≡◌, [], false, map, unwrap_or, IfErr, OnErr, OnOk};
+ghost use Rattle.ctf_draft.specs.TypeView.{body_of, enumerator_of, member_of, type_of};
+ghost use Rattle.ctf_model.specs.Adders.{is_among, with_body, with_enumerator, with_member};
 ghost use Rattle.ctf_model.specs.Refusals.{want_of_memory};
+ghost use Rattle.ctf_model.specs.Shown.{enumerators_in, members_in, shown};
 
 use crate::types::{Body, DraftType, Enumerator, Member};
 use ctf_model::{Fault, placeless};
+use std::alloc::Global;
 
-/// Adds a member behind the others of a struct or union, which then has a size.
-pub(crate) fn push_member(to: &mut DraftType, member: Member, size: u64) -> Result<(), Fault>
+/// Adds a member behind the others of a struct or union, which then has a size. None has its name.
+pub(crate) fn push_member(
+    alloc: Global,
+    to: &mut DraftType,
+    member: Member,
+    size: u64,
+) -> Result<(), Fault>
+    requires fresh { is_among member.name (map (λ m. m.name)
+        (unwrap_or (members_in (shown (body_of to.old.body))) [])) ≡ false }
     ensures ok { OnOk result (type_of to.new
         ≡ with_body (with_member (member_of member) size (type_of to.old).body) (type_of to.old)) }
     ensures err { IfErr result (λ f. f ≡ want_of_memory) }
@@ -16,9 +25,13 @@ pub(crate) fn push_member(to: &mut DraftType, member: Member, size: u64) -> Resu
 {
     match &mut to.body {
         Body::Aggregate(_, old, members) => {
-            let Ok(_) = members.push(member) else {
+            let Ok(()) = members.reserve(1) else {
                 return Err(placeless(Fault::MEMORY));
             };
+            let Ok(()) = to.taken.add(alloc, member.name.as_slice()) else {
+                return Err(placeless(Fault::MEMORY));
+            };
+            members.push_reserved(member);
             *old = size;
             Ok(())
         }
@@ -26,8 +39,14 @@ pub(crate) fn push_member(to: &mut DraftType, member: Member, size: u64) -> Resu
     }
 }
 
-/// Adds an enumerator behind the others of an enum.
-pub(crate) fn push_enumerator(to: &mut DraftType, enumerator: Enumerator) -> Result<(), Fault>
+/// Adds an enumerator behind the others of an enum. None has its name.
+pub(crate) fn push_enumerator(
+    alloc: Global,
+    to: &mut DraftType,
+    enumerator: Enumerator,
+) -> Result<(), Fault>
+    requires fresh { is_among enumerator.name (map (λ e. e.name)
+        (unwrap_or (enumerators_in (shown (body_of to.old.body))) [])) ≡ false }
     ensures ok { OnOk result (type_of to.new ≡ with_body
         (with_enumerator (enumerator_of enumerator) (type_of to.old).body) (type_of to.old)) }
     ensures err { IfErr result (λ f. f ≡ want_of_memory) }
@@ -35,9 +54,13 @@ pub(crate) fn push_enumerator(to: &mut DraftType, enumerator: Enumerator) -> Res
 {
     match &mut to.body {
         Body::Enum(_, enumerators) => {
-            let Ok(_) = enumerators.push(enumerator) else {
+            let Ok(()) = enumerators.reserve(1) else {
                 return Err(placeless(Fault::MEMORY));
             };
+            let Ok(()) = to.taken.add(alloc, enumerator.name.as_slice()) else {
+                return Err(placeless(Fault::MEMORY));
+            };
+            enumerators.push_reserved(enumerator);
             Ok(())
         }
         _ => Ok(()),

@@ -1,5 +1,8 @@
 //! Types of a draft, which own their names and their lists.
+ghost use Rattle.std.specs.Prelude.{◌≡◌};
+ghost use Rattle.ctf_draft.specs.TakenView.{given, names_in};
 
+use crate::taken::Taken;
 use ctf_model::{Bytes, TypeNum};
 use ctf_records::Tag;
 use ctf_views::{ArrayInfo, Encoding};
@@ -69,4 +72,7 @@ pub struct DraftType {
     /// Whether it is visible to look-ups by name.
     pub root: bool,
     pub body: Body,
+    /// The names that its members or enumerators have.
+    pub(crate) taken: Taken,
+    ghost kept: { taken ≡ given (names_in body) },
 }

@@ -1,4 +1,7 @@
 //! Calls of a draft, written shortly. Want of memory for a name is answered Memory.
+ghost use Rattle.std.specs.Prelude.{◌≡◌};
+ghost use Rattle.ctf_draft.specs.NewView.{new_body_of};
+ghost use Rattle.ctf_model.specs.NewTypes.{integer as new_integer, struct as new_struct};
 
 use ctf_draft::{AggregateKind, Body, Draft, NewBody, NewType, ScalarKind};
 use ctf_model::{Bytes, DataModel, Fault, TypeNum, placeless};
@@ -14,7 +17,10 @@ pub fn fresh(alloc: Global, model: DataModel) -> Option<Draft> {
 }
 
 /// A signed integer of a size in bytes.
-pub fn integer(size: u64, bits: u16) -> NewBody {
+pub fn integer(size: u64, bits: u16) -> NewBody
+    ensures { new_body_of result
+        ≡ new_integer (record { size = size; encoding = 1; offset = 0; bits = bits }) }
+{
     let encoding = Encoding {
         encoding: 1,
         offset: 0,
@@ -23,7 +29,9 @@ pub fn integer(size: u64, bits: u16) -> NewBody {
     NewBody::Scalar(ScalarKind::Integer, size, encoding)
 }
 
-pub fn a_struct() -> NewBody {
+pub fn a_struct() -> NewBody
+    ensures { new_body_of result ≡ new_struct 0 }
+{
     NewBody::Aggregate(AggregateKind::Struct, 0)
 }
 

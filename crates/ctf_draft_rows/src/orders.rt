@@ -1,9 +1,9 @@
-//! Which refusal comes first, and how many members and enumerators a type takes.
+//! Which refusal comes first, and how many types a draft takes, and members and enumerators a type.
 
 use crate::{
     a_struct, add, aggregate_at, enumerator_at, fresh, integer, member_at, named, put, put_value,
 };
-use ctf_draft::{AggregateKind, NewBody};
+use ctf_draft::{AggregateKind, NewBody, ReferenceKind};
 use ctf_model::{DataModel, Fault, TypeNum, placeless};
 
 /// Four letters for a number.
@@ -92,4 +92,23 @@ fn an_enumerators_refusals_have_an_order(rt: HostRuntime) {
     assert!(rt; put_value(alloc, &mut draft, 2, b"a", 1) == Err(placeless(Fault::DUPLICATE)));
     assert!(rt; put_value(alloc, &mut draft, 2, b"b", -1) == Ok(()));
     assert!(rt; enumerator_at(&draft, 1, 1) == Some((b"b".as_slice(), -1)));
+}
+
+#[test]
+fn a_draft_takes_32766_types(rt: HostRuntime) {
+    let alloc = rt.alloc();
+    let Some(mut draft) = fresh(alloc, DataModel::Lp64) else {
+        assert!(rt; false);
+        return;
+    };
+    for i in 1..=32_766_u16 {
+        assert!(rt; add(alloc, &mut draft, NewBody::Unknown) == Ok(TypeNum(i)));
+    }
+    let absent = NewBody::Reference(ReferenceKind::Pointer, TypeNum(32_767));
+    assert!(rt;
+        named(alloc, &mut draft, b"\0", NewBody::Unknown) == Err(placeless(Fault::NAME_HAS_ZERO))
+    );
+    assert!(rt; add(alloc, &mut draft, absent) == Err(placeless(Fault::BAD_REF)));
+    assert!(rt; add(alloc, &mut draft, NewBody::Unknown) == Err(placeless(Fault::FULL)));
+    assert!(rt; draft.pending() == 32_766);
 }

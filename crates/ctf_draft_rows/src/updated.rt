@@ -4,7 +4,7 @@ use crate::{a_struct, add, fresh, integer, named, put};
 use ctf_draft::{Draft, NewBody, ReferenceKind};
 use ctf_model::{Bytes, DataModel, Fault, Parts, TypeNum, placeless};
 use ctf_space::{Opened, Space};
-use ctf_writer::update;
+use ctf_writer::{update, write};
 use std::alloc::{AllocError, Global};
 use std::rc::Rc;
 
@@ -52,6 +52,43 @@ fn an_update_keeps_what_is_written(rt: HostRuntime) {
     assert!(rt; update(alloc, &mut draft) == Ok(()));
     assert!(rt; draft.pending() == 0);
     assert!(rt; is_kept(&draft, INT.as_slice()));
+}
+
+/// Opens what is written of a draft, and settles the draft with it.
+fn settle(alloc: Global, draft: &mut Draft) -> Result<(), Fault> {
+    let bytes = write(alloc, draft)?;
+    let parts = Parts {
+        ctf: Bytes::from(bytes),
+        sym: None,
+        strs: None,
+    };
+    let Ok(dictionary) = Opened::build(alloc, parts, draft.model()) else {
+        return Err(placeless(Fault::MEMORY));
+    };
+    match Rc::new(alloc, dictionary) {
+        Ok(dictionary) => {
+            draft.settle(dictionary);
+            Ok(())
+        }
+        Err(_) => Err(placeless(Fault::MEMORY)),
+    }
+}
+
+#[test]
+fn a_settled_draft_has_its_dictionary(rt: HostRuntime) {
+    let alloc = rt.alloc();
+    let Some(mut draft) = fresh(alloc, DataModel::Ilp32) else {
+        assert!(rt; false);
+        return;
+    };
+    assert!(rt; named(alloc, &mut draft, b"int", integer(4, 32)) == Ok(TypeNum(1)));
+    assert!(rt; settle(alloc, &mut draft) == Ok(()));
+    assert!(rt; draft.pending() == 0);
+    assert!(rt; is_kept(&draft, INT.as_slice()));
+    assert!(rt; add(alloc, &mut draft, a_struct()) == Ok(TypeNum(2)));
+    assert!(rt; draft.pending() == 1);
+    draft.discard();
+    assert!(rt; draft.types().len() == 1);
 }
 
 #[test]

@@ -1,10 +1,13 @@
 -- Which file of a dump is refused, and how a dump ends. Source: ours.
-use Rattle.std.specs.Prelude.{◌≡◌, ◌⊎◌, ⊤, ℕ, List, Option, Some, None}
+use Rattle.std.specs.Prelude.{◌≡◌, ◌⊎◌, ◌++◌, ⊤, ℕ, List, Option, Some, None, codes, decimal}
 use Rattle.std.specs.Option.{option_map}
 use Rattle.ctf_dump.specs.declared.ends.DumpEnd.{DumpEnd}
 use Rattle.ctf_dump.specs.declared.ends.DumpEnd.TheVariants.{Unread, Refused, Memory, Write}
+use Rattle.ctf_dump.specs.declared.line.DumpFault.{DumpFault}
+use Rattle.ctf_dump.specs.declared.line.DumpFault.TheVariants as fault
 use Rattle.ctf_dump.specs.declared.inputs.InputFile.{InputFile}
 use Rattle.ctf_dump.specs.declared.inputs.Inputs.{Inputs}
+use Rattle.ctf_model.specs.FaultNames.{name_of_fault}
 use Rattle.ctf_model.specs.Faults.{first_fault}
 use Rattle.ctf_model.specs.Lists.{Lists}
 use Rattle.ctf_model.specs.Steps.{fault_over}
@@ -63,6 +66,18 @@ EndsBy r (Unread file) = ⊥
 EndsBy r (Refused file fault) = r ≡ Some (record { file = file.now; fault = fault })
 EndsBy r Memory = ⊤
 EndsBy r Write = r ≡ None
+
+-- the end of a dump that this stopped
+abbrev pub end_after : DumpFault → DumpEnd
+end_after fault.Memory = Memory
+end_after fault.Write = Write
+
+-- what is said of an end, behind the program's name
+abbrev pub end_text : DumpEnd → List ℕ
+end_text (Unread file) = file.now ++ codes ": Read"
+end_text (Refused file fault) = file.now ++ (codes ": " ++ (name_of_fault fault.code ++ (codes " at " ++ decimal fault.place)))
+end_text Memory = codes "Memory"
+end_text Write = codes "Write"
 
 -- the exit status beside such an end
 abbrev pub status_after : DumpEnd → ℕ

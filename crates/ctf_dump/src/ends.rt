@@ -47,6 +47,11 @@ impl DumpEnd<'_> {
 }
 
 impl Display for DumpEnd<'_> {
+    ghost use Rattle.std.specs.Prelude.{Some};
+    ghost use Rattle.ctf_dump.specs.Refused.{end_text};
+
+    ghost output = { λ e. Some (end_text e) };
+
     fn fmt<W: fmt::Write>(&self, f: &mut Formatter<W>) -> fmt::Result {
         match self {
             DumpEnd::Unread(file) => write!(f, "{file}: Read"),
@@ -73,10 +78,10 @@ impl<'a> From<AllocError> for DumpEnd<'a> {
 }
 
 impl<'a> From<DumpFault> for DumpEnd<'a> {
-    ghost use Rattle.std.specs.Prelude.{None};
-    ghost use Rattle.ctf_dump.specs.Refused.{EndsBy};
+    ghost use Rattle.std.specs.Prelude.{◌≡◌};
+    ghost use Rattle.ctf_dump.specs.Refused.{end_after};
 
-    ghost from_gives = { λ _ e. EndsBy None e };
+    ghost from_gives = { λ fault e. e ≡ end_after fault };
 
     fn from(fault: DumpFault) -> DumpEnd<'a> {
         match fault {

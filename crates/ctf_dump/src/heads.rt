@@ -1,4 +1,6 @@
 //! The lines in front: the dictionary itself, its labels, and what it tells of symbols.
+ghost use Rattle.std.specs.Prelude.{◌≡◌, ◌++◌, codes, decimal, OnOk};
+ghost use Rattle.ctf_model.specs.Dump.{in_quotes};
 
 use crate::line::{DumpFault, Line};
 use ctf_check::Checked;
@@ -68,7 +70,10 @@ pub fn put_signature(line: &mut Line, ret: TypeNum, args: Args<'_>) -> Result<()
     Ok(())
 }
 
-fn put_symbol(line: &mut Line, class: &str, number: u32, name: &[u8]) -> Result<(), AllocError> {
+fn put_symbol(line: &mut Line, class: &str, number: u32, name: &[u8]) -> Result<(), AllocError>
+    ensures { OnOk result (line.new ≡ line.old
+        ++ (class.now ++ (decimal number ++ (codes " " ++ in_quotes name.now)))) }
+{
     line.word(class, u64::from(number))?;
     line.text(" ")?;
     line.quoted(name)

@@ -1,7 +1,7 @@
 //! A line as it is built, and then written.
 
-ghost use Rattle.std.specs.Prelude.{◌≡◌, ◌<◌, ◌++◌, [], codes, decimal, OnOk};
-ghost use Rattle.std.specs.Io.KnownBytes.{Appends};
+ghost use Rattle.std.specs.Prelude.{◌≡◌, ◌<◌, ◌++◌, [], codes, decimal, IfErr, OnOk};
+ghost use Rattle.std.specs.Io.KnownBytes.{Appends, Keeps};
 ghost use Rattle.ctf_model.specs.Dump.{escaped, in_quotes};
 ghost use Rattle.ctf_model.specs.ReplyLines.{signed_decimal};
 ghost use Rattle.ctf_model.specs.Text.{hex_digit as digit_of, is_plain as plain};
@@ -21,6 +21,11 @@ pub enum DumpFault {
 }
 
 impl From<AllocError> for DumpFault {
+    ghost use Rattle.std.specs.Prelude.{◌≡◌};
+    ghost use Rattle.ctf_dump.specs.declared.line.DumpFault as faults;
+
+    ghost from_gives = { λ _ f. f ≡ faults.DumpFault.Memory };
+
     fn from(_: AllocError) -> DumpFault {
         DumpFault::Memory
     }
@@ -117,11 +122,16 @@ impl Line {
         self.text("\"")
     }
 
-    /// Writes the line with its newline, and begins another.
+    /// Writes the line with its newline, and begins another. Where the write fails, the line is
+    /// still there, with its newline; without memory for the newline nothing is written.
     pub fn end<W: Write>(&mut self, out: &mut W) -> Result<(), DumpFault>
         ensures written { OnOk result (Appends (W.contents out.old) (W.contents out.new)
             (self.old ++ codes "\n")) }
         ensures empty { OnOk result (self.new ≡ []) }
+        ensures unwritten { IfErr result (λ f. f ≡ DumpFault.Write
+            → self.new ≡ self.old ++ codes "\n") }
+        ensures quiet { IfErr result (λ f. f ≡ DumpFault.Memory
+            → Keeps (W.contents out.old) (W.contents out.new)) }
     {
         if self.text("\n").is_err() {
             return Err(DumpFault::Memory);

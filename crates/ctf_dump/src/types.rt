@@ -1,4 +1,11 @@
 //! The lines of types, with their members or enumerators.
+ghost use Rattle.std.specs.Prelude.{◌≡◌, ◌++◌, codes, decimal, OnOk};
+ghost use Rattle.ctf_dump.specs.Words.{size_text, to_text};
+ghost use Rattle.ctf_model.specs.Dump.{in_quotes, or_fault};
+ghost use Rattle.ctf_model.specs.KindNames.{name_of_kind, name_of_tag};
+ghost use Rattle.ctf_model.specs.TypeNames.{spelled_name};
+ghost use Rattle.ctf_records.specs.RecordView.{tag_of};
+ghost use Rattle.ctf_space.specs.SpaceView.{space_of};
 
 use crate::heads::put_signature;
 use crate::line::{DumpFault, Line};
@@ -12,7 +19,9 @@ use ctf_views::{Enumerators, Members, Variant};
 use std::alloc::{AllocError, Global};
 use std::io::Write;
 
-fn kind_word(kind: Kind) -> &'static str {
+fn kind_word(kind: Kind) -> &'static str
+    ensures { result.now ≡ name_of_kind kind }
+{
     match kind {
         Kind::KUnknown => "unknown",
         Kind::KInteger => "integer",
@@ -31,7 +40,9 @@ fn kind_word(kind: Kind) -> &'static str {
     }
 }
 
-fn tag_word(tag: Tag) -> &'static str {
+fn tag_word(tag: Tag) -> &'static str
+    ensures { result.now ≡ codes " tag=" ++ name_of_tag (tag_of tag) }
+{
     match tag {
         Tag::Struct => " tag=struct",
         Tag::Union => " tag=union",
@@ -39,14 +50,18 @@ fn tag_word(tag: Tag) -> &'static str {
     }
 }
 
-fn put_size(line: &mut Line, size: Option<u64>) -> Result<(), AllocError> {
+fn put_size(line: &mut Line, size: Option<u64>) -> Result<(), AllocError>
+    ensures { OnOk result (line.new ≡ line.old ++ size_text size) }
+{
     match size {
         Some(size) => line.word(" size=", size),
         None => Ok(()),
     }
 }
 
-fn put_reference(line: &mut Line, number: Option<TypeNum>) -> Result<(), AllocError> {
+fn put_reference(line: &mut Line, number: Option<TypeNum>) -> Result<(), AllocError>
+    ensures { OnOk result (line.new ≡ line.old ++ to_text number) }
+{
     match number {
         Some(number) => line.word(" to=", u64::from(number.0)),
         None => Ok(()),
@@ -85,7 +100,10 @@ fn put_spelled(
     space: &Space<'_>,
     number: TypeNum,
     line: &mut Line,
-) -> Result<(), AllocError> {
+) -> Result<(), AllocError>
+    ensures { OnOk result (line.new ≡ line.old
+        ++ or_fault in_quotes (spelled_name (space_of space.now) number.0)) }
+{
     let mut name = Vec::new(alloc);
     match spell(alloc, space, number, &mut name) {
         Ok(()) => line.quoted(&name),
@@ -94,7 +112,9 @@ fn put_spelled(
     }
 }
 
-fn put_figure(line: &mut Line, figure: Result<u64, Fault>) -> Result<(), AllocError> {
+fn put_figure(line: &mut Line, figure: Result<u64, Fault>) -> Result<(), AllocError>
+    ensures { OnOk result (line.new ≡ line.old ++ or_fault decimal figure) }
+{
     match figure {
         Ok(figure) => line.number(figure),
         Err(fault) => line.text(fault_name(fault.code)),

@@ -4,3 +4,7 @@ pub mod Rising
 pub mod Importing
 pub mod Named
 pub mod Opening
+pub mod DraftParents
+pub mod DraftSteps
+pub mod DraftPlaces
+pub mod Creating

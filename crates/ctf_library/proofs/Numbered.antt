@@ -7,6 +7,7 @@ use Rattle.ctf_library.specs.SlotView.{slot_of}
 use Rattle.ctf_library.specs.declared.slots.Slot as own
 use Rattle.ctf_model.specs.Lists.{Lists}
 use Rattle.ctf_model.specs.State.{Slot}
+use Rattle.ctf_model.specs.DraftSteps.{slots_with}
 use Rattle.ctf_model.specs.Steps.{slot_at, slots_without, slots_with_parent}
 
 -- the slot of a number stands at a place
@@ -15,6 +16,7 @@ pub record IsPlace (n : ℕ) (slots : List own.Slot) (i : ℕ) : Type 0 where
   pub found : (d : own.Slot) → slot_at n (map slot_of slots) ≡ Some (slot_of (get_or slots i d))
   pub without : slots_without n (map slot_of slots) ≡ map slot_of (remove slots i)
   pub with_parent : (parent : Lists) (d new : own.Slot) → slot_of new ≡ record (slot_of (get_or slots i d)) { parent = Some parent } → slots_with_parent n parent (map slot_of slots) ≡ map slot_of (set slots i new)
+  pub replaced : (new : own.Slot) → slots_with n (slot_of new) (map slot_of slots) ≡ map slot_of (set slots i new)
 
 further : (o : Option ℕ) (j : ℕ) → option_map (λ i. i + 1) o ≡ Some j → (i : ℕ) × (o ≡ Some i) × (j ≡ i + 1)
 further None j h = absurd cc
@@ -24,7 +26,7 @@ place_case : (n : ℕ) (x : own.Slot) (xs : List own.Slot) (i : ℕ) → place_o
 place_case n x xs i h below true t =
     let here : Some 0 ≡ Some i = rw t at h in
     let at : 0 ≡ i = cc in
-    let first : IsPlace n (x ∷ xs) 0 = record { inside = omega arith; found = λ d. rw t refl; without = rw t refl; with_parent = λ parent d new e. rw t (ap (λ (s : Slot). s ∷ map slot_of xs) (sym e)) } in
+    let first : IsPlace n (x ∷ xs) 0 = record { inside = omega arith; found = λ d. rw t refl; without = rw t refl; with_parent = λ parent d new e. rw t (ap (λ (s : Slot). s ∷ map slot_of xs) (sym e)); replaced = λ new. rw t refl } in
     let P : ℕ → Type 0 = λ k. IsPlace n (x ∷ xs) k in
     subst P at first
 place_case n x xs i h below false t =
@@ -36,6 +38,7 @@ place_case n x xs i h below false t =
       found = λ d. rw t (p.found d);
       without = rw t (ap (λ (ys : List Slot). slot_of x ∷ ys) p.without);
       with_parent = λ parent d new e. rw t (ap (λ (ys : List Slot). slot_of x ∷ ys) (p.with_parent parent d new e));
+      replaced = λ new. rw t (ap (λ (ys : List Slot). slot_of x ∷ ys) (p.replaced new));
     } in
     let P : ℕ → Type 0 = λ j. IsPlace n (x ∷ xs) j in
     subst P (sym (k.2 ∙ add-one k.0)) next

@@ -1,4 +1,5 @@
 pub mod SpaceOfLists
+pub mod Drafting
 pub mod SlotView
 pub mod Stepping
 pub mod SlotPlaces

@@ -5,7 +5,7 @@ use Rattle.ctf_library.specs.declared.publications.Publication.{Publication}
 use Rattle.ctf_library.specs.declared.slots.Slot.{Slot}
 
 abbrev pub slot_of : Slot → state.Slot
-slot_of slot = record { number = slot.number; lists = slot.own.value; parent = option_map (λ i. i.parent.value) slot.imported }
+slot_of slot = record { number = slot.number; lists = slot.own; parent = option_map (λ i. i.parent) slot.imported; draft = option_map (λ d. d.draft) slot.draft }
 
 abbrev pub publication_of : Publication → state.Publication
-publication_of p = record { name = p.name; lists = p.loaded.value }
+publication_of p = record { name = p.name; lists = p.loaded }

@@ -348,9 +348,9 @@ impl Slot {
     /// What its questions see.
     fn space(&self) -> Space<'_>
         ensures space { space_of result ≡ slot_space (slot_of self.now) }
-        ensures lists { own_lists result ≡ self.now.own.value }
+        ensures lists { own_lists result ≡ self.now.own }
         ensures parent { parent_lists result
-            ≡ option_map (λ i. i.parent.value) self.now.imported }
+            ≡ option_map (λ i. i.parent) self.now.imported }
     {
         let own = self.own.view();
         let model = self.own.model();
@@ -362,8 +362,8 @@ impl Slot {
 
     /// The tables of what its questions see.
     fn tables(&self) -> &Tables
-        ensures { AreTablesOf self.now.own.value
-            (option_map (λ i. i.parent.value) self.now.imported) result.now }
+        ensures { AreTablesOf self.now.own
+            (option_map (λ i. i.parent) self.now.imported) result.now }
     {
         match &self.imported {
             Some(imported) => &imported.tables,
@@ -389,6 +389,7 @@ impl Slot {
             Question::OfSlot(question) => {
                 whole_answer(&space, self.tables(), self.own.symbols(), question)
             }
+            Question::OfHeld(question) => Ok(self.held(*question)),
         }
     }
 }

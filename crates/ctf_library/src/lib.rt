@@ -1,10 +1,14 @@
 //! The library of one session: its slots and staged lists, and what its requests are answered.
 #![tactic(auto)]
 
+mod additions;
 mod answering;
+mod drafting;
+mod held;
 mod library;
 mod loaded;
 mod places;
+mod pool;
 mod publications;
 mod slots;
 mod staging;
@@ -13,3 +17,4 @@ mod whole;
 
 pub use library::Library;
 pub use loaded::Loaded;
+pub use pool::Pool;

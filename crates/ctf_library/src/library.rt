@@ -1,24 +1,30 @@
 //! The library of one session.
-ghost use Rattle.std.specs.Prelude.{◌≡◌, None, Some, true, option_map};
+ghost use Rattle.std.specs.Prelude.{◌≡◌, ◌⊎◌, None, Some, Ok, Err, IfOk, IfErr, OnOk, true, is_some, option_map, option_and_then, option_copied};
 ghost use Rattle.ctf_model.specs.Publications.{published_as};
 ghost use Rattle.ctf_model.specs.State.{empty_state};
-ghost use Rattle.ctf_model.specs.Steps.{answer_to, change_step, checks, clears, closes, has_room as room_in, imports, is_quiet, is_quiet_change, MayAnswer, opens, parts, publishes, publishes_lists, resets, takes};
+ghost use Rattle.ctf_library.specs.SlotView.{slot_of};
+ghost use Rattle.ctf_model.specs.Refusals.{want_of_memory, placeless as refusal};
+ghost use Rattle.ctf_model.specs.declared.faults.TheConstants.Fault.{NO_SLOT};
+ghost use Rattle.ctf_model.specs.declared.requests.DraftStep.TheVariants.{Discard};
+ghost use Rattle.ctf_model.specs.Steps.{adds_created, answer_to, change_step, checks, clears, closes, creates, has_room as room_in, imports, is_quiet, is_quiet_change, MayAnswer, opens, outcome_of, parts, publishes, publishes_lists, resets, slot_at, steps_draft, takes};
 ghost use Rattle.ctf_library.specs.Stepping.{Does, Makes};
 
+use crate::held::pending;
 use crate::loaded::Loaded;
-use crate::places::{find_slot, push_slot, remove_slot, set_parent};
+use crate::places::{find_slot, push_slot, remove_slot, set_parent, step_draft};
+use crate::pool::Pool;
 use crate::publications::{Publication, find_published};
 use crate::slots::{Imported, Slot};
 use crate::staging::{add_first_piece, add_piece, judge};
 use crate::tables::tables_over;
 use ctf_answers::{Answer, Counts};
 use ctf_model::{
-    Change, Fault, ListName, Parts, PublicationName, Question, SlotNumber, no_parts, placeless,
+    Change, Creation, DraftStep, Fault, ListName, Parts, PublicationName, Question, SlotNumber,
+    no_parts, placeless,
 };
 use std::alloc::Global;
 use std::marker::Model;
 use std::mem;
-use std::rc::Rc;
 
 /// How many slots may be in use.
 const MOST_SLOTS: usize = 255;
@@ -69,31 +75,39 @@ impl Library {
     }
 
     /// What it has published under a name.
-    pub fn published(&self, name: &[u8]) -> Option<&Rc<Loaded>>
-        ensures { option_map (λ l. l.now.value) result ≡ published_as name.now self.now.published }
+    pub fn published(&self, name: &[u8]) -> Option<&Loaded>
+        ensures { option_map (λ l. l.now) result ≡ published_as name.now self.now.published }
     {
         find_published(&self.published, name)
     }
 
-    /// Makes the step of a change, with what was found for a take. Want of memory changes nothing.
+    /// Makes the step of a change, with what was found for a take, whatever the pool holds. Want of
+    /// memory changes nothing.
     #[tactic(auto, unfolding(ctf_model::specs::Steps::change_step))]
-    pub fn step(&mut self, change: &Change, found: Option<Rc<Loaded>>) -> Result<Counts, Fault>
+    pub fn step(
+        &mut self,
+        change: &Change,
+        found: Option<Loaded>,
+        pool: &mut Pool,
+    ) -> Result<Counts, Fault>
         ensures step { Makes self.old
-            (change_step self.old change.now (option_map (λ l. l.value) found)) result self.new }
+            (change_step self.old change.now found) result self.new }
         // These take no memory.
         ensures quiet { is_quiet_change change.now ≡ true → Does
-            (change_step self.old change.now (option_map (λ l. l.value) found)) result self.new }
+            (change_step self.old change.now found) result self.new }
     {
         match change {
             Change::Part { section, bytes } => self.part(*section, bytes.as_slice()),
             Change::Check => self.check(),
-            Change::Open => self.open(),
+            Change::Open => self.open(pool),
             Change::Clear => self.clear(),
             Change::Reset => self.reset(),
             Change::Close { d } => self.close(d.get()),
             Change::Import { d, parent } => self.import(d.get(), parent.get()),
             Change::Publish { d, name } => self.publish(d.get(), name),
             Change::Take { .. } => self.take(found),
+            Change::Create(creation) => self.create(creation),
+            Change::Draft { d, step } => self.step_draft(d.get(), step),
         }
     }
 
@@ -127,7 +141,7 @@ impl Library {
         self.slots.len() < MOST_SLOTS && self.next <= u64::from(u32::MAX)
     }
 
-    fn open(&mut self) -> Result<Counts, Fault>
+    fn open(&mut self, pool: &mut Pool) -> Result<Counts, Fault>
         ensures { Makes self.old (opens self.old) result self.new }
     {
         if !self.has_room() {
@@ -137,11 +151,11 @@ impl Library {
             return Err(placeless(Fault::MEMORY));
         }
         let parts = mem::replace(&mut self.stage, no_parts(self.alloc));
-        match Loaded::shared(self.alloc, parts) {
+        match pool.open(parts) {
             Ok(loaded) => {
                 let number = self.next as u32;
                 let types = loaded.view().count() as u64;
-                push_slot(&mut self.slots, number, loaded);
+                push_slot(&mut self.slots, Slot::of(number, loaded));
                 self.next += 1;
                 Ok(Counts::two("d", u64::from(number), "types", types))
             }
@@ -185,11 +199,14 @@ impl Library {
         let Some(source) = find_slot(&self.slots, parent) else {
             return Err(placeless(Fault::NO_SLOT));
         };
+        if child.draft.is_some() {
+            return Err(placeless(Fault::FIXED_PARENT));
+        }
         let tables = match tables_over(self.alloc, &child.own, &source.own) {
             Ok(tables) => tables,
             Err(fault) => return Err(fault),
         };
-        let Ok(parent) = source.own.clone() else {
+        let Ok(parent) = source.own.share() else {
             return Err(placeless(Fault::MEMORY));
         };
         set_parent(&mut self.slots, d, Imported { parent, tables });
@@ -202,7 +219,10 @@ impl Library {
         let Some(slot) = find_slot(&self.slots, d) else {
             return Err(placeless(Fault::NO_SLOT));
         };
-        let Ok(loaded) = slot.own.clone() else {
+        if pending(&slot.draft) > 0 {
+            return Err(placeless(Fault::NOT_UPDATED));
+        }
+        let Ok(loaded) = slot.own.share() else {
             return Err(placeless(Fault::MEMORY));
         };
         self.publish_loaded(name, loaded)
@@ -212,9 +232,9 @@ impl Library {
     pub fn publish_loaded(
         &mut self,
         name: &PublicationName,
-        loaded: Rc<Loaded>,
+        loaded: Loaded,
     ) -> Result<Counts, Fault>
-        ensures { Makes self.old (publishes_lists name.now loaded.value self.old) result self.new }
+        ensures { Makes self.old (publishes_lists name.now loaded self.old) result self.new }
     {
         if self.published(name.as_slice()).is_some() {
             return Err(placeless(Fault::NAME_TAKEN));
@@ -229,8 +249,8 @@ impl Library {
         Ok(Counts::done())
     }
 
-    fn take(&mut self, found: Option<Rc<Loaded>>) -> Result<Counts, Fault>
-        ensures { Makes self.old (takes (option_map (λ l. l.value) found) self.old)
+    fn take(&mut self, found: Option<Loaded>) -> Result<Counts, Fault>
+        ensures { Makes self.old (takes found self.old)
             result self.new }
     {
         if !self.has_room() {
@@ -244,9 +264,68 @@ impl Library {
         }
         let number = self.next as u32;
         let types = loaded.view().count() as u64;
-        push_slot(&mut self.slots, number, loaded);
+        push_slot(&mut self.slots, Slot::of(number, loaded));
         self.next += 1;
         Ok(Counts::two("d", u64::from(number), "types", types))
+    }
+
+    /// The dictionary of a slot, if one is named.
+    fn parent_at(&self, d: Option<SlotNumber>) -> Result<Option<&Loaded>, Fault>
+        ensures ok { IfOk result (λ parent. option_copied parent
+            ≡ option_and_then (λ d. option_map (λ s. s.lists) (slot_at d self.now.slots)) d) }
+        ensures there { IfOk result (λ parent. is_some parent ≡ is_some d) }
+        ensures err { IfErr result (λ f. (f ≡ refusal NO_SLOT)
+            × (option_and_then (λ d. slot_at d self.now.slots) d ≡ None) × (is_some d ≡ true)) }
+    {
+        let Some(d) = d else {
+            return Ok(None);
+        };
+        match find_slot(&self.slots, d.get()) {
+            Some(slot) => Ok(Some(&slot.own)),
+            None => Err(placeless(Fault::NO_SLOT)),
+        }
+    }
+
+    fn create(&mut self, creation: &Creation) -> Result<Counts, Fault>
+        ensures { Makes self.old (creates creation.now self.old) result self.new }
+    {
+        if self.slots.reserve(1).is_err() {
+            return Err(placeless(Fault::MEMORY));
+        }
+        let slot = match self.created(creation) {
+            Ok(slot) => slot,
+            Err(fault) => return Err(fault),
+        };
+        let number = slot.number;
+        push_slot(&mut self.slots, slot);
+        self.next += 1;
+        Ok(Counts::one("d", u64::from(number)))
+    }
+
+    /// The slot of a new draft, under the next number.
+    fn created(&self, creation: &Creation) -> Result<Slot, Fault>
+        ensures ok { IfOk result (λ slot. (creates creation.now self.now
+            ≡ adds_created (Ok (slot_of slot)) self.now) × (slot.number ≡ self.now.next)) }
+        ensures room { OnOk result (room_in self.now ≡ true) }
+        ensures exact_err { IfErr result (λ f. (f ≡ want_of_memory)
+            ⊎ (creates creation.now self.now ≡ outcome_of (Err f) self.now)) }
+    {
+        let parent = match self.parent_at(creation.parent()) {
+            Ok(parent) => parent,
+            Err(fault) => return Err(fault),
+        };
+        if !self.has_room() {
+            return Err(placeless(Fault::SLOTS_FULL));
+        }
+        Slot::create(self.alloc, self.next as u32, parent, creation)
+    }
+
+    fn step_draft(&mut self, d: u32, step: &DraftStep) -> Result<Counts, Fault>
+        ensures step { Makes self.old (steps_draft d step.now self.old) result self.new }
+        ensures quiet { step.now ≡ Discard
+            → Does (steps_draft d step.now self.old) result self.new }
+    {
+        step_draft(self.alloc, &mut self.slots, d, step)
     }
 
     /// Answers a question to a slot. Names and lists are lent from its dictionary, or its parent.

@@ -17,16 +17,22 @@ use std::alloc::{AllocError, Global};
 use std::marker::Model;
 use std::rc::Rc;
 
-/// A dictionary that was opened, the map of its symbols, and the tables that it has without a
-/// parent.
+/// What is kept of a dictionary beside it: the map of its symbols, and the tables that it has
+/// without a parent.
+#[derive(Drop)]
+pub(crate) struct Beside {
+    symbols: SymbolMap,
+    tables: Tables,
+}
+
+/// A dictionary that was opened, and what is kept beside it.
 ///
 /// None of it ever changes, so slots of any sessions, publications and the slots that imported it
 /// share it. A contract sees its lists alone.
 #[derive(Drop)]
 pub struct Loaded {
-    dictionary: Opened,
-    symbols: SymbolMap,
-    tables: Tables,
+    dictionary: Rc<Opened>,
+    beside: Rc<Beside>,
 }
 
 impl Model for Loaded {
@@ -38,22 +44,25 @@ impl Model for Loaded {
 
     ghost Value = { Lists };
 
-    ghost view = { λ l. l.dictionary.lists };
+    ghost view = { λ l. l.dictionary.value.lists };
 
-    ghost invariant = { λ l. (l.dictionary.model ≡ Lp64)
-        × Fits l.dictionary.lists l.symbols
-        × AreTablesOf l.dictionary.lists None l.tables };
+    ghost invariant = { λ l. (l.dictionary.value.model ≡ Lp64)
+        × Fits l.dictionary.value.lists l.beside.value.symbols
+        × AreTablesOf l.dictionary.value.lists None l.beside.value.tables };
 }
 
-/// What is kept beside a dictionary: the map of its symbols, and its tables.
-fn kept(alloc: Global, dictionary: &Opened) -> Result<(SymbolMap, Tables), AllocError>
+/// What is kept beside a dictionary.
+fn kept(alloc: Global, dictionary: &Opened) -> Result<Rc<Beside>, AllocError>
     requires { dictionary.now.model ≡ Lp64 }
-    ensures mapped { IfOk result (λ k. Fits dictionary.now.lists k.0) }
-    ensures made { IfOk result (λ k. AreTablesOf dictionary.now.lists None k.1) }
+    ensures mapped { IfOk result (λ k. Fits dictionary.now.lists k.value.symbols) }
+    ensures made { IfOk result (λ k. AreTablesOf dictionary.now.lists None k.value.tables) }
 {
     let symbols = SymbolMap::build(alloc, &dictionary.view())?;
     let tables = Tables::build(alloc, dictionary)?;
-    Ok((symbols, tables))
+    match Rc::new(alloc, Beside { symbols, tables }) {
+        Ok(kept) => Ok(kept),
+        Err(_) => Err(AllocError),
+    }
 }
 
 impl Loaded {
@@ -63,19 +72,18 @@ impl Loaded {
         ensures ok { IfOk result (λ l. l ≡ dictionary.lists) }
         ensures back { IfErr result (λ d. d ≡ dictionary) }
     {
-        match kept(alloc, &dictionary) {
-            Ok((symbols, tables)) => Ok(Loaded {
-                dictionary,
-                symbols,
-                tables,
-            }),
-            Err(_) => Err(dictionary),
+        let Ok(beside) = kept(alloc, &dictionary) else {
+            return Err(dictionary);
+        };
+        match Rc::new(alloc, dictionary) {
+            Ok(dictionary) => Ok(Loaded { dictionary, beside }),
+            Err(failed) => Err(failed.value),
         }
     }
 
-    /// A dictionary of lists, to be shared, or its first fault with the lists.
-    pub fn shared(alloc: Global, parts: Parts) -> Result<Rc<Loaded>, (Fault, Parts)>
-        ensures ok { IfOk result (λ l. l.value ≡ lists_owned parts) }
+    /// The dictionary of lists, or its first fault with the lists.
+    pub fn build(alloc: Global, parts: Parts) -> Result<Loaded, (Fault, Parts)>
+        ensures ok { IfOk result (λ l. l ≡ lists_owned parts) }
         ensures exact_ok { OnOk result (first_fault (lists_owned parts) ≡ None) }
         ensures exact_err { IfErr result (λ e. (e.0 ≡ want_of_memory)
             ⊎ (first_fault (lists_owned parts) ≡ Some e.0)) }
@@ -86,20 +94,26 @@ impl Loaded {
             Err(refused) => return Err(refused),
         };
         match Loaded::of(alloc, dictionary) {
-            Ok(loaded) => match Rc::new(alloc, loaded) {
-                Ok(shared) => Ok(shared),
-                Err(failed) => Err((placeless(Fault::MEMORY), failed.value.into_parts())),
-            },
+            Ok(loaded) => Ok(loaded),
             Err(dictionary) => Err((placeless(Fault::MEMORY), dictionary.into_parts())),
         }
     }
 
-    /// Its lists, handed back.
-    fn into_parts(self) -> Parts
-        ensures { lists_owned result ≡ self }
+    /// The same dictionary, shared once more.
+    pub fn share(&self) -> Result<Loaded, AllocError>
+        ensures { IfOk result (λ l. l ≡ self.now) }
     {
-        let Loaded { dictionary, .. } = self;
-        dictionary.into_parts()
+        let dictionary = self.dictionary.clone()?;
+        let beside = self.beside.clone()?;
+        Ok(Loaded { dictionary, beside })
+    }
+
+    /// The dictionary, to be kept by a draft over it, or by its own draft.
+    pub(crate) fn opened(&self) -> Result<Rc<Opened>, AllocError>
+        ensures lists { IfOk result (λ o. o.value.lists ≡ self.now) }
+        ensures model { IfOk result (λ o. o.value.model ≡ Lp64) }
+    {
+        self.dictionary.clone()
     }
 
     /// The dictionary, lent.
@@ -120,13 +134,13 @@ impl Loaded {
     pub(crate) fn symbols(&self) -> &SymbolMap
         ensures { Fits self.now result.now }
     {
-        &self.symbols
+        &self.beside.symbols
     }
 
     /// Its tables without a parent.
     pub(crate) fn tables(&self) -> &Tables
         ensures { AreTablesOf self.now None result.now }
     {
-        &self.tables
+        &self.beside.tables
     }
 }

@@ -1,5 +1,8 @@
 //! Slots by their numbers.
-ghost use Rattle.std.specs.Prelude.{◌≡◌, ◌<◌, ◌+◌, ◌++◌, ◌∷◌, [], ℕ, true, map, option_map, option_copied, IfNone, IfSome, None, Some, vec_len, vec_capacity};
+ghost use Rattle.std.specs.Prelude.{◌≡◌, ◌≢◌, Err, ◌<◌, ◌+◌, ◌++◌, ◌∷◌, [], ℕ, true, map, option_map, option_copied, IfNone, IfSome, None, Some, vec_len, vec_capacity};
+ghost use Rattle.ctf_library.specs.Drafting.{HaveStepped};
+ghost use Rattle.ctf_model.specs.Refusals.{want_of_memory};
+ghost use Rattle.ctf_model.specs.declared.requests.DraftStep.TheVariants.{Discard};
 ghost use Rattle.ctf_model.specs.Steps.{fault_over, slot_at, slots_with_parent, slots_without};
 ghost use Rattle.std.specs.List.Sorted.{IsNonDecreasingBy};
 ghost use Rattle.ctf_library.specs.SlotOrder.{rise_between};
@@ -7,9 +10,10 @@ ghost use Rattle.ctf_library.specs.SlotPlaces.{place_of};
 ghost use Rattle.ctf_library.specs.Fitting.{AreTablesOf};
 ghost use Rattle.ctf_library.specs.SlotView.{slot_of};
 
-use crate::loaded::Loaded;
 use crate::slots::{Imported, Slot};
-use std::rc::Rc;
+use ctf_answers::Counts;
+use ctf_model::{DraftStep, Fault, placeless};
+use std::alloc::Global;
 
 /// The place of the slot of a number, found by halves.
 fn find_place(slots: &[Slot], number: u32) -> Option<usize>
@@ -37,19 +41,14 @@ pub fn find_slot(slots: &[Slot], number: u32) -> Option<&Slot>
     }
 }
 
-/// A new slot for a dictionary, behind the others, where room was made for it.
-pub fn push_slot(slots: &mut Vec<Slot>, number: u32, loaded: Rc<Loaded>)
+/// A new slot behind the others, where room was made for it.
+pub fn push_slot(slots: &mut Vec<Slot>, slot: Slot)
     requires room { vec_len slots.old < vec_capacity slots.old }
-    ensures slots { map slot_of slots.new.items ≡ map slot_of slots.old.items
-        ++ record { number = number; lists = loaded.value; parent = None } ∷ [] }
-    ensures rise { rise_between 0 slots.old.items number ≡ true
-        → rise_between 0 slots.new.items (number + 1) ≡ true }
+    ensures slots { map slot_of slots.new.items ≡ map slot_of slots.old.items ++ slot_of slot ∷ [] }
+    ensures rise { rise_between 0 slots.old.items slot.number ≡ true
+        → rise_between 0 slots.new.items (slot.number + 1) ≡ true }
 {
-    slots.push_reserved(Slot {
-        number,
-        own: loaded,
-        imported: None,
-    });
+    slots.push_reserved(slot);
 }
 
 /// Takes the slot of a number out.
@@ -72,16 +71,39 @@ pub fn remove_slot(slots: &mut Vec<Slot>, number: u32) -> Option<Slot>
 pub fn set_parent(slots: &mut Vec<Slot>, number: u32, imported: Imported)
     requires order { IsNonDecreasingBy (λ s. s.number) slots.old.items }
     requires fits { IfSome (slot_at number (map slot_of slots.old.items))
-        (λ slot. fault_over slot.lists imported.parent.value ≡ None) }
+        (λ slot. fault_over slot.lists imported.parent ≡ None) }
+    requires undrafted { IfSome (slot_at number (map slot_of slots.old.items))
+        (λ slot. slot.draft ≡ None) }
     requires made { IfSome (slot_at number (map slot_of slots.old.items))
-        (λ slot. AreTablesOf slot.lists (Some imported.parent.value) imported.tables) }
+        (λ slot. AreTablesOf slot.lists (Some imported.parent) imported.tables) }
     ensures slots { map slot_of slots.new.items
-        ≡ slots_with_parent number imported.parent.value (map slot_of slots.old.items) }
+        ≡ slots_with_parent number imported.parent (map slot_of slots.old.items) }
     ensures rise { (next : ℕ) → rise_between 0 slots.old.items next ≡ true
         → rise_between 0 slots.new.items next ≡ true }
 {
     if let Some(place) = find_place(slots, number) {
         let slot = &mut slots[place];
         slot.imported = Some(imported);
+    }
+}
+
+/// Makes a step of the draft in the slot of a number. Want of memory changes nothing.
+pub fn step_draft(
+    alloc: Global,
+    slots: &mut Vec<Slot>,
+    number: u32,
+    step: &DraftStep,
+) -> Result<Counts, Fault>
+    requires { IsNonDecreasingBy (λ s. s.number) slots.old.items }
+    ensures slots { HaveStepped step.now number result (map slot_of slots.old.items)
+        (map slot_of slots.new.items) }
+    ensures rise { (next : ℕ) → rise_between 0 slots.old.items next ≡ true
+        → rise_between 0 slots.new.items next ≡ true }
+    // This takes no memory.
+    ensures quiet { step.now ≡ Discard → result ≢ Err want_of_memory }
+{
+    match find_place(slots, number) {
+        Some(place) => slots[place].step(alloc, step),
+        None => Err(placeless(Fault::NO_SLOT)),
     }
 }

@@ -5,18 +5,17 @@ ghost use Rattle.ctf_model.specs.Publications.{published_as};
 
 use crate::loaded::Loaded;
 use ctf_model::PublicationName;
-use std::rc::Rc;
 
 /// A dictionary under the name that it was published by.
 #[derive(Drop)]
 pub struct Publication {
     pub(crate) name: PublicationName,
-    pub(crate) loaded: Rc<Loaded>,
+    pub(crate) loaded: Loaded,
 }
 
 /// What is published under a name.
-pub fn find_published<'a>(published: &'a [Publication], name: &[u8]) -> Option<&'a Rc<Loaded>>
-    ensures { option_map (λ rc. rc.now.value) result
+pub fn find_published<'a>(published: &'a [Publication], name: &[u8]) -> Option<&'a Loaded>
+    ensures { option_map (λ l. l.now) result
         ≡ published_as name.now (map publication_of published.now) }
 {
     for publication in published {

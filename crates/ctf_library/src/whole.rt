@@ -6,10 +6,9 @@ ghost use Rattle.ctf_entries.specs.FunctionView.{signature};
 ghost use Rattle.ctf_library.specs.Fitting.{Serve};
 ghost use Rattle.ctf_model.specs.Entries.{owner_of};
 ghost use Rattle.ctf_model.specs.Questions.{as_fields};
-ghost use Rattle.ctf_model.specs.SlotAnswers.{info_fields, last_fields, signature_fields, symbol_fields, whole_said};
+ghost use Rattle.ctf_model.specs.SlotAnswers.{last_fields, signature_fields, symbol_fields, whole_said};
 ghost use Rattle.ctf_model.specs.SymbolQuestions.{or_refused};
 ghost use Rattle.ctf_model.specs.declared.faults.TheConstants.Fault.{NO_SYMBOL};
-ghost use Rattle.ctf_check.specs.CheckedView.{dictionary_of};
 ghost use Rattle.ctf_space.specs.SpaceView.{own_lists, space_of};
 ghost use Rattle.ctf_symbols.specs.Fitting.{Fits};
 ghost use Rattle.ctf_symbols.specs.NamedView.{owner_named};
@@ -17,7 +16,6 @@ ghost use Rattle.ctf_symbols.specs.NamedView.{owner_named};
 use crate::answering::{listed, signed, type_answer};
 use crate::tables::Tables;
 use ctf_answers::{Answer, Items, Single, class_name};
-use ctf_check::Checked;
 use ctf_entries::Signature;
 use ctf_model::{Fault, SlotQuestion, placeless};
 use ctf_names::find;
@@ -56,21 +54,6 @@ fn last_answer<'a>(last: Result<u32, Fault>) -> Result<Answer<'a>, Fault>
     }
 }
 
-/// What a dictionary is as a whole. One that was opened has nothing pending.
-fn info<'a>(dictionary: &Checked<'a>, imported: bool) -> Answer<'a>
-    ensures { result ≡ info_fields (dictionary_of dictionary.now) imported }
-{
-    Answer::done()
-        .with("child", Single::Truth(dictionary.child()))
-        .with("draft", Single::Truth(false))
-        .with("imported", Single::Truth(imported))
-        .with("labels", Single::Number(dictionary.labels().len() as u64))
-        .with("parlabel", Single::Text(dictionary.parlabel()))
-        .with("parname", Single::Text(dictionary.parname()))
-        .with("pending", Single::Number(0))
-        .with("types", Single::Number(dictionary.count() as u64))
-}
-
 /// What a question on a slot as a whole is answered, without memory.
 pub(crate) fn whole_answer<'a>(
     space: &Space<'a>,
@@ -90,6 +73,5 @@ pub(crate) fn whole_answer<'a>(
         SlotQuestion::Function(number) => function_answer(symbols.function(&own, *number)),
         SlotQuestion::Labels(window) => Ok(listed("labels", Items::Labels(own.labels()), *window)),
         SlotQuestion::Label(name) => last_answer(symbols.label(&own, name.as_slice())),
-        SlotQuestion::Info => Ok(info(&own, space.parent_count().is_some())),
     }
 }

@@ -3,4 +3,4 @@ pub mod NameText
 pub mod Short
 pub mod MemoryLine
 pub mod Fronts
-pub mod SpelledNames
+pub mod SaidItems

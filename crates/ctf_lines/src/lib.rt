@@ -1,6 +1,8 @@
 //! Lines of text: requests are read from them, and replies are written as them.
 #![tactic(auto)]
 
+mod additions;
+mod drafts;
 mod fields;
 mod lines;
 mod names;

@@ -1,17 +1,19 @@
 //! Reads the request of a line.
 ghost use Rattle.std.specs.Prelude.{◌≡◌, ◌≢◌, ◌≤◌, IfSome, Option, None, Some, IfOk, IfErr, Ok, Err, codes, option_map};
 ghost use Rattle.serde_json.specs.View.{view};
-ghost use Rattle.ctf_model.specs.Ask.{ask, number_in, text_in, list_named, slot_under as slot_named, slot_in, type_in, close_asked, import_asked, publication_asked, publish_asked, take_asked, about_type as type_question_asked, about_slot as slot_question_asked, name_under as name_asked, symbol_asked, show_asked, from_asked, count_asked, window_asked, names_asked, part_asked, word_asked, asked_with, request_asked, value_asked};
+ghost use Rattle.ctf_model.specs.Ask.{ask, list_named, close_asked, import_asked, publication_asked, publish_asked, take_asked, about_type as type_question_asked, about_slot as slot_question_asked, about_held as held_question_asked, bytes_asked, symbol_asked, show_asked, names_asked, part_asked, word_asked, asked_with, request_asked, value_asked};
+ghost use Rattle.ctf_model.specs.LineFields.{number_in, text_in, slot_under as slot_named, slot_in, type_in, name_under as name_asked, from_asked, count_asked, window_asked};
 ghost use Rattle.ctf_model.specs.Refusals.{placeless};
 ghost use Rattle.ctf_model.specs.declared.faults.TheConstants.Fault.{MEMORY};
 ghost use Rattle.ctf_model.specs.declared.questions.SlotQuestion.TheVariants as whole;
 ghost use Rattle.ctf_model.specs.declared.questions.TypeQuestion.TheVariants as about;
 
+use crate::drafts::{add, create, discard, update};
 use crate::lines::FromLine;
 use crate::spelled::{name, names, piece};
 use ctf_model::{
-    Change, Fault, ListName, Names, Piece, PublicationName, Question, Request, SlotNumber,
-    SlotQuestion, TypeNum, TypeQuestion, Window, Word, placeless,
+    Change, Fault, HeldQuestion, ListName, Names, Piece, PublicationName, Question, Request,
+    SlotNumber, SlotQuestion, TypeNum, TypeQuestion, Window, Word, placeless,
 };
 use serde_json::Value;
 use std::alloc::{AllocError, Global};
@@ -61,7 +63,7 @@ fn read_value(alloc: Global, value: &Value) -> Result<(u32, Request), (u32, Faul
 }
 
 /// The number of a field, where it is there and in its range.
-fn number(value: &Value, key: &str, low: u64, high: u64) -> Option<u64>
+pub(crate) fn number(value: &Value, key: &str, low: u64, high: u64) -> Option<u64>
     ensures number { result ≡ number_in low high key.now (view value.now) }
     ensures in_range { IfSome result (λ n. (low ≤ n) × (n ≤ high)) }
 {
@@ -74,7 +76,7 @@ fn number(value: &Value, key: &str, low: u64, high: u64) -> Option<u64>
 }
 
 /// The text of a field.
-fn text<'a>(value: &'a Value, key: &str) -> Option<&'a str>
+pub(crate) fn text<'a>(value: &'a Value, key: &str) -> Option<&'a str>
     ensures { option_map (λ s. s.now) result ≡ text_in key.now (view value.now) }
 {
     value.get(key)?.as_str()
@@ -110,6 +112,10 @@ fn read_word(alloc: Global, value: &Value, word: Word) -> Result<Option<Request>
         Word::DoImport => Ok(import(value)),
         Word::DoPublish => publish(alloc, value),
         Word::DoTake => take(alloc, value),
+        Word::DoCreate => create(alloc, value),
+        Word::DoAdd => add(alloc, value),
+        Word::DoUpdate => Ok(update(value)),
+        Word::DoDiscard => Ok(discard(value)),
         Word::DoKind => Ok(about_type(value, Some(TypeQuestion::Kind))),
         Word::DoRecord => Ok(about_type(value, Some(TypeQuestion::Record))),
         Word::DoMembers => Ok(about_type(value, members(value))),
@@ -131,19 +137,20 @@ fn read_word(alloc: Global, value: &Value, word: Word) -> Result<Option<Request>
         Word::DoFunction => Ok(about_slot(value, function(value))),
         Word::DoLabels => Ok(about_slot(value, labels(value))),
         Word::DoLabel => Ok(about_slot(value, label(alloc, value)?)),
-        Word::DoInfo => Ok(about_slot(value, Some(SlotQuestion::Info))),
+        Word::DoInfo => Ok(about_held(value, Some(HeldQuestion::Info))),
+        Word::DoBytes => Ok(about_held(value, bytes(value))),
     }
 }
 
 /// The number of a slot in a field.
-fn slot_under(value: &Value, key: &str) -> Option<SlotNumber>
+pub(crate) fn slot_under(value: &Value, key: &str) -> Option<SlotNumber>
     ensures { result ≡ slot_named key.now (view value.now) }
 {
     let number = number(value, key, 1, u64::from(u32::MAX))?;
     SlotNumber::new(number as u32)
 }
 
-fn slot(value: &Value) -> Option<SlotNumber>
+pub(crate) fn slot(value: &Value) -> Option<SlotNumber>
     ensures { result ≡ slot_in (view value.now) }
 {
     slot_under(value, "d")
@@ -201,7 +208,7 @@ fn take(alloc: Global, value: &Value) -> Result<Option<Request>, AllocError>
     }
 }
 
-fn type_number(value: &Value) -> Option<TypeNum>
+pub(crate) fn type_number(value: &Value) -> Option<TypeNum>
     ensures { result ≡ type_in (view value.now) }
 {
     let number = number(value, "t", 0, u64::from(u16::MAX))?;
@@ -289,7 +296,11 @@ fn show(alloc: Global, value: &Value) -> Result<Option<TypeQuestion>, AllocError
 }
 
 /// The name that a field spells.
-fn name_under(alloc: Global, value: &Value, key: &str) -> Result<Option<Piece>, AllocError>
+pub(crate) fn name_under(
+    alloc: Global,
+    value: &Value,
+    key: &str,
+) -> Result<Option<Piece>, AllocError>
     ensures { IfOk result (λ name. name ≡ name_asked key.now (view value.now)) }
 {
     match value.get(key) {
@@ -364,6 +375,30 @@ fn about_slot(value: &Value, question: Option<SlotQuestion>) -> Option<Request>
     Some(Request::Asks {
         d,
         question: Question::OfSlot(question),
+    })
+}
+
+/// The bytes that are wanted of a dictionary: the first of them, and at most how many.
+fn bytes(value: &Value) -> Option<HeldQuestion>
+    ensures { result ≡ bytes_asked (view value.now) }
+{
+    let from = number(value, "from", 0, u64::from(u32::MAX))?;
+    let count = number(value, "count", 0, 1_048_576)?;
+    Some(HeldQuestion::Bytes {
+        from: from as u32,
+        count: count as u32,
+    })
+}
+
+/// A question on what a slot holds, where its own fields are good.
+fn about_held(value: &Value, question: Option<HeldQuestion>) -> Option<Request>
+    ensures { result ≡ held_question_asked question (view value.now) }
+{
+    let question = question?;
+    let d = slot(value)?;
+    Some(Request::Asks {
+        d,
+        question: Question::OfHeld(question),
     })
 }
 

@@ -6,6 +6,15 @@ use Rattle.std.specs.Option.{option_map}
 use Rattle.std.specs.Cmp.Derive.{both_true}
 use Rattle.std.proofs.lemmas.List.{take-append-drop}
 use Rattle.std.proofs.lemmas.List.Folds.{list_all-append}
+use Rattle.ctf_model.specs.Adders.{Added}
+use Rattle.ctf_model.specs.Additions.{enlarged, numbered, silent}
+use Rattle.ctf_model.specs.Creations.{Created}
+use Rattle.ctf_model.specs.DraftSteps.{created_slot, draft_step, enlarges, slot_step, step_if_draft, updates_to}
+use Rattle.ctf_model.specs.Drafts.{Draft, held}
+use Rattle.ctf_model.specs.HeldAnswers.{pending_in}
+use Rattle.ctf_model.specs.Written.{written}
+use Rattle.ctf_model.specs.declared.additions.Addition.{Addition}
+use Rattle.ctf_model.specs.declared.additions.Addition.TheVariants as add
 use Rattle.ctf_model.specs.Answers.{Answer, Item, Single, number, truth, word, text, says, may_say}
 use Rattle.ctf_model.specs.Faults.{first_fault}
 use Rattle.ctf_model.specs.Found.{found, pointer_to}
@@ -20,13 +29,14 @@ use Rattle.ctf_model.specs.SlotAnswers.{symbol_fields, signature_fields, label_i
 use Rattle.ctf_model.specs.SymbolQuestions.{symbol_found, object_of, function_of, label_of}
 use Rattle.ctf_model.specs.Shown.{Facts, facts, members_in, enumerators_in, arguments_in, array_in, encoding_in, list_length}
 use Rattle.ctf_model.specs.State.{State, Slot}
-use Rattle.ctf_model.specs.Steps.{change_step, with_slot, grants, slots_without, imports_unless, fault_over, publishes_lists, takes, takes_found, stages, opens, opens_unless, has_room, accepts_unless, longest_list, slot_at, slot_space, said_by_slot}
+use Rattle.ctf_model.specs.Steps.{change_step, with_slot, grants, slots_without, imports_unless, fault_over, publishes_lists, publishes_slot, imports_into, takes, takes_found, adds_created, creates_over, creates_from, slot_becomes, stages, opens, opens_unless, has_room, accepts_unless, longest_list, slot_at, slot_space, said_by_slot}
 use Rattle.ctf_model.specs.Space.{Space, space_type}
 use Rattle.ctf_model.specs.Term.{Term}
 use Rattle.ctf_model.specs.TypeNames.{spelled_name}
 use Rattle.ctf_model.specs.Values.{value_text}
 use Rattle.ctf_model.specs.declared.faults.Fault.{Fault}
-use Rattle.ctf_model.specs.declared.questions.Question.TheVariants.{OfType, OfSlot}
+use Rattle.ctf_model.specs.declared.questions.Question.TheVariants.{OfType, OfSlot, OfHeld}
+use Rattle.ctf_model.specs.declared.questions.HeldQuestion.TheVariants as holding
 use Rattle.ctf_model.specs.declared.questions.SlotQuestion.{SlotQuestion}
 use Rattle.ctf_model.specs.declared.questions.SlotQuestion.TheVariants as whole
 use Rattle.ctf_model.specs.declared.questions.TypeQuestion.{TypeQuestion}
@@ -35,6 +45,8 @@ use Rattle.ctf_model.specs.declared.questions.Question.{Question}
 use Rattle.ctf_model.specs.declared.questions.Window.{Window}
 use Rattle.ctf_model.specs.declared.requests.ListName.{ListName}
 use Rattle.ctf_model.specs.declared.requests.Change.TheVariants as change
+use Rattle.ctf_model.specs.declared.requests.DraftStep.{DraftStep}
+use Rattle.ctf_model.specs.declared.requests.DraftStep.TheVariants as steps
 use Rattle.ctf_model.specs.declared.requests.Request.TheVariants.{Changes, Asks}
 
 -- ---- items
@@ -119,12 +131,13 @@ on_whole (whole.Object n) s = figure type_fields (λ t. refl) (object_of s.own n
 on_whole (whole.Function n) s = figure signature_fields (λ f. arguments_rise f.ret f.args) (function_of s.own n)
 on_whole (whole.Labels window) s = listed (windowed window (map label_item s.own.labels)) true (in_window window (map label_item s.own.labels) (each label_item (λ x. refl) s.own.labels)) refl
 on_whole (whole.Label name) s = figure last_fields (λ n. refl) (label_of s.own name)
-on_whole whole.Info s = refl
 
 of_slot : (question : Question) (slot : Option Slot) → IsInOrder (said_by_slot question slot)
 of_slot question None = tt
 of_slot (OfType t question) (Some slot) = of_type question (slot_space slot) t.0 (space_type (slot_space slot) t.0)
 of_slot (OfSlot question) (Some slot) = on_whole question (slot_space slot)
+of_slot (OfHeld holding.Info) (Some slot) = refl
+of_slot (OfHeld (holding.Bytes from count)) (Some slot) = refl
 
 -- ---- changes
 
@@ -152,18 +165,26 @@ imported : (fault : Option Fault) (d : ℕ) (parent : Lists) (state : State) →
 imported None d parent state = refl
 imported (Some fault) d parent state = tt
 
-importing : (d : ℕ) (child parent : Option Slot) (state : State) → IsInOrder (with_slot (λ c. with_slot (λ p. imports_unless (fault_over c.lists p.lists) d p.lists state) parent state) child state).reply.outcome
+import_of : (drafted : Bool) (child : Slot) (d : ℕ) (parent : Lists) (state : State) → is_some child.draft ≡ drafted → IsInOrder (imports_into child d parent state).reply.outcome
+import_of true child d parent state e = rw e tt
+import_of false child d parent state e = rw e (imported (fault_over child.lists parent) d parent state)
+
+importing : (d : ℕ) (child parent : Option Slot) (state : State) → IsInOrder (with_slot (λ c. with_slot (λ p. imports_into c d p.lists state) parent state) child state).reply.outcome
 importing d None parent state = tt
 importing d (Some c) None state = tt
-importing d (Some c) (Some p) state = imported (fault_over c.lists p.lists) d p.lists state
+importing d (Some c) (Some p) state = import_of _ c d p.lists state refl
 
 published : (taken : Bool) (name : List ℕ) (lists : Lists) (state : State) → is_some (published_as name state.published) ≡ taken → IsInOrder (publishes_lists name lists state).reply.outcome
 published true name lists state e = rw e tt
 published false name lists state e = rw e refl
 
-publishing : (name : List ℕ) (slot : Option Slot) (state : State) → IsInOrder (with_slot (λ s. publishes_lists name s.lists state) slot state).reply.outcome
+publish_of : (late : Bool) (name : List ℕ) (slot : Slot) (state : State) → nat_lt 0 (pending_in slot.draft) ≡ late → IsInOrder (publishes_slot name slot state).reply.outcome
+publish_of true name slot state e = rw e tt
+publish_of false name slot state e = rw e (published _ name slot.lists state refl)
+
+publishing : (name : List ℕ) (slot : Option Slot) (state : State) → IsInOrder (with_slot (λ s. publishes_slot name s state) slot state).reply.outcome
 publishing name None state = tt
-publishing name (Some slot) state = published _ name slot.lists state refl
+publishing name (Some slot) state = publish_of _ name slot state refl
 
 taken : (found : Option Lists) (state : State) → IsInOrder (takes_found found state).reply.outcome
 taken None state = tt
@@ -172,6 +193,58 @@ taken (Some lists) state = refl
 taking : (found : Option Lists) (state : State) (room : Bool) → has_room state ≡ room → IsInOrder (takes found state).reply.outcome
 taking found state true e = rw e (taken found state)
 taking found state false e = rw e tt
+
+-- ---- drafts
+
+created : (slot : Result Slot Fault) (state : State) → IsInOrder (adds_created slot state).reply.outcome
+created (Ok slot) state = refl
+created (Err fault) state = tt
+
+created_over : (room : Bool) (parent : Option Lists) (asked : Created) (state : State) → has_room state ≡ room → IsInOrder (creates_over parent asked state).reply.outcome
+created_over true parent asked state e = rw e (created (created_slot state.next parent asked) state)
+created_over false parent asked state e = rw e tt
+
+created_on : (slot : Option Slot) (asked : Created) (state : State) → IsInOrder (with_slot (λ s. creates_over (Some s.lists) asked state) slot state).reply.outcome
+created_on None asked state = tt
+created_on (Some slot) asked state = created_over _ (Some slot.lists) asked state refl
+
+created_from : (parent : Option ℕ) (asked : Created) (state : State) → IsInOrder (creates_from parent asked state).reply.outcome
+created_from None asked state = created_over _ None asked state refl
+created_from (Some p) asked state = created_on (slot_at p state.slots) asked state
+
+offset_said : (slot : Slot) (added : Result Added Fault) → IsInOrder (enlarges slot (numbered (codes "offset") added)).said
+offset_said slot (Ok added) = refl
+offset_said slot (Err fault) = tt
+
+number_said : (slot : Slot) (added : Result Added Fault) → IsInOrder (enlarges slot (numbered (codes "t") added)).said
+number_said slot (Ok added) = refl
+number_said slot (Err fault) = tt
+
+nothing_said : (slot : Slot) (draft : Result Draft Fault) → IsInOrder (enlarges slot (silent draft)).said
+nothing_said slot (Ok draft) = refl
+nothing_said slot (Err fault) = tt
+
+enlarging : (slot : Slot) (draft : Draft) (addition : Addition) → IsInOrder (enlarges slot (enlarged draft addition)).said
+unfolding enlarged
+enlarging slot draft (add.Type name root kind) = number_said slot _
+enlarging slot draft (add.Member t name tnum offset) = offset_said slot _
+enlarging slot draft (add.Enumerator t name value) = nothing_said slot _
+enlarging slot draft (add.Label name last) = nothing_said slot _
+
+updating : (slot : Slot) (draft : Draft) (bytes : Result (List ℕ) Fault) → IsInOrder (updates_to slot draft bytes).said
+updating slot draft (Ok bytes) = refl
+updating slot draft (Err fault) = tt
+
+of_draft : (step : DraftStep) (slot : Slot) (draft : Option Draft) → IsInOrder (step_if_draft step slot draft).said
+unfolding draft_step
+of_draft step slot None = tt
+of_draft (steps.Add addition) slot (Some draft) = enlarging slot draft addition
+of_draft steps.Update slot (Some draft) = updating slot draft (written (held draft))
+of_draft steps.Discard slot (Some draft) = refl
+
+stepping : (d : ℕ) (step : DraftStep) (slot : Option Slot) (state : State) → IsInOrder (with_slot (λ s. slot_becomes d (slot_step step s) state) slot state).reply.outcome
+stepping d step None state = tt
+stepping d step (Some slot) state = of_draft step slot slot.draft
 
 pub keys_rise : KeysRise
 unfolding change_step
@@ -184,4 +257,6 @@ keys_rise state (Changes (change.Close d)) found = closed d (slot_at d state.slo
 keys_rise state (Changes (change.Import d p)) found = importing d (slot_at d state.slots) (slot_at p state.slots) state
 keys_rise state (Changes (change.Publish d name)) found = publishing name (slot_at d state.slots) state
 keys_rise state (Changes (change.Take owner name)) found = taking found state _ refl
+keys_rise state (Changes (change.Create asked)) found = created_from asked.parent asked state
+keys_rise state (Changes (change.Draft d step)) found = stepping d step (slot_at d state.slots) state
 keys_rise state (Asks d question) found = of_slot question (slot_at d state.slots)

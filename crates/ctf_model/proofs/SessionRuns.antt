@@ -31,6 +31,8 @@ found_among a b sessions (Changes change.Reset) here h = refl
 found_among a b sessions (Changes (change.Close d)) here h = refl
 found_among a b sessions (Changes (change.Import d parent)) here h = refl
 found_among a b sessions (Changes (change.Publish d name)) here h = refl
+found_among a b sessions (Changes (change.Create asked)) here h = refl
+found_among a b sessions (Changes (change.Draft d does)) here h = refl
 found_among a b sessions (Asks d question) here h = refl
 
 one_unreached : (start : ℕ → State) (call : Call) (calls : List Call) (r : List ℕ) → IsClosed r (call ∷ calls) → ((s : ℕ) → is_among r s ≡ true → given start (calls_among r calls) s ≡ given start calls s)
@@ -62,6 +64,8 @@ found_same a b (Changes change.Reset) h = refl
 found_same a b (Changes (change.Close d)) h = refl
 found_same a b (Changes (change.Import d parent)) h = refl
 found_same a b (Changes (change.Publish d name)) h = refl
+found_same a b (Changes (change.Create asked)) h = refl
+found_same a b (Changes (change.Draft d does)) h = refl
 found_same a b (Asks d question) h = refl
 
 happens_by : (old new : ℕ → State) (s : ℕ) (request : Request) (reply : Reply) → Steps old s request reply new → IsGranted old s request reply new ⊎ IsRefused old s reply new

@@ -1,75 +1,40 @@
 -- What a line asks. What is JSON is serde_json's reading of it; all else is ours.
-use Rattle.std.specs.Prelude.{ℕ, ◌&&◌, List, [], ◌∷◌, length, is_none, Option, None, Some, Result, Ok, Err, option_and_then, nat_le, nat_lt, codes, if◌then◌else◌}
+use Rattle.std.specs.Prelude.{ℕ, List, length, is_none, Option, None, Some, Result, Ok, Err, option_and_then, nat_lt, codes, if◌then◌else◌}
 use Rattle.std.specs.Option.{option_map}
-use Rattle.std.specs.Result.{result_ok}
 use Rattle.std.specs.Str.{is_utf8}
-use Rattle.hex.specs.Hex.{decode_of}
-use Rattle.serde_json.specs.Data.{Data, Items, no_items, item}
-use Rattle.serde_json.specs.Find.{get, as_array, as_number, as_u64, as_str}
+use Rattle.serde_json.specs.Data.{Data}
+use Rattle.serde_json.specs.Find.{get, as_array}
 use Rattle.serde_json.specs.Read.{read}
+use Rattle.ctf_model.specs.Creations.{creation}
 use Rattle.ctf_model.specs.Lines.{longest_line}
 use Rattle.ctf_model.specs.Publications.{is_publication_name}
 use Rattle.ctf_model.specs.Refusals.{placeless}
 use Rattle.ctf_model.specs.declared.faults.Fault.{Fault}
 use Rattle.ctf_model.specs.declared.faults.TheConstants.Fault.{NOT_JSON, BAD_REQUEST, LONG_LINE}
-use Rattle.ctf_model.specs.declared.numbers.TypeNum.{TypeNum}
 use Rattle.ctf_model.specs.declared.requests.ListName.{ListName}
 use Rattle.ctf_model.specs.declared.requests.ListName.TheVariants.{Ctf, Sym, Str}
 use Rattle.ctf_model.specs.declared.requests.Request.{Request}
 use Rattle.ctf_model.specs.declared.requests.Request.TheVariants.{Changes, Asks}
 use Rattle.ctf_model.specs.declared.requests.Change.TheVariants as change
-use Rattle.ctf_model.specs.declared.questions.Question.TheVariants.{OfType, OfSlot}
+use Rattle.ctf_model.specs.declared.requests.DraftStep.TheVariants as draft
+use Rattle.ctf_model.specs.declared.questions.Question.TheVariants.{OfType, OfSlot, OfHeld}
+use Rattle.ctf_model.specs.declared.questions.HeldQuestion.{HeldQuestion}
+use Rattle.ctf_model.specs.declared.questions.HeldQuestion.TheVariants as holding
 use Rattle.ctf_model.specs.declared.questions.SlotQuestion.{SlotQuestion}
 use Rattle.ctf_model.specs.declared.questions.SlotQuestion.TheVariants as whole
 use Rattle.ctf_model.specs.declared.questions.TypeQuestion.{TypeQuestion}
 use Rattle.ctf_model.specs.declared.questions.TypeQuestion.TheVariants as about
 use Rattle.ctf_model.specs.declared.words.Word.{Word}
-use Rattle.ctf_model.specs.declared.words.Word.TheVariants.{DoPart, DoCheck, DoOpen, DoClear, DoReset, DoClose, DoImport, DoPublish, DoTake, DoKind, DoRecord, DoMembers, DoEnumerators, DoArgs, DoArray, DoEncoding, DoReference, DoResolve, DoSize, DoAlign, DoName, DoPointer, DoFind, DoPath, DoShow, DoSymbol, DoObject, DoFunction, DoLabels, DoLabel, DoInfo}
-use Rattle.ctf_model.specs.Text.{bytes_spelled_by}
+use Rattle.ctf_model.specs.declared.words.Word.TheVariants.{DoPart, DoCheck, DoOpen, DoClear, DoReset, DoClose, DoImport, DoPublish, DoTake, DoCreate, DoAdd, DoUpdate, DoDiscard, DoKind, DoRecord, DoMembers, DoEnumerators, DoArgs, DoArray, DoEncoding, DoReference, DoResolve, DoSize, DoAlign, DoName, DoPointer, DoFind, DoPath, DoShow, DoSymbol, DoObject, DoFunction, DoLabels, DoLabel, DoInfo, DoBytes}
 use Rattle.ctf_model.specs.Words.{words, word_named, is_text}
-use Rattle.ctf_model.specs.declared.questions.Window.{Window}
+use Rattle.ctf_model.specs.LineFields.{number_in, text_in, bytes_spelled, slot_under, slot_in, type_in, names_spelled, not_too_many_names, name_under, name_or_empty, window_asked}
+use Rattle.ctf_model.specs.AskAdditions.{addition_asked}
 
--- ---- fields
-
--- n, where it is from low to high
-abbrev pub within : ℕ → ℕ → ℕ → Option ℕ
-within low high n = if nat_le low n && nat_le n high then Some n else None
-
--- the number of a field, where it is there and in its range
-abbrev pub number_in : ℕ → ℕ → List ℕ → Data → Option ℕ
-number_in low high key line = option_and_then (within low high) (option_and_then as_u64 (option_and_then as_number (get key line)))
-
--- the text of a field
-abbrev pub text_in : List ℕ → Data → Option (List ℕ)
-text_in key line = option_and_then as_str (get key line)
-
--- the most bytes that a request may bring
-abbrev pub longest_piece : ℕ
-longest_piece = 1048576
-
--- bytes that are no more than that
-abbrev pub not_too_many : List ℕ → Option (List ℕ)
-not_too_many bytes = if nat_le (length bytes) longest_piece then Some bytes else None
-
--- the bytes of an even number of hexadecimal digits, of either case
-abbrev pub bytes_spelled : List ℕ → Option (List ℕ)
-bytes_spelled digits = option_and_then not_too_many (result_ok (decode_of digits))
+-- ---- questions and parts
 
 -- the list that a part belongs to
 abbrev pub list_named : List ℕ → Option ListName
 list_named w = if is_text w (codes "ctf") then Some Ctf else if is_text w (codes "sym") then Some Sym else if is_text w (codes "str") then Some Str else None
-
--- ---- words, each with its fields
-
--- the number of a slot in a field
-abbrev pub slot_under : List ℕ → Data → Option ℕ
-slot_under key line = number_in 1 4294967295 key line
-
-abbrev pub slot_in : Data → Option ℕ
-slot_in line = slot_under (codes "d") line
-
-abbrev pub type_in : Data → Option TypeNum
-type_in line = option_map (λ t. record { 0 = t }) (number_in 0 65535 (codes "t") line)
 
 -- a question on a type of a slot, where its own fields are good
 abbrev pub about_type : Option TypeQuestion → Data → Option Request
@@ -80,38 +45,12 @@ about_type question line =
 abbrev pub about_slot : Option SlotQuestion → Data → Option Request
 about_slot question line = option_and_then (λ q. option_map (λ d. Asks d (OfSlot q)) (slot_in line)) question
 
--- the first item that is wanted, 0 where that isn't said
-abbrev pub from_asked : Data → Option ℕ
-from_asked line = if is_none (get (codes "from") line) then Some 0 else number_in 0 4294967295 (codes "from") line
-
--- how many items are wanted; all where that isn't said
-abbrev pub count_asked : Data → Option (Option ℕ)
-count_asked line = if is_none (get (codes "count") line) then Some None else option_map (λ n. Some n) (number_in 0 4294967295 (codes "count") line)
-
-abbrev pub window_asked : Data → Option Window
-window_asked line = option_and_then (λ from. option_map (λ count. record { from = from; count = count }) (count_asked line)) (from_asked line)
-
--- ---- names
-
--- the name that a value spells
-abbrev pub name_spelled : Data → Option (List ℕ)
-name_spelled value = option_and_then not_too_many (option_and_then bytes_spelled_by (as_str value))
-
--- those that the items of a list spell, if each does
-unfoldable pub names_spelled : Items → Option (List (List ℕ))
-names_spelled no_items = Some []
-names_spelled (item value values) = option_and_then (λ name. option_map (λ names. name ∷ names) (names_spelled values)) (name_spelled value)
-
--- as many names as a request may bring
-abbrev pub not_too_many_names : List (List ℕ) → Option (List (List ℕ))
-not_too_many_names names = if nat_le (length names) longest_piece then Some names else None
+-- a question on what a slot holds, likewise
+abbrev pub about_held : Option HeldQuestion → Data → Option Request
+about_held question line = option_and_then (λ q. option_map (λ d. Asks d (OfHeld q)) (slot_in line)) question
 
 abbrev pub names_asked : Data → Option (List (List ℕ))
 names_asked line = option_and_then not_too_many_names (option_and_then names_spelled (option_and_then as_array (get (codes "names") line)))
-
--- the name that a field spells
-abbrev pub name_under : List ℕ → Data → Option (List ℕ)
-name_under key line = option_and_then name_spelled (get key line)
 
 -- the number of a symbol
 abbrev pub symbol_asked : Data → Option ℕ
@@ -147,6 +86,35 @@ take_asked line = option_and_then (λ owner. option_map (λ name. Changes (chang
 abbrev pub show_asked : Data → Option TypeQuestion
 show_asked line = option_and_then (λ memory. option_map (λ offset. about.Show memory offset) (number_in 0 18446744073709551615 (codes "offset") line)) (option_and_then bytes_spelled (text_in (codes "bytes") line))
 
+-- the bytes that are wanted of a dictionary: the first of them, and at most how many
+abbrev pub bytes_asked : Data → Option HeldQuestion
+bytes_asked line = option_and_then (λ from. option_map (λ count. holding.Bytes from count) (number_in 0 1048576 (codes "count") line)) (number_in 0 4294967295 (codes "from") line)
+
+-- the slot of the parent, if one is named
+abbrev pub parent_asked : Data → Option (Option ℕ)
+parent_asked line = if is_none (get (codes "parent") line) then Some None else option_map (λ d. Some d) (slot_under (codes "parent") line)
+
+abbrev pub create_asked : Data → Option Request
+create_asked line =
+    option_and_then (λ parent.
+    option_and_then (λ parname.
+    option_and_then (λ parlabel.
+    option_map (λ created. Changes (change.Create created)) (creation parent parname parlabel))
+    (name_or_empty (codes "parlabel") line))
+    (name_or_empty (codes "parname") line))
+    (parent_asked line)
+
+abbrev pub update_asked : Data → Option Request
+update_asked line = option_map (λ d. Changes (change.Draft d draft.Update)) (slot_in line)
+
+abbrev pub discard_asked : Data → Option Request
+discard_asked line = option_map (λ d. Changes (change.Draft d draft.Discard)) (slot_in line)
+
+abbrev pub add_asked : Data → Option Request
+add_asked line = option_and_then (λ d. option_map (λ addition. Changes (change.Draft d (draft.Add addition))) (addition_asked line)) (slot_in line)
+
+-- ---- words
+
 -- what a word asks, with its fields
 abbrev pub asked_with : Data → Word → Option Request
 asked_with line DoPart = part_asked line
@@ -158,6 +126,10 @@ asked_with line DoClose = close_asked line
 asked_with line DoImport = import_asked line
 asked_with line DoPublish = publish_asked line
 asked_with line DoTake = take_asked line
+asked_with line DoCreate = create_asked line
+asked_with line DoAdd = add_asked line
+asked_with line DoUpdate = update_asked line
+asked_with line DoDiscard = discard_asked line
 asked_with line DoKind = about_type (Some about.Kind) line
 asked_with line DoRecord = about_type (Some about.Record) line
 asked_with line DoMembers = about_type (option_map (λ window. about.Members window) (window_asked line)) line
@@ -179,7 +151,8 @@ asked_with line DoObject = about_slot (option_map (λ number. whole.Object numbe
 asked_with line DoFunction = about_slot (option_map (λ number. whole.Function number) (symbol_asked line)) line
 asked_with line DoLabels = about_slot (option_map (λ window. whole.Labels window) (window_asked line)) line
 asked_with line DoLabel = about_slot (option_map (λ name. whole.Label name) (name_under (codes "name") line)) line
-asked_with line DoInfo = about_slot (Some whole.Info) line
+asked_with line DoInfo = about_held (Some holding.Info) line
+asked_with line DoBytes = about_held (bytes_asked line) line
 
 -- the word of a line
 abbrev pub word_asked : Data → Option Word

@@ -15,7 +15,7 @@ use Rattle.ctf_model.specs.declared.requests.Request.TheVariants.{Changes}
 
 -- the integer int, in a slot
 abbrev pub int_in : ℕ → Slot
-int_in number = record { number = number; lists = alone int_bytes; parent = None }
+int_in number = record { number = number; lists = alone int_bytes; parent = None; draft = None }
 
 -- a session that has it in slot 1
 abbrev pub holder : State

@@ -22,7 +22,7 @@ abbrev pub linked : List ℕ
 linked = header 0 0 0 0 24 0 ++ (head 0 6 1 8 ++ word 0 ++ half 2 ++ half 0) ++ head 0 3 0 1
 
 abbrev pub slot : ℕ → List ℕ → Slot
-slot number ctf = record { number = number; lists = alone ctf; parent = None }
+slot number ctf = record { number = number; lists = alone ctf; parent = None; draft = None }
 
 -- a session with a child in slot 1, three types in slot 2, two types in slot 3, and a child in slot 4; some bytes are staged
 abbrev pub four_slots : State

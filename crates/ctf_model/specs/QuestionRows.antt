@@ -26,7 +26,7 @@ use Rattle.ctf_model.specs.declared.requests.Request.TheVariants.{Changes, Asks}
 
 -- a session whose one slot has this dictionary
 abbrev pub holding : List ℕ → State
-holding ctf = record empty_state { slots = record { number = 1; lists = alone ctf; parent = None } ∷ []; next = 2 }
+holding ctf = record empty_state { slots = record { number = 1; lists = alone ctf; parent = None; draft = None } ∷ []; next = 2 }
 
 -- the line of what it is answered, session 0
 abbrev pub answered : List ℕ → Request → List ℕ

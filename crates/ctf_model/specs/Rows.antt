@@ -161,7 +161,7 @@ replied outcome = record { session = 0; outcome = outcome }
 pub record SessionRuns : Type 0 where
   pub replies : private_replies empty_state (asked (Changes Reset) ∷ questions)
       ≡ replied (Ok []) ∷ replied (Err (fault 24 0)) ∷ replied (Err (fault 49 0)) ∷ replied (Ok (says (codes "kind") (answers.word (codes "integer")) ∷ [])) ∷ replied (Ok (says (codes "d") (answers.number 1) ∷ says (codes "types") (answers.number 1) ∷ [])) ∷ replied (Ok (says (codes "length") (answers.number 53) ∷ [])) ∷ replied (Ok (says (codes "length") (answers.number 40) ∷ [])) ∷ []
-  pub opened : private_state empty_state questions ≡ record empty_state { slots = record { number = 1; lists = alone int_bytes; parent = None } ∷ []; next = 2 }
+  pub opened : private_state empty_state questions ≡ record empty_state { slots = record { number = 1; lists = alone int_bytes; parent = None; draft = None } ∷ []; next = 2 }
   pub reset : private_state empty_state (asked (Changes Reset) ∷ questions) ≡ empty_state
   pub refused : private_replies empty_state (asked (Changes Open) ∷ []) ≡ replied (Err (fault 1 0)) ∷ []
 

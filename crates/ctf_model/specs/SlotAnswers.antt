@@ -1,7 +1,7 @@
 -- What a question on a slot as a whole is answered. Source: libctf(3LIB), ctf_lookup_by_name, ctf_lookup_by_symbol, ctf_func_info, ctf_func_args, ctf_label_iter, ctf_label_info; the form of answers is ours.
-use Rattle.std.specs.Prelude.{ℕ, Bool, false, List, [], ◌∷◌, length, map, is_some, Result, Ok, codes}
-use Rattle.ctf_model.specs.Answers.{Answer, Item, says, entry, number, truth, word, text, object}
-use Rattle.ctf_model.specs.Dictionary.{Dictionary, Label}
+use Rattle.std.specs.Prelude.{ℕ, List, [], ◌∷◌, map, Result, Ok, codes}
+use Rattle.ctf_model.specs.Answers.{Answer, Item, says, entry, number, word, text, object}
+use Rattle.ctf_model.specs.Dictionary.{Label}
 use Rattle.ctf_model.specs.Entries.{Owner, Signature}
 use Rattle.ctf_model.specs.Found.{found}
 use Rattle.ctf_model.specs.KindNames.{name_of_class}
@@ -32,18 +32,6 @@ label_fields window labels = list_fields (codes "labels") window (map label_item
 abbrev pub last_fields : ℕ → Answer
 last_fields last = says (codes "last") (number last) ∷ []
 
--- a dictionary as a whole; one that was opened has nothing pending
-abbrev pub info_fields : Dictionary → Bool → Answer
-info_fields d imported =
-    says (codes "child") (truth d.child)
-    ∷ says (codes "draft") (truth false)
-    ∷ says (codes "imported") (truth imported)
-    ∷ says (codes "labels") (number (length d.labels))
-    ∷ says (codes "parlabel") (text d.parlabel)
-    ∷ says (codes "parname") (text d.parname)
-    ∷ says (codes "pending") (number 0)
-    ∷ says (codes "types") (number (length d.terms)) ∷ []
-
 -- ---- questions
 
 -- what a question on a slot is answered, from what the slot sees
@@ -54,4 +42,3 @@ whole_said (whole.Object n) s = as_fields type_fields (object_of s.own n)
 whole_said (whole.Function n) s = as_fields signature_fields (function_of s.own n)
 whole_said (whole.Labels window) s = Ok (label_fields window s.own.labels)
 whole_said (whole.Label name) s = as_fields last_fields (label_of s.own name)
-whole_said whole.Info s = Ok (info_fields s.own (is_some s.parent))

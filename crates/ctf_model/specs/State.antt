@@ -1,12 +1,14 @@
 -- What one session holds. Source: ours.
 use Rattle.std.specs.Prelude.{ℕ, List, [], Option, None}
+use Rattle.ctf_model.specs.Drafts.{Draft}
 use Rattle.ctf_model.specs.Lists.{Lists}
 
--- a dictionary that was opened, under a number, and the parent that it imported, if it did
+-- a dictionary under a number, and the parent that it imported, if it did; or that of a draft as its last update left it, with the parent that the draft has
 pub record Slot : Type 0 where
   pub number : ℕ
   pub lists : Lists
   pub parent : Option Lists
+  pub draft : Option Draft
 
 pub record Publication : Type 0 where
   pub name : List ℕ

@@ -3,8 +3,11 @@ use Rattle.std.specs.Prelude.{◌≡◌, ◌⊎◌, ℕ, ◌+◌, ◌==◌, ◌&
 use Rattle.std.specs.Option.{option_map}
 use Rattle.ctf_model.specs.Answers.{Answer, Reply, says}
 use Rattle.ctf_model.specs.Answers as answers
+use Rattle.ctf_model.specs.Creations.{Created}
 use Rattle.ctf_model.specs.Dictionary.{said_by}
+use Rattle.ctf_model.specs.DraftSteps.{SlotOutcome, created_slot, slot_step, slots_with}
 use Rattle.ctf_model.specs.Faults.{first_fault}
+use Rattle.ctf_model.specs.HeldAnswers.{held_said, pending_in}
 use Rattle.ctf_model.specs.Lists.{Lists}
 use Rattle.ctf_model.specs.Publications.{published_as}
 use Rattle.ctf_model.specs.Refusals.{placeless, want_of_memory}
@@ -14,16 +17,18 @@ use Rattle.ctf_model.specs.SlotAnswers.{whole_said}
 use Rattle.ctf_model.specs.Space.{Space, import_fault}
 use Rattle.ctf_model.specs.declared.data_model.DataModel.TheVariants.{Lp64}
 use Rattle.ctf_model.specs.declared.faults.Fault.{Fault}
-use Rattle.ctf_model.specs.declared.faults.TheConstants.Fault.{NO_SLOT, SLOTS_FULL, STAGE_FULL, NAME_TAKEN, NOT_PUBLISHED}
+use Rattle.ctf_model.specs.declared.faults.TheConstants.Fault.{NO_SLOT, SLOTS_FULL, STAGE_FULL, NAME_TAKEN, NOT_PUBLISHED, NOT_UPDATED, FIXED_PARENT}
 use Rattle.ctf_model.specs.declared.requests.ListName.{ListName}
 use Rattle.ctf_model.specs.declared.requests.ListName.TheVariants.{Ctf, Sym, Str}
 use Rattle.ctf_model.specs.declared.requests.Request.{Request}
 use Rattle.ctf_model.specs.declared.questions.TypeQuestion.{TypeQuestion}
 use Rattle.ctf_model.specs.declared.questions.TypeQuestion.TheVariants as about
 use Rattle.ctf_model.specs.declared.questions.Question.{Question}
-use Rattle.ctf_model.specs.declared.questions.Question.TheVariants.{OfType, OfSlot}
+use Rattle.ctf_model.specs.declared.questions.Question.TheVariants.{OfType, OfSlot, OfHeld}
 use Rattle.ctf_model.specs.declared.questions.SlotQuestion.{SlotQuestion}
 use Rattle.ctf_model.specs.declared.questions.SlotQuestion.TheVariants as whole
+use Rattle.ctf_model.specs.declared.requests.DraftStep.{DraftStep}
+use Rattle.ctf_model.specs.declared.requests.DraftStep.TheVariants.{Discard}
 use Rattle.ctf_model.specs.declared.requests.Change.{Change}
 use Rattle.ctf_model.specs.declared.requests.Change.TheVariants as change
 use Rattle.ctf_model.specs.declared.requests.Request.TheVariants.{Changes, Asks}
@@ -87,7 +92,7 @@ has_room state = nat_lt (length state.slots) most_slots && nat_le state.next las
 abbrev pub adds_slot : Lists → State → Outcome
 adds_slot lists state =
     grants (says (codes "d") (answers.number state.next) ∷ says (codes "types") (answers.number (length (said_by lists).terms)) ∷ [])
-    (record state { slots = state.slots ++ record { number = state.next; lists = lists; parent = None } ∷ []; next = state.next + 1 })
+    (record state { slots = state.slots ++ record { number = state.next; lists = lists; parent = None; draft = None } ∷ []; next = state.next + 1 })
 
 -- an accepted dictionary leaves the stage empty
 abbrev pub opens_unless : Option Fault → Lists → State → Outcome
@@ -122,6 +127,7 @@ slot_space slot = record { own = said_by slot.lists; parent = option_map said_by
 abbrev pub slot_said : Question → Slot → Result Answer Fault
 slot_said (OfType t question) slot = type_said question (slot_space slot) t.0
 slot_said (OfSlot question) slot = whole_said question (slot_space slot)
+slot_said (OfHeld question) slot = Ok (held_said question slot)
 
 abbrev pub said_by_slot : Question → Option Slot → Result Answer Fault
 said_by_slot question None = Err (placeless NO_SLOT)
@@ -150,6 +156,7 @@ is_quiet_whole _ = false
 abbrev pub is_quiet : Question → Bool
 is_quiet (OfType t question) = is_quiet_on question
 is_quiet (OfSlot question) = is_quiet_whole question
+is_quiet (OfHeld question) = false
 
 -- the answer to a question, or memory for it was refused
 abbrev pub MayAnswer : Result Answer Fault → Result Answer Fault → Type 0
@@ -194,10 +201,13 @@ imports_unless (Some fault) d parent state = outcome_of (Err fault) state
 abbrev pub fault_over : Lists → Lists → Option Fault
 fault_over child parent = import_fault (record { child = said_by child; parent = said_by parent })
 
+-- the parent of a draft is that of its making
+abbrev pub imports_into : Slot → ℕ → Lists → State → Outcome
+imports_into child d parent state = if is_some child.draft then refuses FIXED_PARENT state else imports_unless (fault_over child.lists parent) d parent state
+
 -- both slots have to be there, and then the dictionary of the second has to serve as the parent of the first
 abbrev pub imports : ℕ → ℕ → State → Outcome
-imports d p state =
-    with_slot (λ child. with_slot (λ parent. imports_unless (fault_over child.lists parent.lists) d parent.lists state) (slot_at p state.slots) state) (slot_at d state.slots) state
+imports d p state = with_slot (λ child. with_slot (λ parent. imports_into child d parent.lists state) (slot_at p state.slots) state) (slot_at d state.slots) state
 
 -- ---- publish and take
 
@@ -207,9 +217,12 @@ publishes_lists name lists state =
     if is_some (published_as name state.published) then refuses NAME_TAKEN state
     else grants [] (record state { published = state.published ++ record { name = name; lists = lists } ∷ [] })
 
--- the dictionary of a slot, as it stands
+-- the dictionary of a slot, as it stands, where that is all that its draft holds
+abbrev pub publishes_slot : List ℕ → Slot → State → Outcome
+publishes_slot name slot state = if nat_lt 0 (pending_in slot.draft) then refuses NOT_UPDATED state else publishes_lists name slot.lists state
+
 abbrev pub publishes : ℕ → List ℕ → State → Outcome
-publishes d name state = with_slot (λ slot. publishes_lists name slot.lists state) (slot_at d state.slots) state
+publishes d name state = with_slot (λ slot. publishes_slot name slot state) (slot_at d state.slots) state
 
 -- a slot is made of what was found, without any parent
 abbrev pub takes_found : Option Lists → State → Outcome
@@ -218,6 +231,30 @@ takes_found (Some lists) state = adds_slot lists state
 
 abbrev pub takes : Option Lists → State → Outcome
 takes found state = if has_room state then takes_found found state else refuses SLOTS_FULL state
+
+-- ---- drafts
+
+abbrev pub adds_created : Result Slot Fault → State → Outcome
+adds_created (Ok slot) state = grants (says (codes "d") (answers.number state.next) ∷ []) (record state { slots = state.slots ++ slot ∷ []; next = state.next + 1 })
+adds_created (Err fault) state = outcome_of (Err fault) state
+
+abbrev pub creates_over : Option Lists → Created → State → Outcome
+creates_over parent asked state = if has_room state then adds_created (created_slot state.next parent asked) state else refuses SLOTS_FULL state
+
+-- over the dictionary of a slot as it stands, or over none
+abbrev pub creates_from : Option ℕ → Created → State → Outcome
+creates_from None asked state = creates_over None asked state
+creates_from (Some p) asked state = with_slot (λ slot. creates_over (Some slot.lists) asked state) (slot_at p state.slots) state
+
+abbrev pub creates : Created → State → Outcome
+creates asked state = creates_from asked.parent asked state
+
+abbrev pub slot_becomes : ℕ → SlotOutcome → State → Outcome
+slot_becomes d outcome state = outcome_of outcome.said (record state { slots = slots_with d outcome.slot state.slots })
+
+-- the step of the draft in a slot
+abbrev pub steps_draft : ℕ → DraftStep → State → Outcome
+steps_draft d step state = with_slot (λ slot. slot_becomes d (slot_step step slot) state) (slot_at d state.slots) state
 
 -- ---- every request
 
@@ -232,12 +269,15 @@ change_step state (change.Close d) found = closes d state
 change_step state (change.Import d parent) found = imports d parent state
 change_step state (change.Publish d name) found = publishes d name state
 change_step state (change.Take owner name) found = takes found state
+change_step state (change.Create asked) found = creates asked state
+change_step state (change.Draft d step) found = steps_draft d step state
 
 -- a change that takes no memory
 abbrev pub is_quiet_change : Change → Bool
 is_quiet_change change.Clear = true
 is_quiet_change change.Reset = true
 is_quiet_change (change.Close d) = true
+is_quiet_change (change.Draft d Discard) = true
 is_quiet_change _ = false
 
 -- a question leaves the library as it was

@@ -2,7 +2,7 @@
 use Rattle.std.specs.Prelude.{ℕ, List, [], ◌∷◌, Bool, Option, None, Some, nat_eq, codes, if◌then◌else◌}
 use Rattle.std.specs.Cmp.Lexicographic.{pointwise}
 use Rattle.ctf_model.specs.declared.words.Word.{Word}
-use Rattle.ctf_model.specs.declared.words.Word.TheVariants.{DoPart, DoCheck, DoOpen, DoClear, DoReset, DoClose, DoImport, DoPublish, DoTake, DoKind, DoRecord, DoMembers, DoEnumerators, DoArgs, DoArray, DoEncoding, DoReference, DoResolve, DoSize, DoAlign, DoName, DoPointer, DoFind, DoPath, DoShow, DoSymbol, DoObject, DoFunction, DoLabels, DoLabel, DoInfo}
+use Rattle.ctf_model.specs.declared.words.Word.TheVariants.{DoPart, DoCheck, DoOpen, DoClear, DoReset, DoClose, DoImport, DoPublish, DoTake, DoCreate, DoAdd, DoUpdate, DoDiscard, DoKind, DoRecord, DoMembers, DoEnumerators, DoArgs, DoArray, DoEncoding, DoReference, DoResolve, DoSize, DoAlign, DoName, DoPointer, DoFind, DoPath, DoShow, DoSymbol, DoObject, DoFunction, DoLabels, DoLabel, DoInfo, DoBytes}
 use Rattle.ctf_model.specs.declared.words.Written.{Written}
 
 -- every word, and how a line writes it
@@ -17,6 +17,10 @@ words =
     (DoImport, codes "import") ∷
     (DoPublish, codes "publish") ∷
     (DoTake, codes "take") ∷
+    (DoCreate, codes "create") ∷
+    (DoAdd, codes "add") ∷
+    (DoUpdate, codes "update") ∷
+    (DoDiscard, codes "discard") ∷
     (DoKind, codes "kind") ∷
     (DoRecord, codes "record") ∷
     (DoMembers, codes "members") ∷
@@ -38,7 +42,8 @@ words =
     (DoFunction, codes "function") ∷
     (DoLabels, codes "labels") ∷
     (DoLabel, codes "label") ∷
-    (DoInfo, codes "info") ∷ []
+    (DoInfo, codes "info") ∷
+    (DoBytes, codes "bytes") ∷ []
 
 -- two texts are the same
 abbrev pub is_text : List ℕ → List ℕ → Bool

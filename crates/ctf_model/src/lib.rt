@@ -1,7 +1,10 @@
 //! CTF dictionaries: what they are, which faults they can have, and what a session may ask of them.
 #![tactic(auto)]
 
+mod addables;
+mod additions;
 mod bytes;
+mod creations;
 mod data_model;
 mod faults;
 mod kinds;
@@ -19,7 +22,10 @@ mod session_laws;
 mod symbols;
 mod words;
 
+pub use addables::Addable;
+pub use additions::{Addition, Declared, NewArray, NewKind, NewScalar, TypeNums};
 pub use bytes::{Bytes, LONGEST_PIECE, Piece};
+pub use creations::Creation;
 pub use data_model::DataModel;
 pub use faults::{Fault, fault_name, placeless};
 pub use kinds::Kind;
@@ -34,8 +40,8 @@ pub use lists::{Parts, no_parts};
 pub use names::Names;
 pub use numbers::{Place, SlotNumber, TypeNum};
 pub use publications::{LONGEST_NAME, PublicationName};
-pub use questions::{Question, SlotQuestion, TypeQuestion, Window};
-pub use requests::{Change, ListName, Request};
+pub use questions::{HeldQuestion, Question, SlotQuestion, TypeQuestion, Window};
+pub use requests::{Change, DraftStep, ListName, Request};
 pub use rows::{
     bytes_denote, bytes_have_faults, dictionaries_are_written, drafts_live,
     enumerators_and_labels_are_added, figures_are, figures_over_parents, kinds_denote,

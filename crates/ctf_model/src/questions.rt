@@ -63,8 +63,15 @@ pub enum SlotQuestion {
     Labels(Window),
     /// The last type that the label of a name covers.
     Label(Piece),
-    /// What it is as a whole.
+}
+
+/// A question on what a slot holds.
+#[derive(Clone, Copy, Debug, PartialEq, Eq)]
+pub enum HeldQuestion {
+    /// What its dictionary and its draft are as a whole.
     Info,
+    /// At most `count` bytes of its dictionary, from one on.
+    Bytes { from: u32, count: u32 },
 }
 
 /// A question to a slot.
@@ -74,4 +81,6 @@ pub enum Question {
     OfType { t: TypeNum, question: TypeQuestion },
     /// On its dictionary, and on that of its parent.
     OfSlot(SlotQuestion),
+    /// On what it holds.
+    OfHeld(HeldQuestion),
 }

@@ -1,6 +1,8 @@
 //! What a session may request.
 
+use crate::additions::Addition;
 use crate::bytes::Piece;
+use crate::creations::Creation;
 use crate::numbers::SlotNumber;
 use crate::publications::PublicationName;
 use crate::questions::Question;
@@ -11,6 +13,17 @@ pub enum ListName {
     Ctf,
     Sym,
     Str,
+}
+
+/// What is done to a draft.
+#[derive(Drop)]
+pub enum DraftStep {
+    /// Adds to it.
+    Add(Addition),
+    /// Makes all that it holds the dictionary of its slot.
+    Update,
+    /// Drops what was added since its last update.
+    Discard,
 }
 
 /// A request that may change what the session holds, or wants memory to judge it.
@@ -47,6 +60,13 @@ pub enum Change {
     Take {
         owner: u32,
         name: PublicationName,
+    },
+    /// Makes a slot of a new draft.
+    Create(Creation),
+    /// Makes a step of the draft of a slot.
+    Draft {
+        d: SlotNumber,
+        step: DraftStep,
     },
 }
 

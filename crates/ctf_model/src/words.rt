@@ -14,6 +14,10 @@ pub enum Word {
     DoImport,
     DoPublish,
     DoTake,
+    DoCreate,
+    DoAdd,
+    DoUpdate,
+    DoDiscard,
     DoKind,
     DoRecord,
     DoMembers,
@@ -36,6 +40,7 @@ pub enum Word {
     DoLabels,
     DoLabel,
     DoInfo,
+    DoBytes,
 }
 
 /// A word and how a line writes it.
@@ -54,7 +59,7 @@ fn row(word: Word, text: &'static str) -> Written
 
 /// Every word.
 #[tactic(auto, unfolding(crate::specs::Words::words))]
-fn words() -> [Written; 31]
+fn words() -> [Written; 36]
     ensures { map row_of result ≡ all_words }
 {
     [
@@ -67,6 +72,10 @@ fn words() -> [Written; 31]
         row(Word::DoImport, "import"),
         row(Word::DoPublish, "publish"),
         row(Word::DoTake, "take"),
+        row(Word::DoCreate, "create"),
+        row(Word::DoAdd, "add"),
+        row(Word::DoUpdate, "update"),
+        row(Word::DoDiscard, "discard"),
         row(Word::DoKind, "kind"),
         row(Word::DoRecord, "record"),
         row(Word::DoMembers, "members"),
@@ -89,6 +98,7 @@ fn words() -> [Written; 31]
         row(Word::DoLabels, "labels"),
         row(Word::DoLabel, "label"),
         row(Word::DoInfo, "info"),
+        row(Word::DoBytes, "bytes"),
     ]
 }
 

@@ -1,7 +1,6 @@
 //! What `open` answers to small dictionaries, and which rule each of them breaks.
 
-use crate::put_line;
-use crate::runs::{INT, put_open, put_part, served};
+use ctf_runs::{INT, put_line, put_open, put_part, served};
 use std::alloc::{AllocError, Global};
 use std::test::Fail;
 

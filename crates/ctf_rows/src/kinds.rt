@@ -1,7 +1,6 @@
 //! Dictionaries of all kinds of types: what `open` answers, and which kinds their types have.
 
-use crate::put_line;
-use crate::runs::{put_open, put_part, served};
+use ctf_runs::{put_line, put_open, put_part, served};
 use std::alloc::{AllocError, Global};
 use std::test::Fail;
 

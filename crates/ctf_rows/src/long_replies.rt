@@ -1,16 +1,8 @@
 //! Replies that would be too long.
 
-use crate::runs::served;
+use ctf_runs::{repeat, served};
 use std::alloc::{AllocError, Global};
 use std::test::Fail;
-
-/// Appends a text a number of times.
-pub fn repeat(out: &mut Vec<u8>, text: &[u8], times: usize) -> Result<(), AllocError> {
-    for _ in 0..times {
-        out.extend_from_slice(text)?;
-    }
-    Ok(())
-}
 
 /// Appends the lines that hand in and open a struct of 1,023 members which all have one name of
 /// 5,000 bytes.

@@ -1,11 +1,9 @@
 //! Look-ups of names and pointers: the words `find` and `pointer`, and the public calls below them.
 
-use crate::long_replies::repeat;
-use crate::questions::are_answered;
-use crate::runs::{put_open, put_part, served};
 use crate::spelled::{more_pointers, pointers};
 use ctf_model::{Bytes, DataModel, Fault, Parts, TypeNum, placeless};
 use ctf_names::{NameIndex, find, pointer_to};
+use ctf_runs::{are_answered, put_open, put_part, repeat, served};
 use ctf_space::{Opened, Space};
 use std::alloc::{AllocError, Global};
 use std::test::Fail;

@@ -1,7 +1,6 @@
 //! Questions on types through `serve`: every word, and each of its refusals.
 
-use crate::runs::served;
-use std::alloc::{AllocError, Global};
+use ctf_runs::are_answered;
 use std::test::Fail;
 
 /// Two functions, one of an argument and one that takes more, and an integer.
@@ -461,18 +460,6 @@ const LONG_FORM: [(&str, &str); 3] = [
         "{\"ok\":{\"kind\":\"integer\",\"name\":\"int\",\"root\":true,\"size\":4,\"vlen\":0},\"s\":7}\n",
     ),
 ];
-
-/// Whether the lines, in one session from the first on, are answered just these replies.
-pub fn are_answered(alloc: Global, rows: &[(&str, &str)]) -> Result<bool, AllocError> {
-    let mut input = Vec::new(alloc);
-    let mut want = Vec::new(alloc);
-    for (line, reply) in rows {
-        input.extend_from_slice(line.as_bytes())?;
-        want.extend_from_slice(reply.as_bytes())?;
-    }
-    let (_end, written) = served(alloc, &input, 4096);
-    Ok(written.as_slice() == want.as_slice())
-}
 
 #[test]
 fn functions_are_answered(rt: HostRuntime) -> Result<(), Fail> {

@@ -1,6 +1,6 @@
 //! The word `reference`: what a type points to, renames or qualifies.
 
-use crate::questions::are_answered;
+use ctf_runs::are_answered;
 use std::test::Fail;
 
 /// An integer, a pointer to it, a typedef of that, a const of that, and a function that returns an

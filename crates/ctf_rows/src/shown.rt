@@ -1,6 +1,6 @@
 //! Values in memory: the word `show`.
 
-use crate::questions::are_answered;
+use ctf_runs::are_answered;
 use std::test::Fail;
 
 /// A dictionary of an integer, a struct, an enum, a float, a pointer, arrays, a union and a part of a

@@ -1,9 +1,7 @@
 //! The word `name`: names of types, as C spells them.
 
-use crate::figures::put_byte;
-use crate::long_replies::repeat;
-use crate::questions::are_answered;
-use crate::runs::{put_open, put_part, served};
+use crate::put_byte;
+use ctf_runs::{are_answered, put_open, put_part, repeat, served};
 use std::alloc::{AllocError, Global};
 use std::test::Fail;
 

@@ -1,8 +1,7 @@
 //! Symbols and labels: what is accepted of their entries, what questions on them are answered, and
 //! what a child needs for them.
 
-use crate::put_line;
-use crate::runs::{put_open, put_part, served};
+use ctf_runs::{put_line, put_open, put_part, served};
 use std::alloc::{AllocError, Global};
 use std::test::Fail;
 

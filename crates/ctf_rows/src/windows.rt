@@ -1,6 +1,6 @@
 //! Lists, their windows and the parts of types, at the ends of their ranges.
 
-use crate::questions::are_answered;
+use ctf_runs::are_answered;
 use std::test::Fail;
 
 /// An integer, a struct, an enum, two functions and an array, with names that are not plain.

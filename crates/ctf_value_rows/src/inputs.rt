@@ -1,5 +1,6 @@
 //! Dictionaries, and how the tests show their values.
 
+use crate::put_body;
 use ctf_layout::Layout;
 use ctf_model::{Bytes, DataModel, Parts, TypeNum, fault_name};
 use ctf_print::show;
@@ -40,8 +41,7 @@ pub fn dictionary(
     ctf.extend_from_slice(&[0; 16])?;
     ctf.extend_from_slice(&len.to_le_bytes())?;
     ctf.extend_from_slice(&names_len.to_le_bytes())?;
-    ctf.extend_from_slice(types)?;
-    ctf.extend_from_slice(names)?;
+    put_body(&mut ctf, types, names)?;
     Ok(ctf)
 }
 

@@ -1,6 +1,10 @@
 //! Shown values by the public call: what stands behind what was there, and what is refused.
 #![tactic(auto)]
 
+mod framing;
+
+pub use framing::put_body;
+
 #[cfg(test)]
 mod dumped_files;
 #[cfg(test)]

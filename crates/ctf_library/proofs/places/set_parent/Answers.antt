@@ -1,3 +1,5 @@
+use Rattle.std.specs.Prelude.{option_map}
+use Rattle.ctf_draft.specs.declared.draft.Draft.{Draft}
 use Rattle.std.proofs.Common.{◌≡◌, List, map, Some, None, Option, IfSome, ap, sym, subst, ◌∙◌, arith}
 use Rattle.ctf_model.specs.State.{Slot}
 use Rattle.ctf_model.specs.Steps.{fault_over}
@@ -15,28 +17,35 @@ index_mut-slot-requires c =
     let inside = (is_place c.args.number c.args.slots.now.items c.in-Some.place placed).inside in
     grind (arith, inside)
 
+not_there : (o : Option Draft) (x : Draft) → option_map (λ d. d.draft) o ≡ None → o ≡ Some x → ⊥
+not_there None x h e = cc
+not_there (Some y) x h e = cc
+
 pub invariant_of-slot : goal.invariant_of-slot
 invariant_of-slot c =
     let placed = ap (λ (xs : List own.Slot). place_of c.args.number (map slot_of xs)) (sym c.deref.ensures.value) ∙ sym c.in-Some.ensures in
     let here = (is_place c.args.number c.args.slots.now.items c.in-Some.place placed).found c.index_mut-slot.result.now ∙ ap (λ (s : own.Slot). Some (slot_of s)) (sym c.index_mut-slot.ensures.value) in
-    let P : Option Slot → Type 0 = λ o. IfSome o (λ slot. fault_over slot.lists c.args.imported.parent.value ≡ None) in
-    let L : Option Slot → Type 0 = λ o. IfSome o (λ slot. AreTablesOf slot.lists (Some c.args.imported.parent.value) c.args.imported.tables) in
+    let P : Option Slot → Type 0 = λ o. IfSome o (λ slot. fault_over slot.lists c.args.imported.parent ≡ None) in
+    let L : Option Slot → Type 0 = λ o. IfSome o (λ slot. AreTablesOf slot.lists (Some c.args.imported.parent) c.args.imported.tables) in
+    let D : Option Slot → Type 0 = λ o. IfSome o (λ slot. slot.draft ≡ None) in
     let fits = subst P here c.requires.fits in
+    let undrafted = subst D here c.requires.undrafted in
     let made = subst L here c.requires.made in
     record {
-      fits = λ x e. let same : c.args.imported ≡ x = cc in subst (λ i. fault_over c.index_mut-slot.result.now.own.value i.parent.value ≡ None) same fits;
-      made = λ x e. let same : c.args.imported ≡ x = cc in subst (λ i. AreTablesOf c.index_mut-slot.result.now.own.value (Some i.parent.value) i.tables) same made;
+      fits = λ x e. let same : c.args.imported ≡ x = cc in subst (λ i. fault_over c.index_mut-slot.result.now.own i.parent ≡ None) same fits;
+      made = λ x e. let same : c.args.imported ≡ x = cc in subst (λ i. AreTablesOf c.index_mut-slot.result.now.own (Some i.parent) i.tables) same made;
+      drafted = λ x e. absurd (not_there c.index_mut-slot.result.now.draft x undrafted e);
     }
 
 pub returns-in-Some-clause-slots : goal.returns-in-Some-clause-slots
 returns-in-Some-clause-slots c =
     let placed = ap (λ (xs : List own.Slot). place_of c.args.number (map slot_of xs)) (sym c.deref.ensures.value) ∙ sym c.in-Some.ensures in
-    sym ((is_place c.args.number c.args.slots.now.items c.in-Some.place placed).with_parent c.args.imported.parent.value c.index_mut-slot.result.now _ (ap (λ (s : own.Slot). record (slot_of s) { parent = Some c.args.imported.parent.value }) c.index_mut-slot.ensures.value))
+    sym ((is_place c.args.number c.args.slots.now.items c.in-Some.place placed).with_parent c.args.imported.parent c.index_mut-slot.result.now _ (ap (λ (s : own.Slot). record (slot_of s) { parent = Some c.args.imported.parent }) c.index_mut-slot.ensures.value))
 
 pub returns-in_default-clause-slots : goal.returns-in_default-clause-slots
 returns-in_default-clause-slots c =
     let placed = ap (λ (xs : List own.Slot). place_of c.args.number (map slot_of xs)) (sym c.deref.ensures.value) ∙ sym c.in_default.ensures in
-    sym ((is_nowhere c.args.number (map slot_of c.args.slots.now.items) placed).with_parent c.args.imported.parent.value)
+    sym ((is_nowhere c.args.number (map slot_of c.args.slots.now.items) placed).with_parent c.args.imported.parent)
 
 pub returns-in-Some-clause-rise : goal.returns-in-Some-clause-rise
 returns-in-Some-clause-rise c = λ next h. rise_set 0 c.args.slots.now.items next c.in-Some.place c.index_mut-slot.result.now _ (ap (λ (s : own.Slot). s.number) c.index_mut-slot.ensures.value) h

@@ -2,17 +2,17 @@ use Rattle.std.proofs.Common.{◌+◌, ◌++◌, List, ℕ, drop, arith, ap, sym
 use Rattle.std.specs.Prelude.{option_and_then}
 use Rattle.std.specs.Option.{option_map}
 use Rattle.serde_json.specs.View.{items_view}
-use Rattle.ctf_model.specs.Ask.{names_spelled, not_too_many_names}
-use Rattle.ctf_lines.proofs.SpelledNames.{next_name, no_name, all_names}
+use Rattle.ctf_model.specs.LineFields.{name_spelled, names_spelled, not_too_many_names}
+use Rattle.ctf_lines.proofs.SaidItems.{next_said, none_said, all_said}
 use Rattle.ctf_lines.proofs.spelled.names.Goals as goal
 
 pub returns-in-None : goal.returns-in-None
 returns-in-None c =
-    no_name c.args.values.now c.loop-value.value-index c.value-item.result c.loop-value.names.items c.value-item.is c.loop-value-test.true (sym c.in-None.is ∙ c.in_ok-name.ensures) c.loop-value.invariant.spelled
+    ap (option_and_then not_too_many_names) (none_said name_spelled c.args.values.now c.loop-value.value-index c.value-item.result c.loop-value.names.items c.value-item.is c.loop-value-test.true (sym c.in-None.is ∙ c.in_ok-name.ensures) c.loop-value.invariant.spelled)
 
 pub loop-value-preserved : goal.loop-value-preserved
 loop-value-preserved c =
-    let next = next_name c.args.values.now c.loop-value.value-index c.value-item.result c.loop-value.names.items c.in-Some.name c.value-item.is c.loop-value-test.true (sym c.in-Some.is ∙ c.in_ok-name.ensures) c.loop-value.invariant.spelled in
+    let next = next_said name_spelled c.args.values.now c.loop-value.value-index c.value-item.result c.loop-value.names.items c.in-Some.name c.value-item.is c.loop-value-test.true (sym c.in-Some.is ∙ c.in_ok-name.ensures) c.loop-value.invariant.spelled in
     let len = c.loop-value.invariant.len in
     let room = c.loop-value.invariant.room in
     let pushed = c.push_reserved.ensures.len in
@@ -25,5 +25,5 @@ loop-value-preserved c =
 
 pub returns : goal.returns
 returns c =
-    let all = all_names c.args.values.now c.loop-value.value-index c.loop-value.names.items c.loop-value-test.false c.loop-value.invariant.spelled in
+    let all = all_said name_spelled c.args.values.now c.loop-value.value-index c.loop-value.names.items c.loop-value-test.false c.loop-value.invariant.spelled in
     c.short_list.ensures ∙ sym (ap (option_and_then not_too_many_names) all)

@@ -1,4 +1,4 @@
-use Rattle.std.proofs.Common.{◌≡◌, List, ℕ, ap, sym, ◌∙◌, w32}
+use Rattle.std.proofs.Common.{List, ℕ, ap, sym, ◌∙◌, w32}
 use Rattle.std.proofs.Math.Facts.{to_z-of_z}
 use Rattle.ctf_model.specs.Adders.{against_enumerator}
 use Rattle.ctf_model.specs.Judgements.{first_met}

@@ -1,14 +1,15 @@
-use Rattle.std.proofs.Common.{◌≤◌, List, length, map, option_map, set, sym, ap, subst, ◌∙◌, arith}
+use Rattle.std.proofs.Common.{◌≤◌, List, [], length, map, unwrap_or, option_map, set, sym, ap, subst, ◌∙◌, arith}
 use Rattle.std.proofs.lemmas.List.{map-set}
-use Rattle.ctf_model.specs.Term.{Term}
+use Rattle.ctf_model.specs.Shown.{members_in, shown}
+use Rattle.ctf_model.specs.Term.{Body, Term}
 use Rattle.std.proofs.lemmas.Result.{on_ok_weaker, on_err_weaker}
-use Rattle.ctf_model.specs.Adders.{body_at, replaced, with_member}
+use Rattle.ctf_model.specs.Adders.{body_at, is_among, replaced, with_member}
 use Rattle.ctf_draft.specs.ParentView.{parent_in}
 use Rattle.ctf_model.specs.DraftLaws.{IsSound}
 use Rattle.ctf_model.specs.Drafts.{Draft}
 use Rattle.ctf_draft.specs.DraftView.{Owned}
 use Rattle.ctf_draft.specs.TypeView.{member_of, type_of}
-use Rattle.ctf_draft.proofs.Pending.{left_here, put_here}
+use Rattle.ctf_draft.proofs.Pending.{body_here, left_here, put_here}
 use Rattle.ctf_draft.specs.Reaching.{Knows}
 use Rattle.ctf_draft.proofs.Known.{left_known, other_known}
 use Rattle.ctf_draft.proofs.Sounding.{either_sound}
@@ -46,3 +47,10 @@ invariant_of-self c =
     let left_marks = left_known before d.marks c.leave.new.self c.leave.ensures.left c.self.invariant.5 in
     let knows = subst (λ (ts : List Term). Knows (seen d.parname d.parlabel parent d.model d.updated d.updated_labels ts d.labels) c.leave.new.self) (sym all) (other_known d.parname d.parlabel parent d.model c.leave.new.self d.updated d.updated_labels (map type_of d.types.items) d.labels c.args.i (type_of new) c.leave.ensures.unknown left_marks) in
     (c.self.invariant.0, c.self.invariant.1, c.self.invariant.2, c.self.invariant.3, either_sound c.push_member.result before (replaced e n (change (body_at e n))) after changed left c.self.invariant.4 sound, knows)
+
+pub push_member-requires : goal.push_member-requires
+push_member-requires c =
+    let d = c.self.inside in
+    let parent = parent_in d.parent in
+    let same = body_here d.parname d.parlabel parent d.model d.updated d.updated_labels d.types.items d.labels c.args.n.0 c.args.i c.index_mut.result.now c.index_mut.ensures.value (omega (arith, c.self.invariant.0, d.types.ok.0)) c.args.self.now.draft (ap (λ o. o.draft) c.self.view_is) c.requires.pending in
+    record { fresh = ap (λ (b : Body). is_among c.args.member.name (map (λ x. x.name) (unwrap_or (members_in (shown b)) []))) same ∙ c.requires.fresh }

@@ -1,0 +1,58 @@
+#!/usr/bin/env python3
+"""What writing and updating a draft costs, beside opening the dictionary that comes of it.
+
+usage: writing.py PROGRAM
+
+PROGRAM is built from writing.txt. For each line it makes a draft, and then so many times writes it,
+updates it, or opens what was written: what 21 times take more than once is what 20 cost. Processor time is
+the least of five runs. Instructions are counted by valgrind, for all types and for half of them: the ratio
+of the two says how the cost grows, and 2 is linear.
+"""
+import re
+import subprocess
+import sys
+import tempfile
+
+import run
+
+ROWS = [("named", 30_000), ("plain", 32_766)]
+TIMES = 20
+
+
+def seconds(program, line):
+    """Processor time of a run of one line."""
+    with tempfile.NamedTemporaryFile("w") as file:
+        file.write(line)
+        file.flush()
+        return min(run.run([program], file.name) for _ in range(5))[0]
+
+
+def instructions(program, line):
+    """The instructions of a run of one line."""
+    command = ["valgrind", "--tool=callgrind", "--callgrind-out-file=/dev/null", program]
+    said = subprocess.run(command, input=line.encode(), stdout=subprocess.DEVNULL, stderr=subprocess.PIPE, check=True)
+    return int(re.search(rb"Collected : (\d+)", said.stderr).group(1))
+
+
+def cost(measure, program, what, types, count):
+    """What one of the word costs."""
+    more, once = (measure(program, f"{what} {types} {count} {times}\n") for times in (1 + TIMES, 1))
+    return (more - once) / TIMES
+
+
+def main(program):
+    for types, count in ROWS:
+        opening = None
+        for what in ("open", "write", "update"):
+            used = cost(seconds, program, what, types, count)
+            half, whole = (cost(instructions, program, what, types, size) for size in (count // 2, count))
+            opening = opening or whole
+            print(
+                f"{types:6}{count:6} types {what:7}{1000 * used:6.2f} ms {whole / 1e6:6.1f} million instructions,"
+                f" {whole / half:.2f} times those of half, {whole / opening:.2f} times those of open",
+                flush=True,
+            )
+
+
+if __name__ == "__main__":
+    sys.exit(main(sys.argv[1]) if len(sys.argv) == 2 else __doc__)

@@ -1,0 +1,243 @@
+"""The commands: each is a class whose documentation is its help."""
+from __future__ import annotations
+
+from typing import Union
+
+import gdb
+
+import ctfd
+from ctfd import expressions, formats, lists
+from ctfd.declare import declaration, declarator, function
+from ctfd.operands import BadExpression, Code, Located, Number, Operand, Steps
+from ctfd.text import printable
+
+from .inferior import Inferior
+from .loaded import Loaded
+from .state import STATE, bounds, style
+
+LINES = 500
+UNTYPED = "<text variable, no type>"
+
+
+def shown(target: Inferior, operand: Operand, hexadecimal: bool = False) -> str:
+    """An operand as gdb prints it."""
+    if isinstance(operand, Code):
+        return f"{{{declared(operand)}}} {gdb.format_address(operand.address)}"
+    if operand.type is None:
+        return hex(operand.number) if hexadecimal else str(operand.number)
+    t = operand.type.gather()
+    at = operand.address if isinstance(operand, Located) else None
+    if t.resolved.kind == "function" and at is not None:
+        return f"{{{declaration(t)}}} {gdb.format_address(at)}"
+    if t.resolved.kind == "void":
+        raise BadExpression("void has no value: cast the pointer")
+    if t.size is None:
+        return "<incomplete type>"
+    told = Steps(target).read(operand, bounds())
+    return formats.Formatter(target, style(hexadecimal)).top(t, told, at)
+
+
+def declared(found: Union[ctfd.Type, Operand]) -> str:
+    """How C declares what was found."""
+    if isinstance(found, Code):
+        return function(found.signature, "") if found.signature else UNTYPED
+    if isinstance(found, (Located, Number)):
+        return declaration(found.type) if found.type else "<number>"
+    return declaration(found)
+
+
+def typed(target: Inferior, text: str) -> Union[ctfd.Type, Operand]:
+    """The type that a text names, else the expression that it is."""
+    words = text.split()
+    if not words:
+        raise BadExpression("a type or an expression is wanted")
+    try:
+        return target.find(text)
+    except ctfd.NotFound:
+        if words[0] in expressions.TAGS:
+            raise
+        return expressions.evaluate(text, target)
+
+
+class Command(gdb.Command):
+    """A command of this file: what the package raises is told by gdb."""
+
+    word = ""
+
+    def __init__(self) -> None:
+        super().__init__(f"ctf {self.word}", gdb.COMMAND_DATA, gdb.COMPLETE_SYMBOL)
+
+    def invoke(self, arguments: str, from_tty: bool) -> None:
+        try:
+            self.run(arguments.strip())
+        except ctfd.Gone as error:
+            advice = "load the files again" if STATE.service else "CTFD names the program to start"
+            STATE.close()
+            raise gdb.GdbError(f"{printable(str(error))}; {advice}")
+        except ctfd.Error as error:
+            raise gdb.GdbError(printable(str(error)))
+        except RecursionError:
+            raise gdb.GdbError("values of this type lie too deep in each other: ask for a part")
+
+    def run(self, arguments: str) -> None:
+        raise NotImplementedError
+
+
+class Ctf(gdb.Command):
+    """Types and values by a program's CTF: ctf load FILE first."""
+
+    def __init__(self) -> None:
+        super().__init__("ctf", gdb.COMMAND_DATA, prefix=True)
+
+
+class Load(Command):
+    """ctf load [FILE [PARENT]]: takes the types of a file, that of the program if none is named.
+
+    FILE is an ELF file with a section .SUNW_ctf or .ctf, or the bytes of such a section; PARENT
+    is the file of the dictionary of which FILE's is a child. A file that is loaded already is read
+    anew."""
+
+    word = "load"
+
+    def run(self, arguments: str) -> None:
+        words = gdb.string_to_argv(arguments) or [gdb.current_progspace().filename or ""]
+        if words == [""]:
+            raise BadExpression("gdb has no program: ctf load FILE")
+        found = STATE.open(words[0])
+        parent = STATE.open(words[1]) if len(words) > 1 else None
+        one = Loaded(found, parent)
+        try:
+            if parent:
+                found.types.import_parent(parent.types)
+        except ctfd.Refused:
+            one.close()
+            raise
+        STATE.forget([old for old in STATE.loaded if old.program.path == found.path])
+        STATE.loaded.insert(0, one)
+        print("\n".join(filter(None, [one.told(), one.warning()])))
+
+
+class Unload(Command):
+    """ctf unload [FILE]: forgets the types of a file, or of all."""
+
+    word = "unload"
+
+    def run(self, arguments: str) -> None:
+        words = gdb.string_to_argv(arguments)
+        gone = [one for one in STATE.loaded if not words or one.program.path == words[0]]
+        if words and not gone:
+            raise BadExpression(f"{words[0]} is not loaded")
+        STATE.forget(gone)
+        if not STATE.loaded:
+            STATE.close()
+
+
+class Info(Command):
+    """ctf info: what is loaded, where it is in memory, and what the service was asked."""
+
+    word = "info"
+
+    def run(self, arguments: str) -> None:
+        for one in STATE.loaded:
+            print(one.told())
+        if STATE.service is None:
+            print("no types are loaded")
+            return
+        client, _ = STATE.service
+        print(f"the service is process {client.pid}: {client.requests} requests in"
+              f" {client.rounds} rounds")
+
+
+class Ptype(Command):
+    """ctf ptype TYPE: a type in full, with the places and sizes of its members and the holes.
+
+    In place of a type it takes an expression, and prints its type."""
+
+    word = "ptype"
+
+    def run(self, arguments: str) -> None:
+        found = typed(STATE.target(), arguments)
+        t = found.type if isinstance(found, (Located, Number)) else found
+        if t is None or isinstance(t, Code):
+            print(f"type = {declared(found)}")
+            return
+        base = declarator(t.gather()).base.resolved
+        print(ctfd.listing(base if base.kind in ("struct", "union", "enum") else t))
+
+
+class Whatis(Command):
+    """ctf whatis EXPR: the type of an expression; of a typedef what it stands for."""
+
+    word = "whatis"
+
+    def run(self, arguments: str) -> None:
+        found = typed(STATE.target(), arguments)
+        if isinstance(found, ctfd.Type) and found.kind == "typedef":
+            found = found.reference
+        print(f"type = {declared(found)}")
+
+
+class Print(Command):
+    """ctf print[/x] EXPR: the value of an expression, as gdb prints it.
+
+    Names, numbers, $registers, *, &, casts (TYPE) EXPR, ., ->, [N], + and - are taken."""
+
+    word = "print"
+
+    def run(self, arguments: str) -> None:
+        hexadecimal = arguments.startswith("/x")
+        if arguments.startswith("/") and not hexadecimal:
+            raise BadExpression("the one format is /x")
+        target = STATE.target()
+        operand = expressions.evaluate(arguments[2:] if hexadecimal else arguments, target)
+        print(shown(target, operand, hexadecimal))
+
+
+class List(Command):
+    """ctf list HEAD MEMBER [TYPE]: the nodes of a linked list.
+
+    HEAD is a node or a pointer to one, and MEMBER its pointer to the next. With TYPE, MEMBER is a
+    link inside of TYPE that points to the next link, and HEAD is the list's own link. Quote what
+    has blanks: ctf list "(struct node *) $rdi" next"""
+
+    word = "list"
+
+    def run(self, arguments: str) -> None:
+        words = gdb.string_to_argv(arguments)
+        if len(words) not in (2, 3):
+            raise BadExpression("ctf list HEAD MEMBER [TYPE]")
+        target = STATE.target()
+        head = expressions.evaluate(words[0], target)
+        inside = target.find(words[2]) if len(words) == 3 else None
+        followed = lists.follow(Steps(target), head, words[1], inside, bounds())
+        printer = formats.Formatter(target, style())
+        for number, (address, value) in enumerate(followed.nodes):
+            print(f"[{number}] 0x{address:x} {printer.value(followed.type, value, address)}")
+        if followed.back is not None:
+            print(f"back to [{followed.back}]")
+        if followed.lost is not None:
+            print(f"the link at 0x{followed.lost:x} can't be read")
+        if followed.more:
+            print("...")
+
+
+class Find(Command):
+    """ctf find TEXT: the types and symbols whose names have a text in them."""
+
+    word = "find"
+
+    def run(self, arguments: str) -> None:
+        if not arguments:
+            raise BadExpression("ctf find TEXT")
+        STATE.target()
+        told = [line for one in STATE.loaded for line in one.named(arguments)]
+        print("\n".join(told[:LINES]) or f"nothing has {arguments} in its name")
+        if len(told) > LINES:
+            print(f"... and {len(told) - LINES} more")
+
+
+def register() -> None:
+    """Gives the commands to gdb."""
+    Ctf()
+    for command in (Load, Unload, Info, Ptype, Whatis, Print, List, Find):
+        command()

@@ -1,0 +1,127 @@
+"""The program that gdb looks at, as the package asks for it: memory, registers, names."""
+from __future__ import annotations
+
+from typing import List, Optional, Sequence, Tuple
+
+import gdb
+
+import ctfd
+from ctfd.operands import BadExpression, Number, Operand
+from ctfd.quoting import quoted
+
+from .loaded import Loaded
+
+PAGE = 4096
+STEP = 64
+ADDRESS = (1 << 64) - 1
+
+
+class Inferior:
+    """gdb's selected inferior; look-ups go through the loaded files in turn."""
+
+    def __init__(self, loaded: Sequence[Loaded]) -> None:
+        self.loaded = loaded
+
+    def read(self, address: int, length: int) -> bytes:
+        """As many of the bytes as can be read."""
+        if not length:
+            return b""
+        data = _memory(address, length)
+        if data is None:
+            data = _pages(address, length)
+        if not data:
+            raise BadExpression(f"Cannot access memory at address 0x{address:x}")
+        return data
+
+    def register(self, name: str) -> int:
+        """A register or another of gdb's variables, as a number."""
+        try:
+            value = gdb.parse_and_eval(f"${name}")
+            if value.type.code == gdb.TYPE_CODE_VOID:
+                raise BadExpression(f"there is no register or variable ${name}")
+            return int(value) & ADDRESS
+        except gdb.error as error:
+            raise BadExpression(str(error)) from None
+
+    def symbol(self, name: str) -> Operand:
+        """What a name stands for; one that no file knows is gdb's, and has no type."""
+        untold = False
+        for one in self.loaded:
+            if name in one.program.symbols:
+                try:
+                    return one.program.symbol(name, one.slide())
+                except ctfd.NotFound:
+                    untold = True
+        if untold:
+            raise BadExpression(f"the dictionary tells no type of {name}: cast gdb's address of it")
+        try:
+            return Number(None, int(gdb.parse_and_eval(f"(unsigned long) &'{name}'")))
+        except gdb.error:
+            raise BadExpression(f"no symbol {name} in the files that were loaded, or in gdb"
+                                ) from None
+
+    def find(self, name: str) -> ctfd.Type:
+        """The type of a name, in the first file that has it."""
+        refused: Optional[ctfd.Refused] = None
+        for one in self.loaded:
+            try:
+                return one.program.types.find(name)
+            except ctfd.Refused as fault:
+                refused = refused or fault
+        raise refused or BadExpression("no types are loaded: ctf load FILE")
+
+    def label(self, address: int, is_code: bool = False) -> str:
+        """The symbol at an address as `<main+4>`, or ""; `print symbol` leaves out that of data."""
+        if not is_code and not gdb.parameter("print symbol"):
+            return ""
+        return gdb.format_address(address).partition(" ")[2]
+
+    def string(self, address: int, limit: int, size: int = 1, before: str = "") -> str:
+        """The text at an address, as gdb prints it; its characters have `size` bytes."""
+        codes, lost = _codes(address, limit, size)
+        if lost is not None and not codes:
+            return f"<error: Cannot access memory at address 0x{lost:x}>"
+        ends = 0 in codes
+        text = codes[:codes.index(0)] if ends else codes
+        more = len(text) > limit or (not ends and lost is None)
+        told = quoted(text[:limit], limit, gdb.parameter("print repeats") or 0, more, before)
+        if lost is None or ends or len(text) >= limit:
+            return told
+        return f"{told}<error: Cannot access memory at address 0x{lost:x}>"
+
+
+def _memory(address: int, length: int) -> Optional[bytes]:
+    """Some bytes; None where one of them can't be read."""
+    try:
+        return bytes(gdb.selected_inferior().read_memory(address, length))
+    except (gdb.MemoryError, OverflowError):
+        return None
+    except gdb.error as error:
+        raise BadExpression(str(error)) from None
+
+
+def _pages(address: int, length: int) -> bytes:
+    """The bytes before the first page that can't be read."""
+    data = b""
+    while len(data) < length:
+        at = address + len(data)
+        piece = _memory(at, min(length - len(data), PAGE - at % PAGE))
+        if piece is None:
+            break
+        data += piece
+    return data
+
+
+def _codes(address: int, limit: int, size: int) -> Tuple[List[int], Optional[int]]:
+    """Characters up to a zero or one past the limit, and the address that can't be read."""
+    data = b""
+    codes: List[int] = []
+    while len(codes) <= limit and 0 not in codes:
+        at = address + len(data)
+        piece = _memory(at, STEP - at % STEP)
+        if piece is None:
+            return codes, at
+        data += piece
+        whole = len(data) // size * size
+        codes = [int.from_bytes(data[n:n + size], "little") for n in range(0, whole, size)]
+    return codes, None

@@ -1,0 +1,132 @@
+"""Files whose types were loaded, and where gdb has them in memory."""
+from __future__ import annotations
+
+import os
+import re
+from typing import Iterator, Optional
+
+import gdb
+
+import ctfd
+from ctfd.declare import declaration, function
+from ctfd.elf import Elf
+from ctfd.operands import BadExpression, Code, Located
+from ctfd.program import Program
+from ctfd.text import printable
+
+NAMED = ("struct", "union", "enum", "typedef", "integer", "float", "forward")
+WARNINGS = {
+    "guessed": "the section names no symbol table: if the file's is not the one that the types"
+               " were written for, names are told wrongly",
+    "refused": "the file's symbol table is not the one that the types were written for: nothing"
+               " is told of names",
+}
+
+_LIBRARY = re.compile(r"(0x[0-9a-f]+)\s+0x[0-9a-f]+\s+(?:Yes|No)\s+(?:\(\*\)\s+)?(.*)")
+_ENTRY = re.compile(r"AT_ENTRY.*?(0x[0-9a-f]+)")
+_PLACED = re.compile(r"Entry point: (0x[0-9a-f]+)")
+
+
+class Loaded:
+    """A file whose types were loaded; `parent` was loaded for it, if it is a child."""
+
+    def __init__(self, program: Program, parent: Optional[Program]) -> None:
+        self.program = program
+        self.parent = parent
+        self.is_main = _is_main(program)
+
+    def slide(self) -> int:
+        """How far from its file's addresses it is in memory."""
+        image = self.program.image
+        if image is None:
+            raise BadExpression(f"{self.program.path} is a section alone: it has no addresses")
+        if image.is_fixed:
+            return 0
+        found = _slide_of_main(image) if self.is_main else self._slide_of_library()
+        if found is None:
+            raise BadExpression(f"{self.program.path} is not part of the program")
+        return found
+
+    def _slide_of_library(self) -> Optional[int]:
+        """By where gdb says that its section .text is."""
+        for line in gdb.execute("info sharedlibrary", to_string=True).splitlines():
+            found = _LIBRARY.match(line)
+            if found and self.program.text is not None and _same(found[2], self.program.path):
+                return int(found[1], 16) - self.program.text
+        return None
+
+    def told(self) -> str:
+        """A line on what this is and where it runs."""
+        types = self.program.types
+        said = f"{self.program.path}: {types.own} types, {len(self.program.symbols)} symbols"
+        if types.is_child and not self.parent:
+            said += f", without its parent {types.parent_name}"
+        try:
+            slide = self.slide()
+        except BadExpression:
+            slide = 0
+        return printable(said) + (f", at 0x{slide:x}" if slide else "")
+
+    def warning(self) -> str:
+        """What is to be known of its symbols, or ""."""
+        return WARNINGS.get(self.program.types.how, "")
+
+    def named(self, part: str) -> Iterator[str]:
+        """Lines on the types and symbols that have a text in their names."""
+        types = self.program.types
+        own = types.types() + (self.parent.types.types() if self.parent else [])
+        types.fetch([("record", t.number) for t in own])
+        found = [t for t in own if t.kind in NAMED and part in t.name]
+        types.fetch([(op, t.number) for t in found for op in ("name", "size")])
+        for t in found:
+            size = "" if t.size is None else f", {t.size} bytes"
+            word = "typedef " if t.kind == "typedef" else ""
+            yield f"{word}{printable(t.spelled)}{size}"
+        for name in self.program.symbols:
+            if part in name:
+                yield self._symbol(name)
+
+    def _symbol(self, name: str) -> str:
+        try:
+            operand = self.program.symbol(name, 0)
+        except ctfd.Error:
+            operand = None
+        if isinstance(operand, Code) and operand.signature:
+            return function(operand.signature, name)
+        if isinstance(operand, Located):
+            return declaration(operand.type, name)
+        return f"{printable(name)}: nothing is told of it"
+
+    def close(self) -> None:
+        """Gives the dictionaries back."""
+        self.program.types.close()
+        if self.parent:
+            self.parent.types.close()
+
+
+def _is_main(program: Program) -> bool:
+    """Whether a file is gdb's program: that very file, or one that begins at the same address."""
+    main = gdb.current_progspace().filename
+    if not main or program.image is None:
+        return False
+    if _same(main, program.path):
+        return True
+    try:
+        with open(main, "rb") as file:
+            image = Elf(file.read(), main)
+    except (OSError, ctfd.Unreadable):
+        return False
+    return bool(image.entry) and image.entry == program.image.entry
+
+
+def _slide_of_main(image: Elf) -> int:
+    """By the auxiliary vector of a process or a core file, else by where gdb has put the file."""
+    try:
+        found = _ENTRY.search(gdb.execute("info auxv", to_string=True))
+    except gdb.error:  # it does not run, or not any more
+        found = _PLACED.search(gdb.execute("info files", to_string=True))
+    return int(found[1], 16) - image.entry if found else 0
+
+
+def _same(one: str, other: str) -> bool:
+    return os.path.realpath(one) == os.path.realpath(other)

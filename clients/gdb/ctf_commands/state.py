@@ -1,0 +1,72 @@
+"""What lasts from command to command: the service and the files whose types were loaded."""
+from __future__ import annotations
+
+import atexit
+import os
+from typing import List, Optional, Tuple
+
+import gdb
+
+import ctfd
+from ctfd import formats, program, values
+from ctfd.operands import BadExpression
+from ctfd.program import Program
+
+from .inferior import Inferior
+from .loaded import Loaded
+
+MOST = 65_536
+DEEPEST = 64
+
+
+class State:
+    """The service, started with the first file, and the files in the order of look-ups."""
+
+    def __init__(self) -> None:
+        self.service: Optional[Tuple[ctfd.Client, ctfd.Session]] = None
+        self.loaded: List[Loaded] = []
+
+    def open(self, path: str) -> Program:
+        """A file's dictionary. The service is the program that CTFD in the environment names."""
+        if self.service is None:
+            client = ctfd.Client(os.environ.get("CTFD", "ctfd"))
+            self.service = client, client.session()
+        return program.open_program(self.service[1], os.path.expanduser(path))
+
+    def close(self) -> None:
+        """Ends the service, and with it all that was loaded."""
+        if self.service is not None:
+            self.service[0].close()
+        self.service = None
+        self.loaded = []
+
+    def forget(self, gone: List[Loaded]) -> None:
+        """Gives some files back."""
+        for one in gone:
+            self.loaded.remove(one)
+            one.close()
+
+    def target(self) -> Inferior:
+        """The program that gdb looks at, with the types that were loaded."""
+        if not self.loaded:
+            raise BadExpression("no types are loaded: ctf load FILE")
+        return Inferior(self.loaded)
+
+
+STATE = State()
+atexit.register(STATE.close)
+
+
+def style(hexadecimal: bool = False) -> formats.Style:
+    """gdb's settings for printing, within bounds."""
+    deepest = gdb.parameter("print max-depth")
+    return formats.Style(
+        elements=min(gdb.parameter("print elements") or MOST, MOST),
+        repeats=gdb.parameter("print repeats") or 0,
+        deepest=DEEPEST if deepest is None or not 0 <= deepest <= DEEPEST else deepest,
+        hexadecimal=hexadecimal)
+
+
+def bounds() -> values.Bounds:
+    """What a value may cost."""
+    return values.Bounds(elements=style().elements)

@@ -1,8 +1,0 @@
-use Rattle.std.proofs.Common.{◌≡◌, false, map, take}
-use Rattle.std.specs.List.{list_any}
-use Rattle.std.specs.Str.{bytes_eq}
-use Rattle.ctf_draft.specs.TypeView.{enumerator_of}
-use Rattle.ctf_draft.proofs.naming.is_enumerator.Given as goal
-
-abbrev pub invariant-loop-enumerator : goal.invariant-loop-enumerator
-invariant-loop-enumerator l = list_any (bytes_eq l.name) (map (λ x. (enumerator_of x).name) (take l.enumerator-index l.enumerators)) ≡ false

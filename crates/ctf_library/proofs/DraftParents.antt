@@ -1,0 +1,141 @@
+-- What is added to a draft changes neither its parent nor its data model.
+use Rattle.std.proofs.Common.{◌≡◌, ℕ, List, Option, Some, None, Result, Ok, Err, refl, ap, sym, subst, ◌∙◌, inl, inr}
+use Rattle.std.specs.Prelude.{option_map, is_some}
+use Rattle.ctf_answers.specs.declared.counts.Counts.{Counts}
+use Rattle.ctf_library.specs.Drafting.{IsEnlarged, IsUnder}
+use Rattle.ctf_model.specs.Additions.{Enlarged, body_of, enlarged, numbered, silent}
+use Rattle.ctf_model.specs.Adders.{Added, add_enumerator, add_label, add_member, add_type, against_enumerator, against_label, against_member, against_place, against_type, body_at, put_member, replaced, replaced_at, size_with, with_enumerator, with_label, with_member, with_type}
+use Rattle.ctf_model.specs.Dictionary.{Dictionary, Label, said_by}
+use Rattle.ctf_model.specs.Drafts.{Draft, against_draft, empty_draft, new_draft, next_number, pending_place, space_of}
+use Rattle.ctf_model.specs.Judgements.{first_met, unless, ◌then◌}
+use Rattle.ctf_model.specs.Lists.{Lists}
+use Rattle.ctf_model.specs.NewTypes.{NewType, new_term}
+use Rattle.ctf_model.specs.Placement.{bits_filled, member_place}
+use Rattle.ctf_model.specs.Space.{space_type}
+use Rattle.ctf_model.specs.Term.{Body, Enumerator, Member, Term}
+use Rattle.ctf_model.specs.declared.additions.Addition.{Addition}
+use Rattle.ctf_model.specs.declared.additions.Addition.TheVariants as add
+use Rattle.ctf_model.specs.declared.data_model.DataModel.TheVariants.{Lp64}
+use Rattle.ctf_model.specs.declared.faults.Fault.{Fault}
+
+pub record AreAlike (a b : Draft) : Type 0 where
+  pub parent : b.parent ≡ a.parent
+  pub model : b.model ≡ a.model
+
+-- what is answered where nothing is refused
+unless_ok : {A : Type 0} (fault : Option Fault) (done : Result A Fault) (a : A) → unless fault done ≡ Ok a → done ≡ Ok a
+unless_ok None done a e = e
+unless_ok (Some f) done a e = absurd cc
+
+then_ok : {A : Type 0} (n : Result ℕ Fault) (next : ℕ → Result A Fault) (a : A) → (n then next) ≡ Ok a → (k : ℕ) × (next k ≡ Ok a)
+then_ok (Ok n) next a e = (n, e)
+then_ok (Err f) next a e = absurd cc
+
+-- the draft of an answer
+added_alike : (d : Draft) (b a : Added) → AreAlike d b.draft → unless None (Ok b) ≡ Ok a → AreAlike d a.draft
+added_alike d b a alike e = let is : b ≡ a = cc in subst (λ (x : Added). AreAlike d x.draft) is alike
+
+draft_alike : (d b a : Draft) → AreAlike d b → unless None (Ok b) ≡ Ok a → AreAlike d a
+draft_alike d b a alike e = let is : b ≡ a = cc in subst (λ (x : Draft). AreAlike d x) is alike
+
+replaced_alike : (d : Draft) (n : ℕ) (body : Body) → AreAlike d (replaced d n body)
+replaced_alike d n body = at (pending_place d n) (space_type (space_of d) n)
+  where
+    at : (o : Option ℕ) (r : Result Term Fault) → AreAlike d (replaced_at d o r body)
+    at (Some i) (Ok x) = record { parent = refl; model = refl }
+    at (Some i) (Err f) = record { parent = refl; model = refl }
+    at None (Ok x) = record { parent = refl; model = refl }
+    at None (Err f) = record { parent = refl; model = refl }
+
+type_alike : (d : Draft) (x : NewType) (a : Added) → add_type d x ≡ Ok a → AreAlike d a.draft
+unfolding add_type
+type_alike d x a e =
+    let done = unless_ok (first_met (against_type d (new_term x))) (Ok (record { draft = with_type d (new_term x); answer = next_number d })) a e in
+    added_alike d (record { draft = with_type d (new_term x); answer = next_number d }) a (record { parent = refl; model = refl }) done
+
+put_alike : (d : Draft) (n : ℕ) (m : Member) (bits : ℕ) (a : Added) → put_member d n m bits ≡ Ok a → AreAlike d a.draft
+put_alike d n m bits a e =
+    let b : Added = record { draft = replaced d n (with_member m (size_with d n m.offset bits) (body_at d n)); answer = m.offset } in
+    let done = unless_ok (first_met (against_place m.offset (size_with d n m.offset bits))) (Ok b) a e in
+    added_alike d b a (replaced_alike d n (with_member m (size_with d n m.offset bits) (body_at d n))) done
+
+member_alike : (d : Draft) (n : ℕ) (name : List ℕ) (tnum : ℕ) (offset : Option ℕ) (a : Added) → add_member d n name tnum offset ≡ Ok a → AreAlike d a.draft
+unfolding add_member
+member_alike d n name tnum offset a e =
+    let placed = unless_ok (first_met (against_member d n name tnum)) _ a e in
+    let bits = then_ok (bits_filled (space_of d) tnum) _ a placed in
+    let place = then_ok (member_place (space_of d) (body_at d n) tnum offset) _ a bits.1 in
+    put_alike d n (record { name = name; tnum = tnum; offset = place.0 }) bits.0 a place.1
+
+enumerator_alike : (d : Draft) (n : ℕ) (x : Enumerator) (a : Draft) → add_enumerator d n x ≡ Ok a → AreAlike d a
+unfolding add_enumerator
+enumerator_alike d n x a e =
+    let b : Draft = replaced d n (with_enumerator x (body_at d n)) in
+    let done = unless_ok (first_met (against_enumerator d n x.name)) (Ok b) a e in
+    draft_alike d b a (replaced_alike d n (with_enumerator x (body_at d n))) done
+
+label_alike : (d : Draft) (x : Label) (a : Draft) → add_label d x ≡ Ok a → AreAlike d a
+unfolding add_label
+label_alike d x a e =
+    let done = unless_ok (first_met (against_label d x.name)) (Ok (with_label d x)) a e in
+    draft_alike d (with_label d x) a (record { parent = refl; model = refl }) done
+
+-- what is answered is that of the draft
+numbered_alike : (d : Draft) (key : List ℕ) (r : Result Added Fault) (a : Enlarged) → ((b : Added) → r ≡ Ok b → AreAlike d b.draft) → numbered key r ≡ Ok a → AreAlike d a.draft
+numbered_alike d key (Ok b) a alike e =
+    let is : b.draft ≡ a.draft = cc in
+    subst (λ (x : Draft). AreAlike d x) is (alike b refl)
+numbered_alike d key (Err f) a alike e = absurd cc
+
+silent_alike : (d : Draft) (r : Result Draft Fault) (a : Enlarged) → ((b : Draft) → r ≡ Ok b → AreAlike d b) → silent r ≡ Ok a → AreAlike d a.draft
+silent_alike d (Ok b) a alike e =
+    let is : b ≡ a.draft = cc in
+    subst (λ (x : Draft). AreAlike d x) is (alike b refl)
+silent_alike d (Err f) a alike e = absurd cc
+
+enlarged_alike : (d : Draft) (x : Addition) (a : Enlarged) → enlarged d x ≡ Ok a → AreAlike d a.draft
+unfolding enlarged
+enlarged_alike d (add.Type name root kind) a e = numbered_alike d _ (add_type d (record { name = name; root = root; body = body_of kind })) a (λ b h. type_alike d (record { name = name; root = root; body = body_of kind }) b h) e
+enlarged_alike d (add.Member t name tnum offset) a e = numbered_alike d _ (add_member d t.0 name tnum.0 offset) a (λ b h. member_alike d t.0 name tnum.0 offset b h) e
+enlarged_alike d (add.Enumerator t name value) a e = silent_alike d (add_enumerator d t.0 (record { name = name; value = value })) a (λ b h. enumerator_alike d t.0 (record { name = name; value = value }) b h) e
+enlarged_alike d (add.Label name last) a e = silent_alike d (add_label d (record { name = name; last = last })) a (λ b h. label_alike d (record { name = name; last = last }) b h) e
+
+-- so it stays under what it was under
+pub still_under : (old new : Draft) (x : Addition) (result : Result Counts Fault) (above : Option Lists) → IsEnlarged (enlarged old x) result old new → IsUnder old above → IsUnder new above
+still_under old new x result above h under = at (enlarged old x) refl h
+  where
+    by : AreAlike old new → IsUnder new above
+    by alike = record { parent = alike.parent ∙ under.parent; model = alike.model ∙ under.model }
+
+    same : new ≡ old → IsUnder new above
+    same e = by (record { parent = ap (λ (d : Draft). d.parent) e; model = ap (λ (d : Draft). d.model) e })
+
+    at : (r : Result Enlarged Fault) → enlarged old x ≡ r → IsEnlarged r result old new → IsUnder new above
+    at (Ok a) e (inl done) = by (subst (λ (d : Draft). AreAlike old d) (sym done.1) (enlarged_alike old x a e))
+    at (Ok a) e (inr none) = same none.1
+    at (Err f) e none = same none.1
+
+-- ---- new drafts
+
+made_of : (above : Option Dictionary) (parname parlabel : List ℕ) (d : Draft) → new_draft above parname parlabel Lp64 ≡ Ok d → (d.parent ≡ above) × (d.model ≡ Lp64)
+unfolding new_draft
+made_of above parname parlabel d e =
+    let done = unless_ok (first_met (against_draft above parname parlabel)) (Ok (empty_draft above parname parlabel Lp64)) d e in
+    let is : empty_draft above parname parlabel Lp64 ≡ d = cc in
+    (ap (λ (x : Draft). x.parent) (sym is), ap (λ (x : Draft). x.model) (sym is))
+
+map_twice : {A B C : Type 0} (f : A → B) (g : B → C) (o : Option A) → option_map (λ a. g (f a)) o ≡ option_map g (option_map f o)
+map_twice f g None = refl
+map_twice f g (Some a) = refl
+
+pub made_under : {P : Type 0} (lists : P → Lists) (parent : Option P) (above : Option Lists) (parname parlabel : List ℕ) (d : Draft) → option_map lists parent ≡ above → new_draft (option_map (λ p. said_by (lists p)) parent) parname parlabel Lp64 ≡ Ok d → IsUnder d above
+made_under lists parent above parname parlabel d same e =
+    let made = made_of (option_map (λ p. said_by (lists p)) parent) parname parlabel d e in
+    record { parent = made.0 ∙ map_twice lists said_by parent ∙ ap (option_map said_by) same; model = made.1 }
+
+-- one is there just where its lists are
+pub there : {P R : Type 0} (lists : P → Lists) (o : Option P) (now : R → Lists) (r : Option R) → option_map lists o ≡ option_map now r → is_some o ≡ is_some r
+there lists None now None e = refl
+there lists None now (Some r) e = absurd cc
+there lists (Some p) now None e = absurd cc
+there lists (Some p) now (Some r) e = refl

@@ -1,0 +1,60 @@
+-- The step of the draft in the slot at a place.
+use Rattle.std.proofs.Common.{◌≡◌, ℕ, List, [], ◌∷◌, map, set, Bool, true, false, Option, Some, None, Result, Ok, Err, eqb, refl, ap, sym, ◌∙◌, ◌⊎◌, inl, inr, arith}
+use Rattle.ctf_answers.specs.Replies.{changed}
+use Rattle.ctf_answers.specs.declared.counts.Counts.{Counts}
+use Rattle.ctf_library.proofs.Numbered.{IsPlace}
+use Rattle.ctf_library.specs.Drafting.{HaveStepped, IsStepped}
+use Rattle.ctf_library.specs.SlotView.{slot_of}
+use Rattle.ctf_library.specs.declared.slots.Slot as own
+use Rattle.ctf_model.specs.Answers.{Answer}
+use Rattle.ctf_model.specs.DraftSteps.{draft_step, slot_step, slots_with, step_if_draft}
+use Rattle.ctf_model.specs.Drafts.{Draft}
+use Rattle.ctf_model.specs.Refusals.{want_of_memory}
+use Rattle.ctf_model.specs.State.{Slot}
+use Rattle.ctf_model.specs.Steps.{slot_at}
+use Rattle.ctf_model.specs.declared.faults.Fault.{Fault}
+use Rattle.ctf_model.specs.declared.requests.DraftStep.{DraftStep}
+use Rattle.ctf_model.specs.declared.requests.DraftStep.TheVariants.{Discard}
+
+-- a slot in its own place changes nothing
+kept_at : (n : ℕ) (s x : Slot) (xs : List Slot) → (slot_at n xs ≡ Some s → slots_with n s xs ≡ xs) → (t : Bool) → eqb x.number n ≡ t → slot_at n (x ∷ xs) ≡ Some s → slots_with n s (x ∷ xs) ≡ x ∷ xs
+kept_at n s x xs later true t e =
+    let here : Some x ≡ Some s = rw t at e in
+    let same : s ≡ x = cc in
+    rw t (ap (λ (y : Slot). y ∷ xs) same)
+kept_at n s x xs later false t e =
+    let there : slot_at n xs ≡ Some s = rw t at e in
+    rw t (ap (λ (ys : List Slot). x ∷ ys) (later there))
+
+slot_kept : (n : ℕ) (s : Slot) (slots : List Slot) → slot_at n slots ≡ Some s → slots_with n s slots ≡ slots
+slot_kept n s [] e = refl
+slot_kept n s (x ∷ xs) e = kept_at n s x xs (λ h. slot_kept n s xs h) (eqb x.number n) refl e
+
+pub have_stepped : (step : DraftStep) (n : ℕ) (items : List own.Slot) (i : ℕ) (old new : own.Slot) (result : Result Counts Fault) → IsPlace n items i → slot_at n (map slot_of items) ≡ Some (slot_of old) → IsStepped (slot_step step (slot_of old)) result (slot_of old) (slot_of new) → HaveStepped step n result (map slot_of items) (map slot_of (set items i new))
+have_stepped step n items i old new result p at h = rw at (by h)
+  where
+    slots : List Slot
+    slots = map slot_of items
+
+    becomes : (s : Slot) → slot_of new ≡ s → map slot_of (set items i new) ≡ slots_with n s slots
+    becomes s e = sym (p.replaced new) ∙ ap (λ (x : Slot). slots_with n x slots) e
+
+    by : IsStepped (slot_step step (slot_of old)) result (slot_of old) (slot_of new)
+        → ((changed result ≡ (slot_step step (slot_of old)).said) × (map slot_of (set items i new) ≡ slots_with n (slot_step step (slot_of old)).slot slots)) ⊎ ((result ≡ Err want_of_memory) × (map slot_of (set items i new) ≡ slots))
+    by (inl done) = inl (done.0, becomes (slot_step step (slot_of old)).slot done.1)
+    by (inr none) = inr (none.0, becomes (slot_of old) none.1 ∙ slot_kept n (slot_of old) slots at)
+
+-- a discard takes no memory
+abbrev code_of : Result Answer Fault → ℕ
+code_of (Ok answer) = 1
+code_of (Err fault) = fault.code
+
+discard_answers : (s : Slot) (d : Option Draft) → (Err want_of_memory ≡ (step_if_draft Discard s d).said) → ⊥
+unfolding draft_step
+discard_answers s None e = let codes : 0 ≡ 52 = ap code_of e in absurd (omega (arith, codes))
+discard_answers s (Some d) e = let codes : 0 ≡ 1 = ap code_of e in absurd (omega (arith, codes))
+
+pub discard_is_quiet : (s : Slot) (step : DraftStep) (result : Result Counts Fault) → step ≡ Discard → changed result ≡ (slot_step step s).said → result ≡ Err want_of_memory → ⊥
+discard_is_quiet s step result is said want =
+    let told : changed result ≡ (slot_step Discard s).said = rw is at said in
+    discard_answers s s.draft (sym (ap changed want) ∙ told)

@@ -1,0 +1,64 @@
+-- Steps of the draft in a slot.
+use Rattle.std.proofs.Common.{◌≡◌, Option, Some, Result, Ok, Err, ap, sym, subst, ◌∙◌, ◌⊎◌, inl, inr}
+use Rattle.ctf_answers.specs.Replies.{changed}
+use Rattle.ctf_answers.specs.declared.counts.Counts.{Counts}
+use Rattle.ctf_library.specs.Drafting.{AreWritten, IsEnlarged, IsStepped}
+use Rattle.ctf_model.specs.Additions.{Enlarged, enlarged}
+use Rattle.ctf_model.specs.DraftSteps.{SlotOutcome, discards, draft_step, enlarges, slot_step, step_if_draft, types_answer, updates_to}
+use Rattle.ctf_model.specs.Drafts.{Draft, held, settled}
+use Rattle.ctf_model.specs.Lists.{Lists}
+use Rattle.ctf_model.specs.Refusals.{want_of_memory}
+use Rattle.ctf_model.specs.State.{Slot}
+use Rattle.ctf_model.specs.Written.{lists_of, written}
+use Rattle.ctf_model.specs.declared.additions.Addition.{Addition}
+use Rattle.ctf_model.specs.declared.faults.Fault.{Fault}
+use Rattle.ctf_model.specs.declared.requests.DraftStep.{DraftStep}
+use Rattle.ctf_model.specs.declared.requests.DraftStep.TheVariants.{Add, Update, Discard}
+
+-- the slot of a draft is that slot
+own_draft : (s : Slot) (d : Draft) → s.draft ≡ Some d → record s { draft = Some d } ≡ s
+own_draft s d e = ap (λ (o : Option Draft). record s { draft = o }) (sym e)
+
+-- and its step is that of the draft
+of_draft : (s : Slot) (d : Draft) (step : DraftStep) → s.draft ≡ Some d → slot_step step s ≡ draft_step step s d
+of_draft s d step e = ap (step_if_draft step s) e
+
+-- ---- additions
+
+enlarges_as : (s : Slot) (d new : Draft) (r : Result Enlarged Fault) (result : Result Counts Fault) → s.draft ≡ Some d → IsEnlarged r result d new → IsStepped (enlarges s r) result s (record s { draft = Some new })
+enlarges_as s d new (Ok added) result e (inl done) = inl (done.0, ap (λ (x : Draft). record s { draft = Some x }) done.1)
+enlarges_as s d new (Ok added) result e (inr none) = inr (none.0, ap (λ (x : Draft). record s { draft = Some x }) none.1 ∙ own_draft s d e)
+enlarges_as s d new (Err f) result e (inl refused, same) = inl (ap changed refused, ap (λ (x : Draft). record s { draft = Some x }) same ∙ own_draft s d e)
+enlarges_as s d new (Err f) result e (inr want, same) = inr (want, ap (λ (x : Draft). record s { draft = Some x }) same ∙ own_draft s d e)
+
+pub add_step : (s : Slot) (d new : Draft) (x : Addition) (result : Result Counts Fault) → s.draft ≡ Some d → IsEnlarged (enlarged d x) result d new → IsStepped (slot_step (Add x) s) result s (record s { draft = Some new })
+unfolding draft_step
+add_step s d new x result e h = subst (λ (o : SlotOutcome). IsStepped o result s (record s { draft = Some new })) (sym (of_draft s d (Add x) e)) (enlarges_as s d new (enlarged d x) result e h)
+
+-- ---- discards
+
+pub discard_step : (s : Slot) (d : Draft) → s.draft ≡ Some d → slot_step Discard s ≡ discards s d
+unfolding draft_step
+discard_step s d e = of_draft s d Discard e
+
+-- ---- updates
+
+update_step : (s : Slot) (d : Draft) → s.draft ≡ Some d → slot_step Update s ≡ updates_to s d (written (held d))
+unfolding draft_step
+update_step s d e = of_draft s d Update e
+
+pub update_refused : (s : Slot) (d : Draft) (f : Fault) (result : Result Counts Fault) → s.draft ≡ Some d → result ≡ Err f → (f ≡ want_of_memory) ⊎ (written (held d) ≡ Err f) → IsStepped (slot_step Update s) result s (record s { draft = Some d })
+update_refused s d f result e is (inl want) = inr (is ∙ ap Err want, own_draft s d e)
+update_refused s d f result e is (inr refused) =
+    let to = update_step s d e ∙ ap (updates_to s d) refused in
+    subst (λ (o : SlotOutcome). IsStepped o result s (record s { draft = Some d })) (sym to) (inl (ap changed is, own_draft s d e))
+
+-- the slot as an update leaves it
+abbrev updated : Slot → Lists → Option Lists → Draft → Slot
+updated s lists parent d = record s { lists = lists; parent = parent; draft = Some d }
+
+pub update_done : (s : Slot) (d now : Draft) (lists : Lists) (parent : Option Lists) (result : Result Counts Fault) → s.draft ≡ Some d → AreWritten d lists → parent ≡ s.parent → now ≡ settled d → changed result ≡ Ok (types_answer lists) → IsStepped (slot_step Update s) result s (record s { lists = lists; parent = parent; draft = Some now })
+update_done s d now lists parent result e w same settles said =
+    let to = update_step s d e ∙ ap (updates_to s d) w.bytes in
+    let slot = ap (λ (l : Lists). updated s l parent now) w.alone ∙ ap (λ (o : Option Lists). updated s (lists_of lists.ctf) o now) same ∙ ap (updated s (lists_of lists.ctf) s.parent) settles in
+    subst (λ (o : SlotOutcome). IsStepped o result s (record s { lists = lists; parent = parent; draft = Some now })) (sym to) (inl (said ∙ ap (λ (l : Lists). Ok (types_answer l)) w.alone, slot))

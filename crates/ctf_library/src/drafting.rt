@@ -1,0 +1,260 @@
+//! Drafts in slots: how they are made, updated and dropped.
+ghost use Rattle.std.specs.Prelude.{◌≡◌, ◌==◌, ◌⊎◌, not, length, is_some, IfErr, IfOk, Ok, Err, None, Some, option_map, option_copied, option_and_then};
+ghost use Rattle.std.specs.Option.{ForSome};
+ghost use Rattle.ctf_library.specs.Drafting.{AreWritten, IsStepped, IsUnder};
+ghost use Rattle.ctf_library.specs.Fitting.{AreTablesOf};
+ghost use Rattle.ctf_library.specs.SlotView.{slot_of};
+ghost use Rattle.ctf_answers.specs.Counts.{counts_said};
+ghost use Rattle.ctf_answers.specs.Replies.{changed};
+ghost use Rattle.ctf_model.specs.Dictionary.{Denotes, said_by};
+ghost use Rattle.ctf_model.specs.DraftSteps.{created_slot, slot_step, step_if_draft, types_answer};
+ghost use Rattle.ctf_model.specs.Drafts.{held, new_draft as new_draft_of};
+ghost use Rattle.ctf_model.specs.Lists.{Lists};
+ghost use Rattle.ctf_model.specs.Refusals.{want_of_memory};
+ghost use Rattle.ctf_model.specs.Steps.{fault_over};
+ghost use Rattle.ctf_model.specs.Written.{written};
+ghost use Rattle.ctf_model.specs.declared.data_model.DataModel.TheVariants.{Lp64};
+ghost use Rattle.ctf_model.specs.declared.requests.DraftStep.TheVariants.{Add, Update as Updates, Discard};
+
+use crate::additions::enlarge;
+use crate::loaded::Loaded;
+use crate::slots::{Imported, Slot};
+use crate::tables::tables_over;
+use ctf_answers::Counts;
+use ctf_draft::Draft;
+use ctf_model::{Addition, Bytes, Creation, DataModel, DraftStep, Fault, Parts, placeless};
+use ctf_space::Opened;
+use ctf_writer::write;
+use std::alloc::{AllocError, Global};
+use std::rc::Rc;
+
+/// A dictionary over its parent, if it has one, with the tables of the one over the other.
+fn imported_over(
+    alloc: Global,
+    own: &Loaded,
+    parent: Option<&Loaded>,
+) -> Result<Option<Imported>, Fault>
+    ensures parent { IfOk result (λ i. option_map (λ i. i.parent) i ≡ option_copied parent.entry) }
+    ensures fits { IfOk result (λ i. ForSome i (λ i. fault_over own.now i.parent ≡ None)) }
+    ensures made { IfOk result (λ i. ForSome i
+        (λ i. AreTablesOf own.now (Some i.parent) i.tables)) }
+    ensures exact_err { IfErr result (λ f. (f ≡ want_of_memory)
+        ⊎ (option_and_then (λ p. fault_over own.now p) (option_copied parent.entry) ≡ Some f)) }
+{
+    let Some(parent) = parent else {
+        return Ok(None);
+    };
+    let tables = match tables_over(alloc, own, parent) {
+        Ok(tables) => tables,
+        Err(fault) => return Err(fault),
+    };
+    match parent.share() {
+        Ok(parent) => Ok(Some(Imported { parent, tables })),
+        Err(_) => Err(placeless(Fault::MEMORY)),
+    }
+}
+
+/// The bytes of a draft as a dictionary, which is kept for its draft as well.
+#[derive(Drop)]
+struct Updated {
+    own: Loaded,
+    opened: Rc<Opened>,
+    imported: Option<Imported>,
+}
+
+/// The dictionary that a draft's bytes make.
+fn loaded(alloc: Global, draft: &Draft) -> Result<Loaded, Fault>
+    ensures written { IfOk result (λ l. AreWritten draft.now.draft l) }
+    ensures denotes { IfOk result (λ l. Denotes l (held draft.now.draft)) }
+    ensures under { IfOk result (λ l. (p : Lists) → draft.now.draft.parent ≡ Some (said_by p) → fault_over l p ≡ None) }
+    ensures exact_err { IfErr result (λ f. (f ≡ want_of_memory)
+        ⊎ (written (held draft.now.draft) ≡ Err f)) }
+{
+    let bytes = match write(alloc, draft) {
+        Ok(bytes) => bytes,
+        Err(fault) => return Err(fault),
+    };
+    let parts = Parts {
+        ctf: Bytes::from(bytes),
+        sym: None,
+        strs: None,
+    };
+    match Loaded::build(alloc, parts) {
+        Ok(loaded) => Ok(loaded),
+        Err((fault, _)) => Err(fault),
+    }
+}
+
+/// What a draft's dictionary becomes by an update, over the draft's parent.
+fn updated_over(alloc: Global, draft: &Draft, parent: Option<&Loaded>) -> Result<Updated, Fault>
+    requires { IsUnder draft.now.draft (option_copied parent) }
+    ensures written { IfOk result (λ u. AreWritten draft.now.draft u.own) }
+    ensures denotes { IfOk result (λ u. Denotes u.own (held draft.now.draft)) }
+    ensures opened { IfOk result (λ u. (u.opened.value.lists ≡ u.own)
+        × (u.opened.value.model ≡ Lp64)) }
+    ensures parent { IfOk result (λ u. option_map (λ i. i.parent) u.imported
+        ≡ option_copied parent.entry) }
+    ensures fits { IfOk result (λ u. ForSome u.imported (λ i. fault_over u.own i.parent ≡ None)) }
+    ensures made { IfOk result (λ u. ForSome u.imported
+        (λ i. AreTablesOf u.own (Some i.parent) i.tables)) }
+    ensures exact_err { IfErr result (λ f. (f ≡ want_of_memory)
+        ⊎ (written (held draft.now.draft) ≡ Err f)) }
+{
+    let own = match loaded(alloc, draft) {
+        Ok(own) => own,
+        Err(fault) => return Err(fault),
+    };
+    let imported = match imported_over(alloc, &own, parent) {
+        Ok(imported) => imported,
+        Err(fault) => return Err(fault),
+    };
+    match own.opened() {
+        Ok(opened) => Ok(Updated {
+            own,
+            opened,
+            imported,
+        }),
+        Err(_) => Err(placeless(Fault::MEMORY)),
+    }
+}
+
+/// What answers how many types a dictionary has.
+fn types_of(own: &Loaded) -> Counts
+    ensures { counts_said result ≡ types_answer own.now }
+{
+    Counts::one("types", own.view().count() as u64)
+}
+
+/// The parent of a slot, if it has one.
+fn parent_of(imported: &Option<Imported>) -> Option<&Loaded>
+    ensures { option_copied result ≡ option_map (λ i. i.parent) imported.now }
+{
+    match imported {
+        Some(imported) => Some(&imported.parent),
+        None => None,
+    }
+}
+
+impl Slot {
+    /// Makes a step of its draft, if it has one. Want of memory changes nothing.
+    #[tactic(auto, unfolding(ctf_model::specs::DraftSteps::draft_step))]
+    pub(crate) fn step(&mut self, alloc: Global, step: &DraftStep) -> Result<Counts, Fault>
+        ensures step { IsStepped (slot_step step.now (slot_of self.old)) result
+            (slot_of self.old) (slot_of self.new) }
+        ensures number { self.new.number ≡ self.old.number }
+        // This takes no memory.
+        ensures quiet { step.now ≡ Discard
+            → changed result ≡ (slot_step step.now (slot_of self.old)).said }
+    {
+        match step {
+            DraftStep::Add(addition) => self.add(alloc, addition),
+            DraftStep::Update => self.update(alloc),
+            DraftStep::Discard => self.discard(),
+        }
+    }
+
+    fn add(&mut self, alloc: Global, addition: &Addition) -> Result<Counts, Fault>
+        ensures step { IsStepped (step_if_draft (Add addition.now) (slot_of self.old) (slot_of self.old).draft) result
+            (slot_of self.old) (slot_of self.new) }
+        ensures number { self.new.number ≡ self.old.number }
+    {
+        match &mut self.draft {
+            Some(draft) => enlarge(alloc, draft, addition),
+            None => Err(placeless(Fault::READ_ONLY)),
+        }
+    }
+
+    fn update(&mut self, alloc: Global) -> Result<Counts, Fault>
+        ensures step { IsStepped (step_if_draft Updates (slot_of self.old) (slot_of self.old).draft) result
+            (slot_of self.old) (slot_of self.new) }
+        ensures number { self.new.number ≡ self.old.number }
+    {
+        let Some(draft) = &mut self.draft else {
+            return Err(placeless(Fault::READ_ONLY));
+        };
+        let update = match updated_over(alloc, draft, parent_of(&self.imported)) {
+            Ok(update) => update,
+            Err(fault) => return Err(fault),
+        };
+        draft.settle(update.opened);
+        self.own = update.own;
+        self.imported = update.imported;
+        Ok(types_of(&self.own))
+    }
+
+    fn discard(&mut self) -> Result<Counts, Fault>
+        ensures said { changed result ≡ (step_if_draft Discard (slot_of self.old) (slot_of self.old).draft).said }
+        ensures slot { slot_of self.new ≡ (step_if_draft Discard (slot_of self.old) (slot_of self.old).draft).slot }
+        ensures number { self.new.number ≡ self.old.number }
+    {
+        match &mut self.draft {
+            Some(draft) => {
+                draft.discard();
+                Ok(types_of(&self.own))
+            }
+            None => Err(placeless(Fault::READ_ONLY)),
+        }
+    }
+
+    /// A slot with a new draft, over a parent if there is one, updated with nothing in it.
+    pub(crate) fn create(
+        alloc: Global,
+        number: u32,
+        parent: Option<&Loaded>,
+        creation: &Creation,
+    ) -> Result<Slot, Fault>
+        requires { is_some parent ≡ not (length creation.now.parname == 0) }
+        ensures ok { IfOk result (λ slot. (created_slot number (option_copied parent.entry)
+            creation.now ≡ Ok (slot_of slot)) × (slot.number ≡ number)) }
+        ensures exact_err { IfErr result (λ f. (f ≡ want_of_memory)
+            ⊎ (created_slot number (option_copied parent.entry) creation.now ≡ Err f)) }
+    {
+        let mut draft = match new_draft(alloc, parent, creation) {
+            Ok(draft) => draft,
+            Err(fault) => return Err(fault),
+        };
+        let update = match updated_over(alloc, &draft, parent) {
+            Ok(update) => update,
+            Err(fault) => return Err(fault),
+        };
+        draft.settle(update.opened);
+        Ok(Slot {
+            number,
+            own: update.own,
+            imported: update.imported,
+            draft: Some(draft),
+        })
+    }
+}
+
+/// A dictionary, if there is one, to be the parent of a draft.
+fn opened(parent: Option<&Loaded>) -> Result<Option<Rc<Opened>>, AllocError>
+    ensures { IfOk result (λ o. option_map (λ p. p.value.lists) o ≡ option_copied parent.entry) }
+{
+    match parent {
+        Some(parent) => Ok(Some(parent.opened()?)),
+        None => Ok(None),
+    }
+}
+
+/// A draft with nothing in it.
+fn new_draft(alloc: Global, parent: Option<&Loaded>, creation: &Creation) -> Result<Draft, Fault>
+    requires { is_some parent ≡ not (length creation.now.parname == 0) }
+    ensures ok { IfOk result (λ d. new_draft_of (option_map said_by (option_copied parent.entry))
+        creation.now.parname creation.now.parlabel Lp64 ≡ Ok d.draft) }
+    ensures under { IfOk result (λ d. IsUnder d.draft (option_copied parent.entry)) }
+    ensures exact_err { IfErr result (λ f. (f ≡ want_of_memory)
+        ⊎ (new_draft_of (option_map said_by (option_copied parent.entry)) creation.now.parname
+        creation.now.parlabel Lp64 ≡ Err f)) }
+{
+    let Ok(parname) = Bytes::from_slice(alloc, creation.parname()) else {
+        return Err(placeless(Fault::MEMORY));
+    };
+    let Ok(parlabel) = Bytes::from_slice(alloc, creation.parlabel()) else {
+        return Err(placeless(Fault::MEMORY));
+    };
+    let Ok(parent) = opened(parent) else {
+        return Err(placeless(Fault::MEMORY));
+    };
+    Draft::new(alloc, parent, parname, parlabel, DataModel::Lp64)
+}

@@ -1,0 +1,94 @@
+//! Dictionaries that were opened lately.
+ghost use Rattle.std.specs.Prelude.{◌≡◌, ◌⊎◌, IfOk, IfErr, IfSome, OnOk, Some, None, true};
+ghost use Rattle.ctf_check.specs.ListsView.{lists_in};
+ghost use Rattle.ctf_model.specs.Faults.{first_fault};
+ghost use Rattle.ctf_model.specs.OwnedLists.{lists_owned};
+ghost use Rattle.ctf_model.specs.Refusals.{want_of_memory};
+
+use crate::loaded::Loaded;
+use ctf_check::LentLists;
+use ctf_model::{Fault, Parts, placeless};
+use ctf_space::lent;
+use std::alloc::Global;
+
+/// How many dictionaries a pool holds.
+const MOST_HELD: usize = 16;
+
+/// The last dictionaries that were opened, at most 16, the oldest first.
+///
+/// Lists that are equal to those of one that is held are not judged again: they get that
+/// dictionary, whoever opened it. What a pool holds shows in no answer.
+#[derive(Drop)]
+pub struct Pool {
+    alloc: Global,
+    held: Vec<Loaded>,
+}
+
+/// Whether these are the same lists, byte for byte.
+fn are_same(a: LentLists<'_>, b: LentLists<'_>) -> bool
+    ensures same { result ≡ true → lists_in a.entry ≡ lists_in b.entry }
+    ensures found { lists_in a.entry ≡ lists_in b.entry → result ≡ true }
+{
+    a.ctf == b.ctf && a.sym == b.sym && a.strs == b.strs
+}
+
+impl Pool {
+    /// A pool that holds nothing.
+    pub fn new(alloc: Global) -> Pool {
+        Pool {
+            alloc,
+            held: Vec::new(alloc),
+        }
+    }
+
+    /// The dictionary of lists, or their first fault with the lists, whatever is held.
+    ///
+    /// A new dictionary is held from then on, and where there are too many the oldest is not.
+    pub fn open(&mut self, parts: Parts) -> Result<Loaded, (Fault, Parts)>
+        ensures ok { IfOk result (λ l. l ≡ lists_owned parts) }
+        ensures exact_ok { OnOk result (first_fault (lists_owned parts) ≡ None) }
+        ensures exact_err { IfErr result (λ e. (e.0 ≡ want_of_memory)
+            ⊎ (first_fault (lists_owned parts) ≡ Some e.0)) }
+        ensures back { IfErr result (λ e. lists_owned e.1 ≡ lists_owned parts) }
+    {
+        if let Some(held) = self.find(&parts) {
+            return match held.share() {
+                Ok(loaded) => Ok(loaded),
+                Err(_) => Err((placeless(Fault::MEMORY), parts)),
+            };
+        }
+        let loaded = match Loaded::build(self.alloc, parts) {
+            Ok(loaded) => loaded,
+            Err(refused) => return Err(refused),
+        };
+        self.hold(&loaded);
+        Ok(loaded)
+    }
+
+    /// The dictionary that has just these lists, if it is held.
+    fn find(&self, parts: &Parts) -> Option<&Loaded>
+        ensures { IfSome result (λ l. (l.now ≡ lists_owned parts.now)
+            × (first_fault (lists_owned parts.now) ≡ None)) }
+    {
+        let lists = lent(parts);
+        for held in &self.held {
+            if are_same(held.view().lists(), lists) {
+                return Some(held);
+            }
+        }
+        None
+    }
+
+    /// Holds a dictionary in place of the oldest; where memory for that is refused, it does not.
+    fn hold(&mut self, loaded: &Loaded) {
+        if self.held.len() == MOST_HELD {
+            self.held.remove(0);
+        }
+        let Ok(shared) = loaded.share() else {
+            return;
+        };
+        if self.held.reserve(1).is_ok() {
+            self.held.push_reserved(shared);
+        }
+    }
+}

@@ -1,0 +1,88 @@
+//! Reads requests on drafts.
+ghost use Rattle.std.specs.Prelude.{◌≡◌, IfOk};
+ghost use Rattle.serde_json.specs.View.{view};
+ghost use Rattle.ctf_model.specs.Ask.{add_asked, create_asked, discard_asked, parent_asked, update_asked};
+ghost use Rattle.ctf_model.specs.LineFields.{name_or_empty as name_or_empty_asked};
+
+use crate::additions::addition;
+use crate::reading::{name_under, slot, slot_under};
+use ctf_model::{Change, Creation, DraftStep, Piece, Request, SlotNumber};
+use serde_json::Value;
+use std::alloc::{AllocError, Global};
+
+/// A name that may be left out, and is empty then.
+pub(crate) fn name_or_empty(
+    alloc: Global,
+    value: &Value,
+    key: &str,
+) -> Result<Option<Piece>, AllocError>
+    ensures { IfOk result (λ name. name ≡ name_or_empty_asked key.now (view value.now)) }
+{
+    match value.get(key) {
+        Some(_) => name_under(alloc, value, key),
+        None => Ok(Some(Piece::new(Vec::new(alloc)))),
+    }
+}
+
+/// The slot of the parent, if one is named.
+fn parent(value: &Value) -> Option<Option<SlotNumber>>
+    ensures { result ≡ parent_asked (view value.now) }
+{
+    match value.get("parent") {
+        Some(_) => Some(Some(slot_under(value, "parent")?)),
+        None => Some(None),
+    }
+}
+
+pub(crate) fn create(alloc: Global, value: &Value) -> Result<Option<Request>, AllocError>
+    ensures { IfOk result (λ request. request ≡ create_asked (view value.now)) }
+{
+    let Some(parent) = parent(value) else {
+        return Ok(None);
+    };
+    let Some(parname) = name_or_empty(alloc, value, "parname")? else {
+        return Ok(None);
+    };
+    let Some(parlabel) = name_or_empty(alloc, value, "parlabel")? else {
+        return Ok(None);
+    };
+    match Creation::new(parent, parname, parlabel) {
+        Some(creation) => Ok(Some(Request::Changes(Change::Create(creation)))),
+        None => Ok(None),
+    }
+}
+
+pub(crate) fn add(alloc: Global, value: &Value) -> Result<Option<Request>, AllocError>
+    ensures { IfOk result (λ request. request ≡ add_asked (view value.now)) }
+{
+    let Some(d) = slot(value) else {
+        return Ok(None);
+    };
+    match addition(alloc, value)? {
+        Some(addition) => Ok(Some(Request::Changes(Change::Draft {
+            d,
+            step: DraftStep::Add(addition),
+        }))),
+        None => Ok(None),
+    }
+}
+
+pub(crate) fn update(value: &Value) -> Option<Request>
+    ensures { result ≡ update_asked (view value.now) }
+{
+    let d = slot(value)?;
+    Some(Request::Changes(Change::Draft {
+        d,
+        step: DraftStep::Update,
+    }))
+}
+
+pub(crate) fn discard(value: &Value) -> Option<Request>
+    ensures { result ≡ discard_asked (view value.now) }
+{
+    let d = slot(value)?;
+    Some(Request::Changes(Change::Draft {
+        d,
+        step: DraftStep::Discard,
+    }))
+}

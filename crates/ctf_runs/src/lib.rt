@@ -1,0 +1,13 @@
+//! What the crates of rows share: lines of requests, and runs of the service over a reader and a writer in
+//! memory.
+#![tactic(auto)]
+
+mod lines;
+mod repeats;
+mod requests;
+mod runs;
+
+pub use lines::put_line;
+pub use repeats::repeat;
+pub use requests::{INT, put_open, put_part};
+pub use runs::{Pieces, are_answered, served, served_bounded, served_by};

@@ -1,0 +1,36 @@
+//! Runs that end before their input does.
+
+use crate::first_run::{LINES, REPLIES};
+use ctf_runs::served_bounded;
+use ctf_wire::RunFault;
+
+/// The bytes of a text's first two lines, where they are this long.
+fn front(text: &str, len: usize) -> &[u8] {
+    text.get(..len).unwrap_or("").as_bytes()
+}
+
+#[test]
+fn ends_at_the_bound(rt: HostRuntime) {
+    let (end, written) = served_bounded(rt.alloc(), LINES.as_bytes(), 65_536, 0, 0);
+    assert_eq!(rt; end, Err(RunFault::ReadBound));
+    assert!(rt; written.is_empty());
+    let (end, written) = served_bounded(rt.alloc(), b"", 65_536, 1, 0);
+    assert_eq!(rt; end, Ok(()));
+    assert!(rt; written.is_empty());
+    let (end, written) = served_bounded(rt.alloc(), LINES.as_bytes(), 65_536, 1, 0);
+    assert_eq!(rt; end, Err(RunFault::ReadBound));
+    assert_eq!(rt; written.as_slice(), REPLIES.as_bytes());
+    let (end, written) = served_bounded(rt.alloc(), LINES.as_bytes(), 65_536, 2, 0);
+    assert_eq!(rt; end, Ok(()));
+    assert_eq!(rt; written.as_slice(), REPLIES.as_bytes());
+}
+
+#[test]
+fn ends_at_a_failed_read(rt: HostRuntime) {
+    // The first two lines have 173 bytes, and their replies 58. The third line is there in part, or not at all.
+    for size in [173, 190] {
+        let (end, written) = served_bounded(rt.alloc(), LINES.as_bytes(), size, 9, 2);
+        assert_eq!(rt; end, Err(RunFault::Read), "{size} bytes");
+        assert_eq!(rt; written.as_slice(), front(REPLIES, 58), "{size} bytes");
+    }
+}

@@ -1,0 +1,587 @@
+//! Types of each kind in drafts.
+
+use ctf_runs::are_answered;
+use std::test::Fail;
+
+/// Types of each other kind, and fields that are not good.
+const KINDS: [(&str, &str); 35] = [
+    (
+        "{\"s\":7,\"op\":\"create\"}\n",
+        "{\"ok\":{\"d\":1},\"s\":7}\n",
+    ),
+    (
+        "{\"s\":7,\"op\":\"add\",\"d\":1,\"what\":\"unknown\"}\n",
+        "{\"ok\":{\"t\":1},\"s\":7}\n",
+    ),
+    (
+        "{\"s\":7,\"op\":\"add\",\"d\":1,\"what\":\"float\",\"name\":\"float\",\"encoding\":1,\"offset\":0,\"bits\":32,\"size\":4}\n",
+        "{\"ok\":{\"t\":2},\"s\":7}\n",
+    ),
+    (
+        "{\"s\":7,\"op\":\"add\",\"d\":1,\"what\":\"pointer\",\"type\":2}\n",
+        "{\"ok\":{\"t\":3},\"s\":7}\n",
+    ),
+    (
+        "{\"s\":7,\"op\":\"add\",\"d\":1,\"what\":\"array\",\"contents\":2,\"index\":2,\"count\":3}\n",
+        "{\"ok\":{\"t\":4},\"s\":7}\n",
+    ),
+    (
+        "{\"s\":7,\"op\":\"add\",\"d\":1,\"what\":\"function\",\"type\":2,\"args\":[3,0]}\n",
+        "{\"ok\":{\"t\":5},\"s\":7}\n",
+    ),
+    (
+        "{\"s\":7,\"op\":\"add\",\"d\":1,\"what\":\"union\",\"size\":4}\n",
+        "{\"ok\":{\"t\":6},\"s\":7}\n",
+    ),
+    (
+        "{\"s\":7,\"op\":\"add\",\"d\":1,\"what\":\"forward\",\"name\":\"f\",\"tag\":\"union\"}\n",
+        "{\"ok\":{\"t\":7},\"s\":7}\n",
+    ),
+    (
+        "{\"s\":7,\"op\":\"add\",\"d\":1,\"what\":\"typedef\",\"name\":\"number\",\"type\":2}\n",
+        "{\"ok\":{\"t\":8},\"s\":7}\n",
+    ),
+    (
+        "{\"s\":7,\"op\":\"add\",\"d\":1,\"what\":\"volatile\",\"type\":2}\n",
+        "{\"ok\":{\"t\":9},\"s\":7}\n",
+    ),
+    (
+        "{\"s\":7,\"op\":\"add\",\"d\":1,\"what\":\"const\",\"type\":2}\n",
+        "{\"ok\":{\"t\":10},\"s\":7}\n",
+    ),
+    (
+        "{\"s\":7,\"op\":\"add\",\"d\":1,\"what\":\"restrict\",\"type\":3,\"root\":false}\n",
+        "{\"ok\":{\"t\":11},\"s\":7}\n",
+    ),
+    (
+        "{\"s\":7,\"op\":\"add\",\"d\":1,\"what\":\"struct\",\"size\":65535}\n",
+        "{\"ok\":{\"t\":12},\"s\":7}\n",
+    ),
+    (
+        "{\"s\":7,\"op\":\"update\",\"d\":1}\n",
+        "{\"ok\":{\"types\":12},\"s\":7}\n",
+    ),
+    (
+        "{\"s\":7,\"op\":\"kind\",\"d\":1,\"t\":1}\n",
+        "{\"ok\":{\"kind\":\"unknown\"},\"s\":7}\n",
+    ),
+    (
+        "{\"s\":7,\"op\":\"encoding\",\"d\":1,\"t\":2}\n",
+        "{\"ok\":{\"bits\":32,\"encoding\":1,\"offset\":0},\"s\":7}\n",
+    ),
+    (
+        "{\"s\":7,\"op\":\"reference\",\"d\":1,\"t\":3}\n",
+        "{\"ok\":{\"t\":2},\"s\":7}\n",
+    ),
+    (
+        "{\"s\":7,\"op\":\"array\",\"d\":1,\"t\":4}\n",
+        "{\"ok\":{\"contents\":2,\"count\":3,\"index\":2},\"s\":7}\n",
+    ),
+    (
+        "{\"s\":7,\"op\":\"args\",\"d\":1,\"t\":5}\n",
+        "{\"ok\":{\"args\":[3],\"return\":2,\"varargs\":true},\"s\":7}\n",
+    ),
+    (
+        "{\"s\":7,\"op\":\"record\",\"d\":1,\"t\":6}\n",
+        "{\"ok\":{\"kind\":\"union\",\"name\":\"\",\"root\":true,\"size\":4,\"vlen\":0},\"s\":7}\n",
+    ),
+    (
+        "{\"s\":7,\"op\":\"record\",\"d\":1,\"t\":7}\n",
+        "{\"ok\":{\"kind\":\"forward\",\"name\":\"f\",\"root\":true,\"tag\":\"union\",\"vlen\":0},\"s\":7}\n",
+    ),
+    (
+        "{\"s\":7,\"op\":\"name\",\"d\":1,\"t\":8}\n",
+        "{\"ok\":{\"name\":\"number\"},\"s\":7}\n",
+    ),
+    (
+        "{\"s\":7,\"op\":\"record\",\"d\":1,\"t\":9}\n",
+        "{\"ok\":{\"kind\":\"volatile\",\"name\":\"\",\"root\":true,\"type\":2,\"vlen\":0},\"s\":7}\n",
+    ),
+    (
+        "{\"s\":7,\"op\":\"kind\",\"d\":1,\"t\":10}\n",
+        "{\"ok\":{\"kind\":\"const\"},\"s\":7}\n",
+    ),
+    (
+        "{\"s\":7,\"op\":\"record\",\"d\":1,\"t\":11}\n",
+        "{\"ok\":{\"kind\":\"restrict\",\"name\":\"\",\"root\":false,\"type\":3,\"vlen\":0},\"s\":7}\n",
+    ),
+    (
+        "{\"s\":7,\"op\":\"size\",\"d\":1,\"t\":12}\n",
+        "{\"ok\":{\"size\":65535},\"s\":7}\n",
+    ),
+    // Words and fields that are not good.
+    (
+        "{\"s\":7,\"op\":\"add\",\"d\":1,\"what\":\"pointer\"}\n",
+        "{\"fault\":{\"code\":58,\"name\":\"BadRequest\",\"place\":0},\"s\":7}\n",
+    ),
+    (
+        "{\"s\":7,\"op\":\"add\",\"d\":1,\"what\":\"thing\",\"type\":2}\n",
+        "{\"fault\":{\"code\":58,\"name\":\"BadRequest\",\"place\":0},\"s\":7}\n",
+    ),
+    (
+        "{\"s\":7,\"op\":\"add\",\"d\":1,\"what\":\"pointer\",\"type\":65536}\n",
+        "{\"fault\":{\"code\":58,\"name\":\"BadRequest\",\"place\":0},\"s\":7}\n",
+    ),
+    (
+        "{\"s\":7,\"op\":\"add\",\"d\":1,\"what\":\"function\",\"type\":2}\n",
+        "{\"fault\":{\"code\":58,\"name\":\"BadRequest\",\"place\":0},\"s\":7}\n",
+    ),
+    (
+        "{\"s\":7,\"op\":\"add\",\"d\":1,\"what\":\"function\",\"type\":2,\"args\":[3,65536]}\n",
+        "{\"fault\":{\"code\":58,\"name\":\"BadRequest\",\"place\":0},\"s\":7}\n",
+    ),
+    (
+        "{\"s\":7,\"op\":\"add\",\"d\":1,\"what\":\"forward\",\"tag\":\"class\"}\n",
+        "{\"fault\":{\"code\":58,\"name\":\"BadRequest\",\"place\":0},\"s\":7}\n",
+    ),
+    (
+        "{\"s\":7,\"op\":\"add\",\"d\":1,\"what\":\"typedef\",\"type\":2,\"root\":1}\n",
+        "{\"fault\":{\"code\":58,\"name\":\"BadRequest\",\"place\":0},\"s\":7}\n",
+    ),
+    (
+        "{\"s\":7,\"op\":\"add\",\"d\":1,\"what\":\"enumerator\",\"t\":1,\"value\":2147483648}\n",
+        "{\"fault\":{\"code\":58,\"name\":\"BadRequest\",\"place\":0},\"s\":7}\n",
+    ),
+    (
+        "{\"s\":7,\"op\":\"add\",\"d\":1,\"what\":\"enumerator\",\"t\":1,\"value\":-2147483648}\n",
+        "{\"fault\":{\"code\":42,\"name\":\"Settled\",\"place\":0},\"s\":7}\n",
+    ),
+];
+
+/// Types that name others.
+const REFERENCES: [(&str, &str); 18] = [
+    // A type may name one that is there, nothing, but not itself.
+    (
+        "{\"s\":7,\"op\":\"create\"}\n",
+        "{\"ok\":{\"d\":1},\"s\":7}\n",
+    ),
+    (
+        "{\"s\":7,\"op\":\"add\",\"d\":1,\"what\":\"pointer\",\"type\":0}\n",
+        "{\"ok\":{\"t\":1},\"s\":7}\n",
+    ),
+    (
+        "{\"s\":7,\"op\":\"add\",\"d\":1,\"what\":\"pointer\",\"type\":2}\n",
+        "{\"fault\":{\"code\":39,\"name\":\"BadRef\",\"place\":0},\"s\":7}\n",
+    ),
+    (
+        "{\"s\":7,\"op\":\"add\",\"d\":1,\"what\":\"typedef\",\"name\":\"t\",\"type\":1}\n",
+        "{\"ok\":{\"t\":2},\"s\":7}\n",
+    ),
+    (
+        "{\"s\":7,\"op\":\"add\",\"d\":1,\"what\":\"array\",\"contents\":3,\"index\":0,\"count\":1}\n",
+        "{\"fault\":{\"code\":39,\"name\":\"BadRef\",\"place\":0},\"s\":7}\n",
+    ),
+    (
+        "{\"s\":7,\"op\":\"add\",\"d\":1,\"what\":\"array\",\"contents\":0,\"index\":3,\"count\":1}\n",
+        "{\"fault\":{\"code\":39,\"name\":\"BadRef\",\"place\":0},\"s\":7}\n",
+    ),
+    (
+        "{\"s\":7,\"op\":\"add\",\"d\":1,\"what\":\"function\",\"args\":[],\"type\":3}\n",
+        "{\"fault\":{\"code\":39,\"name\":\"BadRef\",\"place\":0},\"s\":7}\n",
+    ),
+    (
+        "{\"s\":7,\"op\":\"add\",\"d\":1,\"what\":\"function\",\"args\":[1,3],\"type\":0}\n",
+        "{\"fault\":{\"code\":39,\"name\":\"BadRef\",\"place\":0},\"s\":7}\n",
+    ),
+    (
+        "{\"s\":7,\"op\":\"add\",\"d\":1,\"what\":\"const\",\"type\":32769}\n",
+        "{\"fault\":{\"code\":39,\"name\":\"BadRef\",\"place\":0},\"s\":7}\n",
+    ),
+    (
+        "{\"s\":7,\"op\":\"add\",\"d\":1,\"what\":\"volatile\",\"name\":\"b\\\\x00\",\"type\":3}\n",
+        "{\"fault\":{\"code\":46,\"name\":\"NameHasZero\",\"place\":0},\"s\":7}\n",
+    ),
+    // What is discarded is not there any more, and its number is used again.
+    (
+        "{\"s\":7,\"op\":\"update\",\"d\":1}\n",
+        "{\"ok\":{\"types\":2},\"s\":7}\n",
+    ),
+    (
+        "{\"s\":7,\"op\":\"add\",\"d\":1,\"what\":\"restrict\",\"type\":1}\n",
+        "{\"ok\":{\"t\":3},\"s\":7}\n",
+    ),
+    (
+        "{\"s\":7,\"op\":\"add\",\"d\":1,\"what\":\"restrict\",\"type\":3}\n",
+        "{\"ok\":{\"t\":4},\"s\":7}\n",
+    ),
+    (
+        "{\"s\":7,\"op\":\"discard\",\"d\":1}\n",
+        "{\"ok\":{\"types\":2},\"s\":7}\n",
+    ),
+    (
+        "{\"s\":7,\"op\":\"add\",\"d\":1,\"what\":\"restrict\",\"type\":3}\n",
+        "{\"fault\":{\"code\":39,\"name\":\"BadRef\",\"place\":0},\"s\":7}\n",
+    ),
+    (
+        "{\"s\":7,\"op\":\"add\",\"d\":1,\"what\":\"unknown\",\"name\":\"u\"}\n",
+        "{\"ok\":{\"t\":3},\"s\":7}\n",
+    ),
+    (
+        "{\"s\":7,\"op\":\"add\",\"d\":1,\"what\":\"restrict\",\"type\":3}\n",
+        "{\"ok\":{\"t\":4},\"s\":7}\n",
+    ),
+    (
+        "{\"s\":7,\"op\":\"update\",\"d\":1}\n",
+        "{\"ok\":{\"types\":4},\"s\":7}\n",
+    ),
+];
+
+/// Structs, unions and enums with a size.
+const SIZES: [(&str, &str); 21] = [
+    // A size of 65,534 is the last that has two bytes.
+    (
+        "{\"s\":7,\"op\":\"create\"}\n",
+        "{\"ok\":{\"d\":1},\"s\":7}\n",
+    ),
+    (
+        "{\"s\":7,\"op\":\"add\",\"d\":1,\"what\":\"struct\",\"size\":65534}\n",
+        "{\"ok\":{\"t\":1},\"s\":7}\n",
+    ),
+    (
+        "{\"s\":7,\"op\":\"update\",\"d\":1}\n",
+        "{\"ok\":{\"types\":1},\"s\":7}\n",
+    ),
+    (
+        "{\"s\":7,\"op\":\"bytes\",\"d\":1,\"from\":0,\"count\":100}\n",
+        "{\"ok\":{\"bytes\":\"f1cf02000000000000000000000000000000000000000000000000000800000001000000000000000034feff00\",\"length\":45},\"s\":7}\n",
+    ),
+    (
+        "{\"s\":7,\"op\":\"create\"}\n",
+        "{\"ok\":{\"d\":2},\"s\":7}\n",
+    ),
+    (
+        "{\"s\":7,\"op\":\"add\",\"d\":2,\"what\":\"struct\",\"size\":65535}\n",
+        "{\"ok\":{\"t\":1},\"s\":7}\n",
+    ),
+    (
+        "{\"s\":7,\"op\":\"update\",\"d\":2}\n",
+        "{\"ok\":{\"types\":1},\"s\":7}\n",
+    ),
+    (
+        "{\"s\":7,\"op\":\"bytes\",\"d\":2,\"from\":0,\"count\":100}\n",
+        "{\"ok\":{\"bytes\":\"f1cf02000000000000000000000000000000000000000000000000001000000001000000000000000034ffff00000000ffff000000\",\"length\":53},\"s\":7}\n",
+    ),
+    // Sizes of enums, of structs and of numbers, up to the greatest.
+    (
+        "{\"s\":7,\"op\":\"create\"}\n",
+        "{\"ok\":{\"d\":3},\"s\":7}\n",
+    ),
+    (
+        "{\"s\":7,\"op\":\"add\",\"d\":3,\"what\":\"enum\"}\n",
+        "{\"ok\":{\"t\":1},\"s\":7}\n",
+    ),
+    (
+        "{\"s\":7,\"op\":\"add\",\"d\":3,\"what\":\"enum\",\"size\":0}\n",
+        "{\"ok\":{\"t\":2},\"s\":7}\n",
+    ),
+    (
+        "{\"s\":7,\"op\":\"add\",\"d\":3,\"what\":\"enum\",\"size\":1}\n",
+        "{\"ok\":{\"t\":3},\"s\":7}\n",
+    ),
+    (
+        "{\"s\":7,\"op\":\"add\",\"d\":3,\"what\":\"struct\"}\n",
+        "{\"ok\":{\"t\":4},\"s\":7}\n",
+    ),
+    (
+        "{\"s\":7,\"op\":\"add\",\"d\":3,\"what\":\"union\",\"size\":18446744073709551615}\n",
+        "{\"ok\":{\"t\":5},\"s\":7}\n",
+    ),
+    (
+        "{\"s\":7,\"op\":\"add\",\"d\":3,\"what\":\"struct\",\"size\":18446744073709551616}\n",
+        "{\"fault\":{\"code\":58,\"name\":\"BadRequest\",\"place\":0},\"s\":7}\n",
+    ),
+    (
+        "{\"s\":7,\"op\":\"update\",\"d\":3}\n",
+        "{\"ok\":{\"types\":5},\"s\":7}\n",
+    ),
+    (
+        "{\"s\":7,\"op\":\"record\",\"d\":3,\"t\":1}\n",
+        "{\"ok\":{\"kind\":\"enum\",\"name\":\"\",\"root\":true,\"size\":4,\"vlen\":0},\"s\":7}\n",
+    ),
+    (
+        "{\"s\":7,\"op\":\"record\",\"d\":3,\"t\":2}\n",
+        "{\"ok\":{\"kind\":\"enum\",\"name\":\"\",\"root\":true,\"size\":0,\"vlen\":0},\"s\":7}\n",
+    ),
+    (
+        "{\"s\":7,\"op\":\"record\",\"d\":3,\"t\":3}\n",
+        "{\"ok\":{\"kind\":\"enum\",\"name\":\"\",\"root\":true,\"size\":1,\"vlen\":0},\"s\":7}\n",
+    ),
+    (
+        "{\"s\":7,\"op\":\"record\",\"d\":3,\"t\":4}\n",
+        "{\"ok\":{\"kind\":\"struct\",\"name\":\"\",\"root\":true,\"size\":0,\"vlen\":0},\"s\":7}\n",
+    ),
+    (
+        "{\"s\":7,\"op\":\"record\",\"d\":3,\"t\":5}\n",
+        "{\"ok\":{\"kind\":\"union\",\"name\":\"\",\"root\":true,\"size\":18446744073709551615,\"vlen\":0},\"s\":7}\n",
+    ),
+];
+
+/// Pointers, arrays, functions and qualifiers in each other, and their names.
+const SPELLED: [(&str, &str); 33] = [
+    (
+        "{\"s\":7,\"op\":\"create\"}\n",
+        "{\"ok\":{\"d\":1},\"s\":7}\n",
+    ),
+    (
+        "{\"s\":7,\"op\":\"add\",\"d\":1,\"what\":\"integer\",\"name\":\"int\",\"encoding\":1,\"offset\":0,\"bits\":32,\"size\":4}\n",
+        "{\"ok\":{\"t\":1},\"s\":7}\n",
+    ),
+    (
+        "{\"s\":7,\"op\":\"add\",\"d\":1,\"what\":\"array\",\"contents\":1,\"index\":1,\"count\":10}\n",
+        "{\"ok\":{\"t\":2},\"s\":7}\n",
+    ),
+    (
+        "{\"s\":7,\"op\":\"add\",\"d\":1,\"what\":\"pointer\",\"type\":2}\n",
+        "{\"ok\":{\"t\":3},\"s\":7}\n",
+    ),
+    (
+        "{\"s\":7,\"op\":\"add\",\"d\":1,\"what\":\"pointer\",\"type\":1}\n",
+        "{\"ok\":{\"t\":4},\"s\":7}\n",
+    ),
+    (
+        "{\"s\":7,\"op\":\"add\",\"d\":1,\"what\":\"array\",\"contents\":4,\"index\":1,\"count\":10}\n",
+        "{\"ok\":{\"t\":5},\"s\":7}\n",
+    ),
+    (
+        "{\"s\":7,\"op\":\"add\",\"d\":1,\"what\":\"integer\",\"name\":\"char\",\"encoding\":3,\"offset\":0,\"bits\":8,\"size\":1}\n",
+        "{\"ok\":{\"t\":6},\"s\":7}\n",
+    ),
+    (
+        "{\"s\":7,\"op\":\"add\",\"d\":1,\"what\":\"pointer\",\"type\":6}\n",
+        "{\"ok\":{\"t\":7},\"s\":7}\n",
+    ),
+    (
+        "{\"s\":7,\"op\":\"add\",\"d\":1,\"what\":\"const\",\"type\":7}\n",
+        "{\"ok\":{\"t\":8},\"s\":7}\n",
+    ),
+    (
+        "{\"s\":7,\"op\":\"add\",\"d\":1,\"what\":\"pointer\",\"type\":8}\n",
+        "{\"ok\":{\"t\":9},\"s\":7}\n",
+    ),
+    (
+        "{\"s\":7,\"op\":\"add\",\"d\":1,\"what\":\"volatile\",\"type\":1}\n",
+        "{\"ok\":{\"t\":10},\"s\":7}\n",
+    ),
+    (
+        "{\"s\":7,\"op\":\"add\",\"d\":1,\"what\":\"const\",\"type\":10}\n",
+        "{\"ok\":{\"t\":11},\"s\":7}\n",
+    ),
+    (
+        "{\"s\":7,\"op\":\"add\",\"d\":1,\"what\":\"struct\"}\n",
+        "{\"ok\":{\"t\":12},\"s\":7}\n",
+    ),
+    (
+        "{\"s\":7,\"op\":\"add\",\"d\":1,\"what\":\"pointer\",\"type\":12}\n",
+        "{\"ok\":{\"t\":13},\"s\":7}\n",
+    ),
+    (
+        "{\"s\":7,\"op\":\"add\",\"d\":1,\"what\":\"function\",\"args\":[],\"type\":1}\n",
+        "{\"ok\":{\"t\":14},\"s\":7}\n",
+    ),
+    (
+        "{\"s\":7,\"op\":\"add\",\"d\":1,\"what\":\"pointer\",\"type\":14}\n",
+        "{\"ok\":{\"t\":15},\"s\":7}\n",
+    ),
+    (
+        "{\"s\":7,\"op\":\"add\",\"d\":1,\"what\":\"const\",\"type\":2}\n",
+        "{\"ok\":{\"t\":16},\"s\":7}\n",
+    ),
+    (
+        "{\"s\":7,\"op\":\"add\",\"d\":1,\"what\":\"pointer\",\"type\":16}\n",
+        "{\"ok\":{\"t\":17},\"s\":7}\n",
+    ),
+    (
+        "{\"s\":7,\"op\":\"add\",\"d\":1,\"what\":\"const\",\"type\":15}\n",
+        "{\"ok\":{\"t\":18},\"s\":7}\n",
+    ),
+    (
+        "{\"s\":7,\"op\":\"update\",\"d\":1}\n",
+        "{\"ok\":{\"types\":18},\"s\":7}\n",
+    ),
+    (
+        "{\"s\":7,\"op\":\"name\",\"d\":1,\"t\":3}\n",
+        "{\"ok\":{\"name\":\"int (*)[10]\"},\"s\":7}\n",
+    ),
+    (
+        "{\"s\":7,\"op\":\"name\",\"d\":1,\"t\":5}\n",
+        "{\"ok\":{\"name\":\"int *[10]\"},\"s\":7}\n",
+    ),
+    (
+        "{\"s\":7,\"op\":\"name\",\"d\":1,\"t\":9}\n",
+        "{\"ok\":{\"name\":\"char *const *\"},\"s\":7}\n",
+    ),
+    (
+        "{\"s\":7,\"op\":\"name\",\"d\":1,\"t\":11}\n",
+        "{\"ok\":{\"name\":\"const volatile int\"},\"s\":7}\n",
+    ),
+    (
+        "{\"s\":7,\"op\":\"name\",\"d\":1,\"t\":13}\n",
+        "{\"ok\":{\"name\":\"struct (anon) *\"},\"s\":7}\n",
+    ),
+    (
+        "{\"s\":7,\"op\":\"name\",\"d\":1,\"t\":15}\n",
+        "{\"ok\":{\"name\":\"int (*)()\"},\"s\":7}\n",
+    ),
+    (
+        "{\"s\":7,\"op\":\"name\",\"d\":1,\"t\":17}\n",
+        "{\"ok\":{\"name\":\"const int (*)[10]\"},\"s\":7}\n",
+    ),
+    (
+        "{\"s\":7,\"op\":\"name\",\"d\":1,\"t\":18}\n",
+        "{\"ok\":{\"name\":\"int (*const)()\"},\"s\":7}\n",
+    ),
+    (
+        "{\"s\":7,\"op\":\"find\",\"d\":1,\"text\":\"int\"}\n",
+        "{\"ok\":{\"t\":1},\"s\":7}\n",
+    ),
+    (
+        "{\"s\":7,\"op\":\"find\",\"d\":1,\"text\":\"int *\"}\n",
+        "{\"ok\":{\"t\":4},\"s\":7}\n",
+    ),
+    (
+        "{\"s\":7,\"op\":\"find\",\"d\":1,\"text\":\"char **\"}\n",
+        "{\"fault\":{\"code\":32,\"name\":\"NotFound\",\"place\":0},\"s\":7}\n",
+    ),
+    (
+        "{\"s\":7,\"op\":\"find\",\"d\":1,\"text\":\"*\"}\n",
+        "{\"fault\":{\"code\":33,\"name\":\"BadSyntax\",\"place\":0},\"s\":7}\n",
+    ),
+    (
+        "{\"s\":7,\"op\":\"pointer\",\"d\":1,\"t\":11}\n",
+        "{\"ok\":{\"t\":4},\"s\":7}\n",
+    ),
+];
+
+/// Fields at the ends of their ranges, past these, and absent ones.
+const FIELDS: [(&str, &str); 25] = [
+    (
+        "{\"s\":7,\"op\":\"create\"}\n",
+        "{\"ok\":{\"d\":1},\"s\":7}\n",
+    ),
+    (
+        "{\"s\":7,\"op\":\"add\",\"d\":1,\"what\":\"integer\",\"encoding\":255,\"offset\":255,\"bits\":65535,\"size\":18446744073709551615}\n",
+        "{\"ok\":{\"t\":1},\"s\":7}\n",
+    ),
+    (
+        "{\"s\":7,\"op\":\"add\",\"d\":1,\"what\":\"integer\",\"encoding\":256,\"offset\":0,\"bits\":32,\"size\":4}\n",
+        "{\"fault\":{\"code\":58,\"name\":\"BadRequest\",\"place\":0},\"s\":7}\n",
+    ),
+    (
+        "{\"s\":7,\"op\":\"add\",\"d\":1,\"what\":\"integer\",\"encoding\":1,\"offset\":256,\"bits\":32,\"size\":4}\n",
+        "{\"fault\":{\"code\":58,\"name\":\"BadRequest\",\"place\":0},\"s\":7}\n",
+    ),
+    (
+        "{\"s\":7,\"op\":\"add\",\"d\":1,\"what\":\"integer\",\"encoding\":1,\"offset\":0,\"bits\":65536,\"size\":4}\n",
+        "{\"fault\":{\"code\":58,\"name\":\"BadRequest\",\"place\":0},\"s\":7}\n",
+    ),
+    (
+        "{\"s\":7,\"op\":\"add\",\"d\":1,\"what\":\"integer\",\"encoding\":1,\"offset\":0,\"bits\":32,\"size\":-1}\n",
+        "{\"fault\":{\"code\":58,\"name\":\"BadRequest\",\"place\":0},\"s\":7}\n",
+    ),
+    (
+        "{\"s\":7,\"op\":\"add\",\"d\":1,\"what\":\"float\",\"encoding\":1,\"offset\":0,\"bits\":32}\n",
+        "{\"fault\":{\"code\":58,\"name\":\"BadRequest\",\"place\":0},\"s\":7}\n",
+    ),
+    (
+        "{\"s\":7,\"op\":\"add\",\"d\":1,\"what\":\"array\",\"contents\":1,\"index\":1,\"count\":4294967295}\n",
+        "{\"ok\":{\"t\":2},\"s\":7}\n",
+    ),
+    (
+        "{\"s\":7,\"op\":\"add\",\"d\":1,\"what\":\"array\",\"contents\":1,\"index\":1,\"count\":4294967296}\n",
+        "{\"fault\":{\"code\":58,\"name\":\"BadRequest\",\"place\":0},\"s\":7}\n",
+    ),
+    (
+        "{\"s\":7,\"op\":\"add\",\"d\":1,\"what\":\"array\",\"contents\":65536,\"index\":1,\"count\":1}\n",
+        "{\"fault\":{\"code\":58,\"name\":\"BadRequest\",\"place\":0},\"s\":7}\n",
+    ),
+    (
+        "{\"s\":7,\"op\":\"add\",\"d\":1,\"what\":\"array\",\"contents\":1,\"count\":1}\n",
+        "{\"fault\":{\"code\":58,\"name\":\"BadRequest\",\"place\":0},\"s\":7}\n",
+    ),
+    (
+        "{\"s\":7,\"op\":\"add\",\"d\":1,\"what\":\"unknown\",\"name\":5}\n",
+        "{\"fault\":{\"code\":58,\"name\":\"BadRequest\",\"place\":0},\"s\":7}\n",
+    ),
+    (
+        "{\"s\":7,\"op\":\"add\",\"d\":1,\"what\":\"unknown\",\"name\":\"\\\\\"}\n",
+        "{\"fault\":{\"code\":58,\"name\":\"BadRequest\",\"place\":0},\"s\":7}\n",
+    ),
+    (
+        "{\"s\":7,\"op\":\"add\",\"d\":1,\"what\":\"unknown\",\"name\":\"\\\\x6A\"}\n",
+        "{\"fault\":{\"code\":58,\"name\":\"BadRequest\",\"place\":0},\"s\":7}\n",
+    ),
+    (
+        "{\"s\":7,\"op\":\"add\",\"d\":1,\"what\":\"struct\",\"name\":\"\\\\xff\\\\x22\",\"size\":8}\n",
+        "{\"ok\":{\"t\":3},\"s\":7}\n",
+    ),
+    (
+        "{\"s\":7,\"op\":\"add\",\"d\":1,\"what\":\"member\",\"t\":3,\"name\":\"m\",\"type\":1,\"offset\":18446744073709551616}\n",
+        "{\"fault\":{\"code\":58,\"name\":\"BadRequest\",\"place\":0},\"s\":7}\n",
+    ),
+    (
+        "{\"s\":7,\"op\":\"add\",\"d\":1,\"what\":\"member\",\"t\":3}\n",
+        "{\"fault\":{\"code\":58,\"name\":\"BadRequest\",\"place\":0},\"s\":7}\n",
+    ),
+    (
+        "{\"s\":7,\"op\":\"add\",\"what\":\"unknown\"}\n",
+        "{\"fault\":{\"code\":58,\"name\":\"BadRequest\",\"place\":0},\"s\":7}\n",
+    ),
+    (
+        "{\"s\":7,\"op\":\"add\",\"d\":1}\n",
+        "{\"fault\":{\"code\":58,\"name\":\"BadRequest\",\"place\":0},\"s\":7}\n",
+    ),
+    (
+        "{\"s\":7,\"op\":\"add\",\"d\":1,\"what\":\"forward\",\"name\":\"f\"}\n",
+        "{\"fault\":{\"code\":58,\"name\":\"BadRequest\",\"place\":0},\"s\":7}\n",
+    ),
+    (
+        "{\"s\":7,\"op\":\"add\",\"d\":1,\"what\":\"enumerator\",\"t\":3,\"value\":1.5}\n",
+        "{\"fault\":{\"code\":58,\"name\":\"BadRequest\",\"place\":0},\"s\":7}\n",
+    ),
+    (
+        "{\"s\":7,\"op\":\"update\",\"d\":1}\n",
+        "{\"ok\":{\"types\":3},\"s\":7}\n",
+    ),
+    (
+        "{\"s\":7,\"op\":\"encoding\",\"d\":1,\"t\":1}\n",
+        "{\"ok\":{\"bits\":65535,\"encoding\":255,\"offset\":255},\"s\":7}\n",
+    ),
+    (
+        "{\"s\":7,\"op\":\"array\",\"d\":1,\"t\":2}\n",
+        "{\"ok\":{\"contents\":1,\"count\":4294967295,\"index\":1},\"s\":7}\n",
+    ),
+    (
+        "{\"s\":7,\"op\":\"record\",\"d\":1,\"t\":3}\n",
+        "{\"ok\":{\"kind\":\"struct\",\"name\":\"\\\\xff\\\\x22\",\"root\":true,\"size\":8,\"vlen\":0},\"s\":7}\n",
+    ),
+];
+
+#[test]
+fn each_kind_is_added(rt: HostRuntime) -> Result<(), Fail> {
+    assert!(rt; are_answered(rt.alloc(), &KINDS)?);
+    Ok(())
+}
+
+#[test]
+fn references_are_there(rt: HostRuntime) -> Result<(), Fail> {
+    assert!(rt; are_answered(rt.alloc(), &REFERENCES)?);
+    Ok(())
+}
+
+#[test]
+fn sizes_are_written(rt: HostRuntime) -> Result<(), Fail> {
+    assert!(rt; are_answered(rt.alloc(), &SIZES)?);
+    Ok(())
+}
+
+#[test]
+fn types_of_a_draft_have_names(rt: HostRuntime) -> Result<(), Fail> {
+    assert!(rt; are_answered(rt.alloc(), &SPELLED)?);
+    Ok(())
+}
+
+#[test]
+fn fields_have_ranges(rt: HostRuntime) -> Result<(), Fail> {
+    assert!(rt; are_answered(rt.alloc(), &FIELDS)?);
+    Ok(())
+}

@@ -1,0 +1,190 @@
+//! Enumerators and labels of drafts.
+
+use ctf_runs::are_answered;
+use std::test::Fail;
+
+/// An enum and a label, and their bytes.
+const VALUES: [(&str, &str); 13] = [
+    (
+        "{\"s\":7,\"op\":\"create\"}\n",
+        "{\"ok\":{\"d\":1},\"s\":7}\n",
+    ),
+    (
+        "{\"s\":7,\"op\":\"add\",\"d\":1,\"what\":\"enum\"}\n",
+        "{\"ok\":{\"t\":1},\"s\":7}\n",
+    ),
+    (
+        "{\"s\":7,\"op\":\"add\",\"d\":1,\"what\":\"enumerator\",\"t\":1,\"name\":\"A\",\"value\":1}\n",
+        "{\"ok\":{},\"s\":7}\n",
+    ),
+    (
+        "{\"s\":7,\"op\":\"add\",\"d\":1,\"what\":\"enumerator\",\"t\":1,\"name\":\"A\",\"value\":2}\n",
+        "{\"fault\":{\"code\":41,\"name\":\"Duplicate\",\"place\":0},\"s\":7}\n",
+    ),
+    (
+        "{\"s\":7,\"op\":\"add\",\"d\":1,\"what\":\"label\",\"name\":\"v\",\"last\":1}\n",
+        "{\"ok\":{},\"s\":7}\n",
+    ),
+    (
+        "{\"s\":7,\"op\":\"add\",\"d\":1,\"what\":\"label\",\"name\":\"v\",\"last\":1}\n",
+        "{\"fault\":{\"code\":41,\"name\":\"Duplicate\",\"place\":0},\"s\":7}\n",
+    ),
+    (
+        "{\"s\":7,\"op\":\"info\",\"d\":1}\n",
+        "{\"ok\":{\"child\":false,\"draft\":true,\"imported\":false,\"labels\":0,\"parlabel\":\"\",\"parname\":\"\",\"pending\":2,\"types\":0},\"s\":7}\n",
+    ),
+    (
+        "{\"s\":7,\"op\":\"update\",\"d\":1}\n",
+        "{\"ok\":{\"types\":1},\"s\":7}\n",
+    ),
+    (
+        "{\"s\":7,\"op\":\"enumerators\",\"d\":1,\"t\":1}\n",
+        "{\"ok\":{\"enumerators\":[{\"name\":\"A\",\"value\":1}],\"total\":1},\"s\":7}\n",
+    ),
+    (
+        "{\"s\":7,\"op\":\"labels\",\"d\":1}\n",
+        "{\"ok\":{\"labels\":[{\"last\":1,\"name\":\"v\"}],\"total\":1},\"s\":7}\n",
+    ),
+    (
+        "{\"s\":7,\"op\":\"add\",\"d\":1,\"what\":\"label\",\"name\":\"v\",\"last\":1}\n",
+        "{\"fault\":{\"code\":41,\"name\":\"Duplicate\",\"place\":0},\"s\":7}\n",
+    ),
+    (
+        "{\"s\":7,\"op\":\"bytes\",\"d\":1,\"from\":0,\"count\":100}\n",
+        "{\"ok\":{\"bytes\":\"f1cf020000000000000000000000000008000000080000000800000018000000050000000100000001000000000000000144040003000000010000000076004100\",\"length\":65},\"s\":7}\n",
+    ),
+    (
+        "{\"s\":7,\"op\":\"info\",\"d\":1}\n",
+        "{\"ok\":{\"child\":false,\"draft\":true,\"imported\":false,\"labels\":1,\"parlabel\":\"\",\"parname\":\"\",\"pending\":0,\"types\":1},\"s\":7}\n",
+    ),
+];
+
+/// Enumerators and labels at the ends of their ranges, and those that are refused.
+const LISTED: [(&str, &str); 28] = [
+    (
+        "{\"s\":7,\"op\":\"create\"}\n",
+        "{\"ok\":{\"d\":1},\"s\":7}\n",
+    ),
+    (
+        "{\"s\":7,\"op\":\"add\",\"d\":1,\"what\":\"enum\",\"name\":\"e\",\"size\":8}\n",
+        "{\"ok\":{\"t\":1},\"s\":7}\n",
+    ),
+    (
+        "{\"s\":7,\"op\":\"add\",\"d\":1,\"what\":\"unknown\"}\n",
+        "{\"ok\":{\"t\":2},\"s\":7}\n",
+    ),
+    (
+        "{\"s\":7,\"op\":\"add\",\"d\":1,\"what\":\"enumerator\",\"t\":1,\"name\":\"least\",\"value\":-2147483648}\n",
+        "{\"ok\":{},\"s\":7}\n",
+    ),
+    (
+        "{\"s\":7,\"op\":\"add\",\"d\":1,\"what\":\"enumerator\",\"t\":1,\"name\":\"most\",\"value\":2147483647}\n",
+        "{\"ok\":{},\"s\":7}\n",
+    ),
+    (
+        "{\"s\":7,\"op\":\"add\",\"d\":1,\"what\":\"enumerator\",\"t\":1,\"value\":0}\n",
+        "{\"ok\":{},\"s\":7}\n",
+    ),
+    (
+        "{\"s\":7,\"op\":\"add\",\"d\":1,\"what\":\"enumerator\",\"t\":1,\"name\":\"\",\"value\":0}\n",
+        "{\"ok\":{},\"s\":7}\n",
+    ),
+    (
+        "{\"s\":7,\"op\":\"add\",\"d\":1,\"what\":\"enumerator\",\"t\":1,\"name\":\"more\",\"value\":2147483648}\n",
+        "{\"fault\":{\"code\":58,\"name\":\"BadRequest\",\"place\":0},\"s\":7}\n",
+    ),
+    (
+        "{\"s\":7,\"op\":\"add\",\"d\":1,\"what\":\"enumerator\",\"t\":1,\"name\":\"less\",\"value\":-2147483649}\n",
+        "{\"fault\":{\"code\":58,\"name\":\"BadRequest\",\"place\":0},\"s\":7}\n",
+    ),
+    (
+        "{\"s\":7,\"op\":\"add\",\"d\":1,\"what\":\"enumerator\",\"t\":1,\"name\":\"none\"}\n",
+        "{\"fault\":{\"code\":58,\"name\":\"BadRequest\",\"place\":0},\"s\":7}\n",
+    ),
+    (
+        "{\"s\":7,\"op\":\"add\",\"d\":1,\"what\":\"enumerator\",\"t\":9,\"name\":\"b\\\\x00\",\"value\":1}\n",
+        "{\"fault\":{\"code\":46,\"name\":\"NameHasZero\",\"place\":0},\"s\":7}\n",
+    ),
+    (
+        "{\"s\":7,\"op\":\"add\",\"d\":1,\"what\":\"enumerator\",\"t\":9,\"name\":\"most\",\"value\":1}\n",
+        "{\"fault\":{\"code\":24,\"name\":\"NoType\",\"place\":0},\"s\":7}\n",
+    ),
+    (
+        "{\"s\":7,\"op\":\"add\",\"d\":1,\"what\":\"enumerator\",\"t\":2,\"name\":\"most\",\"value\":1}\n",
+        "{\"fault\":{\"code\":30,\"name\":\"WrongKind\",\"place\":0},\"s\":7}\n",
+    ),
+    (
+        "{\"s\":7,\"op\":\"add\",\"d\":1,\"what\":\"enumerator\",\"t\":1,\"name\":\"most\",\"value\":1}\n",
+        "{\"fault\":{\"code\":41,\"name\":\"Duplicate\",\"place\":0},\"s\":7}\n",
+    ),
+    // A label names any number, and an empty name once.
+    (
+        "{\"s\":7,\"op\":\"add\",\"d\":1,\"what\":\"label\",\"last\":0}\n",
+        "{\"ok\":{},\"s\":7}\n",
+    ),
+    (
+        "{\"s\":7,\"op\":\"add\",\"d\":1,\"what\":\"label\",\"name\":\"\",\"last\":0}\n",
+        "{\"fault\":{\"code\":41,\"name\":\"Duplicate\",\"place\":0},\"s\":7}\n",
+    ),
+    (
+        "{\"s\":7,\"op\":\"add\",\"d\":1,\"what\":\"label\",\"name\":\"last\",\"last\":4294967295}\n",
+        "{\"ok\":{},\"s\":7}\n",
+    ),
+    (
+        "{\"s\":7,\"op\":\"add\",\"d\":1,\"what\":\"label\",\"name\":\"v\\\\x00\",\"last\":1}\n",
+        "{\"fault\":{\"code\":46,\"name\":\"NameHasZero\",\"place\":0},\"s\":7}\n",
+    ),
+    (
+        "{\"s\":7,\"op\":\"add\",\"d\":1,\"what\":\"label\",\"name\":\"w\",\"last\":4294967296}\n",
+        "{\"fault\":{\"code\":58,\"name\":\"BadRequest\",\"place\":0},\"s\":7}\n",
+    ),
+    (
+        "{\"s\":7,\"op\":\"update\",\"d\":1}\n",
+        "{\"ok\":{\"types\":2},\"s\":7}\n",
+    ),
+    (
+        "{\"s\":7,\"op\":\"enumerators\",\"d\":1,\"t\":1}\n",
+        "{\"ok\":{\"enumerators\":[{\"name\":\"least\",\"value\":-2147483648},{\"name\":\"most\",\"value\":2147483647},{\"name\":\"\",\"value\":0},{\"name\":\"\",\"value\":0}],\"total\":4},\"s\":7}\n",
+    ),
+    (
+        "{\"s\":7,\"op\":\"labels\",\"d\":1}\n",
+        "{\"ok\":{\"labels\":[{\"last\":0,\"name\":\"\"},{\"last\":4294967295,\"name\":\"last\"}],\"total\":2},\"s\":7}\n",
+    ),
+    (
+        "{\"s\":7,\"op\":\"size\",\"d\":1,\"t\":1}\n",
+        "{\"ok\":{\"size\":8},\"s\":7}\n",
+    ),
+    (
+        "{\"s\":7,\"op\":\"add\",\"d\":1,\"what\":\"enumerator\",\"t\":1,\"name\":\"late\",\"value\":1}\n",
+        "{\"fault\":{\"code\":42,\"name\":\"Settled\",\"place\":0},\"s\":7}\n",
+    ),
+    (
+        "{\"s\":7,\"op\":\"add\",\"d\":1,\"what\":\"enumerator\",\"t\":2,\"name\":\"late\",\"value\":1}\n",
+        "{\"fault\":{\"code\":42,\"name\":\"Settled\",\"place\":0},\"s\":7}\n",
+    ),
+    // What is discarded gives its name back.
+    (
+        "{\"s\":7,\"op\":\"add\",\"d\":1,\"what\":\"label\",\"name\":\"w\",\"last\":1}\n",
+        "{\"ok\":{},\"s\":7}\n",
+    ),
+    (
+        "{\"s\":7,\"op\":\"discard\",\"d\":1}\n",
+        "{\"ok\":{\"types\":2},\"s\":7}\n",
+    ),
+    (
+        "{\"s\":7,\"op\":\"add\",\"d\":1,\"what\":\"label\",\"name\":\"w\",\"last\":2}\n",
+        "{\"ok\":{},\"s\":7}\n",
+    ),
+];
+
+#[test]
+fn an_enum_and_a_label_are_written(rt: HostRuntime) -> Result<(), Fail> {
+    assert!(rt; are_answered(rt.alloc(), &VALUES)?);
+    Ok(())
+}
+
+#[test]
+fn enumerators_and_labels_are_listed(rt: HostRuntime) -> Result<(), Fail> {
+    assert!(rt; are_answered(rt.alloc(), &LISTED)?);
+    Ok(())
+}

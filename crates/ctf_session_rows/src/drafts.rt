@@ -1,0 +1,434 @@
+//! A draft from its making to its bytes, and what is published of it.
+
+use ctf_runs::are_answered;
+use std::test::Fail;
+
+/// A draft that gets an integer, and loses a struct.
+const WRITTEN: [(&str, &str); 20] = [
+    // The empty draft is 37 bytes.
+    (
+        "{\"s\":7,\"op\":\"create\"}\n",
+        "{\"ok\":{\"d\":1},\"s\":7}\n",
+    ),
+    (
+        "{\"s\":7,\"op\":\"bytes\",\"d\":1,\"from\":0,\"count\":100}\n",
+        "{\"ok\":{\"bytes\":\"f1cf0200000000000000000000000000000000000000000000000000000000000100000000\",\"length\":37},\"s\":7}\n",
+    ),
+    (
+        "{\"s\":7,\"op\":\"info\",\"d\":1}\n",
+        "{\"ok\":{\"child\":false,\"draft\":true,\"imported\":false,\"labels\":0,\"parlabel\":\"\",\"parname\":\"\",\"pending\":0,\"types\":0},\"s\":7}\n",
+    ),
+    (
+        "{\"s\":7,\"op\":\"add\",\"d\":1,\"what\":\"integer\",\"name\":\"int\",\"encoding\":1,\"offset\":0,\"bits\":32,\"size\":4}\n",
+        "{\"ok\":{\"t\":1},\"s\":7}\n",
+    ),
+    // Questions see the last update alone.
+    (
+        "{\"s\":7,\"op\":\"kind\",\"d\":1,\"t\":1}\n",
+        "{\"fault\":{\"code\":24,\"name\":\"NoType\",\"place\":0},\"s\":7}\n",
+    ),
+    (
+        "{\"s\":7,\"op\":\"bytes\",\"d\":1,\"from\":0,\"count\":100}\n",
+        "{\"ok\":{\"bytes\":\"f1cf0200000000000000000000000000000000000000000000000000000000000100000000\",\"length\":37},\"s\":7}\n",
+    ),
+    (
+        "{\"s\":7,\"op\":\"info\",\"d\":1}\n",
+        "{\"ok\":{\"child\":false,\"draft\":true,\"imported\":false,\"labels\":0,\"parlabel\":\"\",\"parname\":\"\",\"pending\":1,\"types\":0},\"s\":7}\n",
+    ),
+    (
+        "{\"s\":7,\"op\":\"publish\",\"d\":1,\"name\":\"base\"}\n",
+        "{\"fault\":{\"code\":55,\"name\":\"NotUpdated\",\"place\":0},\"s\":7}\n",
+    ),
+    (
+        "{\"s\":7,\"op\":\"update\",\"d\":1}\n",
+        "{\"ok\":{\"types\":1},\"s\":7}\n",
+    ),
+    (
+        "{\"s\":7,\"op\":\"bytes\",\"d\":1,\"from\":0,\"count\":100}\n",
+        "{\"ok\":{\"bytes\":\"f1cf02000000000000000000000000000000000000000000000000000c0000000500000001000000000c04002000000100696e7400\",\"length\":53},\"s\":7}\n",
+    ),
+    (
+        "{\"s\":7,\"op\":\"info\",\"d\":1}\n",
+        "{\"ok\":{\"child\":false,\"draft\":true,\"imported\":false,\"labels\":0,\"parlabel\":\"\",\"parname\":\"\",\"pending\":0,\"types\":1},\"s\":7}\n",
+    ),
+    (
+        "{\"s\":7,\"op\":\"kind\",\"d\":1,\"t\":1}\n",
+        "{\"ok\":{\"kind\":\"integer\"},\"s\":7}\n",
+    ),
+    (
+        "{\"s\":7,\"op\":\"size\",\"d\":1,\"t\":1}\n",
+        "{\"ok\":{\"size\":4},\"s\":7}\n",
+    ),
+    (
+        "{\"s\":7,\"op\":\"find\",\"d\":1,\"text\":\"int\"}\n",
+        "{\"ok\":{\"t\":1},\"s\":7}\n",
+    ),
+    // A struct is added and dropped.
+    (
+        "{\"s\":7,\"op\":\"add\",\"d\":1,\"what\":\"struct\",\"name\":\"s\"}\n",
+        "{\"ok\":{\"t\":2},\"s\":7}\n",
+    ),
+    (
+        "{\"s\":7,\"op\":\"discard\",\"d\":1}\n",
+        "{\"ok\":{\"types\":1},\"s\":7}\n",
+    ),
+    (
+        "{\"s\":7,\"op\":\"update\",\"d\":1}\n",
+        "{\"ok\":{\"types\":1},\"s\":7}\n",
+    ),
+    (
+        "{\"s\":7,\"op\":\"bytes\",\"d\":1,\"from\":0,\"count\":100}\n",
+        "{\"ok\":{\"bytes\":\"f1cf02000000000000000000000000000000000000000000000000000c0000000500000001000000000c04002000000100696e7400\",\"length\":53},\"s\":7}\n",
+    ),
+    (
+        "{\"s\":7,\"op\":\"update\",\"d\":1}\n",
+        "{\"ok\":{\"types\":1},\"s\":7}\n",
+    ),
+    (
+        "{\"s\":7,\"op\":\"bytes\",\"d\":1,\"from\":0,\"count\":100}\n",
+        "{\"ok\":{\"bytes\":\"f1cf02000000000000000000000000000000000000000000000000000c0000000500000001000000000c04002000000100696e7400\",\"length\":53},\"s\":7}\n",
+    ),
+];
+
+/// Pieces of the bytes of a dictionary.
+const PIECES: [(&str, &str); 15] = [
+    (
+        "{\"s\":7,\"op\":\"create\"}\n",
+        "{\"ok\":{\"d\":1},\"s\":7}\n",
+    ),
+    (
+        "{\"s\":7,\"op\":\"add\",\"d\":1,\"what\":\"integer\",\"name\":\"int\",\"encoding\":1,\"offset\":0,\"bits\":32,\"size\":4}\n",
+        "{\"ok\":{\"t\":1},\"s\":7}\n",
+    ),
+    (
+        "{\"s\":7,\"op\":\"update\",\"d\":1}\n",
+        "{\"ok\":{\"types\":1},\"s\":7}\n",
+    ),
+    (
+        "{\"s\":7,\"op\":\"bytes\",\"d\":1,\"from\":0,\"count\":53}\n",
+        "{\"ok\":{\"bytes\":\"f1cf02000000000000000000000000000000000000000000000000000c0000000500000001000000000c04002000000100696e7400\",\"length\":53},\"s\":7}\n",
+    ),
+    (
+        "{\"s\":7,\"op\":\"bytes\",\"d\":1,\"from\":0,\"count\":1048576}\n",
+        "{\"ok\":{\"bytes\":\"f1cf02000000000000000000000000000000000000000000000000000c0000000500000001000000000c04002000000100696e7400\",\"length\":53},\"s\":7}\n",
+    ),
+    (
+        "{\"s\":7,\"op\":\"bytes\",\"d\":1,\"from\":48,\"count\":4}\n",
+        "{\"ok\":{\"bytes\":\"00696e74\",\"length\":53},\"s\":7}\n",
+    ),
+    (
+        "{\"s\":7,\"op\":\"bytes\",\"d\":1,\"from\":52,\"count\":4}\n",
+        "{\"ok\":{\"bytes\":\"00\",\"length\":53},\"s\":7}\n",
+    ),
+    (
+        "{\"s\":7,\"op\":\"bytes\",\"d\":1,\"from\":0,\"count\":0}\n",
+        "{\"ok\":{\"bytes\":\"\",\"length\":53},\"s\":7}\n",
+    ),
+    (
+        "{\"s\":7,\"op\":\"bytes\",\"d\":1,\"from\":53,\"count\":4}\n",
+        "{\"ok\":{\"bytes\":\"\",\"length\":53},\"s\":7}\n",
+    ),
+    (
+        "{\"s\":7,\"op\":\"bytes\",\"d\":1,\"from\":4294967295,\"count\":1048576}\n",
+        "{\"ok\":{\"bytes\":\"\",\"length\":53},\"s\":7}\n",
+    ),
+    (
+        "{\"s\":7,\"op\":\"bytes\",\"d\":1,\"from\":0,\"count\":1048577}\n",
+        "{\"fault\":{\"code\":58,\"name\":\"BadRequest\",\"place\":0},\"s\":7}\n",
+    ),
+    (
+        "{\"s\":7,\"op\":\"bytes\",\"d\":1,\"from\":4294967296,\"count\":1}\n",
+        "{\"fault\":{\"code\":58,\"name\":\"BadRequest\",\"place\":0},\"s\":7}\n",
+    ),
+    (
+        "{\"s\":7,\"op\":\"bytes\",\"d\":1,\"count\":1}\n",
+        "{\"fault\":{\"code\":58,\"name\":\"BadRequest\",\"place\":0},\"s\":7}\n",
+    ),
+    (
+        "{\"s\":7,\"op\":\"bytes\",\"d\":1,\"from\":0}\n",
+        "{\"fault\":{\"code\":58,\"name\":\"BadRequest\",\"place\":0},\"s\":7}\n",
+    ),
+    (
+        "{\"s\":7,\"op\":\"bytes\",\"d\":2,\"from\":0,\"count\":1}\n",
+        "{\"fault\":{\"code\":49,\"name\":\"NoSlot\",\"place\":0},\"s\":7}\n",
+    ),
+];
+
+/// A draft that is published, updated and published again.
+const PUBLISHED: [(&str, &str); 34] = [
+    // A new draft is published as it stands; what is published later has another name.
+    (
+        "{\"s\":7,\"op\":\"create\"}\n",
+        "{\"ok\":{\"d\":1},\"s\":7}\n",
+    ),
+    (
+        "{\"s\":7,\"op\":\"publish\",\"d\":1,\"name\":\"base\"}\n",
+        "{\"ok\":{},\"s\":7}\n",
+    ),
+    (
+        "{\"s\":7,\"op\":\"add\",\"d\":1,\"what\":\"integer\",\"name\":\"int\",\"encoding\":1,\"offset\":0,\"bits\":32,\"size\":4}\n",
+        "{\"ok\":{\"t\":1},\"s\":7}\n",
+    ),
+    (
+        "{\"s\":7,\"op\":\"publish\",\"d\":1,\"name\":\"base\"}\n",
+        "{\"fault\":{\"code\":55,\"name\":\"NotUpdated\",\"place\":0},\"s\":7}\n",
+    ),
+    (
+        "{\"s\":7,\"op\":\"update\",\"d\":1}\n",
+        "{\"ok\":{\"types\":1},\"s\":7}\n",
+    ),
+    (
+        "{\"s\":7,\"op\":\"publish\",\"d\":1,\"name\":\"base\"}\n",
+        "{\"fault\":{\"code\":53,\"name\":\"NameTaken\",\"place\":0},\"s\":7}\n",
+    ),
+    (
+        "{\"s\":7,\"op\":\"publish\",\"d\":1,\"name\":\"int\"}\n",
+        "{\"ok\":{},\"s\":7}\n",
+    ),
+    (
+        "{\"s\":7,\"op\":\"take\",\"owner\":7,\"name\":\"base\"}\n",
+        "{\"ok\":{\"d\":2,\"types\":0},\"s\":7}\n",
+    ),
+    (
+        "{\"s\":7,\"op\":\"take\",\"owner\":7,\"name\":\"int\"}\n",
+        "{\"ok\":{\"d\":3,\"types\":1},\"s\":7}\n",
+    ),
+    // A later update changes nothing of it.
+    (
+        "{\"s\":7,\"op\":\"add\",\"d\":1,\"what\":\"integer\",\"name\":\"char\",\"encoding\":3,\"offset\":0,\"bits\":8,\"size\":1}\n",
+        "{\"ok\":{\"t\":2},\"s\":7}\n",
+    ),
+    (
+        "{\"s\":7,\"op\":\"publish\",\"d\":1,\"name\":\"more\"}\n",
+        "{\"fault\":{\"code\":55,\"name\":\"NotUpdated\",\"place\":0},\"s\":7}\n",
+    ),
+    (
+        "{\"s\":7,\"op\":\"update\",\"d\":1}\n",
+        "{\"ok\":{\"types\":2},\"s\":7}\n",
+    ),
+    (
+        "{\"s\":7,\"op\":\"take\",\"owner\":7,\"name\":\"int\"}\n",
+        "{\"ok\":{\"d\":4,\"types\":1},\"s\":7}\n",
+    ),
+    (
+        "{\"s\":7,\"op\":\"kind\",\"d\":3,\"t\":2}\n",
+        "{\"fault\":{\"code\":24,\"name\":\"NoType\",\"place\":0},\"s\":7}\n",
+    ),
+    (
+        "{\"s\":7,\"op\":\"info\",\"d\":3}\n",
+        "{\"ok\":{\"child\":false,\"draft\":false,\"imported\":false,\"labels\":0,\"parlabel\":\"\",\"parname\":\"\",\"pending\":0,\"types\":1},\"s\":7}\n",
+    ),
+    (
+        "{\"s\":7,\"op\":\"bytes\",\"d\":3,\"from\":0,\"count\":100}\n",
+        "{\"ok\":{\"bytes\":\"f1cf02000000000000000000000000000000000000000000000000000c0000000500000001000000000c04002000000100696e7400\",\"length\":53},\"s\":7}\n",
+    ),
+    // A label waits for an update, or is dropped.
+    (
+        "{\"s\":7,\"op\":\"add\",\"d\":1,\"what\":\"label\",\"name\":\"v\",\"last\":2}\n",
+        "{\"ok\":{},\"s\":7}\n",
+    ),
+    (
+        "{\"s\":7,\"op\":\"info\",\"d\":1}\n",
+        "{\"ok\":{\"child\":false,\"draft\":true,\"imported\":false,\"labels\":0,\"parlabel\":\"\",\"parname\":\"\",\"pending\":1,\"types\":2},\"s\":7}\n",
+    ),
+    (
+        "{\"s\":7,\"op\":\"publish\",\"d\":1,\"name\":\"more\"}\n",
+        "{\"fault\":{\"code\":55,\"name\":\"NotUpdated\",\"place\":0},\"s\":7}\n",
+    ),
+    (
+        "{\"s\":7,\"op\":\"discard\",\"d\":1}\n",
+        "{\"ok\":{\"types\":2},\"s\":7}\n",
+    ),
+    (
+        "{\"s\":7,\"op\":\"publish\",\"d\":1,\"name\":\"more\"}\n",
+        "{\"ok\":{},\"s\":7}\n",
+    ),
+    (
+        "{\"s\":7,\"op\":\"add\",\"d\":1,\"what\":\"label\",\"name\":\"v\",\"last\":2}\n",
+        "{\"ok\":{},\"s\":7}\n",
+    ),
+    (
+        "{\"s\":7,\"op\":\"update\",\"d\":1}\n",
+        "{\"ok\":{\"types\":2},\"s\":7}\n",
+    ),
+    (
+        "{\"s\":7,\"op\":\"info\",\"d\":1}\n",
+        "{\"ok\":{\"child\":false,\"draft\":true,\"imported\":false,\"labels\":1,\"parlabel\":\"\",\"parname\":\"\",\"pending\":0,\"types\":2},\"s\":7}\n",
+    ),
+    (
+        "{\"s\":7,\"op\":\"label\",\"d\":1,\"name\":\"v\"}\n",
+        "{\"ok\":{\"last\":2},\"s\":7}\n",
+    ),
+    (
+        "{\"s\":7,\"op\":\"take\",\"owner\":7,\"name\":\"more\"}\n",
+        "{\"ok\":{\"d\":5,\"types\":2},\"s\":7}\n",
+    ),
+    (
+        "{\"s\":7,\"op\":\"label\",\"d\":5,\"name\":\"v\"}\n",
+        "{\"fault\":{\"code\":38,\"name\":\"NoLabel\",\"place\":0},\"s\":7}\n",
+    ),
+    // What was published outlives its draft.
+    (
+        "{\"s\":7,\"op\":\"close\",\"d\":1}\n",
+        "{\"ok\":{},\"s\":7}\n",
+    ),
+    (
+        "{\"s\":7,\"op\":\"update\",\"d\":1}\n",
+        "{\"fault\":{\"code\":49,\"name\":\"NoSlot\",\"place\":0},\"s\":7}\n",
+    ),
+    ("{\"s\":7,\"op\":\"reset\"}\n", "{\"ok\":{},\"s\":7}\n"),
+    (
+        "{\"s\":7,\"op\":\"create\"}\n",
+        "{\"ok\":{\"d\":1},\"s\":7}\n",
+    ),
+    (
+        "{\"s\":7,\"op\":\"info\",\"d\":1}\n",
+        "{\"ok\":{\"child\":false,\"draft\":true,\"imported\":false,\"labels\":0,\"parlabel\":\"\",\"parname\":\"\",\"pending\":0,\"types\":0},\"s\":7}\n",
+    ),
+    (
+        "{\"s\":7,\"op\":\"publish\",\"d\":1,\"name\":\"base\"}\n",
+        "{\"fault\":{\"code\":53,\"name\":\"NameTaken\",\"place\":0},\"s\":7}\n",
+    ),
+    (
+        "{\"s\":7,\"op\":\"take\",\"owner\":7,\"name\":\"more\"}\n",
+        "{\"ok\":{\"d\":2,\"types\":2},\"s\":7}\n",
+    ),
+];
+
+/// Slots that are no drafts.
+const READ_ONLY: [(&str, &str); 27] = [
+    // The slot of a dictionary that was handed in, and of one that was taken.
+    (
+        "{\"s\":7,\"op\":\"part\",\"section\":\"ctf\",\"bytes\":\"f1cf02000000000000000000000000000000000000000000000000000c0000000500000001000000000c04002000000100696e7400\"}\n",
+        "{\"ok\":{\"length\":53},\"s\":7}\n",
+    ),
+    (
+        "{\"s\":7,\"op\":\"open\"}\n",
+        "{\"ok\":{\"d\":1,\"types\":1},\"s\":7}\n",
+    ),
+    (
+        "{\"s\":7,\"op\":\"publish\",\"d\":1,\"name\":\"base\"}\n",
+        "{\"ok\":{},\"s\":7}\n",
+    ),
+    (
+        "{\"s\":7,\"op\":\"take\",\"owner\":7,\"name\":\"base\"}\n",
+        "{\"ok\":{\"d\":2,\"types\":1},\"s\":7}\n",
+    ),
+    (
+        "{\"s\":7,\"op\":\"add\",\"d\":1,\"what\":\"integer\",\"name\":\"int\",\"encoding\":1,\"offset\":0,\"bits\":32,\"size\":4}\n",
+        "{\"fault\":{\"code\":52,\"name\":\"ReadOnly\",\"place\":0},\"s\":7}\n",
+    ),
+    (
+        "{\"s\":7,\"op\":\"add\",\"d\":1,\"what\":\"unknown\",\"name\":\"b\\\\x00\"}\n",
+        "{\"fault\":{\"code\":52,\"name\":\"ReadOnly\",\"place\":0},\"s\":7}\n",
+    ),
+    (
+        "{\"s\":7,\"op\":\"add\",\"d\":1,\"what\":\"member\",\"t\":1,\"type\":1}\n",
+        "{\"fault\":{\"code\":52,\"name\":\"ReadOnly\",\"place\":0},\"s\":7}\n",
+    ),
+    (
+        "{\"s\":7,\"op\":\"add\",\"d\":1,\"what\":\"enumerator\",\"t\":1,\"value\":1}\n",
+        "{\"fault\":{\"code\":52,\"name\":\"ReadOnly\",\"place\":0},\"s\":7}\n",
+    ),
+    (
+        "{\"s\":7,\"op\":\"add\",\"d\":1,\"what\":\"label\",\"name\":\"v\",\"last\":1}\n",
+        "{\"fault\":{\"code\":52,\"name\":\"ReadOnly\",\"place\":0},\"s\":7}\n",
+    ),
+    (
+        "{\"s\":7,\"op\":\"update\",\"d\":1}\n",
+        "{\"fault\":{\"code\":52,\"name\":\"ReadOnly\",\"place\":0},\"s\":7}\n",
+    ),
+    (
+        "{\"s\":7,\"op\":\"discard\",\"d\":1}\n",
+        "{\"fault\":{\"code\":52,\"name\":\"ReadOnly\",\"place\":0},\"s\":7}\n",
+    ),
+    (
+        "{\"s\":7,\"op\":\"add\",\"d\":2,\"what\":\"integer\",\"name\":\"int\",\"encoding\":1,\"offset\":0,\"bits\":32,\"size\":4}\n",
+        "{\"fault\":{\"code\":52,\"name\":\"ReadOnly\",\"place\":0},\"s\":7}\n",
+    ),
+    (
+        "{\"s\":7,\"op\":\"add\",\"d\":2,\"what\":\"unknown\",\"name\":\"b\\\\x00\"}\n",
+        "{\"fault\":{\"code\":52,\"name\":\"ReadOnly\",\"place\":0},\"s\":7}\n",
+    ),
+    (
+        "{\"s\":7,\"op\":\"add\",\"d\":2,\"what\":\"member\",\"t\":1,\"type\":1}\n",
+        "{\"fault\":{\"code\":52,\"name\":\"ReadOnly\",\"place\":0},\"s\":7}\n",
+    ),
+    (
+        "{\"s\":7,\"op\":\"add\",\"d\":2,\"what\":\"enumerator\",\"t\":1,\"value\":1}\n",
+        "{\"fault\":{\"code\":52,\"name\":\"ReadOnly\",\"place\":0},\"s\":7}\n",
+    ),
+    (
+        "{\"s\":7,\"op\":\"add\",\"d\":2,\"what\":\"label\",\"name\":\"v\",\"last\":1}\n",
+        "{\"fault\":{\"code\":52,\"name\":\"ReadOnly\",\"place\":0},\"s\":7}\n",
+    ),
+    (
+        "{\"s\":7,\"op\":\"update\",\"d\":2}\n",
+        "{\"fault\":{\"code\":52,\"name\":\"ReadOnly\",\"place\":0},\"s\":7}\n",
+    ),
+    (
+        "{\"s\":7,\"op\":\"discard\",\"d\":2}\n",
+        "{\"fault\":{\"code\":52,\"name\":\"ReadOnly\",\"place\":0},\"s\":7}\n",
+    ),
+    (
+        "{\"s\":7,\"op\":\"bytes\",\"d\":1,\"from\":0,\"count\":100}\n",
+        "{\"ok\":{\"bytes\":\"f1cf02000000000000000000000000000000000000000000000000000c0000000500000001000000000c04002000000100696e7400\",\"length\":53},\"s\":7}\n",
+    ),
+    // A slot that is none is said first, and a line that is no request before it.
+    (
+        "{\"s\":7,\"op\":\"add\",\"d\":9,\"what\":\"integer\",\"name\":\"int\",\"encoding\":1,\"offset\":0,\"bits\":32,\"size\":4}\n",
+        "{\"fault\":{\"code\":49,\"name\":\"NoSlot\",\"place\":0},\"s\":7}\n",
+    ),
+    (
+        "{\"s\":7,\"op\":\"add\",\"d\":9,\"what\":\"label\",\"name\":\"b\\\\x00\",\"last\":1}\n",
+        "{\"fault\":{\"code\":49,\"name\":\"NoSlot\",\"place\":0},\"s\":7}\n",
+    ),
+    (
+        "{\"s\":7,\"op\":\"update\",\"d\":9}\n",
+        "{\"fault\":{\"code\":49,\"name\":\"NoSlot\",\"place\":0},\"s\":7}\n",
+    ),
+    (
+        "{\"s\":7,\"op\":\"discard\",\"d\":9}\n",
+        "{\"fault\":{\"code\":49,\"name\":\"NoSlot\",\"place\":0},\"s\":7}\n",
+    ),
+    (
+        "{\"s\":7,\"op\":\"publish\",\"d\":9,\"name\":\"base\"}\n",
+        "{\"fault\":{\"code\":49,\"name\":\"NoSlot\",\"place\":0},\"s\":7}\n",
+    ),
+    (
+        "{\"s\":7,\"op\":\"update\",\"d\":0}\n",
+        "{\"fault\":{\"code\":58,\"name\":\"BadRequest\",\"place\":0},\"s\":7}\n",
+    ),
+    (
+        "{\"s\":7,\"op\":\"discard\"}\n",
+        "{\"fault\":{\"code\":58,\"name\":\"BadRequest\",\"place\":0},\"s\":7}\n",
+    ),
+    (
+        "{\"s\":7,\"op\":\"update\",\"d\":9,\"t\":1}\n",
+        "{\"fault\":{\"code\":49,\"name\":\"NoSlot\",\"place\":0},\"s\":7}\n",
+    ),
+];
+
+#[test]
+fn a_draft_is_written(rt: HostRuntime) -> Result<(), Fail> {
+    assert!(rt; are_answered(rt.alloc(), &WRITTEN)?);
+    Ok(())
+}
+
+#[test]
+fn bytes_are_read_in_pieces(rt: HostRuntime) -> Result<(), Fail> {
+    assert!(rt; are_answered(rt.alloc(), &PIECES)?);
+    Ok(())
+}
+
+#[test]
+fn a_draft_is_published_as_it_stands(rt: HostRuntime) -> Result<(), Fail> {
+    assert!(rt; are_answered(rt.alloc(), &PUBLISHED)?);
+    Ok(())
+}
+
+#[test]
+fn dictionaries_are_read_only(rt: HostRuntime) -> Result<(), Fail> {
+    assert!(rt; are_answered(rt.alloc(), &READ_ONLY)?);
+    Ok(())
+}
