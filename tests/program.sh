@@ -52,6 +52,8 @@ ends "$first" serve $'a\xffb';  expect "a word that is not UTF-8" 2 '' 'not UTF-
 ends /dev/null --help;          expect "help" 0 'Usage' ''
 ends /dev/null help;            expect "help, as a command" 0 'Usage' ''
 ends /dev/null serve --help;    expect "help of serve" 0 '^Usage: .* \[NAME=FILE\]\.\.\.$' ''
+ends /dev/null --help;          expect "help names the statuses" 0 '^  1  a file was refused$' ''
+ends /dev/null dump --help;     expect "help of dump names the pages" 0 '^Pages: ctfd(1), ' ''
 ends /dev/null --version;       expect "version" 0 '^ctfd [0-9]*\.[0-9]*\.[0-9]*$' ''
 ends /dev/null -V;              expect "version, by its letter" 0 '^ctfd [0-9]*\.[0-9]*\.[0-9]*$' ''
 fills /dev/null --help;         expect "help, and a full output" 3 '' '^ctfd: Write$'

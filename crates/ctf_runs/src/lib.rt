@@ -6,8 +6,10 @@ mod lines;
 mod repeats;
 mod requests;
 mod runs;
+mod told;
 
 pub use lines::put_line;
 pub use repeats::repeat;
 pub use requests::{INT, put_open, put_part};
 pub use runs::{Pieces, are_answered, served, served_bounded, served_by};
+pub use told::Told;

@@ -1,27 +1,11 @@
-//! Worked rows: what the service answers to sessions side by side, on slots, publications and
-//! drafts, and how a run over a reader and a writer in memory goes on and ends.
+//! Worked rows: what the service answers to sessions side by side, on slots and publications,
+//! and how a run over a reader and a writer in memory goes on and ends.
 #![tactic(auto)]
-
-mod told;
-
-pub use told::Told;
 
 #[cfg(test)]
 mod bounds;
 #[cfg(test)]
 mod calls;
-#[cfg(test)]
-mod draft_kinds;
-#[cfg(test)]
-mod draft_limits;
-#[cfg(test)]
-mod draft_members;
-#[cfg(test)]
-mod draft_parents;
-#[cfg(test)]
-mod draft_values;
-#[cfg(test)]
-mod drafts;
 #[cfg(test)]
 mod failures;
 #[cfg(test)]

@@ -1,7 +1,6 @@
 //! Many children over a parent that was taken, whose owner then has nothing.
 
-use crate::Told;
-use ctf_runs::put_line;
+use ctf_runs::{Told, put_line};
 use std::alloc::{AllocError, Global};
 use std::test::Fail;
 

@@ -10,6 +10,17 @@ use std::{env, io};
 /// What `--version` prints. docs/PROTOCOL.md says what a version promises.
 const VERSION: &str = "0.2.0";
 
+/// What stands below the help of each command.
+const STATUSES_AND_PAGES: &str = "\
+Exit status:
+  0  done
+  1  a file was refused
+  2  the words are wrong
+  3  a read or a write failed
+  4  memory was refused
+
+Pages: ctfd(1), ctfd-protocol(5); docs/PROTOCOL.md has every word, field and fault";
+
 /// An option that names a file.
 fn file_option<'a>(alloc: Global, name: &'a str, help: &'a str) -> Arg<'a> {
     Arg::new(alloc, name).long(name).value_name("F").help(help)
@@ -22,6 +33,7 @@ fn dump_command<'a>(alloc: Global) -> Result<Command<'a>, AllocError> {
         .help("The dictionary, as a file of a CTF section");
     Command::new(alloc, "dump")
         .about("Prints a dictionary as text, one line for each type, member and symbol")
+        .after_help(STATUSES_AND_PAGES)
         .arg(ctf)?
         .arg(file_option(alloc, "parent", "Its parent's CTF section"))?
         .arg(file_option(alloc, "sym", "The program's symbol table"))?
@@ -38,6 +50,7 @@ fn serve_command<'a>(alloc: Global) -> Result<Command<'a>, AllocError> {
             "Answers requests on standard input, one JSON line each, \
             with one line each on standard output",
         )
+        .after_help(STATUSES_AND_PAGES)
         .arg(publications)
 }
 
@@ -46,6 +59,7 @@ fn command<'a>(alloc: Global) -> Result<Command<'a>, AllocError> {
     Command::new(alloc, "ctfd")
         .version(VERSION)
         .about("A type service over CTF dictionaries")
+        .after_help(STATUSES_AND_PAGES)
         .subcommand_required(true)
         .subcommand(serve_command(alloc)?)?
         .subcommand(dump_command(alloc)?)

@@ -1,7 +1,7 @@
 //! Lines that go in, and the replies that are wanted.
 ghost use Rattle.std.specs.Prelude.{◌≡◌, ◌++◌, ◌∷◌, [], OnOk};
 
-use ctf_runs::served;
+use crate::served;
 use std::alloc::{AllocError, Global};
 
 /// Lines that go in, and the replies that are wanted.

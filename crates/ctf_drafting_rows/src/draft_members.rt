@@ -1,7 +1,6 @@
 //! Members of structs and unions in drafts: where they stand, and which are refused.
 
-use crate::Told;
-use ctf_runs::are_answered;
+use ctf_runs::{Told, are_answered};
 use std::alloc::{AllocError, Global};
 use std::test::Fail;
 

@@ -1,7 +1,6 @@
 //! How many drafts and arguments there may be, and how long a chain.
 
-use crate::Told;
-use ctf_runs::{put_line, repeat};
+use ctf_runs::{Told, put_line, repeat};
 use std::alloc::{AllocError, Global};
 use std::test::Fail;
 
