@@ -1,7 +1,6 @@
 //! The word `name`: names of types, as C spells them.
 
-use crate::put_byte;
-use ctf_runs::{are_answered, put_open, put_part, repeat, served};
+use ctf_runs::{are_answered, put_byte, put_open, put_part, repeat, served};
 use std::alloc::{AllocError, Global};
 use std::test::Fail;
 

@@ -1,13 +1,15 @@
-//! What the crates of rows share: lines of requests, and runs of the service over a reader and a writer in
-//! memory.
+//! What the crates of rows share: lines of requests and replies, and runs of the service over a reader
+//! and a writer in memory.
 #![tactic(auto)]
 
+mod digits;
 mod lines;
 mod repeats;
 mod requests;
 mod runs;
 mod told;
 
+pub use digits::put_byte;
 pub use lines::put_line;
 pub use repeats::repeat;
 pub use requests::{INT, put_open, put_part};

@@ -1,7 +1,6 @@
 //! What unions in unions come to, of which each has the one before it twice.
 
-use crate::put_byte;
-use ctf_runs::{put_open, put_part, served};
+use ctf_runs::{put_byte, put_open, put_part, served};
 use std::alloc::{AllocError, Global};
 use std::test::Fail;
 
