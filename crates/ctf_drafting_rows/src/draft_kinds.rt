@@ -317,7 +317,7 @@ const SIZES: [(&str, &str); 21] = [
 ];
 
 /// Pointers, arrays, functions and qualifiers in each other, and their names.
-const SPELLED: [(&str, &str); 33] = [
+pub const SPELLED: [(&str, &str); 33] = [
     (
         "{\"s\":7,\"op\":\"create\"}\n",
         "{\"ok\":{\"d\":1},\"s\":7}\n",

@@ -2,6 +2,8 @@
 #![tactic(auto)]
 
 #[cfg(test)]
+mod between;
+#[cfg(test)]
 mod draft_kinds;
 #[cfg(test)]
 mod draft_limits;
