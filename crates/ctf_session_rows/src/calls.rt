@@ -1,10 +1,9 @@
 //! The calls below `serve`, each once, with memory enough.
 
 use ctf_answers::Reply;
-use ctf_library::{Library, Pool};
 use ctf_lines::{FromLine, ToLine, memory_line, write_change};
 use ctf_model::{Change, Fault, Request, placeless};
-use ctf_wire::Broker;
+use ctf_wire::{Broker, Library, Pool};
 use std::alloc::{AllocError, Global};
 use std::test::Fail;
 

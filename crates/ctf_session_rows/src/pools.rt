@@ -1,7 +1,7 @@
 //! Dictionaries that are opened again while a pool holds them, or when it holds them no more.
 
-use ctf_library::Pool;
 use ctf_model::{Bytes, Fault, Parts};
+use ctf_wire::Pool;
 use std::alloc::{AllocError, Global};
 use std::test::Fail;
 

@@ -15,8 +15,7 @@ mod sources;
 mod writers;
 
 pub use ctf_answers::{Answer, Counts, Reply, Single};
-pub use ctf_broker::Broker;
-pub use ctf_library::Library;
+pub use ctf_broker::{Broker, Library, Pool};
 pub use ctf_lines::{FromLine, ToLine, memory_line};
 pub use readers::FromReader;
 pub use run_faults::RunFault;
