@@ -6,3 +6,4 @@ pub mod SlotPlaces
 pub mod SlotOrder
 pub mod Fitting
 pub mod Telling
+pub mod Pooling

@@ -1,10 +1,12 @@
--- What is told of a type. The words are ours.
-use Rattle.std.specs.Prelude.{◌≡◌, ℕ}
+-- What is told of a type, and which questions take memory. The words are ours.
+use Rattle.std.specs.Prelude.{◌≡◌, ℕ, Bool, true, false}
 use Rattle.ctf_library.specs.declared.answering.Told.{Told}
 use Rattle.ctf_library.specs.declared.answering.Told.TheVariants.{Lent, Name, Value}
 use Rattle.ctf_model.specs.Questions.{said_on}
 use Rattle.ctf_model.specs.Shown.{Facts}
 use Rattle.ctf_model.specs.Space.{Space}
+use Rattle.ctf_model.specs.declared.questions.Question.{Question}
+use Rattle.ctf_model.specs.declared.questions.Question.TheVariants.{OfType, OfSlot, OfHeld}
 use Rattle.ctf_model.specs.declared.questions.TypeQuestion.{TypeQuestion}
 use Rattle.ctf_model.specs.declared.questions.TypeQuestion.TheVariants as about
 
@@ -13,3 +15,15 @@ abbrev pub IsTold : TypeQuestion → Space → ℕ → Facts → Told → Type 0
 IsTold question s t x (Lent answer) = answer ≡ said_on question s t x
 IsTold question s t x Name = question ≡ about.Name
 IsTold question s t x (Value memory offset) = question ≡ about.Show memory.now offset
+
+-- its answer is a text that is made for it
+abbrev pub makes_text_on : TypeQuestion → Bool
+makes_text_on about.Name = true
+makes_text_on (about.Show memory offset) = true
+makes_text_on _ = false
+
+-- the same of any question
+abbrev pub makes_text : Question → Bool
+makes_text (OfType t question) = makes_text_on question
+makes_text (OfSlot question) = false
+makes_text (OfHeld question) = false

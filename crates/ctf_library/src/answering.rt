@@ -1,5 +1,5 @@
 //! What questions to a slot are answered, and those on types.
-ghost use Rattle.std.specs.Prelude.{◌≡◌, ◌≤◌, [], ◌∷◌, codes, length, map, take, true, None, Some, Ok, Err, IfOk, IfSome, IsNone, option_map, option_and_then};
+ghost use Rattle.std.specs.Prelude.{◌≡◌, ◌≤◌, [], ◌∷◌, codes, length, map, take, true, false, None, Some, Ok, Err, IfOk, IfSome, IsNone, option_map, option_and_then};
 ghost use Rattle.ctf_model.specs.Answers.{number, says, word};
 ghost use Rattle.ctf_model.specs.KindNames.{name_of_kind, name_of_tag};
 ghost use Rattle.ctf_model.specs.Questions.{or_wrong_kind, list_fields, said_on, type_said, record_fields, member_fields, enumerator_fields, argument_fields, array_fields, encoding_fields, as_fields, type_fields, size_fields, align_fields, name_fields, position_fields, value_fields, number_item, is_variadic as ends_open, named_arguments};
@@ -8,7 +8,7 @@ ghost use Rattle.ctf_model.specs.Steps.{is_quiet, is_quiet_on, slot_said, slot_s
 ghost use Rattle.ctf_model.specs.TypeNames.{spelled_name};
 ghost use Rattle.ctf_model.specs.Values.{value_text};
 ghost use Rattle.ctf_layout.specs.Fitting.{Fits};
-ghost use Rattle.ctf_library.specs.Telling.{IsTold};
+ghost use Rattle.ctf_library.specs.Telling.{IsTold, makes_text, makes_text_on};
 ghost use Rattle.std.specs.Result.{result_map_both};
 ghost use Rattle.ctf_library.specs.Fitting.{AreTablesOf, Serve};
 ghost use Rattle.ctf_layout.specs.Reached.{position_of};
@@ -330,6 +330,9 @@ fn answer_on<'a>(
     ensures answer { MayAnswer (type_said question.now (space_of space.now) t.0) result }
     ensures quiet { is_quiet_on question.now ≡ true
         → result ≡ type_said question.now (space_of space.now) t.0 }
+    // Only a text takes memory.
+    ensures lent { makes_text_on question.now ≡ false
+        → result ≡ type_said question.now (space_of space.now) t.0 }
 {
     let found = match space.term(t) {
         Ok(found) => found,
@@ -379,6 +382,8 @@ impl Slot {
     ) -> Result<Answer<'a>, Fault>
         ensures answer { MayAnswer (slot_said question.now (slot_of self.now)) result }
         ensures quiet { is_quiet question.now ≡ true
+            → result ≡ slot_said question.now (slot_of self.now) }
+        ensures lent { makes_text question.now ≡ false
             → result ≡ slot_said question.now (slot_of self.now) }
     {
         let space = self.space();

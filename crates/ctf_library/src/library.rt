@@ -1,5 +1,5 @@
 //! The library of one session.
-ghost use Rattle.std.specs.Prelude.{◌≡◌, ◌⊎◌, None, Some, Ok, Err, IfOk, IfErr, OnOk, true, is_some, option_map, option_and_then, option_copied};
+ghost use Rattle.std.specs.Prelude.{◌≡◌, ◌⊎◌, None, Some, Ok, Err, IfOk, IfErr, OnOk, true, false, is_some, option_map, option_and_then, option_copied};
 ghost use Rattle.ctf_model.specs.Publications.{published_as};
 ghost use Rattle.ctf_model.specs.State.{empty_state};
 ghost use Rattle.ctf_library.specs.SlotView.{slot_of};
@@ -8,6 +8,7 @@ ghost use Rattle.ctf_model.specs.declared.faults.TheConstants.Fault.{NO_SLOT};
 ghost use Rattle.ctf_model.specs.declared.requests.DraftStep.TheVariants.{Discard};
 ghost use Rattle.ctf_model.specs.Steps.{adds_created, answer_to, change_step, checks, clears, closes, creates, has_room as room_in, imports, is_quiet, is_quiet_change, MayAnswer, opens, outcome_of, parts, publishes, publishes_lists, resets, slot_at, steps_draft, takes};
 ghost use Rattle.ctf_library.specs.Stepping.{Does, Makes};
+ghost use Rattle.ctf_library.specs.Telling.{makes_text};
 
 use crate::held::pending;
 use crate::loaded::Loaded;
@@ -333,6 +334,9 @@ impl Library {
         ensures answer { MayAnswer (answer_to d question.now self.now) result }
         // These take no memory.
         ensures quiet { is_quiet question.now ≡ true → result ≡ answer_to d question.now self.now }
+        // Nor does any other whose answer is no text.
+        ensures lent { makes_text question.now ≡ false
+            → result ≡ answer_to d question.now self.now }
     {
         self.answer_now(d, question)
     }
@@ -340,6 +344,8 @@ impl Library {
     fn answer_now<'a>(&'a self, d: SlotNumber, question: &Question) -> Result<Answer<'a>, Fault>
         ensures answer { MayAnswer (answer_to d question.now self.now) result }
         ensures quiet { is_quiet question.now ≡ true → result ≡ answer_to d question.now self.now }
+        ensures lent { makes_text question.now ≡ false
+            → result ≡ answer_to d question.now self.now }
     {
         match find_slot(&self.slots, d.get()) {
             Some(slot) => slot.answer(self.alloc, question),

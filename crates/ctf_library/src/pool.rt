@@ -1,6 +1,7 @@
 //! Dictionaries that were opened lately.
-ghost use Rattle.std.specs.Prelude.{◌≡◌, ◌⊎◌, IfOk, IfErr, IfSome, OnOk, Some, None, true};
+ghost use Rattle.std.specs.Prelude.{◌≡◌, ◌⊎◌, [], IfOk, IfErr, IfSome, OnOk, Some, None, true};
 ghost use Rattle.ctf_check.specs.ListsView.{lists_in};
+ghost use Rattle.ctf_library.specs.Pooling.{Holds};
 ghost use Rattle.ctf_model.specs.Faults.{first_fault};
 ghost use Rattle.ctf_model.specs.OwnedLists.{lists_owned};
 ghost use Rattle.ctf_model.specs.Refusals.{want_of_memory};
@@ -10,6 +11,7 @@ use ctf_check::LentLists;
 use ctf_model::{Fault, Parts, placeless};
 use ctf_space::lent;
 use std::alloc::Global;
+use std::marker::Model;
 
 /// How many dictionaries a pool holds.
 const MOST_HELD: usize = 16;
@@ -24,6 +26,18 @@ pub struct Pool {
     held: Vec<Loaded>,
 }
 
+impl Model for Pool {
+    ghost use Rattle.std.specs.Prelude.{◌≤◌, List, length};
+    ghost use Rattle.ctf_library.specs.Pooling.{most_held};
+    ghost use Rattle.ctf_model.specs.Lists.{Lists};
+
+    ghost Value = { List Lists };
+
+    ghost view = { λ p. p.held.items };
+
+    ghost invariant = { λ p. length p.held.items ≤ most_held };
+}
+
 /// Whether these are the same lists, byte for byte.
 fn are_same(a: LentLists<'_>, b: LentLists<'_>) -> bool
     ensures same { result ≡ true → lists_in a.entry ≡ lists_in b.entry }
@@ -34,7 +48,9 @@ fn are_same(a: LentLists<'_>, b: LentLists<'_>) -> bool
 
 impl Pool {
     /// A pool that holds nothing.
-    pub fn new(alloc: Global) -> Pool {
+    pub fn new(alloc: Global) -> Pool
+        ensures { result ≡ [] }
+    {
         Pool {
             alloc,
             held: Vec::new(alloc),
@@ -50,6 +66,7 @@ impl Pool {
         ensures exact_err { IfErr result (λ e. (e.0 ≡ want_of_memory)
             ⊎ (first_fault (lists_owned parts) ≡ Some e.0)) }
         ensures back { IfErr result (λ e. lists_owned e.1 ≡ lists_owned parts) }
+        ensures held { (self.new ≡ self.old) ⊎ Holds self.old (lists_owned parts) self.new }
     {
         if let Some(held) = self.find(&parts) {
             return match held.share() {
@@ -80,7 +97,9 @@ impl Pool {
     }
 
     /// Holds a dictionary in place of the oldest; where memory for that is refused, it does not.
-    fn hold(&mut self, loaded: &Loaded) {
+    fn hold(&mut self, loaded: &Loaded)
+        ensures { Holds self.old loaded.now self.new }
+    {
         if self.held.len() == MOST_HELD {
             self.held.remove(0);
         }

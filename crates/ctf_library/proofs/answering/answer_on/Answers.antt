@@ -13,3 +13,8 @@ pub returns-in-Lent-clause-quiet : goal.returns-in-Lent-clause-quiet
 returns-in-Lent-clause-quiet c =
     let s = space_of c.args.space.now in
     λ quiet. c.in-Lent.ensures ∙ said_of_facts c.args.question.now s c.args.t.0 _ _ c.facts.ensures ∙ ap (said_of c.args.question.now s c.args.t.0) c.in-Ok.ensures
+
+pub returns-in-Lent-clause-lent : goal.returns-in-Lent-clause-lent
+returns-in-Lent-clause-lent c =
+    let s = space_of c.args.space.now in
+    λ lent. c.in-Lent.ensures ∙ said_of_facts c.args.question.now s c.args.t.0 _ _ c.facts.ensures ∙ ap (said_of c.args.question.now s c.args.t.0) c.in-Ok.ensures
