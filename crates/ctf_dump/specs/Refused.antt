@@ -7,10 +7,13 @@ use Rattle.ctf_dump.specs.declared.line.DumpFault.{DumpFault}
 use Rattle.ctf_dump.specs.declared.line.DumpFault.TheVariants as fault
 use Rattle.ctf_dump.specs.declared.inputs.InputFile.{InputFile}
 use Rattle.ctf_dump.specs.declared.inputs.Inputs.{Inputs}
+use Rattle.ctf_model.specs.Dictionary.{said_by}
 use Rattle.ctf_model.specs.FaultNames.{name_of_fault}
 use Rattle.ctf_model.specs.Faults.{first_fault}
 use Rattle.ctf_model.specs.Lists.{Lists}
+use Rattle.ctf_model.specs.Space.{Space}
 use Rattle.ctf_model.specs.Steps.{fault_over}
+use Rattle.ctf_model.specs.declared.data_model.DataModel.TheVariants.{Lp64}
 use Rattle.ctf_model.specs.declared.faults.Fault.{Fault}
 
 -- ---- what is dumped
@@ -25,6 +28,10 @@ own_lists i = record { ctf = i.ctf.bytes.now; sym = bytes_of i.sym; strs = bytes
 -- a parent, which is handed in by itself
 abbrev pub parent_lists : InputFile → Lists
 parent_lists f = record { ctf = f.bytes.now; sym = None; strs = None }
+
+-- the dictionary over its parent, where one is handed in
+abbrev pub space_in : Inputs → Space
+space_in i = record { own = said_by (own_lists i); parent = option_map (λ p. said_by (parent_lists p)) i.parent; model = Lp64 }
 
 -- ---- what is refused
 

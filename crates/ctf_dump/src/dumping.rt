@@ -1,4 +1,10 @@
 //! All lines of a dictionary.
+ghost use Rattle.std.specs.Prelude.{◌≡◌, ◌<◌, [], OnOk};
+ghost use Rattle.std.specs.Io.KnownBytes.{Appends};
+ghost use Rattle.ctf_layout.specs.Fitting.{Fits};
+ghost use Rattle.ctf_model.specs.Dump.{dump as text_of, types_from};
+ghost use Rattle.ctf_model.specs.TypePlaces.{own_number};
+ghost use Rattle.ctf_space.specs.SpaceView.{space_of};
 
 use crate::heads::{head_line, label_lines, symbol_lines};
 use crate::line::{DumpFault, Line};
@@ -9,6 +15,37 @@ use ctf_space::Space;
 use std::alloc::Global;
 use std::io::Write;
 
+/// The number of an own type, which is here counted from 0.
+fn numbered(child: bool, place: usize) -> TypeNum
+    requires { place < 32767 }
+    ensures { result.0 ≡ own_number child place }
+{
+    let first: u16 = if child { 0x8001 } else { 1 };
+    TypeNum(place as u16 + first)
+}
+
+/// The lines of all own types.
+#[tactic(auto, using(crate::proofs::Progress::nothing_yet))]
+fn all_type_lines<W: Write>(
+    alloc: Global,
+    space: &Space<'_>,
+    layout: &Layout,
+    line: &mut Line,
+    out: &mut W,
+) -> Result<(), DumpFault>
+    requires { line.old ≡ [] }
+    ensures { Fits (space_of space.now) layout.now → OnOk result
+        (Appends (W.contents out.old) (W.contents out.new)
+        (types_from (space_of space.now) 0 (space_of space.now).own.terms)) }
+{
+    let dictionary = space.dictionary();
+    for place in 0..dictionary.count() {
+        let number = numbered(dictionary.child(), place);
+        type_lines(alloc, space, layout, number, line, out)?;
+    }
+    Ok(())
+}
+
 /// Writes a dictionary as text, line by line. Types are those of its own; what they come to is told
 /// over the parent, where there is one.
 pub fn dump<W: Write>(
@@ -16,17 +53,14 @@ pub fn dump<W: Write>(
     space: &Space<'_>,
     layout: &Layout,
     out: &mut W,
-) -> Result<(), DumpFault> {
+) -> Result<(), DumpFault>
+    ensures { Fits (space_of space.now) layout.now → OnOk result
+        (Appends (W.contents out.old) (W.contents out.new) (text_of (space_of space.now))) }
+{
     let mut line = Line::new(alloc);
     let dictionary = space.dictionary();
     head_line(&dictionary, &mut line, out)?;
     label_lines(&dictionary, &mut line, out)?;
     symbol_lines(&dictionary, &mut line, out)?;
-    let first: u16 = if dictionary.child() { 0x8001 } else { 1 };
-    let mut number = TypeNum(first);
-    for _i in 0..dictionary.count() {
-        type_lines(alloc, space, layout, number, &mut line, out)?;
-        number = TypeNum(number.0.wrapping_add(1));
-    }
-    Ok(())
+    all_type_lines(alloc, space, layout, &mut line, out)
 }

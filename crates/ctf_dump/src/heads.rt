@@ -1,73 +1,115 @@
 //! The lines in front: the dictionary itself, its labels, and what it tells of symbols.
-ghost use Rattle.std.specs.Prelude.{◌≡◌, ◌++◌, codes, decimal, OnOk};
-ghost use Rattle.ctf_model.specs.Dump.{in_quotes};
+ghost use Rattle.std.specs.Prelude.{◌≡◌, ◌++◌, [], codes, decimal, map, OnOk};
+ghost use Rattle.std.specs.List.{flat_map};
+ghost use Rattle.std.specs.Io.KnownBytes.{Appends};
+ghost use Rattle.ctf_check.specs.CheckedView.{dictionary_of};
+ghost use Rattle.ctf_dump.specs.Words.{function_text, object_text, parent_text, signature_text};
+ghost use Rattle.ctf_entries.specs.EntriesView.{entry as entry_shown};
+ghost use Rattle.ctf_entries.specs.FunctionView.{signature};
+ghost use Rattle.ctf_model.specs.Dump.{head_line as line_of_head, in_quotes, label_line as line_of_label, numbers, symbol_line as line_of_symbol, yes_or_no};
+ghost use Rattle.ctf_model.specs.ReplyLines.{after_commas};
+ghost use Rattle.ctf_views.specs.ItemsView.{label as label_shown};
 
 use crate::line::{DumpFault, Line};
 use ctf_check::Checked;
-use ctf_entries::{Entry, Told};
-use ctf_model::{Section, TypeNum};
-use ctf_sections::Header;
-use ctf_sections::bytes::u32_at;
-use ctf_views::Args;
+use ctf_entries::{Entry, Signature, Told};
+use ctf_model::TypeNum;
+use ctf_views::{Args, Label};
 use std::alloc::AllocError;
 use std::io::Write;
+
+fn child_word(child: bool) -> &'static str
+    ensures { result.now ≡ codes " child=" ++ yes_or_no child }
+{
+    if child { " child=yes" } else { " child=no" }
+}
+
+/// The parent that a dictionary names, and up to which label.
+fn put_parent(line: &mut Line, dictionary: &Checked<'_>) -> Result<(), AllocError>
+    ensures { OnOk result (line.new ≡ line.old ++ parent_text (dictionary_of dictionary.now)) }
+{
+    line.text(" parname=")?;
+    line.quoted(dictionary.parname())?;
+    line.text(" parlabel=")?;
+    line.quoted(dictionary.parlabel())
+}
 
 pub fn head_line<W: Write>(
     dictionary: &Checked<'_>,
     line: &mut Line,
     out: &mut W,
-) -> Result<(), DumpFault> {
+) -> Result<(), DumpFault>
+    requires { line.old ≡ [] }
+    ensures written { OnOk result (Appends (W.contents out.old) (W.contents out.new)
+        (line_of_head (dictionary_of dictionary.now))) }
+    ensures empty { OnOk result (line.new ≡ []) }
+{
     line.word("ctf types=", dictionary.count() as u64)?;
-    line.text(if dictionary.child() {
-        " child=yes parname="
-    } else {
-        " child=no parname="
-    })?;
-    line.quoted(dictionary.parname())?;
-    line.text(" parlabel=")?;
-    line.quoted(dictionary.parlabel())?;
+    line.text(child_word(dictionary.child()))?;
+    put_parent(line, dictionary)?;
     line.end(out)
 }
 
-/// The bytes of the labels.
-fn labels<'a>(dictionary: &Checked<'a>) -> &'a [u8] {
-    let ctf = dictionary.lists().ctf;
-    match Header::read(ctf) {
-        Ok(header) => {
-            let (start, end) = header.range(Section::SLabels);
-            &ctf[start..end]
-        }
-        Err(_) => &[],
-    }
+fn label_line<W: Write>(label: Label<'_>, line: &mut Line, out: &mut W) -> Result<(), DumpFault>
+    requires { line.old ≡ [] }
+    ensures written { OnOk result (Appends (W.contents out.old) (W.contents out.new)
+        (line_of_label (label_shown label.entry))) }
+    ensures empty { OnOk result (line.new ≡ []) }
+{
+    line.text("label ")?;
+    line.quoted(label.name)?;
+    line.word(" ", u64::from(label.last))?;
+    line.end(out)
 }
 
+#[tactic(auto, using(crate::proofs::Progress::all_done, crate::proofs::Progress::nothing_yet, crate::proofs::Progress::one_more))]
 pub fn label_lines<W: Write>(
     dictionary: &Checked<'_>,
     line: &mut Line,
     out: &mut W,
-) -> Result<(), DumpFault> {
-    for label in labels(dictionary).chunks_exact(8) {
-        if let Some(name) = dictionary.strings().name(u32_at(label, 0)) {
-            line.text("label ")?;
-            line.quoted(name)?;
-            line.word(" ", u64::from(u32_at(label, 4)))?;
-            line.end(out)?;
-        }
+) -> Result<(), DumpFault>
+    requires { line.old ≡ [] }
+    ensures written { OnOk result (Appends (W.contents out.old) (W.contents out.new)
+        (flat_map line_of_label (dictionary_of dictionary.now).labels)) }
+    ensures empty { OnOk result (line.new ≡ []) }
+{
+    for label in dictionary.labels() {
+        label_line(label, line, out)?;
     }
     Ok(())
 }
 
-/// What a function returns and takes; its arguments as they are stored.
-pub fn put_signature(line: &mut Line, ret: TypeNum, args: Args<'_>) -> Result<(), AllocError> {
-    line.word(" return=", u64::from(ret.0))?;
-    line.text(" args=")?;
-    for i in 0..args.len() {
-        if let Some(arg) = args.get(i) {
-            line.text(if i == 0 { "" } else { "," })?;
-            line.number(u64::from(arg.0))?;
-        }
+/// Numbers of types, with a comma before each.
+fn put_more(line: &mut Line, args: Args<'_>) -> Result<(), AllocError>
+    ensures { OnOk result (line.new ≡ line.old ++ after_commas (map decimal args.entry)) }
+{
+    for arg in args {
+        line.word(",", u64::from(arg.0))?;
     }
     Ok(())
+}
+
+/// Numbers of types, with commas between them.
+fn put_numbers(line: &mut Line, args: Args<'_>) -> Result<(), AllocError>
+    ensures { OnOk result (line.new ≡ line.old ++ numbers args.entry) }
+{
+    let mut args = args;
+    match args.next() {
+        Some(first) => {
+            line.number(u64::from(first.0))?;
+            put_more(line, args)
+        }
+        None => Ok(()),
+    }
+}
+
+/// What a function returns and takes; its arguments as they are stored.
+pub fn put_signature(line: &mut Line, ret: TypeNum, args: Args<'_>) -> Result<(), AllocError>
+    ensures { OnOk result (line.new ≡ line.old ++ signature_text ret.0 args.entry) }
+{
+    line.word(" return=", u64::from(ret.0))?;
+    line.text(" args=")?;
+    put_numbers(line, args)
 }
 
 fn put_symbol(line: &mut Line, class: &str, number: u32, name: &[u8]) -> Result<(), AllocError>
@@ -79,34 +121,67 @@ fn put_symbol(line: &mut Line, class: &str, number: u32, name: &[u8]) -> Result<
     line.quoted(name)
 }
 
+fn object_line<W: Write>(
+    number: u32,
+    name: &[u8],
+    tnum: TypeNum,
+    line: &mut Line,
+    out: &mut W,
+) -> Result<(), DumpFault>
+    requires { line.old ≡ [] }
+    ensures written { OnOk result (Appends (W.contents out.old) (W.contents out.new)
+        (object_text number name.now tnum.0)) }
+    ensures empty { OnOk result (line.new ≡ []) }
+{
+    put_symbol(line, "object ", number, name)?;
+    line.word(" ", u64::from(tnum.0))?;
+    line.end(out)
+}
+
+fn function_line<W: Write>(
+    number: u32,
+    name: &[u8],
+    told: Signature<'_>,
+    line: &mut Line,
+    out: &mut W,
+) -> Result<(), DumpFault>
+    requires { line.old ≡ [] }
+    ensures written { OnOk result (Appends (W.contents out.old) (W.contents out.new)
+        (function_text number name.now (signature told.entry))) }
+    ensures empty { OnOk result (line.new ≡ []) }
+{
+    put_symbol(line, "function ", number, name)?;
+    put_signature(line, told.ret, told.args)?;
+    line.end(out)
+}
+
 /// A symbol of which nothing is told has no line.
-fn symbol_line<W: Write>(entry: Entry<'_>, line: &mut Line, out: &mut W) -> Result<(), DumpFault> {
-    let Entry {
-        number,
-        symbol,
-        told,
-        ..
-    } = entry;
-    match told {
-        Told::Object(Some(tnum)) => {
-            put_symbol(line, "object ", number, symbol.name())?;
-            line.word(" ", u64::from(tnum.0))?;
-            line.end(out)
-        }
-        Told::Function(Some(signature)) => {
-            put_symbol(line, "function ", number, symbol.name())?;
-            put_signature(line, signature.ret, signature.args)?;
-            line.end(out)
-        }
+fn symbol_line<W: Write>(entry: Entry<'_>, line: &mut Line, out: &mut W) -> Result<(), DumpFault>
+    requires { line.old ≡ [] }
+    ensures written { OnOk result (Appends (W.contents out.old) (W.contents out.new)
+        (line_of_symbol (entry_shown entry.entry))) }
+    ensures empty { OnOk result (line.new ≡ []) }
+{
+    let number = entry.number;
+    let name = entry.symbol.name();
+    match entry.told {
+        Told::Object(Some(tnum)) => object_line(number, name, tnum, line, out),
+        Told::Function(Some(told)) => function_line(number, name, told, line, out),
         _ => Ok(()),
     }
 }
 
+#[tactic(auto, using(crate::proofs::Progress::all_done, crate::proofs::Progress::nothing_yet, crate::proofs::Progress::one_more))]
 pub fn symbol_lines<W: Write>(
     dictionary: &Checked<'_>,
     line: &mut Line,
     out: &mut W,
-) -> Result<(), DumpFault> {
+) -> Result<(), DumpFault>
+    requires { line.old ≡ [] }
+    ensures written { OnOk result (Appends (W.contents out.old) (W.contents out.new)
+        (flat_map line_of_symbol (dictionary_of dictionary.now).entries)) }
+    ensures empty { OnOk result (line.new ≡ []) }
+{
     for entry in dictionary.entries() {
         symbol_line(entry, line, out)?;
     }

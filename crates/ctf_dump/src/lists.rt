@@ -1,13 +1,15 @@
 //! A dump of files that were read: they are judged, and then dumped.
 ghost use Rattle.std.specs.Prelude.{◌≡◌, ◌⊎◌, IfOk, IfErr, OnOk, None, Some};
-ghost use Rattle.std.specs.Io.KnownBytes.{Keeps};
+ghost use Rattle.std.specs.Io.KnownBytes.{Appends, Keeps};
 ghost use Rattle.ctf_chains.specs.Starts.{starts_in};
 ghost use Rattle.ctf_check.specs.CheckedView.{lists_of};
 ghost use Rattle.ctf_check.specs.ListsView.{lists_in};
 ghost use Rattle.ctf_dump.specs.Refused.{EndsBy, MayAnswer, RefusedBy};
-ghost use Rattle.ctf_dump.specs.Refused.{in_file, over, own_lists, refusal, status_after};
+ghost use Rattle.ctf_dump.specs.Refused.{in_file, over, own_lists, parent_lists, refusal, space_in, status_after};
+ghost use Rattle.ctf_model.specs.Dump.{dump as text_of};
 ghost use Rattle.ctf_model.specs.Faults.{first_fault, types as types_of};
 ghost use Rattle.ctf_model.specs.Refusals.{want_of_memory};
+ghost use Rattle.ctf_space.specs.SpaceView.{space_of};
 
 use crate::dumping::dump;
 use crate::ends::{DONE, DumpEnd};
@@ -55,7 +57,9 @@ fn dump_space<'a, W: Write>(
     space: &Space<'_>,
     out: &mut W,
 ) -> Result<(), DumpEnd<'a>>
-    ensures { IfErr result (λ e. EndsBy None e) }
+    ensures end { IfErr result (λ e. EndsBy None e) }
+    ensures written { OnOk result (Appends (W.contents out.old) (W.contents out.new)
+        (text_of (space_of space.now))) }
 {
     let layout = Layout::build(alloc, space)?;
     dump(alloc, space, &layout, out)?;
@@ -73,7 +77,10 @@ fn dump_over<'a, W: Write>(
     parent: InputFile<'a>,
     out: &mut W,
 ) -> Result<(), DumpEnd<'a>>
-    requires { lists_of own ≡ own_lists inputs.now }
+    requires own { lists_of own ≡ own_lists inputs.now }
+    requires parent { inputs.now.parent ≡ Some parent }
+    ensures written { OnOk result (Appends (W.contents out.old) (W.contents out.new)
+        (text_of (space_in inputs.now))) }
     ensures exact_ok { OnOk result (over inputs.now (Some parent.entry) ≡ None) }
     ensures exact_err { IfErr result (λ e. EndsBy (over inputs.now (Some parent.entry)) e) }
     ensures quiet { IfErr result (λ e. status_after e ≡ 1
@@ -93,6 +100,8 @@ fn dump_inputs<'a, W: Write>(
     inputs: &Inputs<'a>,
     out: &mut W,
 ) -> Result<(), DumpEnd<'a>>
+    ensures written { OnOk result (Appends (W.contents out.old) (W.contents out.new)
+        (text_of (space_in inputs.now))) }
     ensures exact_ok { OnOk result (refusal inputs.now ≡ None) }
     ensures exact_err { IfErr result (λ e. EndsBy (refusal inputs.now) e) }
     ensures quiet { IfErr result (λ e. status_after e ≡ 1
@@ -116,6 +125,8 @@ pub fn dump_lists<W: Write, E: Write>(
     err: &mut E,
 ) -> u8
     ensures status { MayAnswer (refusal inputs.now) result }
+    ensures written { result ≡ 0 → Appends (W.contents out.old) (W.contents out.new)
+        (text_of (space_in inputs.now)) }
     // A file that is refused is not dumped.
     ensures quiet { result ≡ 1 → Keeps (W.contents out.old) (W.contents out.new) }
 {

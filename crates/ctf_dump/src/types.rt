@@ -1,21 +1,30 @@
 //! The lines of types, with their members or enumerators.
-ghost use Rattle.std.specs.Prelude.{◌≡◌, ◌++◌, codes, decimal, OnOk};
-ghost use Rattle.ctf_dump.specs.Words.{size_text, to_text};
-ghost use Rattle.ctf_model.specs.Dump.{in_quotes, or_fault};
+ghost use Rattle.std.specs.Prelude.{◌≡◌, ◌++◌, [], codes, decimal, option_map, OnOk, Ok};
+ghost use Rattle.std.specs.List.{flat_map};
+ghost use Rattle.std.specs.Io.KnownBytes.{Appends};
+ghost use Rattle.ctf_check.specs.FactsView.{facts_seen, shape_seen};
+ghost use Rattle.ctf_dump.specs.Words.{array_text, encoding_text, facts_text, figures_text, lines_behind, lines_of_type, returned_text, root_text, shape_text, size_text, to_text, typed_text};
+ghost use Rattle.ctf_layout.specs.Fitting.{Fits};
+ghost use Rattle.ctf_model.specs.Dump.{in_quotes, member_line as line_of_member, or_fault, value_line as line_of_value};
 ghost use Rattle.ctf_model.specs.KindNames.{name_of_kind, name_of_tag};
+ghost use Rattle.ctf_model.specs.Space.{space_type};
+ghost use Rattle.ctf_model.specs.Term.{Term};
 ghost use Rattle.ctf_model.specs.TypeNames.{spelled_name};
 ghost use Rattle.ctf_records.specs.RecordView.{tag_of};
 ghost use Rattle.ctf_space.specs.SpaceView.{space_of};
+ghost use Rattle.ctf_views.specs.ItemsView.{enumerator as enumerator_shown, member as member_shown};
+ghost use Rattle.ctf_views.specs.PartsView.{array_info, encoding_info};
+ghost use Rattle.ctf_views.specs.VariantView.{seen};
 
 use crate::heads::put_signature;
 use crate::line::{DumpFault, Line};
-use ctf_check::Typed;
+use ctf_check::{Facts, Shape};
 use ctf_layout::Layout;
 use ctf_model::{Fault, Kind, TypeNum, fault_name};
 use ctf_names::spell;
 use ctf_records::Tag;
 use ctf_space::Space;
-use ctf_views::{Enumerators, Members, Variant};
+use ctf_views::{Args, ArrayInfo, Encoding, Enumerator, Enumerators, Member, Members, Variant};
 use std::alloc::{AllocError, Global};
 use std::io::Write;
 
@@ -60,7 +69,7 @@ fn put_size(line: &mut Line, size: Option<u64>) -> Result<(), AllocError>
 }
 
 fn put_reference(line: &mut Line, number: Option<TypeNum>) -> Result<(), AllocError>
-    ensures { OnOk result (line.new ≡ line.old ++ to_text number) }
+    ensures { OnOk result (line.new ≡ line.old ++ to_text (option_map (λ t. t.0) number)) }
 {
     match number {
         Some(number) => line.word(" to=", u64::from(number.0)),
@@ -68,29 +77,55 @@ fn put_reference(line: &mut Line, number: Option<TypeNum>) -> Result<(), AllocEr
     }
 }
 
+fn put_returned(line: &mut Line, ret: Option<TypeNum>, args: Args<'_>) -> Result<(), AllocError>
+    ensures { OnOk result (line.new ≡ line.old
+        ++ returned_text (option_map (λ t. t.0) ret) args.entry) }
+{
+    match ret {
+        Some(ret) => put_signature(line, ret, args),
+        None => Ok(()),
+    }
+}
+
+fn put_array(line: &mut Line, info: ArrayInfo) -> Result<(), AllocError>
+    ensures { OnOk result (line.new ≡ line.old ++ array_text (array_info info)) }
+{
+    line.word(" contents=", u64::from(info.contents.0))?;
+    line.word(" index=", u64::from(info.index.0))?;
+    line.word(" count=", u64::from(info.count))
+}
+
+fn put_encoding(line: &mut Line, info: Encoding) -> Result<(), AllocError>
+    ensures { OnOk result (line.new ≡ line.old ++ encoding_text (encoding_info info)) }
+{
+    line.word(" encoding=", u64::from(info.encoding))?;
+    line.word(" offset=", u64::from(info.offset))?;
+    line.word(" bits=", u64::from(info.bits))
+}
+
 /// What a type says of itself, apart from its name and its list.
-fn put_detail(line: &mut Line, found: &Typed<'_>) -> Result<(), AllocError> {
-    let record = found.record();
-    match found.variant() {
-        Variant::Members(_) | Variant::Enumerators(_) => put_size(line, record.size()),
-        Variant::Args(args) => match record.reference() {
-            Some(ret) => put_signature(line, ret, args),
-            None => Ok(()),
-        },
+fn put_detail(line: &mut Line, x: Shape<'_>) -> Result<(), AllocError>
+    ensures { OnOk result (line.new ≡ line.old ++ shape_text (shape_seen x.entry)) }
+{
+    let Shape {
+        size,
+        reference,
+        behind,
+        ..
+    } = x;
+    match behind {
+        Variant::Members(_) | Variant::Enumerators(_) => put_size(line, size),
+        Variant::Args(args) => put_returned(line, reference, args),
         Variant::Array(info) => {
-            line.word(" contents=", u64::from(info.contents.0))?;
-            line.word(" index=", u64::from(info.index.0))?;
-            line.word(" count=", u64::from(info.count))?;
-            put_size(line, record.size())
+            put_array(line, info)?;
+            put_size(line, size)
         }
         Variant::Encoding(info) => {
-            put_size(line, record.size())?;
-            line.word(" encoding=", u64::from(info.encoding))?;
-            line.word(" offset=", u64::from(info.offset))?;
-            line.word(" bits=", u64::from(info.bits))
+            put_size(line, size)?;
+            put_encoding(line, info)
         }
         Variant::Tag(tag) => line.text(tag_word(tag)),
-        Variant::Nothing => put_reference(line, record.reference()),
+        Variant::Nothing => put_reference(line, reference),
     }
 }
 
@@ -121,48 +156,145 @@ fn put_figure(line: &mut Line, figure: Result<u64, Fault>) -> Result<(), AllocEr
     }
 }
 
-fn put_type(line: &mut Line, number: TypeNum, found: &Typed<'_>) -> Result<(), AllocError> {
+fn root_word(root: bool) -> &'static str
+    ensures { result.now ≡ root_text root }
+{
+    if root { " root" } else { " hidden" }
+}
+
+/// The words of a type up to what it says of itself.
+fn put_facts(line: &mut Line, number: TypeNum, x: Facts<'_>) -> Result<(), AllocError>
+    ensures { OnOk result (line.new ≡ line.old ++ facts_text number.0 (facts_seen x.entry)) }
+{
     line.word("type ", u64::from(number.0))?;
     line.text(" ")?;
-    line.text(kind_word(found.record().kind()))?;
+    line.text(kind_word(x.shape.kind))?;
     line.text(" ")?;
-    line.quoted(found.name())?;
-    line.text(if found.root() { " root" } else { " hidden" })?;
-    put_detail(line, found)
+    line.quoted(x.name)?;
+    line.text(root_word(x.root))?;
+    put_detail(line, x.shape)
 }
 
+/// How a type is spelled, and what it comes to.
+fn put_figures(
+    alloc: Global,
+    space: &Space<'_>,
+    layout: &Layout,
+    number: TypeNum,
+    line: &mut Line,
+) -> Result<(), AllocError>
+    ensures { Fits (space_of space.now) layout.now → OnOk result (line.new ≡ line.old
+        ++ figures_text (space_of space.now) number.0) }
+{
+    line.text(" : ")?;
+    put_spelled(alloc, space, number, line)?;
+    line.text(" bytes=")?;
+    put_figure(line, layout.size(number))?;
+    line.text(" align=")?;
+    put_figure(line, layout.align(number))
+}
+
+fn member_line<W: Write>(member: Member<'_>, line: &mut Line, out: &mut W) -> Result<(), DumpFault>
+    requires { line.old ≡ [] }
+    ensures written { OnOk result (Appends (W.contents out.old) (W.contents out.new)
+        (line_of_member (member_shown member.entry))) }
+    ensures empty { OnOk result (line.new ≡ []) }
+{
+    line.text("  member ")?;
+    line.quoted(member.name)?;
+    line.word(" offset=", member.offset)?;
+    line.word(" type=", u64::from(member.tnum.0))?;
+    line.end(out)
+}
+
+#[tactic(auto, using(crate::proofs::Progress::all_done, crate::proofs::Progress::nothing_yet, crate::proofs::Progress::one_more))]
 fn member_lines<W: Write>(
-    members: &Members<'_>,
+    members: Members<'_>,
     line: &mut Line,
     out: &mut W,
-) -> Result<(), DumpFault> {
-    for i in 0..members.len() {
-        if let Some(member) = members.get(i) {
-            line.text("  member ")?;
-            line.quoted(member.name)?;
-            line.word(" offset=", member.offset)?;
-            line.word(" type=", u64::from(member.tnum.0))?;
-            line.end(out)?;
-        }
+) -> Result<(), DumpFault>
+    requires { line.old ≡ [] }
+    ensures written { OnOk result (Appends (W.contents out.old) (W.contents out.new)
+        (flat_map line_of_member members.entry)) }
+    ensures empty { OnOk result (line.new ≡ []) }
+{
+    for member in members {
+        member_line(member, line, out)?;
     }
     Ok(())
 }
 
-fn value_lines<W: Write>(
-    enumerators: &Enumerators<'_>,
+fn value_line<W: Write>(
+    enumerator: Enumerator<'_>,
     line: &mut Line,
     out: &mut W,
-) -> Result<(), DumpFault> {
-    for i in 0..enumerators.len() {
-        if let Some(enumerator) = enumerators.get(i) {
-            line.text("  value ")?;
-            line.quoted(enumerator.name)?;
-            line.text(" ")?;
-            line.signed(enumerator.value)?;
-            line.end(out)?;
-        }
+) -> Result<(), DumpFault>
+    requires { line.old ≡ [] }
+    ensures written { OnOk result (Appends (W.contents out.old) (W.contents out.new)
+        (line_of_value (enumerator_shown enumerator.entry))) }
+    ensures empty { OnOk result (line.new ≡ []) }
+{
+    line.text("  value ")?;
+    line.quoted(enumerator.name)?;
+    line.text(" ")?;
+    line.signed(enumerator.value)?;
+    line.end(out)
+}
+
+#[tactic(auto, using(crate::proofs::Progress::all_done, crate::proofs::Progress::nothing_yet, crate::proofs::Progress::one_more))]
+fn value_lines<W: Write>(
+    enumerators: Enumerators<'_>,
+    line: &mut Line,
+    out: &mut W,
+) -> Result<(), DumpFault>
+    requires { line.old ≡ [] }
+    ensures written { OnOk result (Appends (W.contents out.old) (W.contents out.new)
+        (flat_map line_of_value enumerators.entry)) }
+    ensures empty { OnOk result (line.new ≡ []) }
+{
+    for enumerator in enumerators {
+        value_line(enumerator, line, out)?;
     }
     Ok(())
+}
+
+/// The lines of what stands behind a type's head: its members or enumerators.
+fn list_of_lines<W: Write>(
+    behind: Variant<'_>,
+    line: &mut Line,
+    out: &mut W,
+) -> Result<(), DumpFault>
+    requires { line.old ≡ [] }
+    ensures written { OnOk result (Appends (W.contents out.old) (W.contents out.new)
+        (lines_behind (seen behind.entry))) }
+    ensures empty { OnOk result (line.new ≡ []) }
+{
+    match behind {
+        Variant::Members(members) => member_lines(members, line, out),
+        Variant::Enumerators(enumerators) => value_lines(enumerators, line, out),
+        _ => Ok(()),
+    }
+}
+
+/// The line of a type with a number.
+fn type_line<W: Write>(
+    alloc: Global,
+    space: &Space<'_>,
+    layout: &Layout,
+    number: TypeNum,
+    facts: Facts<'_>,
+    line: &mut Line,
+    out: &mut W,
+) -> Result<(), DumpFault>
+    requires { line.old ≡ [] }
+    ensures written { Fits (space_of space.now) layout.now → OnOk result
+        (Appends (W.contents out.old) (W.contents out.new)
+        (typed_text (space_of space.now) number.0 (facts_seen facts.entry))) }
+    ensures empty { OnOk result (line.new ≡ []) }
+{
+    put_facts(line, number, facts)?;
+    put_figures(alloc, space, layout, number, line)?;
+    line.end(out)
 }
 
 /// The lines of the type with a number.
@@ -173,21 +305,17 @@ pub fn type_lines<W: Write>(
     number: TypeNum,
     line: &mut Line,
     out: &mut W,
-) -> Result<(), DumpFault> {
+) -> Result<(), DumpFault>
+    requires { line.old ≡ [] }
+    ensures written { Fits (space_of space.now) layout.now → (x : Term)
+        → space_type (space_of space.now) number.0 ≡ Ok x → OnOk result
+        (Appends (W.contents out.old) (W.contents out.new)
+        (lines_of_type (space_of space.now) number.0 x)) }
+    ensures empty { OnOk result (line.new ≡ []) }
+{
     let Ok(found) = space.term(number) else {
         return Ok(());
     };
-    put_type(line, number, &found)?;
-    line.text(" : ")?;
-    put_spelled(alloc, space, number, line)?;
-    line.text(" bytes=")?;
-    put_figure(line, layout.size(number))?;
-    line.text(" align=")?;
-    put_figure(line, layout.align(number))?;
-    line.end(out)?;
-    match found.variant() {
-        Variant::Members(members) => member_lines(&members, line, out),
-        Variant::Enumerators(enumerators) => value_lines(&enumerators, line, out),
-        _ => Ok(()),
-    }
+    type_line(alloc, space, layout, number, found.facts(), line, out)?;
+    list_of_lines(found.variant(), line, out)
 }

@@ -1,0 +1,3 @@
+mod Progress
+mod TypeLines
+mod AllLines

@@ -1,0 +1,16 @@
+use Rattle.std.proofs.Common.{sym, ap, ◌∙◌}
+use Rattle.std.proofs.lemmas.Result.{on_ok_weaker}
+use Rattle.ctf_check.specs.FactsView.{facts_seen}
+use Rattle.ctf_check.specs.TypedView.{spelled}
+use Rattle.ctf_space.specs.SpaceView.{space_of}
+use Rattle.ctf_space.specs.TypeView.{type_found}
+use Rattle.ctf_views.specs.VariantView.{seen}
+use Rattle.ctf_dump.proofs.TypeLines.{type_lines_are}
+use Rattle.ctf_dump.proofs.types.type_lines.Goals as goal
+
+pub returns-clause-written : goal.returns-clause-written
+returns-clause-written g c fits x e =
+    let found = sym (ap type_found c.in-Ok.is) ∙ c.term.ensures ∙ e in
+    on_ok_weaker c.list_of_lines.result
+    (λ second. type_lines_are _ _ _ (space_of c.args.space.now) c.args.number.0 (spelled c.in-Ok.found) (facts_seen c.facts.result) (seen c.variant.result) x found c.facts.ensures c.variant.ensures (c.in_ok-type_line.ensures.written fits) second)
+    c.list_of_lines.ensures.written
