@@ -1,5 +1,5 @@
 //! The libraries of all sessions.
-ghost use Rattle.std.specs.Prelude.{◌≡◌, ◌≢◌, ℕ, [], true};
+ghost use Rattle.std.specs.Prelude.{◌≡◌, ◌≢◌, ℕ, true};
 ghost use Rattle.ctf_model.specs.Runs.{Answered, IsGranted, Steps};
 ghost use Rattle.ctf_model.specs.State.{empty_state};
 ghost use Rattle.ctf_model.specs.Steps.{answer_to, is_quiet, is_quiet_change, MayAnswer, publishes_lists};
@@ -100,8 +100,9 @@ impl Broker {
             (said_to session result) (library_at self.new) }
         ensures others { (other : ℕ) → other ≢ session
             → kept_for self.new other ≡ kept_for self.old other }
-        // Where the session has a slot, these take no memory.
-        ensures quiet { is_quiet_change change.now ≡ true → (library_at self.old session).slots ≢ []
+        // Where the session holds anything, these take no memory.
+        ensures quiet { is_quiet_change change.now ≡ true
+            → library_at self.old session ≢ empty_state
             → IsGranted (library_at self.old) session (Changes change.now)
             (said_to session result) (library_at self.new) }
     {

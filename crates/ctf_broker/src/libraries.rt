@@ -1,8 +1,9 @@
 //! Sessions and their libraries.
-ghost use Rattle.std.specs.Prelude.{◌≡◌, ◌≢◌, ℕ, [], IfOk, OnErr, true, false};
+ghost use Rattle.std.specs.Prelude.{◌≡◌, ◌≢◌, ℕ, IfOk, OnErr, true, false};
 ghost use Rattle.std.specs.Option.{option_map};
 ghost use Rattle.ctf_answers.specs.Replies.{said, said_to};
 ghost use Rattle.ctf_model.specs.Runs.{Answered, IsGranted, Steps, found_in};
+ghost use Rattle.ctf_model.specs.State.{empty_state};
 ghost use Rattle.ctf_model.specs.Steps.{is_quiet_change, publishes_lists};
 ghost use Rattle.ctf_model.specs.declared.requests.Request.TheVariants.{Changes};
 ghost use Rattle.ctf_broker.specs.Table.{kept_for, library_at};
@@ -50,7 +51,7 @@ pub fn step_in(
     ensures others { (other : ℕ) → other ≢ session
         → kept_for libraries.new.entries other ≡ kept_for libraries.old.entries other }
     ensures quiet { is_quiet_change change.now ≡ true
-        → (library_at libraries.old.entries session).slots ≢ []
+        → library_at libraries.old.entries session ≢ empty_state
         → IsGranted (library_at libraries.old.entries) session (Changes change.now)
         (said_to session result) (library_at libraries.new.entries) }
 {
