@@ -1,5 +1,5 @@
 //! The libraries of all sessions.
-ghost use Rattle.std.specs.Prelude.{◌≡◌, ◌≢◌, ℕ, true};
+ghost use Rattle.std.specs.Prelude.{◌≡◌, ◌≢◌, ℕ, true, false};
 ghost use Rattle.ctf_model.specs.Runs.{Answered, IsGranted, Steps};
 ghost use Rattle.ctf_model.specs.State.{empty_state};
 ghost use Rattle.ctf_model.specs.Steps.{answer_to, is_quiet, is_quiet_change, MayAnswer, publishes_lists};
@@ -8,6 +8,7 @@ ghost use Rattle.ctf_answers.specs.Replies.{said, said_to};
 ghost use Rattle.ctf_model.specs.declared.requests.Request.TheVariants.{Changes};
 ghost use Rattle.ctf_broker.specs.Loading.{loads_section};
 ghost use Rattle.ctf_broker.specs.Table.{kept_for, library_at};
+ghost use Rattle.ctf_library.specs.Telling.{makes_text};
 
 use crate::libraries::{found_by, publish_in, step_in};
 use ctf_answers::{Answer, Counts};
@@ -129,6 +130,9 @@ impl Broker {
         ensures answer { MayAnswer (answer_to d question.now (library_at self.now session)) result }
         // These take no memory.
         ensures quiet { is_quiet question.now ≡ true
+            → result ≡ answer_to d question.now (library_at self.now session) }
+        // Nor does any other whose answer is no text.
+        ensures lent { makes_text question.now ≡ false
             → result ≡ answer_to d question.now (library_at self.now session) }
     {
         match self.libraries.get(&session) {
