@@ -1,5 +1,5 @@
 //! What can be read from a line, and what can be written as one.
-ghost use Rattle.std.specs.Prelude.{◌≡◌, ◌≢◌, ℕ, List, Result, Ok, Err, IfOk, IfErr};
+ghost use Rattle.std.specs.Prelude.{◌≡◌, ◌≢◌, ◌<◌, length, ℕ, List, Result, Ok, Err, IfOk, IfErr};
 ghost use Rattle.ctf_lines.specs.Appending.{Writes};
 
 use ctf_model::Fault;
@@ -10,6 +10,7 @@ pub trait FromLine: Sized {
     ghost use Rattle.ctf_model.specs.declared.faults.Fault.{Fault};
     ghost use Rattle.ctf_model.specs.declared.faults.TheConstants.Fault.{MEMORY};
     ghost use Rattle.ctf_model.specs.Refusals.{placeless};
+    ghost use Rattle.ctf_model.specs.Lines.{longest_line};
 
     /// The session of a line and what it asks, or its session (0 where it has none) and the
     /// refusal.
@@ -23,7 +24,9 @@ pub trait FromLine: Sized {
             → asked line.now ≡ Err refusal) }
         // Where memory was refused, no session is said.
         ensures memory { IfErr result (λ refusal. refusal.1.code ≡ MEMORY
-            → refusal ≡ (0, placeless MEMORY)) };
+            → refusal ≡ (0, placeless MEMORY)) }
+        // A line that is too long takes no memory.
+        ensures long { longest_line < length line.now → asked line.now ≡ result };
 }
 
 /// What has a line.
