@@ -1,23 +1,25 @@
 #!/usr/bin/env python3
-"""Writes the dictionary that a test of the writer expects, one type of each kind, to standard output.
+"""Writes the dictionary that a draft with one type of each kind becomes, to standard output.
 
 usage: tests/written_bytes.py > examples/written.ctf
 
-The bytes are those of KINDS in crates/ctf_draft_rows/src/written.rt, which `each_kind_is_written`
-compares with what the writer makes.
+The bytes are those of the run "each kind is written" in
+crates/ctf_transcripts/data/draft_calls.transcript, which the gate compares with what is written.
 """
-import ast
+import json
 import pathlib
-import re
 import sys
 
-SOURCE = pathlib.Path(__file__).parent.parent / "crates/ctf_draft_rows/src/written.rt"
+SOURCE = pathlib.Path(__file__).parent.parent / "crates/ctf_transcripts/data/draft_calls.transcript"
 
 
 def kinds():
-    length, text = re.search(r'const KINDS: \[u8; (\d+)\] = \*(b".*?");', SOURCE.read_text(), re.DOTALL).groups()
-    dictionary = ast.literal_eval(re.sub(r"\\\n\s*", "", text))
-    assert len(dictionary) == int(length)
+    runs = SOURCE.read_text().split("\n# ")
+    run = next(run for run in runs if run.startswith("each kind is written\n"))
+    replies = [json.loads(line[2:]) for line in run.splitlines() if line.startswith("< ")]
+    written = replies[-1]["ok"]
+    dictionary = bytes.fromhex(written["bytes"])
+    assert len(dictionary) == written["length"]
     return dictionary
 
 

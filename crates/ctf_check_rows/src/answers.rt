@@ -35,21 +35,21 @@ fn answers(rt: HostRuntime) {
         let Ok(checked) = check(rt.alloc(), ctf, None, strs) else {
             panic!(rt; "it breaks no rule")
         };
-        assert_eq!(rt; checked.count(), names.len());
+        assert!(rt; checked.count() == names.len());
         assert!(rt; checked.term(0).is_none());
         assert!(rt; checked.term(3).is_none());
         for (i, name) in names.iter().enumerate() {
             let Some(record) = checked.term(i + 1) else {
                 panic!(rt; "the type is there")
             };
-            assert_eq!(rt;
-                (record.index(), record.kind(), record.size()),
-                (i as u64 + 1, Kind::KInteger, Some(4))
+            assert!(rt;
+                (record.index(), record.kind(), record.size())
+                    == (i as u64 + 1, Kind::KInteger, Some(4))
             );
-            assert_eq!(rt; checked.name(&record), *name);
+            assert!(rt; checked.name(&record) == *name);
         }
         let lists = checked.lists();
-        assert_eq!(rt; (lists.ctf, lists.strs), (ctf, strs));
+        assert!(rt; (lists.ctf, lists.strs) == (ctf, strs));
     }
 }
 
@@ -59,17 +59,11 @@ fn answers_again(rt: HostRuntime) {
         panic!(rt; "it breaks no rule")
     };
     let again = Checked::again(checked.lists(), checked.count());
-    assert_eq!(rt;
-        (again.count(), again.child(), again.needs()),
-        (2, false, 0)
-    );
+    assert!(rt; (again.count(), again.child(), again.needs()) == (2, false, 0));
     let Some(record) = again.term(2) else {
         panic!(rt; "the type is there")
     };
-    assert_eq!(rt;
-        (record.index(), again.name(&record)),
-        (2, b"int".as_slice())
-    );
+    assert!(rt; (record.index(), again.name(&record)) == (2, b"int".as_slice()));
 }
 
 #[test]
@@ -85,9 +79,8 @@ fn tells_its_parent(rt: HostRuntime) {
         let Ok(checked) = check(rt.alloc(), &ctf, None, None) else {
             panic!(rt; "it breaks no rule")
         };
-        assert_eq!(rt;
-            (checked.child(), checked.parname(), checked.parlabel()),
-            (child, parname, parlabel),
+        assert!(rt;
+            (checked.child(), checked.parname(), checked.parlabel()) == (child, parname, parlabel),
             "at {changes:?}"
         );
     }
@@ -99,29 +92,20 @@ fn finds_types_by_their_places(rt: HostRuntime) -> Result<(), Fail> {
         panic!(rt; "it breaks no rule")
     };
     let starts = checked.starts(rt.alloc())?;
-    assert_eq!(rt; starts.as_slice(), [0u32, 12].as_slice());
+    assert!(rt; starts.as_slice() == [0u32, 12].as_slice());
     let indexed = Checked::indexed(checked.lists(), starts.as_slice());
-    assert_eq!(rt; (indexed.count(), indexed.child()), (2, false));
+    assert!(rt; (indexed.count(), indexed.child()) == (2, false));
     assert!(rt; indexed.typed(0).is_none() && indexed.typed(3).is_none());
     for number in [1, 2] {
         let (Some(read), Some(found)) = (checked.typed(number), indexed.typed(number)) else {
             panic!(rt; "the type is there")
         };
         let (read_from, found_at) = (read.record(), found.record());
-        assert_eq!(rt;
-            (read_from.index(), read_from.place()),
-            (number as u64, 12 * (number - 1))
-        );
-        assert_eq!(rt;
-            (found_at.index(), found_at.place()),
-            (number as u64, 12 * (number - 1))
-        );
-        assert_eq!(rt;
-            (read.name(), found.name()),
-            (b"int".as_slice(), b"int".as_slice())
-        );
+        assert!(rt; (read_from.index(), read_from.place()) == (number as u64, 12 * (number - 1)));
+        assert!(rt; (found_at.index(), found_at.place()) == (number as u64, 12 * (number - 1)));
+        assert!(rt; (read.name(), found.name()) == (b"int".as_slice(), b"int".as_slice()));
         assert!(rt; matches!(found.variant(), Variant::Encoding(_)));
-        assert_eq!(rt; found.dictionary().count(), 2);
+        assert!(rt; found.dictionary().count() == 2);
     }
     Ok(())
 }

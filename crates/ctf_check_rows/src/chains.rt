@@ -68,9 +68,8 @@ fn judges_lines(rt: HostRuntime) -> Result<(), Fail> {
             (1023, Some((code, 514))),
         ] {
             let types = line(rt.alloc(), step, count)?;
-            assert_eq!(rt;
-                fault_in(rt.alloc(), 0, &types, b"")?,
-                want,
+            assert!(rt;
+                fault_in(rt.alloc(), 0, &types, b"")? == want,
                 "at {step:?}, {count}"
             );
         }
@@ -89,9 +88,8 @@ fn judges_lines_onwards(rt: HostRuntime) -> Result<(), Fail> {
                 put_step(&mut types, step, i + 3)?;
             }
             types.extend_from_slice(INTEGER)?;
-            assert_eq!(rt;
-                fault_in(rt.alloc(), 0, &types, b"")?,
-                want,
+            assert!(rt;
+                fault_in(rt.alloc(), 0, &types, b"")? == want,
                 "at {step:?}, {count}"
             );
         }
@@ -113,9 +111,8 @@ fn judges_lines_of_children(rt: HostRuntime) -> Result<(), Fail> {
             for i in 0..count {
                 put_step(&mut types, step, base + i + 1)?;
             }
-            assert_eq!(rt;
-                fault_in(rt.alloc(), 1, &types, b"\x00p\x00")?,
-                want,
+            assert!(rt;
+                fault_in(rt.alloc(), 1, &types, b"\x00p\x00")? == want,
                 "at {step:?}, {base}, {count}"
             );
         }
@@ -134,9 +131,8 @@ fn judges_a_wide_struct(rt: HostRuntime) -> Result<(), Fail> {
                 put_member(&mut types, others)?;
             }
             put_member(&mut types, count + 1)?;
-            assert_eq!(rt;
-                fault_in(rt.alloc(), 0, &types, b"")?,
-                want,
+            assert!(rt;
+                fault_in(rt.alloc(), 0, &types, b"")? == want,
                 "at {others}, {count}"
             );
         }
@@ -152,7 +148,7 @@ fn judges_fans(rt: HostRuntime) -> Result<(), Fail> {
         for _ in 0..1000 {
             put_step(&mut types, Step::Pointer, count + 1)?;
         }
-        assert_eq!(rt; fault_in(rt.alloc(), 0, &types, b"")?, want, "at {count}");
+        assert!(rt; fault_in(rt.alloc(), 0, &types, b"")? == want, "at {count}");
     }
     for (count, want) in [(512, None), (513, Some((Fault::VALUE_DEEP, 514)))] {
         let mut types = Vec::new(rt.alloc());
@@ -163,7 +159,7 @@ fn judges_fans(rt: HostRuntime) -> Result<(), Fail> {
                 put_member(&mut types, i + 1)?;
             }
         }
-        assert_eq!(rt; fault_in(rt.alloc(), 0, &types, b"")?, want, "at {count}");
+        assert!(rt; fault_in(rt.alloc(), 0, &types, b"")? == want, "at {count}");
     }
     Ok(())
 }
@@ -177,12 +173,9 @@ fn counts_no_other_steps(rt: HostRuntime) -> Result<(), Fail> {
     put_head(&mut types, 0x2000, 0)?;
     types.extend_from_slice(b"\x00\x00\x01\x02\x01\x00\x00\x00")?;
     put_step(&mut types, Step::Member, 0x201)?;
-    assert_eq!(rt; fault_in(rt.alloc(), 0, &types, b"")?, None);
+    assert!(rt; fault_in(rt.alloc(), 0, &types, b"")? == None);
     put_step(&mut types, Step::Returned, 0x201)?;
-    assert_eq!(rt;
-        fault_in(rt.alloc(), 0, &types, b"")?,
-        Some((Fault::DECL_DEEP, 517))
-    );
+    assert!(rt; fault_in(rt.alloc(), 0, &types, b"")? == Some((Fault::DECL_DEEP, 517)));
     Ok(())
 }
 
@@ -190,19 +183,10 @@ fn counts_no_other_steps(rt: HostRuntime) -> Result<(), Fail> {
 #[test]
 fn judges_values_first(rt: HostRuntime) -> Result<(), Fail> {
     let mut types = line(rt.alloc(), Step::Pointer, 513)?;
-    assert_eq!(rt;
-        fault_in(rt.alloc(), 0, &types, b"")?,
-        Some((Fault::DECL_DEEP, 514))
-    );
+    assert!(rt; fault_in(rt.alloc(), 0, &types, b"")? == Some((Fault::DECL_DEEP, 514)));
     put_step(&mut types, Step::Member, 515)?;
-    assert_eq!(rt;
-        fault_in(rt.alloc(), 0, &types, b"")?,
-        Some((Fault::VALUE_DEEP, 515))
-    );
+    assert!(rt; fault_in(rt.alloc(), 0, &types, b"")? == Some((Fault::VALUE_DEEP, 515)));
     put_step(&mut types, Step::Pointer, 517)?;
-    assert_eq!(rt;
-        fault_in(rt.alloc(), 0, &types, b"")?,
-        Some((Fault::BAD_REFERENCE, 516))
-    );
+    assert!(rt; fault_in(rt.alloc(), 0, &types, b"")? == Some((Fault::BAD_REFERENCE, 516)));
     Ok(())
 }

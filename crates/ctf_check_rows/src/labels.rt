@@ -30,14 +30,14 @@ fn tells_labels(rt: HostRuntime) -> Result<(), Fail> {
         panic!(rt; "it breaks no rule")
     };
     let labels = checked.labels();
-    assert_eq!(rt; labels.len(), 3);
+    assert!(rt; labels.len() == 3);
     let rows: [(&[u8], u32); 3] = [(b"one", 5), (b"two", 6), (b"one", 7)];
     for (number, (name, last)) in (0..).zip(rows) {
-        assert_eq!(rt; labels.get(number), Some(Label { name, last }));
-        assert_eq!(rt; labels.last_at(number), Some(last));
+        assert!(rt; labels.get(number) == Some(Label { name, last }));
+        assert!(rt; labels.last_at(number) == Some(last));
     }
-    assert_eq!(rt; labels.get(3), None);
-    assert_eq!(rt; labels.last_at(3), None);
+    assert!(rt; labels.get(3) == None);
+    assert!(rt; labels.last_at(3) == None);
     Ok(())
 }
 
@@ -57,8 +57,8 @@ fn the_first_label_of_a_name_answers(rt: HostRuntime) -> Result<(), Fail> {
     ];
     for (name, want) in rows {
         match map.label(&checked, name) {
-            Ok(last) => assert_eq!(rt; Some(last), want),
-            Err(fault) => assert_eq!(rt; (fault.code, want), (Fault::NO_LABEL, None)),
+            Ok(last) => assert!(rt; Some(last) == want),
+            Err(fault) => assert!(rt; (fault.code, want) == (Fault::NO_LABEL, None)),
         }
     }
     Ok(())
@@ -73,7 +73,7 @@ fn without_labels_none_is_found(rt: HostRuntime) -> Result<(), Fail> {
     assert!(rt; checked.labels().next().is_none());
     match map.label(&checked, b"") {
         Ok(last) => panic!(rt; "a label that is not there covers {last}"),
-        Err(fault) => assert_eq!(rt; fault.code, Fault::NO_LABEL),
+        Err(fault) => assert!(rt; fault.code == Fault::NO_LABEL),
     }
     Ok(())
 }

@@ -12,8 +12,6 @@ mod chains;
 #[cfg(test)]
 mod cycles;
 #[cfg(test)]
-mod headers;
-#[cfg(test)]
 mod inputs;
 #[cfg(test)]
 mod labels;
@@ -29,7 +27,5 @@ mod needs;
 mod parts;
 #[cfg(test)]
 mod records;
-#[cfg(test)]
-mod references;
 #[cfg(test)]
 mod symbols;

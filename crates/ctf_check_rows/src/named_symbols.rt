@@ -54,10 +54,10 @@ fn finds_the_first_of_a_name(rt: HostRuntime) -> Result<(), Fail> {
         (b"bb", None),
     ];
     for (name, want) in rows {
-        assert_eq!(rt; map.named(&checked, name), want, "at {name:?}");
+        assert!(rt; map.named(&checked, name) == want, "at {name:?}");
         match map.by_name(&checked, name) {
-            Ok(number) => assert_eq!(rt; Some(number), want.map(|found| found.number)),
-            Err(fault) => assert_eq!(rt; (fault.code, want), (Fault::NO_SYMBOL, None)),
+            Ok(number) => assert!(rt; Some(number) == want.map(|found| found.number)),
+            Err(fault) => assert!(rt; (fault.code, want) == (Fault::NO_SYMBOL, None)),
         }
     }
     // without its strings no symbol has a name
@@ -65,7 +65,7 @@ fn finds_the_first_of_a_name(rt: HostRuntime) -> Result<(), Fail> {
         panic!(rt; "it breaks no rule")
     };
     let map = SymbolMap::build(rt.alloc(), &nameless)?;
-    assert_eq!(rt; map.named(&nameless, b"b"), None);
+    assert!(rt; map.named(&nameless, b"b") == None);
     Ok(())
 }
 
@@ -115,16 +115,16 @@ fn hostile_names_are_found(rt: HostRuntime) -> Result<(), Fail> {
     let map = SymbolMap::build(rt.alloc(), &checked)?;
     for (length, number) in [(1, 9_999), (4_321, 5_679), (10_000, 0)] {
         let name = Vec::from_elem(rt.alloc(), b'a', length)?;
-        assert_eq!(rt; map.named(&checked, &name), object(number), "at {length}");
+        assert!(rt; map.named(&checked, &name) == object(number), "at {length}");
     }
     let longer = Vec::from_elem(rt.alloc(), b'a', 10_001)?;
-    assert_eq!(rt; map.named(&checked, &longer), None);
+    assert!(rt; map.named(&checked, &longer) == None);
     for (digits, number) in [(10_000, 10_000), (14_711, 14_711), (19_999, 19_999)] {
         let mut name = Vec::from_elem(rt.alloc(), b'b', 70)?;
         put_digits(&mut name, digits)?;
-        assert_eq!(rt; map.named(&checked, &name), object(number), "at {digits}");
+        assert!(rt; map.named(&checked, &name) == object(number), "at {digits}");
     }
     let other = Vec::from_elem(rt.alloc(), b'b', 75)?;
-    assert_eq!(rt; map.named(&checked, &other), None);
+    assert!(rt; map.named(&checked, &other) == None);
     Ok(())
 }

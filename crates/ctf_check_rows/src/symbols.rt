@@ -1,10 +1,8 @@
 //! The rules of symbols, and what is told of them.
 
 use crate::framed;
-use crate::inputs::fault_of;
-use ctf_check::{LentLists, check};
+use ctf_check::check;
 use ctf_entries::{Entries, Entry, Told};
-use ctf_model::Fault;
 use ctf_symbols::{SymbolMap, symbol_name};
 use std::alloc::{AllocError, Global};
 use std::test::Fail;
@@ -89,71 +87,6 @@ pub fn over(alloc: Global, parname: u8, sections: &[u8]) -> Result<Vec<u8>, Allo
     )
 }
 
-/// The first fault of a dictionary over the symbols.
-fn fault_over<'a>(alloc: Global, ctf: &'a [u8], sym: &'a [u8]) -> Option<(u16, u64)> {
-    let lists = LentLists {
-        ctf,
-        sym: Some(sym),
-        strs: Some(STRS),
-    };
-    fault_of(alloc, lists)
-}
-
-#[test]
-fn judges_entries(rt: HostRuntime) -> Result<(), Fail> {
-    let sym = program(rt.alloc())?;
-    let funcs = Some((Fault::BAD_FUNCS, 6));
-    let object = Some((Fault::BAD_SYMBOL_TYPE, 4));
-    let signature = Some((Fault::BAD_SYMBOL_TYPE, 6));
-    let rows: [(u8, &[u8], Option<(u16, u64)>); 15] = [
-        (0, b"\x01\0\0\0", None),
-        // an entry of another kind, a function's that is cut off, a type that is not there
-        (0, b"\x01\0\0\x08", funcs),
-        (0, b"\x01\0\0\x28", funcs),
-        (0, b"\x02\0\0\0", object),
-        (0, b"\x02\0\0\x08", funcs),
-        // a kind of 0 says nothing only without arguments, whatever its root bit
-        (0, b"\x01\0\0\x04", None),
-        (0, b"\x01\0\x01\0\x01\0\x01\0", funcs),
-        // a function with an argument, without a pad; its types are looked for
-        (0, b"\x01\0\x01\x28\x01\0\x01\0", None),
-        (0, b"\x01\0\x01\x28\x02\0\x01\0", signature),
-        (0, b"\x01\0\x01\x28\x01\0\x02\0", signature),
-        // what follows the last entry is not read
-        (0, b"\x01\0\x01\x28\x01\0\x01\0\xff\xff\xff\xff", None),
-        // a parent's types are judged where the child meets it
-        (1, b"\x09\0\0\0", None),
-        (1, b"\x01\x80\0\0", None),
-        (1, b"\x02\x80\0\0", object),
-        (1, b"\0\x80\0\0", object),
-    ];
-    for (parname, sections, want) in rows {
-        let ctf = over(rt.alloc(), parname, sections)?;
-        assert_eq!(rt; fault_over(rt.alloc(), &ctf, &sym), want, "at {sections:?}");
-    }
-    Ok(())
-}
-
-#[test]
-fn judges_tables(rt: HostRuntime) -> Result<(), Fail> {
-    let sym = program(rt.alloc())?;
-    let good = over(rt.alloc(), 0, b"\x01\0\0\0")?;
-    let bad = over(rt.alloc(), 0, b"\x01\0\0\x08")?;
-    let cut = Some((Fault::BAD_SYMTAB, 0));
-    let rows: [(usize, Option<(u16, u64)>); 4] = [(0, None), (1, cut), (23, cut), (24, None)];
-    for (more, want) in rows {
-        let mut table = Vec::from_slice(rt.alloc(), &sym)?;
-        table.extend_from_slice(&Vec::from_elem(rt.alloc(), 0, more)?)?;
-        assert_eq!(rt; fault_over(rt.alloc(), &good, &table), want, "at {more}");
-        // the entries are judged before the table
-        let funcs = Some((Fault::BAD_FUNCS, 6));
-        assert_eq!(rt; fault_over(rt.alloc(), &bad, &table), funcs, "at {more}");
-    }
-    // an empty table is none
-    assert_eq!(rt; fault_over(rt.alloc(), &bad, b""), None);
-    Ok(())
-}
-
 /// What is told of an object, or what a function returns and the sum of its arguments.
 fn told(entry: Entry<'_>) -> (u32, &[u8], bool, Option<(u16, usize, u16)>) {
     let (number, name) = (entry.number, entry.symbol.name());
@@ -185,18 +118,9 @@ fn tells_entries(rt: HostRuntime) -> Result<(), Fail> {
             panic!(rt; "it breaks no rule")
         };
         let mut entries = checked.entries();
-        assert_eq!(rt;
-            entries.next().map(told),
-            Some((4, b"b".as_slice(), false, Some((1, 0, 0))))
-        );
-        assert_eq!(rt;
-            entries.next().map(told),
-            Some((5, b"c".as_slice(), false, None))
-        );
-        assert_eq!(rt;
-            entries.next().map(told),
-            Some((6, b"f".as_slice(), true, of_function))
-        );
+        assert!(rt; entries.next().map(told) == Some((4, b"b".as_slice(), false, Some((1, 0, 0)))));
+        assert!(rt; entries.next().map(told) == Some((5, b"c".as_slice(), false, None)));
+        assert!(rt; entries.next().map(told) == Some((6, b"f".as_slice(), true, of_function)));
         assert!(rt; entries.next().is_none());
     }
     Ok(())
@@ -215,21 +139,21 @@ fn answers_by_number(rt: HostRuntime) -> Result<(), Fail> {
     let names: [&[u8]; 7] = [b"", b"_START_", b"x", b"a", b"b", b"c", b"f"];
     for (number, code) in (0..).zip(objects) {
         match map.object(&checked, number) {
-            Ok(t) => assert_eq!(rt; (t.0, code), (1, 0), "at {number}"),
-            Err(fault) => assert_eq!(rt; fault.code, code, "at {number}"),
+            Ok(t) => assert!(rt; (t.0, code) == (1, 0), "at {number}"),
+            Err(fault) => assert!(rt; fault.code == code, "at {number}"),
         }
     }
     for (number, code) in (0..).zip(functions) {
         match map.function(&checked, number) {
-            Ok(said) => assert_eq!(rt; (said.ret.0, said.args.len(), code), (1, 1, 0)),
-            Err(fault) => assert_eq!(rt; fault.code, code, "at {number}"),
+            Ok(said) => assert!(rt; (said.ret.0, said.args.len(), code) == (1, 1, 0)),
+            Err(fault) => assert!(rt; fault.code == code, "at {number}"),
         }
     }
     for (number, name) in (0..).zip(names) {
         let Ok(found) = symbol_name(&checked, number) else {
             panic!(rt; "the symbol is there")
         };
-        assert_eq!(rt; found, name);
+        assert!(rt; found == name);
     }
     assert!(rt; symbol_name(&checked, 7).is_err());
     Ok(())
@@ -249,12 +173,12 @@ fn entries_need_types(rt: HostRuntime) -> Result<(), Fail> {
         let Ok(checked) = check(rt.alloc(), &ctf, Some(&sym), Some(STRS)) else {
             panic!(rt; "it breaks no rule")
         };
-        assert_eq!(rt; checked.needs(), want, "at {sections:?}");
+        assert!(rt; checked.needs() == want, "at {sections:?}");
         // without its symbols it needs none
         let Ok(alone) = check(rt.alloc(), &ctf, None, Some(STRS)) else {
             panic!(rt; "it breaks no rule")
         };
-        assert_eq!(rt; alone.needs(), 0);
+        assert!(rt; alone.needs() == 0);
     }
     Ok(())
 }
@@ -294,11 +218,11 @@ fn long_names_are_not_read(rt: HostRuntime) -> Result<(), Fail> {
     let Ok(checked) = check(rt.alloc(), &ctf, Some(&sym), Some(&strs)) else {
         panic!(rt; "it breaks no rule")
     };
-    assert_eq!(rt; counted(checked.entries()), 100_000);
+    assert!(rt; counted(checked.entries()) == 100_000);
     let Some(first) = checked.entries().next() else {
         panic!(rt; "the first symbol is considered")
     };
-    assert_eq!(rt; (first.number, first.symbol.name().len()), (0, 16_777_214));
+    assert!(rt; (first.number, first.symbol.name().len()) == (0, 16_777_214));
     assert!(rt; matches!(&first.told, Told::Object(Some(_))));
     Ok(())
 }

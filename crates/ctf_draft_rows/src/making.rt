@@ -92,14 +92,6 @@ pub fn put_value(
     draft.enumerator(TypeNum(n), name, value)
 }
 
-/// Adds a label.
-pub fn label(alloc: Global, draft: &mut Draft, name: &[u8], last: u32) -> Result<(), Fault> {
-    let Ok(name) = Bytes::from_slice(alloc, name) else {
-        return Err(placeless(Fault::MEMORY));
-    };
-    draft.label(name, last)
-}
-
 /// The size that a struct or union says.
 pub fn size_of(draft: &Draft, i: usize) -> Option<u64> {
     match draft.types().get(i) {

@@ -55,46 +55,6 @@ fn an_enum_takes_1023_enumerators(rt: HostRuntime) {
 }
 
 #[test]
-fn a_members_refusals_have_an_order(rt: HostRuntime) {
-    let alloc = rt.alloc();
-    let Some(mut draft) = fresh(alloc, DataModel::Lp64) else {
-        assert!(rt; false);
-        return;
-    };
-    assert!(rt; add(alloc, &mut draft, integer(4, 32)) == Ok(TypeNum(1)));
-    assert!(rt; add(alloc, &mut draft, a_struct()) == Ok(TypeNum(2)));
-    assert!(rt; put(alloc, &mut draft, 2, b"a", 1, None) == Ok(0));
-    assert!(rt; put(alloc, &mut draft, 9, b"\0", 9, None) == Err(placeless(Fault::NAME_HAS_ZERO)));
-    assert!(rt; put(alloc, &mut draft, 9, b"a", 9, None) == Err(placeless(Fault::NO_TYPE)));
-    assert!(rt; put(alloc, &mut draft, 1, b"a", 9, None) == Err(placeless(Fault::WRONG_KIND)));
-    assert!(rt; put(alloc, &mut draft, 2, b"a", 9, None) == Err(placeless(Fault::DUPLICATE)));
-    assert!(rt; put(alloc, &mut draft, 2, b"b", 9, None) == Err(placeless(Fault::BAD_REF)));
-    assert!(rt; put(alloc, &mut draft, 2, b"b", 0, None) == Err(placeless(Fault::INCOMPLETE)));
-    let far = Some(18_446_744_073_709_551_615);
-    assert!(rt; put(alloc, &mut draft, 2, b"b", 1, far) == Ok(18_446_744_073_709_551_615));
-    assert!(rt; put(alloc, &mut draft, 2, b"c", 1, None) == Err(placeless(Fault::BAD_OFFSET)));
-    assert!(rt; put(alloc, &mut draft, 2, b"c", 1, Some(64)) == Ok(64));
-}
-
-#[test]
-fn an_enumerators_refusals_have_an_order(rt: HostRuntime) {
-    let alloc = rt.alloc();
-    let Some(mut draft) = fresh(alloc, DataModel::Lp64) else {
-        assert!(rt; false);
-        return;
-    };
-    assert!(rt; add(alloc, &mut draft, integer(4, 32)) == Ok(TypeNum(1)));
-    assert!(rt; named(alloc, &mut draft, b"e", NewBody::Enum(4)) == Ok(TypeNum(2)));
-    assert!(rt; put_value(alloc, &mut draft, 2, b"a", -1) == Ok(()));
-    assert!(rt; put_value(alloc, &mut draft, 9, b"\0", 1) == Err(placeless(Fault::NAME_HAS_ZERO)));
-    assert!(rt; put_value(alloc, &mut draft, 9, b"a", 1) == Err(placeless(Fault::NO_TYPE)));
-    assert!(rt; put_value(alloc, &mut draft, 1, b"a", 1) == Err(placeless(Fault::WRONG_KIND)));
-    assert!(rt; put_value(alloc, &mut draft, 2, b"a", 1) == Err(placeless(Fault::DUPLICATE)));
-    assert!(rt; put_value(alloc, &mut draft, 2, b"b", -1) == Ok(()));
-    assert!(rt; enumerator_at(&draft, 1, 1) == Some((b"b".as_slice(), -1)));
-}
-
-#[test]
 fn a_draft_takes_32766_types(rt: HostRuntime) {
     let alloc = rt.alloc();
     let Some(mut draft) = fresh(alloc, DataModel::Lp64) else {

@@ -148,10 +148,7 @@ fn first(
     let starts = record_starts(alloc, types, count)?;
     let graph = Types::new(types, &starts, child, chain);
     let found = counted::<Brand>(alloc, &graph, Blank::new(1))?;
-    assert_eq!(rt;
-        first_deep_type(alloc, types, &starts, child, chain)?,
-        found.0
-    );
+    assert!(rt; first_deep_type(alloc, types, &starts, child, chain)? == found.0);
     Ok(found)
 }
 
@@ -172,9 +169,8 @@ fn lines(rt: HostRuntime) -> Result<(), Fail> {
             let mut section = Section::new(rt.alloc());
             section.line(kind, count, 1)?;
             section.integer()?;
-            assert_eq!(rt;
-                first(&rt, rt.alloc(), &section, false, chain)?.0,
-                found,
+            assert!(rt;
+                first(&rt, rt.alloc(), &section, false, chain)?.0 == found,
                 "kind {kind}, {count} steps"
             );
         }
@@ -185,21 +181,12 @@ fn lines(rt: HostRuntime) -> Result<(), Fail> {
 #[test]
 fn no_steps(rt: HostRuntime) -> Result<(), Fail> {
     let empty = Section::new(rt.alloc());
-    assert_eq!(rt;
-        first(&rt, rt.alloc(), &empty, false, Chain::ByValue)?,
-        (None, 0)
-    );
+    assert!(rt; first(&rt, rt.alloc(), &empty, false, Chain::ByValue)? == (None, 0));
     // a line of pointers is no chain by value, and no type is behind its end
     let mut section = Section::new(rt.alloc());
     section.line(POINTER, 600, 1)?;
-    assert_eq!(rt;
-        first(&rt, rt.alloc(), &section, false, Chain::ByValue)?,
-        (None, 600)
-    );
-    assert_eq!(rt;
-        first(&rt, rt.alloc(), &section, false, Chain::Declarator)?.0,
-        Some(0)
-    );
+    assert!(rt; first(&rt, rt.alloc(), &section, false, Chain::ByValue)? == (None, 600));
+    assert!(rt; first(&rt, rt.alloc(), &section, false, Chain::Declarator)?.0 == Some(0));
     Ok(())
 }
 
@@ -210,10 +197,7 @@ fn lines_against_the_order(rt: HostRuntime) -> Result<(), Fail> {
     for number in 0..600u16 {
         section.head(TYPEDEF, 0, number)?;
     }
-    assert_eq!(rt;
-        first(&rt, rt.alloc(), &section, false, Chain::ByValue)?,
-        (Some(513), 1028)
-    );
+    assert!(rt; first(&rt, rt.alloc(), &section, false, Chain::ByValue)? == (Some(513), 1028));
     Ok(())
 }
 
@@ -230,15 +214,11 @@ fn fans(rt: HostRuntime) -> Result<(), Fail> {
         section.composite(STRUCT, size, &[2; 1023])?;
         section.line(CONST, count, 2)?;
         section.integer()?;
-        assert_eq!(rt;
-            first(&rt, rt.alloc(), &section, false, Chain::ByValue)?.0,
-            found,
+        assert!(rt;
+            first(&rt, rt.alloc(), &section, false, Chain::ByValue)?.0 == found,
             "size {size}, {count} steps behind"
         );
-        assert_eq!(rt;
-            first(&rt, rt.alloc(), &section, false, Chain::Declarator)?.0,
-            None
-        );
+        assert!(rt; first(&rt, rt.alloc(), &section, false, Chain::Declarator)?.0 == None);
     }
     // 1,000 pointers to the head of one line
     for (count, found) in [(511, None), (512, Some(0))] {
@@ -248,9 +228,8 @@ fn fans(rt: HostRuntime) -> Result<(), Fail> {
         }
         section.line(POINTER, count, 1001)?;
         section.integer()?;
-        assert_eq!(rt;
-            first(&rt, rt.alloc(), &section, false, Chain::Declarator)?.0,
-            found,
+        assert!(rt;
+            first(&rt, rt.alloc(), &section, false, Chain::Declarator)?.0 == found,
             "{count} steps behind"
         );
     }
@@ -265,15 +244,9 @@ fn unions_of_two_members_a_level(rt: HostRuntime) -> Result<(), Fail> {
     for number in 1..513u16 {
         section.composite(UNION, 4, &[number, number])?;
     }
-    assert_eq!(rt;
-        first(&rt, rt.alloc(), &section, false, Chain::ByValue)?,
-        (None, 1537)
-    );
+    assert!(rt; first(&rt, rt.alloc(), &section, false, Chain::ByValue)? == (None, 1537));
     section.composite(UNION, 4, &[513, 513])?;
-    assert_eq!(rt;
-        first(&rt, rt.alloc(), &section, false, Chain::ByValue)?.0,
-        Some(513)
-    );
+    assert!(rt; first(&rt, rt.alloc(), &section, false, Chain::ByValue)?.0 == Some(513));
     Ok(())
 }
 
@@ -289,9 +262,8 @@ fn cycles(rt: HostRuntime) -> Result<(), Fail> {
             section.integer()?;
             section.line(kind, count, 2)?;
             section.head(kind, 0, 2)?;
-            assert_eq!(rt;
-                first(&rt, rt.alloc(), &section, false, chain)?.0,
-                Some(1),
+            assert!(rt;
+                first(&rt, rt.alloc(), &section, false, chain)?.0 == Some(1),
                 "kind {kind}, {count}"
             );
         }
@@ -301,10 +273,7 @@ fn cycles(rt: HostRuntime) -> Result<(), Fail> {
     section.integer()?;
     section.head(CONST, 0, 3)?;
     section.head(TYPEDEF, 0, 3)?;
-    assert_eq!(rt;
-        first(&rt, rt.alloc(), &section, false, Chain::ByValue)?.0,
-        Some(1)
-    );
+    assert!(rt; first(&rt, rt.alloc(), &section, false, Chain::ByValue)?.0 == Some(1));
     Ok(())
 }
 
@@ -314,26 +283,14 @@ fn cycles_through_arrays(rt: HostRuntime) -> Result<(), Fail> {
     section.integer()?;
     section.composite(STRUCT, 8, &[1, 3])?;
     section.array(2, 1)?;
-    assert_eq!(rt;
-        first(&rt, rt.alloc(), &section, false, Chain::ByValue)?.0,
-        Some(1)
-    );
-    assert_eq!(rt;
-        first(&rt, rt.alloc(), &section, false, Chain::Declarator)?.0,
-        None
-    );
+    assert!(rt; first(&rt, rt.alloc(), &section, false, Chain::ByValue)?.0 == Some(1));
+    assert!(rt; first(&rt, rt.alloc(), &section, false, Chain::Declarator)?.0 == None);
     // the index of an array is no step
     let mut indexed = Section::new(rt.alloc());
     indexed.integer()?;
     indexed.array(1, 2)?;
-    assert_eq!(rt;
-        first(&rt, rt.alloc(), &indexed, false, Chain::ByValue)?,
-        (None, 3)
-    );
-    assert_eq!(rt;
-        first(&rt, rt.alloc(), &indexed, false, Chain::Declarator)?,
-        (None, 3)
-    );
+    assert!(rt; first(&rt, rt.alloc(), &indexed, false, Chain::ByValue)? == (None, 3));
+    assert!(rt; first(&rt, rt.alloc(), &indexed, false, Chain::Declarator)? == (None, 3));
     Ok(())
 }
 
@@ -342,33 +299,18 @@ fn cycles_through_pointers_and_functions(rt: HostRuntime) -> Result<(), Fail> {
     let mut section = Section::new(rt.alloc());
     section.head(TYPEDEF, 0, 2)?;
     section.head(POINTER, 0, 1)?;
-    assert_eq!(rt;
-        first(&rt, rt.alloc(), &section, false, Chain::ByValue)?.0,
-        None
-    );
-    assert_eq!(rt;
-        first(&rt, rt.alloc(), &section, false, Chain::Declarator)?.0,
-        Some(0)
-    );
+    assert!(rt; first(&rt, rt.alloc(), &section, false, Chain::ByValue)?.0 == None);
+    assert!(rt; first(&rt, rt.alloc(), &section, false, Chain::Declarator)?.0 == Some(0));
     // what a function returns is a step of a declarator, and its arguments are none
     let mut returned = Section::new(rt.alloc());
     returned.integer()?;
     returned.function(2, 1)?;
-    assert_eq!(rt;
-        first(&rt, rt.alloc(), &returned, false, Chain::ByValue)?.0,
-        None
-    );
-    assert_eq!(rt;
-        first(&rt, rt.alloc(), &returned, false, Chain::Declarator)?.0,
-        Some(1)
-    );
+    assert!(rt; first(&rt, rt.alloc(), &returned, false, Chain::ByValue)?.0 == None);
+    assert!(rt; first(&rt, rt.alloc(), &returned, false, Chain::Declarator)?.0 == Some(1));
     let mut taken = Section::new(rt.alloc());
     taken.integer()?;
     taken.function(1, 2)?;
-    assert_eq!(rt;
-        first(&rt, rt.alloc(), &taken, false, Chain::Declarator)?.0,
-        None
-    );
+    assert!(rt; first(&rt, rt.alloc(), &taken, false, Chain::Declarator)?.0 == None);
     Ok(())
 }
 
@@ -377,34 +319,21 @@ fn numbers_of_a_child(rt: HostRuntime) -> Result<(), Fail> {
     // low numbers are a parent's
     let mut low = Section::new(rt.alloc());
     low.head(TYPEDEF, 0, 1)?;
-    assert_eq!(rt;
-        first(&rt, rt.alloc(), &low, true, Chain::ByValue)?,
-        (None, 2)
-    );
-    assert_eq!(rt;
-        first(&rt, rt.alloc(), &low, false, Chain::ByValue)?.0,
-        Some(0)
-    );
+    assert!(rt; first(&rt, rt.alloc(), &low, true, Chain::ByValue)? == (None, 2));
+    assert!(rt; first(&rt, rt.alloc(), &low, false, Chain::ByValue)?.0 == Some(0));
     // its own begin at 0x8001, which is no type where there is no parent
     let mut own = Section::new(rt.alloc());
     own.integer()?;
     own.head(TYPEDEF, 0, 0x8002)?;
-    assert_eq!(rt;
-        first(&rt, rt.alloc(), &own, true, Chain::ByValue)?.0,
-        Some(1)
-    );
-    assert_eq!(rt;
-        first(&rt, rt.alloc(), &own, false, Chain::ByValue)?.0,
-        None
-    );
+    assert!(rt; first(&rt, rt.alloc(), &own, true, Chain::ByValue)?.0 == Some(1));
+    assert!(rt; first(&rt, rt.alloc(), &own, false, Chain::ByValue)?.0 == None);
     // 0x8000 is a parent's too, and 0x8003 is none's
     for number in [0, 0x8000, 0x8003, 0xffff] {
         let mut outside = Section::new(rt.alloc());
         outside.head(TYPEDEF, 0, number)?;
         outside.head(TYPEDEF, 0, 0x8001)?;
-        assert_eq!(rt;
-            first(&rt, rt.alloc(), &outside, true, Chain::ByValue)?.0,
-            None,
+        assert!(rt;
+            first(&rt, rt.alloc(), &outside, true, Chain::ByValue)?.0 == None,
             "number {number}"
         );
     }
@@ -477,7 +406,7 @@ fn rows_of_any_kind(rt: HostRuntime) -> Result<(), Fail> {
         rows.push(vec![in rt.alloc(); 99, next]?)?;
     }
     let found = searched::<Brand>(rt.alloc(), &Rows { rows }, Blank::new(1))?;
-    assert_eq!(rt; found, (Some(1), 18));
+    assert!(rt; found == (Some(1), 18));
     Ok(())
 }
 
@@ -494,11 +423,11 @@ fn starts_of_records(rt: HostRuntime) -> Result<(), Fail> {
     assert!(rt; types.len() < 0x1_0000_0000);
     let starts = record_starts(rt.alloc(), types, count)?;
     let places = starts.as_slice();
-    assert_eq!(rt; places, [0u32, 12, 20].as_slice());
+    assert!(rt; places == [0u32, 12, 20].as_slice());
     for (i, at) in [0, 12, 20].iter().enumerate() {
         if i < places.len() {
             let record = record_started(types, places, i);
-            assert_eq!(rt; (record.index(), record.place()), (i as u64 + 1, *at));
+            assert!(rt; (record.index(), record.place()) == (i as u64 + 1, *at));
         }
     }
     Ok(())

@@ -7,22 +7,22 @@ use std::test::Fail;
 #[test]
 fn names_faults(rt: HostRuntime) {
     for (code, want) in [(0, "Memory"), (Fault::BAD_NAME, "BadName"), (61, "")] {
-        assert_eq!(rt; fault_name(code), want, "at {code}");
+        assert!(rt; fault_name(code) == want, "at {code}");
     }
-    assert_eq!(rt; placeless(Fault::NO_SLOT).code, 49);
+    assert!(rt; placeless(Fault::NO_SLOT).code == 49);
 }
 
 #[test]
 fn owns_bytes(rt: HostRuntime) -> Result<(), Fail> {
     let alloc = rt.alloc();
-    assert_eq!(rt; Bytes::new(alloc).len(), 0);
+    assert!(rt; Bytes::new(alloc).len() == 0);
     assert!(rt; Bytes::new(alloc).is_empty());
     let bytes = Bytes::from(Vec::from_array(alloc, [1u8, 2])?);
-    assert_eq!(rt; bytes.as_slice(), [1u8, 2].as_slice());
-    assert_eq!(rt; bytes.into_vec().as_slice(), [1u8, 2].as_slice());
+    assert!(rt; bytes.as_slice() == [1u8, 2].as_slice());
+    assert!(rt; bytes.into_vec().as_slice() == [1u8, 2].as_slice());
     let piece = Piece::new(Vec::from_array(alloc, [3u8])?);
-    assert_eq!(rt; piece.as_slice(), [3u8].as_slice());
-    assert_eq!(rt; piece.into_vec().as_slice(), [3u8].as_slice());
+    assert!(rt; piece.as_slice() == [3u8].as_slice());
+    assert!(rt; piece.into_vec().as_slice() == [3u8].as_slice());
     Ok(())
 }
 
@@ -30,22 +30,22 @@ fn owns_bytes(rt: HostRuntime) -> Result<(), Fail> {
 fn copies_and_appends(rt: HostRuntime) -> Result<(), Fail> {
     let alloc = rt.alloc();
     let copy = Bytes::from_slice(alloc, &[1u8, 2, 3])?;
-    assert_eq!(rt; copy.as_slice(), [1u8, 2, 3].as_slice());
+    assert!(rt; copy.as_slice() == [1u8, 2, 3].as_slice());
     let mut bytes = Bytes::new(alloc);
     bytes.append(&[4u8, 5])?;
     bytes.append(&[])?;
     bytes.append(&[6u8])?;
-    assert_eq!(rt; bytes.as_slice(), [4u8, 5, 6].as_slice());
-    assert_eq!(rt; bytes.len(), 3);
+    assert!(rt; bytes.as_slice() == [4u8, 5, 6].as_slice());
+    assert!(rt; bytes.len() == 3);
     let both = joined(alloc, &[7u8], &[8u8, 9])?;
-    assert_eq!(rt; both.as_slice(), [7u8, 8, 9].as_slice());
+    assert!(rt; both.as_slice() == [7u8, 8, 9].as_slice());
     Ok(())
 }
 
 #[test]
 fn numbers_slots(rt: HostRuntime) {
-    assert_eq!(rt; SlotNumber::new(0).is_none(), true);
-    assert_eq!(rt; SlotNumber::new(7).map(SlotNumber::get), Some(7));
+    assert!(rt; SlotNumber::new(0).is_none() == true);
+    assert!(rt; SlotNumber::new(7).map(SlotNumber::get) == Some(7));
 }
 
 #[test]
@@ -59,10 +59,9 @@ fn places_types(rt: HostRuntime) {
         (0xffff, Place::Own(0xfffe), Place::Own(0x7ffe)),
     ];
     for (number, own, in_child) in rows {
-        assert_eq!(rt; TypeNum(number).place(false), own, "at {number}");
-        assert_eq!(rt;
-            TypeNum(number).place(true),
-            in_child,
+        assert!(rt; TypeNum(number).place(false) == own, "at {number}");
+        assert!(rt;
+            TypeNum(number).place(true) == in_child,
             "at {number} in a child"
         );
     }

@@ -16,7 +16,7 @@ const THREE: [u8; 32] = *b"\x01\x00\x00\x00\x00\x0c\x04\x00\x20\x00\x00\x01\
     \x00\x00\x00\x00\x00\x18\x02\x00";
 
 /// What a head says beside its kind, and how many bytes stand behind it.
-#[derive(Clone, Copy, Debug, PartialEq, Eq)]
+#[derive(Clone, Copy, PartialEq, Eq)]
 struct Head {
     size: Option<u64>,
     reference: Option<TypeNum>,
@@ -180,19 +180,17 @@ fn reads_each_kind(rt: HostRuntime) {
         let Some(record) = record_at(bytes, 0, 7) else {
             panic!(rt; "it is whole: {bytes:?}")
         };
-        assert_eq!(rt; (record.index(), record.place()), (7, 0));
-        assert_eq!(rt; record.bytes(), bytes);
-        assert_eq!(rt;
-            (record.kind(), said(&record)),
-            (kind, head),
+        assert!(rt; (record.index(), record.place()) == (7, 0));
+        assert!(rt; record.bytes() == bytes);
+        assert!(rt;
+            (record.kind(), said(&record)) == (kind, head),
             "at {bytes:?}"
         );
-        assert_eq!(rt;
-            (record.is_long(), record.root()),
-            (false, false),
+        assert!(rt;
+            (record.is_long(), record.root()) == (false, false),
             "at {bytes:?}"
         );
-        assert_eq!(rt; fault_of(bytes), (1, None), "at {bytes:?}");
+        assert!(rt; fault_of(bytes) == (1, None), "at {bytes:?}");
     }
 }
 
@@ -232,12 +230,11 @@ fn reads_long_forms(rt: HostRuntime) {
             panic!(rt; "it is whole: {bytes:?}")
         };
         assert!(rt; record.is_long(), "at {bytes:?}");
-        assert_eq!(rt;
-            (record.kind(), said(&record)),
-            (kind, head),
+        assert!(rt;
+            (record.kind(), said(&record)) == (kind, head),
             "at {bytes:?}"
         );
-        assert_eq!(rt; fault_of(bytes), (1, None), "at {bytes:?}");
+        assert!(rt; fault_of(bytes) == (1, None), "at {bytes:?}");
     }
 }
 
@@ -279,14 +276,16 @@ fn tells_members_by_size(rt: HostRuntime) {
         let Some(record) = record_at(bytes, 0, 1) else {
             panic!(rt; "it is whole: {bytes:?}")
         };
-        assert_eq!(rt;
-            (record.kind(), said(&record)),
-            (kind, head),
+        assert!(rt;
+            (record.kind(), said(&record)) == (kind, head),
             "at {bytes:?}"
         );
         for len in 1..bytes.len() {
             let cut = bytes.get(..len).unwrap_or(&[]);
-            assert_eq!(rt; fault_of(cut), (0, Some((Fault::TRUNCATED, 1))), "at {len}");
+            assert!(rt;
+                fault_of(cut) == (0, Some((Fault::TRUNCATED, 1))),
+                "at {len}"
+            );
         }
     }
 }
@@ -304,26 +303,20 @@ fn reads_a_section(rt: HostRuntime) {
             panic!(rt; "record {index} is there")
         };
         let bytes = THREE.get(start..end).unwrap_or(&[]);
-        assert_eq!(rt; (record.index(), record.place()), (index, start));
-        assert_eq!(rt; (record.bytes(), record.kind()), (bytes, kind));
+        assert!(rt; (record.index(), record.place()) == (index, start));
+        assert!(rt; (record.bytes(), record.kind()) == (bytes, kind));
         let Some(record) = record_numbered(&THREE, index) else {
             panic!(rt; "record {index} is found")
         };
-        assert_eq!(rt; (record.index(), record.place()), (index, start));
-        assert_eq!(rt; record.bytes(), bytes);
+        assert!(rt; (record.index(), record.place()) == (index, start));
+        assert!(rt; record.bytes() == bytes);
         let Some(record) = record_at(&THREE, start, index) else {
             panic!(rt; "a record begins at {start}")
         };
-        assert_eq!(rt; (record.index(), record.place()), (index, start));
-        assert_eq!(rt; record.bytes(), bytes);
-        assert_eq!(rt;
-            (record.root(), record.name_ref()),
-            (index == 1, (index == 1) as u32)
-        );
-        assert_eq!(rt;
-            record.rest(),
-            THREE.get(start.wrapping_add(8)..end).unwrap_or(&[])
-        );
+        assert!(rt; (record.index(), record.place()) == (index, start));
+        assert!(rt; record.bytes() == bytes);
+        assert!(rt; (record.root(), record.name_ref()) == (index == 1, (index == 1) as u32));
+        assert!(rt; record.rest() == THREE.get(start.wrapping_add(8)..end).unwrap_or(&[]));
     }
     assert!(rt; records.next().is_none());
     assert!(rt; record_numbered(&THREE, 0).is_none());
@@ -345,20 +338,19 @@ fn stops_where_a_record_is_cut_off(rt: HostRuntime) {
             _ => (2, Some((Fault::TRUNCATED, 3))),
         };
         let cut = THREE.get(..len).unwrap_or(&[]);
-        assert_eq!(rt; fault_of(cut), want, "at {len}");
+        assert!(rt; fault_of(cut) == want, "at {len}");
         assert!(rt; record_numbered(cut, 3).is_none(), "at {len}");
     }
     for len in 1..16 {
         let cut = LONG_UNKNOWN.get(..len).unwrap_or(&[]);
-        assert_eq!(rt;
-            fault_of(cut),
-            (0, Some((Fault::TRUNCATED, 1))),
+        assert!(rt;
+            fault_of(cut) == (0, Some((Fault::TRUNCATED, 1))),
             "long, at {len}"
         );
     }
     // 8 bytes and an argument: its pad is not there
     let unpadded = ONE_ARGUMENT.get(..10).unwrap_or(&[]);
-    assert_eq!(rt; fault_of(unpadded), (0, Some((Fault::TRUNCATED, 1))));
+    assert!(rt; fault_of(unpadded) == (0, Some((Fault::TRUNCATED, 1))));
 }
 
 #[test]
@@ -367,23 +359,21 @@ fn stops_at_a_kind_that_is_not_known(rt: HostRuntime) {
         for field in [0, 0xff] {
             // the high six bits of the second byte of info are kind and root
             let bytes = [0, 0, 0, 0, 0, kind << 3, field, field];
-            assert_eq!(rt;
-                fault_of(&bytes),
-                (0, Some((Fault::BAD_KIND, 1))),
+            assert!(rt;
+                fault_of(&bytes) == (0, Some((Fault::BAD_KIND, 1))),
                 "at {kind}"
             );
             assert!(rt; record_at(&bytes, 0, 1).is_none(), "at {kind}");
             let cut = bytes.get(..7).unwrap_or(&[]);
-            assert_eq!(rt;
-                fault_of(cut),
-                (0, Some((Fault::TRUNCATED, 1))),
+            assert!(rt;
+                fault_of(cut) == (0, Some((Fault::TRUNCATED, 1))),
                 "at {kind}"
             );
         }
     }
     let mut second = THREE;
     second[17] = 0x70;
-    assert_eq!(rt; fault_of(&second), (1, Some((Fault::BAD_KIND, 2))));
+    assert!(rt; fault_of(&second) == (1, Some((Fault::BAD_KIND, 2))));
     let mut records = Records::new(&second);
     assert!(rt; matches!(records.next(), Some(Ok(_))));
     assert!(rt; matches!(records.next(), Some(Err(_))));
@@ -425,10 +415,13 @@ fn lists_types(rt: HostRuntime) {
             panic!(rt; "it is whole")
         };
         let count = record.listed_count();
-        assert_eq!(rt; count, want.len(), "at {bytes:?}");
+        assert!(rt; count == want.len(), "at {bytes:?}");
         for (item, number) in want.iter().enumerate() {
             if item < count {
-                assert_eq!(rt; record.listed_type(item), TypeNum(*number), "at {bytes:?}");
+                assert!(rt;
+                    record.listed_type(item) == TypeNum(*number),
+                    "at {bytes:?}"
+                );
             }
         }
     }
@@ -436,13 +429,10 @@ fn lists_types(rt: HostRuntime) {
 
 #[test]
 fn members_are_wide_by_the_size(rt: HostRuntime) {
-    assert_eq!(rt;
-        (member_len(8191), member_len(8192), WIDE_MEMBERS),
-        (8, 16, 8192)
-    );
+    assert!(rt; (member_len(8191), member_len(8192), WIDE_MEMBERS) == (8, 16, 8192));
     let wide = b"\x00\x00\x00\x00\x00\x38\x00\x20";
     let Some(record) = record_at(wide, 0, 1) else {
         panic!(rt; "it is whole")
     };
-    assert_eq!(rt; record.member_len(), 16);
+    assert!(rt; record.member_len() == 16);
 }

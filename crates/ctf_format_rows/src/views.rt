@@ -48,19 +48,13 @@ fn shows_narrow_members(rt: HostRuntime) {
         member(b"elf", 0x8001, 0xff20),
         member(b"", 0, 8),
     );
-    assert_eq!(rt;
-        (members.len(), members.get(0), members.get(2)),
-        (3, first, third)
-    );
+    assert!(rt; (members.len(), members.get(0), members.get(2)) == (3, first, third));
     assert!(rt; members.get(3).is_none() && members.get(usize::MAX).is_none());
-    assert_eq!(rt; (members.next_back(), members.len()), (third, 2));
-    assert_eq!(rt; (members.next(), members.len()), (first, 1));
-    assert_eq!(rt; (members.get(0), members.get(1)), (second, None));
-    assert_eq!(rt; (members.next_back(), members.len()), (second, 0));
-    assert_eq!(rt;
-        (members.next(), members.next_back(), members.get(0)),
-        (None, None, None)
-    );
+    assert!(rt; (members.next_back(), members.len()) == (third, 2));
+    assert!(rt; (members.next(), members.len()) == (first, 1));
+    assert!(rt; (members.get(0), members.get(1)) == (second, None));
+    assert!(rt; (members.next_back(), members.len()) == (second, 0));
+    assert!(rt; (members.next(), members.next_back(), members.get(0)) == (None, None, None));
 }
 
 #[test]
@@ -74,15 +68,9 @@ fn shows_wide_members(rt: HostRuntime) {
         panic!(rt; "it is a union")
     };
     let (first, second) = (member(b"a", 5, 0x1_0000_0007), member(b"b", 6, 0x1_0000));
-    assert_eq!(rt; members.size_hint(), (2, Some(2)));
-    assert_eq!(rt;
-        (members.get(0), members.get(1), members.get(2)),
-        (first, second, None)
-    );
-    assert_eq!(rt;
-        (members.next(), members.next(), members.next()),
-        (first, second, None)
-    );
+    assert!(rt; members.size_hint() == (2, Some(2)));
+    assert!(rt; (members.get(0), members.get(1), members.get(2)) == (first, second, None));
+    assert!(rt; (members.next(), members.next(), members.next()) == (first, second, None));
 }
 
 #[test]
@@ -96,11 +84,11 @@ fn shows_members_by_the_size(rt: HostRuntime) {
     let Some(Variant::Members(mut members)) = shown(long_record, strings) else {
         panic!(rt; "it is a struct")
     };
-    assert_eq!(rt; members.next(), member(b"", 5, 9));
+    assert!(rt; members.next() == member(b"", 5, 9));
     let Some(Variant::Members(mut members)) = shown(short_record, strings) else {
         panic!(rt; "it is a struct")
     };
-    assert_eq!(rt; members.next(), member(b"", 5, 9));
+    assert!(rt; members.next() == member(b"", 5, 9));
 }
 
 #[test]
@@ -115,22 +103,20 @@ fn finds_narrow_members(rt: HostRuntime) {
     let Some(Variant::Members(mut members)) = shown(types, strings) else {
         panic!(rt; "it is a struct")
     };
-    assert_eq!(rt;
-        members.named(b"abc"),
-        member(b"abc", 5, 0),
+    assert!(rt;
+        members.named(b"abc") == member(b"abc", 5, 0),
         "the first of all"
     );
-    assert_eq!(rt;
-        members.named(b"ab"),
-        member(b"ab", 6, 8),
+    assert!(rt;
+        members.named(b"ab") == member(b"ab", 6, 8),
         "the first of two"
     );
-    assert_eq!(rt; members.named(b""), member(b"", 8, 24), "the unnamed one");
-    assert_eq!(rt; members.named(b"a"), None, "a beginning of a name");
-    assert_eq!(rt; members.named(b"abcd"), None, "a name and more");
-    assert_eq!(rt; members.named(b"bc"), None, "an end of a name");
-    assert_eq!(rt; members.next(), member(b"abc", 5, 0));
-    assert_eq!(rt; members.named(b"abc"), None, "one that is not left");
+    assert!(rt; members.named(b"") == member(b"", 8, 24), "the unnamed one");
+    assert!(rt; members.named(b"a") == None, "a beginning of a name");
+    assert!(rt; members.named(b"abcd") == None, "a name and more");
+    assert!(rt; members.named(b"bc") == None, "an end of a name");
+    assert!(rt; members.next() == member(b"abc", 5, 0));
+    assert!(rt; members.named(b"abc") == None, "one that is not left");
 }
 
 #[test]
@@ -143,9 +129,9 @@ fn finds_wide_members(rt: HostRuntime) {
     let Some(Variant::Members(members)) = shown(types, strings) else {
         panic!(rt; "it is a union")
     };
-    assert_eq!(rt; members.named(b"a"), member(b"a", 5, 0x1_0000_0007));
-    assert_eq!(rt; members.named(b"b"), member(b"b", 6, 0x1_0000));
-    assert_eq!(rt; members.named(b""), None);
+    assert!(rt; members.named(b"a") == member(b"a", 5, 0x1_0000_0007));
+    assert!(rt; members.named(b"b") == member(b"b", 6, 0x1_0000));
+    assert!(rt; members.named(b"") == None);
 }
 
 #[test]
@@ -164,12 +150,12 @@ fn shows_enumerators(rt: HostRuntime) {
         enumerator(b"b", i32::MIN),
         enumerator(b"c", i32::MAX),
     );
-    assert_eq!(rt; (values.size_hint(), values.len()), ((3, Some(3)), 3));
-    assert_eq!(rt; (values.get(1), values.get(3)), (second, None));
-    assert_eq!(rt; (values.next(), values.len()), (first, 2));
-    assert_eq!(rt; (values.next_back(), values.len()), (third, 1));
-    assert_eq!(rt; (values.get(0), values.next()), (second, second));
-    assert_eq!(rt; (values.next_back(), values.len()), (None, 0));
+    assert!(rt; (values.size_hint(), values.len()) == ((3, Some(3)), 3));
+    assert!(rt; (values.get(1), values.get(3)) == (second, None));
+    assert!(rt; (values.next(), values.len()) == (first, 2));
+    assert!(rt; (values.next_back(), values.len()) == (third, 1));
+    assert!(rt; (values.get(0), values.next()) == (second, second));
+    assert!(rt; (values.next_back(), values.len()) == (None, 0));
 }
 
 #[test]
@@ -180,12 +166,12 @@ fn shows_arguments(rt: HostRuntime) {
         panic!(rt; "it is a function")
     };
     let (first, second, third) = (Some(TypeNum(7)), Some(TypeNum(0x8001)), Some(TypeNum(0)));
-    assert_eq!(rt; (args.size_hint(), args.len()), ((3, Some(3)), 3));
-    assert_eq!(rt; (args.get(2), args.get(3)), (third, None));
-    assert_eq!(rt; (args.next_back(), args.len()), (third, 2));
-    assert_eq!(rt; (args.next_back(), args.len()), (second, 1));
-    assert_eq!(rt; (args.get(0), args.next(), args.len()), (first, first, 0));
-    assert_eq!(rt; (args.next(), args.next_back()), (None, None));
+    assert!(rt; (args.size_hint(), args.len()) == ((3, Some(3)), 3));
+    assert!(rt; (args.get(2), args.get(3)) == (third, None));
+    assert!(rt; (args.next_back(), args.len()) == (third, 2));
+    assert!(rt; (args.next_back(), args.len()) == (second, 1));
+    assert!(rt; (args.get(0), args.next(), args.len()) == (first, first, 0));
+    assert!(rt; (args.next(), args.next_back()) == (None, None));
 }
 
 #[test]
@@ -201,7 +187,7 @@ fn shows_parts(rt: HostRuntime) {
         index: TypeNum(0x8008),
         count: 0x0403_0201,
     };
-    assert_eq!(rt; info, want);
+    assert!(rt; info == want);
     let types = b"\x00\x00\x00\x00\x00\x0c\x04\x00\x20\x01\x03\x81";
     let Some(Variant::Encoding(info)) = shown(types, strings) else {
         panic!(rt; "it is an integer")
@@ -211,12 +197,12 @@ fn shows_parts(rt: HostRuntime) {
         offset: 3,
         bits: 0x120,
     };
-    assert_eq!(rt; info, want);
+    assert!(rt; info == want);
     let types = b"\x00\x00\x00\x00\x00\x14\x08\x00\x40\x00\x00\x02";
     let Some(Variant::Encoding(info)) = shown(types, strings) else {
         panic!(rt; "it is a float")
     };
-    assert_eq!(rt; (info.encoding, info.offset, info.bits), (2, 0, 64));
+    assert!(rt; (info.encoding, info.offset, info.bits) == (2, 0, 64));
 }
 
 #[test]
@@ -226,15 +212,15 @@ fn shows_tags(rt: HostRuntime) {
     let Some(Variant::Tag(tag)) = shown(b"\x00\x00\x00\x00\x00\x48\x06\x00", strings) else {
         panic!(rt; "it is a forward")
     };
-    assert_eq!(rt; tag, Tag::Struct);
+    assert!(rt; tag == Tag::Struct);
     let Some(Variant::Tag(tag)) = shown(b"\x00\x00\x00\x00\x00\x48\x07\x00", strings) else {
         panic!(rt; "it is a forward")
     };
-    assert_eq!(rt; tag, Tag::Union);
+    assert!(rt; tag == Tag::Union);
     let Some(Variant::Tag(tag)) = shown(b"\x00\x00\x00\x00\x00\x48\x08\x00", strings) else {
         panic!(rt; "it is a forward")
     };
-    assert_eq!(rt; tag, Tag::Enum);
+    assert!(rt; tag == Tag::Enum);
 }
 
 #[test]

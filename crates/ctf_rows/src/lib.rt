@@ -1,23 +1,19 @@
-//! Worked rows: what the service answers about types, names, symbols and values.
+//! What the service answers at its limits, to lines that tests make, and look-ups by public calls.
 #![tactic(auto)]
 
 #[cfg(test)]
-mod dictionaries;
-#[cfg(test)]
-mod kinds;
+mod draft_limits;
 #[cfg(test)]
 mod long_replies;
 #[cfg(test)]
 mod look_up;
 #[cfg(test)]
-mod questions;
-#[cfg(test)]
-mod references;
-#[cfg(test)]
-mod shown;
+mod slots;
 #[cfg(test)]
 mod spelled;
 #[cfg(test)]
-mod symbols;
+mod stage;
 #[cfg(test)]
-mod windows;
+mod takers;
+#[cfg(test)]
+mod unions;

@@ -12,6 +12,6 @@ mod told;
 pub use digits::put_byte;
 pub use lines::put_line;
 pub use repeats::repeat;
-pub use requests::{INT, put_open, put_part};
-pub use runs::{Pieces, are_answered, served, served_bounded, served_by};
+pub use requests::{put_open, put_part};
+pub use runs::{Pieces, served, served_bounded, served_by};
 pub use told::Told;

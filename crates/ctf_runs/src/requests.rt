@@ -3,10 +3,6 @@
 use crate::put_line;
 use std::alloc::AllocError;
 
-/// A dictionary with one type, the integer `int` of 32 bits, in hexadecimal digits.
-pub const INT: &str = "f1cf0200000000000000000000000000000000000000000000000000\
-    0c0000000500000001000000000c04002000000100696e7400";
-
 /// Appends the line by which session 7 hands in bytes, as hexadecimal digits, for a list.
 pub fn put_part(out: &mut Vec<u8>, list: &str, digits: &[u8]) -> Result<(), AllocError> {
     out.extend_from_slice(b"{\"s\":7,\"op\":\"part\",\"section\":\"")?;

@@ -1,7 +1,7 @@
 //! Runs of the service over a reader and a writer in memory.
 
 use ctf_wire::{Broker, FromReader, RunFault, ToWriter, serve, serve_bounded};
-use std::alloc::{AllocError, Global};
+use std::alloc::Global;
 use std::io;
 use std::io::{ErrorKind, Read, Write};
 
@@ -101,16 +101,4 @@ pub fn served_bounded(
         if reads < 1000 { reads } else { 1000 },
     );
     (end, fives.bytes)
-}
-
-/// Whether lines that a run begins with are answered just these replies.
-pub fn are_answered(alloc: Global, rows: &[(&str, &str)]) -> Result<bool, AllocError> {
-    let mut input = Vec::new(alloc);
-    let mut want = Vec::new(alloc);
-    for (line, reply) in rows {
-        input.extend_from_slice(line.as_bytes())?;
-        want.extend_from_slice(reply.as_bytes())?;
-    }
-    let (_end, written) = served(alloc, &input, 4096);
-    Ok(written.as_slice() == want.as_slice())
 }

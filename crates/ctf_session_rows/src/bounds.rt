@@ -12,17 +12,17 @@ fn front(text: &str, len: usize) -> &[u8] {
 #[test]
 fn ends_at_the_bound(rt: HostRuntime) {
     let (end, written) = served_bounded(rt.alloc(), LINES.as_bytes(), 65_536, 0, 0);
-    assert_eq!(rt; end, Err(RunFault::ReadBound));
+    assert!(rt; end == Err(RunFault::ReadBound));
     assert!(rt; written.is_empty());
     let (end, written) = served_bounded(rt.alloc(), b"", 65_536, 1, 0);
-    assert_eq!(rt; end, Ok(()));
+    assert!(rt; end == Ok(()));
     assert!(rt; written.is_empty());
     let (end, written) = served_bounded(rt.alloc(), LINES.as_bytes(), 65_536, 1, 0);
-    assert_eq!(rt; end, Err(RunFault::ReadBound));
-    assert_eq!(rt; written.as_slice(), REPLIES.as_bytes());
+    assert!(rt; end == Err(RunFault::ReadBound));
+    assert!(rt; written.as_slice() == REPLIES.as_bytes());
     let (end, written) = served_bounded(rt.alloc(), LINES.as_bytes(), 65_536, 2, 0);
-    assert_eq!(rt; end, Ok(()));
-    assert_eq!(rt; written.as_slice(), REPLIES.as_bytes());
+    assert!(rt; end == Ok(()));
+    assert!(rt; written.as_slice() == REPLIES.as_bytes());
 }
 
 #[test]
@@ -30,7 +30,7 @@ fn ends_at_a_failed_read(rt: HostRuntime) {
     // The first two lines have 173 bytes, and their replies 58. The third line is there in part, or not at all.
     for size in [173, 190] {
         let (end, written) = served_bounded(rt.alloc(), LINES.as_bytes(), size, 9, 2);
-        assert_eq!(rt; end, Err(RunFault::Read), "{size} bytes");
-        assert_eq!(rt; written.as_slice(), front(REPLIES, 58), "{size} bytes");
+        assert!(rt; end == Err(RunFault::Read), "{size} bytes");
+        assert!(rt; written.as_slice() == front(REPLIES, 58), "{size} bytes");
     }
 }

@@ -53,7 +53,7 @@ fn a_library_answers(rt: HostRuntime) -> Result<(), Fail> {
     for line in LINES {
         ask_library(rt.alloc(), &mut library, &mut pool, line, &mut out)?;
     }
-    assert_eq!(rt; out.as_slice(), REPLIES.as_bytes());
+    assert!(rt; out.as_slice() == REPLIES.as_bytes());
     Ok(())
 }
 
@@ -83,7 +83,7 @@ fn a_broker_answers(rt: HostRuntime) -> Result<(), Fail> {
     for line in LINES {
         ask_broker(rt.alloc(), &mut broker, line, &mut out)?;
     }
-    assert_eq!(rt; out.as_slice(), REPLIES.as_bytes());
+    assert!(rt; out.as_slice() == REPLIES.as_bytes());
     Ok(())
 }
 
@@ -102,6 +102,6 @@ fn want_of_memory_has_a_line(rt: HostRuntime) {
     let mut buffer = [0; 96];
     let len = memory_line(4_294_967_295, &mut buffer);
     let want = b"{\"fault\":{\"code\":0,\"name\":\"Memory\",\"place\":0},\"s\":4294967295}\n";
-    assert_eq!(rt; len, want.len());
-    assert_eq!(rt; buffer.get(..len), Some(want.as_slice()));
+    assert!(rt; len == want.len());
+    assert!(rt; buffer.get(..len) == Some(want.as_slice()));
 }

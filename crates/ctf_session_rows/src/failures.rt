@@ -17,8 +17,8 @@ fn bounds_end_a_run(rt: HostRuntime) {
     ];
     for (reads, want, len) in rows {
         let (end, written) = noted(rt.alloc(), reads, NONE);
-        assert_eq!(rt; end, want, "{reads} reads");
-        assert_eq!(rt; written.as_slice(), noted_front(len), "{reads} reads");
+        assert!(rt; end == want, "{reads} reads");
+        assert!(rt; written.as_slice() == noted_front(len), "{reads} reads");
     }
 }
 
@@ -26,8 +26,8 @@ fn bounds_end_a_run(rt: HostRuntime) {
 fn a_failed_read_ends_a_run(rt: HostRuntime) {
     for (read, len) in [(1, 0), (3, 0), (4, 17), (6, 17), (7, 34), (10, 34)] {
         let (end, written) = noted(rt.alloc(), 99, Failing { read, ..NONE });
-        assert_eq!(rt; end, Err(RunFault::Read), "read {read}");
-        assert_eq!(rt; written.as_slice(), noted_front(len), "read {read}");
+        assert!(rt; end == Err(RunFault::Read), "read {read}");
+        assert!(rt; written.as_slice() == noted_front(len), "read {read}");
     }
 }
 
@@ -40,8 +40,8 @@ fn a_failed_write_ends_a_run(rt: HostRuntime) {
     for len in BEFORE_WRITES {
         write = write.wrapping_add(1);
         let (end, written) = noted(rt.alloc(), 99, Failing { write, ..NONE });
-        assert_eq!(rt; end, Err(RunFault::Write), "write {write}");
-        assert_eq!(rt; written.as_slice(), noted_front(len), "write {write}");
+        assert!(rt; end == Err(RunFault::Write), "write {write}");
+        assert!(rt; written.as_slice() == noted_front(len), "write {write}");
     }
 }
 
@@ -58,8 +58,11 @@ fn a_write_that_takes_nothing_ends_a_run(rt: HostRuntime) {
                 ..NONE
             },
         );
-        assert_eq!(rt; end, Err(RunFault::Write), "write {empty_write}");
-        assert_eq!(rt; written.as_slice(), noted_front(len), "write {empty_write}");
+        assert!(rt; end == Err(RunFault::Write), "write {empty_write}");
+        assert!(rt;
+            written.as_slice() == noted_front(len),
+            "write {empty_write}"
+        );
     }
 }
 
@@ -67,7 +70,7 @@ fn a_write_that_takes_nothing_ends_a_run(rt: HostRuntime) {
 fn a_failed_flush_ends_a_run(rt: HostRuntime) {
     for (flush, len) in [(1, 16), (2, 33), (3, 50)] {
         let (end, written) = noted(rt.alloc(), 99, Failing { flush, ..NONE });
-        assert_eq!(rt; end, Err(RunFault::Write), "flush {flush}");
-        assert_eq!(rt; written.as_slice(), noted_front(len), "flush {flush}");
+        assert!(rt; end == Err(RunFault::Write), "flush {flush}");
+        assert!(rt; written.as_slice() == noted_front(len), "flush {flush}");
     }
 }

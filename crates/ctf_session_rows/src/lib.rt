@@ -1,5 +1,5 @@
-//! Worked rows: what the service answers to sessions side by side, on slots and publications,
-//! and how a run over a reader and a writer in memory goes on and ends.
+//! How a run over a reader and a writer in memory goes on and ends, what the operator publishes, and
+//! the calls below: of pools, and of lines that are read and written.
 #![tactic(auto)]
 
 #[cfg(test)]
@@ -15,11 +15,7 @@ mod loads;
 #[cfg(test)]
 mod marks;
 #[cfg(test)]
-mod meeting;
-#[cfg(test)]
 mod noted;
-#[cfg(test)]
-mod parents;
 #[cfg(test)]
 mod pools;
 #[cfg(test)]
@@ -27,14 +23,6 @@ mod reading;
 #[cfg(test)]
 mod request_lines;
 #[cfg(test)]
-mod sessions;
-#[cfg(test)]
 mod shelves;
-#[cfg(test)]
-mod slots;
-#[cfg(test)]
-mod stage;
-#[cfg(test)]
-mod takers;
 #[cfg(test)]
 mod writing;

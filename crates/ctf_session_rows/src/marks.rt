@@ -10,8 +10,8 @@ fn the_end_is_marked(rt: HostRuntime) {
     let mut sink = ToWriter::new(Vec::new(rt.alloc()));
     let mut broker = Broker::new(rt.alloc());
     let end = serve_bounded(rt.alloc(), &mut broker, &mut source, &mut sink, 2);
-    assert_eq!(rt; end, Ok(()));
-    assert_eq!(rt; source.pulls(), 2);
+    assert!(rt; end == Ok(()));
+    assert!(rt; source.pulls() == 2);
     assert!(rt; source.ended());
     assert!(rt; !source.failed());
     assert!(rt; !sink.failed());
@@ -27,7 +27,7 @@ fn faults_have_names(rt: HostRuntime) -> Result<(), Fail> {
     ];
     for (fault, name) in rows {
         let text = format!(in rt.alloc(); "{fault}")?;
-        assert_eq!(rt; text.as_str(), name);
+        assert!(rt; text.as_str() == name);
     }
     Ok(())
 }

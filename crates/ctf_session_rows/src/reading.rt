@@ -9,7 +9,7 @@ use std::alloc::Global;
 use std::test::Fail;
 
 /// A request with its word, the slot and the type that it is about, and the window that it asks for.
-#[derive(Clone, Copy, Debug, PartialEq, Eq)]
+#[derive(Clone, Copy, PartialEq, Eq)]
 struct Said {
     word: &'static str,
     about: Option<(u32, u16)>,
@@ -179,7 +179,7 @@ fn changes_are_read(rt: HostRuntime) {
             plain("take"),
         ),
     ] {
-        assert_eq!(rt; read(rt.alloc(), line), Ok((1, want)), "at {line}");
+        assert!(rt; read(rt.alloc(), line) == Ok((1, want)), "at {line}");
     }
 }
 
@@ -260,7 +260,7 @@ fn questions_are_read(rt: HostRuntime) {
         ),
         ("{\"s\":1,\"op\":\"info\",\"d\":6}", about("info", 6, 0)),
     ] {
-        assert_eq!(rt; read(rt.alloc(), line), Ok((1, want)), "at {line}");
+        assert!(rt; read(rt.alloc(), line) == Ok((1, want)), "at {line}");
     }
 }
 
@@ -307,9 +307,8 @@ const WINDOWS: [(&str, Window); 5] = [
 fn windows_of_members_are_read(rt: HostRuntime) {
     for (fields, window) in WINDOWS {
         let line = format!(in rt.alloc(); "{{\"s\":2,\"op\":\"members\",\"d\":7,\"t\":9{fields}}}");
-        assert_eq!(rt;
-            line.map(|line| read(rt.alloc(), &line)),
-            Ok(Ok((2, items("members", window)))),
+        assert!(rt;
+            line.map(|line| read(rt.alloc(), &line)) == Ok(Ok((2, items("members", window)))),
             "members{fields}"
         );
     }
@@ -321,9 +320,8 @@ fn windows_of_enumerators_are_read(rt: HostRuntime) {
         let line = format!(in rt.alloc();
             "{{\"s\":2,\"op\":\"enumerators\",\"d\":7,\"t\":9{fields}}}"
         );
-        assert_eq!(rt;
-            line.map(|line| read(rt.alloc(), &line)),
-            Ok(Ok((2, items("enumerators", window)))),
+        assert!(rt;
+            line.map(|line| read(rt.alloc(), &line)) == Ok(Ok((2, items("enumerators", window)))),
             "enumerators{fields}"
         );
     }
@@ -417,7 +415,7 @@ fn names_are_refused(rt: HostRuntime) -> Result<(), Fail> {
         let line = format!(in rt.alloc();
             "{{\"s\":1,\"op\":\"path\",\"d\":2,\"t\":3,\"names\":{names}}}"
         )?;
-        assert_eq!(rt; read(rt.alloc(), &line), Err((1, 58)), "at {line}");
+        assert!(rt; read(rt.alloc(), &line) == Err((1, 58)), "at {line}");
     }
     Ok(())
 }
@@ -460,9 +458,9 @@ const NO_REQUEST: [&str; 20] = [
 #[test]
 fn lines_are_refused(rt: HostRuntime) {
     for (line, code) in NO_SESSION {
-        assert_eq!(rt; read(rt.alloc(), line), Err((0, code)), "at {line}");
+        assert!(rt; read(rt.alloc(), line) == Err((0, code)), "at {line}");
     }
     for line in NO_REQUEST {
-        assert_eq!(rt; read(rt.alloc(), line), Err((1, 58)), "at {line}");
+        assert!(rt; read(rt.alloc(), line) == Err((1, 58)), "at {line}");
     }
 }

@@ -56,8 +56,8 @@ const LINES: [(&str, &str); 12] = [
 fn lines_are_answered(rt: HostRuntime) {
     for (line, want) in LINES {
         let (end, written) = served(rt.alloc(), line.as_bytes(), 7);
-        assert_eq!(rt; end, Ok(()), "{line}");
-        assert_eq!(rt; written.as_slice(), want.as_bytes(), "{line}");
+        assert!(rt; end == Ok(()), "{line}");
+        assert!(rt; written.as_slice() == want.as_bytes(), "{line}");
     }
 }
 
@@ -74,8 +74,8 @@ fn the_longest_line_is_read(rt: HostRuntime) -> Result<(), Fail> {
         let mut input = Vec::from_elem(rt.alloc(), b' ', len - 20)?;
         input.extend_from_slice(b"{\"s\":7,\"op\":\"reset\"}\n{\"s\":8,\"op\":\"reset\"}\n")?;
         let (end, written) = served(rt.alloc(), &input, 50_000);
-        assert_eq!(rt; end, Ok(()), "{len} bytes");
-        assert_eq!(rt; written.as_slice(), want.as_bytes(), "{len} bytes");
+        assert!(rt; end == Ok(()), "{len} bytes");
+        assert!(rt; written.as_slice() == want.as_bytes(), "{len} bytes");
     }
     Ok(())
 }

@@ -77,17 +77,3 @@ pub fn shows_in(
     wanted.extend_from_slice(text.as_bytes())?;
     Ok(out.as_slice() == wanted.as_slice())
 }
-
-/// The same for a type of `TYPES`.
-pub fn shows(
-    alloc: Global,
-    number: u16,
-    memory: &[u8],
-    offset: u64,
-    text: &str,
-) -> Result<bool, AllocError> {
-    let ctf = dictionary(alloc, 0, TYPES, 152, NAMES, 11)?;
-    let dictionary = opened(alloc, ctf, DataModel::Lp64)?;
-    let space = Space::own(dictionary.view(), DataModel::Lp64);
-    shows_in(alloc, &space, number, memory, offset, text)
-}

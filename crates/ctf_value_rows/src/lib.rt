@@ -12,8 +12,8 @@ mod dumps;
 #[cfg(test)]
 mod inputs;
 #[cfg(test)]
+mod layouts;
+#[cfg(test)]
 mod long;
 #[cfg(test)]
 mod over_parents;
-#[cfg(test)]
-mod values;

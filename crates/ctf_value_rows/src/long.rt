@@ -1,16 +1,10 @@
 //! Texts without end, and values that stand deep in each other.
 
-use crate::inputs::{dictionary, opened, shows, shows_in};
+use crate::inputs::{dictionary, opened, shows_in};
 use ctf_model::DataModel;
 use ctf_space::{Opened, Space};
 use std::alloc::{AllocError, Global};
 use std::test::Fail;
-
-#[test]
-fn elements_without_end_are_too_long(rt: HostRuntime) -> Result<(), Fail> {
-    assert!(rt; shows(rt.alloc(), 9, b"", 0, "TooLong")?);
-    Ok(())
-}
 
 /// An integer, and 512 unions, each with two members of the type before it.
 fn unions(alloc: Global) -> Result<Opened, AllocError> {

@@ -1,9 +1,9 @@
 //! The command line.
 
-use crate::{dumping, serving, status};
+use crate::{dumping, serving};
 use clap::error::ErrorKind;
 use clap::{Arg, ArgMatches, Command, Error};
-use ctf_wire::RunFault;
+use ctf_command::{MISUSED, RunFault, end, status_told};
 use std::alloc::{AllocError, Global};
 use std::{env, io};
 
@@ -72,7 +72,7 @@ fn obey(rt: &HostRuntime, matches: &ArgMatches<'_>) -> u8 {
     }
     match matches.subcommand_matches("serve") {
         Some(words) => serving::run(rt, words),
-        None => status::MISUSED,
+        None => MISUSED,
     }
 }
 
@@ -95,11 +95,11 @@ fn parse(rt: &HostRuntime) -> Result<u8, Error> {
 /// Prints help, the version or what is wrong with the words, and answers the exit status.
 fn tell(rt: &HostRuntime, error: &Error) -> u8 {
     if error.kind() == ErrorKind::OutOfMemory {
-        return status::end(rt, Err(RunFault::Memory));
+        return end(rt, Err(RunFault::Memory));
     }
     match error.print(rt) {
-        Ok(()) => status::status_told(error.kind()),
-        Err(_) => status::end(rt, Err(RunFault::Write)),
+        Ok(()) => status_told(error.kind()),
+        Err(_) => end(rt, Err(RunFault::Write)),
     }
 }
 

@@ -1,8 +1,7 @@
 //! `ctfd dump`: a dictionary as text, on standard output.
 
-use crate::files::read_file;
 use clap::ArgMatches;
-use ctf_dump::{DumpEnd, InputFile, Inputs, dump_lists};
+use ctf_command::{DumpEnd, InputFile, Inputs, dump_lists, read_file};
 use std::io;
 use std::io::BufWriter;
 

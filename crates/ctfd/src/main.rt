@@ -3,11 +3,7 @@
 
 mod commands;
 mod dumping;
-mod files;
 mod serving;
-mod starts;
-mod status;
-mod wanted;
 
 use std::process::ExitCode;
 

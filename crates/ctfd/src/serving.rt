@@ -1,12 +1,10 @@
 //! `ctfd serve`: files are published, and then standard input is served to standard output.
 
-use crate::files::read_file;
-use crate::starts::NotStarted;
-use crate::status;
-use crate::wanted::{Wanted, all_wanted};
 use clap::ArgMatches;
-use ctf_dump::DumpEnd;
-use ctf_wire::{Broker, FromReader, RunFault, ToWriter, serve};
+use ctf_command::{
+    Broker, DumpEnd, FromReader, NotStarted, RunFault, ToWriter, Wanted, all_wanted, end,
+    read_file, serve,
+};
 use std::alloc::Global;
 use std::io;
 use std::io::{Read, Write};
@@ -61,13 +59,13 @@ fn start<'a>(rt: &HostRuntime, words: &ArgMatches<'a>) -> Result<Broker, NotStar
 /// Publishes the files that the words name, serves standard input, and answers the exit status.
 pub fn run(rt: &HostRuntime, words: &ArgMatches<'_>) -> u8 {
     match start(rt, words) {
-        Ok(mut broker) => status::end(
+        Ok(mut broker) => end(
             rt,
             serve_lines(rt.alloc(), &mut broker, rt.reader(), io::writer(rt)),
         ),
-        Err(end) => {
-            let _ = eprintln!(rt; "ctfd: {end}");
-            end.status()
+        Err(why) => {
+            let _ = eprintln!(rt; "ctfd: {why}");
+            why.status()
         }
     }
 }

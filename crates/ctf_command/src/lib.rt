@@ -1,0 +1,15 @@
+//! What the words of the command line ask for, the files that they name, and how the program ends:
+//! what of `ctfd` has a contract. It passes on what the program calls of the crates below.
+#![tactic(auto)]
+
+mod files;
+mod starts;
+mod status;
+mod wanted;
+
+pub use ctf_dump::{DumpEnd, InputFile, Inputs, dump_lists};
+pub use ctf_wire::{Broker, FromReader, RunFault, ToWriter, serve};
+pub use files::read_file;
+pub use starts::NotStarted;
+pub use status::{MISUSED, end, status_told};
+pub use wanted::{Wanted, all_wanted};

@@ -1,0 +1,42 @@
+//! What is to be published before any line is read: words NAME=FILE of the command line.
+ghost use Rattle.std.specs.Prelude.{◌≡◌, IfOk, option_map};
+ghost use Rattle.ctf_command.specs.Asked.{asked_by, asked_of};
+
+use ctf_model::PublicationName;
+use std::alloc::{AllocError, Global};
+
+/// A file that is to be published under a name.
+#[derive(Drop)]
+pub struct Wanted<'a> {
+    pub name: PublicationName,
+    pub file: &'a str,
+}
+
+/// What a word asks for, if it is NAME=FILE. It is cut at its first `=`.
+pub fn wanted_by<'a>(alloc: Global, word: &'a str) -> Result<Option<Wanted<'a>>, AllocError>
+    ensures { IfOk result (λ wanted. option_map asked_of wanted ≡ asked_by word.now) }
+{
+    let Some((name, file)) = word.split_once('=') else {
+        return Ok(None);
+    };
+    let bytes = Vec::from_slice(alloc, name.as_bytes())?;
+    match PublicationName::new(bytes) {
+        Some(name) => Ok(Some(Wanted { name, file })),
+        None => Ok(None),
+    }
+}
+
+/// What the words ask for, in their order, or none where one of them is no NAME=FILE.
+pub fn all_wanted<'a>(
+    alloc: Global,
+    words: &[&'a str],
+) -> Result<Option<Vec<Wanted<'a>>>, AllocError> {
+    let mut all = Vec::new(alloc);
+    for word in words {
+        match wanted_by(alloc, word)? {
+            Some(wanted) => all.push(wanted)?,
+            None => return Ok(None),
+        }
+    }
+    Ok(Some(all))
+}
