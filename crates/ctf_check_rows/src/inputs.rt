@@ -73,16 +73,16 @@ pub fn dictionary(
 
 /// Adds the head of a record without a name: kind, root flag and length of the list, and the field.
 pub fn put_head(types: &mut Vec<u8>, info: u16, field: u16) -> Result<(), AllocError> {
-    types.extend_from_slice(&[0; 4])?;
+    types.extend_from_slice(b"\0\0\0\0")?;
     types.extend_from_slice(&info.to_le_bytes())?;
     types.extend_from_slice(&field.to_le_bytes())
 }
 
 /// Adds a member of 8 bytes, without a name and at the front.
 pub fn put_member(types: &mut Vec<u8>, tnum: u16) -> Result<(), AllocError> {
-    types.extend_from_slice(&[0; 4])?;
+    types.extend_from_slice(b"\0\0\0\0")?;
     types.extend_from_slice(&tnum.to_le_bytes())?;
-    types.extend_from_slice(&[0; 2])
+    types.extend_from_slice(b"\0\0")
 }
 
 /// A dictionary handed in alone.

@@ -23,6 +23,10 @@ fn labelled(alloc: Global) -> Result<Vec<u8>, AllocError> {
     framed(alloc, &header(), &behind, b"\0one\0two\0")
 }
 
+fn label(name: &[u8], last: u32) -> Label<'_> {
+    Label { name, last }
+}
+
 #[test]
 fn tells_labels(rt: HostRuntime) -> Result<(), Fail> {
     let ctf = labelled(rt.alloc())?;
@@ -31,12 +35,13 @@ fn tells_labels(rt: HostRuntime) -> Result<(), Fail> {
     };
     let labels = checked.labels();
     assert!(rt; labels.len() == 3);
-    let rows: [(&[u8], u32); 3] = [(b"one", 5), (b"two", 6), (b"one", 7)];
-    for (number, (name, last)) in (0..).zip(rows) {
-        assert!(rt; labels.get(number) == Some(Label { name, last }));
-        assert!(rt; labels.last_at(number) == Some(last));
-    }
+    assert!(rt; labels.get(0) == Some(label(b"one", 5)));
+    assert!(rt; labels.get(1) == Some(label(b"two", 6)));
+    assert!(rt; labels.get(2) == Some(label(b"one", 7)));
     assert!(rt; labels.get(3) == None);
+    assert!(rt; labels.last_at(0) == Some(5));
+    assert!(rt; labels.last_at(1) == Some(6));
+    assert!(rt; labels.last_at(2) == Some(7));
     assert!(rt; labels.last_at(3) == None);
     Ok(())
 }

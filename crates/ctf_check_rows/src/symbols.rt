@@ -1,6 +1,7 @@
 //! The rules of symbols, and what is told of them.
 
 use crate::framed;
+use crate::inputs::EMPTY;
 use ctf_check::check;
 use ctf_entries::{Entries, Entry, Told};
 use ctf_symbols::{SymbolMap, symbol_name};
@@ -10,9 +11,12 @@ use std::test::Fail;
 /// A symbol of 24 bytes without a value.
 pub fn symbol(name: u8, info: u8, section: u16) -> [u8; 24] {
     let [low, high] = section.to_le_bytes();
-    [
-        name, 0, 0, 0, info, 0, low, high, 0, 0, 0, 0, 0, 0, 0, 0, 0, 0, 0, 0, 0, 0, 0, 0,
-    ]
+    let mut symbol = [0; 24];
+    symbol[0] = name;
+    symbol[4] = info;
+    symbol[6] = low;
+    symbol[7] = high;
+    symbol
 }
 
 /// The names of the symbols.
@@ -39,44 +43,12 @@ pub fn program(alloc: Global) -> Result<Vec<u8>, AllocError> {
 /// A dictionary of an integer, with sections of objects (2 bytes) and of functions.
 pub fn over(alloc: Global, parname: u8, sections: &[u8]) -> Result<Vec<u8>, AllocError> {
     let behind = (sections.len() % 100) as u8;
-    let header = [
-        0xf1,
-        0xcf,
-        2,
-        0,
-        0,
-        0,
-        0,
-        0,
-        parname,
-        0,
-        0,
-        0,
-        0,
-        0,
-        0,
-        0,
-        0,
-        0,
-        0,
-        0,
-        2,
-        0,
-        0,
-        0,
-        behind,
-        0,
-        0,
-        0,
-        behind + 12,
-        0,
-        0,
-        0,
-        5,
-        0,
-        0,
-        0,
-    ];
+    let mut header = EMPTY;
+    header[8] = parname;
+    header[20] = 2;
+    header[24] = behind;
+    header[28] = behind + 12;
+    header[32] = 5;
     let mut front = Vec::from_slice(alloc, &header)?;
     front.extend_from_slice(sections)?;
     framed(

@@ -1,7 +1,6 @@
 //! The first run: a dictionary is handed in, opened and asked.
 
-use ctf_runs::{put_open, put_part, served};
-use std::test::Fail;
+use ctf_runs::served;
 
 /// Hands in the integer `int`, opens it and asks for the kind of type 1.
 pub const LINES: &str = "{\"s\":7,\"op\":\"part\",\"section\":\"ctf\",\"bytes\":\"\
@@ -25,17 +24,4 @@ fn answers_the_first_run(rt: HostRuntime) {
             "pieces of {size}"
         );
     }
-}
-
-#[test]
-fn opens_an_empty_dictionary(rt: HostRuntime) -> Result<(), Fail> {
-    let mut input = Vec::new(rt.alloc());
-    let digits = b"f1cf02000000000000000000000000000000000000000000000000000000000000000000";
-    put_part(&mut input, "ctf", digits)?;
-    put_open(&mut input)?;
-    let (end, written) = served(rt.alloc(), &input, 7);
-    let want = "{\"ok\":{\"length\":36},\"s\":7}\n{\"ok\":{\"d\":1,\"types\":0},\"s\":7}\n";
-    assert!(rt; end == Ok(()));
-    assert!(rt; written.as_slice() == want.as_bytes());
-    Ok(())
 }

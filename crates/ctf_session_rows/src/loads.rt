@@ -10,10 +10,8 @@ use std::alloc::{AllocError, Global};
 use std::test::Fail;
 
 /// The integer `int`.
-const INT_BYTES: [u8; 53] = [
-    0xf1, 0xcf, 2, 0, 0, 0, 0, 0, 0, 0, 0, 0, 0, 0, 0, 0, 0, 0, 0, 0, 0, 0, 0, 0, 0, 0, 0, 0, 12,
-    0, 0, 0, 5, 0, 0, 0, 1, 0, 0, 0, 0, 12, 4, 0, 32, 0, 0, 1, 0, 105, 110, 116, 0,
-];
+const INT_BYTES: &[u8] = b"\xf1\xcf\x02\0\0\0\0\0\0\0\0\0\0\0\0\0\0\0\0\0\0\0\0\0\0\0\0\0\x0c\
+    \0\0\0\x05\0\0\0\x01\0\0\0\0\x0c\x04\0\x20\0\0\x01\0int\0";
 
 /// Two sessions take what the operator has published, and nobody can publish for it.
 const LINES: &str = "{\"s\":1,\"op\":\"take\",\"owner\":0,\"name\":\"base\"}\n\
@@ -64,9 +62,9 @@ fn a_dictionary_is_loaded(rt: HostRuntime) -> Result<(), Fail> {
     let mut broker = Broker::new(alloc);
     let base = named(alloc, b"base")?;
     let taken = placeless(Fault::NAME_TAKEN);
-    let first = broker.load(&base, opened(alloc, &INT_BYTES)?);
+    let first = broker.load(&base, opened(alloc, INT_BYTES)?);
     assert!(rt; first.is_ok());
-    let second = broker.load(&base, opened(alloc, &INT_BYTES)?);
+    let second = broker.load(&base, opened(alloc, INT_BYTES)?);
     assert!(rt; second.err() == Some(taken));
     Ok(())
 }
@@ -77,9 +75,9 @@ fn sessions_take_what_is_loaded(rt: HostRuntime) -> Result<(), Fail> {
     let mut broker = Broker::new(alloc);
     let base = named(alloc, b"base")?;
     let section = named(alloc, b"section")?;
-    let first = broker.load(&base, opened(alloc, &INT_BYTES)?);
+    let first = broker.load(&base, opened(alloc, INT_BYTES)?);
     assert!(rt; first.is_ok());
-    let second = broker.load_section(&section, Vec::from_slice(alloc, &INT_BYTES)?);
+    let second = broker.load_section(&section, Vec::from_slice(alloc, INT_BYTES)?);
     assert!(rt; second.is_ok());
     let (end, written) = served_by(alloc, &mut broker, LINES.as_bytes(), 7);
     assert!(rt; end == Ok(()));
@@ -95,10 +93,10 @@ fn a_section_is_judged_before_its_name(rt: HostRuntime) -> Result<(), Fail> {
     let short = placeless(Fault::TOO_SHORT);
     let taken = placeless(Fault::NAME_TAKEN);
     assert!(rt; broker.load_section(&base, Vec::new(alloc)).err() == Some(short));
-    let first = broker.load_section(&base, Vec::from_slice(alloc, &INT_BYTES)?);
+    let first = broker.load_section(&base, Vec::from_slice(alloc, INT_BYTES)?);
     assert!(rt; first.is_ok());
     assert!(rt; broker.load_section(&base, Vec::new(alloc)).err() == Some(short));
-    let second = broker.load_section(&base, Vec::from_slice(alloc, &INT_BYTES)?);
+    let second = broker.load_section(&base, Vec::from_slice(alloc, INT_BYTES)?);
     assert!(rt; second.err() == Some(taken));
     Ok(())
 }

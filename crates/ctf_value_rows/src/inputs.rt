@@ -45,6 +45,23 @@ pub fn dictionary(
     Ok(ctf)
 }
 
+/// A union of 4 bytes with two members of a type.
+fn put_union(types: &mut Vec<u8>, number: u16) -> Result<(), AllocError> {
+    let [low, high] = number.to_le_bytes();
+    types.extend_from_slice(b"\0\0\0\0\x02\x38\x04\0")?;
+    types.extend_from_slice(&[0, 0, 0, 0, low, high, 0, 0])?;
+    types.extend_from_slice(&[0, 0, 0, 0, low, high, 0, 0])
+}
+
+/// An integer, and 512 unions, each with two members of the type before it.
+pub fn unions(alloc: Global) -> Result<Vec<u8>, AllocError> {
+    let mut types = Vec::from_slice(alloc, b"\x01\0\0\0\0\x0c\x04\0\x20\0\0\x01")?;
+    for before in 1..513 {
+        put_union(&mut types, before)?;
+    }
+    dictionary(alloc, 0, &types, 12_300, b"\0int\0", 5)
+}
+
 pub fn opened(alloc: Global, ctf: Vec<u8>, model: DataModel) -> Result<Opened, AllocError> {
     let parts = Parts {
         ctf: Bytes::from(ctf),

@@ -13,5 +13,6 @@ fn a_short_pointer(rt: HostRuntime) -> Result<(), Fail> {
     let space = Space::own(kept.view(), DataModel::Ilp32);
     let memory = b"\x78\x56\x34\x12";
     assert!(rt; shows_in(alloc, &space, 8, memory, 0, "0x12345678")?);
+    assert!(rt; shows_in(alloc, &space, 0, b"", 0, "Incomplete")?);
     Ok(())
 }
