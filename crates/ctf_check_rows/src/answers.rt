@@ -3,8 +3,6 @@
 use crate::inputs::{EMPTY, INT, LABELLED, OUTER, changed};
 use ctf_check::{Checked, check};
 use ctf_model::Kind;
-use ctf_views::Variant;
-use std::test::Fail;
 
 /// `INT`'s record in long form.
 const LONG: [u8; 61] = *b"\xf1\xcf\x02\x00\
@@ -84,28 +82,4 @@ fn tells_its_parent(rt: HostRuntime) {
             "at {changes:?}"
         );
     }
-}
-
-#[test]
-fn finds_types_by_their_places(rt: HostRuntime) -> Result<(), Fail> {
-    let Ok(checked) = check(rt.alloc(), &LABELLED, None, None) else {
-        panic!(rt; "it breaks no rule")
-    };
-    let starts = checked.starts(rt.alloc())?;
-    assert!(rt; starts.as_slice() == [0u32, 12].as_slice());
-    let indexed = Checked::indexed(checked.lists(), starts.as_slice());
-    assert!(rt; (indexed.count(), indexed.child()) == (2, false));
-    assert!(rt; indexed.typed(0).is_none() && indexed.typed(3).is_none());
-    for number in [1, 2] {
-        let (Some(read), Some(found)) = (checked.typed(number), indexed.typed(number)) else {
-            panic!(rt; "the type is there")
-        };
-        let (read_from, found_at) = (read.record(), found.record());
-        assert!(rt; (read_from.index(), read_from.place()) == (number as u64, 12 * (number - 1)));
-        assert!(rt; (found_at.index(), found_at.place()) == (number as u64, 12 * (number - 1)));
-        assert!(rt; (read.name(), found.name()) == (b"int".as_slice(), b"int".as_slice()));
-        assert!(rt; matches!(found.variant(), Variant::Encoding(_)));
-        assert!(rt; found.dictionary().count() == 2);
-    }
-    Ok(())
 }

@@ -26,6 +26,8 @@ mod needs;
 #[cfg(test)]
 mod parts;
 #[cfg(test)]
+mod places;
+#[cfg(test)]
 mod records;
 #[cfg(test)]
 mod symbols;

@@ -1,5 +1,4 @@
-//! Layouts by their public calls: what they cost, that a child's shares its parent's, and pointers of
-//! another data model.
+//! Layouts by their public calls: what they cost, and pointers of another data model.
 
 use crate::inputs::{opened, unions};
 use ctf_layout::Layout;
@@ -9,7 +8,7 @@ use std::alloc::{AllocError, Global};
 use std::test::Fail;
 
 /// An integer, a struct of two such members, and a typedef of it.
-const PAIR: &[u8] = b"\xf1\xcf\x02\x00\
+pub const PAIR: &[u8] = b"\xf1\xcf\x02\x00\
     \x00\x00\x00\x00\x00\x00\x00\x00\
     \x00\x00\x00\x00\x00\x00\x00\x00\x00\x00\x00\x00\x00\x00\x00\x00\
     \x2c\x00\x00\x00\x09\x00\x00\x00\
@@ -21,7 +20,7 @@ const PAIR: &[u8] = b"\xf1\xcf\x02\x00\
     \x00int\x00a\x00b\x00";
 
 /// A child: a typedef of type 3 of its parent, and a pointer to it.
-const CHILD: &[u8] = b"\xf1\xcf\x02\x00\
+pub const CHILD: &[u8] = b"\xf1\xcf\x02\x00\
     \x00\x00\x00\x00\x01\x00\x00\x00\
     \x00\x00\x00\x00\x00\x00\x00\x00\x00\x00\x00\x00\x00\x00\x00\x00\
     \x10\x00\x00\x00\x03\x00\x00\x00\
@@ -30,7 +29,7 @@ const CHILD: &[u8] = b"\xf1\xcf\x02\x00\
     \x00p\x00";
 
 /// The dictionary of these bytes.
-fn of_bytes(alloc: Global, ctf: &[u8], model: DataModel) -> Result<Opened, AllocError> {
+pub fn of_bytes(alloc: Global, ctf: &[u8], model: DataModel) -> Result<Opened, AllocError> {
     opened(alloc, Vec::from_slice(alloc, ctf)?, model)
 }
 
@@ -52,21 +51,6 @@ fn of_a_struct_one_member_is_read(rt: HostRuntime) -> Result<(), Fail> {
     let layout = Layout::build(rt.alloc(), &space)?;
     // 3 types, and the first of the two members.
     assert!(rt; layout.steps() == 4);
-    Ok(())
-}
-
-#[test]
-fn a_child_shares_its_parents_layout(rt: HostRuntime) -> Result<(), Fail> {
-    let parent = of_bytes(rt.alloc(), PAIR, DataModel::Lp64)?;
-    let child = of_bytes(rt.alloc(), CHILD, DataModel::Lp64)?;
-    let Ok(space) = Space::over(child.view(), parent.view(), DataModel::Lp64) else {
-        panic!(rt; "the parent has a layout, and no parent of its own")
-    };
-    let layout = Layout::build(rt.alloc(), &space)?;
-    // The parent's 4 steps, and 2 types.
-    assert!(rt; layout.steps() == 6);
-    let alone = Layout::build(rt.alloc(), &Space::own(parent.view(), DataModel::Lp64))?;
-    assert!(rt; alone.steps() == 4);
     Ok(())
 }
 

@@ -16,4 +16,6 @@ mod layouts;
 #[cfg(test)]
 mod long;
 #[cfg(test)]
+mod over_layouts;
+#[cfg(test)]
 mod over_parents;
