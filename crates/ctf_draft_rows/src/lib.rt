@@ -1,12 +1,8 @@
 //! Drafts made by hand: what each call answers, and what the draft then holds.
 #![tactic(auto)]
 
+#[cfg(test)]
 mod making;
-mod reading;
-
-pub use making::{a_struct, add, fresh, integer, named, put, put_value, size_of};
-pub use reading::{aggregate_at, enumerator_at, member_at};
-
 #[cfg(test)]
 mod members;
 #[cfg(test)]
@@ -15,6 +11,8 @@ mod memory;
 mod orders;
 #[cfg(test)]
 mod parents;
+#[cfg(test)]
+mod reading;
 #[cfg(test)]
 mod updated;
 #[cfg(test)]

@@ -1,7 +1,4 @@
 //! Calls of a draft, written shortly. Want of memory for a name is answered Memory.
-ghost use Rattle.std.specs.Prelude.{◌≡◌};
-ghost use Rattle.ctf_draft.specs.NewView.{new_body_of};
-ghost use Rattle.ctf_model.specs.NewTypes.{integer as new_integer, struct as new_struct};
 
 use ctf_draft::{AggregateKind, Body, Draft, NewBody, NewType, ScalarKind};
 use ctf_model::{Bytes, DataModel, Fault, TypeNum, placeless};
@@ -17,10 +14,7 @@ pub fn fresh(alloc: Global, model: DataModel) -> Option<Draft> {
 }
 
 /// A signed integer of a size in bytes.
-pub fn integer(size: u64, bits: u16) -> NewBody
-    ensures { new_body_of result
-        ≡ new_integer (record { size = size; encoding = 1; offset = 0; bits = bits }) }
-{
+pub fn integer(size: u64, bits: u16) -> NewBody {
     let encoding = Encoding {
         encoding: 1,
         offset: 0,
@@ -29,9 +23,7 @@ pub fn integer(size: u64, bits: u16) -> NewBody
     NewBody::Scalar(ScalarKind::Integer, size, encoding)
 }
 
-pub fn a_struct() -> NewBody
-    ensures { new_body_of result ≡ new_struct 0 }
-{
+pub fn a_struct() -> NewBody {
     NewBody::Aggregate(AggregateKind::Struct, 0)
 }
 
@@ -90,6 +82,14 @@ pub fn put_value(
         return Err(placeless(Fault::MEMORY));
     };
     draft.enumerator(TypeNum(n), name, value)
+}
+
+/// A struct behind an integer, if memory was there for both.
+pub fn with_struct(alloc: Global) -> Option<Draft> {
+    let mut draft = fresh(alloc, DataModel::Lp64)?;
+    add(alloc, &mut draft, integer(4, 32)).ok()?;
+    add(alloc, &mut draft, a_struct()).ok()?;
+    Some(draft)
 }
 
 /// The size that a struct or union says.

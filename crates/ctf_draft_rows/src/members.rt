@@ -1,6 +1,6 @@
 //! Members and enumerators.
 
-use crate::{a_struct, add, fresh, integer, put, size_of};
+use crate::making::{a_struct, add, fresh, integer, put, size_of};
 use ctf_draft::{NewBody, ReferenceKind};
 use ctf_model::{DataModel, TypeNum};
 

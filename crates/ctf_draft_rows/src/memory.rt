@@ -3,23 +3,10 @@
 //! With `rt try --test --fail-alloc N` this test holds for every N: whatever was refused, what was
 //! there stays.
 
-use crate::{a_struct, add, fresh, integer};
+use crate::making::with_struct;
 use ctf_draft::Draft;
-use ctf_model::{Bytes, DataModel, Fault, TypeNum, placeless};
+use ctf_model::{Bytes, Fault, TypeNum, placeless};
 use ctf_writer::{update, write};
-use std::alloc::Global;
-
-/// A struct behind an integer, if memory was there for both.
-fn with_struct(alloc: Global) -> Option<Draft> {
-    let mut draft = fresh(alloc, DataModel::Lp64)?;
-    if add(alloc, &mut draft, integer(4, 32)).is_err() {
-        return None;
-    }
-    if add(alloc, &mut draft, a_struct()).is_err() {
-        return None;
-    }
-    Some(draft)
-}
 
 /// How many members the second type has.
 fn members_of(draft: &Draft) -> usize {

@@ -1,6 +1,6 @@
 //! Drafts over a parent.
 
-use crate::{a_struct, add, put};
+use crate::making::{a_struct, add, put};
 use ctf_draft::{Draft, NewBody, ReferenceKind};
 use ctf_model::{Bytes, DataModel, Fault, Parts, TypeNum, placeless};
 use ctf_space::Opened;

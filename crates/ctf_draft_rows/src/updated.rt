@@ -1,6 +1,6 @@
 //! What an update makes of a draft, and what it leaves.
 
-use crate::{a_struct, add, fresh, integer, named};
+use crate::making::{a_struct, add, fresh, integer, named};
 use ctf_draft::Draft;
 use ctf_model::{Bytes, DataModel, Fault, Parts, TypeNum, placeless};
 use ctf_space::Opened;

@@ -1,6 +1,6 @@
 //! Drafts as the bytes of a dictionary.
 
-use crate::{fresh, named};
+use crate::making::{fresh, named};
 use ctf_draft::{Draft, NewBody};
 use ctf_model::{DataModel, Fault, TypeNum, placeless};
 use ctf_writer::write;

@@ -25,4 +25,6 @@ mod request_lines;
 #[cfg(test)]
 mod shelves;
 #[cfg(test)]
+mod stage;
+#[cfg(test)]
 mod writing;

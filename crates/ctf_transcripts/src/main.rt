@@ -3,7 +3,9 @@
 //! other sessions, where the replies have to be the same.
 #![tactic(auto)]
 
+mod marks;
 mod runs;
+mod told;
 
 use crate::runs::{Others, are_answered, runs_of};
 use std::process::ExitCode;

@@ -1,4 +1,5 @@
-//! Shown values by the public call: what stands behind what was there, and what is refused.
+//! Shown values by the public call: what stands behind what was there, and what is refused; dumps,
+//! layouts, and a look-up of a name that many have.
 #![tactic(auto)]
 
 mod framing;
@@ -15,6 +16,8 @@ mod inputs;
 mod layouts;
 #[cfg(test)]
 mod long;
+#[cfg(test)]
+mod look_up;
 #[cfg(test)]
 mod over_layouts;
 #[cfg(test)]
