@@ -1,10 +1,10 @@
 //! The items of a list that are answered.
 ghost use Rattle.std.specs.Prelude.{◌≡◌, ◌<◌, ◌≤◌, length, take, Some, slice_get};
-ghost use Rattle.ctf_model.specs.Questions.{windowed};
+ghost use Rattle.ctf_protocol.specs.Questions.{windowed};
 ghost use Rattle.ctf_answers.specs.Items.{item_of, items_of};
 
 use crate::items::{Item, Items};
-use ctf_model::Window;
+use ctf_protocol::Window;
 use std::marker::Model;
 
 /// Some items of a list: those from one on, as many as are answered.
@@ -17,7 +17,7 @@ pub struct Listed<'a> {
 
 impl<'a> Model for Listed<'a> {
     ghost use Rattle.std.specs.Prelude.{List, ◌+◌, ◌<◌, ◌≤◌, ◌^◌, length, take, drop};
-    ghost use Rattle.ctf_model.specs.Answers.{Item as SaidItem};
+    ghost use Rattle.ctf_protocol.specs.Answers.{Item as SaidItem};
     ghost use Rattle.ctf_answers.specs.Items.{items_of};
 
     ghost Value = { List SaidItem };

@@ -3,7 +3,7 @@ use Rattle.std.specs.Prelude.{ℕ, List, Option, unwrap_or}
 use Rattle.std.specs.BTreeMap.{is_at}
 use Rattle.std.specs.Map.{lookup}
 use Rattle.std.specs.Ordering.{nat_cmp}
-use Rattle.ctf_model.specs.State.{State, empty_state}
+use Rattle.ctf_protocol.specs.State.{State, empty_state}
 
 -- sessions with their libraries
 abbrev pub Libraries : Type 0

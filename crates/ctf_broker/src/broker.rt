@@ -1,19 +1,19 @@
 //! The libraries of all sessions.
 ghost use Rattle.std.specs.Prelude.{◌≡◌, ◌≢◌, ℕ, true, false};
-ghost use Rattle.ctf_model.specs.Runs.{Answered, IsGranted, Steps};
-ghost use Rattle.ctf_model.specs.State.{empty_state};
-ghost use Rattle.ctf_model.specs.Steps.{answer_to, is_quiet, is_quiet_change, MayAnswer, publishes_lists};
-ghost use Rattle.ctf_model.specs.declared.data_model.DataModel.TheVariants.{Lp64};
+ghost use Rattle.ctf_protocol.specs.Runs.{Answered, IsGranted, Steps};
+ghost use Rattle.ctf_protocol.specs.State.{empty_state};
+ghost use Rattle.ctf_protocol.specs.Steps.{answer_to, is_quiet, is_quiet_change, MayAnswer, publishes_kept};
 ghost use Rattle.ctf_answers.specs.Replies.{said, said_to};
-ghost use Rattle.ctf_model.specs.declared.requests.Request.TheVariants.{Changes};
+ghost use Rattle.ctf_protocol.specs.declared.requests.Request.TheVariants.{Changes};
 ghost use Rattle.ctf_broker.specs.Loading.{loads_section};
 ghost use Rattle.ctf_broker.specs.Table.{kept_for, library_at};
 ghost use Rattle.ctf_library.specs.Telling.{makes_text};
 
 use crate::libraries::{found_by, publish_in, step_in};
 use ctf_answers::{Answer, Counts};
-use ctf_library::{Library, Loaded, Pool};
-use ctf_model::{Bytes, Change, Fault, Parts, PublicationName, Question, SlotNumber, placeless};
+use ctf_library::{Library, Loaded, MODEL_UNSAID, Pool};
+use ctf_model::{Bytes, Fault, Parts, placeless};
+use ctf_protocol::{Change, PublicationName, Question, SlotNumber};
 use ctf_space::Opened;
 use std::alloc::Global;
 use std::collections::BTreeMap;
@@ -58,9 +58,8 @@ impl Broker {
 
     /// Publishes a dictionary for the operator, under a name that has none yet.
     pub fn load(&mut self, name: &PublicationName, dictionary: Opened) -> Result<Counts, Fault>
-        requires { dictionary.model ≡ Lp64 }
         ensures own { Answered (library_at self.old 0)
-            (publishes_lists name.now dictionary.lists (library_at self.old 0))
+            (publishes_kept name.now dictionary (library_at self.old 0))
             (said result) (library_at self.new 0) }
         ensures others { (other : ℕ) → other ≢ 0
             → kept_for self.new other ≡ kept_for self.old other }
@@ -85,7 +84,7 @@ impl Broker {
             sym: None,
             strs: None,
         };
-        match Loaded::build(self.alloc, parts) {
+        match Loaded::build(self.alloc, parts, MODEL_UNSAID) {
             Ok(loaded) => publish_in(self.alloc, &mut self.libraries, OPERATOR, name, loaded),
             Err((fault, _parts)) => Err(fault),
         }

@@ -2,15 +2,16 @@
 ghost use Rattle.std.specs.Prelude.{◌≡◌, ◌≢◌, ℕ, IfOk, OnErr, true, false};
 ghost use Rattle.std.specs.Option.{option_map};
 ghost use Rattle.ctf_answers.specs.Replies.{said, said_to};
-ghost use Rattle.ctf_model.specs.Runs.{Answered, IsGranted, Steps, found_in};
-ghost use Rattle.ctf_model.specs.State.{empty_state};
-ghost use Rattle.ctf_model.specs.Steps.{is_quiet_change, publishes_lists};
-ghost use Rattle.ctf_model.specs.declared.requests.Request.TheVariants.{Changes};
+ghost use Rattle.ctf_protocol.specs.Runs.{Answered, IsGranted, Steps, found_in};
+ghost use Rattle.ctf_protocol.specs.State.{empty_state};
+ghost use Rattle.ctf_protocol.specs.Steps.{is_quiet_change, publishes_kept};
+ghost use Rattle.ctf_protocol.specs.declared.requests.Request.TheVariants.{Changes};
 ghost use Rattle.ctf_broker.specs.Table.{kept_for, library_at};
 
 use ctf_answers::Counts;
 use ctf_library::{Library, Loaded, Pool};
-use ctf_model::{Change, Fault, PublicationName, placeless};
+use ctf_model::{Fault, placeless};
+use ctf_protocol::{Change, PublicationName};
 use std::alloc::{AllocError, Global};
 use std::collections::BTreeMap;
 
@@ -75,7 +76,7 @@ pub fn publish_in(
     loaded: Loaded,
 ) -> Result<Counts, Fault>
     ensures own { Answered (library_at libraries.old.entries session)
-        (publishes_lists name.now loaded (library_at libraries.old.entries session))
+        (publishes_kept name.now loaded (library_at libraries.old.entries session))
         (said result) (library_at libraries.new.entries session) }
     ensures others { (other : ℕ) → other ≢ session
         → kept_for libraries.new.entries other ≡ kept_for libraries.old.entries other }

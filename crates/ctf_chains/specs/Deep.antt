@@ -19,8 +19,11 @@ pub record IsFirstDeep (es : List (List ℕ)) (limit i : ℕ) : Type 0 where
 
 -- the first type from which a longer chain begins, or none where there is no such type
 abbrev pub IsLeastDeep : List (List ℕ) → ℕ → Option ℕ → Type 0
-IsLeastDeep es limit found = MatchOption found (AreWithinBefore es limit (length es)) (IsFirstDeep es limit)
+IsLeastDeep es limit found =
+    MatchOption found (AreWithinBefore es limit (length es)) (IsFirstDeep es limit)
 
 -- the same of the types that records spell, by whichever tables of names
 abbrev pub IsLeastDeepType : Chain → Bool → List (Result Piece Fault) → Option ℕ → Type 0
-IsLeastDeepType chain child pieces found = (t : Tables) → AreSpelled t pieces → IsLeastDeep (edges (steps chain) child (terms_in t pieces)) longest_chain found
+IsLeastDeepType chain child pieces found =
+    (t : Tables) → AreSpelled t pieces
+    → IsLeastDeep (edges (steps chain) child (terms_in t pieces)) longest_chain found

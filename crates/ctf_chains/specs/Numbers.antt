@@ -1,5 +1,6 @@
 -- The type numbers that steps lead to, as they stand in records.
--- Source: ctf(5), "The Type Section"; ctf_stype_t, ctf_member_t, ctf_lmember_t, ctf_array_t of sys/ctf.h.
+-- Source: ctf(5), "The Type Section"; ctf_stype_t, ctf_member_t,
+-- ctf_lmember_t, ctf_array_t of sys/ctf.h.
 use Rattle.std.specs.Prelude.{ℕ, Bool, List, [], ◌∷◌, length, map, Option, Some, None, Result, Ok, Err}
 use Rattle.ctf_model.specs.Bytes.{u16_at}
 use Rattle.ctf_model.specs.Chains.{own_index}

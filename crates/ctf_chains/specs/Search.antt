@@ -23,7 +23,8 @@ pub record IsDepth (es : List (List ℕ)) (i d : ℕ) : Type 0 where
   pub within : IsWithin es d i
   pub least : (k : ℕ) → IsWithin es k i → d ≤ k
 
--- ---- the table: for each record 0, or busy while its visit is under way, or one more than its depth
+-- ---- the table: for each record 0, or busy while its visit is under way,
+-- or one more than its depth
 
 -- the mark of a record whose visit is under way
 abbrev pub busy : ℕ
@@ -35,7 +36,8 @@ entry_in n = if n == 0 then Unvisited else if n == busy then Busy else Depth (n 
 
 -- the depths in the table are right
 pub record Knows (es : List (List ℕ)) (known : List ℕ) : Type 0 where
-  pub right : (j : ℕ) → 1 ≤ slice_index_or known j 0 → slice_index_or known j 0 < busy → IsDepth es j (slice_index_or known j 0 - 1)
+  pub right : (j : ℕ) → 1 ≤ slice_index_or known j 0 → slice_index_or known j 0 < busy
+      → IsDepth es j (slice_index_or known j 0 - 1)
 
 -- one step or more lead from j to i, as far as the lengths of chains tell
 pub record Leads (es : List (List ℕ)) (j i : ℕ) : Type 0 where
@@ -59,7 +61,8 @@ pub record Found (es : List (List ℕ)) (budget i : ℕ) (before after : List �
 
 -- what a visit of i answers: its depth, or none where that is more than the budget
 abbrev pub Answers : List (List ℕ) → ℕ → ℕ → List ℕ → List ℕ → Option ℕ → Type 0
-Answers es budget i before after found = MatchOption found (¬ IsWithin es budget i) (Found es budget i before after)
+Answers es budget i before after found =
+    MatchOption found (¬ IsWithin es budget i) (Found es budget i before after)
 
 -- ---- work
 

@@ -7,7 +7,14 @@ use Rattle.ctf_check.specs.declared.facts.Facts.{Facts}
 use Rattle.ctf_check.specs.declared.facts.Shape.{Shape}
 
 abbrev pub shape_seen : Shape → shown.Shape
-shape_seen x = record { kind = x.kind; size = x.size; reference = option_map (λ t. t.0) x.reference; declares = option_map tag_of x.declares; behind = seen x.behind }
+shape_seen x =
+    record {
+      kind = x.kind;
+      size = x.size;
+      reference = option_map (λ t. t.0) x.reference;
+      declares = option_map tag_of x.declares;
+      behind = seen x.behind;
+    }
 
 abbrev pub facts_seen : Facts → shown.Facts
 facts_seen x = record { name = x.name.now; root = x.root; shape = shape_seen x.shape }

@@ -1,5 +1,6 @@
 -- The types that a record names, read from its bytes, without the names of its members.
--- Source: ctf(5), "The Type Section"; proofs/Naming.antt says that they are those of the type that it spells.
+-- Source: ctf(5), "The Type Section"; proofs/Naming.antt says that they are
+-- those of the type that it spells.
 use Rattle.std.specs.Prelude.{ℕ, ◌||◌, Bool, List, [], ◌∷◌, ◌++◌, Option, Some, None, Result, Ok, Err, if◌then◌else◌}
 use Rattle.std.specs.List.{list_any}
 use Rattle.ctf_model.specs.References.{is_missing, has_long_tag}
@@ -24,5 +25,6 @@ misnames child count b = has_long_tag b || list_any (is_missing child count) (na
 -- the number of the first of the records that does
 unfoldable pub first_that_misnames : Bool → ℕ → List (Result Piece Fault) → Option ℕ
 first_that_misnames child count [] = None
-first_that_misnames child count (Ok p ∷ rest) = if misnames child count p.bytes then Some p.index else first_that_misnames child count rest
+first_that_misnames child count (Ok p ∷ rest) =
+    if misnames child count p.bytes then Some p.index else first_that_misnames child count rest
 first_that_misnames child count (Err f ∷ rest) = None

@@ -1,4 +1,5 @@
--- The greatest number of a parent's type that records name, read from their bytes, and that is told of symbols.
+-- The greatest number of a parent's type that records name, read from their bytes,
+-- and that is told of symbols.
 use Rattle.std.specs.Prelude.{ℕ, max, List, [], ◌∷◌, Result, Ok, Err}
 use Rattle.ctf_model.specs.Entries.{Entry, types_told}
 use Rattle.ctf_model.specs.Needs.{greatest_in_parent}

@@ -1,4 +1,5 @@
--- The stages of the check behind the header: its records, the parts of the rule of names, its types and its symbols.
+-- The stages of the check behind the header: its records, the parts of the rule of names,
+-- its types and its symbols.
 use Rattle.std.specs.Prelude.{◌≡◌, ℕ, List, [], ◌∷◌, length, take, nat_lt, Bool, Option, Some, None, Result, if◌then◌else◌}
 use Rattle.std.specs.Option.{option_or}
 use Rattle.ctf_model.specs.Bytes.{u32_at}
@@ -18,11 +19,15 @@ use Rattle.ctf_model.specs.declared.faults.TheConstants.Fault.{MEMORY, TOO_MANY,
 
 -- the first fault of the records: where reading them stops, else that they are too many
 abbrev pub records_fault : List (Result Piece Fault) → Option Fault
-records_fault rs = option_or (walk_fault rs) (if nat_lt 32766 (length rs) then Some (record { code = TOO_MANY; place = 32767 }) else None)
+records_fault rs =
+    option_or (walk_fault rs)
+    (if nat_lt 32766 (length rs) then Some (record { code = TOO_MANY; place = 32767 })
+    else None)
 
 -- the sites of the names of a header
 abbrev pub header_sites : Fields → List Site
-header_sites h = record { place = 4; reference = h.parlabel } ∷ record { place = 8; reference = h.parname } ∷ []
+header_sites h =
+    record { place = 4; reference = h.parlabel } ∷ record { place = 8; reference = h.parname } ∷ []
 
 -- the sites of a record that begins at a place: its name, and those in its list
 abbrev pub own_sites : ℕ → List ℕ → List Site
@@ -34,17 +39,23 @@ chain_place chain t child rs = first_deep (edges (steps chain) child (terms_in t
 
 -- the first fault of chains: of steps by value, then of declarator steps
 abbrev pub chains_fault : Tables → Bool → List (Result Piece Fault) → Option Fault
-chains_fault t child rs = or_later VALUE_DEEP (chain_place ByValue t child rs) (or_later DECL_DEEP (chain_place Declarator t child rs) None)
+chains_fault t child rs =
+    or_later VALUE_DEEP (chain_place ByValue t child rs)
+    (or_later DECL_DEEP (chain_place Declarator t child rs) None)
 
--- the first fault of the types of records: a reference to one that is not there, else a chain that is too long
+-- the first fault of the types of records: a reference to one that is not there,
+-- else a chain that is too long
 abbrev pub types_fault : Tables → Bool → List (Result Piece Fault) → Option Fault
-types_fault t child rs = or_later BAD_REFERENCE (first_misnaming t child (length rs) rs) (chains_fault t child rs)
+types_fault t child rs =
+    or_later BAD_REFERENCE (first_misnaming t child (length rs) rs) (chains_fault t child rs)
 
 -- ---- the same by whichever tables of names the records spell their types
 
--- the first type that a chain of one sort begins at which is too long stands at this place, or there is none
+-- the first type that a chain of one sort begins at which is too long stands
+-- at this place, or there is none
 abbrev pub IsChainPlace : Chain → Bool → List (Result Piece Fault) → Option ℕ → Type 0
-IsChainPlace chain child rs place = (t : Tables) → AreSpelled t rs → chain_place chain t child rs ≡ place
+IsChainPlace chain child rs place =
+    (t : Tables) → AreSpelled t rs → chain_place chain t child rs ≡ place
 
 -- this is the first fault of chains, or there is none
 abbrev pub IsChainsFault : Bool → List (Result Piece Fault) → Option Fault → Type 0
@@ -60,9 +71,12 @@ IsTypesFault child rs fault = (t : Tables) → AreSpelled t rs → types_fault t
 abbrev pub first_mistold : Bool → ℕ → List Entry → Option ℕ
 first_mistold child count es = first_where (tells_missing child count) (λ e. e.number) es
 
--- the first fault of symbols: a bad entry of a function, a type that is not there, a symbol that is cut off
+-- the first fault of symbols: a bad entry of a function, a type that is not there,
+-- a symbol that is cut off
 abbrev pub symbols_fault : Lists → Option Fault
-symbols_fault s = or_later BAD_FUNCS (bad_funcs s) (or_later BAD_SYMBOL_TYPE (bad_symbol_type s) (or_later BAD_SYMTAB (bad_symtab s) None))
+symbols_fault s =
+    or_later BAD_FUNCS (bad_funcs s)
+    (or_later BAD_SYMBOL_TYPE (bad_symbol_type s) (or_later BAD_SYMTAB (bad_symtab s) None))
 
 -- ---- all
 

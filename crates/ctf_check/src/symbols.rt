@@ -42,7 +42,8 @@ impl Numbers {
 
     /// Whether a type is told that is not there.
     fn misses_told(self, told: Told<'_>) -> bool
-        ensures { result ≡ list_any (missing self.child self.count) (types_told (told_in told.entry)) }
+        ensures { result
+            ≡ list_any (missing self.child self.count) (types_told (told_in told.entry)) }
     {
         match told {
             Told::Object(Some(number)) => self.is_missing(number),

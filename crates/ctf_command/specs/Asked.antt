@@ -1,7 +1,7 @@
 -- What a word NAME=FILE of `ctfd serve` asks for. Source: ours.
 use Rattle.std.specs.Prelude.{ℕ, ◌==◌, List, length, Option, Some, None, nat_lt, if◌then◌else◌}
 use Rattle.std.specs.List.{position_or_len, before_first, after_first}
-use Rattle.ctf_model.specs.Publications.{is_publication_name}
+use Rattle.ctf_protocol.specs.Publications.{is_publication_name}
 use Rattle.ctf_command.specs.declared.wanted.Wanted.{Wanted}
 
 -- a file is to be published under a name
@@ -11,7 +11,8 @@ pub record Asked : Type 0 where
 
 -- if the name is one
 abbrev pub asked_with : List ℕ → List ℕ → Option Asked
-asked_with name file = if is_publication_name name then Some (record { name = name; file = file }) else None
+asked_with name file =
+    if is_publication_name name then Some (record { name = name; file = file }) else None
 
 -- a word is cut at its first `=`; one without it asks for nothing
 abbrev pub asked_by : List ℕ → Option Asked

@@ -12,7 +12,8 @@ status_after Write = 3
 status_after ReadBound = 3
 status_after Memory = 4
 
--- Beside a text on the words of the command line: one that they asked for, or one on what is wrong with them.
+-- Beside a text on the words of the command line: one that they asked for,
+-- or one on what is wrong with them.
 abbrev pub status_beside : ErrorKind → ℕ
 status_beside DisplayHelp = 0
 status_beside DisplayVersion = 0

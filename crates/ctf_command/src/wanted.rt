@@ -2,7 +2,7 @@
 ghost use Rattle.std.specs.Prelude.{◌≡◌, IfOk, option_map};
 ghost use Rattle.ctf_command.specs.Asked.{asked_by, asked_of};
 
-use ctf_model::PublicationName;
+use ctf_protocol::PublicationName;
 use std::alloc::{AllocError, Global};
 
 /// A file that is to be published under a name.

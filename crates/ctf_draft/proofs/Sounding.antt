@@ -1,12 +1,14 @@
 -- Drafts in code are sound.
-use Rattle.std.proofs.Common.{◌≡◌, ℕ, false, List, length, Option, None, Result, Ok, Err, is_some, refl, sym, subst}
+use Rattle.std.proofs.Common.{◌≡◌, ℕ, false, List, length, Option, Some, None, Result, Ok, Err, is_some, option_map, refl, sym, subst}
 use Rattle.std.specs.Prelude.{not, ◌==◌, OnErr, OnOk, FitsSigned}
 use Rattle.std.specs.Int.{w32}
 use Rattle.ctf_model.specs.Adders.{add_enumerator, against_enumerator, body_at, replaced, with_enumerator, with_member}
-use Rattle.ctf_model.specs.Dictionary.{Dictionary}
+use Rattle.ctf_model.specs.Dictionary.{said_by}
 use Rattle.ctf_model.specs.DraftLaws.{IsSound}
-use Rattle.ctf_model.specs.Drafts.{Draft, empty_draft, has_zero, is_childs, new_draft}
+use Rattle.ctf_model.specs.Drafts.{Draft, above, empty_draft, has_zero, is_childs, is_of_other, new_draft}
+use Rattle.ctf_model.specs.Imports.{Modelled}
 use Rattle.ctf_model.specs.Judgements.{first_met}
+use Rattle.ctf_model.specs.Kept.{Kept, modelled_by}
 use Rattle.ctf_model.specs.Term.{Enumerator}
 use Rattle.ctf_model.specs.declared.data_model.DataModel.{DataModel}
 use Rattle.ctf_model.proofs.SoundDrafts.{enumerator_sound, member_sound, new_sound}
@@ -19,10 +21,15 @@ pub either_sound : {A E : Type 0} (r : Result A E) (before changed after : Draft
 either_sound (Ok a) before changed after is same old new = subst IsSound (sym is) new
 either_sound (Err e) before changed after is same old new = subst IsSound (sym same) old
 
-pub empty_sound : (parent : Option Dictionary) (parname parlabel : List ℕ) (model : DataModel) → is_some parent ≡ not (length parname == 0) → has_zero parname ≡ false → has_zero parlabel ≡ false → is_childs parent ≡ false → IsSound (empty_draft parent parname parlabel model)
+pub empty_sound : (parent : Option Modelled) (parname parlabel : List ℕ) (model : DataModel) → is_some parent ≡ not (length parname == 0) → has_zero parname ≡ false → has_zero parlabel ≡ false → is_childs (above parent) ≡ false → is_of_other model parent ≡ false → IsSound (empty_draft (above parent) parname parlabel model)
 unfolding new_draft
-empty_sound parent parname parlabel model named clean clean_label grown_up =
-    new_sound parent parname parlabel model (empty_draft parent parname parlabel model) named (rw (clean, clean_label, grown_up) refl)
+empty_sound parent parname parlabel model named clean clean_label grown_up alike =
+    new_sound parent parname parlabel model (empty_draft (above parent) parname parlabel model) named (rw (clean, clean_label, grown_up, alike) refl)
+
+-- parents as a draft is given them, and without their models
+pub same_above : {P : Type 0} (kept : P → Kept) (parent : Option P) → option_map (λ p. said_by (kept p).lists) parent ≡ above (option_map (λ p. modelled_by (kept p)) parent)
+same_above kept None = refl
+same_above kept (Some p) = refl
 
 -- a member that is added as it is planned
 pub planned_sound : (d : Draft) (n : ℕ) (name : List ℕ) (tnum : ℕ) (offset : Option ℕ) (p : Plan) → IsSound d → against_name d n name tnum ≡ None → planned d n tnum offset ≡ Ok p → IsSound (replaced d n (with_member (record { name = name; tnum = tnum; offset = p.offset }) p.size (body_at d n)))

@@ -2,7 +2,7 @@
 use Rattle.std.specs.Prelude.{ℕ, List, take, drop, Option}
 use Rattle.ctf_model.specs.Dictionary.{Dictionary, Label}
 use Rattle.ctf_model.specs.Drafts.{Contents, Draft}
-use Rattle.ctf_model.specs.Space.{Kept}
+use Rattle.ctf_model.specs.Kept.{Kept}
 use Rattle.ctf_model.specs.Term.{Term}
 use Rattle.ctf_model.specs.declared.data_model.DataModel.{DataModel}
 
@@ -19,7 +19,8 @@ abbrev pub others_of : ℕ → ℕ → List Term → List Label → Contents
 others_of types labels terms all = record { terms = drop types terms; labels = drop labels all }
 
 -- the draft of these parts
-abbrev pub made_of : List ℕ → List ℕ → Option Dictionary → DataModel → ℕ → ℕ → List Term → List Label → Draft
+abbrev pub made_of : List ℕ → List ℕ → Option Dictionary → DataModel → ℕ → ℕ → List Term
+    → List Label → Draft
 made_of parname parlabel parent model types labels terms all = record {
   parname = parname;
   parlabel = parlabel;

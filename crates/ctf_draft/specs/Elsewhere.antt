@@ -11,7 +11,8 @@ use Rattle.ctf_draft.specs.declared.parents.Parent.{Parent}
 
 -- it names no type
 pub record NamesNone (d : Draft) (n : ℕ) : Type 0 where
-  pub refused : (figure : Figure) (k : ℕ) → comes_to figure (parents_figure figure d.parent) (held d) (suc k) n ≡ Err no_type
+  pub refused : (figure : Figure) (k : ℕ)
+      → comes_to figure (parents_figure figure d.parent) (held d) (suc k) n ≡ Err no_type
 
 -- it names one of the parent, if that has so many
 pub record NamesParents (d : Draft) (n : ℕ) (p : Parent) : Type 0 where

@@ -17,7 +17,8 @@ against_name d n name tnum = first_met (take 7 (against_member d n name tnum))
 
 -- if 64 bits hold them
 abbrev pub planned_with : ℕ → ℕ → Result Plan Fault
-planned_with offset size = unless (first_met (against_place offset size)) (Ok (record { offset = offset; size = size }))
+planned_with offset size =
+    unless (first_met (against_place offset size)) (Ok (record { offset = offset; size = size }))
 
 abbrev pub planned_at : Draft → ℕ → ℕ → ℕ → Result Plan Fault
 planned_at d n place bits = planned_with place (size_with d n place bits)
@@ -30,7 +31,8 @@ planned_shallow d n tnum offset =
 
 -- the place and the size, or why there are none
 unfoldable pub planned : Draft → ℕ → ℕ → Option ℕ → Result Plan Fault
-planned d n tnum offset = if is_deep d tnum then Err (placeless DEEP_MEMBER) else planned_shallow d n tnum offset
+planned d n tnum offset =
+    if is_deep d tnum then Err (placeless DEEP_MEMBER) else planned_shallow d n tnum offset
 
 -- the member that another one of a struct stands behind
 abbrev pub stands_behind : Body → Option Member

@@ -23,12 +23,14 @@ IsKnown known j = is_some (slice_index_or known j None) ≡ true
 
 -- or the number names no own type
 abbrev pub IsKnownAt : Draft → List (Option Reach) → ℕ → Type 0
-IsKnownAt d known n = MatchOption (own_index (is_some d.parent) (count_of d) n) (Unit {0}) (IsKnown known)
+IsKnownAt d known n =
+    MatchOption (own_index (is_some d.parent) (count_of d) n) (Unit {0}) (IsKnown known)
 
 -- what a table says is right, and it says something of all that a type leads to of which it does
 pub record Knows (d : Draft) (known : List (Option Reach)) : Type 0 where
   pub right : (j : ℕ) (r : Reach) → slice_index_or known j None ≡ Some r → IsReach d j r
-  pub closed : (j : ℕ) (r : Reach) → slice_index_or known j None ≡ Some r → AllByRecursion (IsKnownAt d known) (by_value (own_body (held d) j))
+  pub closed : (j : ℕ) (r : Reach) → slice_index_or known j None ≡ Some r
+      → AllByRecursion (IsKnownAt d known) (by_value (own_body (held d) j))
 
 -- what was found within a budget of steps
 pub record IsFound (d : Draft) (i budget : ℕ) (r : Reach) : Type 0 where
@@ -37,7 +39,8 @@ pub record IsFound (d : Draft) (i budget : ℕ) (r : Reach) : Type 0 where
 
 -- none, where more steps lead from the type
 abbrev pub Answers : Draft → ℕ → ℕ → Option Reach → Type 0
-Answers d i budget found = MatchOption found (¬ IsWithin (value_edges (held d)) budget i) (IsFound d i budget)
+Answers d i budget found =
+    MatchOption found (¬ IsWithin (value_edges (held d)) budget i) (IsFound d i budget)
 
 -- the own types that each own type leads to, as often as it names them
 abbrev pub value_places : Dictionary → Places

@@ -41,7 +41,8 @@ own_align model (term.forward tag) = Err incomplete
 own_align model term.unknown = Err incomplete
 own_align model _ = Ok 0
 
--- how many of the types that it leads to by value its alignment hangs on: of a struct's the first alone
+-- how many of the types that it leads to by value its alignment hangs on:
+-- of a struct's the first alone
 abbrev pub aligned_by : Body → ℕ
 aligned_by (term.struct said members) = min 1 (length members)
 aligned_by body = length (by_value body)

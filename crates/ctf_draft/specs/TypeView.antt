@@ -49,8 +49,10 @@ abbrev pub body_of : Body → term.Body
 body_of owned.Unknown = term.unknown
 body_of (owned.Scalar kind size e) = scalar_body kind (scalar_of size e)
 body_of (owned.Reference kind t) = reference_body kind t.0
-body_of (owned.Array a) = term.array (record { size = 0; contents = a.contents.0; index = a.index.0; count = a.count })
-body_of (owned.Function returned arguments) = term.function returned.0 (map number_of arguments.items)
+body_of (owned.Array a) =
+    term.array (record { size = 0; contents = a.contents.0; index = a.index.0; count = a.count })
+body_of (owned.Function returned arguments) =
+    term.function returned.0 (map number_of arguments.items)
 body_of (owned.Aggregate kind size members) = aggregate_body kind size (map member_of members.items)
 body_of (owned.Enum size enumerators) = term.enum size (map enumerator_of enumerators.items)
 body_of (owned.Forward tag) = term.forward (tag_of tag)

@@ -5,7 +5,8 @@ ghost use Rattle.ctf_draft.specs.ParentView.{FitsParent, parent_in};
 ghost use Rattle.ctf_draft.specs.TypeView.{type_of};
 ghost use Rattle.ctf_model.specs.Dictionary.{Denotes, said_by};
 ghost use Rattle.ctf_model.specs.DraftLaws.{IsSound};
-ghost use Rattle.ctf_model.specs.Drafts.{all_of, discarded, held, is_childs as is_childs_parent, new_draft, pending_count, settled};
+ghost use Rattle.ctf_model.specs.Drafts.{above, all_of, discarded, held, is_childs as is_childs_parent, is_of_other as is_of_other_model, new_draft, pending_count, settled};
+ghost use Rattle.ctf_model.specs.Kept.{modelled_by};
 ghost use Rattle.ctf_model.specs.Refusals.{want_of_memory};
 
 use crate::labels::Labels;
@@ -67,8 +68,9 @@ impl Model for Draft {
 }
 
 impl Draft {
-    /// A draft with nothing in it. It has a parent just where that has a name, and keeps it for
-    /// good.
+    /// A draft with nothing in it. It has a parent just where that has a name,
+    /// of its own data model,
+    /// and keeps it for good.
     #[tactic(auto, unfolding(ctf_model::specs::Drafts::new_draft))]
     pub fn new(
         alloc: Global,
@@ -78,10 +80,10 @@ impl Draft {
         model: DataModel,
     ) -> Result<Draft, Fault>
         requires named { is_some parent ≡ not (length parname == 0) }
-        ensures ok { IfOk result (λ d. (new_draft (option_map (λ p. said_by p.value.lists) parent)
+        ensures ok { IfOk result (λ d. (new_draft (option_map (λ p. modelled_by p.value) parent)
             parname parlabel model ≡ Ok d.draft) × (d.dictionary ≡ None)) }
         ensures exact_err { IfErr result (λ f. (f ≡ want_of_memory) ⊎ (new_draft
-            (option_map (λ p. said_by p.value.lists) parent) parname parlabel model ≡ Err f)) }
+            (option_map (λ p. modelled_by p.value) parent) parname parlabel model ≡ Err f)) }
     {
         if has_zero(parname.as_slice()) {
             return Err(placeless(Fault::NAME_HAS_ZERO));
@@ -91,6 +93,9 @@ impl Draft {
         }
         if is_childs(&parent) {
             return Err(placeless(Fault::PARENT_IS_CHILD));
+        }
+        if is_of_other(model, &parent) {
+            return Err(placeless(Fault::MODEL_DIFFERS));
         }
         let Ok(parent) = kept(alloc, parent, model) else {
             return Err(placeless(Fault::MEMORY));
@@ -191,10 +196,20 @@ impl Draft {
 
 /// Whether a parent is a child itself.
 fn is_childs(parent: &Option<Rc<Opened>>) -> bool
-    ensures { result ≡ is_childs_parent (option_map (λ p. said_by p.value.lists) parent.now) }
+    ensures { result ≡ is_childs_parent (above (option_map (λ p. modelled_by p.value) parent.now)) }
 {
     match parent {
         Some(parent) => parent.view().child(),
+        None => false,
+    }
+}
+
+/// Whether a parent is of another data model.
+fn is_of_other(model: DataModel, parent: &Option<Rc<Opened>>) -> bool
+    ensures { result ≡ is_of_other_model model (option_map (λ p. modelled_by p.value) parent.now) }
+{
+    match parent {
+        Some(parent) => parent.model() != model,
         None => false,
     }
 }

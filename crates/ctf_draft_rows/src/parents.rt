@@ -1,4 +1,5 @@
 //! Drafts over a parent.
+ghost use Rattle.std.specs.Prelude.{◌≡◌, ◌==◌, false, length};
 
 use crate::making::{a_struct, add, put};
 use ctf_draft::{Draft, NewBody, ReferenceKind};
@@ -29,30 +30,23 @@ fn opened(alloc: Global, model: DataModel) -> Result<Rc<Opened>, AllocError> {
     }
 }
 
-/// A draft over the parent, for 4 bytes a pointer.
-fn over_parent(alloc: Global) -> Option<Draft> {
+/// A draft over the parent, which has 4 bytes a pointer.
+fn over_parent(alloc: Global, parname: &[u8], model: DataModel) -> Result<Draft, Fault>
+    requires named { (length parname.now == 0) ≡ false }
+{
     let Ok(parent) = opened(alloc, DataModel::Ilp32) else {
-        return None;
+        return Err(placeless(Fault::MEMORY));
     };
-    let Ok(parname) = Bytes::from_slice(alloc, b"p") else {
-        return None;
+    let Ok(parname) = Bytes::from_slice(alloc, parname) else {
+        return Err(placeless(Fault::MEMORY));
     };
-    match Draft::new(
-        alloc,
-        Some(parent),
-        parname,
-        Bytes::new(alloc),
-        DataModel::Ilp32,
-    ) {
-        Ok(draft) => Some(draft),
-        Err(_) => None,
-    }
+    Draft::new(alloc, Some(parent), parname, Bytes::new(alloc), model)
 }
 
 #[test]
 fn a_childs_members_are_placed_by_the_parent(rt: HostRuntime) {
     let alloc = rt.alloc();
-    let Some(mut draft) = over_parent(alloc) else {
+    let Ok(mut draft) = over_parent(alloc, b"p", DataModel::Ilp32) else {
         assert!(rt; false);
         return;
     };
@@ -63,4 +57,14 @@ fn a_childs_members_are_placed_by_the_parent(rt: HostRuntime) {
     assert!(rt; put(alloc, &mut draft, 0x8001, b"p", 2, None) == Ok(32));
     assert!(rt; put(alloc, &mut draft, 1, b"a", 3, None) == Err(placeless(Fault::SETTLED)));
     assert!(rt; draft.parent().is_some());
+}
+
+#[test]
+fn a_parent_is_of_the_drafts_model(rt: HostRuntime) {
+    let alloc = rt.alloc();
+    let differs = placeless(Fault::MODEL_DIFFERS);
+    assert!(rt; over_parent(alloc, b"p", DataModel::Lp64).err() == Some(differs));
+    let has_zero = placeless(Fault::NAME_HAS_ZERO);
+    assert!(rt; over_parent(alloc, b"p\0", DataModel::Lp64).err() == Some(has_zero));
+    assert!(rt; over_parent(alloc, b"p", DataModel::Ilp32).err() == None);
 }

@@ -7,13 +7,11 @@ use Rattle.ctf_dump.specs.declared.line.DumpFault.{DumpFault}
 use Rattle.ctf_dump.specs.declared.line.DumpFault.TheVariants as fault
 use Rattle.ctf_dump.specs.declared.inputs.InputFile.{InputFile}
 use Rattle.ctf_dump.specs.declared.inputs.Inputs.{Inputs}
-use Rattle.ctf_model.specs.Dictionary.{said_by}
 use Rattle.ctf_model.specs.FaultNames.{name_of_fault}
 use Rattle.ctf_model.specs.Faults.{first_fault}
 use Rattle.ctf_model.specs.Lists.{Lists}
 use Rattle.ctf_model.specs.Space.{Space}
-use Rattle.ctf_model.specs.Steps.{fault_over}
-use Rattle.ctf_model.specs.declared.data_model.DataModel.TheVariants.{Lp64}
+use Rattle.ctf_model.specs.Kept.{Kept, fault_over, kept_space, kept_unsaid}
 use Rattle.ctf_model.specs.declared.faults.Fault.{Fault}
 
 -- ---- what is dumped
@@ -29,9 +27,16 @@ own_lists i = record { ctf = i.ctf.bytes.now; sym = bytes_of i.sym; strs = bytes
 abbrev pub parent_lists : InputFile → Lists
 parent_lists f = record { ctf = f.bytes.now; sym = None; strs = None }
 
+-- files say no data model
+abbrev pub own_kept : Inputs → Kept
+own_kept i = kept_unsaid (own_lists i)
+
+abbrev pub parent_kept : InputFile → Kept
+parent_kept f = kept_unsaid (parent_lists f)
+
 -- the dictionary over its parent, where one is handed in
 abbrev pub space_in : Inputs → Space
-space_in i = record { own = said_by (own_lists i); parent = option_map (λ p. said_by (parent_lists p)) i.parent; model = Lp64 }
+space_in i = kept_space (own_kept i) (option_map parent_kept i.parent)
 
 -- ---- what is refused
 
@@ -49,10 +54,13 @@ abbrev pub or_else : Option Refusal → Option Refusal → Option Refusal
 or_else None second = second
 or_else (Some r) second = Some r
 
--- the parent is judged by itself, and then as the parent of this dictionary, whose file is named where it does not fit
+-- the parent is judged by itself, and then as the parent of this dictionary,
+-- whose file is named where it does not fit
 abbrev pub over : Inputs → Option InputFile → Option Refusal
 over i None = None
-over i (Some p) = or_else (in_file p (first_fault (parent_lists p))) (in_file i.ctf (fault_over (own_lists i) (parent_lists p)))
+over i (Some p) =
+    or_else (in_file p (first_fault (parent_lists p)))
+    (in_file i.ctf (fault_over (own_kept i) (parent_kept p)))
 
 -- the dictionary is judged first
 abbrev pub refusal : Inputs → Option Refusal
@@ -82,7 +90,8 @@ end_after fault.Write = Write
 -- what is said of an end, behind the program's name
 abbrev pub end_text : DumpEnd → List ℕ
 end_text (Unread file) = file.now ++ codes ": Read"
-end_text (Refused file fault) = file.now ++ (codes ": " ++ (name_of_fault fault.code ++ (codes " at " ++ decimal fault.place)))
+end_text (Refused file fault) =
+    file.now ++ (codes ": " ++ (name_of_fault fault.code ++ (codes " at " ++ decimal fault.place)))
 end_text Memory = codes "Memory"
 end_text Write = codes "Write"
 
@@ -93,7 +102,8 @@ status_after (Unread file) = 3
 status_after Write = 3
 status_after Memory = 4
 
--- the exit statuses that a dump of these may have: it is done or a write failed, or it is refused; memory can be wanted at any time
+-- the exit statuses that a dump of these may have: it is done or a write failed, or it is refused;
+-- memory can be wanted at any time
 abbrev pub MayAnswer : Option Refusal → ℕ → Type 0
 MayAnswer None status = (status ≡ 0) ⊎ ((status ≡ 3) ⊎ (status ≡ 4))
 MayAnswer (Some r) status = (status ≡ 1) ⊎ (status ≡ 4)

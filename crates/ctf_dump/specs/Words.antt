@@ -1,4 +1,5 @@
--- The text of a type's line, from what is found of the type. What a whole line is stands in Dump.antt of ctf_model; here
+-- The text of a type's line, from what is found of the type.
+-- What a whole line is stands in Dump.antt of ctf_model; here
 -- words are joined to one text.
 use Rattle.std.specs.Prelude.{ℕ, ◌++◌, Bool, true, false, List, [], ◌∷◌, Option, Some, None, codes, decimal}
 use Rattle.std.specs.List.{flat_map}
@@ -26,23 +27,30 @@ abbrev pub signature_text : ℕ → List ℕ → List ℕ
 signature_text ret args = codes " return=" ++ (decimal ret ++ (codes " args=" ++ numbers args))
 
 abbrev pub object_text : ℕ → List ℕ → ℕ → List ℕ
-object_text number name t = line_of (codes "object") (decimal number ∷ in_quotes name ∷ decimal t ∷ [])
+object_text number name t =
+    line_of (codes "object") (decimal number ∷ in_quotes name ∷ decimal t ∷ [])
 
 abbrev pub function_text : ℕ → List ℕ → Signature → List ℕ
-function_text number name f = line_of (codes "function") (decimal number ∷ in_quotes name ∷ signature_words f.ret f.args)
+function_text number name f =
+    line_of (codes "function") (decimal number ∷ in_quotes name ∷ signature_words f.ret f.args)
 
 abbrev pub parent_text : Dictionary → List ℕ
-parent_text d = codes " parname=" ++ (in_quotes d.parname ++ (codes " parlabel=" ++ in_quotes d.parlabel))
+parent_text d =
+    codes " parname=" ++ (in_quotes d.parname ++ (codes " parlabel=" ++ in_quotes d.parlabel))
 
 abbrev pub returned_text : Option ℕ → List ℕ → List ℕ
 returned_text None args = []
 returned_text (Some ret) args = signature_text ret args
 
 abbrev pub array_text : ArrayParts → List ℕ
-array_text a = codes " contents=" ++ (decimal a.contents ++ (codes " index=" ++ (decimal a.index ++ (codes " count=" ++ decimal a.count))))
+array_text a =
+    codes " contents=" ++ (decimal a.contents ++ (codes " index=" ++ (decimal a.index
+    ++ (codes " count=" ++ decimal a.count))))
 
 abbrev pub encoding_text : EncodingParts → List ℕ
-encoding_text e = codes " encoding=" ++ (decimal e.encoding ++ (codes " offset=" ++ (decimal e.offset ++ (codes " bits=" ++ decimal e.bits))))
+encoding_text e =
+    codes " encoding=" ++ (decimal e.encoding ++ (codes " offset=" ++ (decimal e.offset
+    ++ (codes " bits=" ++ decimal e.bits))))
 
 abbrev pub root_text : Bool → List ℕ
 root_text true = codes " root"
@@ -65,11 +73,15 @@ shape_text x = behind_text x.behind x
 
 -- a type with a number
 abbrev pub facts_text : ℕ → Facts → List ℕ
-facts_text n x = codes "type " ++ (decimal n ++ (codes " " ++ (name_of_kind x.shape.kind ++ (codes " " ++ (in_quotes x.name ++ (root_text x.root ++ shape_text x.shape))))))
+facts_text n x =
+    codes "type " ++ (decimal n ++ (codes " " ++ (name_of_kind x.shape.kind ++ (codes " "
+    ++ (in_quotes x.name ++ (root_text x.root ++ shape_text x.shape))))))
 
 -- how it is spelled, and what it comes to
 abbrev pub figures_text : Space → ℕ → List ℕ
-figures_text s n = codes " : " ++ (or_fault in_quotes (spelled_name s n) ++ (codes " bytes=" ++ (or_fault decimal (size s n) ++ (codes " align=" ++ or_fault decimal (align s n)))))
+figures_text s n =
+    codes " : " ++ (or_fault in_quotes (spelled_name s n) ++ (codes " bytes="
+    ++ (or_fault decimal (size s n) ++ (codes " align=" ++ or_fault decimal (align s n)))))
 
 -- the line of a type that has these facts
 abbrev pub typed_text : Space → ℕ → Facts → List ℕ

@@ -12,7 +12,8 @@ pub struct InputFile<'a> {
     pub bytes: &'a [u8],
 }
 
-/// A dictionary, and where they are there its parent, the symbols of its program, and their strings.
+/// A dictionary, and where they are there its parent, the symbols of its program,
+/// and their strings.
 #[derive(Clone, Copy)]
 pub struct Inputs<'a> {
     pub ctf: InputFile<'a>,

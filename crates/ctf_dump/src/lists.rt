@@ -88,7 +88,7 @@ fn dump_over<'a, W: Write>(
 {
     let starts = judged(alloc, parent, parent.lists())?;
     let dictionary = Checked::indexed(parent.lists(), starts.as_slice());
-    match Space::over(own, dictionary, DataModel::Lp64) {
+    match Space::over(own, DataModel::Lp64, dictionary, DataModel::Lp64) {
         Ok(space) => dump_space(alloc, &space, out),
         Err(fault) => Err(DumpEnd::Refused(inputs.ctf.name, fault)),
     }

@@ -17,4 +17,7 @@ entries_left r = entries_of (symbols_left r) r.objects.now r.functions.now
 
 -- what was found is the first of them, and what is behind it
 abbrev pub IsFirst : Untold → Found → Type 0
-IsFirst r f = symbols_left r ≡ numbered f.first ∷ considered_from (f.first.number + 1) (symbols_of (strings_of r.names) f.behind.now)
+IsFirst r f =
+    symbols_left r
+    ≡ numbered f.first
+    ∷ considered_from (f.first.number + 1) (symbols_of (strings_of r.names) f.behind.now)

@@ -6,4 +6,6 @@ use Rattle.ctf_model.specs.Symbols.{Symbol}
 
 -- the first of the functions with a bad entry
 unfoldable pub bad_place : List (ℕ × Symbol) → List ℕ → Option ℕ
-bad_place xs functions = first_where (λ site. is_bad_entry site.left) (λ site. site.number) (function_sites_of xs functions)
+bad_place xs functions =
+    first_where (λ site. is_bad_entry site.left) (λ site. site.number)
+    (function_sites_of xs functions)

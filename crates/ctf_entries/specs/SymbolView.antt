@@ -8,7 +8,13 @@ use Rattle.ctf_entries.specs.declared.considered.Numbered.{Numbered}
 
 -- its name goes up to the first zero byte
 abbrev pub symbol : lent.Symbol → Symbol
-symbol x = record { name = before_first is_zero x.text.now; sort = x.sort; section = x.section; value = x.value }
+symbol x =
+    record {
+      name = before_first is_zero x.text.now;
+      sort = x.sort;
+      section = x.section;
+      value = x.value;
+    }
 
 abbrev pub numbered_symbol : ℕ → lent.Symbol → ℕ × Symbol
 numbered_symbol n x = (n, symbol x)

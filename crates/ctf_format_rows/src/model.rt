@@ -1,12 +1,17 @@
 //! The calls of ctf_model.
 
 use crate::joined;
-use ctf_model::{Bytes, Fault, Piece, Place, SlotNumber, TypeNum, fault_name, placeless};
+use ctf_model::{Bytes, Fault, Piece, Place, TypeNum, fault_name, placeless};
 use std::test::Fail;
 
 #[test]
 fn names_faults(rt: HostRuntime) {
-    for (code, want) in [(0, "Memory"), (Fault::BAD_NAME, "BadName"), (61, "")] {
+    for (code, want) in [
+        (0, "Memory"),
+        (Fault::BAD_NAME, "BadName"),
+        (Fault::QUOTA_FULL, "QuotaFull"),
+        (63, ""),
+    ] {
         assert!(rt; fault_name(code) == want, "at {code}");
     }
     assert!(rt; placeless(Fault::NO_SLOT).code == 49);
@@ -40,12 +45,6 @@ fn copies_and_appends(rt: HostRuntime) -> Result<(), Fail> {
     let both = joined(alloc, &[7u8], &[8u8, 9])?;
     assert!(rt; both.as_slice() == [7u8, 8, 9].as_slice());
     Ok(())
-}
-
-#[test]
-fn numbers_slots(rt: HostRuntime) {
-    assert!(rt; SlotNumber::new(0).is_none() == true);
-    assert!(rt; SlotNumber::new(7).map(SlotNumber::get) == Some(7));
 }
 
 #[test]

@@ -32,7 +32,8 @@ of_function model = Itself (record { size = Known 0; align = Known (pointer_size
 -- its elements, and how many
 abbrev pub of_array : ℕ → Option ArrayParts → Basis
 of_array size None = of_nothing
-of_array size (Some parts) = One (record { 0 = parts.contents }) (Some (record { size = size; count = parts.count }))
+of_array size (Some parts) =
+    One (record { 0 = parts.contents }) (Some (record { size = size; count = parts.count }))
 
 -- the type that it stands for
 abbrev pub of_other : Option ℕ → Basis

@@ -21,7 +21,8 @@ entry table j = slice_index_or table j None
 
 -- what it says is right
 pub record Knows (s : Space) (table : Table) : Type 0 where
-  pub right : (j : ℕ) (e : Extent) → entry table j ≡ Some e → IsExtent s (own_number s.own.child j) e
+  pub right : (j : ℕ) (e : Extent) → entry table j ≡ Some e
+      → IsExtent s (own_number s.own.child j) e
 
 -- nothing is forgotten or changed
 pub record Keeps (before after : Table) : Type 0 where
@@ -62,7 +63,8 @@ pub record IsUnderway (s : Space) (i : ℕ) (before after : Table) (from to : �
   pub steps : to + work_left s.own.terms after ≡ from + work_left s.own.terms before
 
 -- after the visit of type i
-pub record IsVisited (s : Space) (i : ℕ) (before after : Table) (from to : ℕ) (e : Extent) : Type 0 where
+pub record IsVisited (s : Space) (i : ℕ) (before after : Table) (from to : ℕ)
+    (e : Extent) : Type 0 where
   pub right : IsExtent s (own_number s.own.child i) e
   pub knows : Knows s after
   pub known : entry after i ≡ Some e

@@ -1,4 +1,5 @@
--- What the sizes and alignments of all types cost: one step for each type, and one for each member that is read. Source: ours.
+-- What the sizes and alignments of all types cost: one step for each type,
+-- and one for each member that is read. Source: ours.
 use Rattle.std.specs.Prelude.{ℕ, ◌+◌, List, [], length, sum_by, Option, Some, None}
 use Rattle.ctf_model.specs.Dictionary.{Dictionary}
 use Rattle.ctf_model.specs.Space.{Space}

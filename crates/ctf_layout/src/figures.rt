@@ -11,7 +11,8 @@ use ctf_model::{Fault, Kind, Place, TypeNum, placeless};
 use ctf_space::Space;
 use ctf_views::Variant;
 
-/// As many numbers as can follow on each other in a dictionary: the longest chain of steps, one type
+/// As many numbers as can follow on each other in a dictionary:
+/// the longest chain of steps, one type
 /// more, and what stands behind that.
 const MOST_NUMBERS: u16 = 514;
 
@@ -25,7 +26,8 @@ fn renamed(x: &Shape<'_>) -> Option<TypeNum>
     }
 }
 
-/// Follows typedefs and qualifiers as far as own types lead. A parent's number is left as it stands.
+/// Follows typedefs and qualifiers as far as own types lead.
+/// A parent's number is left as it stands.
 fn follow(space: &Space<'_>, number: TypeNum) -> Result<TypeNum, Fault>
     ensures { result_map_both (λ t. t.0) (λ f. f) result
         ≡ followed (space_of space.now).own number.0 }

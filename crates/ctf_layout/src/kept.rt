@@ -12,7 +12,8 @@ use ctf_chains::Ticks;
 use std::alloc::{AllocError, Global};
 use std::sync::ledger::Ledger;
 
-/// The extents of the own types of a dictionary, in the order of their numbers: plain numbers, which
+/// The extents of the own types of a dictionary, in the order of their numbers:
+/// plain numbers, which
 /// borrow nothing.
 #[derive(Drop)]
 pub struct Extents {

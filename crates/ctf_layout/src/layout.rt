@@ -23,7 +23,8 @@ use std::marker::Brand;
 use std::rc::Rc;
 use std::sync::ledger::{Blank, Ledger};
 
-/// The sizes and alignments of the types of a dictionary, and of its parent's where it has one, found
+/// The sizes and alignments of the types of a dictionary,
+/// and of its parent's where it has one, found
 /// once: a look-up takes constant time, and no memory.
 ///
 /// It keeps plain numbers, 24 bytes for each own type, and borrows nothing. Those of a parent are

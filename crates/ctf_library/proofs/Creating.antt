@@ -1,45 +1,43 @@
 -- What a create comes to.
 use Rattle.std.proofs.Common.{◌≡◌, ℕ, Option, Some, None, Result, Ok, Err, true, is_some, refl, ap, sym, ◌∙◌, ◌⊎◌, inl, inr}
 use Rattle.std.specs.Prelude.{option_map, option_and_then}
-use Rattle.ctf_library.specs.Drafting.{AreWritten}
-use Rattle.ctf_model.specs.Creations.{Created}
-use Rattle.ctf_model.specs.Dictionary.{said_by}
-use Rattle.ctf_model.specs.DraftSteps.{created_slot, slot_of_draft, updated_slot}
+use Rattle.ctf_library.specs.Drafting.{IsWritten}
+use Rattle.ctf_protocol.specs.Creations.{Created}
+use Rattle.ctf_protocol.specs.DraftSteps.{created_slot, slot_of_draft, updated_slot}
 use Rattle.ctf_model.specs.Drafts.{Draft, held, new_draft, settled}
-use Rattle.ctf_model.specs.Lists.{Lists}
-use Rattle.ctf_model.specs.State.{Slot, State}
-use Rattle.ctf_model.specs.Steps.{adds_created, creates, creates_from, creates_over, has_room, refuses, slot_at}
+use Rattle.ctf_model.specs.Kept.{Kept, model_over, modelled_by}
+use Rattle.ctf_protocol.specs.State.{Slot, State}
+use Rattle.ctf_protocol.specs.Steps.{adds_created, creates, creates_from, creates_over, has_room, refuses, slot_at}
 use Rattle.ctf_model.specs.Written.{lists_of, written}
-use Rattle.ctf_model.specs.declared.data_model.DataModel.TheVariants.{Lp64}
 use Rattle.ctf_model.specs.declared.faults.Fault.{Fault}
 use Rattle.ctf_model.specs.declared.faults.TheConstants.Fault.{NO_SLOT}
 
 -- ---- the slot
 
-abbrev pub MadeOf : Option Lists → Created → Result Draft Fault
-MadeOf above asked = new_draft (option_map said_by above) asked.parname asked.parlabel Lp64
+abbrev pub MadeOf : Option Kept → Created → Result Draft Fault
+MadeOf above asked = new_draft (option_map modelled_by above) asked.parname asked.parlabel (model_over above)
 
-created_done : (n : ℕ) (above : Option Lists) (asked : Created) (d : Draft) (lists : Lists) → MadeOf above asked ≡ Ok d → AreWritten d lists → created_slot n above asked ≡ Ok (record { number = n; lists = lists; parent = above; draft = Some (settled d) })
+created_done : (n : ℕ) (above : Option Kept) (asked : Created) (d : Draft) (kept : Kept) → MadeOf above asked ≡ Ok d → IsWritten d kept → created_slot n above asked ≡ Ok (record { number = n; kept = kept; parent = above; draft = Some (settled d) })
 unfolding created_slot
-created_done n above asked d lists made w =
-    let written_so : slot_of_draft n above (Ok d) ≡ Ok (record { number = n; lists = lists_of lists.ctf; parent = above; draft = Some (settled d) }) = ap (updated_slot n above d) w.bytes in
-    ap (slot_of_draft n above) made ∙ written_so ∙ ap (λ (l : Lists). Ok (record { number = n; lists = l; parent = above; draft = Some (settled d) })) (sym w.alone)
+created_done n above asked d kept made w =
+    let written_so : slot_of_draft n above (Ok d) ≡ Ok (record { number = n; kept = record { lists = lists_of kept.lists.ctf; model = d.model }; parent = above; draft = Some (settled d) }) = ap (updated_slot n above d) w.bytes in
+    ap (slot_of_draft n above) made ∙ written_so ∙ ap (λ (k : Kept). Ok (record { number = n; kept = k; parent = above; draft = Some (settled d) })) (sym w.alone)
 
 -- the same of a parent and a draft that are known by equations
-pub created_as : (n : ℕ) (above parent : Option Lists) (asked : Created) (d now : Draft) (lists : Lists) → MadeOf above asked ≡ Ok d → AreWritten d lists → parent ≡ above → now ≡ settled d → created_slot n above asked ≡ Ok (record { number = n; lists = lists; parent = parent; draft = Some now })
-created_as n above parent asked d now lists made w same settles = rw (same, settles) (created_done n above asked d lists made w)
+pub created_as : (n : ℕ) (above parent : Option Kept) (asked : Created) (d now : Draft) (kept : Kept) → MadeOf above asked ≡ Ok d → IsWritten d kept → parent ≡ above → now ≡ settled d → created_slot n above asked ≡ Ok (record { number = n; kept = kept; parent = parent; draft = Some now })
+created_as n above parent asked d now kept made w same settles = rw (same, settles) (created_done n above asked d kept made w)
 
-pub created_unwritten : (n : ℕ) (above : Option Lists) (asked : Created) (d : Draft) (f : Fault) → MadeOf above asked ≡ Ok d → written (held d) ≡ Err f → created_slot n above asked ≡ Err f
+pub created_unwritten : (n : ℕ) (above : Option Kept) (asked : Created) (d : Draft) (f : Fault) → MadeOf above asked ≡ Ok d → written (held d) ≡ Err f → created_slot n above asked ≡ Err f
 unfolding created_slot
 created_unwritten n above asked d f made refused = ap (slot_of_draft n above) made ∙ ap (updated_slot n above d) refused
 
-pub created_unmade : (n : ℕ) (above : Option Lists) (asked : Created) (f : Fault) → MadeOf above asked ≡ Err f → created_slot n above asked ≡ Err f
+pub created_unmade : (n : ℕ) (above : Option Kept) (asked : Created) (f : Fault) → MadeOf above asked ≡ Err f → created_slot n above asked ≡ Err f
 unfolding created_slot
 created_unmade n above asked f refused = ap (slot_of_draft n above) refused
 
 -- ---- the library
 
-from_there : (o : Option ℕ) (asked : Created) (state : State) (above : Option Lists) → above ≡ option_and_then (λ d. option_map (λ (s : Slot). s.lists) (slot_at d state.slots)) o → is_some above ≡ is_some o → creates_from o asked state ≡ creates_over above asked state
+from_there : (o : Option ℕ) (asked : Created) (state : State) (above : Option Kept) → above ≡ option_and_then (λ d. option_map (λ (s : Slot). s.kept) (slot_at d state.slots)) o → is_some above ≡ is_some o → creates_from o asked state ≡ creates_over above asked state
 from_there None asked state above is there = rw is refl
 from_there (Some p) asked state above is there = at (slot_at p state.slots) refl
   where
@@ -49,7 +47,7 @@ from_there (Some p) asked state above is there = at (slot_at p state.slots) refl
         let clash = rw none at there in
         absurd cc
     at (Some slot) e =
-        let some : above ≡ Some slot.lists = rw e at is in
+        let some : above ≡ Some slot.kept = rw e at is in
         rw (e, some) refl
 
 pub from_nowhere : (o : Option ℕ) (asked : Created) (state : State) → option_and_then (λ d. slot_at d state.slots) o ≡ None → is_some o ≡ true → creates_from o asked state ≡ refuses NO_SLOT state
@@ -66,9 +64,9 @@ pub map_there : {A B : Type 0} (f : A → B) (o : Option A) → is_some (option_
 map_there f None = refl
 map_there f (Some a) = refl
 
-with_room : (above : Option Lists) (asked : Created) (state : State) (r : Result Slot Fault) → has_room state ≡ true → created_slot state.next above asked ≡ r → creates_over above asked state ≡ adds_created r state
+with_room : (above : Option Kept) (asked : Created) (state : State) (r : Result Slot Fault) → has_room state ≡ true → created_slot state.next above asked ≡ r → creates_over above asked state ≡ adds_created r state
 with_room above asked state r room is = rw (room, is) refl
 
-pub creates_done : (asked : Created) (state : State) (above : Option Lists) (n : ℕ) (r : Result Slot Fault) → above ≡ option_and_then (λ d. option_map (λ (s : Slot). s.lists) (slot_at d state.slots)) asked.parent → is_some above ≡ is_some asked.parent → has_room state ≡ true → n ≡ state.next → created_slot n above asked ≡ r → creates asked state ≡ adds_created r state
+pub creates_done : (asked : Created) (state : State) (above : Option Kept) (n : ℕ) (r : Result Slot Fault) → above ≡ option_and_then (λ d. option_map (λ (s : Slot). s.kept) (slot_at d state.slots)) asked.parent → is_some above ≡ is_some asked.parent → has_room state ≡ true → n ≡ state.next → created_slot n above asked ≡ r → creates asked state ≡ adds_created r state
 creates_done asked state above n r is there room next made =
     from_there asked.parent asked state above is there ∙ with_room above asked state r room (ap (λ (k : ℕ). created_slot k above asked) (sym next) ∙ made)

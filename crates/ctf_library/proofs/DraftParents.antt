@@ -1,22 +1,26 @@
 -- What is added to a draft changes neither its parent nor its data model.
-use Rattle.std.proofs.Common.{◌≡◌, ℕ, List, Option, Some, None, Result, Ok, Err, refl, ap, sym, subst, ◌∙◌, inl, inr}
-use Rattle.std.specs.Prelude.{option_map, is_some}
+use Rattle.std.proofs.Common.{◌≡◌, ℕ, List, [], ◌∷◌, Bool, true, false, Option, Some, None, Result, Ok, Err, refl, ap, sym, subst, ◌∙◌, inl, inr}
+use Rattle.std.specs.Prelude.{◌||◌, option_map, is_some, not}
+use Rattle.std.specs.Option.{ForSome}
 use Rattle.ctf_answers.specs.declared.counts.Counts.{Counts}
 use Rattle.ctf_library.specs.Drafting.{IsEnlarged, IsUnder}
-use Rattle.ctf_model.specs.Additions.{Enlarged, body_of, enlarged, numbered, silent}
+use Rattle.ctf_protocol.specs.Additions.{Enlarged, body_of, enlarged, numbered, silent}
 use Rattle.ctf_model.specs.Adders.{Added, add_enumerator, add_label, add_member, add_type, against_enumerator, against_label, against_member, against_place, against_type, body_at, put_member, replaced, replaced_at, size_with, with_enumerator, with_label, with_member, with_type}
-use Rattle.ctf_model.specs.Dictionary.{Dictionary, Label, said_by}
-use Rattle.ctf_model.specs.Drafts.{Draft, against_draft, empty_draft, new_draft, next_number, pending_place, space_of}
-use Rattle.ctf_model.specs.Judgements.{first_met, unless, ◌then◌}
-use Rattle.ctf_model.specs.Lists.{Lists}
+use Rattle.ctf_model.specs.Dictionary.{Label}
+use Rattle.ctf_model.specs.Drafts.{Draft, above as dictionary_above, against_draft, empty_draft, has_zero, is_childs, is_of_other, new_draft, next_number, pending_place, space_of}
+use Rattle.ctf_model.specs.Judgements.{Row, first_met, unless, ◌then◌}
+use Rattle.ctf_model.specs.Imports.{Modelled, same_model}
+use Rattle.ctf_model.specs.Kept.{Kept, kept_dictionary, modelled_by}
 use Rattle.ctf_model.specs.NewTypes.{NewType, new_term}
 use Rattle.ctf_model.specs.Placement.{bits_filled, member_place}
 use Rattle.ctf_model.specs.Space.{space_type}
 use Rattle.ctf_model.specs.Term.{Body, Enumerator, Member, Term}
-use Rattle.ctf_model.specs.declared.additions.Addition.{Addition}
-use Rattle.ctf_model.specs.declared.additions.Addition.TheVariants as add
-use Rattle.ctf_model.specs.declared.data_model.DataModel.TheVariants.{Lp64}
+use Rattle.ctf_protocol.specs.declared.additions.Addition.{Addition}
+use Rattle.ctf_protocol.specs.declared.additions.Addition.TheVariants as add
+use Rattle.ctf_model.specs.declared.data_model.DataModel.{DataModel}
+use Rattle.ctf_model.specs.declared.data_model.DataModel.TheVariants.{Lp64, Ilp32}
 use Rattle.ctf_model.specs.declared.faults.Fault.{Fault}
+use Rattle.ctf_model.specs.declared.faults.TheConstants.Fault.{MODEL_DIFFERS, NAME_HAS_ZERO, PARENT_IS_CHILD}
 
 pub record AreAlike (a b : Draft) : Type 0 where
   pub parent : b.parent ≡ a.parent
@@ -101,11 +105,11 @@ enlarged_alike d (add.Enumerator t name value) a e = silent_alike d (add_enumera
 enlarged_alike d (add.Label name last) a e = silent_alike d (add_label d (record { name = name; last = last })) a (λ b h. label_alike d (record { name = name; last = last }) b h) e
 
 -- so it stays under what it was under
-pub still_under : (old new : Draft) (x : Addition) (result : Result Counts Fault) (above : Option Lists) → IsEnlarged (enlarged old x) result old new → IsUnder old above → IsUnder new above
+pub still_under : (old new : Draft) (x : Addition) (result : Result Counts Fault) (above : Option Kept) → IsEnlarged (enlarged old x) result old new → IsUnder old above → IsUnder new above
 still_under old new x result above h under = at (enlarged old x) refl h
   where
     by : AreAlike old new → IsUnder new above
-    by alike = record { parent = alike.parent ∙ under.parent; model = alike.model ∙ under.model }
+    by alike = record { parent = alike.parent ∙ under.parent; model = λ p h. under.model p h ∙ sym alike.model }
 
     same : new ≡ old → IsUnder new above
     same e = by (record { parent = ap (λ (d : Draft). d.parent) e; model = ap (λ (d : Draft). d.model) e })
@@ -117,25 +121,66 @@ still_under old new x result above h under = at (enlarged old x) refl h
 
 -- ---- new drafts
 
-made_of : (above : Option Dictionary) (parname parlabel : List ℕ) (d : Draft) → new_draft above parname parlabel Lp64 ≡ Ok d → (d.parent ≡ above) × (d.model ≡ Lp64)
-unfolding new_draft
-made_of above parname parlabel d e =
-    let done = unless_ok (first_met (against_draft above parname parlabel)) (Ok (empty_draft above parname parlabel Lp64)) d e in
-    let is : empty_draft above parname parlabel Lp64 ≡ d = cc in
-    (ap (λ (x : Draft). x.parent) (sym is), ap (λ (x : Draft). x.model) (sym is))
+-- a model that is the same as another is that one
+same_is : (a b : DataModel) → same_model a b ≡ true → b ≡ a
+same_is Lp64 Lp64 e = refl
+same_is Ilp32 Ilp32 e = refl
+same_is Lp64 Ilp32 e = absurd cc
+same_is Ilp32 Lp64 e = absurd cc
+
+not_other : (a b : DataModel) (same : Bool) → same_model a b ≡ same → not same ≡ false → b ≡ a
+not_other a b true e h = same_is a b e
+not_other a b false e h = absurd cc
+
+-- no row is met where the first one is none
+none_met : (row : Row) (rows : List Row) → first_met (row ∷ rows) ≡ None → (row.met ≡ false) × (first_met rows ≡ None)
+none_met row rows e = at row.met refl e
+  where
+    at : (met : Bool) → row.met ≡ met → first_met (row ∷ rows) ≡ None → (row.met ≡ false) × (first_met rows ≡ None)
+    at false m h = let rest = rw m at h in (m, rest)
+    at true m h = let clash = rw m at h in absurd cc
+
+-- nothing is against a draft that is made
+none_against : {A : Type 0} (fault : Option Fault) (done : Result A Fault) (a : A) → unless fault done ≡ Ok a → fault ≡ None
+none_against None done a e = refl
+none_against (Some f) done a e = absurd cc
+
+made_alike : (parent : Option Kept) (model : DataModel) → is_of_other model (option_map modelled_by parent) ≡ false → ForSome parent (λ p. p.model ≡ model)
+made_alike None model e = λ p h. absurd cc
+made_alike (Some p) model e = λ q h. let is : p ≡ q = cc in subst (λ (k : Kept). k.model ≡ model) is (not_other model p.model _ refl e)
 
 map_twice : {A B C : Type 0} (f : A → B) (g : B → C) (o : Option A) → option_map (λ a. g (f a)) o ≡ option_map g (option_map f o)
 map_twice f g None = refl
 map_twice f g (Some a) = refl
 
-pub made_under : {P : Type 0} (lists : P → Lists) (parent : Option P) (above : Option Lists) (parname parlabel : List ℕ) (d : Draft) → option_map lists parent ≡ above → new_draft (option_map (λ p. said_by (lists p)) parent) parname parlabel Lp64 ≡ Ok d → IsUnder d above
-made_under lists parent above parname parlabel d same e =
-    let made = made_of (option_map (λ p. said_by (lists p)) parent) parname parlabel d e in
-    record { parent = made.0 ∙ map_twice lists said_by parent ∙ ap (option_map said_by) same; model = made.1 }
+made_of : (above : Option Kept) (parname parlabel : List ℕ) (model : DataModel) (d : Draft) → new_draft (option_map modelled_by above) parname parlabel model ≡ Ok d → IsUnder d above
+unfolding new_draft
+made_of above parname parlabel model d e =
+    let given = option_map modelled_by above in
+    let rows = against_draft given parname parlabel model in
+    let empty = empty_draft (dictionary_above given) parname parlabel model in
+    let none = none_against (first_met rows) (Ok empty) d e in
+    let zero_row : Row = record { code = NAME_HAS_ZERO; met = has_zero parname || has_zero parlabel } in
+    let child_row : Row = record { code = PARENT_IS_CHILD; met = is_childs (dictionary_above given) } in
+    let model_row : Row = record { code = MODEL_DIFFERS; met = is_of_other model given } in
+    let first = none_met zero_row (child_row ∷ model_row ∷ []) none in
+    let second = none_met child_row (model_row ∷ []) first.1 in
+    let third = none_met model_row [] second.1 in
+    let done = unless_ok (first_met rows) (Ok empty) d e in
+    let is : empty ≡ d = cc in
+    let parents : dictionary_above given ≡ option_map kept_dictionary above = sym (map_twice modelled_by (λ m. m.dictionary) above) in
+    record {
+      parent = ap (λ (x : Draft). x.parent) (sym is) ∙ parents;
+      model = subst (λ (x : Draft). ForSome above (λ p. p.model ≡ x.model)) is (made_alike above model third.0);
+    }
+
+pub made_under : {P : Type 0} (kept : P → Kept) (parent : Option P) (above : Option Kept) (parname parlabel : List ℕ) (model : DataModel) (d : Draft) → option_map kept parent ≡ above → new_draft (option_map (λ p. modelled_by (kept p)) parent) parname parlabel model ≡ Ok d → IsUnder d above
+made_under kept parent above parname parlabel model d same e =
+    made_of above parname parlabel model d (ap (λ (o : Option Modelled). new_draft o parname parlabel model) (sym (map_twice kept modelled_by parent ∙ ap (option_map modelled_by) same)) ∙ e)
 
 -- one is there just where its lists are
-pub there : {P R : Type 0} (lists : P → Lists) (o : Option P) (now : R → Lists) (r : Option R) → option_map lists o ≡ option_map now r → is_some o ≡ is_some r
-there lists None now None e = refl
-there lists None now (Some r) e = absurd cc
-there lists (Some p) now None e = absurd cc
-there lists (Some p) now (Some r) e = refl
+pub there : {P R : Type 0} (kept : P → Kept) (o : Option P) (now : R → Kept) (r : Option R) → option_map kept o ≡ option_map now r → is_some o ≡ is_some r
+there kept None now None e = refl
+there kept None now (Some r) e = absurd cc
+there kept (Some p) now None e = absurd cc
+there kept (Some p) now (Some r) e = refl

@@ -6,15 +6,15 @@ use Rattle.ctf_library.proofs.Numbered.{IsPlace}
 use Rattle.ctf_library.specs.Drafting.{HaveStepped, IsStepped}
 use Rattle.ctf_library.specs.SlotView.{slot_of}
 use Rattle.ctf_library.specs.declared.slots.Slot as own
-use Rattle.ctf_model.specs.Answers.{Answer}
-use Rattle.ctf_model.specs.DraftSteps.{draft_step, slot_step, slots_with, step_if_draft}
+use Rattle.ctf_protocol.specs.Answers.{Answer}
+use Rattle.ctf_protocol.specs.DraftSteps.{draft_step, slot_step, slots_with, step_if_draft}
 use Rattle.ctf_model.specs.Drafts.{Draft}
 use Rattle.ctf_model.specs.Refusals.{want_of_memory}
-use Rattle.ctf_model.specs.State.{Slot}
-use Rattle.ctf_model.specs.Steps.{slot_at}
+use Rattle.ctf_protocol.specs.State.{Slot}
+use Rattle.ctf_protocol.specs.Steps.{slot_at}
 use Rattle.ctf_model.specs.declared.faults.Fault.{Fault}
-use Rattle.ctf_model.specs.declared.requests.DraftStep.{DraftStep}
-use Rattle.ctf_model.specs.declared.requests.DraftStep.TheVariants.{Discard}
+use Rattle.ctf_protocol.specs.declared.requests.DraftStep.{DraftStep}
+use Rattle.ctf_protocol.specs.declared.requests.DraftStep.TheVariants.{Discard}
 
 -- a slot in its own place changes nothing
 kept_at : (n : ℕ) (s x : Slot) (xs : List Slot) → (slot_at n xs ≡ Some s → slots_with n s xs ≡ xs) → (t : Bool) → eqb x.number n ≡ t → slot_at n (x ∷ xs) ≡ Some s → slots_with n s (x ∷ xs) ≡ x ∷ xs

@@ -2,18 +2,18 @@
 use Rattle.std.proofs.Common.{◌≡◌, Option, Some, Result, Ok, Err, ap, sym, subst, ◌∙◌, ◌⊎◌, inl, inr}
 use Rattle.ctf_answers.specs.Replies.{changed}
 use Rattle.ctf_answers.specs.declared.counts.Counts.{Counts}
-use Rattle.ctf_library.specs.Drafting.{AreWritten, IsEnlarged, IsStepped}
-use Rattle.ctf_model.specs.Additions.{Enlarged, enlarged}
-use Rattle.ctf_model.specs.DraftSteps.{SlotOutcome, discards, draft_step, enlarges, slot_step, step_if_draft, types_answer, updates_to}
+use Rattle.ctf_library.specs.Drafting.{IsWritten, IsEnlarged, IsStepped}
+use Rattle.ctf_protocol.specs.Additions.{Enlarged, enlarged}
+use Rattle.ctf_protocol.specs.DraftSteps.{SlotOutcome, discards, draft_step, enlarges, slot_step, step_if_draft, types_answer, updates_to}
 use Rattle.ctf_model.specs.Drafts.{Draft, held, settled}
-use Rattle.ctf_model.specs.Lists.{Lists}
+use Rattle.ctf_model.specs.Kept.{Kept}
 use Rattle.ctf_model.specs.Refusals.{want_of_memory}
-use Rattle.ctf_model.specs.State.{Slot}
+use Rattle.ctf_protocol.specs.State.{Slot}
 use Rattle.ctf_model.specs.Written.{lists_of, written}
-use Rattle.ctf_model.specs.declared.additions.Addition.{Addition}
+use Rattle.ctf_protocol.specs.declared.additions.Addition.{Addition}
 use Rattle.ctf_model.specs.declared.faults.Fault.{Fault}
-use Rattle.ctf_model.specs.declared.requests.DraftStep.{DraftStep}
-use Rattle.ctf_model.specs.declared.requests.DraftStep.TheVariants.{Add, Update, Discard}
+use Rattle.ctf_protocol.specs.declared.requests.DraftStep.{DraftStep}
+use Rattle.ctf_protocol.specs.declared.requests.DraftStep.TheVariants.{Add, Update, Discard}
 
 -- the slot of a draft is that slot
 own_draft : (s : Slot) (d : Draft) → s.draft ≡ Some d → record s { draft = Some d } ≡ s
@@ -54,11 +54,12 @@ update_refused s d f result e is (inr refused) =
     subst (λ (o : SlotOutcome). IsStepped o result s (record s { draft = Some d })) (sym to) (inl (ap changed is, own_draft s d e))
 
 -- the slot as an update leaves it
-abbrev updated : Slot → Lists → Option Lists → Draft → Slot
-updated s lists parent d = record s { lists = lists; parent = parent; draft = Some d }
+abbrev updated : Slot → Kept → Option Kept → Draft → Slot
+updated s kept parent d = record s { kept = kept; parent = parent; draft = Some d }
 
-pub update_done : (s : Slot) (d now : Draft) (lists : Lists) (parent : Option Lists) (result : Result Counts Fault) → s.draft ≡ Some d → AreWritten d lists → parent ≡ s.parent → now ≡ settled d → changed result ≡ Ok (types_answer lists) → IsStepped (slot_step Update s) result s (record s { lists = lists; parent = parent; draft = Some now })
-update_done s d now lists parent result e w same settles said =
+pub update_done : (s : Slot) (d now : Draft) (kept : Kept) (parent : Option Kept) (result : Result Counts Fault) → s.draft ≡ Some d → IsWritten d kept → parent ≡ s.parent → now ≡ settled d → changed result ≡ Ok (types_answer kept.lists) → IsStepped (slot_step Update s) result s (record s { kept = kept; parent = parent; draft = Some now })
+update_done s d now kept parent result e w same settles said =
+    let made : Kept = record { lists = lists_of kept.lists.ctf; model = d.model } in
     let to = update_step s d e ∙ ap (updates_to s d) w.bytes in
-    let slot = ap (λ (l : Lists). updated s l parent now) w.alone ∙ ap (λ (o : Option Lists). updated s (lists_of lists.ctf) o now) same ∙ ap (updated s (lists_of lists.ctf) s.parent) settles in
-    subst (λ (o : SlotOutcome). IsStepped o result s (record s { lists = lists; parent = parent; draft = Some now })) (sym to) (inl (said ∙ ap (λ (l : Lists). Ok (types_answer l)) w.alone, slot))
+    let slot = ap (λ (l : Kept). updated s l parent now) w.alone ∙ ap (λ (o : Option Kept). updated s made o now) same ∙ ap (updated s made s.parent) settles in
+    subst (λ (o : SlotOutcome). IsStepped o result s (record s { kept = kept; parent = parent; draft = Some now })) (sym to) (inl (said ∙ ap (λ (l : Kept). Ok (types_answer l.lists)) w.alone, slot))

@@ -5,17 +5,17 @@ use Rattle.std.specs.List.{remove}
 use Rattle.ctf_library.specs.SlotPlaces.{place_of}
 use Rattle.ctf_library.specs.SlotView.{slot_of}
 use Rattle.ctf_library.specs.declared.slots.Slot as own
-use Rattle.ctf_model.specs.Lists.{Lists}
-use Rattle.ctf_model.specs.State.{Slot}
-use Rattle.ctf_model.specs.DraftSteps.{slots_with}
-use Rattle.ctf_model.specs.Steps.{slot_at, slots_without, slots_with_parent}
+use Rattle.ctf_model.specs.Kept.{Kept}
+use Rattle.ctf_protocol.specs.State.{Slot}
+use Rattle.ctf_protocol.specs.DraftSteps.{slots_with}
+use Rattle.ctf_protocol.specs.Steps.{slot_at, slots_without, slots_with_parent}
 
 -- the slot of a number stands at a place
 pub record IsPlace (n : ℕ) (slots : List own.Slot) (i : ℕ) : Type 0 where
   pub inside : i < length slots
   pub found : (d : own.Slot) → slot_at n (map slot_of slots) ≡ Some (slot_of (get_or slots i d))
   pub without : slots_without n (map slot_of slots) ≡ map slot_of (remove slots i)
-  pub with_parent : (parent : Lists) (d new : own.Slot) → slot_of new ≡ record (slot_of (get_or slots i d)) { parent = Some parent } → slots_with_parent n parent (map slot_of slots) ≡ map slot_of (set slots i new)
+  pub with_parent : (parent : Kept) (d new : own.Slot) → slot_of new ≡ record (slot_of (get_or slots i d)) { parent = Some parent } → slots_with_parent n parent (map slot_of slots) ≡ map slot_of (set slots i new)
   pub replaced : (new : own.Slot) → slots_with n (slot_of new) (map slot_of slots) ≡ map slot_of (set slots i new)
 
 further : (o : Option ℕ) (j : ℕ) → option_map (λ i. i + 1) o ≡ Some j → (i : ℕ) × (o ≡ Some i) × (j ≡ i + 1)
@@ -51,7 +51,7 @@ is_place n (x ∷ xs) i h = place_case n x xs i h (λ k e. is_place n xs k e) (e
 pub record IsNowhere (n : ℕ) (slots : List Slot) : Type 0 where
   pub found : slot_at n slots ≡ None
   pub without : slots_without n slots ≡ slots
-  pub with_parent : (parent : Lists) → slots_with_parent n parent slots ≡ slots
+  pub with_parent : (parent : Kept) → slots_with_parent n parent slots ≡ slots
 
 further_none : (o : Option ℕ) → option_map (λ i. i + 1) o ≡ None → o ≡ None
 further_none None h = refl

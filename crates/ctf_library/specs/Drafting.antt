@@ -1,44 +1,53 @@
 -- Drafts in slots. The words are ours.
 use Rattle.std.specs.Prelude.{◌≡◌, ◌⊎◌, ℕ, List, Option, None, Some, Result, Ok, Err, option_map}
+use Rattle.std.specs.Option.{ForSome}
 use Rattle.ctf_answers.specs.Replies.{changed}
 use Rattle.ctf_answers.specs.declared.counts.Counts.{Counts}
-use Rattle.ctf_model.specs.Additions.{Enlarged}
-use Rattle.ctf_model.specs.Dictionary.{said_by}
-use Rattle.ctf_model.specs.DraftSteps.{SlotOutcome, slot_step, slots_with}
+use Rattle.ctf_protocol.specs.Additions.{Enlarged}
+use Rattle.ctf_protocol.specs.DraftSteps.{SlotOutcome, slot_step, slots_with}
 use Rattle.ctf_model.specs.Drafts.{Draft, held}
-use Rattle.ctf_model.specs.Lists.{Lists}
+use Rattle.ctf_model.specs.Kept.{Kept, kept_dictionary}
 use Rattle.ctf_model.specs.Refusals.{placeless, want_of_memory}
-use Rattle.ctf_model.specs.State.{Slot}
-use Rattle.ctf_model.specs.Steps.{slot_at}
+use Rattle.ctf_protocol.specs.State.{Slot}
+use Rattle.ctf_protocol.specs.Steps.{slot_at}
 use Rattle.ctf_model.specs.Written.{lists_of, written}
-use Rattle.ctf_model.specs.declared.data_model.DataModel.TheVariants.{Lp64}
 use Rattle.ctf_model.specs.declared.faults.Fault.{Fault}
 use Rattle.ctf_model.specs.declared.faults.TheConstants.Fault.{NO_SLOT}
-use Rattle.ctf_model.specs.declared.requests.DraftStep.{DraftStep}
+use Rattle.ctf_protocol.specs.declared.requests.DraftStep.{DraftStep}
 
--- its parent has these lists, if it has one, and its program is of the one data model
-pub record IsUnder (d : Draft) (above : Option Lists) : Type 0 where
-  pub parent : d.parent ≡ option_map said_by above
-  pub model : d.model ≡ Lp64
+-- its parent is kept so, if it has one, for the same data model
+pub record IsUnder (d : Draft) (above : Option Kept) : Type 0 where
+  pub parent : d.parent ≡ option_map kept_dictionary above
+  pub model : ForSome above (λ p. p.model ≡ d.model)
 
--- these are the lists that all that it holds is written as
-pub record AreWritten (d : Draft) (lists : Lists) : Type 0 where
-  pub bytes : written (held d) ≡ Ok lists.ctf
-  pub alone : lists ≡ lists_of lists.ctf
+-- this is what is kept of all that it holds once that is written
+pub record IsWritten (d : Draft) (kept : Kept) : Type 0 where
+  pub bytes : written (held d) ≡ Ok kept.lists.ctf
+  pub alone : kept ≡ record { lists = lists_of kept.lists.ctf; model = d.model }
 
 -- an addition was made, or it or memory for it was refused and the draft is as it was
 abbrev pub IsEnlarged : Result Enlarged Fault → Result Counts Fault → Draft → Draft → Type 0
-IsEnlarged (Ok added) result old new = ((changed result ≡ Ok added.answer) × (new ≡ added.draft)) ⊎ ((result ≡ Err want_of_memory) × (new ≡ old))
-IsEnlarged (Err fault) result old new = ((result ≡ Err fault) ⊎ (result ≡ Err want_of_memory)) × (new ≡ old)
+IsEnlarged (Ok added) result old new =
+    ((changed result ≡ Ok added.answer) × (new ≡ added.draft))
+    ⊎ ((result ≡ Err want_of_memory) × (new ≡ old))
+IsEnlarged (Err fault) result old new =
+    ((result ≡ Err fault) ⊎ (result ≡ Err want_of_memory)) × (new ≡ old)
 
 -- the step of a slot was made, or memory for it was refused and the slot is as it was
 abbrev pub IsStepped : SlotOutcome → Result Counts Fault → Slot → Slot → Type 0
-IsStepped outcome result old new = ((changed result ≡ outcome.said) × (new ≡ outcome.slot)) ⊎ ((result ≡ Err want_of_memory) × (new ≡ old))
+IsStepped outcome result old new =
+    ((changed result ≡ outcome.said) × (new ≡ outcome.slot))
+    ⊎ ((result ≡ Err want_of_memory) × (new ≡ old))
 
 -- the same of the slot of a number among others, if it is there
-abbrev pub HaveSteppedAt : Option Slot → DraftStep → ℕ → Result Counts Fault → List Slot → List Slot → Type 0
+abbrev pub HaveSteppedAt : Option Slot → DraftStep → ℕ → Result Counts Fault → List Slot
+    → List Slot → Type 0
 HaveSteppedAt None step number result old new = (result ≡ Err (placeless NO_SLOT)) × (new ≡ old)
-HaveSteppedAt (Some slot) step number result old new = ((changed result ≡ (slot_step step slot).said) × (new ≡ slots_with number (slot_step step slot).slot old)) ⊎ ((result ≡ Err want_of_memory) × (new ≡ old))
+HaveSteppedAt (Some slot) step number result old new =
+    ((changed result ≡ (slot_step step slot).said)
+    × (new ≡ slots_with number (slot_step step slot).slot old))
+    ⊎ ((result ≡ Err want_of_memory) × (new ≡ old))
 
 abbrev pub HaveStepped : DraftStep → ℕ → Result Counts Fault → List Slot → List Slot → Type 0
-HaveStepped step number result old new = HaveSteppedAt (slot_at number old) step number result old new
+HaveStepped step number result old new =
+    HaveSteppedAt (slot_at number old) step number result old new

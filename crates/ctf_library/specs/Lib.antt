@@ -1,4 +1,3 @@
-pub mod SpaceOfLists
 pub mod Drafting
 pub mod SlotView
 pub mod Stepping

@@ -5,4 +5,5 @@ use Rattle.ctf_library.specs.declared.slots.Slot.{Slot}
 -- their numbers rise, from one number on, and stay below another
 abbrev pub rise_between : ℕ → List Slot → ℕ → Bool
 rise_between low [] high = true
-rise_between low (slot ∷ slots) high = nat_le low slot.number && nat_lt slot.number high && rise_between (slot.number + 1) slots high
+rise_between low (slot ∷ slots) high =
+    nat_le low slot.number && nat_lt slot.number high && rise_between (slot.number + 1) slots high

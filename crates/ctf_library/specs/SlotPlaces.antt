@@ -1,8 +1,9 @@
 -- Where the slot of a number stands. Source: ours.
 use Rattle.std.specs.Prelude.{ℕ, ◌+◌, ◌==◌, List, [], ◌∷◌, Option, None, Some, option_map, if◌then◌else◌}
-use Rattle.ctf_model.specs.State.{Slot}
+use Rattle.ctf_protocol.specs.State.{Slot}
 
 -- the first place of a number
 abbrev pub place_of : ℕ → List Slot → Option ℕ
 place_of number [] = None
-place_of number (slot ∷ slots) = if slot.number == number then Some 0 else option_map (λ i. i + 1) (place_of number slots)
+place_of number (slot ∷ slots) =
+    if slot.number == number then Some 0 else option_map (λ i. i + 1) (place_of number slots)

@@ -2,23 +2,24 @@
 use Rattle.std.specs.Prelude.{◌≡◌, ℕ, Bool, true, false}
 use Rattle.ctf_library.specs.declared.answering.Told.{Told}
 use Rattle.ctf_library.specs.declared.answering.Told.TheVariants.{Lent, Name, Value}
-use Rattle.ctf_model.specs.Questions.{said_on}
+use Rattle.ctf_protocol.specs.Questions.{said_on}
 use Rattle.ctf_model.specs.Shown.{Facts}
 use Rattle.ctf_model.specs.Space.{Space}
-use Rattle.ctf_model.specs.declared.questions.Question.{Question}
-use Rattle.ctf_model.specs.declared.questions.Question.TheVariants.{OfType, OfSlot, OfHeld}
-use Rattle.ctf_model.specs.declared.questions.TypeQuestion.{TypeQuestion}
-use Rattle.ctf_model.specs.declared.questions.TypeQuestion.TheVariants as about
+use Rattle.ctf_protocol.specs.declared.questions.Question.{Question}
+use Rattle.ctf_protocol.specs.declared.questions.Question.TheVariants.{OfType, OfSlot, OfHeld}
+use Rattle.ctf_protocol.specs.declared.questions.PlainQuestion.TheVariants as plain
+use Rattle.ctf_protocol.specs.declared.questions.TypeQuestion.{TypeQuestion}
+use Rattle.ctf_protocol.specs.declared.questions.TypeQuestion.TheVariants as about
 
 -- a question is answered so, or asks for this text
 abbrev pub IsTold : TypeQuestion → Space → ℕ → Facts → Told → Type 0
 IsTold question s t x (Lent answer) = answer ≡ said_on question s t x
-IsTold question s t x Name = question ≡ about.Name
+IsTold question s t x Name = question ≡ about.Plain plain.Name
 IsTold question s t x (Value memory offset) = question ≡ about.Show memory.now offset
 
 -- its answer is a text that is made for it
 abbrev pub makes_text_on : TypeQuestion → Bool
-makes_text_on about.Name = true
+makes_text_on (about.Plain plain.Name) = true
 makes_text_on (about.Show memory offset) = true
 makes_text_on _ = false
 

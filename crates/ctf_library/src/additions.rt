@@ -2,7 +2,7 @@
 ghost use Rattle.std.specs.Prelude.{◌≡◌, IfOk, codes, map};
 ghost use Rattle.ctf_draft.specs.NewView.{new_body_of, new_of};
 ghost use Rattle.ctf_library.specs.Drafting.{IsEnlarged};
-ghost use Rattle.ctf_model.specs.Additions.{array_of, body_of, enlarged, numbered, scalar_of, silent, tag_declared};
+ghost use Rattle.ctf_protocol.specs.Additions.{array_of, body_of, enlarged, numbered, scalar_of, silent, tag_declared};
 ghost use Rattle.ctf_model.specs.Adders.{add_enumerator as add_enumerator_to, add_label as add_label_to, add_member as add_member_to, add_type as add_type_to};
 ghost use Rattle.ctf_draft.specs.NewView.{new_scalar};
 ghost use Rattle.ctf_model.specs.NewTypes as new;
@@ -10,10 +10,8 @@ ghost use Rattle.ctf_records.specs.RecordView.{tag_of};
 
 use ctf_answers::Counts;
 use ctf_draft::{AggregateKind, Draft, NewBody, NewType, ReferenceKind, ScalarKind};
-use ctf_model::{
-    Addition, Bytes, Declared, Fault, NewArray, NewKind, NewScalar, Piece, TypeNum, TypeNums,
-    placeless,
-};
+use ctf_model::{Bytes, Fault, Piece, TypeNum, placeless};
+use ctf_protocol::{Addition, Declared, NewArray, NewKind, NewScalar, TypeNums};
 use ctf_records::Tag;
 use ctf_views::{ArrayInfo, Encoding};
 use std::alloc::{AllocError, Global};
@@ -171,7 +169,7 @@ fn add_label(alloc: Global, draft: &mut Draft, name: &Piece, last: u32) -> Resul
 }
 
 /// Adds to a draft; the number of a type or the offset of a member is answered.
-#[tactic(auto, unfolding(ctf_model::specs::Additions::enlarged))]
+#[tactic(auto, unfolding(ctf_protocol::specs::Additions::enlarged))]
 pub(crate) fn enlarge(
     alloc: Global,
     draft: &mut Draft,

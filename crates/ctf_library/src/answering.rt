@@ -1,10 +1,10 @@
 //! What questions to a slot are answered, and those on types.
-ghost use Rattle.std.specs.Prelude.{◌≡◌, ◌≤◌, [], ◌∷◌, codes, length, map, take, true, false, None, Some, Ok, Err, IfOk, IfSome, IsNone, option_map, option_and_then};
-ghost use Rattle.ctf_model.specs.Answers.{number, says, word};
+ghost use Rattle.std.specs.Prelude.{◌≡◌, ◌≤◌, [], ◌∷◌, codes, length, map, take, true, false, None, Some, Ok, Err, IfOk, IfSome, IfNone, IsNone, option_map, option_and_then};
+ghost use Rattle.ctf_protocol.specs.Answers.{number, says, word};
 ghost use Rattle.ctf_model.specs.KindNames.{name_of_kind, name_of_tag};
-ghost use Rattle.ctf_model.specs.Questions.{or_wrong_kind, list_fields, said_on, type_said, record_fields, member_fields, enumerator_fields, argument_fields, array_fields, encoding_fields, as_fields, type_fields, size_fields, align_fields, name_fields, position_fields, value_fields, number_item, is_variadic as ends_open, named_arguments};
+ghost use Rattle.ctf_protocol.specs.Questions.{or_wrong_kind, list_fields, plain_said, said_on, type_said, record_fields, member_fields, enumerator_fields, argument_fields, array_fields, encoding_fields, as_fields, type_fields, name_fields, position_fields, value_fields, number_item, is_variadic as ends_open, named_arguments};
 ghost use Rattle.ctf_model.specs.Shown.{members_in, enumerators_in, arguments_in, array_in, encoding_in, list_length};
-ghost use Rattle.ctf_model.specs.Steps.{is_quiet, is_quiet_on, slot_said, slot_space, MayAnswer};
+ghost use Rattle.ctf_protocol.specs.Steps.{is_quiet, is_quiet_on, slot_said, slot_space, MayAnswer};
 ghost use Rattle.ctf_model.specs.TypeNames.{spelled_name};
 ghost use Rattle.ctf_model.specs.Values.{value_text};
 ghost use Rattle.ctf_layout.specs.Fitting.{Fits};
@@ -18,6 +18,7 @@ ghost use Rattle.ctf_check.specs.FactsView.{facts_seen};
 ghost use Rattle.ctf_records.specs.RecordView.{tag_of};
 ghost use Rattle.ctf_views.specs.VariantView.{seen};
 ghost use Rattle.ctf_space.specs.SpaceView.{own_lists, parent_lists, space_of};
+ghost use Rattle.ctf_protocol.specs.declared.questions.PlainQuestion.TheVariants as plain;
 
 use crate::slots::Slot;
 use crate::tables::Tables;
@@ -25,9 +26,10 @@ use crate::whole::whole_answer;
 use ctf_answers::{Answer, Items, Listed, Single, kind_name, tag_name};
 use ctf_check::Facts;
 use ctf_layout::{Layout, path, referred, resolve};
-use ctf_model::{Bytes, Fault, Kind, Question, TypeNum, TypeQuestion, Window, placeless};
+use ctf_model::{Bytes, Fault, Kind, TypeNum, placeless};
 use ctf_names::{pointer_to, spell};
 use ctf_print::show;
+use ctf_protocol::{PlainQuestion, Question, TypeQuestion, Window};
 use ctf_records::Tag;
 use ctf_space::Space;
 use ctf_views::{Args, Variant};
@@ -155,20 +157,12 @@ pub(crate) fn type_answer<'a>(number: Result<TypeNum, Fault>) -> Result<Answer<'
     }
 }
 
-fn size_answer<'a>(size: Result<u64, Fault>) -> Result<Answer<'a>, Fault>
-    ensures { result ≡ as_fields size_fields size }
+/// What a number is answered as, under a key.
+fn number_answer<'a>(key: &'static str, n: Result<u64, Fault>) -> Result<Answer<'a>, Fault>
+    ensures { result ≡ as_fields (λ n. says key.now (number n) ∷ []) n }
 {
-    match size {
-        Ok(size) => Ok(Answer::done().with("size", Single::Number(size))),
-        Err(fault) => Err(fault),
-    }
-}
-
-fn align_answer<'a>(align: Result<u64, Fault>) -> Result<Answer<'a>, Fault>
-    ensures { result ≡ as_fields align_fields align }
-{
-    match align {
-        Ok(align) => Ok(Answer::done().with("align", Single::Number(align))),
+    match n {
+        Ok(n) => Ok(Answer::done().with(key, Single::Number(n))),
         Err(fault) => Err(fault),
     }
 }
@@ -285,6 +279,35 @@ pub(crate) enum Told<'a, 'q> {
     Value { memory: &'q [u8], offset: u64 },
 }
 
+/// What a question that brings no more than the type is answered of one that a number names, and
+/// that says this of itself; none where a text is to be made of its name.
+fn plain_answer<'a>(
+    x: Facts<'a>,
+    space: &Space<'a>,
+    tables: &Tables,
+    t: TypeNum,
+    question: PlainQuestion,
+) -> Option<Result<Answer<'a>, Fault>>
+    requires { Serve space.now tables.now }
+    ensures some { IfSome result (λ answer. answer
+        ≡ plain_said question (space_of space.now) t.0 (facts_seen x.entry)) }
+    ensures none { IfNone result (question ≡ plain.Name) }
+{
+    match question {
+        PlainQuestion::Kind => Some(Ok(kind(x.shape.kind))),
+        PlainQuestion::Record => Some(Ok(record_of(x))),
+        PlainQuestion::Args => Some(arguments(x.shape.behind, x.shape.reference)),
+        PlainQuestion::Array => Some(array(x.shape.behind)),
+        PlainQuestion::Encoding => Some(encoding(x.shape.behind)),
+        PlainQuestion::Reference => Some(type_answer(referred(x.shape))),
+        PlainQuestion::Resolve => Some(type_answer(resolve(space, t))),
+        PlainQuestion::Size => Some(number_answer("size", tables.layout.size(t))),
+        PlainQuestion::Align => Some(number_answer("align", tables.layout.align(t))),
+        PlainQuestion::Pointer => Some(type_answer(pointer_to(space, &tables.index, t))),
+        PlainQuestion::Name => None,
+    }
+}
+
 /// What a question tells of a type that a number names, and that says this of itself.
 fn tell<'a, 'q>(
     x: Facts<'a>,
@@ -297,20 +320,13 @@ fn tell<'a, 'q>(
     ensures { IsTold question.now (space_of space.now) t.0 (facts_seen x.entry) result }
 {
     match question {
-        TypeQuestion::Kind => Told::Lent(Ok(kind(x.shape.kind))),
-        TypeQuestion::Record => Told::Lent(Ok(record_of(x))),
+        TypeQuestion::Plain(question) => match plain_answer(x, space, tables, t, *question) {
+            Some(answer) => Told::Lent(answer),
+            None => Told::Name,
+        },
         TypeQuestion::Members(window) => Told::Lent(members(x.shape.behind, *window)),
         TypeQuestion::Enumerators(window) => Told::Lent(enumerators(x.shape.behind, *window)),
-        TypeQuestion::Args => Told::Lent(arguments(x.shape.behind, x.shape.reference)),
-        TypeQuestion::Array => Told::Lent(array(x.shape.behind)),
-        TypeQuestion::Encoding => Told::Lent(encoding(x.shape.behind)),
-        TypeQuestion::Reference => Told::Lent(type_answer(referred(x.shape))),
-        TypeQuestion::Resolve => Told::Lent(type_answer(resolve(space, t))),
-        TypeQuestion::Size => Told::Lent(size_answer(tables.layout.size(t))),
-        TypeQuestion::Align => Told::Lent(align_answer(tables.layout.align(t))),
-        TypeQuestion::Pointer => Told::Lent(type_answer(pointer_to(space, &tables.index, t))),
         TypeQuestion::Path(names) => Told::Lent(position_answer(path(space, t, names.as_slice()))),
-        TypeQuestion::Name => Told::Name,
         TypeQuestion::Show { memory, offset } => Told::Value {
             memory: memory.as_slice(),
             offset: *offset,
@@ -351,9 +367,9 @@ impl Slot {
     /// What its questions see.
     fn space(&self) -> Space<'_>
         ensures space { space_of result ≡ slot_space (slot_of self.now) }
-        ensures lists { own_lists result ≡ self.now.own }
+        ensures lists { own_lists result ≡ self.now.own.lists }
         ensures parent { parent_lists result
-            ≡ option_map (λ i. i.parent) self.now.imported }
+            ≡ option_map (λ p. p.lists) (option_map (λ i. i.parent) self.now.imported) }
     {
         let own = self.own.view();
         let model = self.own.model();

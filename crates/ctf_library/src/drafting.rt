@@ -1,28 +1,27 @@
 //! Drafts in slots: how they are made, updated and dropped.
 ghost use Rattle.std.specs.Prelude.{◌≡◌, ◌==◌, ◌⊎◌, not, length, is_some, IfErr, IfOk, Ok, Err, None, Some, option_map, option_copied, option_and_then};
 ghost use Rattle.std.specs.Option.{ForSome};
-ghost use Rattle.ctf_library.specs.Drafting.{AreWritten, IsStepped, IsUnder};
+ghost use Rattle.ctf_library.specs.Drafting.{IsWritten, IsStepped, IsUnder};
 ghost use Rattle.ctf_library.specs.Fitting.{AreTablesOf};
 ghost use Rattle.ctf_library.specs.SlotView.{slot_of};
 ghost use Rattle.ctf_answers.specs.Counts.{counts_said};
 ghost use Rattle.ctf_answers.specs.Replies.{changed};
-ghost use Rattle.ctf_model.specs.Dictionary.{Denotes, said_by};
-ghost use Rattle.ctf_model.specs.DraftSteps.{created_slot, slot_step, step_if_draft, types_answer};
+ghost use Rattle.ctf_model.specs.Dictionary.{Denotes};
+ghost use Rattle.ctf_protocol.specs.DraftSteps.{created_slot, slot_step, step_if_draft, types_answer};
 ghost use Rattle.ctf_model.specs.Drafts.{held, new_draft as new_draft_of};
-ghost use Rattle.ctf_model.specs.Lists.{Lists};
 ghost use Rattle.ctf_model.specs.Refusals.{want_of_memory};
-ghost use Rattle.ctf_model.specs.Steps.{fault_over};
+ghost use Rattle.ctf_model.specs.Kept.{Kept, fault_over, kept_dictionary, model_over as parents_model, modelled_by};
 ghost use Rattle.ctf_model.specs.Written.{written};
-ghost use Rattle.ctf_model.specs.declared.data_model.DataModel.TheVariants.{Lp64};
-ghost use Rattle.ctf_model.specs.declared.requests.DraftStep.TheVariants.{Add, Update as Updates, Discard};
+ghost use Rattle.ctf_protocol.specs.declared.requests.DraftStep.TheVariants.{Add, Update as Updates, Discard};
 
 use crate::additions::enlarge;
-use crate::loaded::Loaded;
+use crate::loaded::{Loaded, MODEL_UNSAID};
 use crate::slots::{Imported, Slot};
 use crate::tables::tables_over;
 use ctf_answers::Counts;
 use ctf_draft::Draft;
-use ctf_model::{Addition, Bytes, Creation, DataModel, DraftStep, Fault, Parts, placeless};
+use ctf_model::{Bytes, DataModel, Fault, Parts, placeless};
+use ctf_protocol::{Addition, Creation, DraftStep};
 use ctf_space::Opened;
 use ctf_writer::write;
 use std::alloc::{AllocError, Global};
@@ -64,9 +63,11 @@ struct Updated {
 
 /// The dictionary that a draft's bytes make.
 fn loaded(alloc: Global, draft: &Draft) -> Result<Loaded, Fault>
-    ensures written { IfOk result (λ l. AreWritten draft.now.draft l) }
-    ensures denotes { IfOk result (λ l. Denotes l (held draft.now.draft)) }
-    ensures under { IfOk result (λ l. (p : Lists) → draft.now.draft.parent ≡ Some (said_by p) → fault_over l p ≡ None) }
+    ensures written { IfOk result (λ l. IsWritten draft.now.draft l) }
+    ensures denotes { IfOk result (λ l. Denotes l.lists (held draft.now.draft)) }
+    ensures under { IfOk result
+        (λ l. (p : Kept) → draft.now.draft.parent ≡ Some (kept_dictionary p)
+        → p.model ≡ draft.now.draft.model → fault_over l p ≡ None) }
     ensures exact_err { IfErr result (λ f. (f ≡ want_of_memory)
         ⊎ (written (held draft.now.draft) ≡ Err f)) }
 {
@@ -79,7 +80,7 @@ fn loaded(alloc: Global, draft: &Draft) -> Result<Loaded, Fault>
         sym: None,
         strs: None,
     };
-    match Loaded::build(alloc, parts) {
+    match Loaded::build(alloc, parts, draft.model()) {
         Ok(loaded) => Ok(loaded),
         Err((fault, _)) => Err(fault),
     }
@@ -88,10 +89,9 @@ fn loaded(alloc: Global, draft: &Draft) -> Result<Loaded, Fault>
 /// What a draft's dictionary becomes by an update, over the draft's parent.
 fn updated_over(alloc: Global, draft: &Draft, parent: Option<&Loaded>) -> Result<Updated, Fault>
     requires { IsUnder draft.now.draft (option_copied parent) }
-    ensures written { IfOk result (λ u. AreWritten draft.now.draft u.own) }
-    ensures denotes { IfOk result (λ u. Denotes u.own (held draft.now.draft)) }
-    ensures opened { IfOk result (λ u. (u.opened.value.lists ≡ u.own)
-        × (u.opened.value.model ≡ Lp64)) }
+    ensures written { IfOk result (λ u. IsWritten draft.now.draft u.own) }
+    ensures denotes { IfOk result (λ u. Denotes u.own.lists (held draft.now.draft)) }
+    ensures opened { IfOk result (λ u. u.opened.value ≡ u.own) }
     ensures parent { IfOk result (λ u. option_map (λ i. i.parent) u.imported
         ≡ option_copied parent.entry) }
     ensures fits { IfOk result (λ u. ForSome u.imported (λ i. fault_over u.own i.parent ≡ None)) }
@@ -120,7 +120,7 @@ fn updated_over(alloc: Global, draft: &Draft, parent: Option<&Loaded>) -> Result
 
 /// What answers how many types a dictionary has.
 fn types_of(own: &Loaded) -> Counts
-    ensures { counts_said result ≡ types_answer own.now }
+    ensures { counts_said result ≡ types_answer own.now.lists }
 {
     Counts::one("types", own.view().count() as u64)
 }
@@ -137,7 +137,7 @@ fn parent_of(imported: &Option<Imported>) -> Option<&Loaded>
 
 impl Slot {
     /// Makes a step of its draft, if it has one. Want of memory changes nothing.
-    #[tactic(auto, unfolding(ctf_model::specs::DraftSteps::draft_step))]
+    #[tactic(auto, unfolding(ctf_protocol::specs::DraftSteps::draft_step))]
     pub(crate) fn step(&mut self, alloc: Global, step: &DraftStep) -> Result<Counts, Fault>
         ensures step { IsStepped (slot_step step.now (slot_of self.old)) result
             (slot_of self.old) (slot_of self.new) }
@@ -154,7 +154,8 @@ impl Slot {
     }
 
     fn add(&mut self, alloc: Global, addition: &Addition) -> Result<Counts, Fault>
-        ensures step { IsStepped (step_if_draft (Add addition.now) (slot_of self.old) (slot_of self.old).draft) result
+        ensures step { IsStepped
+            (step_if_draft (Add addition.now) (slot_of self.old) (slot_of self.old).draft) result
             (slot_of self.old) (slot_of self.new) }
         ensures number { self.new.number ≡ self.old.number }
     {
@@ -165,7 +166,8 @@ impl Slot {
     }
 
     fn update(&mut self, alloc: Global) -> Result<Counts, Fault>
-        ensures step { IsStepped (step_if_draft Updates (slot_of self.old) (slot_of self.old).draft) result
+        ensures step { IsStepped
+            (step_if_draft Updates (slot_of self.old) (slot_of self.old).draft) result
             (slot_of self.old) (slot_of self.new) }
         ensures number { self.new.number ≡ self.old.number }
     {
@@ -183,8 +185,10 @@ impl Slot {
     }
 
     fn discard(&mut self) -> Result<Counts, Fault>
-        ensures said { changed result ≡ (step_if_draft Discard (slot_of self.old) (slot_of self.old).draft).said }
-        ensures slot { slot_of self.new ≡ (step_if_draft Discard (slot_of self.old) (slot_of self.old).draft).slot }
+        ensures said { changed result
+            ≡ (step_if_draft Discard (slot_of self.old) (slot_of self.old).draft).said }
+        ensures slot { slot_of self.new
+            ≡ (step_if_draft Discard (slot_of self.old) (slot_of self.old).draft).slot }
         ensures number { self.new.number ≡ self.old.number }
     {
         match &mut self.draft {
@@ -229,7 +233,7 @@ impl Slot {
 
 /// A dictionary, if there is one, to be the parent of a draft.
 fn opened(parent: Option<&Loaded>) -> Result<Option<Rc<Opened>>, AllocError>
-    ensures { IfOk result (λ o. option_map (λ p. p.value.lists) o ≡ option_copied parent.entry) }
+    ensures { IfOk result (λ o. option_map (λ p. p.value) o ≡ option_copied parent.entry) }
 {
     match parent {
         Some(parent) => Ok(Some(parent.opened()?)),
@@ -237,15 +241,26 @@ fn opened(parent: Option<&Loaded>) -> Result<Option<Rc<Opened>>, AllocError>
     }
 }
 
+/// The data model of what is made over a parent: the parent's, if there is one.
+fn model_over(parent: Option<&Loaded>) -> DataModel
+    ensures { result ≡ parents_model (option_copied parent.entry) }
+{
+    match parent {
+        Some(parent) => parent.model(),
+        None => MODEL_UNSAID,
+    }
+}
+
 /// A draft with nothing in it.
 fn new_draft(alloc: Global, parent: Option<&Loaded>, creation: &Creation) -> Result<Draft, Fault>
     requires { is_some parent ≡ not (length creation.now.parname == 0) }
-    ensures ok { IfOk result (λ d. new_draft_of (option_map said_by (option_copied parent.entry))
-        creation.now.parname creation.now.parlabel Lp64 ≡ Ok d.draft) }
+    ensures ok { IfOk result (λ d.
+        new_draft_of (option_map modelled_by (option_copied parent.entry)) creation.now.parname
+        creation.now.parlabel (parents_model (option_copied parent.entry)) ≡ Ok d.draft) }
     ensures under { IfOk result (λ d. IsUnder d.draft (option_copied parent.entry)) }
     ensures exact_err { IfErr result (λ f. (f ≡ want_of_memory)
-        ⊎ (new_draft_of (option_map said_by (option_copied parent.entry)) creation.now.parname
-        creation.now.parlabel Lp64 ≡ Err f)) }
+        ⊎ (new_draft_of (option_map modelled_by (option_copied parent.entry)) creation.now.parname
+        creation.now.parlabel (parents_model (option_copied parent.entry)) ≡ Err f)) }
 {
     let Ok(parname) = Bytes::from_slice(alloc, creation.parname()) else {
         return Err(placeless(Fault::MEMORY));
@@ -253,8 +268,9 @@ fn new_draft(alloc: Global, parent: Option<&Loaded>, creation: &Creation) -> Res
     let Ok(parlabel) = Bytes::from_slice(alloc, creation.parlabel()) else {
         return Err(placeless(Fault::MEMORY));
     };
+    let model = model_over(parent);
     let Ok(parent) = opened(parent) else {
         return Err(placeless(Fault::MEMORY));
     };
-    Draft::new(alloc, parent, parname, parlabel, DataModel::Lp64)
+    Draft::new(alloc, parent, parname, parlabel, model)
 }

@@ -2,13 +2,13 @@
 ghost use Rattle.std.specs.Prelude.{◌≡◌, is_some, take, drop, option_map};
 ghost use Rattle.ctf_check.specs.CheckedView.{dictionary_of, lists_of};
 ghost use Rattle.ctf_library.specs.SlotView.{slot_of};
-ghost use Rattle.ctf_model.specs.HeldAnswers.{bytes_fields, held_said, info_fields, pending_in};
+ghost use Rattle.ctf_protocol.specs.HeldAnswers.{bytes_fields, held_said, info_fields, pending_in};
 
 use crate::slots::Slot;
 use ctf_answers::{Answer, Single};
 use ctf_check::Checked;
 use ctf_draft::Draft;
-use ctf_model::HeldQuestion;
+use ctf_protocol::HeldQuestion;
 
 /// What a dictionary is as a whole, and how much its draft has pending.
 fn info<'a>(dictionary: &Checked<'a>, draft: bool, imported: bool, pending: usize) -> Answer<'a>

@@ -16,5 +16,5 @@ mod tables;
 mod whole;
 
 pub use library::Library;
-pub use loaded::Loaded;
+pub use loaded::{Loaded, MODEL_UNSAID};
 pub use pool::Pool;

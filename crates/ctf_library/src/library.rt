@@ -1,17 +1,17 @@
 //! The library of one session.
 ghost use Rattle.std.specs.Prelude.{◌≡◌, ◌⊎◌, None, Some, Ok, Err, IfOk, IfErr, OnOk, true, false, is_some, option_map, option_and_then, option_copied};
-ghost use Rattle.ctf_model.specs.Publications.{published_as};
-ghost use Rattle.ctf_model.specs.State.{empty_state};
+ghost use Rattle.ctf_protocol.specs.Publications.{published_as};
+ghost use Rattle.ctf_protocol.specs.State.{empty_state};
 ghost use Rattle.ctf_library.specs.SlotView.{slot_of};
 ghost use Rattle.ctf_model.specs.Refusals.{want_of_memory, placeless as refusal};
 ghost use Rattle.ctf_model.specs.declared.faults.TheConstants.Fault.{NO_SLOT};
-ghost use Rattle.ctf_model.specs.declared.requests.DraftStep.TheVariants.{Discard};
-ghost use Rattle.ctf_model.specs.Steps.{adds_created, answer_to, change_step, checks, clears, closes, creates, has_room as room_in, imports, is_quiet, is_quiet_change, MayAnswer, opens, outcome_of, parts, publishes, publishes_lists, resets, slot_at, steps_draft, takes};
+ghost use Rattle.ctf_protocol.specs.declared.requests.DraftStep.TheVariants.{Discard};
+ghost use Rattle.ctf_protocol.specs.Steps.{adds_created, answer_to, change_step, checks, clears, closes, creates, has_room as room_in, imports, is_quiet, is_quiet_change, MayAnswer, opens, outcome_of, parts, publishes, publishes_kept, resets, slot_at, steps_draft, takes};
 ghost use Rattle.ctf_library.specs.Stepping.{Does, Makes};
 ghost use Rattle.ctf_library.specs.Telling.{makes_text};
 
 use crate::held::pending;
-use crate::loaded::Loaded;
+use crate::loaded::{Loaded, MODEL_UNSAID};
 use crate::places::{find_slot, push_slot, remove_slot, set_parent, step_draft};
 use crate::pool::Pool;
 use crate::publications::{Publication, find_published};
@@ -19,10 +19,8 @@ use crate::slots::{Imported, Slot};
 use crate::staging::{add_first_piece, add_piece, judge};
 use crate::tables::tables_over;
 use ctf_answers::{Answer, Counts};
-use ctf_model::{
-    Change, Creation, DraftStep, Fault, ListName, Parts, PublicationName, Question, SlotNumber,
-    no_parts, placeless,
-};
+use ctf_model::{Fault, Parts, no_parts, placeless};
+use ctf_protocol::{Change, Creation, DraftStep, ListName, PublicationName, Question, SlotNumber};
 use std::alloc::Global;
 use std::marker::Model;
 use std::mem;
@@ -45,7 +43,7 @@ impl Model for Library {
     ghost use Rattle.std.specs.Prelude.{◌≡◌, ◌≤◌, ◌^◌, None, map, true};
     ghost use Rattle.ctf_library.specs.SlotOrder.{rise_between};
     ghost use Rattle.ctf_model.specs.OwnedLists.{lists_owned};
-    ghost use Rattle.ctf_model.specs.State.{State};
+    ghost use Rattle.ctf_protocol.specs.State.{State};
     ghost use Rattle.ctf_library.specs.SlotView.{publication_of, slot_of};
 
     ghost Value = { State };
@@ -84,7 +82,7 @@ impl Library {
 
     /// Makes the step of a change, with what was found for a take, whatever the pool holds. Want of
     /// memory changes nothing.
-    #[tactic(auto, unfolding(ctf_model::specs::Steps::change_step))]
+    #[tactic(auto, unfolding(ctf_protocol::specs::Steps::change_step))]
     pub fn step(
         &mut self,
         change: &Change,
@@ -152,7 +150,7 @@ impl Library {
             return Err(placeless(Fault::MEMORY));
         }
         let parts = mem::replace(&mut self.stage, no_parts(self.alloc));
-        match pool.open(parts) {
+        match pool.open(parts, MODEL_UNSAID) {
             Ok(loaded) => {
                 let number = self.next as u32;
                 let types = loaded.view().count() as u64;
@@ -235,7 +233,7 @@ impl Library {
         name: &PublicationName,
         loaded: Loaded,
     ) -> Result<Counts, Fault>
-        ensures { Makes self.old (publishes_lists name.now loaded self.old) result self.new }
+        ensures { Makes self.old (publishes_kept name.now loaded self.old) result self.new }
     {
         if self.published(name.as_slice()).is_some() {
             return Err(placeless(Fault::NAME_TAKEN));
@@ -273,7 +271,7 @@ impl Library {
     /// The dictionary of a slot, if one is named.
     fn parent_at(&self, d: Option<SlotNumber>) -> Result<Option<&Loaded>, Fault>
         ensures ok { IfOk result (λ parent. option_copied parent
-            ≡ option_and_then (λ d. option_map (λ s. s.lists) (slot_at d self.now.slots)) d) }
+            ≡ option_and_then (λ d. option_map (λ s. s.kept) (slot_at d self.now.slots)) d) }
         ensures there { IfOk result (λ parent. is_some parent ≡ is_some d) }
         ensures err { IfErr result (λ f. (f ≡ refusal NO_SLOT)
             × (option_and_then (λ d. slot_at d self.now.slots) d ≡ None) × (is_some d ≡ true)) }

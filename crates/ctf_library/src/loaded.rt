@@ -5,7 +5,6 @@ ghost use Rattle.ctf_library.specs.Fitting.{AreTablesOf};
 ghost use Rattle.ctf_model.specs.Faults.{first_fault};
 ghost use Rattle.ctf_model.specs.OwnedLists.{lists_owned};
 ghost use Rattle.ctf_model.specs.Refusals.{want_of_memory};
-ghost use Rattle.ctf_model.specs.declared.data_model.DataModel.TheVariants.{Lp64};
 ghost use Rattle.ctf_symbols.specs.Fitting.{Fits};
 
 use crate::tables::Tables;
@@ -16,6 +15,9 @@ use ctf_symbols::SymbolMap;
 use std::alloc::{AllocError, Global};
 use std::marker::Model;
 use std::rc::Rc;
+
+/// The data model of a dictionary where none is said.
+pub const MODEL_UNSAID: DataModel = DataModel::Lp64;
 
 /// What is kept of a dictionary beside it: the map of its symbols, and the tables that it has
 /// without a parent.
@@ -28,7 +30,7 @@ pub(crate) struct Beside {
 /// A dictionary that was opened, and what is kept beside it.
 ///
 /// None of it ever changes, so slots of any sessions, publications and the slots that imported it
-/// share it. A contract sees its lists alone.
+/// share it. A contract sees its lists and its data model alone.
 #[derive(Drop)]
 pub struct Loaded {
     dictionary: Rc<Opened>,
@@ -36,26 +38,23 @@ pub struct Loaded {
 }
 
 impl Model for Loaded {
-    ghost use Rattle.std.specs.Prelude.{◌≡◌, None};
+    ghost use Rattle.std.specs.Prelude.{None};
     ghost use Rattle.ctf_library.specs.Fitting.{AreTablesOf};
-    ghost use Rattle.ctf_model.specs.Lists.{Lists};
-    ghost use Rattle.ctf_model.specs.declared.data_model.DataModel.TheVariants.{Lp64};
+    ghost use Rattle.ctf_model.specs.Kept.{Kept};
     ghost use Rattle.ctf_symbols.specs.Fitting.{Fits};
 
-    ghost Value = { Lists };
+    ghost Value = { Kept };
 
-    ghost view = { λ l. l.dictionary.value.lists };
+    ghost view = { λ l. l.dictionary.value };
 
-    ghost invariant = { λ l. (l.dictionary.value.model ≡ Lp64)
-        × Fits l.dictionary.value.lists l.beside.value.symbols
-        × AreTablesOf l.dictionary.value.lists None l.beside.value.tables };
+    ghost invariant = { λ l. Fits l.dictionary.value.lists l.beside.value.symbols
+        × AreTablesOf l.dictionary.value None l.beside.value.tables };
 }
 
 /// What is kept beside a dictionary.
 fn kept(alloc: Global, dictionary: &Opened) -> Result<Rc<Beside>, AllocError>
-    requires { dictionary.now.model ≡ Lp64 }
     ensures mapped { IfOk result (λ k. Fits dictionary.now.lists k.value.symbols) }
-    ensures made { IfOk result (λ k. AreTablesOf dictionary.now.lists None k.value.tables) }
+    ensures made { IfOk result (λ k. AreTablesOf dictionary.now None k.value.tables) }
 {
     let symbols = SymbolMap::build(alloc, &dictionary.view())?;
     let tables = Tables::build(alloc, dictionary)?;
@@ -68,8 +67,7 @@ fn kept(alloc: Global, dictionary: &Opened) -> Result<Rc<Beside>, AllocError>
 impl Loaded {
     /// A dictionary that was opened, or the same again where memory was refused.
     pub fn of(alloc: Global, dictionary: Opened) -> Result<Loaded, Opened>
-        requires { dictionary.model ≡ Lp64 }
-        ensures ok { IfOk result (λ l. l ≡ dictionary.lists) }
+        ensures ok { IfOk result (λ l. l ≡ dictionary) }
         ensures back { IfErr result (λ d. d ≡ dictionary) }
     {
         let Ok(beside) = kept(alloc, &dictionary) else {
@@ -81,15 +79,15 @@ impl Loaded {
         }
     }
 
-    /// The dictionary of lists, or its first fault with the lists.
-    pub fn build(alloc: Global, parts: Parts) -> Result<Loaded, (Fault, Parts)>
-        ensures ok { IfOk result (λ l. l ≡ lists_owned parts) }
+    /// The dictionary of lists, for programs of a data model, or its first fault with the lists.
+    pub fn build(alloc: Global, parts: Parts, model: DataModel) -> Result<Loaded, (Fault, Parts)>
+        ensures ok { IfOk result (λ l. l ≡ record { lists = lists_owned parts; model = model }) }
         ensures exact_ok { OnOk result (first_fault (lists_owned parts) ≡ None) }
         ensures exact_err { IfErr result (λ e. (e.0 ≡ want_of_memory)
             ⊎ (first_fault (lists_owned parts) ≡ Some e.0)) }
         ensures back { IfErr result (λ e. lists_owned e.1 ≡ lists_owned parts) }
     {
-        let dictionary = match Opened::build(alloc, parts, DataModel::Lp64) {
+        let dictionary = match Opened::build(alloc, parts, model) {
             Ok(dictionary) => dictionary,
             Err(refused) => return Err(refused),
         };
@@ -110,29 +108,28 @@ impl Loaded {
 
     /// The dictionary, to be kept by a draft over it, or by its own draft.
     pub(crate) fn opened(&self) -> Result<Rc<Opened>, AllocError>
-        ensures lists { IfOk result (λ o. o.value.lists ≡ self.now) }
-        ensures model { IfOk result (λ o. o.value.model ≡ Lp64) }
+        ensures { IfOk result (λ o. o.value ≡ self.now) }
     {
         self.dictionary.clone()
     }
 
     /// The dictionary, lent.
     pub fn view(&self) -> Checked<'_>
-        ensures { lists_of result ≡ self.now }
+        ensures { lists_of result ≡ self.now.lists }
     {
         self.dictionary.view()
     }
 
     /// The data model of its program.
-    pub(crate) fn model(&self) -> DataModel
-        ensures { result ≡ Lp64 }
+    pub fn model(&self) -> DataModel
+        ensures { result ≡ self.now.model }
     {
         self.dictionary.model()
     }
 
     /// The map of its symbols.
     pub(crate) fn symbols(&self) -> &SymbolMap
-        ensures { Fits self.now result.now }
+        ensures { Fits self.now.lists result.now }
     {
         &self.beside.symbols
     }

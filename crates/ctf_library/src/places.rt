@@ -2,8 +2,9 @@
 ghost use Rattle.std.specs.Prelude.{◌≡◌, ◌≢◌, Err, ◌<◌, ◌+◌, ◌++◌, ◌∷◌, [], ℕ, true, map, option_map, option_copied, IfNone, IfSome, None, Some, vec_len, vec_capacity};
 ghost use Rattle.ctf_library.specs.Drafting.{HaveStepped};
 ghost use Rattle.ctf_model.specs.Refusals.{want_of_memory};
-ghost use Rattle.ctf_model.specs.declared.requests.DraftStep.TheVariants.{Discard};
-ghost use Rattle.ctf_model.specs.Steps.{fault_over, slot_at, slots_with_parent, slots_without};
+ghost use Rattle.ctf_protocol.specs.declared.requests.DraftStep.TheVariants.{Discard};
+ghost use Rattle.ctf_model.specs.Kept.{fault_over};
+ghost use Rattle.ctf_protocol.specs.Steps.{slot_at, slots_with_parent, slots_without};
 ghost use Rattle.std.specs.List.Sorted.{IsNonDecreasingBy};
 ghost use Rattle.ctf_library.specs.SlotOrder.{rise_between};
 ghost use Rattle.ctf_library.specs.SlotPlaces.{place_of};
@@ -12,7 +13,8 @@ ghost use Rattle.ctf_library.specs.SlotView.{slot_of};
 
 use crate::slots::{Imported, Slot};
 use ctf_answers::Counts;
-use ctf_model::{DraftStep, Fault, placeless};
+use ctf_model::{Fault, placeless};
+use ctf_protocol::DraftStep;
 use std::alloc::Global;
 
 /// The place of the slot of a number, found by halves.
@@ -71,11 +73,11 @@ pub fn remove_slot(slots: &mut Vec<Slot>, number: u32) -> Option<Slot>
 pub fn set_parent(slots: &mut Vec<Slot>, number: u32, imported: Imported)
     requires order { IsNonDecreasingBy (λ s. s.number) slots.old.items }
     requires fits { IfSome (slot_at number (map slot_of slots.old.items))
-        (λ slot. fault_over slot.lists imported.parent ≡ None) }
+        (λ slot. fault_over slot.kept imported.parent ≡ None) }
     requires undrafted { IfSome (slot_at number (map slot_of slots.old.items))
         (λ slot. slot.draft ≡ None) }
     requires made { IfSome (slot_at number (map slot_of slots.old.items))
-        (λ slot. AreTablesOf slot.lists (Some imported.parent) imported.tables) }
+        (λ slot. AreTablesOf slot.kept (Some imported.parent) imported.tables) }
     ensures slots { map slot_of slots.new.items
         ≡ slots_with_parent number imported.parent (map slot_of slots.old.items) }
     ensures rise { (next : ℕ) → rise_between 0 slots.old.items next ≡ true

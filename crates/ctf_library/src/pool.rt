@@ -8,7 +8,7 @@ ghost use Rattle.ctf_model.specs.Refusals.{want_of_memory};
 
 use crate::loaded::Loaded;
 use ctf_check::LentLists;
-use ctf_model::{Fault, Parts, placeless};
+use ctf_model::{DataModel, Fault, Parts, placeless};
 use ctf_space::lent;
 use std::alloc::Global;
 use std::marker::Model;
@@ -18,8 +18,8 @@ const MOST_HELD: usize = 16;
 
 /// The last dictionaries that were opened, at most 16, the oldest first.
 ///
-/// Lists that are equal to those of one that is held are not judged again: they get that
-/// dictionary, whoever opened it. What a pool holds shows in no answer.
+/// Lists that are equal to those of one that is held, for the same data model, are not judged again:
+/// they get that dictionary, whoever opened it. What a pool holds shows in no answer.
 #[derive(Drop)]
 pub struct Pool {
     alloc: Global,
@@ -29,9 +29,9 @@ pub struct Pool {
 impl Model for Pool {
     ghost use Rattle.std.specs.Prelude.{◌≤◌, List, length};
     ghost use Rattle.ctf_library.specs.Pooling.{most_held};
-    ghost use Rattle.ctf_model.specs.Lists.{Lists};
+    ghost use Rattle.ctf_model.specs.Kept.{Kept};
 
-    ghost Value = { List Lists };
+    ghost Value = { List Kept };
 
     ghost view = { λ p. p.held.items };
 
@@ -57,24 +57,26 @@ impl Pool {
         }
     }
 
-    /// The dictionary of lists, or their first fault with the lists, whatever is held.
+    /// The dictionary of lists, for programs of a data model, or their first fault with the lists,
+    /// whatever is held.
     ///
     /// A new dictionary is held from then on, and where there are too many the oldest is not.
-    pub fn open(&mut self, parts: Parts) -> Result<Loaded, (Fault, Parts)>
-        ensures ok { IfOk result (λ l. l ≡ lists_owned parts) }
+    pub fn open(&mut self, parts: Parts, model: DataModel) -> Result<Loaded, (Fault, Parts)>
+        ensures ok { IfOk result (λ l. l ≡ record { lists = lists_owned parts; model = model }) }
         ensures exact_ok { OnOk result (first_fault (lists_owned parts) ≡ None) }
         ensures exact_err { IfErr result (λ e. (e.0 ≡ want_of_memory)
             ⊎ (first_fault (lists_owned parts) ≡ Some e.0)) }
         ensures back { IfErr result (λ e. lists_owned e.1 ≡ lists_owned parts) }
-        ensures held { (self.new ≡ self.old) ⊎ Holds self.old (lists_owned parts) self.new }
+        ensures held { (self.new ≡ self.old)
+            ⊎ Holds self.old (record { lists = lists_owned parts; model = model }) self.new }
     {
-        if let Some(held) = self.find(&parts) {
+        if let Some(held) = self.find(&parts, model) {
             return match held.share() {
                 Ok(loaded) => Ok(loaded),
                 Err(_) => Err((placeless(Fault::MEMORY), parts)),
             };
         }
-        let loaded = match Loaded::build(self.alloc, parts) {
+        let loaded = match Loaded::build(self.alloc, parts, model) {
             Ok(loaded) => loaded,
             Err(refused) => return Err(refused),
         };
@@ -82,14 +84,15 @@ impl Pool {
         Ok(loaded)
     }
 
-    /// The dictionary that has just these lists, if it is held.
-    fn find(&self, parts: &Parts) -> Option<&Loaded>
-        ensures { IfSome result (λ l. (l.now ≡ lists_owned parts.now)
+    /// The dictionary that has just these lists and this data model, if it is held.
+    fn find(&self, parts: &Parts, model: DataModel) -> Option<&Loaded>
+        ensures { IfSome result (λ l.
+            (l.now ≡ record { lists = lists_owned parts.now; model = model })
             × (first_fault (lists_owned parts.now) ≡ None)) }
     {
         let lists = lent(parts);
         for held in &self.held {
-            if are_same(held.view().lists(), lists) {
+            if held.model() == model && are_same(held.view().lists(), lists) {
                 return Some(held);
             }
         }

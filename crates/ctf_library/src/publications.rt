@@ -1,10 +1,10 @@
 //! Dictionaries under the names that they were published by.
 ghost use Rattle.std.specs.Prelude.{◌≡◌, map, option_map};
 ghost use Rattle.ctf_library.specs.SlotView.{publication_of};
-ghost use Rattle.ctf_model.specs.Publications.{published_as};
+ghost use Rattle.ctf_protocol.specs.Publications.{published_as};
 
 use crate::loaded::Loaded;
-use ctf_model::PublicationName;
+use ctf_protocol::PublicationName;
 
 /// A dictionary under the name that it was published by.
 #[derive(Drop)]

@@ -3,7 +3,7 @@ ghost use Rattle.std.specs.Prelude.{◌≡◌, None, Some, option_map};
 ghost use Rattle.std.specs.Option.{ForSome};
 ghost use Rattle.ctf_library.specs.Drafting.{IsUnder};
 ghost use Rattle.ctf_library.specs.Fitting.{AreTablesOf};
-ghost use Rattle.ctf_model.specs.Steps.{fault_over};
+ghost use Rattle.ctf_model.specs.Kept.{fault_over};
 
 use crate::loaded::Loaded;
 use crate::tables::Tables;
@@ -36,7 +36,7 @@ impl Slot {
     /// A dictionary under a number, without a parent.
     pub(crate) fn of(number: u32, own: Loaded) -> Slot
         ensures { slot_of result
-            ≡ record { number = number; lists = own; parent = None; draft = None } }
+            ≡ record { number = number; kept = own; parent = None; draft = None } }
     {
         Slot {
             number,

@@ -3,7 +3,7 @@ ghost use Rattle.std.specs.Prelude.{◌≡◌, ◌≢◌, ◌≤◌, ◌<◌, �
 ghost use Rattle.ctf_model.specs.Faults.{first_fault};
 ghost use Rattle.ctf_model.specs.OwnedLists.{lists_owned};
 ghost use Rattle.ctf_model.specs.Refusals.{placeless, want_of_memory};
-ghost use Rattle.ctf_model.specs.Steps.{longest_list};
+ghost use Rattle.ctf_protocol.specs.Steps.{longest_list};
 ghost use Rattle.ctf_model.specs.declared.faults.TheConstants.Fault.{STAGE_FULL};
 
 use ctf_check::check;

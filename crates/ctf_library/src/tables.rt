@@ -3,8 +3,7 @@ ghost use Rattle.std.specs.Prelude.{◌≡◌, ◌⊎◌, None, Some, IfOk, IfEr
 ghost use Rattle.std.specs.Option.{ForSome};
 ghost use Rattle.ctf_library.specs.Fitting.{AreTablesOf, Serve, ServeParent};
 ghost use Rattle.ctf_model.specs.Refusals.{want_of_memory};
-ghost use Rattle.ctf_model.specs.Steps.{fault_over};
-ghost use Rattle.ctf_model.specs.declared.data_model.DataModel.TheVariants.{Lp64};
+ghost use Rattle.ctf_model.specs.Kept.{fault_over};
 
 use crate::loaded::Loaded;
 use ctf_layout::Layout;
@@ -23,8 +22,7 @@ pub struct Tables {
 impl Tables {
     /// The tables of a dictionary without a parent.
     pub(crate) fn build(alloc: Global, dictionary: &Opened) -> Result<Tables, AllocError>
-        requires { dictionary.now.model ≡ Lp64 }
-        ensures { IfOk result (λ t. AreTablesOf dictionary.now.lists None t) }
+        ensures { IfOk result (λ t. AreTablesOf dictionary.now None t) }
     {
         let space = Space::own(dictionary.view(), dictionary.model());
         Ok(Tables {
@@ -52,7 +50,7 @@ pub(crate) fn tables_over(alloc: Global, child: &Loaded, parent: &Loaded) -> Res
     ensures exact_err { IfErr result (λ f. (f ≡ want_of_memory)
         ⊎ (fault_over child.now parent.now ≡ Some f)) }
 {
-    match Space::over(child.view(), parent.view(), child.model()) {
+    match Space::over(child.view(), child.model(), parent.view(), parent.model()) {
         Ok(space) => match Tables::over(alloc, &space, parent.tables()) {
             Ok(tables) => Ok(tables),
             Err(AllocError) => Err(placeless(Fault::MEMORY)),

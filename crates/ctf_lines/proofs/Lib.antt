@@ -1,6 +1,8 @@
+pub mod EntryAt
+pub mod Walks
 pub mod Separated
-pub mod NameText
 pub mod Short
 pub mod MemoryLine
 pub mod Fronts
+pub mod HexText
 pub mod SaidItems

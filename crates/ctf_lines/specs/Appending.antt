@@ -2,7 +2,8 @@
 use Rattle.std.specs.Prelude.{◌≡◌, ℕ, ◌+◌, ◌≤◌, ◌++◌, min, List, length, Vec, vec_len, vec_capacity, Result, OnOk, OnErr, IsOk}
 use Rattle.std.specs.declared.alloc.Global.{Global}
 
--- a length and that of a text, as far as the line of a reply may go: one that is longer counts as one byte too many
+-- a length and that of a text, as far as the line of a reply may go:
+-- one that is longer counts as one byte too many
 abbrev pub and_text : ℕ → List ℕ → ℕ
 and_text len text = min (len + length text) 4194306
 
@@ -16,8 +17,10 @@ pub record Appended (old new : Vec ℕ Global) (text : List ℕ) : Type 0 where
   pub len : vec_len new ≡ vec_len old + length text
   pub capacity : vec_capacity new ≡ vec_capacity old
 
--- a text was appended, or memory was refused and all is as before; where there is room, no memory is taken
-pub record Writes {E : Type 0} (old : Vec ℕ Global) (text : List ℕ) (result : Result (Unit {0}) E) (new : Vec ℕ Global) : Type 0 where
+-- a text was appended, or memory was refused and all is as before;
+-- where there is room, no memory is taken
+pub record Writes {E : Type 0} (old : Vec ℕ Global) (text : List ℕ) (result : Result (Unit {0}) E)
+    (new : Vec ℕ Global) : Type 0 where
   pub ok : OnOk result (new.items ≡ old.items ++ text)
   pub err : OnErr result ((new.items ≡ old.items) × (vec_len new ≡ vec_len old))
   pub grows : vec_capacity old ≤ vec_capacity new

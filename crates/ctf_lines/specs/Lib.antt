@@ -1,3 +1,4 @@
 pub mod Commas
 pub mod Appending
 pub mod Fronts
+pub mod Putting

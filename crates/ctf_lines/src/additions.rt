@@ -1,13 +1,14 @@
 //! Reads what is added to a draft.
 ghost use Rattle.std.specs.Prelude.{◌≡◌, ◌≢◌, IfOk, codes, option_and_then};
 ghost use Rattle.serde_json.specs.View.{view, items_view};
-ghost use Rattle.ctf_model.specs.LineFields.{text_in, type_under as type_asked_under};
-ghost use Rattle.ctf_model.specs.AskAdditions.{addition_asked, addition_with as addition_asked_with, declared_named, kind_with, new_array_asked, new_enumerator_asked, new_function_asked, new_label_asked, new_member_asked, new_type_asked, offset_asked, root_asked, scalar_asked, size_or as size_or_asked, type_said as type_said_by, types_said as types_said_by, value_asked_for};
-ghost use Rattle.ctf_model.specs.declared.addables.Addable.TheVariants as adds;
+ghost use Rattle.ctf_protocol.specs.LineFields.{text_in, type_under as type_asked_under};
+ghost use Rattle.ctf_protocol.specs.AskAdditions.{addition_asked, addition_with as addition_asked_with, declared_named, kind_with, new_array_asked, new_enumerator_asked, new_function_asked, new_label_asked, new_member_asked, new_type_asked, offset_asked, root_asked, scalar_asked, size_or as size_or_asked, type_said as type_said_by, types_said as types_said_by, value_asked_for};
+ghost use Rattle.ctf_protocol.specs.declared.addables.Addable.TheVariants as adds;
 
 use crate::drafts::name_or_empty;
-use crate::reading::{number, text, type_number};
-use ctf_model::{Addable, Addition, Declared, NewArray, NewKind, NewScalar, TypeNum, TypeNums};
+use crate::reading::{items, number, number_said, text, type_number};
+use ctf_model::TypeNum;
+use ctf_protocol::{Addable, Addition, Declared, NewArray, NewKind, NewScalar, TypeNums};
 use serde_json::Value;
 use std::alloc::{AllocError, Global};
 
@@ -24,7 +25,7 @@ fn size_or(value: &Value, size: u64) -> Option<u64>
     ensures { result ≡ size_or_asked size (view value.now) }
 {
     match value.get("size") {
-        Some(_) => number(value, "size", 0, u64::MAX),
+        Some(size) => number_said(size, 0, u64::MAX),
         None => Some(size),
     }
 }
@@ -61,10 +62,7 @@ fn array(value: &Value) -> Option<NewArray>
 fn type_said(value: &Value) -> Option<TypeNum>
     ensures { result ≡ type_said_by (view value.now) }
 {
-    let number = value.as_u64()?;
-    if number > u64::from(u16::MAX) {
-        return None;
-    }
+    let number = number_said(value, 0, u64::from(u16::MAX))?;
     Some(TypeNum(number as u16))
 }
 
@@ -88,10 +86,7 @@ fn function(alloc: Global, value: &Value) -> Result<Option<NewKind>, AllocError>
     let Some(returned) = type_under(value, "type") else {
         return Ok(None);
     };
-    let Some(list) = value.get("args") else {
-        return Ok(None);
-    };
-    let Some(values) = list.as_array() else {
+    let Some(values) = items(value, "args") else {
         return Ok(None);
     };
     match types_said(alloc, values)? {
@@ -147,7 +142,7 @@ fn offset(value: &Value) -> Option<Option<u64>>
     ensures { result ≡ offset_asked (view value.now) }
 {
     match value.get("offset") {
-        Some(_) => Some(Some(number(value, "offset", 0, u64::MAX)?)),
+        Some(offset) => Some(Some(number_said(offset, 0, u64::MAX)?)),
         None => Some(None),
     }
 }

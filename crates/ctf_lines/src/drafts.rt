@@ -1,12 +1,14 @@
 //! Reads requests on drafts.
 ghost use Rattle.std.specs.Prelude.{◌≡◌, IfOk};
 ghost use Rattle.serde_json.specs.View.{view};
-ghost use Rattle.ctf_model.specs.Ask.{add_asked, create_asked, discard_asked, parent_asked, update_asked};
-ghost use Rattle.ctf_model.specs.LineFields.{name_or_empty as name_or_empty_asked};
+ghost use Rattle.ctf_protocol.specs.Ask.{add_asked, create_asked, discard_asked, parent_asked, update_asked};
+ghost use Rattle.ctf_protocol.specs.LineFields.{name_or_empty as name_or_empty_asked};
 
 use crate::additions::addition;
-use crate::reading::{name_under, slot, slot_under};
-use ctf_model::{Change, Creation, DraftStep, Piece, Request, SlotNumber};
+use crate::reading::{slot, slot_said};
+use crate::spelled::name;
+use ctf_model::Piece;
+use ctf_protocol::{Change, Creation, DraftStep, Request, SlotNumber};
 use serde_json::Value;
 use std::alloc::{AllocError, Global};
 
@@ -19,7 +21,7 @@ pub(crate) fn name_or_empty(
     ensures { IfOk result (λ name. name ≡ name_or_empty_asked key.now (view value.now)) }
 {
     match value.get(key) {
-        Some(_) => name_under(alloc, value, key),
+        Some(spelled) => name(alloc, spelled),
         None => Ok(Some(Piece::new(Vec::new(alloc)))),
     }
 }
@@ -29,7 +31,7 @@ fn parent(value: &Value) -> Option<Option<SlotNumber>>
     ensures { result ≡ parent_asked (view value.now) }
 {
     match value.get("parent") {
-        Some(_) => Some(Some(slot_under(value, "parent")?)),
+        Some(parent) => Some(Some(slot_said(parent)?)),
         None => Some(None),
     }
 }

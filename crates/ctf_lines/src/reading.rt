@@ -1,19 +1,21 @@
 //! Reads the request of a line.
-ghost use Rattle.std.specs.Prelude.{◌≡◌, ◌≢◌, ◌≤◌, IfSome, Option, None, Some, IfOk, IfErr, Ok, Err, codes, option_map};
-ghost use Rattle.serde_json.specs.View.{view};
-ghost use Rattle.ctf_model.specs.Ask.{ask, list_named, close_asked, import_asked, publication_asked, publish_asked, take_asked, about_type as type_question_asked, about_slot as slot_question_asked, about_held as held_question_asked, bytes_asked, symbol_asked, show_asked, names_asked, part_asked, word_asked, asked_with, request_asked, value_asked};
-ghost use Rattle.ctf_model.specs.LineFields.{number_in, text_in, slot_under as slot_named, slot_in, type_in, name_under as name_asked, from_asked, count_asked, window_asked};
+ghost use Rattle.std.specs.Prelude.{◌≡◌, ◌≢◌, ◌≤◌, IfSome, Option, None, Some, IfOk, IfErr, Ok, Err, codes, option_map, option_and_then};
+ghost use Rattle.serde_json.specs.Find.{as_array, as_number, as_u64, get};
+ghost use Rattle.serde_json.specs.View.{view, items_view};
+ghost use Rattle.ctf_protocol.specs.Ask.{ask, list_named, close_asked, import_asked, publication_asked, publish_asked, take_asked, about_type as type_question_asked, about_slot as slot_question_asked, about_held as held_question_asked, bytes_asked, symbol_asked, show_asked, names_asked, part_asked, word_asked, asked_with, request_asked, value_asked};
+ghost use Rattle.ctf_protocol.specs.LineFields.{within, number_in, text_in, slot_under as slot_named, slot_in, type_in, name_under as name_asked, from_asked, count_asked, window_asked};
 ghost use Rattle.ctf_model.specs.Refusals.{placeless};
 ghost use Rattle.ctf_model.specs.declared.faults.TheConstants.Fault.{MEMORY};
-ghost use Rattle.ctf_model.specs.declared.questions.SlotQuestion.TheVariants as whole;
-ghost use Rattle.ctf_model.specs.declared.questions.TypeQuestion.TheVariants as about;
+ghost use Rattle.ctf_protocol.specs.declared.questions.SlotQuestion.TheVariants as whole;
+ghost use Rattle.ctf_protocol.specs.declared.questions.TypeQuestion.TheVariants as about;
 
 use crate::drafts::{add, create, discard, update};
 use crate::lines::FromLine;
 use crate::spelled::{name, names, piece};
-use ctf_model::{
-    Change, Fault, HeldQuestion, ListName, Names, Piece, PublicationName, Question, Request,
-    SlotNumber, SlotQuestion, TypeNum, TypeQuestion, Window, Word, placeless,
+use ctf_model::{Fault, Piece, TypeNum, placeless};
+use ctf_protocol::{
+    Change, HeldQuestion, ListName, Names, PublicationName, Question, Request, SlotNumber,
+    SlotQuestion, TypeQuestion, Window, Word,
 };
 use serde_json::Value;
 use std::alloc::{AllocError, Global};
@@ -62,12 +64,13 @@ fn read_value(alloc: Global, value: &Value) -> Result<(u32, Request), (u32, Faul
     }
 }
 
-/// The number of a field, where it is there and in its range.
-pub(crate) fn number(value: &Value, key: &str, low: u64, high: u64) -> Option<u64>
-    ensures number { result ≡ number_in low high key.now (view value.now) }
+/// The number that a value is, where it is in a range.
+pub(crate) fn number_said(value: &Value, low: u64, high: u64) -> Option<u64>
+    ensures number { result ≡ option_and_then (within low high)
+        (option_and_then as_u64 (as_number (view value.now))) }
     ensures in_range { IfSome result (λ n. (low ≤ n) × (n ≤ high)) }
 {
-    let number = value.get(key)?.as_u64()?;
+    let number = value.as_u64()?;
     if low <= number && number <= high {
         Some(number)
     } else {
@@ -75,11 +78,30 @@ pub(crate) fn number(value: &Value, key: &str, low: u64, high: u64) -> Option<u6
     }
 }
 
+/// The number of a field, where it is there and in its range.
+pub(crate) fn number(value: &Value, key: &str, low: u64, high: u64) -> Option<u64>
+    ensures number { result ≡ number_in low high key.now (view value.now) }
+    ensures in_range { IfSome result (λ n. (low ≤ n) × (n ≤ high)) }
+{
+    number_said(value.get(key)?, low, high)
+}
+
 /// The text of a field.
 pub(crate) fn text<'a>(value: &'a Value, key: &str) -> Option<&'a str>
     ensures { option_map (λ s. s.now) result ≡ text_in key.now (view value.now) }
 {
     value.get(key)?.as_str()
+}
+
+/// The items of a field that is a list.
+pub(crate) fn items<'a>(value: &'a Value, key: &str) -> Option<&'a [Value]>
+    ensures { option_map (λ items. items_view items.now) result
+        ≡ option_and_then as_array (get key.now (view value.now)) }
+{
+    match value.get(key)?.as_array() {
+        Some(values) => Some(values.as_slice()),
+        None => None,
+    }
 }
 
 fn read_request(alloc: Global, value: &Value) -> Result<Option<Request>, AllocError>
@@ -103,51 +125,49 @@ fn read_word(alloc: Global, value: &Value, word: Word) -> Result<Option<Request>
     ensures { IfOk result (λ request. request ≡ asked_with (view value.now) word) }
 {
     match word {
-        Word::DoPart => read_part(alloc, value),
-        Word::DoCheck => Ok(Some(Request::Changes(Change::Check))),
-        Word::DoOpen => Ok(Some(Request::Changes(Change::Open))),
-        Word::DoClear => Ok(Some(Request::Changes(Change::Clear))),
-        Word::DoReset => Ok(Some(Request::Changes(Change::Reset))),
-        Word::DoClose => Ok(close(value)),
-        Word::DoImport => Ok(import(value)),
-        Word::DoPublish => publish(alloc, value),
-        Word::DoTake => take(alloc, value),
-        Word::DoCreate => create(alloc, value),
-        Word::DoAdd => add(alloc, value),
-        Word::DoUpdate => Ok(update(value)),
-        Word::DoDiscard => Ok(discard(value)),
-        Word::DoKind => Ok(about_type(value, Some(TypeQuestion::Kind))),
-        Word::DoRecord => Ok(about_type(value, Some(TypeQuestion::Record))),
-        Word::DoMembers => Ok(about_type(value, members(value))),
-        Word::DoEnumerators => Ok(about_type(value, enumerators(value))),
-        Word::DoArgs => Ok(about_type(value, Some(TypeQuestion::Args))),
-        Word::DoArray => Ok(about_type(value, Some(TypeQuestion::Array))),
-        Word::DoEncoding => Ok(about_type(value, Some(TypeQuestion::Encoding))),
-        Word::DoReference => Ok(about_type(value, Some(TypeQuestion::Reference))),
-        Word::DoResolve => Ok(about_type(value, Some(TypeQuestion::Resolve))),
-        Word::DoSize => Ok(about_type(value, Some(TypeQuestion::Size))),
-        Word::DoAlign => Ok(about_type(value, Some(TypeQuestion::Align))),
-        Word::DoName => Ok(about_type(value, Some(TypeQuestion::Name))),
-        Word::DoPointer => Ok(about_type(value, Some(TypeQuestion::Pointer))),
-        Word::DoFind => Ok(about_slot(value, find(alloc, value)?)),
-        Word::DoPath => Ok(about_type(value, path(alloc, value)?)),
-        Word::DoShow => Ok(about_type(value, show(alloc, value)?)),
-        Word::DoSymbol => Ok(about_slot(value, symbol(alloc, value)?)),
-        Word::DoObject => Ok(about_slot(value, object(value))),
-        Word::DoFunction => Ok(about_slot(value, function(value))),
-        Word::DoLabels => Ok(about_slot(value, labels(value))),
-        Word::DoLabel => Ok(about_slot(value, label(alloc, value)?)),
-        Word::DoInfo => Ok(about_held(value, Some(HeldQuestion::Info))),
-        Word::DoBytes => Ok(about_held(value, bytes(value))),
+        Word::Part => read_part(alloc, value),
+        Word::Check => Ok(Some(Request::Changes(Change::Check))),
+        Word::Open => Ok(Some(Request::Changes(Change::Open))),
+        Word::Clear => Ok(Some(Request::Changes(Change::Clear))),
+        Word::Reset => Ok(Some(Request::Changes(Change::Reset))),
+        Word::Close => Ok(close(value)),
+        Word::Import => Ok(import(value)),
+        Word::Publish => publish(alloc, value),
+        Word::Take => take(alloc, value),
+        Word::Create => create(alloc, value),
+        Word::Add => add(alloc, value),
+        Word::Update => Ok(update(value)),
+        Word::Discard => Ok(discard(value)),
+        Word::Plain(question) => Ok(about_type(value, Some(TypeQuestion::Plain(question)))),
+        Word::Members => Ok(about_type(value, members(value))),
+        Word::Enumerators => Ok(about_type(value, enumerators(value))),
+        Word::Find => Ok(about_slot(value, find(alloc, value)?)),
+        Word::Path => Ok(about_type(value, path(alloc, value)?)),
+        Word::Show => Ok(about_type(value, show(alloc, value)?)),
+        Word::Symbol => Ok(about_slot(value, symbol(alloc, value)?)),
+        Word::Object => Ok(about_slot(value, object(value))),
+        Word::Function => Ok(about_slot(value, function(value))),
+        Word::Labels => Ok(about_slot(value, labels(value))),
+        Word::Label => Ok(about_slot(value, label(alloc, value)?)),
+        Word::Held(question) => Ok(about_held(value, Some(question))),
+        Word::Bytes => Ok(about_held(value, bytes(value))),
     }
 }
 
+/// The number of a slot that a value is.
+pub(crate) fn slot_said(value: &Value) -> Option<SlotNumber>
+    ensures { result ≡ option_and_then (within 1 4294967295)
+        (option_and_then as_u64 (as_number (view value.now))) }
+{
+    let number = number_said(value, 0, u64::from(u32::MAX))?;
+    SlotNumber::new(number as u32)
+}
+
 /// The number of a slot in a field.
-pub(crate) fn slot_under(value: &Value, key: &str) -> Option<SlotNumber>
+fn slot_under(value: &Value, key: &str) -> Option<SlotNumber>
     ensures { result ≡ slot_named key.now (view value.now) }
 {
-    let number = number(value, key, 1, u64::from(u32::MAX))?;
-    SlotNumber::new(number as u32)
+    slot_said(value.get(key)?)
 }
 
 pub(crate) fn slot(value: &Value) -> Option<SlotNumber>
@@ -221,7 +241,7 @@ fn from(value: &Value) -> Option<u32>
 {
     match value.get("from") {
         None => Some(0),
-        Some(_) => Some(number(value, "from", 0, u64::from(u32::MAX))? as u32),
+        Some(from) => Some(number_said(from, 0, u64::from(u32::MAX))? as u32),
     }
 }
 
@@ -231,7 +251,7 @@ fn count(value: &Value) -> Option<Option<u32>>
 {
     match value.get("count") {
         None => Some(None),
-        Some(_) => Some(Some(number(value, "count", 0, u64::from(u32::MAX))? as u32)),
+        Some(count) => Some(Some(number_said(count, 0, u64::from(u32::MAX))? as u32)),
     }
 }
 
@@ -270,10 +290,7 @@ fn path(alloc: Global, value: &Value) -> Result<Option<TypeQuestion>, AllocError
 fn names_under(alloc: Global, value: &Value) -> Result<Option<Names>, AllocError>
     ensures { IfOk result (λ names. names ≡ names_asked (view value.now)) }
 {
-    let Some(list) = value.get("names") else {
-        return Ok(None);
-    };
-    match list.as_array() {
+    match items(value, "names") {
         Some(values) => names(alloc, values),
         None => Ok(None),
     }
@@ -296,11 +313,7 @@ fn show(alloc: Global, value: &Value) -> Result<Option<TypeQuestion>, AllocError
 }
 
 /// The name that a field spells.
-pub(crate) fn name_under(
-    alloc: Global,
-    value: &Value,
-    key: &str,
-) -> Result<Option<Piece>, AllocError>
+fn name_under(alloc: Global, value: &Value, key: &str) -> Result<Option<Piece>, AllocError>
     ensures { IfOk result (λ name. name ≡ name_asked key.now (view value.now)) }
 {
     match value.get(key) {

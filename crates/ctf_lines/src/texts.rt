@@ -1,8 +1,10 @@
-//! Texts and numbers of a line: their lengths, and how they are appended.
-ghost use Rattle.std.specs.Prelude.{◌≡◌, ◌+◌, ◌≤◌, ◌++◌, length, min, vec_len, vec_capacity, decimal};
-ghost use Rattle.ctf_model.specs.ReplyLines.{signed_decimal};
+//! Texts at the end of a line, and those of numbers.
+ghost use Rattle.std.specs.Prelude.{◌≡◌, ◌+◌, ◌≤◌, ◌++◌, length, vec_len, vec_capacity, decimal};
+ghost use Rattle.ctf_model.specs.Texts.{signed_decimal};
 ghost use Rattle.ctf_lines.specs.Appending.{HasRoom, Appended};
 
+use crate::names::append_hex;
+use crate::papers::Paper;
 use itoa::Buffer;
 
 /// The longest line of a reply, in bytes without its newline.
@@ -11,31 +13,8 @@ pub const LONGEST_REPLY: usize = 4_194_304;
 /// The length, newline included, that any line counts as which is longer than a reply's may be.
 pub const TOO_LONG: usize = 4_194_306;
 
-/// A length and more bytes.
-pub fn plus(len: usize, more: usize) -> usize
-    ensures { result ≡ min (len + more) TOO_LONG }
-{
-    if len < TOO_LONG && more < TOO_LONG - len {
-        len + more
-    } else {
-        TOO_LONG
-    }
-}
-
-pub fn number_len(number: u64) -> usize
-    ensures { result ≡ length (decimal number) }
-{
-    Buffer::new().format(number).len()
-}
-
-pub fn signed_len(value: i32) -> usize
-    ensures { result ≡ length (signed_decimal value) }
-{
-    Buffer::new().format(value).len()
-}
-
 /// Appends bytes where there is room.
-pub fn put(out: &mut Vec<u8>, bytes: &[u8])
+fn append(out: &mut Vec<u8>, bytes: &[u8])
     requires { HasRoom out.old bytes.now }
     ensures { Appended out.old out.new bytes.now }
 {
@@ -44,16 +23,43 @@ pub fn put(out: &mut Vec<u8>, bytes: &[u8])
     }
 }
 
-pub fn put_number(out: &mut Vec<u8>, number: u64)
-    requires { HasRoom out.old (decimal number) }
-    ensures { Appended out.old out.new (decimal number) }
-{
-    put(out, Buffer::new().format(number).as_bytes())
+/// A line, to whose end a text is appended where there is room.
+impl Paper for Vec<u8> {
+    ghost use Rattle.ctf_lines.specs.Appending.{HasRoom, Appended};
+    ghost use Rattle.ctf_lines.specs.Putting.{none_appended, both_appended};
+
+    ghost Took = { λ old text new. HasRoom old text → Appended old new text };
+
+    fn is_full(&self) -> bool {
+        false
+    }
+
+    fn put(&mut self, text: &[u8]) {
+        if text.len() <= self.capacity() - self.len() {
+            append(self, text);
+        }
+    }
+
+    #[tactic(auto, using(crate::proofs::HexText::hex_of_twice))]
+    fn put_hex(&mut self, bytes: &[u8]) {
+        if bytes.len() <= (self.capacity() - self.len()) / 2 {
+            append_hex(self, bytes);
+        }
+    }
+
+    ghost nothing = { none_appended };
+
+    ghost joined = { both_appended };
 }
 
-pub fn put_signed(out: &mut Vec<u8>, value: i32)
-    requires { HasRoom out.old (signed_decimal value) }
-    ensures { Appended out.old out.new (signed_decimal value) }
+pub fn put_number<P: Paper>(paper: &mut P, number: u64)
+    ensures { P.Took paper.old (decimal number) paper.new }
 {
-    put(out, Buffer::new().format(value).as_bytes())
+    paper.put(Buffer::new().format(number).as_bytes())
+}
+
+pub fn put_signed<P: Paper>(paper: &mut P, value: i32)
+    ensures { P.Took paper.old (signed_decimal value) paper.new }
+{
+    paper.put(Buffer::new().format(value).as_bytes())
 }

@@ -1,13 +1,15 @@
 //! Writes the line of a reply.
 ghost use Rattle.std.specs.Prelude.{◌≡◌, ◌≤◌, length};
-ghost use Rattle.ctf_model.specs.ReplyLines.{fault_fields, fault_line, fitting_answer, object_line, reply_line};
+ghost use Rattle.ctf_protocol.specs.ReplyLines.{fault_fields, fault_line, fitting_answer, object_line, reply_line};
 ghost use Rattle.ctf_answers.specs.Counts.{counts_said};
 ghost use Rattle.ctf_answers.specs.Replies.{reply_of, said_to};
-ghost use Rattle.ctf_lines.specs.Appending.{Appended, HasRoom, Writes, and_text};
+ghost use Rattle.ctf_lines.specs.Appending.{Writes, and_text};
 
 use crate::lines::ToLine;
-use crate::series::{plus_series, put_series};
-use crate::texts::{LONGEST_REPLY, TOO_LONG, number_len, plus, put, put_number};
+use crate::measures::Measure;
+use crate::papers::Paper;
+use crate::series::put_series;
+use crate::texts::{LONGEST_REPLY, put_number};
 use ctf_answers::{Answer, Counts, Reply, Single};
 use ctf_model::{Fault, fault_name, placeless};
 use std::alloc::AllocError;
@@ -15,27 +17,27 @@ use std::alloc::AllocError;
 /// The greatest length of the line of a refusal, or of a reply to a change.
 pub const SHORT_LINE: usize = 96;
 
+/// Puts the line of an object on.
+fn put_line<P: Paper>(paper: &mut P, under: &str, session: u32, fields: &Answer<'_>)
+    ensures { P.Took paper.old (object_line under.now session fields.now) paper.new }
+{
+    paper.put(b"{\"");
+    paper.put(under.as_bytes());
+    paper.put(b"\":{");
+    put_series(paper, fields);
+    paper.put(b"},\"s\":");
+    put_number(paper, u64::from(session));
+    paper.put(b"}\n");
+}
+
 /// The length of the line of an object, newline included; `TOO_LONG` for any that is longer than a
 /// reply's may be.
 fn object_len(under: &str, session: u32, fields: &Answer<'_>) -> usize
     ensures { result ≡ and_text 0 (object_line under.now session fields.now) }
 {
-    let len = plus(plus(5, under.len()), number_len(u64::from(session)));
-    plus_series(plus(len, 8), fields)
-}
-
-/// Appends the line of an object where there is room.
-fn put_object(out: &mut Vec<u8>, under: &str, session: u32, fields: &Answer<'_>)
-    requires { HasRoom out.old (object_line under.now session fields.now) }
-    ensures { Appended out.old out.new (object_line under.now session fields.now) }
-{
-    put(out, b"{\"");
-    put(out, under.as_bytes());
-    put(out, b"\":{");
-    put_series(out, fields);
-    put(out, b"},\"s\":");
-    put_number(out, u64::from(session));
-    put(out, b"}\n");
+    let mut measure = Measure::new();
+    put_line(&mut measure, under, session, fields);
+    measure.len()
 }
 
 /// Appends the line of an object that has a length, or nothing where memory is refused.
@@ -50,7 +52,7 @@ fn write_object(
     ensures { Writes out.old (object_line under.now session fields.now) result out.new }
 {
     out.reserve_exact(len)?;
-    put_object(out, under, session, fields);
+    put_line(out, under, session, fields);
     Ok(())
 }
 

@@ -21,14 +21,10 @@ pub mod SymbolRules
 pub mod Told
 pub mod Unique
 pub mod Walk
-pub mod KeyOrder
-pub mod Asking
-pub mod SessionRuns
 pub mod OwnTypes
 pub mod Settled
 pub mod FigureAsks
 pub mod BoundedValues
-pub mod TextReading
 pub mod Alls
 pub mod DraftNumbers
 pub mod SoundDrafts

@@ -1,7 +1,7 @@
 -- A code beyond the table has no name.
-use Rattle.std.proofs.Common.{◌≡◌, ◌≢◌, ℕ, ◌<◌, ◌≤◌, true, false, eqb, ltb, List, [], ◌∷◌, refl, sym, arith, ◌⊎◌, inl, inr, ⊎_elim}
+use Rattle.std.proofs.Common.{◌≡◌, ℕ, ◌<◌, ◌≤◌, true, false, eqb, ltb, List, [], ◌∷◌, refl, sym, arith}
 use Rattle.std.specs.List.{list_all}
-use Rattle.std.proofs.lemmas.Bool.{ne_eqb, ltb-true, cases_lt, and_parts}
+use Rattle.std.proofs.lemmas.Bool.{ne_eqb, ltb-true, and_parts}
 use Rattle.ctf_model.specs.FaultNames.{fault_names, name_beside, name_of_fault}
 
 -- a code that is not below the bound of a table has no name in it
@@ -13,17 +13,7 @@ beyond code bound (row ∷ rows) h le =
     let other : eqb row.0 code ≡ false = ne_eqb row.0 code (omega arith) in
     rw other (beyond code bound rows parts.1 le)
 
--- two codes in the gap have no name
-at_gap : (code : ℕ) → (code ≡ 60) ⊎ (code ≡ 61) → name_of_fault code ≡ []
-unfolding name_of_fault
-at_gap code (inl e) = rw e refl
-at_gap code (inr e) = rw e refl
-
--- the gap is just these two
-gap : (code : ℕ) → 60 ≤ code → code ≢ 62 → code < 63 → (code ≡ 60) ⊎ (code ≡ 61)
-gap code low other high = ⊎_elim (λ lt. inl (omega arith)) (λ le. inr (omega arith)) (cases_lt code 61)
-
 -- a code that the table lacks has no name
-pub nameless : (code : ℕ) → 60 ≤ code → code ≢ 62 → [] ≡ name_of_fault code
+pub nameless : (code : ℕ) → 63 ≤ code → [] ≡ name_of_fault code
 unfolding name_of_fault
-nameless code low other = ⊎_elim (λ lt. sym (at_gap code (gap code low other lt))) (λ le. sym (beyond code 63 fault_names refl le)) (cases_lt code 63)
+nameless code high = sym (beyond code 63 fault_names refl high)

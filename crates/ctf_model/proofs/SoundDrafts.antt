@@ -1,5 +1,5 @@
 -- Whatever is done to a draft keeps it sound.
-use Rattle.std.proofs.Common.{◌≡◌, ℕ, ◌*◌, ◌^◌, ◌<◌, ◌≤◌, Bool, true, false, cond, eqb, leb, List, [], ◌∷◌, ◌++◌, length, map, set, Option, Some, Result, Ok, Err, refl, sym, ap, subst, ◌∙◌, arith}
+use Rattle.std.proofs.Common.{◌≡◌, ℕ, ◌*◌, ◌^◌, ◌<◌, ◌≤◌, Bool, true, false, cond, eqb, leb, List, [], ◌∷◌, ◌++◌, length, map, set, Option, Some, None, Result, Ok, Err, refl, sym, ap, subst, ◌∙◌, arith}
 use Rattle.std.specs.Prelude.{not, is_none, is_some, unwrap_or, FitsSigned}
 use Rattle.std.specs.Int.{w32}
 use Rattle.std.specs.List.{AllByRecursion, list_any}
@@ -9,12 +9,13 @@ use Rattle.ctf_model.proofs.Alls.{all_got, all_joined, all_set, all_split, none_
 use Rattle.ctf_model.proofs.Anywhere.{all_map}
 use Rattle.ctf_model.proofs.DraftNumbers.{IsOpen, opened, still_there}
 use Rattle.ctf_model.specs.Adders.{Added, add_enumerator, add_label, add_member, add_type, against_enumerator, against_label, against_member, against_place, against_type, body_at, found_body, members_at, most_items, most_types, place_member, present_enumerators, present_members, put_member, replaced, size_with, with_body, with_enumerator, with_label, with_member, with_pending, with_type}
-use Rattle.ctf_model.specs.Dictionary.{Dictionary, Label}
+use Rattle.ctf_model.specs.Dictionary.{Label}
 use Rattle.ctf_model.specs.DraftChanges.{DraftChange, after, changed, draft_of, or_as_before}
 use Rattle.ctf_model.specs.DraftChanges as does
 use Rattle.ctf_model.specs.DraftLaws.{FitsChange, HoldsTogether, IsSound, NamesThere}
-use Rattle.ctf_model.specs.Drafts.{Draft, against_draft, all_of, count_of, discarded, empty_draft, has_zero, held, is_absent, new_draft, next_number, settled, space_of}
+use Rattle.ctf_model.specs.Drafts.{Draft, above, against_draft, all_of, count_of, discarded, empty_draft, has_zero, held, is_absent, new_draft, next_number, settled, space_of}
 use Rattle.ctf_model.specs.Fitting.{Fits, FitsBody, FitsEnumerator, FitsLabel, FitsMember, FitsMembers, FitsNew, IsName}
+use Rattle.ctf_model.specs.Imports.{Modelled}
 use Rattle.ctf_model.specs.Judgements.{Row, first_met, unless, ◌then◌}
 use Rattle.ctf_model.specs.NewTypes.{NewBody, NewType, new_body, new_term}
 use Rattle.ctf_model.specs.NewTypes as new
@@ -61,13 +62,17 @@ is_name (b ∷ name) h = let both = or_parts (eqb b 0) (has_zero name) h in let 
 
 -- ---- new drafts
 
-pub new_sound : (parent : Option Dictionary) (parname parlabel : List ℕ) (model : DataModel) (d : Draft) → is_some parent ≡ not (eqb (length parname) 0) → new_draft parent parname parlabel model ≡ Ok d → IsSound d
+above_there : (parent : Option Modelled) → is_some (above parent) ≡ is_some parent
+above_there None = refl
+above_there (Some parent) = refl
+
+pub new_sound : (parent : Option Modelled) (parname parlabel : List ℕ) (model : DataModel) (d : Draft) → is_some parent ≡ not (eqb (length parname) 0) → new_draft parent parname parlabel model ≡ Ok d → IsSound d
 unfolding new_draft
 new_sound parent parname parlabel model d child h =
-    let judged = passed (against_draft parent parname parlabel) (Ok (empty_draft parent parname parlabel model)) d h in
+    let judged = passed (against_draft parent parname parlabel model) (Ok (empty_draft (above parent) parname parlabel model)) d h in
     let names = or_parts (has_zero parname) (has_zero parlabel) judged.0.0 in
-    let all : HoldsTogether (empty_draft parent parname parlabel model) = record { parent = judged.0.1.0; child = child; parname = is_name parname names.0; parlabel = is_name parlabel names.1; labels = tt; count = omega arith; terms = tt; named = tt } in
-    subst IsSound (ok_is (empty_draft parent parname parlabel model) d judged.1) (record { all = all; updated = all })
+    let all : HoldsTogether (empty_draft (above parent) parname parlabel model) = record { parent = judged.0.1.0; child = above_there parent ∙ child; parname = is_name parname names.0; parlabel = is_name parlabel names.1; labels = tt; count = omega arith; terms = tt; named = tt } in
+    subst IsSound (ok_is (empty_draft (above parent) parname parlabel model) d judged.1) (record { all = all; updated = all })
 
 -- ---- other types than before
 

@@ -1,5 +1,5 @@
 -- What a sound draft gives: it keeps the rule of references, and stays under its parent.
-use Rattle.std.proofs.Common.{◌≡◌, ℕ, ◌<◌, ◌≤◌, false, List, [], ◌∷◌, length, Option, Some, None, refl, subst, arith}
+use Rattle.std.proofs.Common.{◌≡◌, ℕ, ◌<◌, ◌≤◌, true, false, List, [], ◌∷◌, length, Option, Some, None, refl, subst, arith}
 use Rattle.std.specs.List.{AllByRecursion, flat_map, list_any}
 use Rattle.std.proofs.lemmas.Bool.{le-ltb}
 use Rattle.ctf_model.proofs.Alls.{all_joined, none_all, none_weaker}
@@ -10,8 +10,10 @@ use Rattle.ctf_model.specs.DraftLaws.{IsSound, NamesThere}
 use Rattle.ctf_model.specs.Drafts.{Draft, held, is_absent, is_childs}
 use Rattle.ctf_model.specs.Needs.{greatest_in_parent, named_by, number_in_parent}
 use Rattle.ctf_model.specs.References.{is_missing, references}
-use Rattle.ctf_model.specs.Space.{import_fault}
+use Rattle.ctf_model.specs.Imports.{import_fault, of_one_model, same_model}
 use Rattle.ctf_model.specs.Term.{Term}
+use Rattle.ctf_model.specs.declared.data_model.DataModel.{DataModel}
+use Rattle.ctf_model.specs.declared.data_model.DataModel.TheVariants.{Lp64, Ilp32}
 
 pub misses_none : (d : Draft) → IsSound d → AllByRecursion (λ x. list_any (is_missing (held d).child (length (held d).terms)) (references x.body) ≡ false) (held d).terms
 misses_none d ok = all_map (NamesThere d) (λ x. list_any (is_missing (held d).child (length (held d).terms)) (references x.body) ≡ false) (λ x h. none_weaker (is_absent d) (is_missing (held d).child (length (held d).terms)) (there_not_missing d) (references x.body) h) (held d).terms ok.all.named
@@ -43,8 +45,12 @@ low d parent ok e =
     let all = all_joined (InParent parent) (flat_map (λ x. references x.body) (held d).terms) [] (flat_low parent (held d).terms each) tt in
     greatest_low parent (named_by (held d)) all
 
-pub stays_under : (d : Draft) (parent : Dictionary) → IsSound d → d.parent ≡ Some parent → import_fault (record { child = held d; parent = parent }) ≡ None
+same_as_itself : (model : DataModel) → same_model model model ≡ true
+same_as_itself Lp64 = refl
+same_as_itself Ilp32 = refl
+
+pub stays_under : (d : Draft) (parent : Dictionary) → IsSound d → d.parent ≡ Some parent → import_fault (of_one_model d.model (held d) parent) ≡ None
 stays_under d parent ok e =
     let enough = le-ltb (length parent.terms) (greatest_in_parent (named_by (held d))) (low d parent ok e) in
     let grown_up : is_childs (Some parent) ≡ false = subst (λ (q : Option Dictionary). is_childs q ≡ false) e ok.all.parent in
-    rw (e, grown_up, enough) refl
+    rw (e, grown_up, same_as_itself d.model, enough) refl

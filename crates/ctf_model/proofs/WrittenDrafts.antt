@@ -9,7 +9,7 @@ use Rattle.ctf_model.specs.DraftLaws.{IsSound}
 use Rattle.ctf_model.specs.Drafts.{Draft, held}
 use Rattle.ctf_model.specs.Faults.{first_fault}
 use Rattle.ctf_model.specs.Header.{fields, is_child}
-use Rattle.ctf_model.specs.Space.{import_fault}
+use Rattle.ctf_model.specs.Imports.{import_fault, of_one_model}
 use Rattle.ctf_model.specs.Written.{bytes_of, lists_of, most_written, unwritten, written}
 
 writable : (d : Draft) → IsSound d → IsWritable (held d)
@@ -32,10 +32,10 @@ draft_denoted d bytes ok e = whole (held d) bytes (writable d ok) e
 pub draft_child : (d : Draft) (bytes : List ℕ) → IsSound d → written (held d) ≡ Ok bytes → is_child (fields bytes) ≡ is_some d.parent
 draft_child d bytes ok e = sym (draft_denoted d bytes ok e).child
 
-pub draft_imported : (d : Draft) (parent : Dictionary) (bytes : List ℕ) (child : Dictionary) → IsSound d → d.parent ≡ Some parent → written (held d) ≡ Ok bytes → Denotes (lists_of bytes) child → import_fault (record { child = child; parent = parent }) ≡ None
+pub draft_imported : (d : Draft) (parent : Dictionary) (bytes : List ℕ) (child : Dictionary) → IsSound d → d.parent ≡ Some parent → written (held d) ≡ Ok bytes → Denotes (lists_of bytes) child → import_fault (of_one_model d.model child parent) ≡ None
 draft_imported d parent bytes child ok p e denotes =
     let same : held d ≡ child = one_dictionary (lists_of bytes) (held d) child (draft_denoted d bytes ok e) denotes in
-    subst (λ (c : Dictionary). import_fault (record { child = c; parent = parent }) ≡ None) same (stays_under d parent ok p)
+    subst (λ (c : Dictionary). import_fault (of_one_model d.model c parent) ≡ None) same (stays_under d parent ok p)
 
 pub draft_alike : (d : Draft) → IsSound d → length (bytes_of (held d)) ≤ most_written → first_fault (lists_of (bytes_of (held d))) ≡ unwritten (held d)
 draft_alike d ok small = alike (held d) (writable d ok) small

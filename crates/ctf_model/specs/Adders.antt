@@ -1,4 +1,5 @@
--- What is added to a draft. Source: libctf(3LIB), ctf_add_member, ctf_add_enumerator, ctf_label_set, and the functions that add types; the order of refusals is ours.
+-- What is added to a draft. Source: libctf(3LIB), ctf_add_member, ctf_add_enumerator,
+-- ctf_label_set, and the functions that add types; the order of refusals is ours.
 use Rattle.std.specs.Prelude.{ℕ, ◌||◌, ◌&&◌, ◌==◌, not, nat_lt, nat_le, Bool, false, List, [], ◌∷◌, ◌++◌, length, map, set, is_none, unwrap_or, Option, Some, None, Result, Ok, Err}
 use Rattle.std.specs.List.{list_any}
 use Rattle.std.specs.Str.{bytes_eq}
@@ -24,7 +25,8 @@ most_types = 32766
 abbrev pub most_items : ℕ
 most_items = 1023
 
--- a draft that something was added to, and the number that is answered: that of a type, or a member's offset
+-- a draft that something was added to, and the number that is answered:
+-- that of a type, or a member's offset
 pub record Added : Type 0 where
   pub draft : Draft
   pub answer : ℕ
@@ -47,7 +49,9 @@ with_type d x = with_pending d (d.pending.terms ++ x ∷ [])
 
 -- a new type; it is answered its number
 unfoldable pub add_type : Draft → NewType → Result Added Fault
-add_type d new = unless (first_met (against_type d (new_term new))) (Ok (record { draft = with_type d (new_term new); answer = next_number d }))
+add_type d new =
+    unless (first_met (against_type d (new_term new)))
+    (Ok (record { draft = with_type d (new_term new); answer = next_number d }))
 
 -- ---- a pending type that gets a member or enumerator
 
@@ -105,7 +109,8 @@ against_member d n name tnum =
 
 -- the same, once its place and the new size are known
 abbrev pub against_place : ℕ → ℕ → List Row
-against_place offset size = record { code = BAD_OFFSET; met = is_too_far offset || is_too_far size } ∷ []
+against_place offset size =
+    record { code = BAD_OFFSET; met = is_too_far offset || is_too_far size } ∷ []
 
 -- a struct or union with one member more, and of a size
 abbrev pub with_member : Member → ℕ → Body → Body
@@ -120,18 +125,24 @@ size_with d n offset bits = grown (unwrap_or (size_of (body_at d n)) 0) offset b
 abbrev pub put_member : Draft → ℕ → Member → ℕ → Result Added Fault
 put_member d n m bits =
     unless (first_met (against_place m.offset (size_with d n m.offset bits)))
-    (Ok (record { draft = replaced d n (with_member m (size_with d n m.offset bits) (body_at d n)); answer = m.offset }))
+    (Ok (record {
+      draft = replaced d n (with_member m (size_with d n m.offset bits) (body_at d n));
+      answer = m.offset;
+    }))
 
--- the member at its place: the type of the member has a size, and where it is to be placed, the last member's has one, and then its own type has an alignment
+-- the member at its place: the type of the member has a size, and where it is to be placed,
+-- the last member's has one, and then its own type has an alignment
 abbrev pub place_member : Draft → ℕ → List ℕ → ℕ → Option ℕ → Result Added Fault
 place_member d n name tnum offset =
     bits_filled (space_of d) tnum then λ bits.
     member_place (space_of d) (body_at d n) tnum offset then λ place.
     put_member d n (record { name = name; tnum = tnum; offset = place }) bits
 
--- a new member of a pending struct or union, at an offset in bits if that is stated; it is answered its offset
+-- a new member of a pending struct or union, at an offset in bits if that is stated;
+-- it is answered its offset
 unfoldable pub add_member : Draft → ℕ → List ℕ → ℕ → Option ℕ → Result Added Fault
-add_member d n name tnum offset = unless (first_met (against_member d n name tnum)) (place_member d n name tnum offset)
+add_member d n name tnum offset =
+    unless (first_met (against_member d n name tnum)) (place_member d n name tnum offset)
 
 -- ---- enumerators
 
@@ -149,7 +160,8 @@ against_enumerator d n name =
     ∷ record { code = SETTLED; met = is_settled d n }
     ∷ record { code = WRONG_KIND; met = is_none (enumerators_at d n) }
     ∷ record { code = VLEN_FULL; met = nat_le most_items (length (present_enumerators d n)) }
-    ∷ record { code = DUPLICATE; met = is_among name (map (λ e. e.name) (present_enumerators d n)) } ∷ []
+    ∷ record { code = DUPLICATE; met = is_among name (map (λ e. e.name) (present_enumerators d n)) }
+    ∷ []
 
 abbrev pub with_enumerator : Enumerator → Body → Body
 with_enumerator e (term.enum size enumerators) = term.enum size (enumerators ++ e ∷ [])
@@ -157,7 +169,9 @@ with_enumerator e body = body
 
 -- a new enumerator of a pending enum
 unfoldable pub add_enumerator : Draft → ℕ → Enumerator → Result Draft Fault
-add_enumerator d n e = unless (first_met (against_enumerator d n e.name)) (Ok (replaced d n (with_enumerator e (body_at d n))))
+add_enumerator d n e =
+    unless (first_met (against_enumerator d n e.name))
+    (Ok (replaced d n (with_enumerator e (body_at d n))))
 
 -- ---- labels
 
@@ -165,10 +179,17 @@ add_enumerator d n e = unless (first_met (against_enumerator d n e.name)) (Ok (r
 abbrev pub against_label : Draft → List ℕ → List Row
 against_label d name =
     record { code = NAME_HAS_ZERO; met = has_zero name }
-    ∷ record { code = DUPLICATE; met = list_any (bytes_eq name) (map (λ label. label.name) (held d).labels) } ∷ []
+    ∷ record {
+      code = DUPLICATE;
+      met = list_any (bytes_eq name) (map (λ label. label.name) (held d).labels);
+    }
+    ∷ []
 
 abbrev pub with_label : Draft → Label → Draft
-with_label d label = record d { pending = record { terms = d.pending.terms; labels = d.pending.labels ++ label ∷ [] } }
+with_label d label =
+    record d {
+      pending = record { terms = d.pending.terms; labels = d.pending.labels ++ label ∷ [] };
+    }
 
 -- a new label
 unfoldable pub add_label : Draft → Label → Result Draft Fault

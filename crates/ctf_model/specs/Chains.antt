@@ -1,4 +1,5 @@
--- Chains of types that lead to each other: how long they may be. Source: ours; ctf(5) says only which types a type names.
+-- Chains of types that lead to each other: how long they may be.
+-- Source: ours; ctf(5) says only which types a type names.
 use Rattle.std.specs.Prelude.{◌≡◌, ◌<◌, ℕ, zero, suc, ◌==◌, nat_lt, Bool, List, [], ◌∷◌, length, map, Any, Option, Some, None, slice_get, slice_index_or, if◌then◌else◌}
 use Rattle.std.specs.List.{filter_map, list_all, AllByRecursion}
 use Rattle.ctf_model.specs.Term.{Term, Body}
@@ -43,7 +44,8 @@ pub record Leads (steps : Body → List ℕ) (child : Bool) (types : List Term) 
 -- a chain of so many steps begins at own type i; in a circle there are chains of any length
 unfoldable pub BeginsChain : (Body → List ℕ) → Bool → List Term → ℕ → ℕ → Type 0
 BeginsChain steps child types zero i = Unit {0}
-BeginsChain steps child types (suc k) i = (j : ℕ) × Leads steps child types i j × BeginsChain steps child types k j
+BeginsChain steps child types (suc k) i =
+    (j : ℕ) × Leads steps child types i j × BeginsChain steps child types k j
 
 -- the greatest number of steps that a chain may have
 abbrev pub longest_chain : ℕ
@@ -62,7 +64,8 @@ own_index child count n = own_index_at count (place child n)
 
 -- the own types that each type leads to
 unfoldable pub edges : (Body → List ℕ) → Bool → List Term → List (List ℕ)
-edges steps child types = map (λ x. filter_map (own_index child (length types)) (steps x.body)) types
+edges steps child types =
+    map (λ x. filter_map (own_index child (length types)) (steps x.body)) types
 
 abbrev pub targets : List (List ℕ) → ℕ → List ℕ
 targets es i = slice_index_or es i []

@@ -1,4 +1,5 @@
--- What the bytes of a dictionary denote. Source: ctf(5); a child is told by its parent's name (ours).
+-- What the bytes of a dictionary denote.
+-- Source: ctf(5); a child is told by its parent's name (ours).
 use Rattle.std.specs.Prelude.{◌≡◌, ◌<◌, ◌≤◌, ℕ, zero, suc, ◌/◌, Bool, List, [], ◌∷◌, length, drop, Option, Some, None, unwrap_or}
 use Rattle.ctf_model.specs.Bytes.{u32_at}
 use Rattle.ctf_model.specs.Entries.{Entry, AreEntries, entries}
@@ -30,10 +31,13 @@ pub record Dictionary : Type 0 where
 
 -- ---- as facts
 
--- the bytes are these labels, 8 bytes each, and a rest of fewer than 8 bytes, which is ignored (ours)
+-- the bytes are these labels, 8 bytes each, and a rest of fewer than 8 bytes,
+-- which is ignored (ours)
 abbrev pub AreLabels : Tables → List ℕ → List Label → Type 0
 AreLabels t b [] = length b < 8
-AreLabels t b (label ∷ labels) = (8 ≤ length b) × (name t (u32_at b 0) ≡ Some label.name) × (u32_at b 4 ≡ label.last) × AreLabels t (drop 8 b) labels
+AreLabels t b (label ∷ labels) =
+    (8 ≤ length b) × (name t (u32_at b 0) ≡ Some label.name) × (u32_at b 4 ≡ label.last)
+    × AreLabels t (drop 8 b) labels
 
 -- the lists break no rule, and say this dictionary
 pub record Denotes (s : Lists) (d : Dictionary) : Type 0 where
@@ -54,7 +58,8 @@ name_or_empty t reference = unwrap_or (name t reference) []
 
 unfoldable pub labels_in : Tables → ℕ → List ℕ → List Label
 labels_in t zero b = []
-labels_in t (suc n) b = record { name = name_or_empty t (u32_at b 0); last = u32_at b 4 } ∷ labels_in t n (drop 8 b)
+labels_in t (suc n) b =
+    record { name = name_or_empty t (u32_at b 0); last = u32_at b 4 } ∷ labels_in t n (drop 8 b)
 
 -- what the lists say, where they break no rule
 unfoldable pub said_by : Lists → Dictionary

@@ -1,4 +1,5 @@
--- A draft in the hands of its owner: what may be done to it, one thing after the other. Source: ours.
+-- A draft in the hands of its owner: what may be done to it,
+-- one thing after the other. Source: ours.
 use Rattle.std.specs.Prelude.{ℕ, List, [], ◌∷◌, Option, Result, Ok, Err}
 use Rattle.ctf_model.specs.Adders.{Added, add_enumerator, add_label, add_member, add_type}
 use Rattle.ctf_model.specs.Dictionary.{Label}
@@ -28,7 +29,8 @@ draft_of (Ok added) = Ok added.draft
 
 abbrev pub changed : Draft → DraftChange → Draft
 changed d (adds_type new) = or_as_before d (draft_of (add_type d new))
-changed d (adds_member n name tnum offset) = or_as_before d (draft_of (add_member d n name tnum offset))
+changed d (adds_member n name tnum offset) =
+    or_as_before d (draft_of (add_member d n name tnum offset))
 changed d (adds_enumerator n e) = or_as_before d (add_enumerator d n e)
 changed d (adds_label label) = or_as_before d (add_label d label)
 changed d discards = discarded d

@@ -11,7 +11,7 @@ use Rattle.ctf_model.specs.Fitting.{Fits, FitsLabel, FitsNew, IsName}
 use Rattle.ctf_model.specs.NewTypes.{NewType}
 use Rattle.ctf_model.specs.Placement.{aligned_from}
 use Rattle.ctf_model.specs.References.{is_missing, references}
-use Rattle.ctf_model.specs.Space.{import_fault}
+use Rattle.ctf_model.specs.Imports.{Modelled, import_fault, of_one_model}
 use Rattle.ctf_model.specs.Term.{Enumerator, Term}
 use Rattle.ctf_model.specs.declared.data_model.DataModel.{DataModel}
 
@@ -40,19 +40,30 @@ pub record IsSound (d : Draft) : Type 0 where
 -- ---- drafts are sound
 
 abbrev pub NewDraftsAreSound : Type 0
-NewDraftsAreSound = (parent : Option Dictionary) (parname parlabel : List ℕ) (model : DataModel) (d : Draft) → is_some parent ≡ not (length parname == 0) → new_draft parent parname parlabel model ≡ Ok d → IsSound d
+NewDraftsAreSound =
+    (parent : Option Modelled) (parname parlabel : List ℕ) (model : DataModel) (d : Draft)
+    → is_some parent ≡ not (length parname == 0)
+    → new_draft parent parname parlabel model ≡ Ok d → IsSound d
 
 abbrev pub TypesKeepSound : Type 0
-TypesKeepSound = (d : Draft) (x : NewType) (a : Added) → IsSound d → FitsNew x.body → add_type d x ≡ Ok a → IsSound a.draft
+TypesKeepSound =
+    (d : Draft) (x : NewType) (a : Added) → IsSound d → FitsNew x.body → add_type d x ≡ Ok a
+    → IsSound a.draft
 
 abbrev pub MembersKeepSound : Type 0
-MembersKeepSound = (d : Draft) (n : ℕ) (name : List ℕ) (tnum : ℕ) (offset : Option ℕ) (a : Added) → IsSound d → add_member d n name tnum offset ≡ Ok a → IsSound a.draft
+MembersKeepSound =
+    (d : Draft) (n : ℕ) (name : List ℕ) (tnum : ℕ) (offset : Option ℕ) (a : Added) → IsSound d
+    → add_member d n name tnum offset ≡ Ok a → IsSound a.draft
 
 abbrev pub EnumeratorsKeepSound : Type 0
-EnumeratorsKeepSound = (d : Draft) (n : ℕ) (e : Enumerator) (a : Draft) → IsSound d → FitsSigned w32 e.value → add_enumerator d n e ≡ Ok a → IsSound a
+EnumeratorsKeepSound =
+    (d : Draft) (n : ℕ) (e : Enumerator) (a : Draft) → IsSound d → FitsSigned w32 e.value
+    → add_enumerator d n e ≡ Ok a → IsSound a
 
 abbrev pub LabelsKeepSound : Type 0
-LabelsKeepSound = (d : Draft) (label : Label) (a : Draft) → IsSound d → label.last < 2 ^ 32 → add_label d label ≡ Ok a → IsSound a
+LabelsKeepSound =
+    (d : Draft) (label : Label) (a : Draft) → IsSound d → label.last < 2 ^ 32
+    → add_label d label ≡ Ok a → IsSound a
 
 abbrev pub LifeKeepsSound : Type 0
 LifeKeepsSound = (d : Draft) → IsSound d → IsSound (discarded d) × IsSound (settled d)
@@ -66,21 +77,33 @@ FitsChange _ = Unit {0}
 
 -- whatever is done to a draft, in which order, refused or not
 abbrev pub ChangesKeepSound : Type 0
-ChangesKeepSound = (d : Draft) (changes : List DraftChange) → IsSound d → AllByRecursion FitsChange changes → IsSound (after d changes)
+ChangesKeepSound =
+    (d : Draft) (changes : List DraftChange) → IsSound d → AllByRecursion FitsChange changes
+    → IsSound (after d changes)
 
 -- ---- what that gives
 
--- none of its types names an own type that is not there, so the dictionary keeps the rule of references
+-- none of its types names an own type that is not there,
+-- so the dictionary keeps the rule of references
 abbrev pub SoundDraftsMissNone : Type 0
-SoundDraftsMissNone = (d : Draft) → IsSound d → AllByRecursion (λ x. list_any (is_missing (held d).child (length (held d).terms)) (references x.body) ≡ false) (held d).terms
+SoundDraftsMissNone =
+    (d : Draft) → IsSound d
+    → AllByRecursion
+    (λ x. list_any (is_missing (held d).child (length (held d).terms)) (references x.body)
+    ≡ false)
+    (held d).terms
 
 -- no number that a type names is the mark of the long form
 abbrev pub SoundDraftsNameShort : Type 0
-SoundDraftsNameShort = (d : Draft) → IsSound d → AllByRecursion (λ x. AllByRecursion (λ n. n < 0xffff) (references x.body)) (held d).terms
+SoundDraftsNameShort =
+    (d : Draft) → IsSound d
+    → AllByRecursion (λ x. AllByRecursion (λ n. n < 0xffff) (references x.body)) (held d).terms
 
 -- a draft stays under its parent: its dictionary could be imported over it at any time
 abbrev pub SoundDraftsStayUnder : Type 0
-SoundDraftsStayUnder = (d : Draft) (parent : Dictionary) → IsSound d → d.parent ≡ Some parent → import_fault (record { child = held d; parent = parent }) ≡ None
+SoundDraftsStayUnder =
+    (d : Draft) (parent : Dictionary) → IsSound d → d.parent ≡ Some parent
+    → import_fault (of_one_model d.model (held d) parent) ≡ None
 
 -- ---- placement
 

@@ -1,12 +1,13 @@
 -- Worked rows of drafts. The values were worked out by hand.
 use Rattle.std.specs.Prelude.{◌≡◌, ℕ, zero, suc, ◌+◌, ◌-◌, ◌^◌, ◌++◌, true, false, List, [], ◌∷◌, pos, replicate, Option, Some, None, Result, Ok, Err, codes}
 use Rattle.ctf_model.specs.Adders.{Added, add_enumerator, add_label, add_member, add_type}
-use Rattle.ctf_model.specs.Dictionary.{Label}
+use Rattle.ctf_model.specs.Dictionary.{Dictionary, Label}
 use Rattle.ctf_model.specs.DraftChanges.{DraftChange, after, draft_of, or_as_before}
 use Rattle.ctf_model.specs.DraftChanges as does
 use Rattle.ctf_model.specs.Drafts.{Draft, empty_draft, held, new_draft, pending_count, space_of}
 use Rattle.ctf_model.specs.FigureRows.{dictionary, fault, integer_of, member, unnamed}
 use Rattle.ctf_model.specs.Figures.{align, size}
+use Rattle.ctf_model.specs.Imports.{Modelled}
 use Rattle.ctf_model.specs.NewTypes.{NewBody, NewType}
 use Rattle.ctf_model.specs.NewTypes as new
 use Rattle.ctf_model.specs.Term.{Enumerator, Member, Term}
@@ -27,17 +28,37 @@ abbrev pub nameless : NewBody → NewType
 nameless body = record { name = []; root = true; body = body }
 
 abbrev pub new_int : NewType
-new_int = record { name = codes "int"; root = true; body = new.integer (record { size = 4; encoding = 1; offset = 0; bits = 32 }) }
+new_int =
+    record {
+      name = codes "int";
+      root = true;
+      body = new.integer (record { size = 4; encoding = 1; offset = 0; bits = 32 });
+    }
 
 abbrev pub new_char : NewType
-new_char = record { name = codes "char"; root = true; body = new.integer (record { size = 1; encoding = 3; offset = 0; bits = 8 }) }
+new_char =
+    record {
+      name = codes "char";
+      root = true;
+      body = new.integer (record { size = 1; encoding = 3; offset = 0; bits = 8 });
+    }
 
 -- what these make
 abbrev pub int : Term
-int = record { name = codes "int"; root = true; body = term.integer (record { size = 4; encoding = 1; offset = 0; bits = 32 }) }
+int =
+    record {
+      name = codes "int";
+      root = true;
+      body = term.integer (record { size = 4; encoding = 1; offset = 0; bits = 32 });
+    }
 
 abbrev pub char : Term
-char = record { name = codes "char"; root = true; body = term.integer (record { size = 1; encoding = 3; offset = 0; bits = 8 }) }
+char =
+    record {
+      name = codes "char";
+      root = true;
+      body = term.integer (record { size = 1; encoding = 3; offset = 0; bits = 8 });
+    }
 
 -- an integer of three bits
 abbrev pub three_bits : NewType
@@ -69,28 +90,47 @@ offset_in d n name tnum offset = answered (add_member d n name tnum offset)
 
 -- ---- a draft's life
 
+-- a parent of a data model
+abbrev pub over : DataModel → Dictionary → Option Modelled
+over model parent = Some (record { dictionary = parent; model = model })
+
 abbrev pub int_updated : Draft
 int_updated = after fresh (does.adds_type new_int ∷ does.settles ∷ [])
 
 pub record DraftsLive : Type 0 where
   pub created : new_draft None [] [] Lp64 ≡ Ok fresh
-  pub zero_in_parname : new_draft (Some (dictionary true [])) (0x70 ∷ 0 ∷ []) [] Lp64 ≡ Err (fault 46 0)
-  pub zero_in_parlabel : new_draft (Some (dictionary false [])) (codes "p") (0 ∷ []) Lp64 ≡ Err (fault 46 0)
-  pub parent_is_child : new_draft (Some (dictionary true [])) (codes "p") [] Lp64 ≡ Err (fault 21 0)
+  pub zero_in_parname : new_draft (over Lp64 (dictionary true [])) (0x70 ∷ 0 ∷ []) [] Lp64
+      ≡ Err (fault 46 0)
+  pub zero_in_parlabel : new_draft (over Lp64 (dictionary false [])) (codes "p") (0 ∷ []) Lp64
+      ≡ Err (fault 46 0)
+  pub parent_is_child : new_draft (over Ilp32 (dictionary true [])) (codes "p") [] Lp64
+      ≡ Err (fault 21 0)
+  pub model_differs : new_draft (over Ilp32 (dictionary false [])) (codes "p") [] Lp64
+      ≡ Err (fault 60 0)
+  pub under_short : new_draft (over Ilp32 (dictionary false [])) (codes "p") [] Ilp32
+      ≡ Ok (empty_draft (Some (dictionary false [])) (codes "p") [] Ilp32)
   pub nothing_held : held fresh ≡ dictionary false []
   pub first : answered (add_type fresh new_int) ≡ Ok 1
-  pub pending : pending_count (after fresh (does.adds_type new_int ∷ does.adds_label (record { name = codes "v"; last = 1 }) ∷ [])) ≡ 2
+  pub pending :
+      pending_count (after fresh (does.adds_type new_int
+      ∷ does.adds_label (record { name = codes "v"; last = 1 }) ∷ []))
+      ≡ 2
   pub none_pending : pending_count int_updated ≡ 0
   pub discards_pending : after int_updated (adds (new.struct 0) ∷ does.discards ∷ []) ≡ int_updated
-  pub number_again : numbered (after int_updated (adds (new.struct 0) ∷ does.discards ∷ [])) (new.pointer 1) ≡ Ok 2
+  pub number_again :
+      numbered (after int_updated (adds (new.struct 0) ∷ does.discards ∷ [])) (new.pointer 1) ≡ Ok 2
   pub settles_once : after int_updated (does.settles ∷ []) ≡ int_updated
-  pub discards_labels : after int_updated (does.adds_label (record { name = codes "v"; last = 1 }) ∷ does.discards ∷ []) ≡ int_updated
+  pub discards_labels :
+      after int_updated (does.adds_label (record { name = codes "v"; last = 1 })
+      ∷ does.discards ∷ [])
+      ≡ int_updated
 
 -- ---- types
 
 -- a child of p, where p has two types
 abbrev pub over_two : Draft
-over_two = empty_draft (Some (dictionary false (integer_of 4 ∷ integer_of 1 ∷ []))) (codes "p") [] Lp64
+over_two =
+    empty_draft (Some (dictionary false (integer_of 4 ∷ integer_of 1 ∷ []))) (codes "p") [] Lp64
 
 -- the second of a new draft
 abbrev pub second : NewBody → Result ℕ Fault
@@ -108,7 +148,8 @@ pub record TypesAreAdded : Type 0 where
   pub to_nothing : second (new.pointer 0) ≡ Ok 2
   pub to_itself : second (new.pointer 2) ≡ Err (fault 39 0)
   pub array : second (new.array (record { contents = 1; index = 1; count = 10 })) ≡ Ok 2
-  pub no_index : second (new.array (record { contents = 1; index = 2; count = 10 })) ≡ Err (fault 39 0)
+  pub no_index : second (new.array (record { contents = 1; index = 2; count = 10 }))
+      ≡ Err (fault 39 0)
   pub function : second (new.function 1 (1 ∷ 0 ∷ [])) ≡ Ok 2
   pub no_argument : second (new.function 1 (1 ∷ 3 ∷ [])) ≡ Err (fault 39 0)
   pub most_arguments : second (new.function 1 (replicate 1023 1)) ≡ Ok 2
@@ -122,23 +163,41 @@ pub record TypesAreAdded : Type 0 where
   pub const : second (new.const 1) ≡ Ok 2
   pub restrict : second (new.restrict 2) ≡ Err (fault 39 0)
   pub unknown : second new.unknown ≡ Ok 2
-  pub zero_first : answered (add_type fresh (record { name = 0 ∷ []; root = true; body = new.function 9 (replicate 1024 9) })) ≡ Err (fault 46 0)
-  pub held_as_new : held (after fresh (adds (new.array (record { contents = 0; index = 0; count = 3 })) ∷ adds (new.struct 5) ∷ [])) ≡ dictionary false (unnamed (term.array (record { size = 0; contents = 0; index = 0; count = 3 })) ∷ unnamed (term.struct 5 []) ∷ [])
+  pub zero_first :
+      answered (add_type fresh
+      (record { name = 0 ∷ []; root = true; body = new.function 9 (replicate 1024 9) }))
+      ≡ Err (fault 46 0)
+  pub held_as_new :
+      held (after fresh (adds (new.array (record { contents = 0; index = 0; count = 3 }))
+      ∷ adds (new.struct 5) ∷ []))
+      ≡ dictionary false
+      (unnamed (term.array (record { size = 0; contents = 0; index = 0; count = 3 }))
+      ∷ unnamed (term.struct 5 []) ∷ [])
   pub in_child : numbered over_two (new.pointer 1) ≡ Ok 32769
   pub parents_last : numbered over_two (new.pointer 2) ≡ Ok 32769
   pub past_parent : numbered over_two (new.pointer 3) ≡ Err (fault 39 0)
   pub between : numbered over_two (new.pointer 0x8000) ≡ Err (fault 39 0)
-  pub own_of_child : numbered (after over_two (adds (new.pointer 1) ∷ [])) (new.pointer 32769) ≡ Ok 32770
+  pub own_of_child : numbered (after over_two (adds (new.pointer 1) ∷ [])) (new.pointer 32769)
+      ≡ Ok 32770
 
 -- ---- members
 
 -- a struct with that many members without names
 abbrev pub crowded : ℕ → Draft
-crowded count = record fresh { pending = record { terms = integer_of 4 ∷ unnamed (term.struct 4 (replicate count (member [] 1 0))) ∷ []; labels = [] } }
+crowded count =
+    record fresh {
+      pending = record {
+        terms = integer_of 4 ∷ unnamed (term.struct 4 (replicate count (member [] 1 0))) ∷ [];
+        labels = [];
+      };
+    }
 
 -- int, char, and a struct of c and i; an enum and a forward
 abbrev pub pair : Draft
-pair = after fresh (does.adds_type new_int ∷ does.adds_type new_char ∷ adds (new.struct 0) ∷ puts 3 (codes "c") 2 ∷ puts 3 (codes "i") 1 ∷ adds (new.enum 4) ∷ adds (new.forward term.struct_tag) ∷ [])
+pair =
+    after fresh (does.adds_type new_int ∷ does.adds_type new_char ∷ adds (new.struct 0)
+    ∷ puts 3 (codes "c") 2 ∷ puts 3 (codes "i") 1 ∷ adds (new.enum 4)
+    ∷ adds (new.forward term.struct_tag) ∷ [])
 
 -- the struct is updated, and there is an empty one behind the others
 abbrev pub two_structs : Draft
@@ -155,15 +214,25 @@ typedefs first (suc n) = unnamed (term.typedef first) ∷ typedefs (first + 1) n
 
 -- int, that many typedefs, each of the type before it, and behind them an empty struct
 abbrev pub chained : ℕ → Draft
-chained count = record fresh { pending = record { terms = (integer_of 4 ∷ typedefs 1 count) ++ unnamed (term.struct 0 []) ∷ []; labels = [] } }
+chained count =
+    record fresh {
+      pending = record {
+        terms = (integer_of 4 ∷ typedefs 1 count) ++ unnamed (term.struct 0 []) ∷ [];
+        labels = [];
+      };
+    }
 
 pub record MembersAreAdded : Type 0 where
   pub after_512_steps : offset_in (chained 512) 514 [] 513 None ≡ Ok 0
   pub after_513_steps : offset_in (chained 513) 515 [] 514 None ≡ Err (fault 44 0)
   pub last_of_1023 : offset_in (crowded 1022) 2 [] 1 (Some 8) ≡ Ok 8
   pub past_1023 : offset_in (crowded 1023) 2 [] 9 (Some 8) ≡ Err (fault 43 0)
-  pub full_before_double : offset_in (after (crowded 1022) (puts 2 (codes "a") 1 ∷ [])) 2 (codes "a") 9 None ≡ Err (fault 43 0)
-  pub behind_first : (held pair).terms ≡ int ∷ char ∷ unnamed (term.struct 8 (member (codes "c") 2 0 ∷ member (codes "i") 1 32 ∷ [])) ∷ unnamed (term.enum 4 []) ∷ unnamed (term.forward term.struct_tag) ∷ []
+  pub full_before_double :
+      offset_in (after (crowded 1022) (puts 2 (codes "a") 1 ∷ [])) 2 (codes "a") 9 None
+      ≡ Err (fault 43 0)
+  pub behind_first : (held pair).terms
+      ≡ int ∷ char ∷ unnamed (term.struct 8 (member (codes "c") 2 0 ∷ member (codes "i") 1 32 ∷ []))
+      ∷ unnamed (term.enum 4 []) ∷ unnamed (term.forward term.struct_tag) ∷ []
   pub third : offset_in pair 3 (codes "d") 2 None ≡ Ok 64
   pub stated : offset_in pair 3 (codes "d") 2 (Some 3) ≡ Ok 3
   pub double : offset_in pair 3 (codes "c") 9 None ≡ Err (fault 41 0)
@@ -197,8 +266,10 @@ align_of d n = align (space_of d) n
 abbrev pub stated_pairs : Draft
 stated_pairs = after fresh (
     does.adds_type new_int ∷ does.adds_type new_char
-    ∷ adds (new.struct 0) ∷ does.adds_member 3 (codes "c") 2 (Some 0) ∷ does.adds_member 3 (codes "i") 1 (Some 32)
-    ∷ adds (new.struct 0) ∷ does.adds_member 4 (codes "a") 3 (Some 0) ∷ does.adds_member 4 (codes "b") 3 (Some 64) ∷ [])
+    ∷ adds (new.struct 0) ∷ does.adds_member 3 (codes "c") 2 (Some 0)
+    ∷ does.adds_member 3 (codes "i") 1 (Some 32)
+    ∷ adds (new.struct 0) ∷ does.adds_member 4 (codes "a") 3 (Some 0)
+    ∷ does.adds_member 4 (codes "b") 3 (Some 64) ∷ [])
 
 -- int, a pointer to it, char, a struct with c, p and d, and a function
 abbrev pub with_pointer : DataModel → Draft
@@ -209,7 +280,9 @@ with_pointer model = after (fresh_for model) (
 
 -- the same with the pointer in a parent, for a data model
 abbrev pub under_pointer : DataModel → Draft
-under_pointer model = after (empty_draft (Some (held (with_pointer model))) (codes "p") [] model) (adds (new.struct 0) ∷ puts 0x8001 (codes "c") 3 ∷ [])
+under_pointer model =
+    after (empty_draft (Some (held (with_pointer model))) (codes "p") [] model)
+    (adds (new.struct 0) ∷ puts 0x8001 (codes "c") 3 ∷ [])
 
 -- a union of int and char, and a struct with two numbers of three bits and a char
 abbrev pub packed : Draft
@@ -220,7 +293,10 @@ packed = after fresh (
 
 -- an empty struct, very many of these in a struct, and int
 abbrev pub many_empty : Draft
-many_empty = after fresh (adds (new.struct 0) ∷ adds (new.array (record { contents = 1; index = 0; count = 2 ^ 32 - 1 })) ∷ adds (new.struct 0) ∷ puts 3 (codes "a") 2 ∷ does.adds_type new_int ∷ [])
+many_empty =
+    after fresh (adds (new.struct 0)
+    ∷ adds (new.array (record { contents = 1; index = 0; count = 2 ^ 32 - 1 }))
+    ∷ adds (new.struct 0) ∷ puts 3 (codes "a") 2 ∷ does.adds_type new_int ∷ [])
 
 -- then the first struct gets a member far out
 abbrev pub many_great : Draft
@@ -241,8 +317,16 @@ pub record MembersArePlaced : Type 0 where
   pub short_struct_align : align_of (with_pointer Ilp32) 4 ≡ Ok 1
   pub long_function_align : align_of (with_pointer Lp64) 5 ≡ Ok 8
   pub short_function_align : align_of (with_pointer Ilp32) 5 ≡ Ok 4
-  pub long_places : (held (with_pointer Lp64)).terms ≡ int ∷ unnamed (term.pointer 1) ∷ char ∷ unnamed (term.struct 17 (member (codes "c") 3 0 ∷ member (codes "p") 2 64 ∷ member (codes "d") 3 128 ∷ [])) ∷ unnamed (term.function 1 []) ∷ []
-  pub short_places : (held (with_pointer Ilp32)).terms ≡ int ∷ unnamed (term.pointer 1) ∷ char ∷ unnamed (term.struct 9 (member (codes "c") 3 0 ∷ member (codes "p") 2 32 ∷ member (codes "d") 3 64 ∷ [])) ∷ unnamed (term.function 1 []) ∷ []
+  pub long_places : (held (with_pointer Lp64)).terms
+      ≡ int ∷ unnamed (term.pointer 1) ∷ char
+      ∷ unnamed (term.struct 17 (member (codes "c") 3 0 ∷ member (codes "p") 2 64
+      ∷ member (codes "d") 3 128 ∷ []))
+      ∷ unnamed (term.function 1 []) ∷ []
+  pub short_places : (held (with_pointer Ilp32)).terms
+      ≡ int ∷ unnamed (term.pointer 1) ∷ char
+      ∷ unnamed (term.struct 9 (member (codes "c") 3 0 ∷ member (codes "p") 2 32
+      ∷ member (codes "d") 3 64 ∷ []))
+      ∷ unnamed (term.function 1 []) ∷ []
   pub under_long : offset_in (under_pointer Lp64) 0x8001 (codes "p") 2 None ≡ Ok 64
   pub under_short : offset_in (under_pointer Ilp32) 0x8001 (codes "p") 2 None ≡ Ok 32
   pub union_size : bytes_of packed 4 ≡ Ok 4
@@ -264,11 +348,17 @@ label name last = record { name = name; last = last }
 
 -- an enum with a name for 1, and a label v
 abbrev pub marked : Draft
-marked = after fresh (adds (new.enum 4) ∷ does.adds_enumerator 1 (one (codes "A")) ∷ does.adds_label (label (codes "v") 1) ∷ adds (new.struct 0) ∷ [])
+marked =
+    after fresh (adds (new.enum 4) ∷ does.adds_enumerator 1 (one (codes "A"))
+    ∷ does.adds_label (label (codes "v") 1) ∷ adds (new.struct 0) ∷ [])
 
 -- an enum with that many names for 1, all of them empty
 abbrev pub many_names : ℕ → Draft
-many_names count = record fresh { pending = record { terms = unnamed (term.enum 4 (replicate count (one []))) ∷ []; labels = [] } }
+many_names count =
+    record fresh {
+      pending =
+          record { terms = unnamed (term.enum 4 (replicate count (one []))) ∷ []; labels = [] };
+    }
 
 abbrev pub enum_after : Draft → ℕ → List ℕ → Result (List Term) Fault
 enum_after d n name = terms_of (add_enumerator d n (one name))
@@ -278,9 +368,12 @@ enum_after d n name = terms_of (add_enumerator d n (one name))
     terms_of (Ok e) = Ok (held e).terms
 
 pub record EnumeratorsAndLabelsAreAdded : Type 0 where
-  pub terms : (held marked).terms ≡ unnamed (term.enum 4 (one (codes "A") ∷ [])) ∷ unnamed (term.struct 0 []) ∷ []
+  pub terms : (held marked).terms
+      ≡ unnamed (term.enum 4 (one (codes "A") ∷ [])) ∷ unnamed (term.struct 0 []) ∷ []
   pub labels : (held marked).labels ≡ label (codes "v") 1 ∷ []
-  pub second_name : enum_after marked 1 (codes "B") ≡ Ok (unnamed (term.enum 4 (one (codes "A") ∷ one (codes "B") ∷ [])) ∷ unnamed (term.struct 0 []) ∷ [])
+  pub second_name : enum_after marked 1 (codes "B")
+      ≡ Ok (unnamed (term.enum 4 (one (codes "A") ∷ one (codes "B") ∷ []))
+      ∷ unnamed (term.struct 0 []) ∷ [])
   pub double : enum_after marked 1 (codes "A") ≡ Err (fault 41 0)
   pub last_of_1023 : add_enumerator (many_names 1022) 1 (one []) ≡ Ok (many_names 1023)
   pub past_1023 : enum_after (many_names 1023) 1 [] ≡ Err (fault 43 0)
@@ -289,6 +382,8 @@ pub record EnumeratorsAndLabelsAreAdded : Type 0 where
   pub settled : enum_after (after marked (does.settles ∷ [])) 1 (codes "B") ≡ Err (fault 42 0)
   pub struct : enum_after marked 2 (codes "A") ≡ Err (fault 30 0)
   pub label_again : add_label marked (label (codes "v") 2) ≡ Err (fault 41 0)
-  pub updated_label_again : add_label (after marked (does.settles ∷ [])) (label (codes "v") 2) ≡ Err (fault 41 0)
-  pub no_name_once : add_label (after marked (does.adds_label (label [] 0) ∷ [])) (label [] 3) ≡ Err (fault 41 0)
+  pub updated_label_again : add_label (after marked (does.settles ∷ [])) (label (codes "v") 2)
+      ≡ Err (fault 41 0)
+  pub no_name_once : add_label (after marked (does.adds_label (label [] 0) ∷ [])) (label [] 3)
+      ≡ Err (fault 41 0)
   pub zero_in_label : add_label marked (label (0 ∷ []) 2) ≡ Err (fault 46 0)

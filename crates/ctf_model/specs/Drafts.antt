@@ -1,9 +1,13 @@
--- Drafts: dictionaries that are being made, and their life. Source: libctf(3LIB), ctf_create, ctf_update, ctf_discard; that names hold no zero byte, and that a parent is given from the start, is ours.
+-- Drafts: dictionaries that are being made, and their life.
+-- Source: libctf(3LIB), ctf_create, ctf_update, ctf_discard; that names hold no zero byte,
+-- and that a parent is given from the start, is ours.
 use Rattle.std.specs.Prelude.{ℕ, ◌+◌, ◌-◌, ◌==◌, ◌||◌, ◌&&◌, not, nat_lt, Bool, false, List, [], ◌∷◌, ◌++◌, length, is_none, is_some, Option, Some, None, Result, Ok, if◌then◌else◌}
 use Rattle.std.specs.List.{list_any}
+use Rattle.std.specs.Option.{option_map}
 use Rattle.std.specs.Result.{is_err}
 use Rattle.ctf_model.specs.Chains.{own_index}
 use Rattle.ctf_model.specs.Dictionary.{Dictionary, Label}
+use Rattle.ctf_model.specs.Imports.{Modelled, same_model}
 use Rattle.ctf_model.specs.Judgements.{Row, first_met, unless}
 use Rattle.ctf_model.specs.Name.{is_zero}
 use Rattle.ctf_model.specs.Space.{Space, space_type}
@@ -11,7 +15,7 @@ use Rattle.ctf_model.specs.Term.{Term}
 use Rattle.ctf_model.specs.TypePlaces.{own_number}
 use Rattle.ctf_model.specs.declared.data_model.DataModel.{DataModel}
 use Rattle.ctf_model.specs.declared.faults.Fault.{Fault}
-use Rattle.ctf_model.specs.declared.faults.TheConstants.Fault.{NAME_HAS_ZERO, PARENT_IS_CHILD}
+use Rattle.ctf_model.specs.declared.faults.TheConstants.Fault.{NAME_HAS_ZERO, PARENT_IS_CHILD, MODEL_DIFFERS}
 
 -- ---- what a draft holds
 
@@ -78,7 +82,8 @@ behind_updated updated None = None
 behind_updated updated (Some i) = if nat_lt i updated then None else Some (i - updated)
 
 abbrev pub pending_place : Draft → ℕ → Option ℕ
-pending_place d n = behind_updated (length d.updated.terms) (own_index (is_some d.parent) (count_of d) n)
+pending_place d n =
+    behind_updated (length d.updated.terms) (own_index (is_some d.parent) (count_of d) n)
 
 -- the parent's, or updated
 abbrev pub is_settled : Draft → ℕ → Bool
@@ -93,18 +98,37 @@ abbrev pub is_childs : Option Dictionary → Bool
 is_childs None = false
 is_childs (Some parent) = parent.child
 
+-- the dictionary of a parent, without its data model
+abbrev pub above : Option Modelled → Option Dictionary
+above parent = option_map (λ p. p.dictionary) parent
+
+-- a parent is of another data model
+abbrev pub is_of_other : DataModel → Option Modelled → Bool
+is_of_other model None = false
+is_of_other model (Some parent) = not (same_model model parent.model)
+
 -- why no draft is made
-abbrev pub against_draft : Option Dictionary → List ℕ → List ℕ → List Row
-against_draft parent parname parlabel =
+abbrev pub against_draft : Option Modelled → List ℕ → List ℕ → DataModel → List Row
+against_draft parent parname parlabel model =
     record { code = NAME_HAS_ZERO; met = has_zero parname || has_zero parlabel }
-    ∷ record { code = PARENT_IS_CHILD; met = is_childs parent } ∷ []
+    ∷ record { code = PARENT_IS_CHILD; met = is_childs (above parent) }
+    ∷ record { code = MODEL_DIFFERS; met = is_of_other model parent } ∷ []
 
 abbrev pub empty_draft : Option Dictionary → List ℕ → List ℕ → DataModel → Draft
-empty_draft parent parname parlabel model = record { parname = parname; parlabel = parlabel; parent = parent; model = model; updated = no_contents; pending = no_contents }
+empty_draft parent parname parlabel model = record {
+  parname = parname;
+  parlabel = parlabel;
+  parent = parent;
+  model = model;
+  updated = no_contents;
+  pending = no_contents;
+}
 
 -- a new draft, with a parent just where that has a name
-unfoldable pub new_draft : Option Dictionary → List ℕ → List ℕ → DataModel → Result Draft Fault
-new_draft parent parname parlabel model = unless (first_met (against_draft parent parname parlabel)) (Ok (empty_draft parent parname parlabel model))
+unfoldable pub new_draft : Option Modelled → List ℕ → List ℕ → DataModel → Result Draft Fault
+new_draft parent parname parlabel model =
+    unless (first_met (against_draft parent parname parlabel model))
+    (Ok (empty_draft (above parent) parname parlabel model))
 
 -- what was added since the last update is dropped, and its numbers are used again
 abbrev pub discarded : Draft → Draft

@@ -1,4 +1,5 @@
--- A dictionary as text, for people: a line for itself, for each label, for each symbol of which something is told, and for each type, with its members or enumerators. Source: ours.
+-- A dictionary as text, for people: a line for itself, for each label, for each symbol of which
+-- something is told, and for each type, with its members or enumerators. Source: ours.
 use Rattle.std.specs.Prelude.{ℕ, ◌+◌, ◌++◌, Bool, true, false, List, [], ◌∷◌, length, map, Some, None, Result, Ok, Err, codes, decimal, if◌then◌else◌}
 use Rattle.std.specs.List.{flat_map}
 use Rattle.ctf_model.specs.Dictionary.{Dictionary, Label}
@@ -7,12 +8,12 @@ use Rattle.ctf_model.specs.Entries as told
 use Rattle.ctf_model.specs.FaultNames.{name_of_fault}
 use Rattle.ctf_model.specs.Figures.{align, size}
 use Rattle.ctf_model.specs.KindNames.{name_of_kind, name_of_tag}
-use Rattle.ctf_model.specs.ReplyLines.{separated, signed_decimal}
+use Rattle.ctf_model.specs.Texts.{separated, signed_decimal}
 use Rattle.ctf_model.specs.Shown.{kind_of}
 use Rattle.ctf_model.specs.Space.{Space}
 use Rattle.ctf_model.specs.Term.{Body, Elements, Enumerator, Member, Scalar, Tag, Term}
 use Rattle.ctf_model.specs.Term as term
-use Rattle.ctf_model.specs.Text.{hex_of_byte, is_plain}
+use Rattle.ctf_model.specs.Texts.{hex_of_byte, is_plain}
 use Rattle.ctf_model.specs.TypeNames.{spelled_name}
 use Rattle.ctf_model.specs.TypePlaces.{own_number}
 use Rattle.ctf_model.specs.declared.faults.Fault.{Fault}
@@ -51,21 +52,29 @@ yes_or_no true = codes "yes"
 yes_or_no false = codes "no"
 
 abbrev pub head_line : Dictionary → List ℕ
-head_line d = line_of (codes "ctf") (with_number (codes "types") (length d.terms) ∷ with_value (codes "child") (yes_or_no d.child) ∷ with_value (codes "parname") (in_quotes d.parname) ∷ with_value (codes "parlabel") (in_quotes d.parlabel) ∷ [])
+head_line d =
+    line_of (codes "ctf")
+    (with_number (codes "types") (length d.terms)
+    ∷ with_value (codes "child") (yes_or_no d.child)
+    ∷ with_value (codes "parname") (in_quotes d.parname)
+    ∷ with_value (codes "parlabel") (in_quotes d.parlabel) ∷ [])
 
 abbrev pub label_line : Label → List ℕ
 label_line x = line_of (codes "label") (in_quotes x.name ∷ decimal x.last ∷ [])
 
 -- what a function returns and takes; its arguments as they are stored
 abbrev pub signature_words : ℕ → List ℕ → List (List ℕ)
-signature_words ret args = with_number (codes "return") ret ∷ with_value (codes "args") (numbers args) ∷ []
+signature_words ret args =
+    with_number (codes "return") ret ∷ with_value (codes "args") (numbers args) ∷ []
 
 -- a symbol of which nothing is told has no line
 abbrev pub told_line : Entry → told.Told → List ℕ
 told_line e (told.object None) = []
-told_line e (told.object (Some t)) = line_of (codes "object") (decimal e.number ∷ in_quotes e.name ∷ decimal t ∷ [])
+told_line e (told.object (Some t)) =
+    line_of (codes "object") (decimal e.number ∷ in_quotes e.name ∷ decimal t ∷ [])
 told_line e (told.function None) = []
-told_line e (told.function (Some f)) = line_of (codes "function") (decimal e.number ∷ in_quotes e.name ∷ signature_words f.ret f.args)
+told_line e (told.function (Some f)) =
+    line_of (codes "function") (decimal e.number ∷ in_quotes e.name ∷ signature_words f.ret f.args)
 
 abbrev pub symbol_line : Entry → List ℕ
 symbol_line e = told_line e e.told
@@ -73,10 +82,14 @@ symbol_line e = told_line e e.told
 -- ---- types
 
 abbrev pub scalar_words : Scalar → List (List ℕ)
-scalar_words x = with_number (codes "size") x.size ∷ with_number (codes "encoding") x.encoding ∷ with_number (codes "offset") x.offset ∷ with_number (codes "bits") x.bits ∷ []
+scalar_words x =
+    with_number (codes "size") x.size ∷ with_number (codes "encoding") x.encoding
+    ∷ with_number (codes "offset") x.offset ∷ with_number (codes "bits") x.bits ∷ []
 
 abbrev pub array_words : Elements → List (List ℕ)
-array_words a = with_number (codes "contents") a.contents ∷ with_number (codes "index") a.index ∷ with_number (codes "count") a.count ∷ with_number (codes "size") a.size ∷ []
+array_words a =
+    with_number (codes "contents") a.contents ∷ with_number (codes "index") a.index
+    ∷ with_number (codes "count") a.count ∷ with_number (codes "size") a.size ∷ []
 
 abbrev pub to_words : ℕ → List (List ℕ)
 to_words t = with_number (codes "to") t ∷ []
@@ -115,10 +128,15 @@ type_line s n x =
     line_of (codes "type")
     (decimal n ∷ name_of_kind (kind_of x.body) ∷ in_quotes x.name ∷ visible x.root
     ∷ (detail x.body
-    ++ codes ":" ∷ or_fault in_quotes (spelled_name s n) ∷ with_value (codes "bytes") (or_fault decimal (size s n)) ∷ with_value (codes "align") (or_fault decimal (align s n)) ∷ []))
+    ++ codes ":" ∷ or_fault in_quotes (spelled_name s n)
+    ∷ with_value (codes "bytes") (or_fault decimal (size s n))
+    ∷ with_value (codes "align") (or_fault decimal (align s n)) ∷ []))
 
 abbrev pub member_line : Member → List ℕ
-member_line m = line_of (codes "  member") (in_quotes m.name ∷ with_number (codes "offset") m.offset ∷ with_number (codes "type") m.tnum ∷ [])
+member_line m =
+    line_of (codes "  member")
+    (in_quotes m.name ∷ with_number (codes "offset") m.offset
+    ∷ with_number (codes "type") m.tnum ∷ [])
 
 abbrev pub value_line : Enumerator → List ℕ
 value_line e = line_of (codes "  value") (in_quotes e.name ∷ signed_decimal e.value ∷ [])
@@ -133,9 +151,12 @@ list_lines _ = []
 -- the types from the one with a number on, counted from 0
 unfoldable pub types_from : Space → ℕ → List Term → List ℕ
 types_from s i [] = []
-types_from s i (x ∷ xs) = type_line s (own_number s.own.child i) x ++ (list_lines x.body ++ types_from s (i + 1) xs)
+types_from s i (x ∷ xs) =
+    type_line s (own_number s.own.child i) x ++ (list_lines x.body ++ types_from s (i + 1) xs)
 
 -- ---- all of it
 
 abbrev pub dump : Space → List ℕ
-dump s = head_line s.own ++ (flat_map label_line s.own.labels ++ (flat_map symbol_line s.own.entries ++ types_from s 0 s.own.terms))
+dump s =
+    head_line s.own ++ (flat_map label_line s.own.labels ++ (flat_map symbol_line s.own.entries
+    ++ types_from s 0 s.own.terms))

@@ -17,7 +17,8 @@ pub record Signature : Type 0 where
   pub ret : ℕ
   pub args : List ℕ
 
--- what is told of a symbol: the type of an object, the signature of a function, or nothing of either
+-- what is told of a symbol: the type of an object, the signature of a function,
+-- or nothing of either
 pub data Told : Type 0 where
   object : Option ℕ → Told
   function : Option Signature → Told
@@ -38,7 +39,8 @@ type_said n = if n == 0 then None else Some n
 abbrev pub type_in : List ℕ → Option ℕ
 type_in b = if nat_lt (length b) 2 then None else type_said (u16_at b 0)
 
--- a function's entry begins with its kind and the number of its arguments, packed as in a type record
+-- a function's entry begins with its kind and the number of its arguments,
+-- packed as in a type record
 abbrev pub kind_number : List ℕ → ℕ
 kind_number b = u16_at b 0 / 2 ^ 11
 
@@ -54,11 +56,16 @@ abbrev pub entry_len : List ℕ → ℕ
 entry_len b = if is_silent b then 2 else 4 + 2 * argument_count b
 
 abbrev pub signature_in : List ℕ → Option Signature
-signature_in b = if is_silent b then None else option_map (λ args. record { ret = u16_at b 2; args = args }) (items argument_of 2 (argument_count b) (drop 4 b))
+signature_in b =
+    if is_silent b then None
+    else option_map (λ args. record { ret = u16_at b 2; args = args })
+    (items argument_of 2 (argument_count b) (drop 4 b))
 
 -- it begins inside its section, and runs past the end or has a kind that is not that of functions
 abbrev pub is_bad_entry : List ℕ → Bool
-is_bad_entry b = nat_lt 0 (length b) && (nat_lt (length b) (entry_len b) || not (is_silent b) && not (kind_number b == 5))
+is_bad_entry b =
+    nat_lt 0 (length b)
+    && (nat_lt (length b) (entry_len b) || not (is_silent b) && not (kind_number b == 5))
 
 -- ---- as facts
 
@@ -79,7 +86,8 @@ functions_in es = filter_map (λ e. told_of_function e.told) es
 
 -- the i-th object has the entry behind i entries of two bytes
 abbrev pub AreObjects : List ℕ → List (Option ℕ) → Type 0
-AreObjects b types = (i : ℕ) → i < length types → slice_index_or types i None ≡ type_in (drop (2 * i) b)
+AreObjects b types =
+    (i : ℕ) → i < length types → slice_index_or types i None ≡ type_in (drop (2 * i) b)
 
 -- each function has the entry behind that of the one before it; what follows the last is not read
 abbrev pub AreFunctions : List ℕ → List (Option Signature) → Type 0
@@ -102,8 +110,10 @@ owner_of e = record { number = e.number; name = e.name; class = class_told e.tol
 abbrev pub owner : ℕ × Symbol → Owner
 owner x = record { number = x.0; name = x.1.name; class = class_of x.1 }
 
--- there is one for each considered symbol, in order, with what the sections tell of objects and of functions
-pub record AreEntries (xs : List Symbol) (objects functions : List ℕ) (es : List Entry) : Type 0 where
+-- there is one for each considered symbol, in order, with what the sections
+-- tell of objects and of functions
+pub record AreEntries (xs : List Symbol) (objects functions : List ℕ)
+    (es : List Entry) : Type 0 where
   pub owners : map owner_of es ≡ map owner (considered xs)
   pub types : AreObjects objects (objects_in es)
   pub signatures : AreFunctions functions (functions_in es)
@@ -115,8 +125,10 @@ unfoldable pub entries_of : List (ℕ × Symbol) → List ℕ → List ℕ → L
 entries_of [] objects functions = []
 entries_of (x ∷ xs) objects functions =
     if is_object x.1
-    then record { number = x.0; name = x.1.name; told = object (type_in objects) } ∷ entries_of xs (drop 2 objects) functions
-    else record { number = x.0; name = x.1.name; told = function (signature_in functions) } ∷ entries_of xs objects (drop (entry_len functions) functions)
+    then record { number = x.0; name = x.1.name; told = object (type_in objects) }
+    ∷ entries_of xs (drop 2 objects) functions
+    else record { number = x.0; name = x.1.name; told = function (signature_in functions) }
+    ∷ entries_of xs objects (drop (entry_len functions) functions)
 
 unfoldable pub entries : Lists → List Entry
 entries s = entries_of (considered (symbols s)) (section s.ctf SObjects) (section s.ctf SFunctions)
@@ -130,7 +142,9 @@ pub record FunctionSite : Type 0 where
 
 unfoldable pub function_sites_of : List (ℕ × Symbol) → List ℕ → List FunctionSite
 function_sites_of [] b = []
-function_sites_of (x ∷ xs) b = if is_object x.1 then function_sites_of xs b else record { number = x.0; left = b } ∷ function_sites_of xs (drop (entry_len b) b)
+function_sites_of (x ∷ xs) b =
+    if is_object x.1 then function_sites_of xs b
+    else record { number = x.0; left = b } ∷ function_sites_of xs (drop (entry_len b) b)
 
 unfoldable pub function_sites : Lists → List FunctionSite
 function_sites s = function_sites_of (considered (symbols s)) (section s.ctf SFunctions)

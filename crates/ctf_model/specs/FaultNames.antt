@@ -64,6 +64,8 @@ fault_names =
     (57, codes "NotJson") ∷
     (58, codes "BadRequest") ∷
     (59, codes "LongLine") ∷
+    (60, codes "ModelDiffers") ∷
+    (61, codes "QuotaFull") ∷
     (62, codes "FixedParent") ∷ []
 
 -- the name that stands beside a code, or the empty text where the code has none

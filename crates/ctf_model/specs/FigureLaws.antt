@@ -16,7 +16,9 @@ use Rattle.ctf_model.specs.declared.numbers.Place.TheVariants.{Parents}
 
 -- the figure of a type hangs on those of the types that it leads to by value, and on no other
 pub record AsksByValue (figure : Figure) : Type 0 where
-  pub same : (f g : ℕ → Result ℕ Fault) (n : ℕ) (body : Body) → AllByRecursion (λ t. f t ≡ g t) (by_value body) → figure.of_type f n body ≡ figure.of_type g n body
+  pub same : (f g : ℕ → Result ℕ Fault) (n : ℕ) (body : Body)
+      → AllByRecursion (λ t. f t ≡ g t) (by_value body)
+      → figure.of_type f n body ≡ figure.of_type g n body
 
 -- so do those that there are
 pub record FiguresAskByValue : Type 0 where
@@ -43,11 +45,14 @@ pub record HasBoundedValues (d : Dictionary) : Type 0 where
 abbrev pub FaultlessValuesAreBounded : Type 0
 FaultlessValuesAreBounded = (s : Lists) → first_fault s ≡ None → HasBoundedValues (said_by s)
 
--- the figure of an own type is what its rule says of the figures of others: no bound on chains is seen
+-- the figure of an own type is what its rule says of the figures of others:
+-- no bound on chains is seen
 abbrev pub OwnFiguresAreTheirRules : Type 0
 OwnFiguresAreTheirRules =
-    (figure : Figure) → AsksByValue figure → (s : Space) → HasBoundedValues s.own → (i : ℕ) → i < length s.own.terms
-    → figure_in figure s (own_number s.own.child i) ≡ figure.of_type (figure_in figure s) (own_number s.own.child i) (own_body s.own i)
+    (figure : Figure) → AsksByValue figure → (s : Space) → HasBoundedValues s.own → (i : ℕ)
+    → i < length s.own.terms
+    → figure_in figure s (own_number s.own.child i)
+    ≡ figure.of_type (figure_in figure s) (own_number s.own.child i) (own_body s.own i)
 
 -- the parent of a space by itself
 abbrev pub parent_alone : Space → Dictionary → Space
@@ -56,5 +61,6 @@ parent_alone s parent = record { own = parent; parent = None; model = s.model }
 -- a parent's type comes to what it comes to in the parent alone
 abbrev pub ParentsFiguresAreTheirOwn : Type 0
 ParentsFiguresAreTheirOwn =
-    (figure : Figure) (s : Space) (parent : Dictionary) → s.parent ≡ Some parent → (n i : ℕ) → place s.own.child n ≡ Parents i
+    (figure : Figure) (s : Space) (parent : Dictionary) → s.parent ≡ Some parent → (n i : ℕ)
+    → place s.own.child n ≡ Parents i
     → figure_in figure s n ≡ figure_in figure (parent_alone s parent) n

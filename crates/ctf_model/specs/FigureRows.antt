@@ -22,21 +22,33 @@ abbrev pub member : List ℕ → ℕ → ℕ → Member
 member name tnum offset = record { name = name; tnum = tnum; offset = offset }
 
 abbrev pub integer_of : ℕ → Term
-integer_of size = unnamed (term.integer (record { size = size; encoding = 1; offset = 0; bits = 0 }))
+integer_of size =
+    unnamed (term.integer (record { size = size; encoding = 1; offset = 0; bits = 0 }))
 
 -- an array: the size that it says, its contents, and how many
 abbrev pub array_of : ℕ → ℕ → ℕ → Term
-array_of size contents count = unnamed (term.array (record { size = size; contents = contents; index = 1; count = count }))
+array_of size contents count =
+    unnamed (term.array (record { size = size; contents = contents; index = 1; count = count }))
 
 abbrev pub dictionary : Bool → List Term → Dictionary
-dictionary child types = record { child = child; parname = []; parlabel = []; labels = []; terms = types; symbols = []; entries = [] }
+dictionary child types =
+    record {
+      child = child;
+      parname = [];
+      parlabel = [];
+      labels = [];
+      terms = types;
+      symbols = [];
+      entries = [];
+    }
 
 abbrev pub by_itself : DataModel → List Term → Space
 by_itself model types = record { own = dictionary false types; parent = None; model = model }
 
 -- ---- paths
 
--- int, char, a struct of a char and an int, a struct of two such structs, a typedef of it, a struct with two members
+-- int, char, a struct of a char and an int, a struct of two such structs,
+-- a typedef of it, a struct with two members
 -- of one name, and one without a name
 abbrev pub pairs : List Term
 pairs =
@@ -44,7 +56,8 @@ pairs =
     ∷ unnamed (term.struct 8 (member (codes "c") 2 0 ∷ member (codes "i") 1 32 ∷ []))
     ∷ unnamed (term.struct 16 (member (codes "a") 3 0 ∷ member (codes "b") 3 64 ∷ []))
     ∷ unnamed (term.typedef 4)
-    ∷ unnamed (term.union 16 (member (codes "x") 3 8 ∷ member (codes "x") 4 16 ∷ member [] 5 24 ∷ member (codes "n") 99 0 ∷ member (codes "o") 0 0 ∷ []))
+    ∷ unnamed (term.union 16 (member (codes "x") 3 8 ∷ member (codes "x") 4 16 ∷ member [] 5 24
+    ∷ member (codes "n") 99 0 ∷ member (codes "o") 0 0 ∷ []))
     ∷ []
 
 abbrev pub in_pairs : ℕ → List (List ℕ) → Result Position Fault
@@ -70,19 +83,25 @@ pub record PathsLead : Type 0 where
   pub no_type : in_pairs 9 (codes "b" ∷ []) ≡ Err (fault 24 0)
   pub no_step : in_pairs 9 [] ≡ lies 0 9
   pub far : path (by_itself Lp64 far_out) 1 (codes "a" ∷ []) ≡ lies (2 ^ 63) 1
-  pub too_far : path (by_itself Lp64 far_out) 1 (codes "a" ∷ codes "a" ∷ codes "z" ∷ []) ≡ Err (fault 27 0)
+  pub too_far : path (by_itself Lp64 far_out) 1 (codes "a" ∷ codes "a" ∷ codes "z" ∷ [])
+      ≡ Err (fault 27 0)
 
 -- ---- figures
 
--- int, a pointer, a function, a forward, an array of ten pointers that says no size, one that says 7, a typedef of
--- const of the array, a typedef of nothing, an enum without a size, a struct that begins with a pointer and says 3,
+-- int, a pointer, a function, a forward, an array of ten pointers that says no size,
+-- one that says 7, a typedef of
+-- const of the array, a typedef of nothing, an enum without a size,
+-- a struct that begins with a pointer and says 3,
 -- a union of int, the array and the struct, an empty union, an unknown type,
--- a union whose second member is a type that isn't there and whose third is a forward, 2^60 bytes, 15 times and 16 times that, an array of no forwards
+-- a union whose second member is a type that isn't there and whose third is a forward, 2^60 bytes,
+-- 15 times and 16 times that, an array of no forwards
 abbrev pub many : List Term
 many =
-    integer_of 4 ∷ unnamed (term.pointer 0) ∷ unnamed (term.function 0 []) ∷ unnamed (term.forward term.enum_tag)
+    integer_of 4 ∷ unnamed (term.pointer 0) ∷ unnamed (term.function 0 [])
+    ∷ unnamed (term.forward term.enum_tag)
     ∷ array_of 0 2 10 ∷ array_of 7 4 3
-    ∷ unnamed (term.typedef 8) ∷ unnamed (term.const 5) ∷ unnamed (term.typedef 0) ∷ unnamed (term.enum 0 [])
+    ∷ unnamed (term.typedef 8) ∷ unnamed (term.const 5) ∷ unnamed (term.typedef 0)
+    ∷ unnamed (term.enum 0 [])
     ∷ unnamed (term.struct 3 (member [] 2 0 ∷ member [] 4 0 ∷ []))
     ∷ unnamed (term.union 99 (member [] 1 0 ∷ member [] 5 0 ∷ member [] 11 0 ∷ []))
     ∷ unnamed (term.union 5 [])
@@ -137,9 +156,12 @@ pub record FiguresAre : Type 0 where
 
 -- ---- over a parent
 
--- a child with an array of three of its parent's type 5, a typedef of that, a typedef of a type that no parent has, and a typedef of the number between
+-- a child with an array of three of its parent's type 5, a typedef of that,
+-- a typedef of a type that no parent has, and a typedef of the number between
 abbrev pub child : Dictionary
-child = dictionary true (array_of 0 5 3 ∷ unnamed (term.typedef 0x8001) ∷ unnamed (term.typedef 30) ∷ unnamed (term.typedef 0x8000) ∷ [])
+child =
+    dictionary true (array_of 0 5 3 ∷ unnamed (term.typedef 0x8001) ∷ unnamed (term.typedef 30)
+    ∷ unnamed (term.typedef 0x8000) ∷ [])
 
 abbrev pub over : Space
 over = record { own = child; parent = Some (dictionary false many); model = Lp64 }

@@ -1,5 +1,7 @@
--- What a type comes to once typedefs, qualifiers, arrays and members are followed: the type that it stands for, its size and its alignment.
--- Source: libctf(3LIB), ctf_type_resolve, ctf_type_reference, ctf_type_size, ctf_type_align; where the manual leaves a choice it is ours.
+-- What a type comes to once typedefs, qualifiers, arrays and members are followed:
+-- the type that it stands for, its size and its alignment.
+-- Source: libctf(3LIB), ctf_type_resolve, ctf_type_reference, ctf_type_size, ctf_type_align;
+-- where the manual leaves a choice it is ours.
 use Rattle.std.specs.Prelude.{ℕ, zero, suc, ◌+◌, ◌*◌, ◌^◌, ◌==◌, is_none, nat_lt, max, List, [], ◌∷◌, Option, Some, None, Result, Ok, Err, slice_get, if◌then◌else◌}
 use Rattle.ctf_model.specs.Chains.{longest_chain}
 use Rattle.ctf_model.specs.Dictionary.{Dictionary}
@@ -26,7 +28,8 @@ too_big = placeless TOO_BIG
 
 -- ---- a figure of types
 
--- A number that a type comes to: for no type, and for a type with a number, from what the types that it leads to by value come to.
+-- A number that a type comes to: for no type, and for a type with a number,
+-- from what the types that it leads to by value come to.
 pub record Figure : Type 0 where
   pub of_none : Result ℕ Fault
   pub of_type : (ℕ → Result ℕ Fault) → ℕ → Body → Result ℕ Fault
@@ -35,10 +38,13 @@ abbrev pub of_found : Figure → (ℕ → Result ℕ Fault) → ℕ → Result T
 of_found figure others n (Err f) = Err f
 of_found figure others n (Ok x) = figure.of_type others n x.body
 
--- what the number of a place comes to, where other types come to what `others` says, and a parent's to what `parents` says
-abbrev pub at_place : Figure → (ℕ → Result ℕ Fault) → (ℕ → Result ℕ Fault) → Dictionary → ℕ → Place → Result ℕ Fault
+-- what the number of a place comes to, where other types come to what `others` says,
+-- and a parent's to what `parents` says
+abbrev pub at_place : Figure → (ℕ → Result ℕ Fault) → (ℕ → Result ℕ Fault) → Dictionary → ℕ → Place
+    → Result ℕ Fault
 at_place figure parents others d n Nowhere = Err no_type
-at_place figure parents others d n (Own i) = of_found figure others n (or_no_type (slice_get d.terms i))
+at_place figure parents others d n (Own i) =
+    of_found figure others n (or_no_type (slice_get d.terms i))
 at_place figure parents others d n (Parents i) = parents n
 
 -- What a number of a dictionary comes to, where at most so many numbers follow on each other.
@@ -46,9 +52,11 @@ at_place figure parents others d n (Parents i) = parents n
 unfoldable pub comes_to : Figure → (ℕ → Result ℕ Fault) → Dictionary → ℕ → ℕ → Result ℕ Fault
 comes_to figure parents d zero n = Err incomplete
 comes_to figure parents d (suc k) n =
-    if n == 0 then figure.of_none else at_place figure parents (comes_to figure parents d k) d n (place d.child n)
+    if n == 0 then figure.of_none
+    else at_place figure parents (comes_to figure parents d k) d n (place d.child n)
 
--- As many numbers as can follow on each other in a dictionary without a fault: a chain has one type more than it has steps, and behind the last type there can be a 0 or a parent's number.
+-- As many numbers as can follow on each other in a dictionary without a fault: a chain has one type
+-- more than it has steps, and behind the last type there can be a 0 or a parent's number.
 unfoldable pub most_numbers : ℕ
 most_numbers = longest_chain + 2
 
@@ -86,7 +94,9 @@ or_not_reference (Some t) = Ok t
 
 -- that of a pointer, typedef or qualifier; what a function returns isn't referred to
 abbrev pub referred : Shape → Result ℕ Fault
-referred x = if is_none (arguments_in x.behind) then or_not_reference x.reference else Err (placeless NOT_REFERENCE)
+referred x =
+    if is_none (arguments_in x.behind) then or_not_reference x.reference
+    else Err (placeless NOT_REFERENCE)
 
 abbrev pub referred_by : Result Term Fault → Result ℕ Fault
 referred_by (Err f) = Err f

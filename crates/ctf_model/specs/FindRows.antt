@@ -1,12 +1,11 @@
 -- Worked rows of names that are looked up, and of pointers. The values were worked out by hand.
-use Rattle.std.specs.Prelude.{◌≡◌, ℕ, true, false, Bool, List, [], ◌∷◌, Some, None, Result, Ok, Err, codes}
+use Rattle.std.specs.Prelude.{◌≡◌, ℕ, true, false, List, [], ◌∷◌, Some, None, Ok, Err, codes}
 use Rattle.ctf_model.specs.FigureRows.{by_itself, dictionary, fault, unnamed}
 use Rattle.ctf_model.specs.Found.{base, found, pointer_to, stars}
 use Rattle.ctf_model.specs.Space.{Space}
 use Rattle.ctf_model.specs.Term.{Term, Body, Elements, Scalar}
 use Rattle.ctf_model.specs.Term as term
 use Rattle.ctf_model.specs.declared.data_model.DataModel.TheVariants.{Lp64}
-use Rattle.ctf_model.specs.declared.faults.Fault.{Fault}
 
 -- ---- inputs
 
@@ -20,17 +19,22 @@ abbrev pub hidden : List ℕ → Body → Term
 hidden name body = record { name = name; root = false; body = body }
 
 abbrev pub ten_of : ℕ → Term
-ten_of contents = unnamed (term.array (record { size = 0; contents = contents; index = 1; count = 10 }))
+ten_of contents =
+    unnamed (term.array (record { size = 0; contents = contents; index = 1; count = 10 }))
 
 -- ---- C's declarators
 
--- int, an array of it, pointers to that and to int, an array of such pointers, char, a pointer to it, a const one,
--- a pointer to that, volatile int, a const one, a struct without a name, a pointer to it, a function that returns an
+-- int, an array of it, pointers to that and to int, an array of such pointers,
+-- char, a pointer to it, a const one,
+-- a pointer to that, volatile int, a const one, a struct without a name,
+-- a pointer to it, a function that returns an
 -- int, a pointer to it, a const array, a pointer to it, a const pointer to the function
 abbrev pub declared_types : List Term
 declared_types =
-    called (codes "int") (scalar 4 32) ∷ ten_of 1 ∷ unnamed (term.pointer 2) ∷ unnamed (term.pointer 1) ∷ ten_of 4
-    ∷ called (codes "char") (scalar 1 8) ∷ unnamed (term.pointer 6) ∷ unnamed (term.const 7) ∷ unnamed (term.pointer 8)
+    called (codes "int") (scalar 4 32) ∷ ten_of 1 ∷ unnamed (term.pointer 2)
+    ∷ unnamed (term.pointer 1) ∷ ten_of 4
+    ∷ called (codes "char") (scalar 1 8) ∷ unnamed (term.pointer 6) ∷ unnamed (term.const 7)
+    ∷ unnamed (term.pointer 8)
     ∷ unnamed (term.volatile 1) ∷ unnamed (term.const 10)
     ∷ unnamed (term.struct 0 []) ∷ unnamed (term.pointer 12)
     ∷ unnamed (term.function 1 []) ∷ unnamed (term.pointer 14)
@@ -42,17 +46,22 @@ declared_space = by_itself Lp64 declared_types
 
 -- ---- words in front of names, hidden types, faults
 
--- a hidden int, an int, a union `node`, a forward of a struct `node`, a struct `node`, a typedef `struct`, an enum
--- ` e`, a pointer to it that is hidden, a typedef of nothing, a typedef of a type that isn't there, a pointer to
+-- a hidden int, an int, a union `node`, a forward of a struct `node`,
+-- a struct `node`, a typedef `struct`, an enum
+-- ` e`, a pointer to it that is hidden, a typedef of nothing,
+-- a typedef of a type that isn't there, a pointer to
 -- nothing, a second pointer to the enum, a typedef of the forward, a pointer to that typedef
 abbrev pub node_types : List Term
 node_types =
     hidden (codes "int") (scalar 4 32) ∷ called (codes "int") (scalar 4 32)
-    ∷ called (codes "node") (term.union 4 []) ∷ called (codes "node") (term.forward term.struct_tag) ∷ called (codes "node") (term.struct 4 [])
+    ∷ called (codes "node") (term.union 4 []) ∷ called (codes "node") (term.forward term.struct_tag)
+    ∷ called (codes "node") (term.struct 4 [])
     ∷ called (codes "struct") (term.typedef 2)
     ∷ called (codes " e") (term.enum 4 []) ∷ hidden [] (term.pointer 7)
-    ∷ called (codes "none") (term.typedef 0) ∷ called (codes "lost") (term.typedef 99) ∷ unnamed (term.pointer 0)
-    ∷ unnamed (term.pointer 7) ∷ called (codes "node_t") (term.typedef 4) ∷ unnamed (term.pointer 13)
+    ∷ called (codes "none") (term.typedef 0) ∷ called (codes "lost") (term.typedef 99)
+    ∷ unnamed (term.pointer 0)
+    ∷ unnamed (term.pointer 7) ∷ called (codes "node_t") (term.typedef 4)
+    ∷ unnamed (term.pointer 13)
     ∷ []
 
 abbrev pub node_space : Space
@@ -62,10 +71,17 @@ node_space = by_itself Lp64 node_types
 
 -- a child with an int of its own, a pointer to a type of its parent's, and a typedef of that type
 abbrev pub child_types : List Term
-child_types = called (codes "int") (scalar 4 32) ∷ unnamed (term.pointer 6) ∷ called (codes "text") (term.typedef 6) ∷ []
+child_types =
+    called (codes "int") (scalar 4 32) ∷ unnamed (term.pointer 6)
+    ∷ called (codes "text") (term.typedef 6) ∷ []
 
 abbrev pub child_space : Space
-child_space = record { own = dictionary true child_types; parent = Some (dictionary false declared_types); model = Lp64 }
+child_space =
+    record {
+      own = dictionary true child_types;
+      parent = Some (dictionary false declared_types);
+      model = Lp64;
+    }
 
 abbrev pub orphan_space : Space
 orphan_space = record { own = dictionary true child_types; parent = None; model = Lp64 }

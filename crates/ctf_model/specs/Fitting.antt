@@ -1,4 +1,5 @@
--- Which types and labels the format has room for. Source: the widths of ctf(5)'s fields; that a draft's arrays say no size, and that no member begins behind its struct, is ours.
+-- Which types and labels the format has room for. Source: the widths of ctf(5)'s fields;
+-- that a draft's arrays say no size, and that no member begins behind its struct, is ours.
 use Rattle.std.specs.Prelude.{◌≡◌, ◌<◌, ◌≤◌, ℕ, ◌*◌, ◌^◌, List, length, FitsSigned}
 use Rattle.std.specs.List.{AllByRecursion}
 use Rattle.std.specs.Int.{w32}

@@ -1,4 +1,6 @@
--- Which type a written name finds, and which type is a pointer to another. Source: libctf(3LIB), ctf_lookup_by_name and ctf_type_pointer; which names are read, and that the least number is taken, is ours.
+-- Which type a written name finds, and which type is a pointer to another.
+-- Source: libctf(3LIB), ctf_lookup_by_name and ctf_type_pointer; which names are read,
+-- and that the least number is taken, is ours.
 use Rattle.std.specs.Prelude.{ℕ, zero, suc, ◌==◌, ◌&&◌, ◌||◌, Bool, true, false, List, [], ◌∷◌, length, take, drop, Option, Some, None, Result, Ok, Err, codes, if◌then◌else◌}
 use Rattle.std.specs.List.{list_all, count_by}
 use Rattle.std.specs.Option.{option_map, option_or}
@@ -53,7 +55,8 @@ same_tag (Some term.union_tag) (Some term.union_tag) = true
 same_tag (Some term.enum_tag) (Some term.enum_tag) = true
 same_tag _ _ = false
 
--- a name as it is written, without stars: the word in front of it, if there is one, and the name itself
+-- a name as it is written, without stars: the word in front of it,
+-- if there is one, and the name itself
 pub record Written : Type 0 where
   pub tag : Option Tag
   pub name : List ℕ
@@ -88,9 +91,12 @@ begins_with word text = bytes_eq (take (length word) text) word
 -- blanks behind the first one belong to the name
 abbrev pub written : List ℕ → Written
 written text =
-    if begins_with (codes "struct ") text then record { tag = Some term.struct_tag; name = drop 7 text }
-    else if begins_with (codes "union ") text then record { tag = Some term.union_tag; name = drop 6 text }
-    else if begins_with (codes "enum ") text then record { tag = Some term.enum_tag; name = drop 5 text }
+    if begins_with (codes "struct ") text
+    then record { tag = Some term.struct_tag; name = drop 7 text }
+    else if begins_with (codes "union ") text
+    then record { tag = Some term.union_tag; name = drop 6 text }
+    else if begins_with (codes "enum ") text
+    then record { tag = Some term.enum_tag; name = drop 5 text }
     else record { tag = None; name = text }
 
 -- it is empty, or begins with a blank

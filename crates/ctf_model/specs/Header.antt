@@ -1,4 +1,5 @@
--- The 36 bytes at the front of a dictionary. Source: ctf(5), "The CTF Header"; ctf_header_t of sys/ctf.h.
+-- The 36 bytes at the front of a dictionary.
+-- Source: ctf(5), "The CTF Header"; ctf_header_t of sys/ctf.h.
 use Rattle.std.specs.Prelude.{ℕ, ◌+◌, ◌==◌, not, Bool, List, slice_range}
 use Rattle.ctf_model.specs.Bytes.{u32_at}
 use Rattle.ctf_model.specs.declared.sections.Section.{Section}
@@ -16,7 +17,17 @@ pub record Fields : Type 0 where
   pub strlen : ℕ
 
 abbrev pub fields : List ℕ → Fields
-fields ctf = record { parlabel = u32_at ctf 4; parname = u32_at ctf 8; lbloff = u32_at ctf 12; objtoff = u32_at ctf 16; funcoff = u32_at ctf 20; typeoff = u32_at ctf 24; stroff = u32_at ctf 28; strlen = u32_at ctf 32 }
+fields ctf =
+    record {
+      parlabel = u32_at ctf 4;
+      parname = u32_at ctf 8;
+      lbloff = u32_at ctf 12;
+      objtoff = u32_at ctf 16;
+      funcoff = u32_at ctf 20;
+      typeoff = u32_at ctf 24;
+      stroff = u32_at ctf 28;
+      strlen = u32_at ctf 32;
+    }
 
 -- a dictionary with a parent's name is a child: its low type numbers are those of the parent (ours)
 abbrev pub is_child : Fields → Bool

@@ -19,16 +19,22 @@ NoRecordBeginsAnother = (whole more : List ℕ) → IsWhole whole → IsWhole (w
 
 -- a section spells at most one list of types
 abbrev pub SectionSpellsOneList : Type 0
-SectionSpellsOneList = (t : Tables) (bytes : List ℕ) (xs ys : List Term) → Section t bytes xs → Section t bytes ys → xs ≡ ys
+SectionSpellsOneList =
+    (t : Tables) (bytes : List ℕ) (xs ys : List Term) → Section t bytes xs
+    → Section t bytes ys → xs ≡ ys
 
 -- where a rest isn't empty, its fault, under the number of the record that it would be
 abbrev pub rest_fault : ℕ → List ℕ → List (Result Piece Fault)
-rest_fault index rest = if length rest == 0 then [] else Err (record { code = stop_code rest; place = index }) ∷ []
+rest_fault index rest =
+    if length rest == 0 then [] else Err (record { code = stop_code rest; place = index }) ∷ []
 
--- whole records, numbered from an index and placed from an offset on, and then the fault of the rest
+-- whole records, numbered from an index and placed from an offset on,
+-- and then the fault of the rest
 abbrev pub pieces : ℕ → ℕ → List (List ℕ) → List ℕ → List (Result Piece Fault)
 pieces index at [] rest = rest_fault index rest
-pieces index at (part ∷ parts) rest = Ok (record { index = index; at = at; bytes = part }) ∷ pieces (index + 1) (at + length part) parts rest
+pieces index at (part ∷ parts) rest =
+    Ok (record { index = index; at = at; bytes = part })
+    ∷ pieces (index + 1) (at + length part) parts rest
 
 -- reading record by record gives the records of a cut, and then the fault of its rest
 pub record Reads (bytes : List ℕ) (parts : List (List ℕ)) (rest : List ℕ) : Type 0 where
@@ -39,11 +45,14 @@ pub record Reads (bytes : List ℕ) (parts : List (List ℕ)) (rest : List ℕ) 
 
 -- all bytes are whole records as far as they go, and reading gives just these
 abbrev pub RecordsAreACut : Type 0
-RecordsAreACut = (bytes : List ℕ) → (parts : List (List ℕ)) × (rest : List ℕ) × Reads bytes parts rest
+RecordsAreACut =
+    (bytes : List ℕ) → (parts : List (List ℕ)) × (rest : List ℕ) × Reads bytes parts rest
 
 -- bytes are cut into whole records in one way
 abbrev pub OneCut : Type 0
-OneCut = (bytes : List ℕ) (parts others : List (List ℕ)) (rest other : List ℕ) → IsCut bytes parts rest → IsCut bytes others other → (parts ≡ others) × (rest ≡ other)
+OneCut =
+    (bytes : List ℕ) (parts others : List (List ℕ)) (rest other : List ℕ) → IsCut bytes parts rest
+    → IsCut bytes others other → (parts ≡ others) × (rest ≡ other)
 
 -- ---- the first fault
 
@@ -51,7 +60,8 @@ OneCut = (bytes : List ℕ) (parts others : List (List ℕ)) (rest other : List 
 abbrev pub KeepsEveryRule : Lists → Type 0
 KeepsEveryRule s = (rule place : ℕ) → IsBroken s rule place → ⊥
 
--- where there is no first fault every rule is kept; else it is the least rule that is broken, at its least place
+-- where there is no first fault every rule is kept; else it is the least rule that is broken,
+-- at its least place
 abbrev pub FirstFaultIsTheLeast : Type 0
 FirstFaultIsTheLeast = (s : Lists) → MatchOption (first_fault s) (KeepsEveryRule s) (IsFirstFault s)
 

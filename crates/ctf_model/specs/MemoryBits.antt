@@ -1,8 +1,9 @@
--- Numbers in the memory of a program. Source: ctf(5), which reads them little-endian: bit i of the memory is bit i % 8 of byte i / 8.
+-- Numbers in the memory of a program. Source: ctf(5), which reads them little-endian:
+-- bit i of the memory is bit i % 8 of byte i / 8.
 use Rattle.std.specs.Prelude.{ℕ, ℤ, pos, zero, suc, ◌+◌, ◌-◌, ◌*◌, ◌^◌, ◌/◌, ◌%◌, ◌-ℤ◌, ◌++◌, nat_lt, List, [], length, Result, Ok, Err, if◌then◌else◌}
 use Rattle.ctf_model.specs.Bytes.{number}
 use Rattle.ctf_model.specs.Refusals.{placeless}
-use Rattle.ctf_model.specs.Text.{hex_of_byte}
+use Rattle.ctf_model.specs.Texts.{hex_of_byte}
 use Rattle.ctf_model.specs.declared.faults.Fault.{Fault}
 use Rattle.ctf_model.specs.declared.faults.TheConstants.Fault.{SHORT_MEMORY}
 
@@ -16,7 +17,8 @@ bits_at memory p width = number memory / 2 ^ p % 2 ^ width
 
 -- the same, if the memory has these bits
 abbrev pub field : List ℕ → ℕ → ℕ → Result ℕ Fault
-field memory p width = if nat_lt (8 * length memory) (p + width) then Err short_memory else Ok (bits_at memory p width)
+field memory p width =
+    if nat_lt (8 * length memory) (p + width) then Err short_memory else Ok (bits_at memory p width)
 
 -- two's complement: of so many bits the highest counts as a negative number
 abbrev pub signed_value : ℕ → ℕ → ℤ

@@ -1,8 +1,10 @@
--- What a name reference names. Source: ctf(5), "String Identifiers"; CTF_NAME_STID and CTF_NAME_OFFSET of sys/ctf.h.
+-- What a name reference names. Source: ctf(5), "String Identifiers";
+-- CTF_NAME_STID and CTF_NAME_OFFSET of sys/ctf.h.
 use Rattle.std.specs.Prelude.{ℕ, ◌^◌, ◌/◌, ◌%◌, ◌==◌, Bool, List, [], drop, Option, Some, None, if◌then◌else◌}
 use Rattle.std.specs.List.{list_any, before_first}
 
--- the two tables that names stand in: the string section, and the string list of a symbol table where there is one
+-- the two tables that names stand in: the string section, and the string list of a
+-- symbol table where there is one
 pub record Tables : Type 0 where
   pub internal : List ℕ
   pub elf : Option (List ℕ)
@@ -25,4 +27,5 @@ text_at (Some bytes) offset = text (drop offset bytes)
 
 -- the name of a reference: offset 0 is the empty name, even where there is no table (ours)
 abbrev pub name : Tables → ℕ → Option (List ℕ)
-name t reference = if reference % 2 ^ 31 == 0 then Some [] else text_at (table t reference) (reference % 2 ^ 31)
+name t reference =
+    if reference % 2 ^ 31 == 0 then Some [] else text_at (table t reference) (reference % 2 ^ 31)

@@ -1,5 +1,6 @@
 -- Where names stand in a dictionary, by byte offsets: each is a reference of four bytes.
--- Source: ctf(5); ctf_header_t, ctf_lblent_t, ctf_stype_t, ctf_member_t, ctf_lmember_t, ctf_enum_t of sys/ctf.h.
+-- Source: ctf(5); ctf_header_t, ctf_lblent_t, ctf_stype_t, ctf_member_t,
+-- ctf_lmember_t, ctf_enum_t of sys/ctf.h.
 use Rattle.std.specs.Prelude.{◌≡◌, ◌<◌, ◌≤◌, ℕ, ◌+◌, ◌*◌, List, length, Option, Some, ◌⊎◌}
 use Rattle.std.specs.List.{concat}
 use Rattle.ctf_model.specs.Header.{Fields, fields, section}
@@ -35,7 +36,8 @@ InRecord b place = (place ≡ 0) ⊎ InList b (kind b) place
 -- in the type section: so far behind the records in front of that record
 abbrev pub InTypes : List ℕ → ℕ → Type 0
 InTypes ctf place =
-    (r : RecordOf (section ctf STypes)) × (at : ℕ) × InRecord r.part at × (place ≡ 36 + (fields ctf).typeoff + length (concat r.front) + at)
+    (r : RecordOf (section ctf STypes)) × (at : ℕ) × InRecord r.part at
+    × (place ≡ 36 + (fields ctf).typeoff + length (concat r.front) + at)
 
 -- a name stands at the place
 abbrev pub NameStandsAt : List ℕ → ℕ → Type 0

@@ -16,12 +16,16 @@ called name body = record { name = name; root = true; body = body }
 abbrev pub an_integer : List ℕ → Term
 an_integer name = record (integer_of 4) { name = name }
 
--- int, an array of ten of it, a pointer to that, a pointer to int, an array of ten of these, char, a pointer to it, a const one, a pointer to that, volatile int, const of that, an unnamed struct, a pointer to it, a function that returns int, a pointer to it, const of the array, a pointer to that, a const pointer to the function
+-- int, an array of ten of it, a pointer to that, a pointer to int, an array of ten of these, char,
+-- a pointer to it, a const one, a pointer to that, volatile int, const of that, an unnamed struct,
+-- a pointer to it, a function that returns int, a pointer to it, const of the array,
+-- a pointer to that, a const pointer to the function
 abbrev pub ten : List Term
 ten =
     an_integer (codes "int") ∷ array_of 0 1 10 ∷ unnamed (term.pointer 2)
     ∷ unnamed (term.pointer 1) ∷ array_of 0 4 10
-    ∷ an_integer (codes "char") ∷ unnamed (term.pointer 6) ∷ unnamed (term.const 7) ∷ unnamed (term.pointer 8)
+    ∷ an_integer (codes "char") ∷ unnamed (term.pointer 6) ∷ unnamed (term.const 7)
+    ∷ unnamed (term.pointer 8)
     ∷ unnamed (term.volatile 1) ∷ unnamed (term.const 10)
     ∷ unnamed (term.struct 0 []) ∷ unnamed (term.pointer 12)
     ∷ unnamed (term.function 1 []) ∷ unnamed (term.pointer 14)
@@ -31,23 +35,31 @@ ten =
 abbrev pub in_ten : ℕ → Result (List ℕ) Fault
 in_ten n = spelled_name (by_itself Lp64 ten) n
 
--- int, a pointer to it, volatile and then restrict of that, an array of three of these, an array of four of those,
--- a function that returns the pointer, a pointer to it, a function that returns that, an array of two of that pointer,
--- forwards, a named union and an enum, an unknown type, a typedef, const of it, const of nothing, a pointer to that,
--- pointers to types that aren't there, a function of nothing, const of it, a pointer to that, an unnamed float, a volatile pointer to const char
+-- int, a pointer to it, volatile and then restrict of that, an array of three of these,
+-- an array of four of those,
+-- a function that returns the pointer, a pointer to it, a function that returns that,
+-- an array of two of that pointer,
+-- forwards, a named union and an enum, an unknown type, a typedef, const of it,
+-- const of nothing, a pointer to that,
+-- pointers to types that aren't there, a function of nothing, const of it, a pointer to that,
+-- an unnamed float, a volatile pointer to const char
 abbrev pub more : List Term
 more =
-    an_integer (codes "int") ∷ unnamed (term.pointer 1) ∷ unnamed (term.volatile 2) ∷ unnamed (term.restrict 3)
+    an_integer (codes "int") ∷ unnamed (term.pointer 1) ∷ unnamed (term.volatile 2)
+    ∷ unnamed (term.restrict 3)
     ∷ array_of 0 4 3 ∷ array_of 0 5 4
-    ∷ unnamed (term.function 2 []) ∷ unnamed (term.pointer 7) ∷ unnamed (term.function 8 (1 ∷ 0 ∷ [])) ∷ array_of 0 8 2
-    ∷ called (codes "s") (term.forward term.struct_tag) ∷ called (codes "u") (term.forward term.union_tag) ∷ unnamed (term.forward term.enum_tag)
+    ∷ unnamed (term.function 2 []) ∷ unnamed (term.pointer 7)
+    ∷ unnamed (term.function 8 (1 ∷ 0 ∷ [])) ∷ array_of 0 8 2
+    ∷ called (codes "s") (term.forward term.struct_tag)
+    ∷ called (codes "u") (term.forward term.union_tag) ∷ unnamed (term.forward term.enum_tag)
     ∷ called (codes "v") (term.union 8 []) ∷ called (codes "e") (term.enum 4 [])
     ∷ unnamed term.unknown ∷ called (codes "size_t") (term.typedef 2) ∷ unnamed (term.const 17)
     ∷ unnamed (term.const 0) ∷ unnamed (term.pointer 19)
     ∷ unnamed (term.pointer 99) ∷ unnamed (term.const 98)
     ∷ unnamed (term.function 0 []) ∷ unnamed (term.const 23) ∷ unnamed (term.pointer 24)
     ∷ unnamed (term.float (record { size = 4; encoding = 1; offset = 0; bits = 32 }))
-    ∷ unnamed (term.const 26) ∷ unnamed (term.pointer 27) ∷ unnamed (term.volatile 28) ∷ unnamed (term.pointer 11)
+    ∷ unnamed (term.const 26) ∷ unnamed (term.pointer 27) ∷ unnamed (term.volatile 28)
+    ∷ unnamed (term.pointer 11)
     ∷ []
 
 abbrev pub in_more : ℕ → Result (List ℕ) Fault
@@ -98,16 +110,22 @@ pub record NamesAreSpelled : Type 0 where
 
 -- ---- over a parent
 
--- a child with a pointer to type 3 of its parent, a pointer to that, and a pointer to the number between
+-- a child with a pointer to type 3 of its parent, a pointer to that,
+-- and a pointer to the number between
 abbrev pub pointers : Dictionary
-pointers = dictionary true (unnamed (term.pointer 3) ∷ unnamed (term.pointer 0x8001) ∷ unnamed (term.pointer 0x8000) ∷ [])
+pointers =
+    dictionary true (unnamed (term.pointer 3) ∷ unnamed (term.pointer 0x8001)
+    ∷ unnamed (term.pointer 0x8000) ∷ [])
 
 -- a parent whose third type is an unnamed struct
 abbrev pub structs : List Term
-structs = an_integer (codes "int") ∷ unnamed (term.struct 8191 []) ∷ unnamed (term.struct 8192 []) ∷ []
+structs =
+    an_integer (codes "int") ∷ unnamed (term.struct 8191 []) ∷ unnamed (term.struct 8192 []) ∷ []
 
 abbrev pub over : List Term → ℕ → Result (List ℕ) Fault
-over parent n = spelled_name (record { own = pointers; parent = Some (dictionary false parent); model = Lp64 }) n
+over parent n =
+    spelled_name
+    (record { own = pointers; parent = Some (dictionary false parent); model = Lp64 }) n
 
 abbrev pub without : ℕ → Result (List ℕ) Fault
 without n = spelled_name (record { own = pointers; parent = None; model = Lp64 }) n

@@ -1,4 +1,5 @@
--- Which types of its parent a child names. Source: ctf(5), of parents and children; CTF_TYPE_ISPARENT of sys/ctf.h.
+-- Which types of its parent a child names. Source: ctf(5), of parents and children;
+-- CTF_TYPE_ISPARENT of sys/ctf.h.
 use Rattle.std.specs.Prelude.{ℕ, ◌+◌, max, true, List, [], ◌∷◌, ◌++◌, if◌then◌else◌}
 use Rattle.std.specs.List.{flat_map}
 use Rattle.ctf_model.specs.Dictionary.{Dictionary}
@@ -8,7 +9,8 @@ use Rattle.ctf_model.specs.TypePlaces.{place}
 use Rattle.ctf_model.specs.declared.numbers.Place.{Place}
 use Rattle.ctf_model.specs.declared.numbers.Place.TheVariants.{Parents}
 
--- the number that the type of a place has in the parent; 0 where it is one of the child's own, or no type
+-- the number that the type of a place has in the parent;
+-- 0 where it is one of the child's own, or no type
 abbrev pub parents_number : Place → ℕ
 parents_number (Parents i) = i + 1
 parents_number _ = 0
@@ -24,7 +26,8 @@ greatest_in_parent (n ∷ ns) = max (number_in_parent n) (greatest_in_parent ns)
 
 -- the types that the types of a dictionary name, and those that are told of its symbols
 abbrev pub named_by : Dictionary → List ℕ
-named_by d = flat_map (λ x. references x.body) d.terms ++ flat_map (λ e. types_told e.told) d.entries
+named_by d =
+    flat_map (λ x. references x.body) d.terms ++ flat_map (λ e. types_told e.told) d.entries
 
 -- the greatest number of a parent's type that a dictionary names; 0 where it is no child
 abbrev pub needed : Dictionary → ℕ

@@ -1,5 +1,8 @@
--- Types as they are added to a draft: what each kind says of itself, and no members or enumerators yet.
--- Source: libctf(3LIB), ctf_add_integer, ctf_add_float, ctf_add_pointer, ctf_add_array, ctf_add_function, ctf_add_struct, ctf_add_union, ctf_add_enum, ctf_add_forward, ctf_add_typedef, ctf_add_volatile, ctf_add_const, ctf_add_restrict; that an unknown type can be added is ours.
+-- Types as they are added to a draft: what each kind says of itself,
+-- and no members or enumerators yet.
+-- Source: libctf(3LIB), ctf_add_integer, ctf_add_float, ctf_add_pointer, ctf_add_array,
+-- ctf_add_function, ctf_add_struct, ctf_add_union, ctf_add_enum, ctf_add_forward, ctf_add_typedef,
+-- ctf_add_volatile, ctf_add_const, ctf_add_restrict; that an unknown type can be added is ours.
 use Rattle.std.specs.Prelude.{ℕ, Bool, List, []}
 use Rattle.ctf_model.specs.Shown.{ArrayParts}
 use Rattle.ctf_model.specs.Term.{Body, Scalar, Tag, Term}
@@ -35,7 +38,9 @@ new_body unknown = term.unknown
 new_body (integer scalar) = term.integer scalar
 new_body (float scalar) = term.float scalar
 new_body (pointer t) = term.pointer t
-new_body (array parts) = term.array (record { size = 0; contents = parts.contents; index = parts.index; count = parts.count })
+new_body (array parts) =
+    term.array
+    (record { size = 0; contents = parts.contents; index = parts.index; count = parts.count })
 new_body (function returned arguments) = term.function returned arguments
 new_body (struct size) = term.struct size []
 new_body (union size) = term.union size []

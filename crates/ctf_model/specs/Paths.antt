@@ -30,21 +30,26 @@ fault_at code step = record { code = code; place = step }
 abbrev pub member_position : ℕ → ℕ → Option Member → Result Position Fault
 member_position step offset None = Err (fault_at NO_MEMBER step)
 member_position step offset (Some m) =
-    if nat_lt (offset + m.offset) (2 ^ 64) then Ok (record { offset = offset + m.offset; tnum = m.tnum }) else Err too_big
+    if nat_lt (offset + m.offset) (2 ^ 64)
+    then Ok (record { offset = offset + m.offset; tnum = m.tnum })
+    else Err too_big
 
 abbrev pub position_among : ℕ → List ℕ → ℕ → Option (List Member) → Result Position Fault
 position_among step name offset None = Err (fault_at NOT_AGGREGATE step)
-position_among step name offset (Some members) = member_position step offset (member_named name members)
+position_among step name offset (Some members) =
+    member_position step offset (member_named name members)
 
 abbrev pub position_within : Space → ℕ → List ℕ → ℕ → Result ℕ Fault → Result Position Fault
 position_within s step name offset (Err f) = Err f
-position_within s step name offset (Ok n) = position_among step name offset (members_found (space_type s n))
+position_within s step name offset (Ok n) =
+    position_among step name offset (members_found (space_type s n))
 
 -- the path's step with a number: to the first member with a name, in the value at a position
 abbrev pub step_to : Space → ℕ → List ℕ → Position → Result Position Fault
 step_to s step name at = position_within s step name at.offset (resolved s at.tnum)
 
-abbrev pub and_on : Result Position Fault → (Position → Result Position Fault) → Result Position Fault
+abbrev pub and_on : Result Position Fault → (Position → Result Position Fault)
+    → Result Position Fault
 and_on (Err f) next = Err f
 and_on (Ok at) next = next at
 

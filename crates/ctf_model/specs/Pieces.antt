@@ -1,4 +1,5 @@
--- What is shown of a value: pieces of text, one behind the other, and then an end, which is done or a fault. Source: ours.
+-- What is shown of a value: pieces of text, one behind the other, and then an end,
+-- which is done or a fault. Source: ours.
 use Rattle.std.specs.Prelude.{ℕ, ◌++◌, nat_lt, List, [], ◌∷◌, length, Option, Some, None, Result, Ok, Err, codes, if◌then◌else◌}
 use Rattle.ctf_model.specs.TypeNames.{longest_text, too_long}
 use Rattle.ctf_model.specs.declared.faults.Fault.{Fault}
@@ -47,4 +48,6 @@ ended_by (Some fault) text = Err fault
 
 -- a text that is too long is refused, however it ends; else the fault is answered, or the text
 abbrev pub answered : Pieces → Result (List ℕ) Fault
-answered pieces = if nat_lt longest_text (length pieces.text) then Err too_long else ended_by pieces.fault pieces.text
+answered pieces =
+    if nat_lt longest_text (length pieces.text) then Err too_long
+    else ended_by pieces.fault pieces.text

@@ -1,4 +1,7 @@
--- Where a new member stands, and how its struct or union grows. Source: ISO C, "Structure and union specifiers": members of a struct stand in the order of their declaration, each aligned for its type, none before the first; all members of a union stand at its beginning; both are large enough for their members. libctf(3LIB), ctf_add_member. That no padding follows the last member is ours.
+-- Where a new member stands, and how its struct or union grows. Source: ISO C, "Structure and union
+-- specifiers": members of a struct stand in the order of their declaration, each aligned for its
+-- type, none before the first; all members of a union stand at its beginning; both are large enough
+-- for their members. libctf(3LIB), ctf_add_member. That no padding follows the last member is ours.
 use Rattle.std.specs.Prelude.{ℕ, ◌+◌, ◌-◌, ◌*◌, ◌^◌, max, nat_le, Bool, List, length, Option, Some, None, Result, Ok, Err, slice_get}
 use Rattle.std.specs.Int.{div_ceil, next_multiple_of}
 use Rattle.ctf_model.specs.Figures.{align, resolved, size}
@@ -30,14 +33,17 @@ bits_filled s n = size s n then λ size. resolved s n then λ t. bits_found size
 
 -- ---- where a member stands
 
--- the first place, in whole bytes, that is not before some bit and that an alignment allows; each place is one for an alignment of 0
+-- the first place, in whole bytes, that is not before some bit and that an alignment allows;
+-- each place is one for an alignment of 0
 abbrev pub aligned_from : ℕ → ℕ → ℕ
 aligned_from bit align = 8 * next_multiple_of (bytes_holding bit) (max align 1)
 
 -- behind the last member, or at the beginning where there is none
 abbrev pub behind_last : Space → Option Member → ℕ → Result ℕ Fault
 behind_last s None tnum = Ok 0
-behind_last s (Some last) tnum = bits_filled s last.tnum then λ bits. align s tnum then λ align. Ok (aligned_from (last.offset + bits) align)
+behind_last s (Some last) tnum =
+    bits_filled s last.tnum
+    then λ bits. align s tnum then λ align. Ok (aligned_from (last.offset + bits) align)
 
 abbrev pub last_member : List Member → Option Member
 last_member members = slice_get members (length members - 1)

@@ -1,5 +1,6 @@
 -- Type records: their fields, and when one is whole.
--- Source: ctf(5), "The Type Section"; ctf_stype_t, ctf_type_t, CTF_INFO_KIND, CTF_INFO_ISROOT, CTF_INFO_VLEN of sys/ctf.h.
+-- Source: ctf(5), "The Type Section"; ctf_stype_t, ctf_type_t, CTF_INFO_KIND,
+-- CTF_INFO_ISROOT, CTF_INFO_VLEN of sys/ctf.h.
 use Rattle.std.specs.Prelude.{◌≡◌, ◌≤◌, ℕ, ◌+◌, ◌*◌, ◌/◌, ◌%◌, ◌^◌, ◌==◌, Bool, List, [], ◌∷◌, length, drop, slice_get, nat_lt, Option, MatchOption, if◌then◌else◌}
 use Rattle.ctf_model.specs.Bytes.{u16_at, u32_at}
 use Rattle.ctf_model.specs.declared.kinds.Kind.{Kind}
@@ -33,7 +34,9 @@ is_root b = info b / 1024 % 2 == 1
 
 -- the kinds by their numbers, from 0
 abbrev pub kinds : List Kind
-kinds = KUnknown ∷ KInteger ∷ KFloat ∷ KPointer ∷ KArray ∷ KFunction ∷ KStruct ∷ KUnion ∷ KEnum ∷ KForward ∷ KTypedef ∷ KVolatile ∷ KConst ∷ KRestrict ∷ []
+kinds =
+    KUnknown ∷ KInteger ∷ KFloat ∷ KPointer ∷ KArray ∷ KFunction ∷ KStruct ∷ KUnion ∷ KEnum
+    ∷ KForward ∷ KTypedef ∷ KVolatile ∷ KConst ∷ KRestrict ∷ []
 
 abbrev pub kind : List ℕ → Option Kind
 kind b = slice_get kinds (info b / 2 ^ 11)

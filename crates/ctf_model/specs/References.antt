@@ -1,4 +1,5 @@
--- Which types a type names, and which of these are not there. Source: ctf(5); what is accepted is ours.
+-- Which types a type names, and which of these are not there.
+-- Source: ctf(5); what is accepted is ours.
 use Rattle.std.specs.Prelude.{ℕ, ◌==◌, ◌||◌, ◌&&◌, not, nat_le, Bool, true, false, List, [], ◌∷◌, map, Option, Some, None}
 use Rattle.std.specs.List.{list_any}
 use Rattle.ctf_model.specs.Name.{Tables}
@@ -25,7 +26,8 @@ references (term.const t) = t ∷ []
 references (term.restrict t) = t ∷ []
 references _ = []
 
--- among so many own types, none stands at the place of the number. The number 0 asks for none, and those
+-- among so many own types, none stands at the place of the number.
+-- The number 0 asks for none, and those
 -- of a parent are judged where the child meets it
 abbrev pub is_missing_at : ℕ → ℕ → Place → Bool
 is_missing_at count n Nowhere = not (n == 0)

@@ -1,29 +1,15 @@
--- Worked rows: what the definitions say of small inputs. The values were worked out by hand from the format.
-use Rattle.std.specs.Prelude.{◌≡◌, ℕ, ◌/◌, ◌%◌, ◌^◌, true, false, List, [], ◌∷◌, ◌++◌, take, drop, slice_set, Some, None, Result, Ok, Err, codes}
-use Rattle.ctf_model.specs.Answers.{Answer, Reply, says}
-use Rattle.ctf_model.specs.Answers as answers
-use Rattle.ctf_model.specs.Ask.{ask}
+-- Worked rows: what the definitions say of small inputs.
+-- The values were worked out by hand from the format.
+use Rattle.std.specs.Prelude.{◌≡◌, ℕ, ◌/◌, ◌%◌, ◌^◌, true, false, List, [], ◌∷◌, ◌++◌, take, slice_set, Some, None, Ok, Err, codes}
 use Rattle.ctf_model.specs.Dictionary.{Dictionary, denoted}
 use Rattle.ctf_model.specs.Faults.{first_fault}
-use Rattle.ctf_model.specs.Lines.{all_lines}
 use Rattle.ctf_model.specs.Lists.{Lists}
-use Rattle.ctf_model.specs.Output.{Mark, out}
-use Rattle.ctf_model.specs.Output as marks
 use Rattle.ctf_model.specs.Record.{variant_len}
-use Rattle.ctf_model.specs.ReplyLines.{fault_line, reply_line}
-use Rattle.ctf_model.specs.Runs.{Given, private_state, private_replies}
-use Rattle.ctf_model.specs.State.{empty_state}
 use Rattle.ctf_model.specs.Term.{Scalar, Body, Term}
 use Rattle.ctf_model.specs.Term as term
 use Rattle.ctf_model.specs.TypeNumbers.{type_at}
 use Rattle.ctf_model.specs.declared.faults.Fault.{Fault}
 use Rattle.ctf_model.specs.declared.kinds.Kind.TheVariants.{KInteger, KFloat, KPointer, KArray, KFunction, KStruct, KUnion, KEnum}
-use Rattle.ctf_model.specs.declared.requests.ListName.TheVariants.{Ctf}
-use Rattle.ctf_model.specs.declared.requests.Request.{Request}
-use Rattle.ctf_model.specs.declared.requests.Request.TheVariants.{Changes, Asks}
-use Rattle.ctf_model.specs.declared.requests.Change.TheVariants.{Part, Open, Reset}
-use Rattle.ctf_model.specs.declared.questions.Question.TheVariants.{OfType}
-use Rattle.ctf_model.specs.declared.questions.TypeQuestion.TheVariants as about
 
 -- ---- inputs
 
@@ -31,9 +17,12 @@ use Rattle.ctf_model.specs.declared.questions.TypeQuestion.TheVariants as about
 abbrev pub word : ℕ → List ℕ
 word n = n % 256 ∷ n / 256 % 256 ∷ n / 2 ^ 16 % 256 ∷ n / 2 ^ 24 ∷ []
 
--- a header without flags, labels and parent's label: the parent's name, four offsets, and the strings' length
+-- a header without flags, labels and parent's label: the parent's name,
+-- four offsets, and the strings' length
 abbrev pub header : ℕ → ℕ → ℕ → ℕ → ℕ → ℕ → List ℕ
-header parname objtoff funcoff typeoff stroff strlen = 0xf1 ∷ 0xcf ∷ 2 ∷ 0 ∷ (word 0 ++ word parname ++ word 0 ++ word objtoff ++ word funcoff ++ word typeoff ++ word stroff ++ word strlen)
+header parname objtoff funcoff typeoff stroff strlen =
+    0xf1 ∷ 0xcf ∷ 2 ∷ 0 ∷ (word 0 ++ word parname ++ word 0 ++ word objtoff ++ word funcoff
+    ++ word typeoff ++ word stroff ++ word strlen)
 
 -- a record of an integer: its name, then kind 1 and the root flag, its size, and the encoding word
 abbrev pub integer_record : ℕ → List ℕ
@@ -49,11 +38,16 @@ outer_bytes = header 0 0 0 0 12 0 ++ integer_record 0x80000001
 
 -- a child of p with the parent's label q, one label r that covers type 0x8001, and no types
 abbrev pub child_bytes : List ℕ
-child_bytes = 0xf1 ∷ 0xcf ∷ 2 ∷ 0 ∷ (word 3 ++ word 1 ++ word 0 ++ word 8 ++ word 8 ++ word 8 ++ word 8 ++ word 7) ++ word 5 ++ word 0x8001 ++ 0 ∷ 112 ∷ 0 ∷ 113 ∷ 0 ∷ 114 ∷ 0 ∷ []
+child_bytes =
+    0xf1 ∷ 0xcf ∷ 2 ∷ 0
+    ∷ (word 3 ++ word 1 ++ word 0 ++ word 8 ++ word 8 ++ word 8 ++ word 8 ++ word 7) ++ word 5
+    ++ word 0x8001 ++ 0 ∷ 112 ∷ 0 ∷ 113 ∷ 0 ∷ 114 ∷ 0 ∷ []
 
 -- an integer without a name in the long form, of 2^32 + 4 bytes, not visible
 abbrev pub long_bytes : List ℕ
-long_bytes = header 0 0 0 0 20 0 ++ word 0 ++ 0 ∷ 8 ∷ 0xff ∷ 0xff ∷ (word 1 ++ word 4) ++ 0x10 ∷ 0 ∷ 3 ∷ 2 ∷ []
+long_bytes =
+    header 0 0 0 0 20 0 ++ word 0 ++ 0 ∷ 8 ∷ 0xff ∷ 0xff ∷ (word 1 ++ word 4) ++ 0x10 ∷ 0
+    ∷ 3 ∷ 2 ∷ []
 
 -- lists without a symbol table
 abbrev pub alone : List ℕ → Lists
@@ -66,25 +60,55 @@ fault code place = record { code = code; place = place }
 
 -- a visible integer of four bytes
 abbrev pub four_bytes : List ℕ → Term
-four_bytes name = record { name = name; root = true; body = term.integer (record { size = 4; encoding = 1; offset = 0; bits = 32 }) }
+four_bytes name =
+    record {
+      name = name;
+      root = true;
+      body = term.integer (record { size = 4; encoding = 1; offset = 0; bits = 32 });
+    }
 
 abbrev pub int : Term
 int = four_bytes (codes "int")
 
 -- a dictionary of these types that isn't a child, with no labels
 abbrev pub of_types : List Term → Dictionary
-of_types types = record { child = false; parname = []; parlabel = []; labels = []; terms = types; symbols = []; entries = [] }
+of_types types =
+    record {
+      child = false;
+      parname = [];
+      parlabel = [];
+      labels = [];
+      terms = types;
+      symbols = [];
+      entries = [];
+    }
 
 abbrev pub child : Dictionary
-child = record { child = true; parname = codes "p"; parlabel = codes "q"; labels = record { name = codes "r"; last = 0x8001 } ∷ []; terms = []; symbols = []; entries = [] }
+child =
+    record {
+      child = true;
+      parname = codes "p";
+      parlabel = codes "q";
+      labels = record { name = codes "r"; last = 0x8001 } ∷ [];
+      terms = [];
+      symbols = [];
+      entries = [];
+    }
 
 abbrev pub long_integer : Term
-long_integer = record { name = []; root = false; body = term.integer (record { size = 4294967300; encoding = 2; offset = 3; bits = 16 }) }
+long_integer =
+    record {
+      name = [];
+      root = false;
+      body = term.integer (record { size = 4294967300; encoding = 2; offset = 3; bits = 16 });
+    }
 
 pub record BytesDenote : Type 0 where
   pub one_int : denoted (alone int_bytes) ≡ Some (of_types (int ∷ []))
   pub byte_more : denoted (alone (int_bytes ++ 7 ∷ [])) ≡ Some (of_types (int ∷ []))
-  pub outer_name : denoted (record { ctf = outer_bytes; sym = None; strs = Some (0 ∷ 120 ∷ 110 ∷ 0 ∷ []) }) ≡ Some (of_types (four_bytes (codes "xn") ∷ []))
+  pub outer_name :
+      denoted (record { ctf = outer_bytes; sym = None; strs = Some (0 ∷ 120 ∷ 110 ∷ 0 ∷ []) })
+      ≡ Some (of_types (four_bytes (codes "xn") ∷ []))
   pub empty : denoted (alone (header 0 0 0 0 0 0)) ≡ Some (of_types [])
   pub a_child : denoted (alone child_bytes) ≡ Some child
   pub long_form : denoted (alone long_bytes) ≡ Some (of_types (long_integer ∷ []))
@@ -97,7 +121,8 @@ pub record BytesHaveFaults : Type 0 where
   pub magic : first_fault (alone (slice_set int_bytes 0 0xf2)) ≡ Some (fault 2 0)
   pub version : first_fault (alone (slice_set int_bytes 2 3)) ≡ Some (fault 3 0)
   pub compressed : first_fault (alone (slice_set int_bytes 3 1)) ≡ Some (fault 4 0)
-  pub version_before_flags : first_fault (alone (slice_set (slice_set int_bytes 3 1) 2 3)) ≡ Some (fault 3 0)
+  pub version_before_flags : first_fault (alone (slice_set (slice_set int_bytes 3 1) 2 3))
+      ≡ Some (fault 3 0)
   pub no_header : first_fault (alone (take 4 int_bytes)) ≡ Some (fault 5 0)
   pub short_header : first_fault (alone (take 35 int_bytes)) ≡ Some (fault 5 0)
   pub order : first_fault (alone (header 0 4 0 8 12 0)) ≡ Some (fault 6 0)
@@ -105,8 +130,11 @@ pub record BytesHaveFaults : Type 0 where
   pub no_sections : first_fault (alone (take 36 int_bytes)) ≡ Some (fault 8 0)
   pub cut_strings : first_fault (alone (take 52 int_bytes)) ≡ Some (fault 8 0)
   pub strings : first_fault (alone (header 0 0 0 0 0 1 ++ 105 ∷ [])) ≡ Some (fault 9 0)
-  pub cut_record : first_fault (alone (header 0 0 0 0 8 0 ++ take 8 (integer_record 0))) ≡ Some (fault 10 1)
-  pub cut_second : first_fault (alone (header 0 0 0 0 16 0 ++ integer_record 0 ++ 0 ∷ 0 ∷ 0 ∷ 0 ∷ [])) ≡ Some (fault 10 2)
+  pub cut_record : first_fault (alone (header 0 0 0 0 8 0 ++ take 8 (integer_record 0)))
+      ≡ Some (fault 10 1)
+  pub cut_second :
+      first_fault (alone (header 0 0 0 0 16 0 ++ integer_record 0 ++ 0 ∷ 0 ∷ 0 ∷ 0 ∷ []))
+      ≡ Some (fault 10 2)
   pub no_table : first_fault (alone outer_bytes) ≡ Some (fault 13 36)
   pub parent_name : first_fault (alone (header 1 0 0 0 0 0)) ≡ Some (fault 13 8)
 
@@ -141,68 +169,3 @@ pub record NumbersName : Type 0 where
   pub between : type_at child_of_int None 0x8000 ≡ Err (fault 24 0)
   pub own : type_at child_of_int None 0x8001 ≡ Ok int
   pub past_own : type_at child_of_int None 0x8002 ≡ Err (fault 24 0)
-
--- ---- a session
-
-abbrev pub asked : Request → Given
-asked request = record { request = request; found = None }
-
--- the kind of a type of a slot
-abbrev pub kind_asked : ℕ → ℕ → Request
-kind_asked d t = Asks d (OfType (record { 0 = t }) about.Kind)
-
--- what a session asks, the newest first: it stages an int in two parts, opens it, asks for types, and lets it go
-abbrev pub questions : List Given
-questions = asked (kind_asked 1 2) ∷ asked (kind_asked 2 1) ∷ asked (kind_asked 1 1) ∷ asked (Changes Open) ∷ asked (Changes (Part Ctf (drop 40 int_bytes))) ∷ asked (Changes (Part Ctf (take 40 int_bytes))) ∷ []
-
-abbrev pub replied : Result Answer Fault → Reply
-replied outcome = record { session = 0; outcome = outcome }
-
-pub record SessionRuns : Type 0 where
-  pub replies : private_replies empty_state (asked (Changes Reset) ∷ questions)
-      ≡ replied (Ok []) ∷ replied (Err (fault 24 0)) ∷ replied (Err (fault 49 0)) ∷ replied (Ok (says (codes "kind") (answers.word (codes "integer")) ∷ [])) ∷ replied (Ok (says (codes "d") (answers.number 1) ∷ says (codes "types") (answers.number 1) ∷ [])) ∷ replied (Ok (says (codes "length") (answers.number 53) ∷ [])) ∷ replied (Ok (says (codes "length") (answers.number 40) ∷ [])) ∷ []
-  pub opened : private_state empty_state questions ≡ record empty_state { slots = record { number = 1; lists = alone int_bytes; parent = None; draft = None } ∷ []; next = 2 }
-  pub reset : private_state empty_state (asked (Changes Reset) ∷ questions) ≡ empty_state
-  pub refused : private_replies empty_state (asked (Changes Open) ∷ []) ≡ replied (Err (fault 1 0)) ∷ []
-
--- ---- lines
-
-abbrev pub answers_of : ℕ → Result Answer Fault → List ℕ
-answers_of s outcome = reply_line (record { session = s; outcome = outcome })
-
-pub record LinesSay : Type 0 where
-  pub length : answers_of 7 (Ok (says (codes "length") (answers.number 53) ∷ [])) ≡ codes "{\"ok\":{\"length\":53},\"s\":7}\n"
-  pub opened : answers_of 7 (Ok (says (codes "d") (answers.number 1) ∷ says (codes "types") (answers.number 20) ∷ [])) ≡ codes "{\"ok\":{\"d\":1,\"types\":20},\"s\":7}\n"
-  pub kind : answers_of 7 (Ok (says (codes "kind") (answers.word (codes "integer")) ∷ [])) ≡ codes "{\"ok\":{\"kind\":\"integer\"},\"s\":7}\n"
-  pub done : answers_of 7 (Ok []) ≡ codes "{\"ok\":{},\"s\":7}\n"
-  pub refusal : answers_of 7 (Err (fault 49 0)) ≡ codes "{\"fault\":{\"code\":49,\"name\":\"NoSlot\",\"place\":0},\"s\":7}\n"
-  pub last_session : answers_of 4294967295 (Ok []) ≡ codes "{\"ok\":{},\"s\":4294967295}\n"
-  pub at_place : fault_line 0 (fault 13 36) ≡ codes "{\"fault\":{\"code\":13,\"name\":\"BadName\",\"place\":36},\"s\":0}\n"
-  pub cut : all_lines (codes "ab\n\nc") ≡ codes "ab" ∷ [] ∷ codes "c" ∷ []
-  pub ended : all_lines (codes "ab\n") ≡ codes "ab" ∷ []
-  pub none : all_lines [] ≡ []
-
--- ---- what lines ask
-
-pub record LinesAsk : Type 0 where
-  pub reset : ask (codes "{\"s\":7,\"op\":\"reset\"}") ≡ Ok (7, Changes Reset)
-  pub opens : ask (codes " {\"op\":\"open\", \"s\":4294967295, \"x\":[]}") ≡ Ok (4294967295, Changes Open)
-  pub kind : ask (codes "{\"s\":1,\"op\":\"kind\",\"d\":2,\"t\":65535}") ≡ Ok (1, kind_asked 2 65535)
-  pub part : ask (codes "{\"s\":1,\"op\":\"part\",\"section\":\"ctf\",\"bytes\":\"F1cf\"}") ≡ Ok (1, Changes (Part Ctf (0xf1 ∷ 0xcf ∷ [])))
-  pub not_json : ask [] ≡ Err (0, fault 57 0)
-  pub no_object : ask (codes "5") ≡ Err (0, fault 58 0)
-  pub no_session : ask (codes "{\"s\":0,\"op\":\"reset\"}") ≡ Err (0, fault 58 0)
-  pub no_word : ask (codes "{\"s\":7,\"op\":\"rest\"}") ≡ Err (7, fault 58 0)
-  pub great_type : ask (codes "{\"s\":7,\"op\":\"kind\",\"d\":2,\"t\":65536}") ≡ Err (7, fault 58 0)
-  pub odd_digits : ask (codes "{\"s\":7,\"op\":\"part\",\"section\":\"ctf\",\"bytes\":\"f1c\"}") ≡ Err (7, fault 58 0)
-
--- ---- the whole output
-
--- two sessions ask in turn; memory is refused to one line, and reading another; a line that asks nothing may be refused memory too
-pub record OutputIs : Type 0 where
-  pub written : out (λ s. empty_state) []
-      (codes "{\"s\":1,\"op\":\"part\",\"section\":\"ctf\",\"bytes\":\"f1cf\"}" ∷ codes "{\"s\":2,\"op\":\"part\",\"section\":\"ctf\",\"bytes\":\"00\"}" ∷ codes "{\"s\":1,\"op\":\"reset\"}" ∷ codes "{\"s\":1,\"op\":\"reset\"}" ∷ codes "{\"s\":1,\"op\":\"part\",\"section\":\"ctf\",\"bytes\":\"02\"}" ∷ [])
-      (marks.answered ∷ marks.answered ∷ marks.refused ∷ marks.unread ∷ [])
-      ≡ codes "{\"ok\":{\"length\":2},\"s\":1}\n" ∷ codes "{\"ok\":{\"length\":1},\"s\":2}\n" ∷ codes "{\"fault\":{\"code\":0,\"name\":\"Memory\",\"place\":0},\"s\":1}\n" ∷ codes "{\"fault\":{\"code\":0,\"name\":\"Memory\",\"place\":0},\"s\":0}\n" ∷ codes "{\"ok\":{\"length\":3},\"s\":1}\n" ∷ []
-  pub marked : out (λ s. empty_state) [] (codes "5" ∷ codes "{\"s\":3,\"op\":\"rest\"}" ∷ []) (marks.refused ∷ marks.refused ∷ [])
-      ≡ codes "{\"fault\":{\"code\":0,\"name\":\"Memory\",\"place\":0},\"s\":0}\n" ∷ codes "{\"fault\":{\"code\":0,\"name\":\"Memory\",\"place\":0},\"s\":3}\n" ∷ []

@@ -1,4 +1,5 @@
--- A section of type records. Source: ctf(5), "The Type Section": the records stand one after the other.
+-- A section of type records. Source: ctf(5), "The Type Section":
+-- the records stand one after the other.
 use Rattle.std.specs.Prelude.{◌≡◌, ℕ, zero, suc, ◌+◌, ◌&&◌, List, [], ◌∷◌, ◌++◌, length, take, drop, Option, Some, None, Result, Ok, Err, nat_lt, nat_le, ◌==◌, is_none, if◌then◌else◌}
 use Rattle.std.specs.Option.{option_and_then}
 use Rattle.std.specs.List.{concat, AllByRecursion}
@@ -12,7 +13,8 @@ use Rattle.ctf_model.specs.Spelling.{Spells, term_of}
 -- the bytes are records, one after the other, that spell these types
 abbrev pub Section : Tables → List ℕ → List Term → Type 0
 Section t b [] = b ≡ []
-Section t b (x ∷ xs) = (front : List ℕ) × (rest : List ℕ) × (b ≡ front ++ rest) × Spells t front x × Section t rest xs
+Section t b (x ∷ xs) =
+    (front : List ℕ) × (rest : List ℕ) × (b ≡ front ++ rest) × Spells t front x × Section t rest xs
 
 -- ---- where a section stops being records
 
@@ -42,7 +44,10 @@ fitting room n = if nat_le n room then Some n else None
 
 -- the length of the whole record that begins the bytes, if one does
 unfoldable pub front_len : List ℕ → Option ℕ
-front_len b = if nat_lt (length b) 8 then None else option_and_then (λ k. fitting (length b) (head_len b + variant_len k (size b) (vlen b))) (kind b)
+front_len b =
+    if nat_lt (length b) 8 then None
+    else option_and_then
+    (λ k. fitting (length b) (head_len b + variant_len k (size b) (vlen b))) (kind b)
 
 -- a record of a section: its number from 1, where it begins in the section, and its bytes
 pub record Piece : Type 0 where
@@ -50,19 +55,24 @@ pub record Piece : Type 0 where
   pub at : ℕ
   pub bytes : List ℕ
 
--- the fault of bytes that no whole record begins: a kind that isn't known, else a record that is cut off
+-- the fault of bytes that no whole record begins: a kind that isn't known,
+-- else a record that is cut off
 abbrev pub stop_code : List ℕ → ℕ
 stop_code b = if nat_le 8 (length b) && is_none (kind b) then BAD_KIND else TRUNCATED
 
 -- a record and what comes later, or the fault and nothing
-abbrev pub step : List ℕ → ℕ → ℕ → (ℕ → List (Result Piece Fault)) → Option ℕ → List (Result Piece Fault)
+abbrev pub step : List ℕ → ℕ → ℕ → (ℕ → List (Result Piece Fault)) → Option ℕ
+    → List (Result Piece Fault)
 step b index at later None = Err (record { code = stop_code b; place = index }) ∷ []
 step b index at later (Some n) = Ok (record { index = index; at = at; bytes = take n b }) ∷ later n
 
--- the records in order, and then the fault of a rest that none begins; each record has a byte, so their number is bounded
+-- the records in order, and then the fault of a rest that none begins;
+-- each record has a byte, so their number is bounded
 unfoldable pub walk : ℕ → ℕ → ℕ → List ℕ → List (Result Piece Fault)
 walk zero index at b = []
-walk (suc bound) index at b = if length b == 0 then [] else step b index at (λ n. walk bound (index + 1) (at + n) (drop n b)) (front_len b)
+walk (suc bound) index at b =
+    if length b == 0 then []
+    else step b index at (λ n. walk bound (index + 1) (at + n) (drop n b)) (front_len b)
 
 abbrev pub records : List ℕ → List (Result Piece Fault)
 records b = walk (length b) 1 0 b

@@ -1,4 +1,5 @@
--- What of a type stands in the head of its record, and what behind it. Source: ctf(5), "The Type Section": whether ctt_size or ctt_type is meant, and the variable-length data of each kind.
+-- What of a type stands in the head of its record, and what behind it. Source: ctf(5), "The Type
+-- Section": whether ctt_size or ctt_type is meant, and the variable-length data of each kind.
 use Rattle.std.specs.Prelude.{ℕ, Bool, List, length, Option, Some, None}
 use Rattle.ctf_model.specs.Term.{Body, Enumerator, Member, Scalar, Elements, Tag, Term}
 use Rattle.ctf_model.specs.Term as term
@@ -80,7 +81,8 @@ array_parts e = record { contents = e.contents; index = e.index; count = e.count
 abbrev pub encoding_parts : Scalar → EncodingParts
 encoding_parts s = record { encoding = s.encoding; offset = s.offset; bits = s.bits }
 
--- what is shown of a type; its size, and the type that it points to, renames, qualifies or returns, stand in the head
+-- what is shown of a type; its size, and the type that it points to, renames,
+-- qualifies or returns, stand in the head
 abbrev pub shown : Body → Shown
 shown (term.struct size items) = members items
 shown (term.union size items) = members items
@@ -132,7 +134,14 @@ pub record Shape : Type 0 where
   pub behind : Shown
 
 abbrev pub shape : Body → Shape
-shape body = record { kind = kind_of body; size = size_of body; reference = reference_of body; declares = declared_by body; behind = shown body }
+shape body =
+    record {
+      kind = kind_of body;
+      size = size_of body;
+      reference = reference_of body;
+      declares = declared_by body;
+      behind = shown body;
+    }
 
 -- what a type says of itself
 pub record Facts : Type 0 where

@@ -1,5 +1,6 @@
 -- Which type a record spells.
--- Source: ctf(5), "The Type Section"; ctf_member_t, ctf_lmember_t, ctf_enum_t, ctf_array_t, CTF_INT_DATA of sys/ctf.h.
+-- Source: ctf(5), "The Type Section"; ctf_member_t, ctf_lmember_t, ctf_enum_t,
+-- ctf_array_t, CTF_INT_DATA of sys/ctf.h.
 use Rattle.std.specs.Prelude.{◌≡◌, ℕ, zero, suc, ◌+◌, ◌*◌, ◌/◌, ◌%◌, ◌^◌, ◌==◌, Bool, true, false, List, [], ◌∷◌, drop, nat_lt, Option, Some, None, if◌then◌else◌}
 use Rattle.std.specs.Option.{option_map}
 use Rattle.std.specs.Int.{cast_signed, w32}
@@ -29,11 +30,18 @@ items item len (suc n) b = do
 
 -- a member of 8 bytes: name, type, offset
 abbrev pub narrow_member : Tables → List ℕ → Option Member
-narrow_member t b = option_map (λ text. record { name = text; tnum = u16_at b 4; offset = u16_at b 6 }) (name t (u32_at b 0))
+narrow_member t b =
+    option_map (λ text. record { name = text; tnum = u16_at b 4; offset = u16_at b 6 })
+    (name t (u32_at b 0))
 
--- a member of 16 bytes: name, type, two bytes of pad, and the offset in two halves, the high one first
+-- a member of 16 bytes: name, type, two bytes of pad, and the offset in two halves,
+-- the high one first
 abbrev pub wide_member : Tables → List ℕ → Option Member
-wide_member t b = option_map (λ text. record { name = text; tnum = u16_at b 4; offset = 2 ^ 32 * u32_at b 8 + u32_at b 12 }) (name t (u32_at b 0))
+wide_member t b =
+    option_map
+    (λ text.
+    record { name = text; tnum = u16_at b 4; offset = 2 ^ 32 * u32_at b 8 + u32_at b 12 })
+    (name t (u32_at b 0))
 
 -- the form goes by the size of the struct or union, not by that of its record
 abbrev pub member_of : ℕ → Tables → List ℕ → Option Member
@@ -41,7 +49,9 @@ member_of size t b = if nat_lt size 8192 then narrow_member t b else wide_member
 
 -- an enumerator of 8 bytes: name, and value in two's complement
 abbrev pub enumerator_of : Tables → List ℕ → Option Enumerator
-enumerator_of t b = option_map (λ text. record { name = text; value = cast_signed w32 (u32_at b 4) }) (name t (u32_at b 0))
+enumerator_of t b =
+    option_map (λ text. record { name = text; value = cast_signed w32 (u32_at b 4) })
+    (name t (u32_at b 0))
 
 -- an argument of 2 bytes: its type
 abbrev pub argument_of : List ℕ → Option ℕ
@@ -62,15 +72,27 @@ arguments b = items argument_of 2 (vlen b) (behind_head b)
 abbrev pub scalar : List ℕ → Scalar
 scalar b =
     let word = u32_at (behind_head b) 0 in
-    record { size = size b; encoding = word / 2 ^ 24; offset = word / 2 ^ 16 % 256; bits = word % 2 ^ 16 }
+    record {
+      size = size b;
+      encoding = word / 2 ^ 24;
+      offset = word / 2 ^ 16 % 256;
+      bits = word % 2 ^ 16;
+    }
 
 -- size, and behind the head the types of contents and index, and the count
 abbrev pub elements : List ℕ → Elements
-elements b = record { size = size b; contents = u16_at (behind_head b) 0; index = u16_at (behind_head b) 2; count = u32_at (behind_head b) 4 }
+elements b =
+    record {
+      size = size b;
+      contents = u16_at (behind_head b) 0;
+      index = u16_at (behind_head b) 2;
+      count = u32_at (behind_head b) 4;
+    }
 
 -- a forward's field is the kind that it declares; any other is a struct (ours)
 abbrev pub tag : ℕ → Tag
-tag field = if field == 7 then term.union_tag else if field == 8 then term.enum_tag else term.struct_tag
+tag field =
+    if field == 7 then term.union_tag else if field == 8 then term.enum_tag else term.struct_tag
 
 -- what the record says by its kind, if the names in its list are good
 abbrev pub body_of : Tables → List ℕ → Kind → Option Body
@@ -97,7 +119,8 @@ term_of t b = do
   said ← body_of t b k
   Some (record { name = text; root = is_root b; body = said })
 
--- the field of these kinds is a type, or what a forward declares, and no size: they have the short form alone (ours)
+-- the field of these kinds is a type, or what a forward declares, and no size:
+-- they have the short form alone (ours)
 abbrev pub is_short_kind : Kind → Bool
 is_short_kind KPointer = true
 is_short_kind KFunction = true

@@ -1,4 +1,5 @@
--- What a dictionary answers of symbols and labels. Source: ours; the questions follow libctf(3LIB), ctf_lookup_by_symbol and ctf_func_info.
+-- What a dictionary answers of symbols and labels. Source: ours; the questions follow libctf(3LIB),
+-- ctf_lookup_by_symbol and ctf_func_info.
 use Rattle.std.specs.Prelude.{ℕ, ◌==◌, List, [], ◌∷◌, Option, Some, None, Result, Ok, Err, slice_get, if◌then◌else◌}
 use Rattle.std.specs.Option.{option_map}
 use Rattle.std.specs.Str.{bytes_eq}
@@ -32,10 +33,13 @@ signature_told _ = None
 abbrev pub name_of_symbol : Dictionary → ℕ → Result (List ℕ) Fault
 name_of_symbol d n = or_refused NO_SYMBOL (option_map (λ x. x.name) (slice_get d.symbols n))
 
--- the type of the object with a number: the symbol has to be there, to be an object, and something to be told of it
+-- the type of the object with a number: the symbol has to be there, to be an object,
+-- and something to be told of it
 abbrev pub object_in : Dictionary → ℕ → Option Symbol → Result ℕ Fault
 object_in d n None = Err (placeless NO_SYMBOL)
-object_in d n (Some x) = if is_object x then or_refused NO_INFO (type_told (told_of d.entries n)) else Err (placeless NOT_DATA)
+object_in d n (Some x) =
+    if is_object x then or_refused NO_INFO (type_told (told_of d.entries n))
+    else Err (placeless NOT_DATA)
 
 abbrev pub object_of : Dictionary → ℕ → Result ℕ Fault
 object_of d n = object_in d n (slice_get d.symbols n)
@@ -43,7 +47,9 @@ object_of d n = object_in d n (slice_get d.symbols n)
 -- the signature of the function with a number, likewise
 abbrev pub function_in : Dictionary → ℕ → Option Symbol → Result Signature Fault
 function_in d n None = Err (placeless NO_SYMBOL)
-function_in d n (Some x) = if is_function x then or_refused NO_INFO (signature_told (told_of d.entries n)) else Err (placeless NOT_FUNCTION)
+function_in d n (Some x) =
+    if is_function x then or_refused NO_INFO (signature_told (told_of d.entries n))
+    else Err (placeless NOT_FUNCTION)
 
 abbrev pub function_of : Dictionary → ℕ → Result Signature Fault
 function_of d n = function_in d n (slice_get d.symbols n)

@@ -15,20 +15,27 @@ use Rattle.ctf_model.specs.declared.faults.Fault.{Fault}
 
 -- a symbol: where its name begins, what it stands for, and its section; its value and size are 0
 abbrev pub symbol : ℕ → ℕ → ℕ → List ℕ
-symbol name info section = word name ++ info ∷ 0 ∷ half section ++ word 0 ++ word 0 ++ word 0 ++ word 0
+symbol name info section =
+    word name ++ info ∷ 0 ∷ half section ++ word 0 ++ word 0 ++ word 0 ++ word 0
 
 -- names at 1, 9, 11, 13, 15, 17
 abbrev pub program_strings : List ℕ
-program_strings = 0 ∷ codes "_START_" ++ 0 ∷ codes "x" ++ 0 ∷ codes "a" ++ 0 ∷ codes "b" ++ 0 ∷ codes "c" ++ 0 ∷ codes "f" ++ 0 ∷ []
+program_strings =
+    0 ∷ codes "_START_" ++ 0 ∷ codes "x" ++ 0 ∷ codes "a" ++ 0 ∷ codes "b" ++ 0 ∷ codes "c" ++ 0
+    ∷ codes "f" ++ 0 ∷ []
 
 -- nothing; a mark; objects in no section, absolute at 0, and twice in a section; and a function
 abbrev pub program_symbols : List ℕ
-program_symbols = symbol 0 0 0 ++ symbol 1 0x11 1 ++ symbol 9 0x11 0 ++ symbol 11 0x11 0xfff1 ++ symbol 13 0x11 1 ++ symbol 15 0x11 1 ++ symbol 17 0x12 1
+program_symbols =
+    symbol 0 0 0 ++ symbol 1 0x11 1 ++ symbol 9 0x11 0 ++ symbol 11 0x11 0xfff1 ++ symbol 13 0x11 1
+    ++ symbol 15 0x11 1 ++ symbol 17 0x12 1
 
 -- a dictionary of int with sections of objects and of functions, over these symbols
 abbrev pub over : ℕ → List ℕ → List ℕ → ℕ → ℕ → Lists
 over parname objects functions funcoff typeoff = record {
-  ctf = header parname 0 funcoff typeoff (typeoff + 12) 5 ++ objects ++ functions ++ integer_record 1 ++ 0 ∷ codes "int" ++ 0 ∷ [];
+  ctf =
+      header parname 0 funcoff typeoff (typeoff + 12) 5 ++ objects ++ functions ++ integer_record 1
+      ++ 0 ∷ codes "int" ++ 0 ∷ [];
   sym = Some program_symbols;
   strs = Some program_strings;
 }
@@ -49,7 +56,14 @@ child_object = over 1 (half 9) (half 0) 2 4
 
 -- a label a that covers 5 types
 abbrev pub labelled : Lists
-labelled = record { ctf = 0xf1 ∷ 0xcf ∷ 2 ∷ 0 ∷ (word 0 ++ word 0 ++ word 0 ++ word 12 ++ word 12 ++ word 12 ++ word 12 ++ word 3) ++ word 1 ++ word 5 ++ word 0 ++ 0 ∷ codes "a" ++ 0 ∷ []; sym = None; strs = None }
+labelled =
+    record {
+      ctf = 0xf1 ∷ 0xcf ∷ 2 ∷ 0
+          ∷ (word 0 ++ word 0 ++ word 0 ++ word 12 ++ word 12 ++ word 12 ++ word 12 ++ word 3)
+          ++ word 1 ++ word 5 ++ word 0 ++ 0 ∷ codes "a" ++ 0 ∷ [];
+      sym = None;
+      strs = None;
+    }
 
 -- ---- what is told
 
@@ -60,7 +74,9 @@ abbrev refused : {A : Type 0} → ℕ → Result A Fault
 refused code = Err (fault code 0)
 
 pub record SymbolsTell : Type 0 where
-  pub entries : (said_by plain).entries ≡ entry 4 (codes "b") (told.object (Some 1)) ∷ entry 5 (codes "c") (told.object None) ∷ entry 6 (codes "f") (told.function None) ∷ []
+  pub entries : (said_by plain).entries
+      ≡ entry 4 (codes "b") (told.object (Some 1)) ∷ entry 5 (codes "c") (told.object None)
+      ∷ entry 6 (codes "f") (told.function None) ∷ []
   pub accepted : first_fault plain ≡ None
   pub object_0 : object_of (said_by plain) 0 ≡ refused 35
   pub object_1 : object_of (said_by plain) 1 ≡ refused 37
@@ -87,10 +103,14 @@ pub record SymbolsHaveFaults : Type 0 where
   pub cut_function : first_fault (over 0 (half 1) (half 0x2800) 2 4) ≡ Some (fault 17 6)
   pub no_type : first_fault (over 0 (half 2) (half 0) 2 4) ≡ Some (fault 18 4)
   pub least_rule : first_fault (over 0 (half 2) (half 0x0800) 2 4) ≡ Some (fault 17 6)
-  pub byte_more : first_fault (record plain { sym = Some (program_symbols ++ 0 ∷ []) }) ≡ Some (fault 19 0)
+  pub byte_more : first_fault (record plain { sym = Some (program_symbols ++ 0 ∷ []) })
+      ≡ Some (fault 19 0)
   pub child : first_fault child_object ≡ None
   pub kind : first_fault (over 0 (half 1) (half 0x3801 ++ half 1 ++ half 1) 2 8) ≡ Some (fault 17 6)
-  pub argument : first_fault (over 0 (half 1) (half 0x2801 ++ half 1 ++ half 2) 2 8) ≡ Some (fault 18 6)
-  -- the entry of a kind that isn't known says nothing only where it has no arguments, whatever its root bit
-  pub no_kind : first_fault (over 0 (half 1) (half 0x0001 ++ half 1 ++ half 1) 2 8) ≡ Some (fault 17 6)
+  pub argument : first_fault (over 0 (half 1) (half 0x2801 ++ half 1 ++ half 2) 2 8)
+      ≡ Some (fault 18 6)
+  -- the entry of a kind that isn't known says nothing only where it has no arguments,
+  -- whatever its root bit
+  pub no_kind : first_fault (over 0 (half 1) (half 0x0001 ++ half 1 ++ half 1) 2 8)
+      ≡ Some (fault 17 6)
   pub silent_root : first_fault (over 0 (half 1) (half 0x0400) 2 4) ≡ None

@@ -1,5 +1,6 @@
 -- The symbols of a program, and which of them a dictionary tells something of.
--- Source: ELF64, "Symbol Table" (Elf64_Sym; STT_OBJECT, STT_FUNC, SHN_UNDEF, SHN_ABS). Which ones are considered is ours, after libctf.
+-- Source: ELF64, "Symbol Table" (Elf64_Sym; STT_OBJECT, STT_FUNC, SHN_UNDEF, SHN_ABS).
+-- Which ones are considered is ours, after libctf.
 use Rattle.std.specs.Prelude.{ℕ, zero, suc, ◌/◌, ◌%◌, ◌==◌, ◌&&◌, ◌||◌, not, nat_le, Bool, List, [], ◌∷◌, length, drop, slice_index, Option, unwrap_or, codes, if◌then◌else◌}
 use Rattle.std.specs.List.{enumerate_from, filter}
 use Rattle.std.specs.Str.{bytes_eq}
@@ -23,9 +24,16 @@ pub record Symbol : Type 0 where
 abbrev pub symbol_name : Option (List ℕ) → ℕ → List ℕ
 symbol_name strs offset = if offset == 0 then [] else unwrap_or (text_at strs offset) []
 
--- the symbol that 24 bytes are: name, info with the sort in the low 4 bits, another byte, section, value, and size
+-- the symbol that 24 bytes are: name, info with the sort in the low 4 bits,
+-- another byte, section, value, and size
 abbrev pub symbol_of : Option (List ℕ) → List ℕ → Symbol
-symbol_of strs b = record { name = symbol_name strs (u32_at b 0); sort = slice_index b 4 % 16; section = u16_at b 6; value = u64_at b 8 }
+symbol_of strs b =
+    record {
+      name = symbol_name strs (u32_at b 0);
+      sort = slice_index b 4 % 16;
+      section = u16_at b 6;
+      value = u64_at b 8;
+    }
 
 -- n symbols, one after the other
 unfoldable pub symbols_in : Option (List ℕ) → ℕ → List ℕ → List Symbol
@@ -59,9 +67,12 @@ is_named x = not (length x.name == 0) && not (is_mark x.name)
 abbrev pub is_absolute_zero : Symbol → Bool
 is_absolute_zero x = is_object x && x.section == 0xfff1 && x.value == 0
 
--- an object or a function that is defined and has a name of its own, and whose number fits in 4 bytes
+-- an object or a function that is defined and has a name of its own,
+-- and whose number fits in 4 bytes
 unfoldable pub is_considered : ℕ × Symbol → Bool
-is_considered x = nat_le x.0 0xffffffff && (is_object x.1 || is_function x.1) && not (x.1.section == 0) && is_named x.1 && not (is_absolute_zero x.1)
+is_considered x =
+    nat_le x.0 0xffffffff && (is_object x.1 || is_function x.1) && not (x.1.section == 0)
+    && is_named x.1 && not (is_absolute_zero x.1)
 
 -- the considered ones of symbols that are numbered from n on, each with its number
 abbrev pub considered_from : ℕ → List Symbol → List (ℕ × Symbol)

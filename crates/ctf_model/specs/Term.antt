@@ -3,14 +3,16 @@ use Rattle.std.specs.Prelude.{ℕ, ℤ, Bool, List}
 
 -- ---- parts of types
 
--- an integer or a float: its size in bytes, its encoding, and where its value lies in its storage, in bits
+-- an integer or a float: its size in bytes, its encoding,
+-- and where its value lies in its storage, in bits
 pub record Scalar : Type 0 where
   pub size : ℕ
   pub encoding : ℕ
   pub offset : ℕ
   pub bits : ℕ
 
--- an array: its size in bytes, the types of its contents and of its index, and how many elements it has
+-- an array: its size in bytes, the types of its contents and of its index,
+-- and how many elements it has
 pub record Elements : Type 0 where
   pub size : ℕ
   pub contents : ℕ

@@ -1,4 +1,5 @@
--- How C spells the name of a type. Source: ISO C, "Declarators" and "Type names"; ctf_type_lname of libctf(3LIB); where a blank stands, and what stands for an empty name, is ours.
+-- How C spells the name of a type. Source: ISO C, "Declarators" and "Type names";
+-- ctf_type_lname of libctf(3LIB); where a blank stands, and what stands for an empty name, is ours.
 use Rattle.std.specs.Prelude.{ℕ, zero, suc, ◌==◌, ◌++◌, nat_le, Bool, true, false, List, [], ◌∷◌, length, Option, Some, None, Result, Ok, Err, codes, decimal, if◌then◌else◌}
 use Rattle.ctf_model.specs.KindNames.{name_of_tag}
 use Rattle.ctf_model.specs.Refusals.{placeless}
@@ -50,8 +51,11 @@ is_behind _ = false
 -- A qualifier of a pointer stands behind its star, any other in front of the name.
 unfoldable pub declared : List Layer → List ℕ → List ℕ → List ℕ
 declared [] name d = joined name d
-declared (Pointer ∷ layers) name d = declared layers name (if is_behind (past layers) then codes "(*" ++ (d ++ codes ")") else codes "*" ++ d)
-declared (Array count ∷ layers) name d = declared layers name (d ++ (codes "[" ++ (decimal count ++ codes "]")))
+declared (Pointer ∷ layers) name d =
+    declared layers name (if is_behind (past layers) then codes "(*" ++ (d ++ codes ")")
+    else codes "*" ++ d)
+declared (Array count ∷ layers) name d =
+    declared layers name (d ++ (codes "[" ++ (decimal count ++ codes "]")))
 declared (Function ∷ layers) name d = declared layers name (d ++ codes "()")
 declared (Qualified q ∷ layers) name d =
     if is_pointer (past layers) then declared layers name (joined (word_of_qualifier q) d)
@@ -82,7 +86,8 @@ around layer (Ok inside) = Ok (record { layers = layer ∷ inside.layers; name =
 around layer (Err fault) = Err fault
 
 -- the declaration of a type with a name, where others have these
-abbrev pub declaration_by : (ℕ → Result Declaration Fault) → List ℕ → Body → Result Declaration Fault
+abbrev pub declaration_by : (ℕ → Result Declaration Fault) → List ℕ → Body
+    → Result Declaration Fault
 declaration_by others name term.unknown = bare (or_anon name)
 declaration_by others name (term.integer scalar) = bare (or_anon name)
 declaration_by others name (term.float scalar) = bare (or_anon name)
@@ -92,13 +97,15 @@ declaration_by others name (term.union size members) = tagged term.union_tag nam
 declaration_by others name (term.enum size enumerators) = tagged term.enum_tag name
 declaration_by others name (term.forward tag) = tagged tag name
 declaration_by others name (term.pointer t) = around Pointer (others t)
-declaration_by others name (term.array elements) = around (Array elements.count) (others elements.contents)
+declaration_by others name (term.array elements) =
+    around (Array elements.count) (others elements.contents)
 declaration_by others name (term.function returned arguments) = around Function (others returned)
 declaration_by others name (term.volatile t) = around (Qualified Volatile) (others t)
 declaration_by others name (term.const t) = around (Qualified Const) (others t)
 declaration_by others name (term.restrict t) = around (Qualified Restrict) (others t)
 
-abbrev pub declaration_of : (ℕ → Result Declaration Fault) → Result Term Fault → Result Declaration Fault
+abbrev pub declaration_of : (ℕ → Result Declaration Fault) → Result Term Fault
+    → Result Declaration Fault
 declaration_of others (Ok x) = declaration_by others x.name x.body
 declaration_of others (Err fault) = Err fault
 

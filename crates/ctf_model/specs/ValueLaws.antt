@@ -10,18 +10,23 @@ use Rattle.ctf_model.specs.Lists.{Lists}
 use Rattle.ctf_model.specs.Space.{Space}
 use Rattle.ctf_model.specs.Values.{by_rule, shown_value}
 
--- no chain of steps by value is too long in a dictionary that is no child, and none leaves it for a child's types
+-- no chain of steps by value is too long in a dictionary that is no child,
+-- and none leaves it for a child's types
 pub record IsBoundedParent (d : Dictionary) : Type 0 where
   pub plain : d.child ≡ false
   pub bounded : HasBoundedValues d
-  pub low : (i : ℕ) → i < length d.terms → AllByRecursion (λ t. t < 0x8000) (by_value (own_body d i))
+  pub low : (i : ℕ) → i < length d.terms
+      → AllByRecursion (λ t. t < 0x8000) (by_value (own_body d i))
 
 -- in one that breaks no rule, none does
 abbrev pub FaultlessParentsAreBounded : Type 0
-FaultlessParentsAreBounded = (s : Lists) → first_fault s ≡ None → (said_by s).child ≡ false → IsBoundedParent (said_by s)
+FaultlessParentsAreBounded =
+    (s : Lists) → first_fault s ≡ None → (said_by s).child ≡ false → IsBoundedParent (said_by s)
 
--- what a value shows is what its rule says of the values that it holds: no bound on chains is seen, so none is ever met
+-- what a value shows is what its rule says of the values that it holds:
+-- no bound on chains is seen, so none is ever met
 abbrev pub ValuesAreTheirRules : Type 0
 ValuesAreTheirRules =
-    (s : Space) → HasBoundedValues s.own → ForSome s.parent IsBoundedParent → (memory : List ℕ) (n p : ℕ)
+    (s : Space) → HasBoundedValues s.own → ForSome s.parent IsBoundedParent
+    → (memory : List ℕ) (n p : ℕ)
     → shown_value s memory n p ≡ by_rule s memory (shown_value s memory) n p

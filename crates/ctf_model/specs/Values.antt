@@ -1,4 +1,5 @@
--- What a value in the memory of a program shows, by its type. Source: ours; where the numbers of a type stand is ctf(5), "The Type Section".
+-- What a value in the memory of a program shows, by its type.
+-- Source: ours; where the numbers of a type stand is ctf(5), "The Type Section".
 use Rattle.std.specs.Prelude.{ℕ, ℤ, pos, zero, suc, ◌+◌, ◌*◌, ◌%◌, ◌==◌, ◌++◌, nat_lt, Bool, List, [], ◌∷◌, map, Result, Ok, Err, codes, if◌then◌else◌}
 use Rattle.std.specs.List.{range_with_len}
 use Rattle.std.specs.Ordering.{int_eq}
@@ -6,7 +7,7 @@ use Rattle.ctf_model.specs.Chains.{longest_chain}
 use Rattle.ctf_model.specs.Figures.{enum_size, incomplete, size}
 use Rattle.ctf_model.specs.MemoryBits.{field, hexadecimal, signed_value, started_bytes}
 use Rattle.ctf_model.specs.Pieces.{Pieces, piece, nothing, ends, followed_by, separated, between, answered}
-use Rattle.ctf_model.specs.ReplyLines.{signed_decimal}
+use Rattle.ctf_model.specs.Texts.{signed_decimal}
 use Rattle.ctf_model.specs.Shown.{EncodingParts, encoding_parts}
 use Rattle.ctf_model.specs.Space.{Space, pointer_size, space_type}
 use Rattle.ctf_model.specs.Term.{Body, Elements, Enumerator, Member, Scalar, Term}
@@ -34,15 +35,18 @@ is_signed encoding = encoding % 2 == 1
 abbrev pub integer_value : ℕ → ℕ → ℕ → ℤ
 integer_value encoding width n = if is_signed encoding then signed_value width n else pos n
 
--- an integer stands behind its offset, and is raw where it has more than 64 bits; one without bits is void
+-- an integer stands behind its offset, and is raw where it has more than 64 bits;
+-- one without bits is void
 abbrev pub integer_shown : List ℕ → ℕ → EncodingParts → Pieces
 integer_shown memory p x =
     if x.bits == 0 then piece (codes "void")
     else if nat_lt 64 x.bits then raw_shown memory (p + x.offset) x.bits
-    else by_number (λ n. signed_decimal (integer_value x.encoding x.bits n)) (field memory (p + x.offset) x.bits)
+    else by_number (λ n. signed_decimal (integer_value x.encoding x.bits n))
+    (field memory (p + x.offset) x.bits)
 
 abbrev pub float_shown : List ℕ → ℕ → EncodingParts → Pieces
-float_shown memory p x = if x.bits == 0 then piece (codes "void") else raw_shown memory (p + x.offset) x.bits
+float_shown memory p x =
+    if x.bits == 0 then piece (codes "void") else raw_shown memory (p + x.offset) x.bits
 
 -- ---- enums
 
@@ -77,19 +81,23 @@ members_shown show p ms = between (codes "{") (codes "}") (separated (map (membe
 
 -- elements of a size in bytes, one behind the other
 abbrev pub elements : Shows → ℕ → ℕ → ℕ → Result ℕ Fault → List Pieces
-elements show p contents count (Ok size) = map (λ i. show contents (p + 8 * size * i)) (range_with_len 0 count)
+elements show p contents count (Ok size) =
+    map (λ i. show contents (p + 8 * size * i)) (range_with_len 0 count)
 elements show p contents count (Err fault) = ends fault ∷ []
 
 -- the size of the contents matters where there are any
 abbrev pub elements_shown : Shows → ℕ → ℕ → ℕ → Result ℕ Fault → Pieces
-elements_shown show p contents count size = if count == 0 then nothing else separated (elements show p contents count size)
+elements_shown show p contents count size =
+    if count == 0 then nothing else separated (elements show p contents count size)
 
 abbrev pub array_shown : Shows → ℕ → ℕ → ℕ → Result ℕ Fault → Pieces
-array_shown show p contents count size = between (codes "[") (codes "]") (elements_shown show p contents count size)
+array_shown show p contents count size =
+    between (codes "[") (codes "]") (elements_shown show p contents count size)
 
 -- ---- any value
 
--- the value of a type that begins at bit p, where others are shown so; typedefs and qualifiers show what their type does
+-- the value of a type that begins at bit p, where others are shown so;
+-- typedefs and qualifiers show what their type does
 abbrev pub body_shown : Space → List ℕ → Shows → ℕ → Body → Pieces
 body_shown s memory show p (term.integer x) = integer_shown memory p (encoding_parts x)
 body_shown s memory show p (term.float x) = float_shown memory p (encoding_parts x)
@@ -97,7 +105,8 @@ body_shown s memory show p (term.pointer t) = raw_shown memory p (8 * pointer_si
 body_shown s memory show p (term.enum said es) = enum_shown memory p (enum_size said) es
 body_shown s memory show p (term.struct said ms) = members_shown show p ms
 body_shown s memory show p (term.union said ms) = members_shown show p ms
-body_shown s memory show p (term.array a) = array_shown show p a.contents a.count (size s a.contents)
+body_shown s memory show p (term.array a) =
+    array_shown show p a.contents a.count (size s a.contents)
 body_shown s memory show p (term.typedef t) = show t p
 body_shown s memory show p (term.volatile t) = show t p
 body_shown s memory show p (term.const t) = show t p
@@ -112,7 +121,8 @@ found_shown s memory show p (Err fault) = ends fault
 
 -- the rule of values: what the value of a number's type shows, where others are shown so
 abbrev pub by_rule : Space → List ℕ → Shows → Shows
-by_rule s memory show n p = if n == 0 then ends incomplete else found_shown s memory show p (space_type s n)
+by_rule s memory show n p =
+    if n == 0 then ends incomplete else found_shown s memory show p (space_type s n)
 
 -- The value of a number's type, where at most so many numbers follow on each other.
 -- (A number on which too many follow has no end: it shows nothing.)
@@ -120,7 +130,8 @@ unfoldable pub shown_within : Space → List ℕ → ℕ → Shows
 shown_within s memory zero n p = ends incomplete
 shown_within s memory (suc k) n p = by_rule s memory (shown_within s memory k) n p
 
--- As many numbers as can follow on each other in dictionaries without a fault: a chain has one own type more than it has steps, as many of the parent's, and behind the last type there can be a 0.
+-- As many numbers as can follow on each other in dictionaries without a fault: a chain has one own
+-- type more than it has steps, as many of the parent's, and behind the last type there can be a 0.
 unfoldable pub most_values : ℕ
 most_values = 2 * (longest_chain + 1) + 1
 

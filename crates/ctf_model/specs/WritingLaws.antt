@@ -10,7 +10,7 @@ use Rattle.ctf_model.specs.Fitting.{Fits, IsName}
 use Rattle.ctf_model.specs.Header.{fields, is_child}
 use Rattle.ctf_model.specs.Name.{Tables, name}
 use Rattle.ctf_model.specs.References.{references}
-use Rattle.ctf_model.specs.Space.{import_fault}
+use Rattle.ctf_model.specs.Imports.{import_fault, of_one_model}
 use Rattle.ctf_model.specs.Spelling.{Spells}
 use Rattle.ctf_model.specs.Term.{Term}
 use Rattle.ctf_model.specs.Written.{bytes_of, lists_of, most_written, unwritten, written}
@@ -32,9 +32,12 @@ pub record IsFound (names : List (List ℕ)) (text : List ℕ) : Type 0 where
   pub low : reference names text < 2 ^ 31
   pub found : name (table_of names) (reference names text) ≡ Some text
 
--- a name that is empty or one of those that stand in the strings is found there, unless these are too long
+-- a name that is empty or one of those that stand in the strings is found there,
+-- unless these are too long
 abbrev pub NamesAreFoundAgain : Type 0
-NamesAreFoundAgain = (names : List (List ℕ)) (text : List ℕ) → AllByRecursion IsName names → IsKept names text → length (string_bytes names) < 2 ^ 31 → IsFound names text
+NamesAreFoundAgain =
+    (names : List (List ℕ)) (text : List ℕ) → AllByRecursion IsName names → IsKept names text
+    → length (string_bytes names) < 2 ^ 31 → IsFound names text
 
 -- no number that a type names is the mark of the long form
 abbrev pub NamesShort : Term → Type 0
@@ -42,22 +45,34 @@ NamesShort x = AllByRecursion (λ n. n < 0xffff) (references x.body)
 
 -- a type that fits, and whose names are found, is spelled by its record
 abbrev pub RecordsSpell : Type 0
-RecordsSpell = (names : List (List ℕ)) (x : Term) → Fits x → NamesShort x → AllByRecursion (IsFound names) (names_of x) → Spells (table_of names) (record_bytes names x) x
+RecordsSpell =
+    (names : List (List ℕ)) (x : Term) → Fits x → NamesShort x
+    → AllByRecursion (IsFound names) (names_of x) → Spells (table_of names) (record_bytes names x) x
 
 -- ---- drafts
 
--- where a sound draft is written, its bytes denote what it holds: its types and labels, its parent's name and label, and no symbols
+-- where a sound draft is written, its bytes denote what it holds: its types and labels,
+-- its parent's name and label, and no symbols
 abbrev pub WrittenDenotes : Type 0
-WrittenDenotes = (d : Draft) (bytes : List ℕ) → IsSound d → written (held d) ≡ Ok bytes → Denotes (lists_of bytes) (held d)
+WrittenDenotes =
+    (d : Draft) (bytes : List ℕ) → IsSound d → written (held d) ≡ Ok bytes
+    → Denotes (lists_of bytes) (held d)
 
 -- they are those of a child just where the draft has a parent
 abbrev pub WrittenIsChild : Type 0
-WrittenIsChild = (d : Draft) (bytes : List ℕ) → IsSound d → written (held d) ≡ Ok bytes → is_child (fields bytes) ≡ is_some d.parent
+WrittenIsChild =
+    (d : Draft) (bytes : List ℕ) → IsSound d → written (held d) ≡ Ok bytes
+    → is_child (fields bytes) ≡ is_some d.parent
 
 -- what they denote can be imported over that parent
 abbrev pub WrittenIsImported : Type 0
-WrittenIsImported = (d : Draft) (parent : Dictionary) (bytes : List ℕ) (child : Dictionary) → IsSound d → d.parent ≡ Some parent → written (held d) ≡ Ok bytes → Denotes (lists_of bytes) child → import_fault (record { child = child; parent = parent }) ≡ None
+WrittenIsImported =
+    (d : Draft) (parent : Dictionary) (bytes : List ℕ) (child : Dictionary) → IsSound d
+    → d.parent ≡ Some parent → written (held d) ≡ Ok bytes → Denotes (lists_of bytes) child
+    → import_fault (of_one_model d.model child parent) ≡ None
 
 -- bytes that are not too many have just the fault for which they are not written
 abbrev pub BytesAreJudgedAlike : Type 0
-BytesAreJudgedAlike = (d : Draft) → IsSound d → length (bytes_of (held d)) ≤ most_written → first_fault (lists_of (bytes_of (held d))) ≡ unwritten (held d)
+BytesAreJudgedAlike =
+    (d : Draft) → IsSound d → length (bytes_of (held d)) ≤ most_written
+    → first_fault (lists_of (bytes_of (held d))) ≡ unwritten (held d)

@@ -32,7 +32,8 @@ strings_written d = string_bytes (strings_of d)
 abbrev pub header_bytes : Fields → List ℕ
 header_bytes h =
     0xf1 ∷ 0xcf ∷ 2 ∷ 0
-    ∷ (u32 h.parlabel ++ (u32 h.parname ++ (u32 h.lbloff ++ (u32 h.objtoff ++ (u32 h.funcoff ++ (u32 h.typeoff ++ (u32 h.stroff ++ u32 h.strlen)))))))
+    ∷ (u32 h.parlabel ++ (u32 h.parname ++ (u32 h.lbloff ++ (u32 h.objtoff ++ (u32 h.funcoff
+    ++ (u32 h.typeoff ++ (u32 h.stroff ++ u32 h.strlen)))))))
 
 -- the references to the parent's label and name, over labels, records and strings of these lengths
 abbrev pub fields_over : ℕ → ℕ → ℕ → ℕ → ℕ → Fields
@@ -60,7 +61,9 @@ fields_written d =
 
 -- header, labels, records, strings
 unfoldable pub bytes_of : Dictionary → List ℕ
-bytes_of d = header_bytes (fields_written d) ++ (labels_written d ++ (records_written d ++ strings_written d))
+bytes_of d =
+    header_bytes (fields_written d) ++ (labels_written d ++ (records_written d
+    ++ strings_written d))
 
 -- as many bytes as are written
 abbrev pub most_written : ℕ
@@ -75,7 +78,9 @@ deep_by steps d = first_deep (edges steps d.child d.terms) 0 (length d.terms)
 
 -- why a dictionary is not written: a chain that is too long, or too many bytes
 unfoldable pub unwritten : Dictionary → Option Fault
-unwritten d = or_later VALUE_DEEP (deep_by by_value d) (or_later DECL_DEEP (deep_by declarator d) (or_later DICT_TOO_BIG (too_big d) None))
+unwritten d =
+    or_later VALUE_DEEP (deep_by by_value d)
+    (or_later DECL_DEEP (deep_by declarator d) (or_later DICT_TOO_BIG (too_big d) None))
 
 -- the bytes, or why there are none
 abbrev pub bytes_unless : Option Fault → List ℕ → Result (List ℕ) Fault

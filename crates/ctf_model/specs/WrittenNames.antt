@@ -1,4 +1,5 @@
--- The names that a dictionary is written with, and where each stands in its strings. Source: ours, over "String Identifiers" of ctf(5).
+-- The names that a dictionary is written with, and where each stands in its strings.
+-- Source: ours, over "String Identifiers" of ctf(5).
 use Rattle.std.specs.Prelude.{ℕ, ◌==◌, not, Bool, List, [], ◌∷◌, ◌++◌, length, map, if◌then◌else◌}
 use Rattle.std.specs.List.{before_first, flat_map, filter}
 use Rattle.std.specs.Str.{bytes_eq}
@@ -21,7 +22,8 @@ names_of x = x.name ∷ listed_names x.body
 
 -- every name of a dictionary, at each use: the parent's label and name, the labels, the types
 unfoldable pub used_names : Dictionary → List (List ℕ)
-used_names d = d.parlabel ∷ d.parname ∷ (map (λ label. label.name) d.labels ++ flat_map names_of d.terms)
+used_names d =
+    d.parlabel ∷ d.parname ∷ (map (λ label. label.name) d.labels ++ flat_map names_of d.terms)
 
 -- ---- the strings
 
@@ -45,6 +47,8 @@ closed name = name ++ 0 ∷ []
 abbrev pub string_bytes : List (List ℕ) → List ℕ
 string_bytes names = 0 ∷ flat_map closed names
 
--- the reference to one of them: it stands where the section of the names before it ends. The empty name is 0
+-- the reference to one of them: it stands where the section of the names before it ends.
+-- The empty name is 0
 unfoldable pub reference : List (List ℕ) → List ℕ → ℕ
-reference names name = if is_empty name then 0 else length (string_bytes (before_first (bytes_eq name) names))
+reference names name =
+    if is_empty name then 0 else length (string_bytes (before_first (bytes_eq name) names))

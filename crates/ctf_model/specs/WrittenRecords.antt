@@ -1,5 +1,8 @@
--- The record that a type is written as. Source: ctf(5), "The Type Section"; CTF_TYPE_INFO, CTF_INT_DATA, ctf_stype_t, ctf_type_t, ctf_array_t, ctf_member_t, ctf_lmember_t, ctf_enum_t of sys/ctf.h.
--- That a record is short where it can be, that an array says no size, and what stands in pads, is ours.
+-- The record that a type is written as. Source: ctf(5), "The Type Section";
+-- CTF_TYPE_INFO, CTF_INT_DATA, ctf_stype_t, ctf_type_t, ctf_array_t, ctf_member_t,
+-- ctf_lmember_t, ctf_enum_t of sys/ctf.h.
+-- That a record is short where it can be, that an array says no size,
+-- and what stands in pads, is ours.
 use Rattle.std.specs.Prelude.{ℕ, ◌+◌, ◌*◌, ◌/◌, ◌%◌, ◌^◌, Bool, List, [], length, ◌++◌, nat_lt, if◌then◌else◌}
 use Rattle.std.specs.Int.{cast_unsigned, to_le_bytes, w16, w32}
 use Rattle.std.specs.List.{flat_map}
@@ -91,7 +94,8 @@ element_bytes e = u16 e.contents ++ u16 e.index ++ u32 e.count
 abbrev pub argument_bytes : List ℕ → List ℕ
 argument_bytes args = flat_map u16 args ++ (if nat_lt 0 (length args % 2) then u16 0 else [])
 
--- the form of a member goes by the size of its struct or union; names are referred to in the strings
+-- the form of a member goes by the size of its struct or union;
+-- names are referred to in the strings
 abbrev pub member_bytes : List (List ℕ) → ℕ → Member → List ℕ
 member_bytes names size m =
     if nat_lt size 8192
@@ -116,4 +120,6 @@ variant_bytes names _ = []
 
 -- name, info, field, and what the kind has behind these
 unfoldable pub record_bytes : List (List ℕ) → Term → List ℕ
-record_bytes names x = u32 (reference names x.name) ++ (u16 (info_of x) ++ (field_bytes (field_of x.body) ++ variant_bytes names x.body))
+record_bytes names x =
+    u32 (reference names x.name) ++ (u16 (info_of x) ++ (field_bytes (field_of x.body)
+    ++ variant_bytes names x.body))

@@ -132,6 +132,10 @@ impl Fault {
 
     pub const LONG_LINE: u16 = 59;
 
+    pub const MODEL_DIFFERS: u16 = 60;
+
+    pub const QUOTA_FULL: u16 = 61;
+
     pub const FIXED_PARENT: u16 = 62;
 }
 
@@ -201,6 +205,8 @@ pub fn fault_name(code: u16) -> &'static str
         Fault::NOT_JSON => "NotJson",
         Fault::BAD_REQUEST => "BadRequest",
         Fault::LONG_LINE => "LongLine",
+        Fault::MODEL_DIFFERS => "ModelDiffers",
+        Fault::QUOTA_FULL => "QuotaFull",
         Fault::FIXED_PARENT => "FixedParent",
         _ => "",
     }

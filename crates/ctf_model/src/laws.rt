@@ -18,7 +18,6 @@ ghost use Rattle.ctf_model.specs.FigureLaws.{
   OwnFiguresAreTheirRules,
   ParentsFiguresAreTheirOwn,
 };
-ghost use Rattle.ctf_model.specs.KeyOrder.{KeysRise};
 ghost use Rattle.ctf_model.specs.Laws.{
   ComputesWhatIsDenoted,
   DenotesOne,
@@ -29,7 +28,6 @@ ghost use Rattle.ctf_model.specs.Laws.{
   RecordsAreACut,
   SectionSpellsOneList,
 };
-ghost use Rattle.ctf_model.specs.TextLaws.{LinesHaveTheText, TextsAreReadBack};
 ghost use Rattle.ctf_model.specs.ValueLaws.{FaultlessParentsAreBounded, ValuesAreTheirRules};
 ghost use Rattle.ctf_model.specs.WritingLaws.{
   BytesAreJudgedAlike,
@@ -71,18 +69,6 @@ pub fn faultless_exactly_where_denoted()
     ensures computed { ComputesWhatIsDenoted }
 {}
 
-/// The keys of each answer, and of each object in it, stand in byte order, whatever was asked of
-/// which library.
-pub fn keys_rise()
-    ensures { KeysRise }
-{}
-
-/// A list of bytes is spelled by its own text: by what a line has for it, once JSON is read.
-pub fn texts_are_read_back()
-    ensures line { LinesHaveTheText }
-    ensures read { TextsAreReadBack }
-{}
-
 /// In a dictionary that breaks no rule the figure of each own type is what its rule says of the
 /// figures of others: the bound on how many types follow on each other shows in none.
 pub fn own_figures_are_their_rules()
@@ -121,7 +107,8 @@ pub fn members_stand_next()
     ensures { PlacesAreNext }
 {}
 
-/// What a value shows is what its rule says of the values that it holds, in a dictionary that breaks
+/// What a value shows is what its rule says of the values that it holds,
+/// in a dictionary that breaks
 /// no rule and over a parent that breaks none: the bound on how many types follow on each other
 /// shows in none, so a recursion of that depth shows them all.
 pub fn values_are_their_rules()

@@ -1,7 +1,7 @@
 //! The byte lists that a dictionary is handed in as, owned.
 ghost use Rattle.std.specs.Prelude.{◌≡◌};
 ghost use Rattle.ctf_model.specs.OwnedLists.{lists_owned};
-ghost use Rattle.ctf_model.specs.State.{empty_stage};
+ghost use Rattle.ctf_model.specs.Lists.{no_lists};
 
 use crate::bytes::Bytes;
 use std::alloc::Global;
@@ -16,7 +16,7 @@ pub struct Parts {
 
 /// No part of a dictionary yet.
 pub fn no_parts(alloc: Global) -> Parts
-    ensures { lists_owned result ≡ empty_stage }
+    ensures { lists_owned result ≡ no_lists }
 {
     Parts {
         ctf: Bytes::new(alloc),

@@ -1,8 +1,6 @@
 //! Numbers with a range of their own.
-ghost use Rattle.std.specs.Prelude.{◌≡◌, ◌<◌, SomeIff};
+ghost use Rattle.std.specs.Prelude.{◌≡◌};
 ghost use Rattle.ctf_model.specs.TypePlaces.{place as place_of};
-
-use std::marker::Model;
 
 /// The number of a type. A parent's types are 1 to their count, a child's own ones 0x8001 and up;
 /// 0 is no type.
@@ -33,42 +31,5 @@ impl TypeNum {
             1..0x8000 => Place::Parents(number - 1),
             _ => Place::Own(number - 0x8001),
         }
-    }
-}
-
-/// The number of a slot, from 1 on.
-#[derive(Clone, Copy, Debug, PartialEq, Eq)]
-pub struct SlotNumber {
-    number: u32,
-}
-
-impl Model for SlotNumber {
-    ghost use Rattle.std.specs.Prelude.{ℕ, ◌<◌};
-
-    ghost Value = { ℕ };
-
-    ghost view = { λ s. s.number };
-
-    ghost invariant = { λ s. 0 < s.number };
-
-    ghost inverse = { λ n. record { number = n } };
-}
-
-impl SlotNumber {
-    pub fn new(number: u32) -> Option<SlotNumber>
-        ensures { SomeIff result (0 < number) number }
-    {
-        if number == 0 {
-            None
-        } else {
-            Some(SlotNumber { number })
-        }
-    }
-
-    pub fn get(self) -> u32
-        ensures value { result ≡ self }
-        ensures positive { 0 < result }
-    {
-        self.number
     }
 }

@@ -8,17 +8,26 @@ ghost use Rattle.ctf_model.specs.DraftRows.{
   TypesAreAdded,
 };
 ghost use Rattle.ctf_model.specs.DumpRows.{DumpsAre};
+ghost use Rattle.ctf_model.specs.FaultRows.{ConstantsAreCodes};
 ghost use Rattle.ctf_model.specs.FindRows.{NamesAreFound};
 ghost use Rattle.ctf_model.specs.FigureRows.{FiguresAre, FiguresOverParents, PathsLead};
+ghost use Rattle.ctf_model.specs.ImportRows.{ImportsAreJudged};
 ghost use Rattle.ctf_model.specs.KindRows.{KindsDenote, KindsHaveFaults};
-ghost use Rattle.ctf_model.specs.MeetingRows.{MeetingsAreAsked, SessionsMeet};
 ghost use Rattle.ctf_model.specs.NameRows.{NamesAreSpelled, NamesOverParents};
-ghost use Rattle.ctf_model.specs.ParentRows.{ParentsAreImported, SlotsAreClosed};
-ghost use Rattle.ctf_model.specs.QuestionRows.{PathsAreLines, QuestionsAreAnswered, QuestionsAreLines, TextsSpell};
 ghost use Rattle.ctf_model.specs.SymbolRows.{SymbolsHaveFaults, SymbolsTell};
 ghost use Rattle.ctf_model.specs.ValueRows.{ValuesShow, ValuesOverParents};
 ghost use Rattle.ctf_model.specs.WritingRows.{DictionariesAreWritten, NamesAreWritten, RecordsAreWritten};
-ghost use Rattle.ctf_model.specs.Rows.{BytesDenote, BytesHaveFaults, LinesAsk, LinesSay, ListsAreLong, NumbersName, OutputIs, SessionRuns};
+ghost use Rattle.ctf_model.specs.Rows.{BytesDenote, BytesHaveFaults, ListsAreLong, NumbersName};
+
+/// Which code of a fault each of its names stands for.
+pub fn faults_have_codes()
+    ensures { ConstantsAreCodes }
+{}
+
+/// Which dictionary serves as the parent of another.
+pub fn imports_are_judged()
+    ensures { ImportsAreJudged }
+{}
 
 /// What bytes of a few types denote.
 pub fn bytes_denote()
@@ -50,26 +59,6 @@ pub fn symbols_have_faults()
     ensures { SymbolsHaveFaults }
 {}
 
-/// What questions on types are answered.
-pub fn questions_are_answered()
-    ensures { QuestionsAreAnswered }
-{}
-
-/// How questions stand in lines, and their answers.
-pub fn questions_are_lines()
-    ensures { QuestionsAreLines }
-{}
-
-/// Which names a line with `path` brings.
-pub fn paths_are_lines()
-    ensures { PathsAreLines }
-{}
-
-/// Which bytes a text spells.
-pub fn texts_spell()
-    ensures { TextsSpell }
-{}
-
 /// How long the lists behind heads are.
 pub fn lists_are_long()
     ensures { ListsAreLong }
@@ -78,46 +67,6 @@ pub fn lists_are_long()
 /// Which type a number names, in a child and elsewhere.
 pub fn numbers_name()
     ensures { NumbersName }
-{}
-
-/// What a session is answered, and what it holds then.
-pub fn session_runs()
-    ensures { SessionRuns }
-{}
-
-/// Lines of replies, and how input is cut into lines.
-pub fn lines_say()
-    ensures { LinesSay }
-{}
-
-/// What lines ask.
-pub fn lines_ask()
-    ensures { LinesAsk }
-{}
-
-/// The output for two sessions, where memory is refused now and then.
-pub fn output_is()
-    ensures { OutputIs }
-{}
-
-/// What imports are answered, and which types a child finds then.
-pub fn parents_are_imported()
-    ensures { ParentsAreImported }
-{}
-
-/// What closing a slot and clearing the stage do.
-pub fn slots_are_closed()
-    ensures { SlotsAreClosed }
-{}
-
-/// What sessions are answered that publish and take.
-pub fn sessions_meet()
-    ensures { SessionsMeet }
-{}
-
-/// How a session asks for that in lines.
-pub fn meetings_are_asked()
-    ensures { MeetingsAreAsked }
 {}
 
 /// What types come to: what they stand for, their sizes and alignments.

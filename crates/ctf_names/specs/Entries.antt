@@ -25,15 +25,21 @@ is_entry_of t tag terms e = is_called_by t tag e.reference (slice_get terms e.it
 
 -- the entry of the type with a number from 0, if that is of the sort
 abbrev pub IsEntryAt : Tables → Option Tag → List Term → ℕ → Option Entry → Type 0
-IsEntryAt t tag terms place found = MatchOption found ((x : Term) → slice_get terms place ≡ Some x → is_of tag x ≡ false) (λ e. (e.item ≡ place) × (is_entry_of t tag terms e ≡ true))
+IsEntryAt t tag terms place found =
+    MatchOption found ((x : Term) → slice_get terms place ≡ Some x → is_of tag x ≡ false)
+    (λ e. (e.item ≡ place) × (is_entry_of t tag terms e ≡ true))
 
--- entries of types of the sort: of each of the first so many the entry, or that of a smaller one of its name
-pub record HasEntries (t : Tables) (tag : Option Tag) (terms : List Term) (count : ℕ) (entries : List Entry) : Type 0 where
+-- entries of types of the sort: of each of the first so many the entry,
+-- or that of a smaller one of its name
+pub record HasEntries (t : Tables) (tag : Option Tag) (terms : List Term) (count : ℕ)
+    (entries : List Entry) : Type 0 where
   pub inside : (e : Entry) → Contains entries e → is_entry_of t tag terms e ≡ true
-  pub all : (i : ℕ) (x : Term) → i < count → slice_get terms i ≡ Some x → is_of tag x ≡ true → list_any (is_early (name t) x.name i) entries ≡ true
+  pub all : (i : ℕ) (x : Term) → i < count → slice_get terms i ≡ Some x → is_of tag x ≡ true
+      → list_any (is_early (name t) x.name i) entries ≡ true
 
 -- the entries of all types of the sort, in the order of their names
 pub record AreInOrder (t : Tables) (tag : Option Tag) (terms : List Term) (o : Order) : Type 0 where
   pub has : HasEntries t tag terms (length terms) (entries_of o)
-  pub named : (e : Entry) → Contains (entries_of o) e → name t e.reference ≡ Some (name_or_empty t e.reference)
+  pub named : (e : Entry) → Contains (entries_of o) e
+      → name t e.reference ≡ Some (name_or_empty t e.reference)
   pub sorted : IsSortedBy (precedes (name t)) (entries_of o)

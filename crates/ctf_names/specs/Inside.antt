@@ -48,6 +48,7 @@ name_by None name = bare (or_anon name)
 name_by (Some tag) name = tagged tag name
 
 -- the declaration of a type with a name, from what is inside
-abbrev pub declaration_from : (ℕ → Result Declaration Fault) → List ℕ → Inside → Result Declaration Fault
+abbrev pub declaration_from : (ℕ → Result Declaration Fault) → List ℕ → Inside
+    → Result Declaration Fault
 declaration_from others name (a_name tag) = name_by tag name
 declaration_from others name (a_layer layer t) = around layer (others t)

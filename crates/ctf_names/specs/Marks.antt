@@ -12,7 +12,8 @@ abbrev pub mark : Bool → Layer → Option Layer → Mark
 mark outermost Pointer below = if is_behind below then Grouped else Star
 mark outermost (Array count) below = Count count
 mark outermost Function below = Call
-mark outermost (Qualified q) below = if is_pointer below then (if outermost then Alone q else Before q) else Front q
+mark outermost (Qualified q) below =
+    if is_pointer below then (if outermost then Alone q else Before q) else Front q
 
 abbrev pub marks : Bool → List Layer → List Mark
 marks outermost [] = []

@@ -17,7 +17,9 @@ is_pointer_of terms p = points_to p.target (slice_get terms p.place)
 
 -- the type with a number from 0, if it is a pointer
 abbrev pub IsPointerAt : List Term → ℕ → Option Pointer → Type 0
-IsPointerAt terms place found = MatchOption found ((t : ℕ) → points_to t (slice_get terms place) ≡ false) (λ p. (p.place ≡ place) × (is_pointer_of terms p ≡ true))
+IsPointerAt terms place found =
+    MatchOption found ((t : ℕ) → points_to t (slice_get terms place) ≡ false)
+    (λ p. (p.place ≡ place) × (is_pointer_of terms p ≡ true))
 
 -- a pointer to a type, and not greater than another
 abbrev pub is_early_pointer : ℕ → ℕ → Pointer → Bool
@@ -26,7 +28,8 @@ is_early_pointer target place p = p.target == target && nat_le p.place place
 -- the pointers among the first so many types
 pub record HasPointers (terms : List Term) (count : ℕ) (pointers : List Pointer) : Type 0 where
   pub inside : (p : Pointer) → Contains pointers p → is_pointer_of terms p ≡ true
-  pub all : (i t : ℕ) → i < count → points_to t (slice_get terms i) ≡ true → list_any (is_early_pointer t i) pointers ≡ true
+  pub all : (i t : ℕ) → i < count → points_to t (slice_get terms i) ≡ true
+      → list_any (is_early_pointer t i) pointers ≡ true
 
 -- by what they point to, and then by number
 abbrev pub pointer_precedes : Pointer → Pointer → Bool

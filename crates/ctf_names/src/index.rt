@@ -9,7 +9,8 @@ use ctf_space::Space;
 use std::alloc::{AllocError, Global};
 use std::rc::Rc;
 
-/// The types of a dictionary, and of its parent where it has one, by their names: a type is found by
+/// The types of a dictionary, and of its parent where it has one, by their names:
+/// a type is found by
 /// halves.
 ///
 /// It keeps plain numbers, at most 8 bytes for each type that is visible to look-ups by name and 4

@@ -18,7 +18,8 @@ use std::alloc::{AllocError, Global};
 /// The entries of the visible types of a sort.
 fn entries_of(alloc: Global, dictionary: &Checked<'_>, sort: Sort) -> Result<Vec<Entry>, AllocError>
     ensures { let d = dictionary_of dictionary.now in IfOk result (λ entries.
-        HasEntries (tables_of dictionary.now) (tag_in sort) d.terms (length d.terms) entries.items) }
+        HasEntries (tables_of dictionary.now) (tag_in sort) d.terms (length d.terms)
+        entries.items) }
 {
     let mut entries = Vec::new(alloc);
     for place in 0..dictionary.count() {

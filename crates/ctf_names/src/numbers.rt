@@ -28,7 +28,8 @@ fn numbered(child: bool, place: u32) -> TypeNum
 /// The least number of an own type that is sought.
 fn least_among(space: &Space<'_>, names: &Names, sought: Sought<'_>) -> Option<TypeNum>
     requires { IsNamesOf (own_lists space.now) names.now }
-    ensures { option_map (λ t. t.0) result ≡ least_own (passes sought.entry) (space_of space.now).own }
+    ensures { option_map (λ t. t.0) result
+        ≡ least_own (passes sought.entry) (space_of space.now).own }
 {
     let dictionary = space.dictionary();
     let place = names.first(&dictionary.strings(), sought)?;

@@ -25,7 +25,8 @@ pub(crate) fn own_type<'a>(dictionary: &Checked<'a>, place: usize) -> Option<Typ
 /// The entry of a type, if it is visible and of a sort.
 pub(crate) fn entry_at(dictionary: &Checked<'_>, sort: Sort, place: usize) -> Option<Entry>
     requires { place < 2 ^ 32 }
-    ensures { IsEntryAt (tables_of dictionary.now) (tag_in sort) (dictionary_of dictionary.now).terms
+    ensures { IsEntryAt (tables_of dictionary.now) (tag_in sort)
+        (dictionary_of dictionary.now).terms
         place result }
 {
     let found = own_type(dictionary, place)?;

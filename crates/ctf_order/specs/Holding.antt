@@ -24,13 +24,16 @@ pub record IsLeast (t : Naming) (items : List Entry) (text : List ℕ) (n : ℕ)
 
 -- that, or none has the name
 abbrev pub IsFound : Naming → List Entry → List ℕ → Option ℕ → Type 0
-IsFound t items text found = MatchOption found ((e : Entry) → Contains items e → IsNamed t text e → ⊥) (IsLeast t items text)
+IsFound t items text found =
+    MatchOption found ((e : Entry) → Contains items e → IsNamed t text e → ⊥) (IsLeast t items text)
 
 -- ---- how they are kept
 
 -- by the order of names, and then by item
 abbrev pub precedes : Naming → Entry → Entry → Bool
-precedes t a b = is_lt (ordering_then (by_front (name_or_empty t a.reference) (name_or_empty t b.reference)) (nat_cmp a.item b.item))
+precedes t a b =
+    is_lt (ordering_then (by_front (name_or_empty t a.reference) (name_or_empty t b.reference))
+    (nat_cmp a.item b.item))
 
 abbrev pub same_entry : Entry → Entry → Bool
 same_entry e f = e.reference == f.reference && e.item == f.item
@@ -43,7 +46,8 @@ is_early t text item e = nat_le e.item item && is_text (t e.reference) text
 pub record Stands (t : Naming) (items entries : List Entry) : Type 0 where
   pub inside : (e : Entry) → Contains entries e → list_any (same_entry e) items ≡ true
   pub named : (e : Entry) → Contains entries e → t e.reference ≡ Some (name_or_empty t e.reference)
-  pub all : (e : Entry) (text : List ℕ) → Contains items e → IsNamed t text e → list_any (is_early t text e.item) entries ≡ true
+  pub all : (e : Entry) (text : List ℕ) → Contains items e → IsNamed t text e
+      → list_any (is_early t text e.item) entries ≡ true
 
 -- what is kept
 abbrev pub entries_of : Order → List Entry

@@ -14,7 +14,8 @@ IsLent t n = t n.entry.reference ≡ Some n.name.now
 
 -- by the order of names, and then by item
 abbrev pub goes_before : Named → Named → Bool
-goes_before a b = is_lt (ordering_then (by_front a.name.now b.name.now) (nat_cmp a.entry.item b.entry.item))
+goes_before a b =
+    is_lt (ordering_then (by_front a.name.now b.name.now) (nat_cmp a.entry.item b.entry.item))
 
 -- an item has the reference of one before it that is not greater
 abbrev pub repeats : Option Entry → Entry → Bool
@@ -23,7 +24,9 @@ repeats (Some before) item = before.reference == item.reference && nat_le before
 
 -- the item beside its name, or it has none, or it repeats the one before it
 abbrev pub IsNextLent : Naming → Option Entry → Entry → Option Named → Type 0
-IsNextLent t before item next = MatchOption next ((repeats before item ≡ true) ⊎ (t item.reference ≡ None)) (λ n. (n.entry ≡ item) × IsLent t n)
+IsNextLent t before item next =
+    MatchOption next ((repeats before item ≡ true) ⊎ (t item.reference ≡ None))
+    (λ n. (n.entry ≡ item) × IsLent t n)
 
 -- an item of that name which is not greater
 pub record HasLent (t : Naming) (text : List ℕ) (named : List Named) (item : ℕ) : Type 0 where
@@ -36,4 +39,5 @@ pub record HasLent (t : Naming) (text : List ℕ) (named : List Named) (item : �
 pub record Lends (t : Naming) (items : List Entry) (named : List Named) : Type 0 where
   pub inside : (n : Named) → Contains named n → Contains items n.entry
   pub right : (n : Named) → Contains named n → IsLent t n
-  pub all : (e : Entry) (text : List ℕ) → Contains items e → IsNamed t text e → HasLent t text named e.item
+  pub all : (e : Entry) (text : List ℕ) → Contains items e → IsNamed t text e
+      → HasLent t text named e.item

@@ -1,4 +1,5 @@
--- The order of names. Source: ours; any order of names serves a look-up, and this one takes few steps whatever the names are.
+-- The order of names. Source: ours; any order of names serves a look-up,
+-- and this one takes few steps whatever the names are.
 use Rattle.std.specs.Prelude.{ℕ, Bool, false, List, length, take, Option, Some, None}
 use Rattle.std.specs.Cmp.Lexicographic.{slice_cmp}
 use Rattle.std.specs.Ordering.{nat_cmp, ordering_then}

@@ -12,7 +12,8 @@ Naming = ℕ → Option (List ℕ)
 abbrev pub name_or_empty : Naming → ℕ → List ℕ
 name_or_empty names reference = unwrap_or (names reference) []
 
--- references name what stands in the tables of a dictionary, offsets what stands in the strings of a program
+-- references name what stands in the tables of a dictionary,
+-- offsets what stands in the strings of a program
 abbrev pub naming : Texts → Naming
 naming (Dictionary strings) = name (tables strings)
 naming (Program strs) = text_at (Some strs.now)

@@ -5,7 +5,7 @@ use Rattle.std.proofs.lemmas.Bool.{lt-ltb, eqb-false, ltb-true, ltb-false}
 use Rattle.ctf_model.specs.Figures.{enum_size, incomplete, size}
 use Rattle.ctf_model.specs.MemoryBits.{field, short_memory, signed_value}
 use Rattle.ctf_model.specs.Pieces.{Pieces, ends, followed_by}
-use Rattle.ctf_model.specs.ReplyLines.{signed_decimal}
+use Rattle.ctf_model.specs.Texts.{signed_decimal}
 use Rattle.ctf_model.specs.Shown.{EncodingParts, encoding_parts}
 use Rattle.ctf_model.specs.Space.{Space, pointer_size, space_type}
 use Rattle.ctf_model.specs.Term.{Body, Enumerator, Member, Term}

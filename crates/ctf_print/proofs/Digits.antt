@@ -6,7 +6,7 @@ use Rattle.std.proofs.lemmas.Bool.{ltb-true, ltb-false}
 use Rattle.ctf_model.specs.Bytes.{number}
 use Rattle.ctf_model.specs.MemoryBits.{bits_at, hexadecimal}
 use Rattle.ctf_model.specs.Pieces.{followed_by, nothing, piece}
-use Rattle.ctf_model.specs.Text.{hex_of_byte}
+use Rattle.ctf_model.specs.Texts.{hex_of_byte}
 
 -- ---- powers
 

@@ -4,7 +4,7 @@ use Rattle.std.specs.Prelude.{IsSome, slice_get}
 use Rattle.std.specs.Ordering.{int_eq}
 use Rattle.std.specs.Option.{option_map}
 use Rattle.std.proofs.lemmas.List.{drop_all}
-use Rattle.ctf_model.specs.ReplyLines.{signed_decimal}
+use Rattle.ctf_model.specs.Texts.{signed_decimal}
 use Rattle.ctf_model.specs.Term.{Enumerator}
 use Rattle.ctf_model.specs.Values.{name_of_value}
 

@@ -74,6 +74,7 @@ told_shown s memory show p (float parts) = float_shown memory p parts
 told_shown s memory show p pointer = raw_shown memory p (8 * pointer_size s.model)
 told_shown s memory show p (enum said es) = enum_shown memory p (said_size said) es
 told_shown s memory show p (members ms) = members_shown show p ms
-told_shown s memory show p (array parts) = array_shown show p parts.contents parts.count (size_of s parts.contents)
+told_shown s memory show p (array parts) =
+    array_shown show p parts.contents parts.count (size_of s parts.contents)
 told_shown s memory show p (like t) = show t p
 told_shown s memory show p untold = ends incomplete

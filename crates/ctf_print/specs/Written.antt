@@ -7,7 +7,9 @@ use Rattle.ctf_model.specs.declared.faults.Fault.{Fault}
 
 -- a text with what is shown behind it, or why not
 unfoldable pub written : List ℕ → Pieces → Result (List ℕ) Fault
-written old pieces = if nat_lt longest_text (length (old ++ pieces.text)) then Err too_long else ended_by pieces.fault (old ++ pieces.text)
+written old pieces =
+    if nat_lt longest_text (length (old ++ pieces.text)) then Err too_long
+    else ended_by pieces.fault (old ++ pieces.text)
 
 -- the fault is that of what is shown, or memory was refused
 abbrev pub Refused : List ℕ → Pieces → Fault → Type 0

@@ -3,7 +3,7 @@ ghost use Rattle.std.specs.Prelude.{◌≡◌, ◌≤◌, ◌<◌, ◌^◌, deci
 ghost use Rattle.ctf_model.specs.MemoryBits.{signed_value};
 ghost use Rattle.ctf_model.specs.Pieces.{piece};
 ghost use Rattle.ctf_model.specs.Values.{float_shown, integer_shown, integer_value};
-ghost use Rattle.ctf_model.specs.ReplyLines.{signed_decimal};
+ghost use Rattle.ctf_model.specs.Texts.{signed_decimal};
 ghost use Rattle.ctf_views.specs.PartsView.{encoding_info};
 ghost use Rattle.ctf_print.specs.Written.{Refused, written};
 

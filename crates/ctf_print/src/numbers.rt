@@ -2,7 +2,7 @@
 ghost use Rattle.std.specs.Prelude.{◌≡◌, ◌+◌, ◌*◌, ◌≤◌, ◌<◌, ◌^◌, ◌/◌, ◌%◌, length, nat_le, slice_index, IfErr, OnOk, Ok};
 ghost use Rattle.ctf_model.specs.MemoryBits.{bits_at, field as field_of, hexadecimal, started_bytes};
 ghost use Rattle.ctf_model.specs.Pieces.{piece};
-ghost use Rattle.ctf_model.specs.Text.{hex_digit as hex_digit_of, hex_of_byte};
+ghost use Rattle.ctf_model.specs.Texts.{hex_digit as hex_digit_of, hex_of_byte};
 ghost use Rattle.ctf_model.specs.Values.{raw_shown};
 ghost use Rattle.ctf_print.specs.Written.{Refused, written};
 

@@ -1,4 +1,5 @@
--- Which kinds say what. Source: ctf(5), "The Type Section": whether ctt_size or ctt_type is meant, and what stands behind the head, go by kind.
+-- Which kinds say what. Source: ctf(5), "The Type Section": whether ctt_size or ctt_type is meant,
+-- and what stands behind the head, go by kind.
 use Rattle.std.specs.Prelude.{ℕ, List, Option, Some, None}
 use Rattle.std.specs.Option.{option_and_then}
 use Rattle.ctf_model.specs.Record.{kind, field, size, vlen, variant_len}

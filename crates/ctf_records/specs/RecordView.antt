@@ -31,7 +31,9 @@ result_piece (Err f) = Err f
 
 -- the whole record that begins at a place of a section, if one does, under a number
 abbrev pub piece_at : List ℕ → ℕ → ℕ → Option Piece
-piece_at types at index = option_map (λ n. record { index = index; at = at; bytes = take n (drop at types) }) (front_len (drop at types))
+piece_at types at index =
+    option_map (λ n. record { index = index; at = at; bytes = take n (drop at types) })
+    (front_len (drop at types))
 
 -- what a forward declares
 abbrev pub tag_of : Tag → term.Tag

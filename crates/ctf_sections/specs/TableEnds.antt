@@ -1,4 +1,5 @@
--- Where the names of a table end. Source: ctf(5), "String Identifiers": a name ends with a zero byte.
+-- Where the names of a table end. Source: ctf(5), "String Identifiers":
+-- a name ends with a zero byte.
 use Rattle.std.specs.Prelude.{◌≡◌, ℕ, List, Option, is_none, nat_le}
 use Rattle.ctf_model.specs.Name.{text_at}
 

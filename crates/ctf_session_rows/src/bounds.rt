@@ -22,7 +22,8 @@ fn ends_at_the_bound(rt: HostRuntime) {
 
 #[test]
 fn ends_at_a_failed_read(rt: HostRuntime) {
-    // The first two lines have 173 bytes, and their replies 58. The third line is there in part, or not at all.
+    // The first two lines have 173 bytes, and their replies 58.
+    // The third line is there in part, or not at all.
     for size in [173, 190] {
         let (end, written) = served_bounded(rt.alloc(), LINES.as_bytes(), size, 9, 2);
         assert!(rt; end == Err(RunFault::Read), "{size} bytes");

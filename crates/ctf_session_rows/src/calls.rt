@@ -2,7 +2,8 @@
 
 use ctf_answers::Reply;
 use ctf_lines::{FromLine, ToLine, memory_line, write_change};
-use ctf_model::{Change, Fault, Request, placeless};
+use ctf_model::{Fault, placeless};
+use ctf_protocol::{Change, Request};
 use ctf_wire::{Broker, Library, Pool};
 use std::alloc::{AllocError, Global};
 use std::test::Fail;

@@ -3,7 +3,8 @@
 use crate::noted::{Failing, NONE, noted, noted_front};
 use ctf_wire::RunFault;
 
-/// The first line is there after the third read, the second after the sixth; the tenth meets the end.
+/// The first line is there after the third read, the second after the sixth;
+/// the tenth meets the end.
 #[test]
 fn bounds_end_a_run(rt: HostRuntime) {
     let rows = [

@@ -1,5 +1,6 @@
-//! How a run over a reader and a writer in memory goes on and ends, what the operator publishes, and
-//! the calls below: of pools, and of lines that are read and written.
+//! How a run over a reader and a writer in memory goes on and ends,
+//! what the operator publishes, and
+//! the calls below: of pools, of lines that are read and written, and of numbers of slots.
 #![tactic(auto)]
 
 #[cfg(test)]
@@ -24,6 +25,8 @@ mod reading;
 mod request_lines;
 #[cfg(test)]
 mod shelves;
+#[cfg(test)]
+mod slots;
 #[cfg(test)]
 mod stage;
 #[cfg(test)]

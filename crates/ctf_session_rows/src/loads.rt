@@ -1,8 +1,7 @@
 //! What the operator publishes before any line is read.
-ghost use Rattle.std.specs.Prelude.{◌≡◌, IfOk};
-ghost use Rattle.ctf_model.specs.declared.data_model.DataModel.TheVariants.{Lp64};
 
-use ctf_model::{Bytes, DataModel, Fault, Parts, PublicationName, placeless};
+use ctf_model::{Bytes, DataModel, Fault, Parts, placeless};
+use ctf_protocol::PublicationName;
 use ctf_runs::served_by;
 use ctf_space::Opened;
 use ctf_wire::Broker;
@@ -35,9 +34,7 @@ const REPLIES: &str = "{\"ok\":{\"d\":1,\"types\":1},\"s\":1}\n\
     {\"ok\":{\"d\":1,\"types\":1},\"s\":3}\n";
 
 /// The dictionary of a list.
-fn opened(alloc: Global, ctf: &[u8]) -> Result<Opened, AllocError>
-    ensures { IfOk result (λ o. o.model ≡ Lp64) }
-{
+fn opened(alloc: Global, ctf: &[u8]) -> Result<Opened, AllocError> {
     let parts = Parts {
         ctf: Bytes::from_slice(alloc, ctf)?,
         sym: None,

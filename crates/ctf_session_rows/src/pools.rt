@@ -1,6 +1,6 @@
 //! Dictionaries that are opened again while a pool holds them, or when it holds them no more.
 
-use ctf_model::{Bytes, Fault, Parts};
+use ctf_model::{Bytes, DataModel, Fault, Parts};
 use ctf_wire::Pool;
 use std::alloc::{AllocError, Global};
 use std::test::Fail;
@@ -26,7 +26,7 @@ fn lists(alloc: Global, letter: u8) -> Result<Parts, AllocError> {
 /// Whether such lists are opened as the dictionary that has them.
 fn opens(alloc: Global, pool: &mut Pool, letter: u8) -> Result<bool, AllocError> {
     let parts = lists(alloc, letter)?;
-    match pool.open(parts) {
+    match pool.open(parts, DataModel::Lp64) {
         Ok(loaded) => Ok(loaded.view().lists().ctf.ends_with(&[letter, 0])),
         Err(_) => Ok(false),
     }
@@ -55,7 +55,7 @@ fn the_oldest_gives_way(rt: HostRuntime) -> Result<(), Fail> {
 /// Whether lists are refused as too short, and come back with all their bytes.
 fn come_back(pool: &mut Pool, parts: Parts) -> bool {
     let length = parts.ctf.len();
-    match pool.open(parts) {
+    match pool.open(parts, DataModel::Lp64) {
         Ok(_) => false,
         Err((fault, parts)) => fault.code == Fault::TOO_SHORT && parts.ctf.len() == length,
     }

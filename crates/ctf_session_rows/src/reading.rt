@@ -1,14 +1,15 @@
 //! Lines that are read as requests, word by word.
 
 use ctf_lines::FromLine;
-use ctf_model::{
-    Change, DraftStep, HeldQuestion, ListName, Names, Question, Request, SlotQuestion,
-    TypeQuestion, Window,
+use ctf_protocol::{
+    Change, DraftStep, HeldQuestion, ListName, Names, PlainQuestion, Question, Request,
+    SlotQuestion, TypeQuestion, Window,
 };
 use std::alloc::Global;
 use std::test::Fail;
 
-/// A request with its word, the slot and the type that it is about, and the window that it asks for.
+/// A request with its word, the slot and the type that it is about,
+/// and the window that it asks for.
 #[derive(Clone, Copy, PartialEq, Eq)]
 struct Said {
     word: &'static str,
@@ -74,19 +75,19 @@ fn change_said(change: &Change) -> Said {
 
 fn question_said(question: &TypeQuestion) -> (&'static str, Option<Window>) {
     match question {
-        TypeQuestion::Kind => ("kind", None),
-        TypeQuestion::Record => ("record", None),
+        TypeQuestion::Plain(PlainQuestion::Kind) => ("kind", None),
+        TypeQuestion::Plain(PlainQuestion::Record) => ("record", None),
         TypeQuestion::Members(window) => ("members", Some(*window)),
         TypeQuestion::Enumerators(window) => ("enumerators", Some(*window)),
-        TypeQuestion::Args => ("args", None),
-        TypeQuestion::Array => ("array", None),
-        TypeQuestion::Encoding => ("encoding", None),
-        TypeQuestion::Reference => ("reference", None),
-        TypeQuestion::Resolve => ("resolve", None),
-        TypeQuestion::Size => ("size", None),
-        TypeQuestion::Align => ("align", None),
-        TypeQuestion::Name => ("name", None),
-        TypeQuestion::Pointer => ("pointer", None),
+        TypeQuestion::Plain(PlainQuestion::Args) => ("args", None),
+        TypeQuestion::Plain(PlainQuestion::Array) => ("array", None),
+        TypeQuestion::Plain(PlainQuestion::Encoding) => ("encoding", None),
+        TypeQuestion::Plain(PlainQuestion::Reference) => ("reference", None),
+        TypeQuestion::Plain(PlainQuestion::Resolve) => ("resolve", None),
+        TypeQuestion::Plain(PlainQuestion::Size) => ("size", None),
+        TypeQuestion::Plain(PlainQuestion::Align) => ("align", None),
+        TypeQuestion::Plain(PlainQuestion::Name) => ("name", None),
+        TypeQuestion::Plain(PlainQuestion::Pointer) => ("pointer", None),
         TypeQuestion::Path(_) => ("path", None),
         TypeQuestion::Show { .. } => ("show", None),
     }

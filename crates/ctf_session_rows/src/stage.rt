@@ -17,7 +17,8 @@ fn put_part(
     input.extend_from_slice(b"\"}\n")
 }
 
-/// A full list handed in by 64 parts of 262,144 bytes, each with its reply: an empty dictionary, and zero bytes.
+/// A full list handed in by 64 parts of 262,144 bytes, each with its reply:
+/// an empty dictionary, and zero bytes.
 fn fill(alloc: Global, input: &mut Vec<u8>, want: &mut Vec<u8>) -> Result<(), AllocError> {
     put_part(alloc, input, b"f1cf0200", 524_280)?;
     want.extend_from_slice(b"{\"ok\":{\"length\":262144},\"s\":7}\n")?;

@@ -83,7 +83,8 @@ fn changes_are_written(rt: HostRuntime) -> Result<(), Fail> {
     Ok(())
 }
 
-/// The line around an empty text has 21 bytes without its newline, so a plain one may have 4,194,283.
+/// The line around an empty text has 21 bytes without its newline,
+/// so a plain one may have 4,194,283.
 #[test]
 fn the_longest_reply_is_written(rt: HostRuntime) -> Result<(), Fail> {
     let refusal = "{\"fault\":{\"code\":56,\"name\":\"LongReply\",\"place\":0},\"s\":1}\n";

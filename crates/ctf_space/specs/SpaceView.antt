@@ -16,7 +16,12 @@ over_parent own parent model = record { own = own; parent = Some parent; model =
 
 -- its dictionaries
 abbrev pub space_of : Space → spaces.Space
-space_of s = record { own = dictionary_of s.own; parent = option_map dictionary_of s.parent; model = s.model }
+space_of s =
+    record {
+      own = dictionary_of s.own;
+      parent = option_map dictionary_of s.parent;
+      model = s.model;
+    }
 
 -- the lists of its dictionaries
 abbrev pub own_lists : Space → Lists

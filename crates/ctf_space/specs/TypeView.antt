@@ -1,9 +1,10 @@
 -- What a type that was found shows. The words are ours.
-use Rattle.std.specs.Prelude.{ℕ, List, Option, Some, None, Result, Ok, Err}
+use Rattle.std.specs.Prelude.{ℕ, List, Option, Result, Ok, Err}
 use Rattle.ctf_model.specs.Shown.{Shown, shown}
-use Rattle.ctf_model.specs.Space.{import_fault}
+use Rattle.ctf_model.specs.Imports.{Modelled, import_fault}
 use Rattle.ctf_model.specs.Term.{Term}
 use Rattle.ctf_model.specs.TypeNumbers.{or_no_type}
+use Rattle.ctf_model.specs.declared.data_model.DataModel.{DataModel}
 use Rattle.ctf_model.specs.declared.faults.Fault.{Fault}
 use Rattle.ctf_check.specs.CheckedView.{dictionary_of}
 use Rattle.ctf_check.specs.TypedView.{spelled}
@@ -17,9 +18,15 @@ abbrev pub type_found : Result Typed Fault → Result Term Fault
 type_found (Ok x) = or_no_type (spelled x)
 type_found (Err fault) = Err fault
 
--- the fault of one dictionary over another
-abbrev pub fault_of_import : Checked → Checked → Option Fault
-fault_of_import child parent = import_fault (record { child = dictionary_of child; parent = dictionary_of parent })
+-- a dictionary that is lent, with a data model
+abbrev pub of_model : Checked → DataModel → Modelled
+of_model dictionary model = record { dictionary = dictionary_of dictionary; model = model }
+
+-- the fault of one dictionary over another, each with its data model
+abbrev pub fault_of_import : Checked → DataModel → Checked → DataModel → Option Fault
+fault_of_import child child_model parent parent_model =
+    import_fault
+    (record { child = of_model child child_model; parent = of_model parent parent_model })
 
 -- ---- parts of a type, if it is there
 

@@ -31,7 +31,7 @@ impl Model for Opened {
     ghost use Rattle.ctf_chains.specs.Starts.{starts_in};
     ghost use Rattle.ctf_model.specs.Faults.{first_fault, types as types_of};
     ghost use Rattle.ctf_model.specs.OwnedLists.{lists_owned};
-    ghost use Rattle.ctf_model.specs.Space.{Kept};
+    ghost use Rattle.ctf_model.specs.Kept.{Kept};
 
     ghost Value = { Kept };
 

@@ -2,7 +2,8 @@
 ghost use Rattle.std.specs.Prelude.{◌≡◌, ◌<◌, IfOk, IfErr, OnOk, None, Some, false, length, slice_get};
 ghost use Rattle.std.specs.Result.{result_map_both};
 ghost use Rattle.std.specs.Option.{ForSome, option_map};
-ghost use Rattle.ctf_model.specs.Space.{import_fault, space_type};
+ghost use Rattle.ctf_model.specs.Imports.{import_fault, of_one_model};
+ghost use Rattle.ctf_model.specs.Space.{space_type};
 ghost use Rattle.ctf_model.specs.TypeNumbers.{or_no_type};
 ghost use Rattle.ctf_check.specs.CheckedView.{dictionary_of, lists_of};
 ghost use Rattle.ctf_space.specs.TypeView.{type_found};
@@ -17,8 +18,8 @@ pub struct Space<'a> {
     own: Checked<'a>,
     parent: Option<Checked<'a>>,
     model: DataModel,
-    ghost imported: { ForSome parent (λ p. import_fault
-        (record { child = dictionary_of own; parent = dictionary_of p }) ≡ None) },
+    ghost imported: { ForSome parent (λ p.
+        import_fault (of_one_model model (dictionary_of own) (dictionary_of p)) ≡ None) },
 }
 
 /// The own type of a dictionary with a number from 0.
@@ -49,25 +50,32 @@ impl<'a> Space<'a> {
         }
     }
 
-    /// A child over its parent. The fault `PARENT_SHORT` has for its place the greatest number of a
+    /// A child over its parent, each of a data model, which have to be the same. The fault
+    /// `PARENT_SHORT` has for its place the greatest number of a
     /// parent's type that the child names.
     pub fn over(
         child: Checked<'a>,
+        child_model: DataModel,
         parent: Checked<'a>,
-        model: DataModel,
+        parent_model: DataModel,
     ) -> Result<Space<'a>, Fault>
         ensures ok { IfOk result (λ s. space_of s
-            ≡ over_parent (dictionary_of child.entry) (dictionary_of parent.entry) model) }
+            ≡ over_parent (dictionary_of child.entry) (dictionary_of parent.entry) child_model) }
         ensures lists { IfOk result (λ s. own_lists s ≡ lists_of child.entry) }
         ensures parent { IfOk result (λ s. parent_lists s ≡ Some (lists_of parent.entry)) }
-        ensures exact_ok { OnOk result (fault_of_import child.entry parent.entry ≡ None) }
-        ensures exact_err { IfErr result (λ f. fault_of_import child.entry parent.entry ≡ Some f) }
+        ensures exact_ok { OnOk result
+            (fault_of_import child.entry child_model parent.entry parent_model ≡ None) }
+        ensures exact_err { IfErr result
+            (λ f. fault_of_import child.entry child_model parent.entry parent_model ≡ Some f) }
     {
         if !child.child() {
             return Err(placeless(Fault::NOT_CHILD));
         }
         if parent.child() {
             return Err(placeless(Fault::PARENT_IS_CHILD));
+        }
+        if child_model != parent_model {
+            return Err(placeless(Fault::MODEL_DIFFERS));
         }
         let needs = child.needs();
         if needs as usize > parent.count() {
@@ -76,12 +84,12 @@ impl<'a> Space<'a> {
                 place: u64::from(needs),
             });
         }
-        Ok(Space::again(child, parent, model))
+        Ok(Space::again(child, parent, child_model))
     }
 
     /// A child over the parent that it was imported over before, without judging the import again.
     pub fn again(child: Checked<'a>, parent: Checked<'a>, model: DataModel) -> Space<'a>
-        requires { fault_of_import child parent ≡ None }
+        requires { fault_of_import child model parent model ≡ None }
         ensures space { space_of result
             ≡ over_parent (dictionary_of child.entry) (dictionary_of parent.entry) model }
         ensures lists { own_lists result ≡ lists_of child.entry }

@@ -5,7 +5,8 @@ use Rattle.ctf_symbols.specs.Kept.{lefts_of}
 use Rattle.ctf_symbols.specs.Named.{SymbolsInOrder, LabelsInOrder}
 use Rattle.ctf_symbols.specs.declared.map.SymbolMap.{SymbolMap}
 
--- the map is that of a dictionary with these lists: where the entries of its symbols begin, and its considered symbols
+-- the map is that of a dictionary with these lists: where the entries of its symbols begin,
+-- and its considered symbols
 -- and its labels by their names
 pub record Fits (s : Lists) (m : SymbolMap) : Type 0 where
   pub places : m.lefts.items ≡ lefts_of s

@@ -8,12 +8,15 @@ use Rattle.ctf_model.specs.declared.symbols.SymbolClass.{SymbolClass}
 use Rattle.ctf_model.specs.declared.symbols.SymbolClass.TheVariants.{Object, Function}
 use Rattle.ctf_model.specs.declared.sections.Section.TheVariants.{SObjects, SFunctions}
 
--- of symbols that are numbered from n on, where this is left of both sections; 0 where a symbol has no entry
+-- of symbols that are numbered from n on, where this is left of both sections;
+-- 0 where a symbol has no entry
 unfoldable pub lefts_from : ℕ → List Symbol → List ℕ → List ℕ → List ℕ
 lefts_from n [] objects functions = []
 lefts_from n (x ∷ xs) objects functions =
     if is_considered (n, x)
-    then (if is_object x then length objects ∷ lefts_from (n + 1) xs (drop 2 objects) functions else length functions ∷ lefts_from (n + 1) xs objects (drop (entry_len functions) functions))
+    then (if is_object x then length objects ∷ lefts_from (n + 1) xs (drop 2 objects) functions
+    else length functions
+    ∷ lefts_from (n + 1) xs objects (drop (entry_len functions) functions))
     else 0 ∷ lefts_from (n + 1) xs objects functions
 
 -- of all symbols
@@ -26,7 +29,8 @@ last_bytes n b = drop (length b - n) b
 
 -- what the symbol with a number stands for, if it is there
 abbrev pub sort_in : List ℕ → ℕ → Option ℕ
-sort_in sym number = if nat_lt number (length sym / 24) then Some (slice_index sym (24 * number + 4) % 16) else None
+sort_in sym number =
+    if nat_lt number (length sym / 24) then Some (slice_index sym (24 * number + 4) % 16) else None
 
 -- the class of what stands for an object, or else for a function
 abbrev pub class_in : Option ℕ → SymbolClass

@@ -14,16 +14,19 @@ use Rattle.ctf_order.specs.declared.order.Order.{Order}
 -- the first of a name among what has numbers and names
 abbrev pub first_called : {A : Type 0} → (A → List ℕ) → List ℕ → List (ℕ × A) → Option (ℕ × A)
 first_called called text [] = None
-first_called called text (x ∷ xs) = if bytes_eq (called x.1) text then Some x else first_called called text xs
+first_called called text (x ∷ xs) =
+    if bytes_eq (called x.1) text then Some x else first_called called text xs
 
 -- each has an item, with its number, and where its name stands
 abbrev pub AreItems : {A : Type 0} → Naming → (A → List ℕ) → List (ℕ × A) → List Entry → Type 0
 AreItems names called [] items = items ≡ []
 AreItems names called (x ∷ xs) [] = ⊥
-AreItems names called (x ∷ xs) (e ∷ items) = (e.item ≡ x.0) × (names e.reference ≡ Some (called x.1)) × AreItems names called xs items
+AreItems names called (x ∷ xs) (e ∷ items) =
+    (e.item ≡ x.0) × (names e.reference ≡ Some (called x.1)) × AreItems names called xs items
 
 -- such items, which an order fits
-pub record Ordered {A : Type 0} (names : Naming) (called : A → List ℕ) (xs : List (ℕ × A)) (o : Order) : Type 0 where
+pub record Ordered {A : Type 0} (names : Naming) (called : A → List ℕ) (xs : List (ℕ × A))
+    (o : Order) : Type 0 where
   pub items : List Entry
   pub each : AreItems names called xs items
   pub fits : Fits names items o
@@ -50,4 +53,5 @@ SymbolsInOrder s o = AreInOrder (program_names s.strs) called_symbol (considered
 
 -- the labels, numbered from 0
 abbrev pub LabelsInOrder : Lists → Order → Type 0
-LabelsInOrder s o = AreInOrder (name (tables s)) called_label (enumerate_from 0 (said_by s).labels) o
+LabelsInOrder s o =
+    AreInOrder (name (tables s)) called_label (enumerate_from 0 (said_by s).labels) o

@@ -1,4 +1,5 @@
-//! Marks in the lines of a transcript: `«3 ab»` stands for `ababab`, and `«8n+1»` for eight times the
+//! Marks in the lines of a transcript: `«3 ab»` stands for `ababab`,
+//! and `«8n+1»` for eight times the
 //! number of the pass, and one.
 
 use std::alloc::{AllocError, Global};

@@ -1,5 +1,7 @@
-//! Runs in the text of a transcript: a line that begins with `# ` is the title of one. Below it stand,
-//! in their order, requests behind `> ` and replies behind `< `; other lines are comments. The lines
+//! Runs in the text of a transcript: a line that begins with `# ` is
+//! the title of one. Below it stand,
+//! in their order, requests behind `> ` and replies behind `< `;
+//! other lines are comments. The lines
 //! below a line such as `* 1..=255` are passed once for each of those numbers, up to the next line
 //! that begins so; below `* then` they are passed once.
 

@@ -136,11 +136,13 @@ fn each_other_kind(rt: HostRuntime) -> Result<(), Fail> {
         \x20 value \"f\" -2\n\
         type 5 forward \"f\" root tag=union : \"union f\" bytes=Incomplete align=Incomplete\n\
         type 6 unknown \"\" hidden : \"(anon)\" bytes=Incomplete align=Incomplete\n\
-        type 7 typedef \"\\x22\\x5c\" root to=5 : \"\\x22\\x5c\" bytes=Incomplete align=Incomplete\n\
+        type 7 typedef \"\\x22\\x5c\" root to=5 : \
+        \"\\x22\\x5c\" bytes=Incomplete align=Incomplete\n\
         type 8 union \"\" root size=4 : \"union (anon)\" bytes=4 align=4\n\
         \x20 member \"\" offset=0 type=1\n\
         type 9 const \"\" hidden to=1 : \"const int\" bytes=4 align=4\n\
-        type 10 array \"\" hidden contents=1 index=1 count=10 size=40 : \"int [10]\" bytes=40 align=4\n\
+        type 10 array \"\" hidden contents=1 index=1 count=10 size=40 : \
+        \"int [10]\" bytes=40 align=4\n\
         type 11 pointer \"\" hidden to=0 : \"void *\" bytes=8 align=8\n";
     assert!(rt; dumps(rt.alloc(), &ctf, text));
     Ok(())

@@ -11,6 +11,8 @@ mod dumped_files;
 #[cfg(test)]
 mod dumps;
 #[cfg(test)]
+mod imports;
+#[cfg(test)]
 mod inputs;
 #[cfg(test)]
 mod layouts;

@@ -10,7 +10,7 @@ use std::test::Fail;
 fn a_child_shares_its_parents_layout(rt: HostRuntime) -> Result<(), Fail> {
     let parent = of_bytes(rt.alloc(), PAIR, DataModel::Lp64)?;
     let child = of_bytes(rt.alloc(), CHILD, DataModel::Lp64)?;
-    let Ok(space) = Space::over(child.view(), parent.view(), DataModel::Lp64) else {
+    let Ok(space) = Space::over(child.view(), child.model(), parent.view(), parent.model()) else {
         panic!(rt; "the parent has a layout, and no parent of its own")
     };
     let layout = Layout::build(rt.alloc(), &space)?;

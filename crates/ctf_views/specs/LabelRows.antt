@@ -1,4 +1,5 @@
--- The label that eight bytes are, if its name is there. The word is ours, over the reading in Dictionary.antt of ctf_model.
+-- The label that eight bytes are, if its name is there. The word is ours,
+-- over the reading in Dictionary.antt of ctf_model.
 use Rattle.std.specs.Prelude.{ℕ, List, Option}
 use Rattle.std.specs.Option.{option_map}
 use Rattle.ctf_model.specs.Bytes.{u32_at}

@@ -1,4 +1,5 @@
--- Lists of items that stand one after the other in bytes. The words are ours, over the reading in Spelling.antt of ctf_model.
+-- Lists of items that stand one after the other in bytes. The words are ours,
+-- over the reading in Spelling.antt of ctf_model.
 use Rattle.std.specs.Prelude.{◌≤◌, ◌*◌, ℕ, List, [], length, Option, unwrap_or, IsSome}
 use Rattle.ctf_model.specs.Spelling.{items}
 

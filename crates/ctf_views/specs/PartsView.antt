@@ -20,4 +20,9 @@ array_in rest = record { contents = u16_at rest 0; index = u16_at rest 2; count 
 
 -- the parts of an integer or a float in the word behind its head
 abbrev pub encoding_in : List ℕ → EncodingParts
-encoding_in rest = record { encoding = u32_at rest 0 / 2 ^ 24; offset = u32_at rest 0 / 2 ^ 16 % 256; bits = u32_at rest 0 % 2 ^ 16 }
+encoding_in rest =
+    record {
+      encoding = u32_at rest 0 / 2 ^ 24;
+      offset = u32_at rest 0 / 2 ^ 16 % 256;
+      bits = u32_at rest 0 % 2 ^ 16;
+    }

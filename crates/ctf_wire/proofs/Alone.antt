@@ -2,18 +2,18 @@
 use Rattle.std.proofs.Common.{◌≡◌, ◌≢◌, ℕ, List, [], ◌∷◌, length, Bool, true, false, Ok, Err, Result, eqb, leb, refl, ◌∙◌, ap, sym, subst, arith, ◌⊎◌, inl, inr}
 use Rattle.std.proofs.lemmas.Bool.{leb-false}
 use Rattle.std.proofs.lemmas.Bool.Decides.{nat_tests}
-use Rattle.ctf_model.specs.Ask.{ask}
-use Rattle.ctf_model.specs.Lines.{stored}
-use Rattle.ctf_model.specs.Output.{Mark, answered, refused, unread, line_out, calls_after, out, calls_made}
-use Rattle.ctf_model.specs.ReplyLines.{reply_line}
-use Rattle.ctf_model.specs.Runs.{Call, Steps, IsGranted, IsRefused, found_in, own_state, addressed}
-use Rattle.ctf_model.specs.State.{State}
-use Rattle.ctf_model.specs.Steps.{step, Outcome}
+use Rattle.ctf_protocol.specs.Ask.{ask}
+use Rattle.ctf_protocol.specs.Lines.{stored}
+use Rattle.ctf_protocol.specs.Output.{Mark, answered, refused, unread, line_out, calls_after, out, calls_made}
+use Rattle.ctf_protocol.specs.ReplyLines.{reply_line}
+use Rattle.ctf_protocol.specs.Runs.{Call, Steps, IsGranted, IsRefused, found_in, own_state, addressed}
+use Rattle.ctf_protocol.specs.State.{State}
+use Rattle.ctf_protocol.specs.Steps.{step, Outcome}
 use Rattle.ctf_model.specs.declared.faults.Fault.{Fault}
-use Rattle.ctf_model.specs.Answers.{Reply}
-use Rattle.ctf_model.specs.declared.requests.Request.{Request}
-use Rattle.ctf_model.proofs.Asking.{ask-long}
-use Rattle.ctf_model.proofs.SessionRuns.{found_same}
+use Rattle.ctf_protocol.specs.Answers.{Reply}
+use Rattle.ctf_protocol.specs.declared.requests.Request.{Request}
+use Rattle.ctf_protocol.proofs.Asking.{ask-long}
+use Rattle.ctf_protocol.proofs.SessionRuns.{found_same}
 use Rattle.ctf_wire.specs.Served.{Answers}
 use Rattle.ctf_wire.specs.Serving.{ask_stored, LineSteps, BrokerStep, ServesAlone}
 use Rattle.ctf_broker.specs.Table.{Libraries, library_at}

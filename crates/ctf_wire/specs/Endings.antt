@@ -1,7 +1,7 @@
 -- How a run over a source and a sink begins and ends. Source: ours.
 use Rattle.std.specs.Prelude.{◌≡◌, ℕ, ◌+◌, ◌<◌, ◌≤◌, ◌^◌, List, Bool, true, false, Result, Ok, Err, if◌then◌else◌}
 use Rattle.std.specs.Io.KnownBytes.{Consumes, IsAtEnd}
-use Rattle.ctf_model.specs.Lines.{all_lines, whole_lines}
+use Rattle.ctf_protocol.specs.Lines.{all_lines, whole_lines}
 use Rattle.ctf_wire.specs.Streams.{Pulled, Pushed}
 use Rattle.ctf_wire.specs.declared.run_faults.RunFault.{RunFault}
 use Rattle.ctf_wire.specs.declared.run_faults.RunFault.TheVariants as fault
@@ -23,7 +23,8 @@ abbrev pub lines_read : Bool → List ℕ → List (List ℕ)
 lines_read ended bs = if ended then all_lines bs else whole_lines bs
 
 -- all that there was is read, and each line is served
-pub record ReadsAll (Served : List (List ℕ) → Type 0) (old new : Pulled) (sink : Pushed) : Type 0 where
+pub record ReadsAll (Served : List (List ℕ) → Type 0) (old new : Pulled)
+    (sink : Pushed) : Type 0 where
   pub read : List ℕ
   pub consumed : Consumes old.remaining new.remaining read
   pub at_end : IsAtEnd new.remaining
@@ -33,7 +34,8 @@ pub record ReadsAll (Served : List (List ℕ) → Type 0) (old new : Pulled) (si
   pub well : sink.failed ≡ false
 
 -- the whole lines that were read are served, and a last piece is not; the reader failed or not
-pub record ReadsSome (Served : List (List ℕ) → Type 0) (failed : Bool) (old new : Pulled) (sink : Pushed) : Type 0 where
+pub record ReadsSome (Served : List (List ℕ) → Type 0) (failed : Bool) (old new : Pulled)
+    (sink : Pushed) : Type 0 where
   pub read : List ℕ
   pub consumed : Consumes old.remaining new.remaining read
   pub served : Served (whole_lines read)
@@ -42,17 +44,21 @@ pub record ReadsSome (Served : List (List ℕ) → Type 0) (failed : Bool) (old 
   pub well : sink.failed ≡ false
 
 -- the replies to the lines that were read broke off
-pub record Breaks (Broken : List (List ℕ) → Type 0) (old new : Pulled) (sink : Pushed) : Type 0 where
+pub record Breaks (Broken : List (List ℕ) → Type 0) (old new : Pulled)
+    (sink : Pushed) : Type 0 where
   pub read : List ℕ
   pub consumed : Consumes old.remaining new.remaining read
   pub broken : Broken (lines_read new.ended read)
   pub sound : new.failed ≡ false
   pub broke : sink.failed ≡ true
 
--- how a run of at most so many reads ends, where lines may be served or broken off; want of memory is told elsewhere
-abbrev pub EndsBy : (List (List ℕ) → Type 0) → (List (List ℕ) → Type 0) → ℕ → Pulled → Pulled → Pushed → Result (Unit {0}) RunFault → Type 0
+-- how a run of at most so many reads ends, where lines may be served or broken off;
+-- want of memory is told elsewhere
+abbrev pub EndsBy : (List (List ℕ) → Type 0) → (List (List ℕ) → Type 0) → ℕ → Pulled → Pulled
+    → Pushed → Result (Unit {0}) RunFault → Type 0
 EndsBy Served Broken reads old new sink (Ok done) = ReadsAll Served old new sink
 EndsBy Served Broken reads old new sink (Err fault.Read) = ReadsSome Served true old new sink
-EndsBy Served Broken reads old new sink (Err fault.ReadBound) = ReadsSome Served false old new sink × (new.pulls ≡ old.pulls + reads)
+EndsBy Served Broken reads old new sink (Err fault.ReadBound) =
+    ReadsSome Served false old new sink × (new.pulls ≡ old.pulls + reads)
 EndsBy Served Broken reads old new sink (Err fault.Write) = Breaks Broken old new sink
 EndsBy Served Broken reads old new sink (Err fault.Memory) = Unit {0}

@@ -2,16 +2,18 @@
 use Rattle.std.specs.Prelude.{◌≡◌, ℕ, List, [], ◌∷◌, ◌++◌, Bool, true, false, Option}
 use Rattle.std.specs.List.{concat}
 use Rattle.std.specs.Io.KnownBytes.{Appends}
-use Rattle.ctf_model.specs.Lines.{stored}
+use Rattle.ctf_protocol.specs.Lines.{stored}
 use Rattle.ctf_wire.specs.Flushes.{after_pieces}
 use Rattle.ctf_wire.specs.Streams.{Pushed}
 
 -- from old, these lines have these replies, one for each, and leave new
-abbrev pub Answers : {S : Type 0} → (S → Option (List ℕ) → List ℕ → S → Type 0) → S → List (List ℕ) → List (List ℕ) → S → Type 0
+abbrev pub Answers : {S : Type 0} → (S → Option (List ℕ) → List ℕ → S → Type 0) → S → List (List ℕ)
+    → List (List ℕ) → S → Type 0
 Answers {S} Step old [] [] new = new ≡ old
 Answers {S} Step old [] (reply ∷ replies) new = ⊥
 Answers {S} Step old (line ∷ lines) [] new = ⊥
-Answers {S} Step old (line ∷ lines) (reply ∷ replies) new = (mid : S) × Step old (stored line) reply mid × Answers Step mid lines replies new
+Answers {S} Step old (line ∷ lines) (reply ∷ replies) new =
+    (mid : S) × Step old (stored line) reply mid × Answers Step mid lines replies new
 
 -- a list begins with these
 abbrev pub BeginsWith : {X : Type 0} → List X → List X → Type 0
@@ -23,8 +25,10 @@ pub record Sent (before : Pushed) (replies : List (List ℕ)) (after : Pushed) :
   pub flushed : after.flushes ≡ after_pieces before.flushes replies []
   pub well : after.failed ≡ before.failed
 
--- these replies were pushed, each flushed by itself, and then a front of one more, and the sink failed
-pub record SentFront (before : Pushed) (replies : List (List ℕ)) (last : List ℕ) (after : Pushed) : Type 0 where
+-- these replies were pushed, each flushed by itself, and then a front of one more,
+-- and the sink failed
+pub record SentFront (before : Pushed) (replies : List (List ℕ)) (last : List ℕ)
+    (after : Pushed) : Type 0 where
   pub front : List ℕ
   pub begins : BeginsWith last front
   pub written : Appends before.contents after.contents (concat replies ++ front)
@@ -37,13 +41,15 @@ Sends before reply true after = Sent before (reply ∷ []) after
 Sends before reply false after = SentFront before [] reply after
 
 -- these lines have their replies, and the replies are sent
-pub record Serves {S : Type 0} (Step : S → Option (List ℕ) → List ℕ → S → Type 0) (old : S) (lines : List (List ℕ)) (new : S) (before after : Pushed) : Type 0 where
+pub record Serves {S : Type 0} (Step : S → Option (List ℕ) → List ℕ → S → Type 0) (old : S)
+    (lines : List (List ℕ)) (new : S) (before after : Pushed) : Type 0 where
   pub replies : List (List ℕ)
   pub answers : Answers Step old lines replies new
   pub sent : Sent before replies after
 
 -- of the replies to the first of these lines all but the last are sent, and of the last a front
-pub record BrokenOff {S : Type 0} (Step : S → Option (List ℕ) → List ℕ → S → Type 0) (old : S) (lines : List (List ℕ)) (new : S) (before after : Pushed) : Type 0 where
+pub record BrokenOff {S : Type 0} (Step : S → Option (List ℕ) → List ℕ → S → Type 0) (old : S)
+    (lines : List (List ℕ)) (new : S) (before after : Pushed) : Type 0 where
   pub answered : List (List ℕ)
   pub first : BeginsWith lines answered
   pub replies : List (List ℕ)

@@ -1,15 +1,15 @@
 -- What serving the lines of all sessions does to a broker and a sink. Source: ours.
 use Rattle.std.specs.Prelude.{◌≡◌, ◌≢◌, ℕ, List, [], ◌∷◌, ◌++◌, Option, None, Some, Result, Ok, Err, ◌⊎◌}
-use Rattle.ctf_model.specs.Ask.{ask}
-use Rattle.ctf_model.specs.Output.{Mark, out, calls_made}
+use Rattle.ctf_protocol.specs.Ask.{ask}
+use Rattle.ctf_protocol.specs.Output.{Mark, out, calls_made}
 use Rattle.ctf_model.specs.Refusals.{placeless}
-use Rattle.ctf_model.specs.ReplyLines.{fault_line, reply_line}
-use Rattle.ctf_model.specs.Runs.{Steps, no_memory, own_state}
-use Rattle.ctf_model.specs.State.{State}
+use Rattle.ctf_protocol.specs.ReplyLines.{fault_line, reply_line}
+use Rattle.ctf_protocol.specs.Runs.{Steps, no_memory, own_state}
+use Rattle.ctf_protocol.specs.State.{State}
 use Rattle.ctf_model.specs.declared.faults.Fault.{Fault}
 use Rattle.ctf_model.specs.declared.faults.TheConstants.Fault.{LONG_LINE}
-use Rattle.ctf_model.specs.Answers.{Reply}
-use Rattle.ctf_model.specs.declared.requests.Request.{Request}
+use Rattle.ctf_protocol.specs.Answers.{Reply}
+use Rattle.ctf_protocol.specs.declared.requests.Request.{Request}
 use Rattle.ctf_wire.specs.Endings.{EndsBy}
 use Rattle.ctf_wire.specs.Served.{Answers, BeginsWith, Sent, SentFront}
 use Rattle.ctf_wire.specs.Streams.{Pulled, Pushed}
@@ -28,34 +28,47 @@ AllStay old new = (s : ℕ) → new s ≡ old s
 -- a line was answered: its refusal, or the reply to its request's step
 abbrev pub Said : (ℕ → State) → Result (ℕ × Request) (ℕ × Fault) → List ℕ → (ℕ → State) → Type 0
 Said old (Err refusal) written new = (written ≡ fault_line refusal.0 refusal.1) × AllStay old new
-Said old (Ok said) written new = (reply : Reply) × (written ≡ reply_line reply) × Steps old said.0 said.1 reply new
+Said old (Ok said) written new =
+    (reply : Reply) × (written ≡ reply_line reply) × Steps old said.0 said.1 reply new
 
--- one line among the libraries of all sessions: memory was refused to reading it, or it was answered
-abbrev pub LineSteps : (ℕ → State) → Result (ℕ × Request) (ℕ × Fault) → List ℕ → (ℕ → State) → Type 0
-LineSteps old said written new = ((written ≡ reply_line (no_memory 0)) × AllStay old new) ⊎ Said old said written new
+-- one line among the libraries of all sessions: memory was refused to reading it,
+-- or it was answered
+abbrev pub LineSteps : (ℕ → State) → Result (ℕ × Request) (ℕ × Fault) → List ℕ
+    → (ℕ → State) → Type 0
+LineSteps old said written new =
+    ((written ≡ reply_line (no_memory 0)) × AllStay old new) ⊎ Said old said written new
 
 -- one line at a broker
 abbrev pub BrokerStep : Libraries → Option (List ℕ) → List ℕ → Libraries → Type 0
-BrokerStep old line written new = LineSteps (library_at old) (ask_stored line) written (library_at new)
+BrokerStep old line written new =
+    LineSteps (library_at old) (ask_stored line) written (library_at new)
 
--- these lines are served: each has the reply that its session's own run gives, and each session's library is that of its own run
-pub record RunsAlone (old : Libraries) (lines replies : List (List ℕ)) (new : Libraries) : Type 0 where
+-- these lines are served: each has the reply that its session's own run gives,
+-- and each session's library is that of its own run
+pub record RunsAlone (old : Libraries) (lines replies : List (List ℕ))
+    (new : Libraries) : Type 0 where
   pub marks : List Mark
   pub replies_are : replies ≡ out (library_at old) [] lines marks
-  pub libraries_are : (s : ℕ) → library_at new s ≡ own_state (library_at old) (calls_made [] lines marks) s
+  pub libraries_are : (s : ℕ)
+      → library_at new s ≡ own_state (library_at old) (calls_made [] lines marks) s
 
 -- whatever a broker answers to lines is what each session's own run answers
 abbrev pub ServesAlone : Type 0
-ServesAlone = (old new : Libraries) (lines replies : List (List ℕ)) → Answers BrokerStep old lines replies new → RunsAlone old lines replies new
+ServesAlone =
+    (old new : Libraries) (lines replies : List (List ℕ)) → Answers BrokerStep old lines replies new
+    → RunsAlone old lines replies new
 
 -- these lines are served, and the replies are sent, each flushed by itself
-pub record WritesOut (old : Libraries) (lines : List (List ℕ)) (new : Libraries) (before after : Pushed) : Type 0 where
+pub record WritesOut (old : Libraries) (lines : List (List ℕ)) (new : Libraries)
+    (before after : Pushed) : Type 0 where
   pub replies : List (List ℕ)
   pub runs : RunsAlone old lines replies new
   pub sent : Sent before replies after
 
--- the first of these lines are served; the replies to all of them but the last are sent, and of the last reply a front
-pub record BreaksOff (old : Libraries) (lines : List (List ℕ)) (new : Libraries) (before after : Pushed) : Type 0 where
+-- the first of these lines are served; the replies to all of them but the last are sent,
+-- and of the last reply a front
+pub record BreaksOff (old : Libraries) (lines : List (List ℕ)) (new : Libraries)
+    (before after : Pushed) : Type 0 where
   pub answered : List (List ℕ)
   pub first : BeginsWith lines answered
   pub replies : List (List ℕ)
@@ -63,7 +76,11 @@ pub record BreaksOff (old : Libraries) (lines : List (List ℕ)) (new : Librarie
   pub runs : RunsAlone old answered (replies ++ last ∷ []) new
   pub sent : SentFront before replies last after
 
--- what a run of at most so many reads does to the libraries of all sessions, to its source and to its sink
-abbrev pub ServesTo : ℕ → Libraries → Libraries → Pulled → Pulled → Pushed → Pushed → Result (Unit {0}) RunFault → Type 0
+-- what a run of at most so many reads does to the libraries of all sessions,
+-- to its source and to its sink
+abbrev pub ServesTo : ℕ → Libraries → Libraries → Pulled → Pulled → Pushed → Pushed
+    → Result (Unit {0}) RunFault → Type 0
 ServesTo reads old new source_old source_new sink_old sink_new result =
-    EndsBy (λ lines. WritesOut old lines new sink_old sink_new) (λ lines. BreaksOff old lines new sink_old sink_new) reads source_old source_new sink_new result
+    EndsBy (λ lines. WritesOut old lines new sink_old sink_new)
+    (λ lines. BreaksOff old lines new sink_old sink_new)
+    reads source_old source_new sink_new result

@@ -5,7 +5,8 @@ use Rattle.ctf_wire.specs.Flushes.{Flushes, after_push, after_flush}
 
 -- ---- sources
 
--- the bytes that are still to come, where they are known, how many pulls were made, and whether one of them met the end or failed
+-- the bytes that are still to come, where they are known, how many pulls were made,
+-- and whether one of them met the end or failed
 pub record Pulled : Type 0 where
   pub remaining : Option (List ℕ)
   pub pulls : ℕ
@@ -19,7 +20,8 @@ meets_end (Some n) = n == 0
 
 -- one pull: it moved some bytes to the front of the buffer, none only at the end, or it failed
 pub record Pulls (old : Pulled) (result : Option ℕ) (buffer : List ℕ) (new : Pulled) : Type 0 where
-  pub bytes : MatchOption result (Keeps old.remaining new.remaining) (λ n. Consumes old.remaining new.remaining (take n buffer))
+  pub bytes : MatchOption result (Keeps old.remaining new.remaining)
+      (λ n. Consumes old.remaining new.remaining (take n buffer))
   pub at_end : IfSome result (λ n. n ≡ 0 → IsAtEnd new.remaining)
   pub counted : new.pulls ≡ old.pulls + 1
   pub ended : new.ended ≡ (meets_end result || old.ended)
@@ -27,7 +29,8 @@ pub record Pulls (old : Pulled) (result : Option ℕ) (buffer : List ℕ) (new :
 
 -- ---- sinks
 
--- the bytes that were taken, where they are known, what flushes passed on, where that is known, and whether a push or a flush failed
+-- the bytes that were taken, where they are known, what flushes passed on, where that is known,
+-- and whether a push or a flush failed
 pub record Pushed : Type 0 where
   pub contents : Option (List ℕ)
   pub flushes : Option Flushes
@@ -35,7 +38,8 @@ pub record Pushed : Type 0 where
 
 -- one push: it took some bytes from the front, or it failed
 pub record Pushes (old : Pushed) (result : Option ℕ) (bytes : List ℕ) (new : Pushed) : Type 0 where
-  pub taken : MatchOption result (Keeps old.contents new.contents) (λ n. Appends old.contents new.contents (take n bytes))
+  pub taken : MatchOption result (Keeps old.contents new.contents)
+      (λ n. Appends old.contents new.contents (take n bytes))
   pub waits : new.flushes ≡ after_push result bytes old.flushes
   pub failed : new.failed ≡ (is_none result || old.failed)
 

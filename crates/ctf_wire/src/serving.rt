@@ -1,8 +1,8 @@
 //! Serves the lines of all sessions.
 ghost use Rattle.std.specs.Prelude.{◌≡◌, ◌≢◌, ◌⊎◌, ◌^◌, Err};
-ghost use Rattle.ctf_model.specs.Answers.{Reply as SaidReply};
-ghost use Rattle.ctf_model.specs.ReplyLines.{reply_line};
-ghost use Rattle.ctf_model.specs.Runs.{Steps, no_memory};
+ghost use Rattle.ctf_protocol.specs.Answers.{Reply as SaidReply};
+ghost use Rattle.ctf_protocol.specs.ReplyLines.{reply_line};
+ghost use Rattle.ctf_protocol.specs.Runs.{Steps, no_memory};
 ghost use Rattle.ctf_answers.specs.Replies.{reply_of, said_to};
 ghost use Rattle.ctf_wire.specs.Endings.{IsReady, PullsAtMost};
 ghost use Rattle.ctf_wire.specs.Room.{HasShortRoom, Replies};
@@ -17,7 +17,8 @@ use crate::sources::Source;
 use ctf_answers::{Counts, Reply};
 use ctf_broker::Broker;
 use ctf_lines::{FromLine, ToLine, write_change};
-use ctf_model::{Fault, Request, placeless};
+use ctf_model::{Fault, placeless};
+use ctf_protocol::Request;
 use std::alloc::Global;
 
 /// Appends the line of a short reply.

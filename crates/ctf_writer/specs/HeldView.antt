@@ -12,7 +12,16 @@ use Rattle.ctf_writer.specs.declared.lent.Held.{Held}
 
 -- the dictionary that is written
 abbrev pub dictionary_of : Held → Dictionary
-dictionary_of h = record { child = h.child; parname = h.parname.now; parlabel = h.parlabel.now; labels = h.labels.now; terms = map type_of h.types.now; symbols = []; entries = [] }
+dictionary_of h =
+    record {
+      child = h.child;
+      parname = h.parname.now;
+      parlabel = h.parlabel.now;
+      labels = h.labels.now;
+      terms = map type_of h.types.now;
+      symbols = [];
+      entries = [];
+    }
 
 -- the names of a type
 abbrev pub uses : DraftType → List (List ℕ)

@@ -23,4 +23,7 @@ AreOffsets entries = map (λ e. e.1) entries ≡ offsets_from 1 (names_in entrie
 
 -- the names, and one more behind them, if it isn't empty and not there yet
 abbrev pub with_name : List (List ℕ) → List ℕ → List (List ℕ)
-with_name names name = if is_empty name then names else if list_any (bytes_eq name) names then names else names ++ name ∷ []
+with_name names name =
+    if is_empty name then names
+    else if list_any (bytes_eq name) names then names
+    else names ++ name ∷ []

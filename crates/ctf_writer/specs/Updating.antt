@@ -1,15 +1,18 @@
--- What written bytes stand for, and what an update of a draft makes. Source: libctf(3LIB), ctf_update.
+-- What written bytes stand for, and what an update of a draft makes.
+-- Source: libctf(3LIB), ctf_update.
 use Rattle.std.specs.Prelude.{◌≡◌, ℕ, List, Ok, None}
 use Rattle.std.specs.Option.{ForSome}
 use Rattle.ctf_model.specs.Dictionary.{Denotes, said_by}
 use Rattle.ctf_model.specs.Drafts.{Draft, held, settled}
-use Rattle.ctf_model.specs.Space.{Kept, import_fault}
+use Rattle.ctf_model.specs.Imports.{import_fault, of_one_model}
+use Rattle.ctf_model.specs.Kept.{Kept}
 use Rattle.ctf_model.specs.Written.{lists_of, written}
 
 -- the bytes denote what the draft holds, and can be imported over its parent
 pub record StandsFor (d : Draft) (bytes : List ℕ) : Type 0 where
   pub denotes : Denotes (lists_of bytes) (held d)
-  pub under : ForSome d.parent (λ parent. import_fault (record { child = said_by (lists_of bytes); parent = parent }) ≡ None)
+  pub under : ForSome d.parent (λ parent.
+      import_fault (of_one_model d.model (said_by (lists_of bytes)) parent) ≡ None)
 
 -- the dictionary is what is written of the draft, and nothing else
 pub record IsMadeOf (d : Draft) (made : Kept) : Type 0 where

@@ -13,4 +13,6 @@ with_names names uses = fold with_name names uses
 
 -- memory was refused, or the strings of these names alone are longer than a dictionary may be
 abbrev pub IsRefused : List (List ℕ) → Fault → Type 0
-IsRefused names f = (f ≡ want_of_memory) ⊎ ((f ≡ placeless DICT_TOO_BIG) × (most_written < length (string_bytes names)))
+IsRefused names f =
+    (f ≡ want_of_memory)
+    ⊎ ((f ≡ placeless DICT_TOO_BIG) × (most_written < length (string_bytes names)))

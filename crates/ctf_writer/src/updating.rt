@@ -16,7 +16,8 @@ use std::rc::Rc;
 /// The dictionary that bytes without a fault are.
 fn opened(alloc: Global, bytes: Vec<u8>, model: DataModel) -> Result<Rc<Opened>, Fault>
     requires faultless { first_fault (lists_of bytes.items) ≡ None }
-    ensures ok { IfOk result (λ d. d.value ≡ record { lists = lists_of bytes.items; model = model }) }
+    ensures ok { IfOk result
+        (λ d. d.value ≡ record { lists = lists_of bytes.items; model = model }) }
     ensures err { IfErr result (λ f. f ≡ want_of_memory) }
 {
     let parts = Parts {

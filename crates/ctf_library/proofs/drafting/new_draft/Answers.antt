@@ -11,4 +11,4 @@ new-requires c =
 
 pub returns-clause-under : goal.returns-clause-under
 returns-clause-under c =
-    IfOk-weaker c.new.result _ _ (λ d h. made_under _ c.in-Ok-opened.parent _ _ _ d.draft c.in-Ok-opened.ensures h.0) c.new.ensures.ok
+    IfOk-weaker c.new.result _ _ (λ d h. made_under _ c.in-Ok-opened.parent _ _ _ _ d.draft c.in-Ok-opened.ensures h.0) c.new.ensures.ok

@@ -1,8 +1,8 @@
 use Rattle.std.specs.Prelude.{option_map}
 use Rattle.ctf_draft.specs.declared.draft.Draft.{Draft}
 use Rattle.std.proofs.Common.{◌≡◌, List, map, Some, None, Option, IfSome, ap, sym, subst, ◌∙◌, arith}
-use Rattle.ctf_model.specs.State.{Slot}
-use Rattle.ctf_model.specs.Steps.{fault_over}
+use Rattle.ctf_protocol.specs.State.{Slot}
+use Rattle.ctf_model.specs.Kept.{fault_over}
 use Rattle.ctf_library.specs.Fitting.{AreTablesOf}
 use Rattle.ctf_library.specs.SlotPlaces.{place_of}
 use Rattle.ctf_library.specs.SlotView.{slot_of}
@@ -25,8 +25,8 @@ pub invariant_of-slot : goal.invariant_of-slot
 invariant_of-slot c =
     let placed = ap (λ (xs : List own.Slot). place_of c.args.number (map slot_of xs)) (sym c.deref.ensures.value) ∙ sym c.in-Some.ensures in
     let here = (is_place c.args.number c.args.slots.now.items c.in-Some.place placed).found c.index_mut-slot.result.now ∙ ap (λ (s : own.Slot). Some (slot_of s)) (sym c.index_mut-slot.ensures.value) in
-    let P : Option Slot → Type 0 = λ o. IfSome o (λ slot. fault_over slot.lists c.args.imported.parent ≡ None) in
-    let L : Option Slot → Type 0 = λ o. IfSome o (λ slot. AreTablesOf slot.lists (Some c.args.imported.parent) c.args.imported.tables) in
+    let P : Option Slot → Type 0 = λ o. IfSome o (λ slot. fault_over slot.kept c.args.imported.parent ≡ None) in
+    let L : Option Slot → Type 0 = λ o. IfSome o (λ slot. AreTablesOf slot.kept (Some c.args.imported.parent) c.args.imported.tables) in
     let D : Option Slot → Type 0 = λ o. IfSome o (λ slot. slot.draft ≡ None) in
     let fits = subst P here c.requires.fits in
     let undrafted = subst D here c.requires.undrafted in

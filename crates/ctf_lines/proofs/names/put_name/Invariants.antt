@@ -1,10 +1,6 @@
-use Rattle.std.proofs.Common.{◌≡◌, ◌++◌, ◌+◌, length, take, vec_capacity, vec_len}
-use Rattle.ctf_model.specs.Text.{text_of}
+use Rattle.std.proofs.Common.{take}
+use Rattle.ctf_protocol.specs.Text.{text_of}
 use Rattle.ctf_lines.proofs.names.put_name.Given as goal
 
 abbrev pub invariant-loop-byte : goal.invariant-loop-byte
-invariant-loop-byte l = record {
-  added : l.out.items ≡ l.fn.out.items ++ text_of (take l.byte-index l.name);
-  len : vec_len l.out ≡ vec_len l.fn.out + length (text_of (take l.byte-index l.name));
-  capacity : vec_capacity l.out ≡ vec_capacity l.fn.out;
-}
+invariant-loop-byte g l = g.P.Paper.Took l.fn.paper (text_of (take l.byte-index l.name)) l.paper

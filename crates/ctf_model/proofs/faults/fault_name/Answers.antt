@@ -3,4 +3,4 @@ use Rattle.ctf_model.proofs.Nameless.{nameless}
 use Rattle.ctf_model.proofs.faults.fault_name.Goals as goal
 
 pub returns-in_default : goal.returns-in_default
-returns-in_default c = nameless c.args.code (omega arith) (omega arith)
+returns-in_default c = nameless c.args.code (omega arith)

@@ -8,4 +8,4 @@ use Rattle.ctf_model.proofs.rows.drafts_live.Goals as goal
 
 pub returns : goal.returns
 unfolding add_type add_member add_enumerator add_label edges within after new_draft comes_to most_numbers
-returns c = record { created = refl; zero_in_parname = refl; zero_in_parlabel = refl; parent_is_child = refl; nothing_held = refl; first = refl; pending = refl; none_pending = refl; discards_pending = refl; number_again = refl; settles_once = refl; discards_labels = refl }
+returns c = record { created = refl; zero_in_parname = refl; zero_in_parlabel = refl; parent_is_child = refl; model_differs = refl; under_short = refl; nothing_held = refl; first = refl; pending = refl; none_pending = refl; discards_pending = refl; number_again = refl; settles_once = refl; discards_labels = refl }

@@ -1,14 +1,14 @@
 use Rattle.std.proofs.Common.{ap, sym, ◌∙◌}
 use Rattle.std.specs.Prelude.{is_some, option_and_then, option_map}
 use Rattle.std.proofs.lemmas.Result.{IfOk-weaker}
-use Rattle.ctf_model.specs.State.{Slot, State}
-use Rattle.ctf_model.specs.Steps.{slot_at}
+use Rattle.ctf_protocol.specs.State.{Slot, State}
+use Rattle.ctf_protocol.specs.Steps.{slot_at}
 use Rattle.ctf_library.proofs.Creating.{creates_done, map_there}
 use Rattle.ctf_library.proofs.library.Library.created.Goals as goal
 
 pub returns-clause-ok : goal.returns-clause-ok
 returns-clause-ok c =
-    let is = c.in-Ok.ensures.ok ∙ ap (option_and_then (λ d. option_map (λ (s : Slot). s.lists) (slot_at d c.args.self.now.slots))) c.parent.ensures.parent in
+    let is = c.in-Ok.ensures.ok ∙ ap (option_and_then (λ d. option_map (λ (s : Slot). s.kept) (slot_at d c.args.self.now.slots))) c.parent.ensures.parent in
     let there = map_there _ c.in-Ok.parent ∙ c.in-Ok.ensures.there ∙ ap is_some c.parent.ensures.parent in
     let room = sym c.has_room.ensures ∙ c.if-not-has_room.false in
     let next = ap (λ (s : State). s.next) c.self.view_is in

@@ -1,6 +1,6 @@
 use Rattle.std.proofs.Common.{◌∙◌, sym}
 use Rattle.std.proofs.lemmas.Bool.{false≢true}
-use Rattle.ctf_model.proofs.Asking.{ask-long, ask-text, ask-not_text}
+use Rattle.ctf_protocol.proofs.Asking.{ask-long, ask-text, ask-not_text}
 use Rattle.ctf_lines.proofs.reading.RequestFromLine.read.Goals as goal
 
 pub returns-then-line-gt-LONGEST_LINE-clause-refused : goal.returns-then-line-gt-LONGEST_LINE-clause-refused

@@ -1,0 +1,21 @@
+use Rattle.std.proofs.Common.{◌≡◌, Some, None, ap, subst, sym, ◌∙◌}
+use Rattle.ctf_check.specs.CheckedView.{dictionary_of, lists_of}
+use Rattle.ctf_library.proofs.Importing.{parents_fit, same_models}
+use Rattle.ctf_model.specs.Dictionary.{said_by}
+use Rattle.ctf_model.specs.Kept.{fault_over}
+use Rattle.ctf_model.specs.Lists.{Lists}
+use Rattle.ctf_model.specs.Space as spaces
+use Rattle.ctf_names.specs.Fitting as names
+use Rattle.ctf_space.specs.SpaceView.{parent_lists, space_of}
+use Rattle.ctf_library.proofs.tables.tables_over.Goals as goal
+
+pub over-requires-in-Ok : goal.over-requires-in-Ok
+over-requires-in-Ok c =
+    let fault : fault_over c.args.child.now c.args.parent.now ≡ None = rw (← c.view.ensures, ← c.model.ensures, ← c.view-2.ensures, ← c.model-2.ensures) c.in-Ok.ensures.exact_ok in
+    let alike = same_models c.args.child.now c.args.parent.now fault in
+    let model = ap (λ (s : spaces.Space). s.model) c.in-Ok.ensures.ok ∙ c.model.ensures ∙ sym alike in
+    let above : (space_of c.in-Ok.space).parent ≡ Some (dictionary_of c.view-2.result) = ap (λ (s : spaces.Space). s.parent) c.in-Ok.ensures.ok in
+    let listed : parent_lists c.in-Ok.space ≡ Some (lists_of c.view-2.result) = c.in-Ok.ensures.parent in (
+      λ x e. let is : dictionary_of c.view-2.result ≡ x = cc in parents_fit (space_of c.in-Ok.space) c.args.parent.now x c.tables.result.now.layout model (ap said_by (sym c.view-2.ensures) ∙ is) c.tables.ensures.layout,
+      λ x e. let is : lists_of c.view-2.result ≡ x = cc in subst (λ (l : Lists). names.Fits l None c.tables.result.now.index) (sym c.view-2.ensures ∙ is) c.tables.ensures.index,
+    )

@@ -1,0 +1,65 @@
+//! How long texts are.
+ghost use Rattle.std.specs.Prelude.{◌≡◌, ◌+◌, ◌≤◌, min};
+
+use crate::papers::Paper;
+use crate::texts::TOO_LONG;
+
+/// How long the texts are that were put on, as far as the line of a reply may go.
+#[derive(Drop)]
+pub struct Measure {
+    len: usize,
+    ghost inside: { len ≤ 4194306 },
+}
+
+/// A length and more bytes.
+fn plus(len: usize, more: usize) -> usize
+    ensures { result ≡ min (len + more) TOO_LONG }
+{
+    if len < TOO_LONG && more < TOO_LONG - len {
+        len + more
+    } else {
+        TOO_LONG
+    }
+}
+
+impl Measure {
+    pub fn new() -> Measure
+        ensures { result.len ≡ 0 }
+    {
+        Measure { len: 0 }
+    }
+
+    pub fn len(&self) -> usize
+        ensures { result ≡ self.now.len }
+    {
+        self.len
+    }
+}
+
+impl Paper for Measure {
+    ghost use Rattle.ctf_lines.specs.Appending.{and_text};
+    ghost use Rattle.ctf_lines.specs.Putting.{none_measured, both_measured};
+
+    ghost Took = { λ old text new. new.len ≡ and_text old.len text };
+
+    fn is_full(&self) -> bool {
+        self.len == TOO_LONG
+    }
+
+    fn put(&mut self, text: &[u8]) {
+        *self = Measure {
+            len: plus(self.len, text.len()),
+        };
+    }
+
+    #[tactic(auto, using(crate::proofs::HexText::hex_of_twice))]
+    fn put_hex(&mut self, bytes: &[u8]) {
+        *self = Measure {
+            len: plus(plus(self.len, bytes.len()), bytes.len()),
+        };
+    }
+
+    ghost nothing = { λ paper. none_measured paper.len paper.inside };
+
+    ghost joined = { λ old mid new a b. both_measured old.len mid.len new.len a b };
+}

@@ -1,0 +1,28 @@
+//! What texts are put on: the end of a line, or a measure of how long they are.
+ghost use Rattle.std.specs.Prelude.{◌≡◌, ◌++◌, [], true, ℕ, List};
+ghost use Rattle.ctf_protocol.specs.Text.{hex_of};
+
+/// What texts are put on, one behind the other.
+pub trait Paper {
+    /// A text that was put on the first may have left the second.
+    ghost Took: { Self → List ℕ → Self → Type 0 };
+
+    /// Whether it stays as it is, whatever is put on.
+    fn is_full(&self) -> bool
+        ensures { result ≡ true → (text : List ℕ) → Took self.now text self.now };
+
+    /// Puts a text on.
+    fn put(&mut self, text: &[u8])
+        ensures { Took self.old text.now self.new };
+
+    /// Puts on the digits of bytes, two for each.
+    fn put_hex(&mut self, bytes: &[u8])
+        ensures { Took self.old (hex_of bytes.now) self.new };
+
+    /// A text of no bytes leaves it as it is.
+    ghost nothing: { (paper : Self) → Took paper [] paper };
+
+    /// Two texts, one behind the other, are one.
+    ghost joined: { (old mid new : Self) → (a b : List ℕ)
+        → Took old a mid → Took mid b new → Took old (a ++ b) new };
+}

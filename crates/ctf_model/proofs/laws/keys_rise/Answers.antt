@@ -1,5 +1,0 @@
-use Rattle.ctf_model.proofs.KeyOrder as order
-use Rattle.ctf_model.proofs.laws.keys_rise.Goals as goal
-
-pub returns : goal.returns
-returns c = order.keys_rise

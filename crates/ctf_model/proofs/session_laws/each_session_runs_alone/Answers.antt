@@ -1,5 +1,0 @@
-use Rattle.ctf_model.proofs.SessionRuns.{each_alone}
-use Rattle.ctf_model.proofs.session_laws.each_session_runs_alone.Goals as goal
-
-pub returns : goal.returns
-returns c = each_alone

@@ -1,5 +1,0 @@
-use Rattle.ctf_model.proofs.SessionRuns.{same_given}
-use Rattle.ctf_model.proofs.session_laws.same_given_same_replies.Goals as goal
-
-pub returns : goal.returns
-returns c = same_given

@@ -1,5 +1,0 @@
-use Rattle.ctf_model.proofs.SessionRuns.{unreached}
-use Rattle.ctf_model.proofs.session_laws.unreached_sessions_do_not_matter.Goals as goal
-
-pub returns : goal.returns
-returns c = unreached

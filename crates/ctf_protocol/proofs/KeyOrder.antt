@@ -1,0 +1,268 @@
+-- The keys of each answer stand in byte order.
+use Rattle.std.proofs.Common.{◌≡◌, ℕ, Bool, true, false, List, [], ◌∷◌, ◌++◌, map, take, drop, Option, None, Some, Result, Ok, Err, codes, refl, sym, ap, ◌∙◌}
+use Rattle.std.specs.Prelude.{◌&&◌, is_some, nat_lt, length, option_and_then}
+use Rattle.std.specs.List.{list_all}
+use Rattle.std.specs.Option.{option_map}
+use Rattle.std.specs.Cmp.Derive.{both_true}
+use Rattle.std.proofs.lemmas.List.{take-append-drop}
+use Rattle.std.proofs.lemmas.List.Folds.{list_all-append}
+use Rattle.ctf_model.specs.Adders.{Added}
+use Rattle.ctf_protocol.specs.Additions.{enlarged, numbered, silent}
+use Rattle.ctf_protocol.specs.Creations.{Created}
+use Rattle.ctf_protocol.specs.DraftSteps.{created_slot, draft_step, enlarges, slot_step, step_if_draft, updates_to}
+use Rattle.ctf_model.specs.Drafts.{Draft, held}
+use Rattle.ctf_protocol.specs.HeldAnswers.{pending_in}
+use Rattle.ctf_model.specs.Written.{written}
+use Rattle.ctf_protocol.specs.declared.additions.Addition.{Addition}
+use Rattle.ctf_protocol.specs.declared.additions.Addition.TheVariants as add
+use Rattle.ctf_protocol.specs.Answers.{Answer, Item, Single, number, truth, word, text, says, may_say}
+use Rattle.ctf_model.specs.Faults.{first_fault}
+use Rattle.ctf_model.specs.Found.{found, pointer_to}
+use Rattle.ctf_model.specs.KindNames.{name_of_kind}
+use Rattle.ctf_model.specs.Figures.{align, referred, resolved, size}
+use Rattle.ctf_protocol.specs.KeyOrder.{item_in_order, in_order, IsInOrder, KeysRise}
+use Rattle.ctf_model.specs.Lists.{Lists}
+use Rattle.ctf_model.specs.Kept.{Kept, fault_over}
+use Rattle.ctf_model.specs.Paths.{path}
+use Rattle.ctf_protocol.specs.Publications.{published_as}
+use Rattle.ctf_protocol.specs.Questions.{at_most, windowed, or_wrong_kind, as_fields, member_fields, member_item, enumerator_fields, enumerator_item, number_item, named_arguments, argument_fields, array_fields, encoding_fields, type_fields, size_fields, align_fields, name_fields, position_fields, value_fields, plain_said, said_on, said_of}
+use Rattle.ctf_protocol.specs.SlotAnswers.{symbol_fields, signature_fields, label_item, last_fields, whole_said}
+use Rattle.ctf_model.specs.SymbolQuestions.{symbol_found, object_of, function_of, label_of}
+use Rattle.ctf_model.specs.Shown.{Facts, facts, members_in, enumerators_in, arguments_in, array_in, encoding_in, list_length}
+use Rattle.ctf_protocol.specs.State.{State, Slot}
+use Rattle.ctf_protocol.specs.Steps.{change_step, with_slot, grants, slots_without, imports_unless, publishes_kept, publishes_slot, imports_into, takes, takes_found, adds_created, creates_over, creates_from, slot_becomes, stages, opens, opens_unless, has_room, accepts_unless, longest_list, slot_at, slot_space, said_by_slot}
+use Rattle.ctf_model.specs.Space.{Space, space_type}
+use Rattle.ctf_model.specs.Term.{Term}
+use Rattle.ctf_model.specs.TypeNames.{spelled_name}
+use Rattle.ctf_model.specs.Values.{value_text}
+use Rattle.ctf_model.specs.declared.faults.Fault.{Fault}
+use Rattle.ctf_protocol.specs.declared.questions.Question.TheVariants.{OfType, OfSlot, OfHeld}
+use Rattle.ctf_protocol.specs.declared.questions.HeldQuestion.TheVariants as holding
+use Rattle.ctf_protocol.specs.declared.questions.SlotQuestion.{SlotQuestion}
+use Rattle.ctf_protocol.specs.declared.questions.SlotQuestion.TheVariants as whole
+use Rattle.ctf_protocol.specs.declared.questions.PlainQuestion.{PlainQuestion}
+use Rattle.ctf_protocol.specs.declared.questions.PlainQuestion.TheVariants as plain
+use Rattle.ctf_protocol.specs.declared.questions.TypeQuestion.{TypeQuestion}
+use Rattle.ctf_protocol.specs.declared.questions.TypeQuestion.TheVariants as ask
+use Rattle.ctf_protocol.specs.declared.questions.Question.{Question}
+use Rattle.ctf_protocol.specs.declared.questions.Window.{Window}
+use Rattle.ctf_protocol.specs.declared.requests.ListName.{ListName}
+use Rattle.ctf_protocol.specs.declared.requests.Change.TheVariants as change
+use Rattle.ctf_protocol.specs.declared.requests.DraftStep.{DraftStep}
+use Rattle.ctf_protocol.specs.declared.requests.DraftStep.TheVariants as steps
+use Rattle.ctf_protocol.specs.declared.requests.Request.TheVariants.{Changes, Asks}
+
+-- ---- items
+
+parts_true : (a b : Bool) → (a && b) ≡ true → (a ≡ true) × (b ≡ true)
+parts_true true b h = (refl, h)
+parts_true false b h = absurd cc
+
+-- what holds of all items holds of the first, and of those behind them
+halves : (n : ℕ) (items : List Item) → list_all item_in_order items ≡ true → (list_all item_in_order (take n items) ≡ true) × (list_all item_in_order (drop n items) ≡ true)
+halves n items h = parts_true _ _ (sym (list_all-append item_in_order (take n items) (drop n items)) ∙ ap (list_all item_in_order) (take-append-drop n items) ∙ h)
+
+some_items : (count : Option ℕ) (items : List Item) → list_all item_in_order items ≡ true → list_all item_in_order (at_most count items) ≡ true
+some_items None items h = h
+some_items (Some n) items h = (halves n items h).0
+
+in_window : (window : Window) (items : List Item) → list_all item_in_order items ≡ true → list_all item_in_order (windowed window items) ≡ true
+in_window window items h = some_items window.count (drop window.from items) (halves window.from items h).1
+
+each : {A : Type 0} (item : A → Item) → ((a : A) → item_in_order (item a) ≡ true) → (xs : List A) → list_all item_in_order (map item xs) ≡ true
+each item one [] = refl
+each item one (x ∷ xs) = both_true (one x) (each item one xs)
+
+-- ---- questions on types
+
+-- an answer that is there or refused
+from : {A : Type 0} (say : A → Answer) → ((a : A) → in_order (say a) ≡ true) → (o : Option A) → IsInOrder (or_wrong_kind (option_map say o))
+from say good None = tt
+from say good (Some a) = good a
+
+figure : {A : Type 0} (say : A → Answer) → ((a : A) → in_order (say a) ≡ true) → (r : Result A Fault) → IsInOrder (as_fields say r)
+figure say good (Ok a) = good a
+figure say good (Err fault) = tt
+
+listed : (items : List Item) (rest : Bool) → list_all item_in_order items ≡ true → rest ≡ true → (list_all item_in_order items && rest) ≡ true
+listed items rest h r = both_true h r
+
+arguments_rise : (ret : ℕ) (args : List ℕ) → in_order (argument_fields ret args) ≡ true
+arguments_rise ret args = listed (map number_item (named_arguments args)) true (each number_item (λ n. refl) (named_arguments args)) refl
+
+function : (ret : Option ℕ) (args : Option (List ℕ)) → IsInOrder (or_wrong_kind (option_and_then (λ t. option_map (argument_fields t) args) ret))
+function None args = tt
+function (Some t) None = tt
+function (Some t) (Some args) = arguments_rise t args
+
+-- a head with each choice of size, tag and type
+head : (k n r v : Single) (size tag t : Option Single) → in_order (says (codes "kind") k ∷ says (codes "name") n ∷ says (codes "root") r ∷ (may_say (codes "size") size ++ (may_say (codes "tag") tag ++ (may_say (codes "type") t ++ says (codes "vlen") v ∷ [])))) ≡ true
+head k n r v None None None = refl
+head k n r v None None (Some t) = refl
+head k n r v None (Some tag) None = refl
+head k n r v None (Some tag) (Some t) = refl
+head k n r v (Some size) None None = refl
+head k n r v (Some size) None (Some t) = refl
+head k n r v (Some size) (Some tag) None = refl
+head k n r v (Some size) (Some tag) (Some t) = refl
+
+on_plain : (question : PlainQuestion) (s : Space) (t : ℕ) (x : Facts) → IsInOrder (plain_said question s t x)
+on_plain plain.Kind s t x = refl
+on_plain plain.Record s t x = head (word (name_of_kind x.shape.kind)) (text x.name) (truth x.root) (number (list_length x.shape.behind)) _ _ _
+on_plain plain.Args s t x = function x.shape.reference (arguments_in x.shape.behind)
+on_plain plain.Array s t x = from array_fields (λ a. refl) (array_in x.shape.behind)
+on_plain plain.Encoding s t x = from encoding_fields (λ a. refl) (encoding_in x.shape.behind)
+on_plain plain.Reference s t x = figure type_fields (λ n. refl) (referred x.shape)
+on_plain plain.Resolve s t x = figure type_fields (λ n. refl) (resolved s t)
+on_plain plain.Size s t x = figure size_fields (λ n. refl) (size s t)
+on_plain plain.Align s t x = figure align_fields (λ n. refl) (align s t)
+on_plain plain.Name s t x = figure name_fields (λ name. refl) (spelled_name s t)
+on_plain plain.Pointer s t x = figure type_fields (λ n. refl) (pointer_to s t)
+
+on_type : (question : TypeQuestion) (s : Space) (t : ℕ) (x : Facts) → IsInOrder (said_on question s t x)
+on_type (ask.Plain question) s t x = on_plain question s t x
+on_type (ask.Members window) s t x = from (member_fields window) (λ ms. listed (windowed window (map member_item ms)) true (in_window window (map member_item ms) (each member_item (λ m. refl) ms)) refl) (members_in x.shape.behind)
+on_type (ask.Enumerators window) s t x = from (enumerator_fields window) (λ es. listed (windowed window (map enumerator_item es)) true (in_window window (map enumerator_item es) (each enumerator_item (λ e. refl) es)) refl) (enumerators_in x.shape.behind)
+on_type (ask.Path names) s t x = figure position_fields (λ at. refl) (path s t names)
+on_type (ask.Show memory offset) s t x = figure value_fields (λ shown. refl) (value_text s memory t offset)
+
+of_type : (question : TypeQuestion) (s : Space) (t : ℕ) (found : Result Term Fault) → IsInOrder (said_of question s t found)
+of_type question s t (Ok x) = on_type question s t (facts x)
+of_type question s t (Err fault) = tt
+
+on_whole : (question : SlotQuestion) (s : Space) → IsInOrder (whole_said question s)
+on_whole (whole.Find written) s = figure type_fields (λ n. refl) (found s written)
+on_whole (whole.Symbol name) s = figure symbol_fields (λ e. refl) (symbol_found s.own name)
+on_whole (whole.Object n) s = figure type_fields (λ t. refl) (object_of s.own n)
+on_whole (whole.Function n) s = figure signature_fields (λ f. arguments_rise f.ret f.args) (function_of s.own n)
+on_whole (whole.Labels window) s = listed (windowed window (map label_item s.own.labels)) true (in_window window (map label_item s.own.labels) (each label_item (λ x. refl) s.own.labels)) refl
+on_whole (whole.Label name) s = figure last_fields (λ n. refl) (label_of s.own name)
+
+of_slot : (question : Question) (slot : Option Slot) → IsInOrder (said_by_slot question slot)
+of_slot question None = tt
+of_slot (OfType t question) (Some slot) = of_type question (slot_space slot) t.0 (space_type (slot_space slot) t.0)
+of_slot (OfSlot question) (Some slot) = on_whole question (slot_space slot)
+of_slot (OfHeld holding.Info) (Some slot) = refl
+of_slot (OfHeld (holding.Bytes from count)) (Some slot) = refl
+
+-- ---- changes
+
+staging : (list : ListName) (bytes : List ℕ) (state : State) (long : Bool) → nat_lt longest_list (length bytes) ≡ long → IsInOrder (stages list bytes state).reply.outcome
+staging list bytes state true e = rw e tt
+staging list bytes state false e = rw e refl
+
+opened : (fault : Option Fault) (lists : Lists) (state : State) → IsInOrder (opens_unless fault lists state).reply.outcome
+opened None lists state = refl
+opened (Some fault) lists state = tt
+
+opening : (state : State) (room : Bool) → has_room state ≡ room → IsInOrder (opens state).reply.outcome
+opening state true e = rw e (opened (first_fault state.stage) state.stage state)
+opening state false e = rw e tt
+
+accepted : (fault : Option Fault) (state : State) → IsInOrder (accepts_unless fault state).reply.outcome
+accepted None state = refl
+accepted (Some fault) state = tt
+
+closed : (d : ℕ) (slot : Option Slot) (state : State) → IsInOrder (with_slot (λ s. grants [] (record state { slots = slots_without d state.slots })) slot state).reply.outcome
+closed d None state = tt
+closed d (Some slot) state = refl
+
+imported : (fault : Option Fault) (d : ℕ) (parent : Kept) (state : State) → IsInOrder (imports_unless fault d parent state).reply.outcome
+imported None d parent state = refl
+imported (Some fault) d parent state = tt
+
+import_of : (drafted : Bool) (child : Slot) (d : ℕ) (parent : Kept) (state : State) → is_some child.draft ≡ drafted → IsInOrder (imports_into child d parent state).reply.outcome
+import_of true child d parent state e = rw e tt
+import_of false child d parent state e = rw e (imported (fault_over child.kept parent) d parent state)
+
+importing : (d : ℕ) (child parent : Option Slot) (state : State) → IsInOrder (with_slot (λ c. with_slot (λ p. imports_into c d p.kept state) parent state) child state).reply.outcome
+importing d None parent state = tt
+importing d (Some c) None state = tt
+importing d (Some c) (Some p) state = import_of _ c d p.kept state refl
+
+published : (taken : Bool) (name : List ℕ) (kept : Kept) (state : State) → is_some (published_as name state.published) ≡ taken → IsInOrder (publishes_kept name kept state).reply.outcome
+published true name kept state e = rw e tt
+published false name kept state e = rw e refl
+
+publish_of : (late : Bool) (name : List ℕ) (slot : Slot) (state : State) → nat_lt 0 (pending_in slot.draft) ≡ late → IsInOrder (publishes_slot name slot state).reply.outcome
+publish_of true name slot state e = rw e tt
+publish_of false name slot state e = rw e (published _ name slot.kept state refl)
+
+publishing : (name : List ℕ) (slot : Option Slot) (state : State) → IsInOrder (with_slot (λ s. publishes_slot name s state) slot state).reply.outcome
+publishing name None state = tt
+publishing name (Some slot) state = publish_of _ name slot state refl
+
+taken : (found : Option Kept) (state : State) → IsInOrder (takes_found found state).reply.outcome
+taken None state = tt
+taken (Some kept) state = refl
+
+taking : (found : Option Kept) (state : State) (room : Bool) → has_room state ≡ room → IsInOrder (takes found state).reply.outcome
+taking found state true e = rw e (taken found state)
+taking found state false e = rw e tt
+
+-- ---- drafts
+
+created : (slot : Result Slot Fault) (state : State) → IsInOrder (adds_created slot state).reply.outcome
+created (Ok slot) state = refl
+created (Err fault) state = tt
+
+created_over : (room : Bool) (parent : Option Kept) (asked : Created) (state : State) → has_room state ≡ room → IsInOrder (creates_over parent asked state).reply.outcome
+created_over true parent asked state e = rw e (created (created_slot state.next parent asked) state)
+created_over false parent asked state e = rw e tt
+
+created_on : (slot : Option Slot) (asked : Created) (state : State) → IsInOrder (with_slot (λ s. creates_over (Some s.kept) asked state) slot state).reply.outcome
+created_on None asked state = tt
+created_on (Some slot) asked state = created_over _ (Some slot.kept) asked state refl
+
+created_from : (parent : Option ℕ) (asked : Created) (state : State) → IsInOrder (creates_from parent asked state).reply.outcome
+created_from None asked state = created_over _ None asked state refl
+created_from (Some p) asked state = created_on (slot_at p state.slots) asked state
+
+offset_said : (slot : Slot) (added : Result Added Fault) → IsInOrder (enlarges slot (numbered (codes "offset") added)).said
+offset_said slot (Ok added) = refl
+offset_said slot (Err fault) = tt
+
+number_said : (slot : Slot) (added : Result Added Fault) → IsInOrder (enlarges slot (numbered (codes "t") added)).said
+number_said slot (Ok added) = refl
+number_said slot (Err fault) = tt
+
+nothing_said : (slot : Slot) (draft : Result Draft Fault) → IsInOrder (enlarges slot (silent draft)).said
+nothing_said slot (Ok draft) = refl
+nothing_said slot (Err fault) = tt
+
+enlarging : (slot : Slot) (draft : Draft) (addition : Addition) → IsInOrder (enlarges slot (enlarged draft addition)).said
+unfolding enlarged
+enlarging slot draft (add.Type name root kind) = number_said slot _
+enlarging slot draft (add.Member t name tnum offset) = offset_said slot _
+enlarging slot draft (add.Enumerator t name value) = nothing_said slot _
+enlarging slot draft (add.Label name last) = nothing_said slot _
+
+updating : (slot : Slot) (draft : Draft) (bytes : Result (List ℕ) Fault) → IsInOrder (updates_to slot draft bytes).said
+updating slot draft (Ok bytes) = refl
+updating slot draft (Err fault) = tt
+
+of_draft : (step : DraftStep) (slot : Slot) (draft : Option Draft) → IsInOrder (step_if_draft step slot draft).said
+unfolding draft_step
+of_draft step slot None = tt
+of_draft (steps.Add addition) slot (Some draft) = enlarging slot draft addition
+of_draft steps.Update slot (Some draft) = updating slot draft (written (held draft))
+of_draft steps.Discard slot (Some draft) = refl
+
+stepping : (d : ℕ) (step : DraftStep) (slot : Option Slot) (state : State) → IsInOrder (with_slot (λ s. slot_becomes d (slot_step step s) state) slot state).reply.outcome
+stepping d step None state = tt
+stepping d step (Some slot) state = of_draft step slot slot.draft
+
+pub keys_rise : KeysRise
+unfolding change_step
+keys_rise state (Changes (change.Part list piece)) found = staging list _ state _ refl
+keys_rise state (Changes change.Check) found = accepted (first_fault state.stage) state
+keys_rise state (Changes change.Open) found = opening state _ refl
+keys_rise state (Changes change.Clear) found = refl
+keys_rise state (Changes change.Reset) found = refl
+keys_rise state (Changes (change.Close d)) found = closed d (slot_at d state.slots) state
+keys_rise state (Changes (change.Import d p)) found = importing d (slot_at d state.slots) (slot_at p state.slots) state
+keys_rise state (Changes (change.Publish d name)) found = publishing name (slot_at d state.slots) state
+keys_rise state (Changes (change.Take owner name)) found = taking found state _ refl
+keys_rise state (Changes (change.Create asked)) found = created_from asked.parent asked state
+keys_rise state (Changes (change.Draft d step)) found = stepping d step (slot_at d state.slots) state
+keys_rise state (Asks d question) found = of_slot question (slot_at d state.slots)

@@ -1,0 +1,4 @@
+pub mod KeyOrder
+pub mod Asking
+pub mod SessionRuns
+pub mod TextReading

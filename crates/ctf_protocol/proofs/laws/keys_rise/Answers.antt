@@ -1,0 +1,5 @@
+use Rattle.ctf_protocol.proofs.KeyOrder as order
+use Rattle.ctf_protocol.proofs.laws.keys_rise.Goals as goal
+
+pub returns : goal.returns
+returns c = order.keys_rise

@@ -1,0 +1,11 @@
+use Rattle.std.proofs.Common.{refl}
+use Rattle.std.specs.Str.{is_utf8, chars}
+use Rattle.hex.proofs.OnLiterals.{hex_on_literals}
+use Rattle.serde_json.proofs.OnLiterals.{serde_json_on_literals}
+use Rattle.ctf_protocol.specs.Ask.{ask}
+use Rattle.ctf_protocol.specs.Words.{words}
+use Rattle.ctf_protocol.proofs.rows.lines_ask.Goals as goal
+
+pub returns : goal.returns
+unfolding ask words is_utf8 chars hex_on_literals serde_json_on_literals
+returns c = record { reset = refl; opens = refl; kind = refl; part = refl; not_json = refl; no_object = refl; no_session = refl; no_word = refl; great_type = refl; odd_digits = refl }

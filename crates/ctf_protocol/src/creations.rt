@@ -1,0 +1,64 @@
+//! New drafts.
+ghost use Rattle.std.specs.Prelude.{◌≡◌, ◌==◌, not, length, is_some, IfSome, IfNone};
+
+use crate::slots::SlotNumber;
+use ctf_model::Piece;
+use std::marker::Model;
+
+/// A draft that is to be made: a parent, just where that has a name, and the names of the parent
+/// and of its label.
+#[derive(Drop)]
+pub struct Creation {
+    parent: Option<SlotNumber>,
+    parname: Piece,
+    parlabel: Piece,
+}
+
+impl Model for Creation {
+    ghost use Rattle.std.specs.Prelude.{◌≡◌, ◌==◌, not, is_some, length};
+    ghost use Rattle.ctf_protocol.specs.Creations.{Created};
+
+    ghost Value = { Created };
+
+    ghost view = { λ c. record { parent = c.parent; parname = c.parname; parlabel = c.parlabel } };
+
+    ghost invariant = { λ c. is_some c.parent ≡ not (length c.parname == 0) };
+}
+
+impl Creation {
+    ghost use Rattle.ctf_protocol.specs.Creations.{creation};
+
+    /// The draft of these, if it has a parent just where that has a name.
+    pub fn new(parent: Option<SlotNumber>, parname: Piece, parlabel: Piece) -> Option<Creation>
+        ensures { result ≡ creation parent parname parlabel }
+    {
+        if parent.is_some() == parname.as_slice().is_empty() {
+            return None;
+        }
+        Some(Creation {
+            parent,
+            parname,
+            parlabel,
+        })
+    }
+
+    /// The slot whose dictionary is the parent.
+    pub fn parent(&self) -> Option<SlotNumber>
+        ensures parent { result ≡ self.now.parent }
+        ensures named { is_some result ≡ not (length self.now.parname == 0) }
+    {
+        self.parent
+    }
+
+    pub fn parname(&self) -> &[u8]
+        ensures { result.now ≡ self.now.parname }
+    {
+        self.parname.as_slice()
+    }
+
+    pub fn parlabel(&self) -> &[u8]
+        ensures { result.now ≡ self.now.parlabel }
+    {
+        self.parlabel.as_slice()
+    }
+}

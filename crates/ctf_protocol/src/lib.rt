@@ -1,0 +1,35 @@
+//! What a session may ask of the service, and what it is answered.
+#![tactic(auto)]
+
+mod addables;
+mod additions;
+mod creations;
+mod laws;
+mod names;
+mod publications;
+mod questions;
+mod requests;
+mod rows;
+mod session_laws;
+mod slots;
+mod words;
+
+pub use addables::Addable;
+pub use additions::{Addition, Declared, NewArray, NewKind, NewScalar, TypeNums};
+pub use creations::Creation;
+pub use laws::keys_rise;
+pub use names::Names;
+pub use publications::{LONGEST_NAME, PublicationName};
+pub use questions::{HeldQuestion, PlainQuestion, Question, SlotQuestion, TypeQuestion, Window};
+pub use requests::{Change, DraftStep, ListName, Request};
+pub use rows::{
+    lines_ask, lines_say, meetings_are_asked, output_is, parents_are_imported,
+    questions_are_answered, questions_are_lines, session_runs, sessions_meet, slots_are_closed,
+    words_are_written,
+};
+pub use session_laws::{
+    each_session_runs_alone, same_given_same_replies, steps_happen,
+    unreached_sessions_do_not_matter,
+};
+pub use slots::SlotNumber;
+pub use words::Word;

@@ -1,0 +1,72 @@
+//! Worked rows: what the definitions say of small inputs. Each is the contract of a function that
+//! does nothing.
+ghost use Rattle.ctf_protocol.specs.MeetingRows.{MeetingsAreAsked, SessionsMeet};
+ghost use Rattle.ctf_protocol.specs.ParentRows.{ParentsAreImported, SlotsAreClosed};
+ghost use Rattle.ctf_protocol.specs.QuestionRows.{PathsAreLines, QuestionsAreAnswered, QuestionsAreLines, TextsSpell};
+ghost use Rattle.ctf_protocol.specs.WordRows.{WordsAreWritten};
+ghost use Rattle.ctf_protocol.specs.SessionRows.{LinesAsk, LinesSay, OutputIs, SessionRuns};
+
+/// How each word is written.
+pub fn words_are_written()
+    ensures { WordsAreWritten }
+{}
+
+/// What questions on types are answered.
+pub fn questions_are_answered()
+    ensures { QuestionsAreAnswered }
+{}
+
+/// How questions stand in lines, and their answers.
+pub fn questions_are_lines()
+    ensures { QuestionsAreLines }
+{}
+
+/// Which names a line with `path` brings.
+pub fn paths_are_lines()
+    ensures { PathsAreLines }
+{}
+
+/// Which bytes a text spells.
+pub fn texts_spell()
+    ensures { TextsSpell }
+{}
+
+/// What a session is answered, and what it holds then.
+pub fn session_runs()
+    ensures { SessionRuns }
+{}
+
+/// Lines of replies, and how input is cut into lines.
+pub fn lines_say()
+    ensures { LinesSay }
+{}
+
+/// What lines ask.
+pub fn lines_ask()
+    ensures { LinesAsk }
+{}
+
+/// The output for two sessions, where memory is refused now and then.
+pub fn output_is()
+    ensures { OutputIs }
+{}
+
+/// What imports are answered, and which types a child finds then.
+pub fn parents_are_imported()
+    ensures { ParentsAreImported }
+{}
+
+/// What closing a slot and clearing the stage do.
+pub fn slots_are_closed()
+    ensures { SlotsAreClosed }
+{}
+
+/// What sessions are answered that publish and take.
+pub fn sessions_meet()
+    ensures { SessionsMeet }
+{}
+
+/// How a session asks for that in lines.
+pub fn meetings_are_asked()
+    ensures { MeetingsAreAsked }
+{}
