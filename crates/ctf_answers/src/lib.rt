@@ -17,6 +17,6 @@ pub use counts::Counts;
 pub use fields::{Field, Value};
 pub use items::{Item, Items};
 pub use listed::Listed;
-pub use names::{class_name, kind_name, tag_name};
+pub use names::{class_name, kind_name, model_name, tag_name};
 pub use replies::Reply;
 pub use singles::{Entry, Single};

@@ -1,9 +1,10 @@
-//! The words for kinds, tags and classes of symbols.
+//! The words for kinds, tags, classes of symbols and data models.
 ghost use Rattle.std.specs.Prelude.{◌≡◌};
 ghost use Rattle.ctf_model.specs.KindNames.{name_of_kind, name_of_tag, name_of_class};
+ghost use Rattle.ctf_protocol.specs.ModelNames.{name_of_model};
 ghost use Rattle.ctf_records.specs.RecordView.{tag_of};
 
-use ctf_model::{Kind, SymbolClass};
+use ctf_model::{DataModel, Kind, SymbolClass};
 use ctf_records::Tag;
 
 pub fn kind_name(kind: Kind) -> &'static str
@@ -43,5 +44,14 @@ pub fn class_name(class: SymbolClass) -> &'static str
     match class {
         SymbolClass::Object => "object",
         SymbolClass::Function => "function",
+    }
+}
+
+pub fn model_name(model: DataModel) -> &'static str
+    ensures { result.now ≡ name_of_model model }
+{
+    match model {
+        DataModel::Lp64 => "lp64",
+        DataModel::Ilp32 => "ilp32",
     }
 }

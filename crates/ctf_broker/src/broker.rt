@@ -70,7 +70,8 @@ impl Broker {
         publish_in(self.alloc, &mut self.libraries, OPERATOR, name, loaded)
     }
 
-    /// Publishes a CTF section for the operator, without the symbols and strings of a program. It is
+    /// Publishes a CTF section for the operator, without the symbols
+    /// and strings of a program. It is
     /// judged before its name is.
     pub fn load_section(&mut self, name: &PublicationName, ctf: Vec<u8>) -> Result<Counts, Fault>
         ensures own { Answered (library_at self.old 0)

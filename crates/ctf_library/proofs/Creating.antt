@@ -3,9 +3,9 @@ use Rattle.std.proofs.Common.{◌≡◌, ℕ, Option, Some, None, Result, Ok, Er
 use Rattle.std.specs.Prelude.{option_map, option_and_then}
 use Rattle.ctf_library.specs.Drafting.{IsWritten}
 use Rattle.ctf_protocol.specs.Creations.{Created}
-use Rattle.ctf_protocol.specs.DraftSteps.{created_slot, slot_of_draft, updated_slot}
+use Rattle.ctf_protocol.specs.DraftSteps.{created_slot, model_made, slot_of_draft, updated_slot}
 use Rattle.ctf_model.specs.Drafts.{Draft, held, new_draft, settled}
-use Rattle.ctf_model.specs.Kept.{Kept, model_over, modelled_by}
+use Rattle.ctf_model.specs.Kept.{Kept, modelled_by}
 use Rattle.ctf_protocol.specs.State.{Slot, State}
 use Rattle.ctf_protocol.specs.Steps.{adds_created, creates, creates_from, creates_over, has_room, refuses, slot_at}
 use Rattle.ctf_model.specs.Written.{lists_of, written}
@@ -15,7 +15,7 @@ use Rattle.ctf_model.specs.declared.faults.TheConstants.Fault.{NO_SLOT}
 -- ---- the slot
 
 abbrev pub MadeOf : Option Kept → Created → Result Draft Fault
-MadeOf above asked = new_draft (option_map modelled_by above) asked.parname asked.parlabel (model_over above)
+MadeOf above asked = new_draft (option_map modelled_by above) asked.parname asked.parlabel (model_made above asked)
 
 created_done : (n : ℕ) (above : Option Kept) (asked : Created) (d : Draft) (kept : Kept) → MadeOf above asked ≡ Ok d → IsWritten d kept → created_slot n above asked ≡ Ok (record { number = n; kept = kept; parent = above; draft = Some (settled d) })
 unfolding created_slot

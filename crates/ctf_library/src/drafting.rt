@@ -7,7 +7,7 @@ ghost use Rattle.ctf_library.specs.SlotView.{slot_of};
 ghost use Rattle.ctf_answers.specs.Counts.{counts_said};
 ghost use Rattle.ctf_answers.specs.Replies.{changed};
 ghost use Rattle.ctf_model.specs.Dictionary.{Denotes};
-ghost use Rattle.ctf_protocol.specs.DraftSteps.{created_slot, slot_step, step_if_draft, types_answer};
+ghost use Rattle.ctf_protocol.specs.DraftSteps.{created_slot, model_made, slot_step, step_if_draft, types_answer};
 ghost use Rattle.ctf_model.specs.Drafts.{held, new_draft as new_draft_of};
 ghost use Rattle.ctf_model.specs.Refusals.{want_of_memory};
 ghost use Rattle.ctf_model.specs.Kept.{Kept, fault_over, kept_dictionary, model_over as parents_model, modelled_by};
@@ -256,11 +256,12 @@ fn new_draft(alloc: Global, parent: Option<&Loaded>, creation: &Creation) -> Res
     requires { is_some parent ≡ not (length creation.now.parname == 0) }
     ensures ok { IfOk result (λ d.
         new_draft_of (option_map modelled_by (option_copied parent.entry)) creation.now.parname
-        creation.now.parlabel (parents_model (option_copied parent.entry)) ≡ Ok d.draft) }
+        creation.now.parlabel (model_made (option_copied parent.entry) creation.now)
+        ≡ Ok d.draft) }
     ensures under { IfOk result (λ d. IsUnder d.draft (option_copied parent.entry)) }
     ensures exact_err { IfErr result (λ f. (f ≡ want_of_memory)
         ⊎ (new_draft_of (option_map modelled_by (option_copied parent.entry)) creation.now.parname
-        creation.now.parlabel (parents_model (option_copied parent.entry)) ≡ Err f)) }
+        creation.now.parlabel (model_made (option_copied parent.entry) creation.now) ≡ Err f)) }
 {
     let Ok(parname) = Bytes::from_slice(alloc, creation.parname()) else {
         return Err(placeless(Fault::MEMORY));
@@ -268,7 +269,10 @@ fn new_draft(alloc: Global, parent: Option<&Loaded>, creation: &Creation) -> Res
     let Ok(parlabel) = Bytes::from_slice(alloc, creation.parlabel()) else {
         return Err(placeless(Fault::MEMORY));
     };
-    let model = model_over(parent);
+    let model = match creation.model() {
+        Some(model) => model,
+        None => model_over(parent),
+    };
     let Ok(parent) = opened(parent) else {
         return Err(placeless(Fault::MEMORY));
     };

@@ -5,7 +5,7 @@ ghost use Rattle.ctf_library.specs.SlotView.{slot_of};
 ghost use Rattle.ctf_protocol.specs.HeldAnswers.{bytes_fields, held_said, info_fields, pending_in};
 
 use crate::slots::Slot;
-use ctf_answers::{Answer, Single};
+use ctf_answers::{Answer, Single, model_name};
 use ctf_check::Checked;
 use ctf_draft::Draft;
 use ctf_protocol::HeldQuestion;
@@ -62,6 +62,9 @@ impl Slot {
             HeldQuestion::Info => {
                 let imported = self.imported.is_some();
                 info(&own, self.draft.is_some(), imported, pending(&self.draft))
+            }
+            HeldQuestion::Model => {
+                Answer::done().with("model", Single::Word(model_name(self.own.model())))
             }
             HeldQuestion::Bytes { from, count } => bytes(own.lists().ctf, from, count),
         }

@@ -11,7 +11,7 @@ ghost use Rattle.ctf_library.specs.Stepping.{Does, Makes};
 ghost use Rattle.ctf_library.specs.Telling.{makes_text};
 
 use crate::held::pending;
-use crate::loaded::{Loaded, MODEL_UNSAID};
+use crate::loaded::Loaded;
 use crate::places::{find_slot, push_slot, remove_slot, set_parent, step_draft};
 use crate::pool::Pool;
 use crate::publications::{Publication, find_published};
@@ -19,7 +19,7 @@ use crate::slots::{Imported, Slot};
 use crate::staging::{add_first_piece, add_piece, judge};
 use crate::tables::tables_over;
 use ctf_answers::{Answer, Counts};
-use ctf_model::{Fault, Parts, no_parts, placeless};
+use ctf_model::{DataModel, Fault, Parts, no_parts, placeless};
 use ctf_protocol::{Change, Creation, DraftStep, ListName, PublicationName, Question, SlotNumber};
 use std::alloc::Global;
 use std::marker::Model;
@@ -98,7 +98,7 @@ impl Library {
         match change {
             Change::Part { section, bytes } => self.part(*section, bytes.as_slice()),
             Change::Check => self.check(),
-            Change::Open => self.open(pool),
+            Change::Open { model } => self.open(*model, pool),
             Change::Clear => self.clear(),
             Change::Reset => self.reset(),
             Change::Close { d } => self.close(d.get()),
@@ -140,8 +140,8 @@ impl Library {
         self.slots.len() < MOST_SLOTS && self.next <= u64::from(u32::MAX)
     }
 
-    fn open(&mut self, pool: &mut Pool) -> Result<Counts, Fault>
-        ensures { Makes self.old (opens self.old) result self.new }
+    fn open(&mut self, model: DataModel, pool: &mut Pool) -> Result<Counts, Fault>
+        ensures { Makes self.old (opens model self.old) result self.new }
     {
         if !self.has_room() {
             return Err(placeless(Fault::SLOTS_FULL));
@@ -150,7 +150,7 @@ impl Library {
             return Err(placeless(Fault::MEMORY));
         }
         let parts = mem::replace(&mut self.stage, no_parts(self.alloc));
-        match pool.open(parts, MODEL_UNSAID) {
+        match pool.open(parts, model) {
             Ok(loaded) => {
                 let number = self.next as u32;
                 let types = loaded.view().count() as u64;

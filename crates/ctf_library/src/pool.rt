@@ -18,7 +18,8 @@ const MOST_HELD: usize = 16;
 
 /// The last dictionaries that were opened, at most 16, the oldest first.
 ///
-/// Lists that are equal to those of one that is held, for the same data model, are not judged again:
+/// Lists that are equal to those of one that is held, for the same data model,
+/// are not judged again:
 /// they get that dictionary, whoever opened it. What a pool holds shows in no answer.
 #[derive(Drop)]
 pub struct Pool {

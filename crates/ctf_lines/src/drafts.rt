@@ -5,6 +5,7 @@ ghost use Rattle.ctf_protocol.specs.Ask.{add_asked, create_asked, discard_asked,
 ghost use Rattle.ctf_protocol.specs.LineFields.{name_or_empty as name_or_empty_asked};
 
 use crate::additions::addition;
+use crate::models::model;
 use crate::reading::{slot, slot_said};
 use crate::spelled::name;
 use ctf_model::Piece;
@@ -48,7 +49,10 @@ pub(crate) fn create(alloc: Global, value: &Value) -> Result<Option<Request>, Al
     let Some(parlabel) = name_or_empty(alloc, value, "parlabel")? else {
         return Ok(None);
     };
-    match Creation::new(parent, parname, parlabel) {
+    let Some(model) = model(value) else {
+        return Ok(None);
+    };
+    match Creation::new(parent, parname, parlabel, model) {
         Some(creation) => Ok(Some(Request::Changes(Change::Create(creation)))),
         None => Ok(None),
     }

@@ -6,6 +6,7 @@ mod drafts;
 mod fields;
 mod lines;
 mod measures;
+mod models;
 mod names;
 mod no_memory;
 mod papers;

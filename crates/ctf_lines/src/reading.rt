@@ -2,7 +2,7 @@
 ghost use Rattle.std.specs.Prelude.{◌≡◌, ◌≢◌, ◌≤◌, IfSome, Option, None, Some, IfOk, IfErr, Ok, Err, codes, option_map, option_and_then};
 ghost use Rattle.serde_json.specs.Find.{as_array, as_number, as_u64, get};
 ghost use Rattle.serde_json.specs.View.{view, items_view};
-ghost use Rattle.ctf_protocol.specs.Ask.{ask, list_named, close_asked, import_asked, publication_asked, publish_asked, take_asked, about_type as type_question_asked, about_slot as slot_question_asked, about_held as held_question_asked, bytes_asked, symbol_asked, show_asked, names_asked, part_asked, word_asked, asked_with, request_asked, value_asked};
+ghost use Rattle.ctf_protocol.specs.Ask.{ask, open_asked, list_named, close_asked, import_asked, publication_asked, publish_asked, take_asked, about_type as type_question_asked, about_slot as slot_question_asked, about_held as held_question_asked, bytes_asked, symbol_asked, show_asked, names_asked, part_asked, word_asked, asked_with, request_asked, value_asked};
 ghost use Rattle.ctf_protocol.specs.LineFields.{within, number_in, text_in, slot_under as slot_named, slot_in, type_in, name_under as name_asked, from_asked, count_asked, window_asked};
 ghost use Rattle.ctf_model.specs.Refusals.{placeless};
 ghost use Rattle.ctf_model.specs.declared.faults.TheConstants.Fault.{MEMORY};
@@ -11,8 +11,9 @@ ghost use Rattle.ctf_protocol.specs.declared.questions.TypeQuestion.TheVariants 
 
 use crate::drafts::{add, create, discard, update};
 use crate::lines::FromLine;
+use crate::models::model;
 use crate::spelled::{name, names, piece};
-use ctf_model::{Fault, Piece, TypeNum, placeless};
+use ctf_model::{DataModel, Fault, Piece, TypeNum, placeless};
 use ctf_protocol::{
     Change, HeldQuestion, ListName, Names, PublicationName, Question, Request, SlotNumber,
     SlotQuestion, TypeQuestion, Window, Word,
@@ -127,7 +128,7 @@ fn read_word(alloc: Global, value: &Value, word: Word) -> Result<Option<Request>
     match word {
         Word::Part => read_part(alloc, value),
         Word::Check => Ok(Some(Request::Changes(Change::Check))),
-        Word::Open => Ok(Some(Request::Changes(Change::Open))),
+        Word::Open => Ok(open(value)),
         Word::Clear => Ok(Some(Request::Changes(Change::Clear))),
         Word::Reset => Ok(Some(Request::Changes(Change::Reset))),
         Word::Close => Ok(close(value)),
@@ -174,6 +175,15 @@ pub(crate) fn slot(value: &Value) -> Option<SlotNumber>
     ensures { result ≡ slot_in (view value.now) }
 {
     slot_under(value, "d")
+}
+
+fn open(value: &Value) -> Option<Request>
+    ensures { result ≡ open_asked (view value.now) }
+{
+    let model = model(value)?;
+    Some(Request::Changes(Change::Open {
+        model: model.unwrap_or(DataModel::Lp64),
+    }))
 }
 
 fn close(value: &Value) -> Option<Request>

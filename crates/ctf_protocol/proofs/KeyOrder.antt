@@ -35,6 +35,7 @@ use Rattle.ctf_model.specs.Space.{Space, space_type}
 use Rattle.ctf_model.specs.Term.{Term}
 use Rattle.ctf_model.specs.TypeNames.{spelled_name}
 use Rattle.ctf_model.specs.Values.{value_text}
+use Rattle.ctf_model.specs.declared.data_model.DataModel.{DataModel}
 use Rattle.ctf_model.specs.declared.faults.Fault.{Fault}
 use Rattle.ctf_protocol.specs.declared.questions.Question.TheVariants.{OfType, OfSlot, OfHeld}
 use Rattle.ctf_protocol.specs.declared.questions.HeldQuestion.TheVariants as holding
@@ -143,6 +144,7 @@ of_slot question None = tt
 of_slot (OfType t question) (Some slot) = of_type question (slot_space slot) t.0 (space_type (slot_space slot) t.0)
 of_slot (OfSlot question) (Some slot) = on_whole question (slot_space slot)
 of_slot (OfHeld holding.Info) (Some slot) = refl
+of_slot (OfHeld holding.Model) (Some slot) = refl
 of_slot (OfHeld (holding.Bytes from count)) (Some slot) = refl
 
 -- ---- changes
@@ -151,13 +153,13 @@ staging : (list : ListName) (bytes : List ℕ) (state : State) (long : Bool) →
 staging list bytes state true e = rw e tt
 staging list bytes state false e = rw e refl
 
-opened : (fault : Option Fault) (lists : Lists) (state : State) → IsInOrder (opens_unless fault lists state).reply.outcome
-opened None lists state = refl
-opened (Some fault) lists state = tt
+opened : (fault : Option Fault) (kept : Kept) (state : State) → IsInOrder (opens_unless fault kept state).reply.outcome
+opened None kept state = refl
+opened (Some fault) kept state = tt
 
-opening : (state : State) (room : Bool) → has_room state ≡ room → IsInOrder (opens state).reply.outcome
-opening state true e = rw e (opened (first_fault state.stage) state.stage state)
-opening state false e = rw e tt
+opening : (model : DataModel) (state : State) (room : Bool) → has_room state ≡ room → IsInOrder (opens model state).reply.outcome
+opening model state true e = rw e (opened (first_fault state.stage) (record { lists = state.stage; model = model }) state)
+opening model state false e = rw e tt
 
 accepted : (fault : Option Fault) (state : State) → IsInOrder (accepts_unless fault state).reply.outcome
 accepted None state = refl
@@ -256,7 +258,7 @@ pub keys_rise : KeysRise
 unfolding change_step
 keys_rise state (Changes (change.Part list piece)) found = staging list _ state _ refl
 keys_rise state (Changes change.Check) found = accepted (first_fault state.stage) state
-keys_rise state (Changes change.Open) found = opening state _ refl
+keys_rise state (Changes (change.Open model)) found = opening model state _ refl
 keys_rise state (Changes change.Clear) found = refl
 keys_rise state (Changes change.Reset) found = refl
 keys_rise state (Changes (change.Close d)) found = closed d (slot_at d state.slots) state

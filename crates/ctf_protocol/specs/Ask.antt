@@ -1,5 +1,5 @@
 -- What a line asks. What is JSON is serde_json's reading of it; all else is ours.
-use Rattle.std.specs.Prelude.{ℕ, List, length, is_none, Option, None, Some, Result, Ok, Err, option_and_then, nat_lt, codes, if◌then◌else◌}
+use Rattle.std.specs.Prelude.{ℕ, List, length, is_none, unwrap_or, Option, None, Some, Result, Ok, Err, option_and_then, nat_lt, codes, if◌then◌else◌}
 use Rattle.std.specs.Option.{option_map}
 use Rattle.std.specs.Str.{is_utf8}
 use Rattle.serde_json.specs.Data.{Data}
@@ -8,6 +8,9 @@ use Rattle.serde_json.specs.Read.{read}
 use Rattle.ctf_protocol.specs.Creations.{creation}
 use Rattle.ctf_protocol.specs.Lines.{longest_line}
 use Rattle.ctf_protocol.specs.Publications.{is_publication_name}
+use Rattle.ctf_model.specs.Kept.{model_unsaid}
+use Rattle.ctf_protocol.specs.ModelNames.{model_named}
+use Rattle.ctf_model.specs.declared.data_model.DataModel.{DataModel}
 use Rattle.ctf_model.specs.Refusals.{placeless}
 use Rattle.ctf_model.specs.declared.faults.Fault.{Fault}
 use Rattle.ctf_model.specs.declared.faults.TheConstants.Fault.{NOT_JSON, BAD_REQUEST, LONG_LINE}
@@ -74,6 +77,17 @@ part_asked line =
     (option_and_then bytes_spelled (text_in (codes "bytes") line)))
     (option_and_then list_named (text_in (codes "section") line))
 
+-- the data model, if one is said
+abbrev pub model_asked : Data → Option (Option DataModel)
+model_asked line =
+    if is_none (get (codes "model") line) then Some None
+    else option_map (λ model. Some model)
+    (option_and_then model_named (text_in (codes "model") line))
+
+abbrev pub open_asked : Data → Option Request
+open_asked line =
+    option_map (λ model. Changes (change.Open (unwrap_or model model_unsaid))) (model_asked line)
+
 abbrev pub close_asked : Data → Option Request
 close_asked line = option_map (λ d. Changes (change.Close d)) (slot_in line)
 
@@ -134,7 +148,10 @@ create_asked line =
     option_and_then (λ parent.
     option_and_then (λ parname.
     option_and_then (λ parlabel.
-    option_map (λ created. Changes (change.Create created)) (creation parent parname parlabel))
+    option_and_then (λ model.
+    option_map (λ created. Changes (change.Create created))
+    (creation parent parname parlabel model))
+    (model_asked line))
     (name_or_empty (codes "parlabel") line))
     (name_or_empty (codes "parname") line))
     (parent_asked line)
@@ -158,7 +175,7 @@ add_asked line =
 abbrev pub asked_with : Data → Word → Option Request
 asked_with line word.Part = part_asked line
 asked_with line word.Check = Some (Changes change.Check)
-asked_with line word.Open = Some (Changes change.Open)
+asked_with line word.Open = open_asked line
 asked_with line word.Clear = Some (Changes change.Clear)
 asked_with line word.Reset = Some (Changes change.Reset)
 asked_with line word.Close = close_asked line

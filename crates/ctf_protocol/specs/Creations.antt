@@ -1,15 +1,19 @@
 -- New drafts, as a request asks for them. Source: ours.
 use Rattle.std.specs.Prelude.{ℕ, List, [], ◌∷◌, Option, Some, None}
+use Rattle.ctf_model.specs.declared.data_model.DataModel.{DataModel}
 
--- the slot of the parent, if it has one, and the names of the parent and of its label
+-- the slot of the parent, if it has one, the names of the parent and of its label,
+-- and the data model, if that is said
 pub record Created : Type 0 where
   pub parent : Option ℕ
   pub parname : List ℕ
   pub parlabel : List ℕ
+  pub model : Option DataModel
 
 -- a parent is there just where it has a name
-abbrev pub creation : Option ℕ → List ℕ → List ℕ → Option Created
-creation None [] parlabel = Some (record { parent = None; parname = []; parlabel = parlabel })
-creation (Some d) (byte ∷ bytes) parlabel =
-    Some (record { parent = Some d; parname = byte ∷ bytes; parlabel = parlabel })
-creation parent parname parlabel = None
+abbrev pub creation : Option ℕ → List ℕ → List ℕ → Option DataModel → Option Created
+creation None [] parlabel model =
+    Some (record { parent = None; parname = []; parlabel = parlabel; model = model })
+creation (Some d) (byte ∷ bytes) parlabel model =
+    Some (record { parent = Some d; parname = byte ∷ bytes; parlabel = parlabel; model = model })
+creation parent parname parlabel model = None

@@ -1,6 +1,6 @@
 -- Drafts in slots: how they are made, and what is done to them. Source: libctf(3LIB), ctf_create,
 -- ctf_update, ctf_discard; that a draft's dictionary is what its last update wrote is ours.
-use Rattle.std.specs.Prelude.{◌==◌, ℕ, List, [], ◌∷◌, length, Option, None, Some, Result, Ok, Err, codes, if◌then◌else◌}
+use Rattle.std.specs.Prelude.{unwrap_or, ◌==◌, ℕ, List, [], ◌∷◌, length, Option, None, Some, Result, Ok, Err, codes, if◌then◌else◌}
 use Rattle.std.specs.Option.{option_map}
 use Rattle.ctf_protocol.specs.Additions.{Enlarged, enlarged}
 use Rattle.ctf_protocol.specs.Answers.{Answer, says}
@@ -13,6 +13,7 @@ use Rattle.ctf_model.specs.Kept.{Kept, model_over, modelled_by}
 use Rattle.ctf_model.specs.Refusals.{placeless}
 use Rattle.ctf_protocol.specs.State.{Slot}
 use Rattle.ctf_model.specs.Written.{lists_of, written}
+use Rattle.ctf_model.specs.declared.data_model.DataModel.{DataModel}
 use Rattle.ctf_model.specs.declared.faults.Fault.{Fault}
 use Rattle.ctf_model.specs.declared.faults.TheConstants.Fault.{READ_ONLY}
 use Rattle.ctf_protocol.specs.declared.requests.DraftStep.{DraftStep}
@@ -36,11 +37,16 @@ abbrev pub slot_of_draft : ℕ → Option Kept → Result Draft Fault → Result
 slot_of_draft number parent (Ok draft) = updated_slot number parent draft (written (held draft))
 slot_of_draft number parent (Err fault) = Err fault
 
+-- the data model that is asked for, or the parent's where none is
+abbrev pub model_made : Option Kept → Created → DataModel
+model_made parent asked = unwrap_or asked.model (model_over parent)
+
 -- a slot with a new draft, over the dictionary of a parent if there is one
 unfoldable pub created_slot : ℕ → Option Kept → Created → Result Slot Fault
 created_slot number parent asked =
     slot_of_draft number parent
-    (new_draft (option_map modelled_by parent) asked.parname asked.parlabel (model_over parent))
+    (new_draft (option_map modelled_by parent) asked.parname asked.parlabel
+    (model_made parent asked))
 
 -- ---- steps
 

@@ -1,9 +1,11 @@
 -- What a question on what a slot holds is answered. Source: ours.
 use Rattle.std.specs.Prelude.{ℕ, Bool, List, [], ◌∷◌, length, take, drop, is_some, codes, Option, Some, None}
-use Rattle.ctf_protocol.specs.Answers.{Answer, says, number, truth, text, bytes}
+use Rattle.ctf_protocol.specs.Answers.{Answer, says, number, truth, word, text, bytes}
 use Rattle.ctf_model.specs.Dictionary.{Dictionary, said_by}
 use Rattle.ctf_model.specs.Drafts.{Draft, pending_count}
+use Rattle.ctf_protocol.specs.ModelNames.{name_of_model}
 use Rattle.ctf_protocol.specs.State.{Slot}
+use Rattle.ctf_model.specs.declared.data_model.DataModel.{DataModel}
 use Rattle.ctf_protocol.specs.declared.questions.HeldQuestion.{HeldQuestion}
 use Rattle.ctf_protocol.specs.declared.questions.HeldQuestion.TheVariants as held
 
@@ -30,8 +32,12 @@ bytes_fields from count ctf =
     says (codes "bytes") (bytes (take count (drop from ctf)))
     ∷ says (codes "length") (number (length ctf)) ∷ []
 
+abbrev pub model_fields : DataModel → Answer
+model_fields model = says (codes "model") (word (name_of_model model)) ∷ []
+
 abbrev pub held_said : HeldQuestion → Slot → Answer
 held_said held.Info slot =
     info_fields (said_by slot.kept.lists) (is_some slot.draft) (is_some slot.parent)
     (pending_in slot.draft)
+held_said held.Model slot = model_fields slot.kept.model
 held_said (held.Bytes from count) slot = bytes_fields from count slot.kept.lists.ctf

@@ -2,6 +2,7 @@ pub mod State
 pub mod Publications
 pub mod Answers
 pub mod Words
+pub mod ModelNames
 pub mod WordRows
 pub mod Questions
 pub mod SlotAnswers

@@ -12,6 +12,7 @@ use Rattle.ctf_protocol.specs.ReplyLines.{fault_line, reply_line}
 use Rattle.ctf_protocol.specs.Runs.{Given, private_state, private_replies}
 use Rattle.ctf_protocol.specs.State.{empty_state}
 use Rattle.ctf_model.specs.declared.faults.Fault.{Fault}
+use Rattle.ctf_model.specs.declared.data_model.DataModel.TheVariants.{Lp64}
 use Rattle.ctf_protocol.specs.declared.requests.ListName.TheVariants.{Ctf}
 use Rattle.ctf_protocol.specs.declared.requests.Request.{Request}
 use Rattle.ctf_protocol.specs.declared.requests.Request.TheVariants.{Changes, Asks}
@@ -34,7 +35,8 @@ kind_asked d t = Asks d (OfType (record { 0 = t }) (about.Plain simple.Kind))
 -- asks for types, and lets it go
 abbrev pub questions : List Given
 questions =
-    asked (kind_asked 1 2) ∷ asked (kind_asked 2 1) ∷ asked (kind_asked 1 1) ∷ asked (Changes Open)
+    asked (kind_asked 1 2) ∷ asked (kind_asked 2 1) ∷ asked (kind_asked 1 1)
+    ∷ asked (Changes (Open Lp64))
     ∷ asked (Changes (Part Ctf (drop 40 int_bytes)))
     ∷ asked (Changes (Part Ctf (take 40 int_bytes))) ∷ []
 
@@ -61,7 +63,7 @@ pub record SessionRuns : Type 0 where
         next = 2;
       }
   pub reset : private_state empty_state (asked (Changes Reset) ∷ questions) ≡ empty_state
-  pub refused : private_replies empty_state (asked (Changes Open) ∷ [])
+  pub refused : private_replies empty_state (asked (Changes (Open Lp64)) ∷ [])
       ≡ replied (Err (fault 1 0)) ∷ []
 
 -- ---- lines
@@ -93,7 +95,7 @@ pub record LinesSay : Type 0 where
 pub record LinesAsk : Type 0 where
   pub reset : ask (codes "{\"s\":7,\"op\":\"reset\"}") ≡ Ok (7, Changes Reset)
   pub opens : ask (codes " {\"op\":\"open\", \"s\":4294967295, \"x\":[]}")
-      ≡ Ok (4294967295, Changes Open)
+      ≡ Ok (4294967295, Changes (Open Lp64))
   pub kind : ask (codes "{\"s\":1,\"op\":\"kind\",\"d\":2,\"t\":65535}")
       ≡ Ok (1, kind_asked 2 65535)
   pub part : ask (codes "{\"s\":1,\"op\":\"part\",\"section\":\"ctf\",\"bytes\":\"F1cf\"}")

@@ -8,13 +8,14 @@ use Rattle.ctf_protocol.specs.DraftSteps.{SlotOutcome, created_slot, slot_step, 
 use Rattle.ctf_model.specs.Faults.{first_fault}
 use Rattle.ctf_protocol.specs.HeldAnswers.{held_said, pending_in}
 use Rattle.ctf_model.specs.Lists.{Lists}
-use Rattle.ctf_model.specs.Kept.{Kept, fault_over, kept_space, kept_unsaid}
+use Rattle.ctf_model.specs.Kept.{Kept, fault_over, kept_space}
 use Rattle.ctf_protocol.specs.Publications.{published_as}
 use Rattle.ctf_model.specs.Refusals.{placeless, want_of_memory}
 use Rattle.ctf_protocol.specs.State.{State, Slot, empty_state, empty_stage}
 use Rattle.ctf_protocol.specs.Questions.{type_said}
 use Rattle.ctf_protocol.specs.SlotAnswers.{whole_said}
 use Rattle.ctf_model.specs.Space.{Space}
+use Rattle.ctf_model.specs.declared.data_model.DataModel.{DataModel}
 use Rattle.ctf_model.specs.declared.faults.Fault.{Fault}
 use Rattle.ctf_model.specs.declared.faults.TheConstants.Fault.{NO_SLOT, SLOTS_FULL, STAGE_FULL, NAME_TAKEN, NOT_PUBLISHED, NOT_UPDATED, FIXED_PARENT}
 use Rattle.ctf_protocol.specs.declared.requests.ListName.{ListName}
@@ -102,13 +103,16 @@ adds_slot kept state =
     })
 
 -- an accepted dictionary leaves the stage empty
-abbrev pub opens_unless : Option Fault → Lists → State → Outcome
-opens_unless None lists state = adds_slot (kept_unsaid lists) (record state { stage = empty_stage })
-opens_unless (Some fault) lists state = outcome_of (Err fault) state
+abbrev pub opens_unless : Option Fault → Kept → State → Outcome
+opens_unless None kept state = adds_slot kept (record state { stage = empty_stage })
+opens_unless (Some fault) kept state = outcome_of (Err fault) state
 
-abbrev pub opens : State → Outcome
-opens state =
-    if has_room state then opens_unless (first_fault state.stage) state.stage state
+-- the staged lists are kept for a data model
+abbrev pub opens : DataModel → State → Outcome
+opens model state =
+    if has_room state
+    then opens_unless (first_fault state.stage)
+    (record { lists = state.stage; model = model }) state
     else refuses SLOTS_FULL state
 
 -- ---- check
@@ -295,7 +299,7 @@ steps_draft d step state =
 unfoldable pub change_step : State → Change → Option Kept → Outcome
 change_step state (change.Part list piece) found = parts list piece state
 change_step state change.Check found = checks state
-change_step state change.Open found = opens state
+change_step state (change.Open model) found = opens model state
 change_step state change.Clear found = clears state
 change_step state change.Reset found = resets state
 change_step state (change.Close d) found = closes d state

@@ -49,6 +49,7 @@ written_words =
     ∷ (word.Labels, codes "labels")
     ∷ (word.Label, codes "label")
     ∷ (word.Held held.Info, codes "info")
+    ∷ (word.Held held.Model, codes "model")
     ∷ (word.Bytes, codes "bytes") ∷ []
 
 pub record WordsAreWritten : Type 0 where

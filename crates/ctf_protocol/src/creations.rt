@@ -2,16 +2,17 @@
 ghost use Rattle.std.specs.Prelude.{◌≡◌, ◌==◌, not, length, is_some, IfSome, IfNone};
 
 use crate::slots::SlotNumber;
-use ctf_model::Piece;
+use ctf_model::{DataModel, Piece};
 use std::marker::Model;
 
-/// A draft that is to be made: a parent, just where that has a name, and the names of the parent
-/// and of its label.
+/// A draft that is to be made: a parent, just where that has a name, the names of the parent and of
+/// its label, and a data model, if one is said.
 #[derive(Drop)]
 pub struct Creation {
     parent: Option<SlotNumber>,
     parname: Piece,
     parlabel: Piece,
+    model: Option<DataModel>,
 }
 
 impl Model for Creation {
@@ -20,7 +21,12 @@ impl Model for Creation {
 
     ghost Value = { Created };
 
-    ghost view = { λ c. record { parent = c.parent; parname = c.parname; parlabel = c.parlabel } };
+    ghost view = { λ c. record {
+      parent = c.parent;
+      parname = c.parname;
+      parlabel = c.parlabel;
+      model = c.model;
+    } };
 
     ghost invariant = { λ c. is_some c.parent ≡ not (length c.parname == 0) };
 }
@@ -29,8 +35,13 @@ impl Creation {
     ghost use Rattle.ctf_protocol.specs.Creations.{creation};
 
     /// The draft of these, if it has a parent just where that has a name.
-    pub fn new(parent: Option<SlotNumber>, parname: Piece, parlabel: Piece) -> Option<Creation>
-        ensures { result ≡ creation parent parname parlabel }
+    pub fn new(
+        parent: Option<SlotNumber>,
+        parname: Piece,
+        parlabel: Piece,
+        model: Option<DataModel>,
+    ) -> Option<Creation>
+        ensures { result ≡ creation parent parname parlabel model }
     {
         if parent.is_some() == parname.as_slice().is_empty() {
             return None;
@@ -39,6 +50,7 @@ impl Creation {
             parent,
             parname,
             parlabel,
+            model,
         })
     }
 
@@ -54,6 +66,13 @@ impl Creation {
         ensures { result.now ≡ self.now.parname }
     {
         self.parname.as_slice()
+    }
+
+    /// The data model that is said.
+    pub fn model(&self) -> Option<DataModel>
+        ensures { result ≡ self.now.model }
+    {
+        self.model
     }
 
     pub fn parlabel(&self) -> &[u8]

@@ -76,6 +76,8 @@ pub enum SlotQuestion {
 pub enum HeldQuestion {
     /// What its dictionary and its draft are as a whole.
     Info,
+    /// The data model of its dictionary.
+    Model,
     /// At most `count` bytes of its dictionary, from one on.
     Bytes { from: u32, count: u32 },
 }

@@ -5,7 +5,7 @@ use crate::creations::Creation;
 use crate::publications::PublicationName;
 use crate::questions::Question;
 use crate::slots::SlotNumber;
-use ctf_model::Piece;
+use ctf_model::{DataModel, Piece};
 
 /// The list that a part belongs to.
 #[derive(Clone, Copy, Debug, PartialEq, Eq)]
@@ -36,8 +36,10 @@ pub enum Change {
     },
     /// Judges the staged lists.
     Check,
-    /// Makes a slot of the staged lists.
-    Open,
+    /// Makes a slot of the staged lists, for programs of a data model.
+    Open {
+        model: DataModel,
+    },
     /// Empties the staged lists.
     Clear,
     /// Closes all slots and clears the stage.

@@ -38,7 +38,7 @@ pub enum Word {
 }
 
 /// Every word, as a line writes it. The definition reads this table too.
-pub const WORDS: [(&str, Word); 36] = [
+pub const WORDS: [(&str, Word); 37] = [
     ("part", Word::Part),
     ("check", Word::Check),
     ("open", Word::Open),
@@ -74,6 +74,7 @@ pub const WORDS: [(&str, Word); 36] = [
     ("labels", Word::Labels),
     ("label", Word::Label),
     ("info", Word::Held(HeldQuestion::Info)),
+    ("model", Word::Held(HeldQuestion::Model)),
     ("bytes", Word::Bytes),
 ];
 

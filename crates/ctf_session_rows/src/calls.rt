@@ -2,7 +2,7 @@
 
 use ctf_answers::Reply;
 use ctf_lines::{FromLine, ToLine, memory_line, write_change};
-use ctf_model::{Fault, placeless};
+use ctf_model::{DataModel, Fault, placeless};
 use ctf_protocol::{Change, Request};
 use ctf_wire::{Broker, Library, Pool};
 use std::alloc::{AllocError, Global};
@@ -93,7 +93,18 @@ fn an_empty_library_refuses(rt: HostRuntime) {
     let mut library = Library::new(rt.alloc());
     let mut pool = Pool::new(rt.alloc());
     let too_short = placeless(Fault::TOO_SHORT);
-    assert!(rt; library.step(&Change::Open, None, &mut pool).err() == Some(too_short));
+    assert!(rt;
+        library
+            .step(
+                &Change::Open {
+                    model: DataModel::Lp64
+                },
+                None,
+                &mut pool
+            )
+            .err()
+            == Some(too_short)
+    );
     assert!(rt; library.step(&Change::Check, None, &mut pool).err() == Some(too_short));
     assert!(rt; library.step(&Change::Reset, None, &mut pool).is_ok());
 }

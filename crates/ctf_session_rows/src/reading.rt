@@ -51,7 +51,7 @@ fn change_said(change: &Change) -> Said {
             _ => plain("another part"),
         },
         Change::Check => plain("check"),
-        Change::Open => plain("open"),
+        Change::Open { .. } => plain("open"),
         Change::Clear => plain("clear"),
         Change::Reset => plain("reset"),
         Change::Close { .. } => plain("close"),

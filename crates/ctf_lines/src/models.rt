@@ -1,0 +1,29 @@
+//! Reads the data model of a request.
+ghost use Rattle.std.specs.Prelude.{◌≡◌};
+ghost use Rattle.serde_json.specs.View.{view};
+ghost use Rattle.ctf_protocol.specs.Ask.{model_asked as model_said};
+ghost use Rattle.ctf_protocol.specs.ModelNames.{model_named as model_of_word};
+
+use ctf_model::DataModel;
+use serde_json::Value;
+
+/// The data model, if one is said.
+pub(crate) fn model(value: &Value) -> Option<Option<DataModel>>
+    ensures { result ≡ model_said (view value.now) }
+{
+    match value.get("model") {
+        None => Some(None),
+        Some(said) => Some(Some(model_named(said.as_str()?)?)),
+    }
+}
+
+/// The data model of a word.
+fn model_named(word: &str) -> Option<DataModel>
+    ensures { result ≡ model_of_word word.now }
+{
+    match word {
+        "lp64" => Some(DataModel::Lp64),
+        "ilp32" => Some(DataModel::Ilp32),
+        _ => None,
+    }
+}
