@@ -1,7 +1,7 @@
 -- What the answer to a change shows.
 use Rattle.std.specs.Prelude.{List, [], ◌∷◌, ◌++◌, Option, None, Some}
-use Rattle.ctf_protocol.specs.Answers.{Answer, Field, says}
-use Rattle.ctf_protocol.specs.Answers as answers
+use Rattle.ctf_protocol.specs.answers.Answers.{Answer, Field, says}
+use Rattle.ctf_protocol.specs.answers.Answers as answers
 use Rattle.ctf_answers.specs.declared.count.Count.{Count}
 use Rattle.ctf_answers.specs.declared.counts.Counts.{Counts}
 

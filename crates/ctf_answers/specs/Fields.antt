@@ -1,5 +1,5 @@
 -- What lent fields show.
-use Rattle.ctf_protocol.specs.Answers as answers
+use Rattle.ctf_protocol.specs.answers.Answers as answers
 use Rattle.ctf_answers.specs.Singles.{single_of}
 use Rattle.ctf_answers.specs.declared.fields.Value.{Value}
 use Rattle.ctf_answers.specs.declared.fields.Value.TheVariants.{One, Many, Made}

@@ -1,8 +1,8 @@
 -- What lent items and lists show.
 use Rattle.std.specs.Prelude.{List, [], ◌∷◌, map}
-use Rattle.ctf_protocol.specs.Answers as answers
-use Rattle.ctf_protocol.specs.Questions.{member_item, enumerator_item, number_item}
-use Rattle.ctf_protocol.specs.SlotAnswers.{label_item}
+use Rattle.ctf_protocol.specs.answers.Answers as answers
+use Rattle.ctf_protocol.specs.answers.Questions.{member_item, enumerator_item, number_item}
+use Rattle.ctf_protocol.specs.answers.SlotAnswers.{label_item}
 use Rattle.ctf_answers.specs.Singles.{single_of, entry_of}
 use Rattle.ctf_answers.specs.declared.items.Item.{Item}
 use Rattle.ctf_answers.specs.declared.items.Item.TheVariants.{Bare, Two, Three}

@@ -1,6 +1,6 @@
 -- What lent replies show, and those of changes.
 use Rattle.std.specs.Prelude.{ℕ, Result, Ok, Err}
-use Rattle.ctf_protocol.specs.Answers as answers
+use Rattle.ctf_protocol.specs.answers.Answers as answers
 use Rattle.ctf_model.specs.declared.faults.Fault.{Fault}
 use Rattle.ctf_answers.specs.Counts.{counts_said}
 use Rattle.ctf_answers.specs.declared.counts.Counts.{Counts}

@@ -1,5 +1,5 @@
 -- What lent values show.
-use Rattle.ctf_protocol.specs.Answers as answers
+use Rattle.ctf_protocol.specs.answers.Answers as answers
 use Rattle.ctf_answers.specs.declared.singles.Single.{Single}
 use Rattle.ctf_answers.specs.declared.singles.Single.TheVariants as lent
 use Rattle.ctf_answers.specs.declared.singles.Entry.{Entry}

@@ -1,6 +1,6 @@
 //! What a granted request is answered.
 ghost use Rattle.std.specs.Prelude.{◌≡◌, ◌++◌, ◌<◌, ◌≤◌, ◌+◌, [], ◌∷◌, length, Some, slice_get, option_map};
-ghost use Rattle.ctf_protocol.specs.Answers.{says, may_say, lists, text as said_text};
+ghost use Rattle.ctf_protocol.specs.answers.Answers.{says, may_say, lists, text as said_text};
 ghost use Rattle.ctf_answers.specs.Singles.{single_of};
 ghost use Rattle.ctf_answers.specs.Fields.{field_of};
 
@@ -19,7 +19,7 @@ pub struct Answer<'a> {
 
 impl<'a> Model for Answer<'a> {
     ghost use Rattle.std.specs.Prelude.{map, ◌≤◌, length};
-    ghost use Rattle.ctf_protocol.specs.Answers.{Answer as SaidAnswer};
+    ghost use Rattle.ctf_protocol.specs.answers.Answers.{Answer as SaidAnswer};
     ghost use Rattle.ctf_answers.specs.Fields.{field_of};
 
     ghost Value = { SaidAnswer };

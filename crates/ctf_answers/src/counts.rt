@@ -1,6 +1,6 @@
 //! What a change is answered: few numbers, owned.
 ghost use Rattle.std.specs.Prelude.{◌≡◌, ◌≤◌, [], ◌∷◌, length};
-ghost use Rattle.ctf_protocol.specs.Answers.{says, number as number_said};
+ghost use Rattle.ctf_protocol.specs.answers.Answers.{says, number as number_said};
 ghost use Rattle.ctf_answers.specs.Counts.{counts_said};
 
 use crate::answers::Answer;

@@ -1,8 +1,8 @@
 //! Lists, and their items.
 ghost use Rattle.std.specs.Prelude.{◌≡◌, ◌<◌, length, Some, slice_get};
-ghost use Rattle.ctf_protocol.specs.Answers.{entry as said_entry};
-ghost use Rattle.ctf_protocol.specs.Questions.{member_item as said_member, enumerator_item as said_enumerator};
-ghost use Rattle.ctf_protocol.specs.SlotAnswers.{label_item as said_label};
+ghost use Rattle.ctf_protocol.specs.answers.Answers.{entry as said_entry};
+ghost use Rattle.ctf_protocol.specs.answers.Questions.{member_item as said_member, enumerator_item as said_enumerator};
+ghost use Rattle.ctf_protocol.specs.answers.SlotAnswers.{label_item as said_label};
 ghost use Rattle.ctf_views.specs.ItemsView.{member as member_seen, enumerator as enumerator_seen, label as label_seen};
 ghost use Rattle.ctf_answers.specs.Singles.{single_of, entry_of};
 ghost use Rattle.ctf_answers.specs.Items.{item_of, items_of};

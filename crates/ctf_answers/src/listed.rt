@@ -1,6 +1,6 @@
 //! The items of a list that are answered.
 ghost use Rattle.std.specs.Prelude.{◌≡◌, ◌<◌, ◌≤◌, length, take, Some, slice_get};
-ghost use Rattle.ctf_protocol.specs.Questions.{windowed};
+ghost use Rattle.ctf_protocol.specs.answers.Questions.{windowed};
 ghost use Rattle.ctf_answers.specs.Items.{item_of, items_of};
 
 use crate::items::{Item, Items};
@@ -17,7 +17,7 @@ pub struct Listed<'a> {
 
 impl<'a> Model for Listed<'a> {
     ghost use Rattle.std.specs.Prelude.{List, ◌+◌, ◌<◌, ◌≤◌, ◌^◌, length, take, drop};
-    ghost use Rattle.ctf_protocol.specs.Answers.{Item as SaidItem};
+    ghost use Rattle.ctf_protocol.specs.answers.Answers.{Item as SaidItem};
     ghost use Rattle.ctf_answers.specs.Items.{items_of};
 
     ghost Value = { List SaidItem };

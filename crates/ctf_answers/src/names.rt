@@ -1,7 +1,7 @@
 //! The words for kinds, tags, classes of symbols and data models.
 ghost use Rattle.std.specs.Prelude.{◌≡◌};
-ghost use Rattle.ctf_model.specs.KindNames.{name_of_kind, name_of_tag, name_of_class};
-ghost use Rattle.ctf_protocol.specs.ModelNames.{name_of_model};
+ghost use Rattle.ctf_model.specs.names.KindNames.{name_of_kind, name_of_tag, name_of_class};
+ghost use Rattle.ctf_protocol.specs.words.ModelNames.{name_of_model};
 ghost use Rattle.ctf_records.specs.RecordView.{tag_of};
 
 use ctf_model::{DataModel, Kind, SymbolClass};

@@ -1,10 +1,10 @@
 -- What the operator publishes before any line is read. Source: ours.
 use Rattle.std.specs.Prelude.{ℕ, List, Option, None, Some, Err}
-use Rattle.ctf_model.specs.Faults.{first_fault}
-use Rattle.ctf_model.specs.Kept.{Kept, kept_unsaid}
-use Rattle.ctf_model.specs.Lists.{Lists}
-use Rattle.ctf_protocol.specs.State.{State}
-use Rattle.ctf_protocol.specs.Steps.{Outcome, outcome_of, publishes_kept}
+use Rattle.ctf_model.specs.rules.Faults.{first_fault}
+use Rattle.ctf_model.specs.spaces.Kept.{Kept, kept_unsaid}
+use Rattle.ctf_model.specs.format.Lists.{Lists}
+use Rattle.ctf_protocol.specs.sessions.State.{State}
+use Rattle.ctf_protocol.specs.sessions.Steps.{Outcome, outcome_of, publishes_kept}
 use Rattle.ctf_model.specs.declared.faults.Fault.{Fault}
 
 -- a CTF section without the symbols and strings of a program

@@ -4,8 +4,8 @@ use Rattle.std.specs.Prelude.{slice_get, slice_index}
 use Rattle.std.specs.Option.{option_map}
 use Rattle.std.proofs.lemmas.Grind.{get_or_default_zero}
 use Rattle.std.proofs.lemmas.List.{drop-drop, length-drop}
-use Rattle.ctf_model.specs.Faults.{walk_fault}
-use Rattle.ctf_model.specs.Section.{Piece, front_len, step, walk, records}
+use Rattle.ctf_model.specs.rules.Faults.{walk_fault}
+use Rattle.ctf_model.specs.format.Section.{Piece, front_len, step, walk, records}
 use Rattle.ctf_model.specs.declared.faults.Fault.{Fault}
 use Rattle.ctf_model.proofs.Walk.{front_len_range}
 use Rattle.ctf_records.specs.RecordView.{piece_at}

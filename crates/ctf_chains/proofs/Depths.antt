@@ -4,7 +4,7 @@ use Rattle.std.specs.List.{AllByRecursion}
 use Rattle.std.proofs.lemmas.List.{take-append-drop, take_more, take_all, append-nil}
 use Rattle.std.proofs.lemmas.List.Elements.{filter_map-append}
 use Rattle.std.proofs.Math.ListN as listn
-use Rattle.ctf_model.specs.Chains.{targets, IsWithin}
+use Rattle.ctf_model.specs.rules.Chains.{targets, IsWithin}
 use Rattle.ctf_chains.specs.Places.{Places, places_at, led_to, steps_between}
 use Rattle.ctf_chains.specs.Search.{AreWithin, IsLongest, IsDepth}
 use Rattle.ctf_chains.proofs.Lists.{All-map, All-at, All-front, All-one_more, not_empty}

@@ -7,15 +7,15 @@ use Rattle.std.proofs.lemmas.Bool.{ltb-true}
 use Rattle.std.proofs.lemmas.List.{length-map, get_or-map}
 use Rattle.std.proofs.lemmas.List.Sums.{sum_by-cons}
 use Rattle.std.proofs.lemmas.Option.{get_or_from_slice_get}
-use Rattle.ctf_model.specs.Chains.{own_index_at, own_index, edges}
-use Rattle.ctf_model.specs.TypePlaces.{place}
+use Rattle.ctf_model.specs.rules.Chains.{own_index_at, own_index, edges}
+use Rattle.ctf_model.specs.spaces.TypePlaces.{place}
 use Rattle.ctf_model.specs.declared.numbers.Place.{Place}
 use Rattle.ctf_model.specs.declared.numbers.Place.TheVariants.{Nowhere, Own, Parents}
-use Rattle.ctf_model.specs.Faults.{walk_fault}
-use Rattle.ctf_model.specs.Name.{Tables}
-use Rattle.ctf_model.specs.Section.{Piece, onto, terms_in}
-use Rattle.ctf_model.specs.Spelling.{term_of}
-use Rattle.ctf_model.specs.Term.{Term}
+use Rattle.ctf_model.specs.rules.Faults.{walk_fault}
+use Rattle.ctf_model.specs.format.Name.{Tables}
+use Rattle.ctf_model.specs.format.Section.{Piece, onto, terms_in}
+use Rattle.ctf_model.specs.format.Spelling.{term_of}
+use Rattle.ctf_model.specs.format.Term.{Term}
 use Rattle.ctf_model.specs.declared.faults.Fault.{Fault}
 use Rattle.ctf_chains.specs.Numbers.{numbers, record_places, section_places}
 use Rattle.ctf_chains.specs.Places.{places_at, led_to, steps_between, full_work}

@@ -1,6 +1,6 @@
 -- Where the numbers of a record stand, and which of the types that it lists they are.
 use Rattle.std.proofs.Common.{◌≡◌, ℕ, List, Option, Some, refl, ap, ◌∙◌, sym}
-use Rattle.ctf_model.specs.Record.{kind}
+use Rattle.ctf_model.specs.format.Record.{kind}
 use Rattle.ctf_model.specs.declared.kinds.Kind.{Kind}
 use Rattle.ctf_model.specs.declared.kinds.Kind.TheVariants.{KStruct, KUnion}
 use Rattle.ctf_records.specs.ListedTypes.{listed_types_of_kind, listed_types_at, listed_types}

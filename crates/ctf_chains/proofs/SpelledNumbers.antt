@@ -3,13 +3,13 @@ use Rattle.std.proofs.Common.{◌≡◌, ℕ, List, [], ◌∷◌, map, Option, 
 use Rattle.std.specs.Option.{option_map}
 use Rattle.std.proofs.lemmas.Option.{same_Some}
 use Rattle.ctf_model.proofs.MemberTypes.{members_types}
-use Rattle.ctf_model.specs.Bytes.{u32_at}
-use Rattle.ctf_model.specs.Chains.{by_value, declarator}
-use Rattle.ctf_model.specs.Name.{Tables, name}
-use Rattle.ctf_model.specs.Record.{kind, is_root, field, size, vlen, member_len, behind_head}
-use Rattle.ctf_model.specs.Spelling.{◌>>=◌, items, member_of, body_of, members, enumerators, arguments, term_of}
-use Rattle.ctf_model.specs.Term.{Member, Enumerator, Body, Term}
-use Rattle.ctf_model.specs.Term as term
+use Rattle.ctf_model.specs.format.Bytes.{u32_at}
+use Rattle.ctf_model.specs.rules.Chains.{by_value, declarator}
+use Rattle.ctf_model.specs.format.Name.{Tables, name}
+use Rattle.ctf_model.specs.format.Record.{kind, is_root, field, size, vlen, member_len, behind_head}
+use Rattle.ctf_model.specs.format.Spelling.{◌>>=◌, items, member_of, body_of, members, enumerators, arguments, term_of}
+use Rattle.ctf_model.specs.format.Term.{Member, Enumerator, Body, Term}
+use Rattle.ctf_model.specs.format.Term as term
 use Rattle.ctf_model.specs.declared.kinds.Kind.{Kind}
 use Rattle.ctf_model.specs.declared.kinds.Kind.TheVariants.{KUnknown, KInteger, KFloat, KPointer, KArray, KFunction, KStruct, KUnion, KEnum, KForward, KTypedef, KVolatile, KConst, KRestrict}
 use Rattle.ctf_records.specs.ListedTypes.{numbers_in}

@@ -4,7 +4,7 @@ use Rattle.std.specs.List.{AllByRecursion}
 use Rattle.std.proofs.lemmas.Bool.{eqb-true}
 use Rattle.std.proofs.lemmas.Grind.{get_or-set_at}
 use Rattle.std.proofs.lemmas.List.{get_or-set_other}
-use Rattle.ctf_model.specs.Chains.{targets, IsWithin}
+use Rattle.ctf_model.specs.rules.Chains.{targets, IsWithin}
 use Rattle.ctf_chains.specs.Deep.{AreWithinBefore}
 use Rattle.ctf_chains.specs.Places.{Places, places_at, led_to, steps_between}
 use Rattle.ctf_chains.specs.Search.{IsDepth, busy, entry_in, Knows, Leads, OnWay, GoesOn, Answers}

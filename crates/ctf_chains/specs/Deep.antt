@@ -1,8 +1,8 @@
 -- Chains that are too long. Source: ours.
 use Rattle.std.specs.Prelude.{ℕ, ◌<◌, Bool, List, length, Option, Result, MatchOption}
-use Rattle.ctf_model.specs.Chains.{IsWithin, edges, longest_chain}
-use Rattle.ctf_model.specs.Name.{Tables}
-use Rattle.ctf_model.specs.Section.{Piece, terms_in}
+use Rattle.ctf_model.specs.rules.Chains.{IsWithin, edges, longest_chain}
+use Rattle.ctf_model.specs.format.Name.{Tables}
+use Rattle.ctf_model.specs.format.Section.{Piece, terms_in}
 use Rattle.ctf_model.specs.declared.faults.Fault.{Fault}
 use Rattle.ctf_chains.specs.Steps.{AreSpelled, steps}
 use Rattle.ctf_chains.specs.declared.chain.Chain.{Chain}

@@ -2,10 +2,10 @@
 -- Source: ctf(5), "The Type Section"; ctf_stype_t, ctf_member_t,
 -- ctf_lmember_t, ctf_array_t of sys/ctf.h.
 use Rattle.std.specs.Prelude.{ℕ, Bool, List, [], ◌∷◌, length, map, Option, Some, None, Result, Ok, Err}
-use Rattle.ctf_model.specs.Bytes.{u16_at}
-use Rattle.ctf_model.specs.Chains.{own_index}
-use Rattle.ctf_model.specs.Record.{kind, field, behind_head}
-use Rattle.ctf_model.specs.Section.{Piece}
+use Rattle.ctf_model.specs.format.Bytes.{u16_at}
+use Rattle.ctf_model.specs.rules.Chains.{own_index}
+use Rattle.ctf_model.specs.format.Record.{kind, field, behind_head}
+use Rattle.ctf_model.specs.format.Section.{Piece}
 use Rattle.ctf_model.specs.declared.faults.Fault.{Fault}
 use Rattle.ctf_model.specs.declared.kinds.Kind.{Kind}
 use Rattle.ctf_model.specs.declared.kinds.Kind.TheVariants.{KPointer, KArray, KFunction, KStruct, KUnion, KTypedef, KVolatile, KConst, KRestrict}

@@ -1,7 +1,7 @@
 -- What the search for long chains knows on its way. Source: ours.
 use Rattle.std.specs.Prelude.{◌≡◌, ℕ, zero, suc, ◌+◌, ◌-◌, ◌==◌, ◌≤◌, ◌<◌, List, [], ◌∷◌, Option, slice_index_or, MatchOption, if◌then◌else◌}
 use Rattle.std.specs.List.{AllByRecursion}
-use Rattle.ctf_model.specs.Chains.{IsWithin}
+use Rattle.ctf_model.specs.rules.Chains.{IsWithin}
 use Rattle.ctf_chains.specs.Places.{Places, record_work}
 use Rattle.ctf_chains.specs.declared.entry.Entry.{Entry}
 use Rattle.ctf_chains.specs.declared.entry.Entry.TheVariants.{Unvisited, Busy, Depth}

@@ -1,6 +1,6 @@
 -- Where the records of a section begin. Source: ours.
 use Rattle.std.specs.Prelude.{ℕ, List, [], ◌∷◌, Result, Ok, Err}
-use Rattle.ctf_model.specs.Section.{Piece}
+use Rattle.ctf_model.specs.format.Section.{Piece}
 use Rattle.ctf_model.specs.declared.faults.Fault.{Fault}
 
 -- the places of the records, in order

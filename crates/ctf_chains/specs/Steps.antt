@@ -1,10 +1,10 @@
 -- Steps from type to type, by their sort. Source: ours.
 use Rattle.std.specs.Prelude.{ℕ, ◌+◌, List, [], ◌∷◌, length, sum_by, Result, Ok, Err, IsSome}
-use Rattle.ctf_model.specs.Chains.{by_value, declarator}
-use Rattle.ctf_model.specs.Name.{Tables}
-use Rattle.ctf_model.specs.Section.{Piece}
-use Rattle.ctf_model.specs.Spelling.{term_of}
-use Rattle.ctf_model.specs.Term.{Body, Term}
+use Rattle.ctf_model.specs.rules.Chains.{by_value, declarator}
+use Rattle.ctf_model.specs.format.Name.{Tables}
+use Rattle.ctf_model.specs.format.Section.{Piece}
+use Rattle.ctf_model.specs.format.Spelling.{term_of}
+use Rattle.ctf_model.specs.format.Term.{Body, Term}
 use Rattle.ctf_model.specs.declared.faults.Fault.{Fault}
 use Rattle.ctf_chains.specs.declared.chain.Chain.{Chain}
 use Rattle.ctf_chains.specs.declared.chain.Chain.TheVariants.{ByValue, Declarator}

@@ -1,6 +1,6 @@
 -- What `Types` shows of the section that it stands for.
 use Rattle.std.specs.Prelude.{Bool, List, Result}
-use Rattle.ctf_model.specs.Section.{Piece, records}
+use Rattle.ctf_model.specs.format.Section.{Piece, records}
 use Rattle.ctf_model.specs.declared.faults.Fault.{Fault}
 use Rattle.ctf_chains.specs.declared.chain.Chain.{Chain}
 use Rattle.ctf_chains.specs.declared.types.Types.{Types}

@@ -1,8 +1,8 @@
 //! The first type of a section that a chain of too many steps begins at.
 ghost use Rattle.std.specs.Prelude.{◌≡◌, ◌+◌, ◌<◌, ◌≤◌, length, IfOk, IfSome, None, Ok};
-ghost use Rattle.ctf_model.specs.Faults.{walk_fault};
-ghost use Rattle.ctf_model.specs.Name.{Tables};
-ghost use Rattle.ctf_model.specs.Section.{records, terms_in};
+ghost use Rattle.ctf_model.specs.rules.Faults.{walk_fault};
+ghost use Rattle.ctf_model.specs.format.Name.{Tables};
+ghost use Rattle.ctf_model.specs.format.Section.{records, terms_in};
 ghost use Rattle.ctf_chains.specs.Deep.{IsLeastDeepType};
 ghost use Rattle.ctf_chains.specs.Starts.{starts_in};
 ghost use Rattle.ctf_chains.specs.Steps.{AreSpelled, steps, steps_work};

@@ -1,6 +1,6 @@
 //! Where in its bytes a record says the types that its steps lead to.
 ghost use Rattle.std.specs.Prelude.{◌≡◌, ◌<◌, length, slice_index};
-ghost use Rattle.ctf_model.specs.Chains.{own_index as own_index_of};
+ghost use Rattle.ctf_model.specs.rules.Chains.{own_index as own_index_of};
 ghost use Rattle.ctf_records.specs.RecordView.{bytes_of};
 ghost use Rattle.ctf_chains.specs.Numbers.{numbers, spot};
 

@@ -1,6 +1,6 @@
 //! The first record that a chain of too many steps begins at.
 ghost use Rattle.std.specs.Prelude.{◌≡◌, ℕ, ◌+◌, ◌<◌, ◌≤◌, ◌⊎◌, length, IfOk, IfSome, IsSome, None, Ok, MatchOption, slice_index_or};
-ghost use Rattle.ctf_model.specs.Chains.{longest_chain};
+ghost use Rattle.ctf_model.specs.rules.Chains.{longest_chain};
 ghost use Rattle.ctf_chains.specs.Deep.{IsLeastDeep};
 ghost use Rattle.ctf_chains.specs.Places.{full_work, steps_between};
 ghost use Rattle.ctf_chains.specs.Search.{Knows, OnWay, Answers, work_left};

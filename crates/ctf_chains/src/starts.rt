@@ -1,7 +1,7 @@
 //! Where the records of a section begin.
 ghost use Rattle.std.specs.Prelude.{◌≡◌, ◌<◌, ◌^◌, length, slice_get, IfOk, Some, Ok, None};
-ghost use Rattle.ctf_model.specs.Faults.{walk_fault};
-ghost use Rattle.ctf_model.specs.Section.{records};
+ghost use Rattle.ctf_model.specs.rules.Faults.{walk_fault};
+ghost use Rattle.ctf_model.specs.format.Section.{records};
 ghost use Rattle.ctf_chains.specs.Starts.{starts_in};
 ghost use Rattle.ctf_records.specs.RecordView.{piece};
 

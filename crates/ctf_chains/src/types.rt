@@ -1,8 +1,8 @@
 //! The types of a section as records that lead to each other.
 ghost use Rattle.std.specs.Prelude.{◌≡◌, None, length, map};
-ghost use Rattle.ctf_model.specs.Chains.{own_index as own_index_of};
-ghost use Rattle.ctf_model.specs.Faults.{walk_fault};
-ghost use Rattle.ctf_model.specs.Section.{records};
+ghost use Rattle.ctf_model.specs.rules.Chains.{own_index as own_index_of};
+ghost use Rattle.ctf_model.specs.rules.Faults.{walk_fault};
+ghost use Rattle.ctf_model.specs.format.Section.{records};
 ghost use Rattle.ctf_chains.specs.Numbers.{numbers, section_places};
 ghost use Rattle.ctf_chains.specs.Starts.{starts_in};
 ghost use Rattle.ctf_records.specs.RecordView.{bytes_of};

@@ -3,12 +3,12 @@ use Rattle.std.proofs.Common.{◌≡◌, ◌<◌, ℕ, length, Option, Some, ref
 use Rattle.std.specs.Prelude.{IfSome, slice_index}
 use Rattle.std.specs.Option.{option_map}
 use Rattle.std.proofs.lemmas.Option.{same_Some}
-use Rattle.ctf_model.specs.Bytes.{u32_at}
-use Rattle.ctf_model.specs.Chains.{by_value}
-use Rattle.ctf_model.specs.Name.{name}
-use Rattle.ctf_model.specs.Record.{kind, is_root}
-use Rattle.ctf_model.specs.Shown.{Facts, Shape, facts, kind_of, reference_of, shape, shown, size_of}
-use Rattle.ctf_model.specs.Term.{Term}
+use Rattle.ctf_model.specs.format.Bytes.{u32_at}
+use Rattle.ctf_model.specs.rules.Chains.{by_value}
+use Rattle.ctf_model.specs.format.Name.{name}
+use Rattle.ctf_model.specs.format.Record.{kind, is_root}
+use Rattle.ctf_model.specs.format.Shown.{Facts, Shape, facts, kind_of, reference_of, shape, shown, size_of}
+use Rattle.ctf_model.specs.format.Term.{Term}
 use Rattle.ctf_model.specs.declared.kinds.Kind.{Kind}
 use Rattle.ctf_chains.proofs.SpelledNumbers.{spelled_numbers}
 use Rattle.ctf_chains.specs.Numbers.{numbers}
@@ -19,7 +19,7 @@ use Rattle.ctf_check.specs.declared.checked.Checked.{Checked}
 use Rattle.ctf_records.specs.ByKind.{size_in, reference_in, declared_in}
 use Rattle.ctf_records.specs.RecordView.{bytes_of, piece}
 use Rattle.ctf_records.specs.declared.record.Record.{Record}
-use Rattle.ctf_model.specs.Spelling.{term_of}
+use Rattle.ctf_model.specs.format.Spelling.{term_of}
 use Rattle.ctf_check.proofs.SpelledHead.{head_says}
 
 -- a record of a dictionary spells a type

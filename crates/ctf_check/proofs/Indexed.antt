@@ -3,8 +3,8 @@ use Rattle.std.proofs.Common.{◌≡◌, ℕ, zero, suc, ◌+◌, ◌<◌, ◌�
 use Rattle.std.specs.Prelude.{slice_get}
 use Rattle.std.specs.Option.{option_map}
 use Rattle.std.proofs.lemmas.Bool.{eqb-true, eq-eqb}
-use Rattle.ctf_model.specs.Faults.{walk_fault}
-use Rattle.ctf_model.specs.Section.{Piece, front_len, records}
+use Rattle.ctf_model.specs.rules.Faults.{walk_fault}
+use Rattle.ctf_model.specs.format.Section.{Piece, front_len, records}
 use Rattle.ctf_model.specs.declared.faults.Fault.{Fault}
 use Rattle.ctf_records.specs.Pieces.{piece_numbered}
 use Rattle.ctf_records.specs.RecordView.{piece_at}

@@ -3,7 +3,7 @@ use Rattle.std.proofs.Common.{◌≡◌, ℕ, ◌+◌, ◌<◌, ◌≤◌, max, 
 use Rattle.std.specs.Prelude.{slice_index, ◌||◌}
 use Rattle.std.specs.List.{list_any}
 use Rattle.std.proofs.lemmas.List.{drop_more, drop_all}
-use Rattle.ctf_model.specs.Needs.{greatest_in_parent, number_in_parent}
+use Rattle.ctf_model.specs.rules.Needs.{greatest_in_parent, number_in_parent}
 
 pub any_next : (p : ℕ → Bool) (ns : List ℕ) (i n : ℕ) → i < length ns → n ≡ slice_index ns i → list_any p (drop i ns) ≡ (p n || list_any p (drop (i + 1) ns))
 any_next p ns i n lt e = rw e (ap (list_any p) (drop_more ns i 0 lt))

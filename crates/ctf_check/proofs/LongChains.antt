@@ -7,12 +7,12 @@ use Rattle.std.proofs.lemmas.List.{length-map}
 use Rattle.std.proofs.lemmas.Option.{same_Some}
 use Rattle.ctf_model.proofs.ChainRules.{DeepFrom, deep_agrees}
 use Rattle.ctf_model.proofs.FirstFault.{Agrees}
-use Rattle.ctf_model.specs.Chains.{edges, own_index, longest_chain}
+use Rattle.ctf_model.specs.rules.Chains.{edges, own_index, longest_chain}
 use Rattle.ctf_model.specs.declared.faults.Fault.{Fault}
-use Rattle.ctf_model.specs.Faults.{first_deep, walk_fault}
-use Rattle.ctf_model.specs.Name.{Tables}
-use Rattle.ctf_model.specs.Section.{Piece, terms_in}
-use Rattle.ctf_model.specs.Term.{Body, Term}
+use Rattle.ctf_model.specs.rules.Faults.{first_deep, walk_fault}
+use Rattle.ctf_model.specs.format.Name.{Tables}
+use Rattle.ctf_model.specs.format.Section.{Piece, terms_in}
+use Rattle.ctf_model.specs.format.Term.{Body, Term}
 use Rattle.ctf_chains.specs.Deep.{IsLeastDeep, IsLeastDeepType}
 use Rattle.ctf_chains.specs.Steps.{AreSpelled, steps}
 use Rattle.ctf_chains.specs.declared.chain.Chain.{Chain}

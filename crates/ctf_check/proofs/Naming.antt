@@ -4,18 +4,18 @@ use Rattle.std.specs.List.{AllByRecursion}
 use Rattle.std.specs.Option.{option_map, option_and_then}
 use Rattle.std.proofs.lemmas.Option.{same_Some}
 use Rattle.ctf_model.proofs.MemberTypes.{members_types as types_of_members}
-use Rattle.ctf_model.specs.Bytes.{u16_at, u32_at}
+use Rattle.ctf_model.specs.format.Bytes.{u16_at, u32_at}
 use Rattle.ctf_model.specs.declared.faults.Fault.{Fault}
 use Rattle.ctf_model.specs.declared.kinds.Kind.{Kind}
 use Rattle.ctf_model.specs.declared.kinds.Kind.TheVariants.{KUnknown, KInteger, KFloat, KPointer, KArray, KFunction, KStruct, KUnion, KEnum, KForward, KTypedef, KVolatile, KConst, KRestrict}
-use Rattle.ctf_model.specs.Faults.{first_misnaming}
-use Rattle.ctf_model.specs.Name.{Tables, name}
-use Rattle.ctf_model.specs.Record.{kind, field, size, vlen, member_len, behind_head}
-use Rattle.ctf_model.specs.References.{references, is_misnaming}
-use Rattle.ctf_model.specs.Section.{Piece}
-use Rattle.ctf_model.specs.Spelling.{◌>>=◌, items, member_of, argument_of, members, arguments, enumerators, scalar, elements, tag, body_of, term_of}
-use Rattle.ctf_model.specs.Term.{Member, Enumerator, Body, Term}
-use Rattle.ctf_model.specs.Term as term
+use Rattle.ctf_model.specs.rules.Faults.{first_misnaming}
+use Rattle.ctf_model.specs.format.Name.{Tables, name}
+use Rattle.ctf_model.specs.format.Record.{kind, field, size, vlen, member_len, behind_head}
+use Rattle.ctf_model.specs.rules.References.{references, is_misnaming}
+use Rattle.ctf_model.specs.format.Section.{Piece}
+use Rattle.ctf_model.specs.format.Spelling.{◌>>=◌, items, member_of, argument_of, members, arguments, enumerators, scalar, elements, tag, body_of, term_of}
+use Rattle.ctf_model.specs.format.Term.{Member, Enumerator, Body, Term}
+use Rattle.ctf_model.specs.format.Term as term
 use Rattle.ctf_records.specs.ByKind.{reference_of_kind}
 use Rattle.ctf_records.specs.ListedTypes.{numbers_in, listed_types_of_kind, listed_types_at}
 use Rattle.ctf_check.specs.Named.{in_head, named_types, misnames, first_that_misnames}

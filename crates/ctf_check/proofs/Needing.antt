@@ -1,16 +1,16 @@
 -- The greatest number of a parent's type in the bytes is the one that the types name.
 use Rattle.std.proofs.Common.{◌≡◌, ℕ, max, List, [], ◌∷◌, ◌++◌, Some, None, Result, Ok, Err, refl, sym, ap, ◌∙◌, arith}
 use Rattle.std.specs.List.{AllByRecursion, flat_map}
-use Rattle.ctf_model.specs.Dictionary.{said_by}
-use Rattle.ctf_model.specs.Faults.{first_fault, types}
-use Rattle.ctf_model.specs.Lists.{Lists, tables}
-use Rattle.ctf_model.specs.Name.{Tables}
-use Rattle.ctf_model.specs.Entries.{Entry, types_told}
-use Rattle.ctf_model.specs.Needs.{greatest_in_parent, named_by}
-use Rattle.ctf_model.specs.References.{references}
-use Rattle.ctf_model.specs.Section.{Piece, terms_in}
-use Rattle.ctf_model.specs.Spelling.{term_of}
-use Rattle.ctf_model.specs.Term.{Term}
+use Rattle.ctf_model.specs.format.Dictionary.{said_by}
+use Rattle.ctf_model.specs.rules.Faults.{first_fault, types}
+use Rattle.ctf_model.specs.format.Lists.{Lists, tables}
+use Rattle.ctf_model.specs.format.Name.{Tables}
+use Rattle.ctf_model.specs.symbols.Entries.{Entry, types_told}
+use Rattle.ctf_model.specs.rules.Needs.{greatest_in_parent, named_by}
+use Rattle.ctf_model.specs.rules.References.{references}
+use Rattle.ctf_model.specs.format.Section.{Piece, terms_in}
+use Rattle.ctf_model.specs.format.Spelling.{term_of}
+use Rattle.ctf_model.specs.format.Term.{Term}
 use Rattle.ctf_model.specs.declared.faults.Fault.{Fault}
 use Rattle.ctf_check.specs.Needed.{record_needs, records_need, entries_need}
 use Rattle.ctf_check.proofs.Naming.{record_names}

@@ -2,10 +2,10 @@
 use Rattle.std.proofs.Common.{◌≡◌, ℕ, zero, suc, ◌+◌, Bool, true, false, cond, eqb, ltb, drop, List, [], ◌∷◌, ◌++◌, length, Option, Some, None, Result, refl, sym, ap, subst, ◌∙◌, arith, ◌⊎◌, inl, inr}
 use Rattle.std.specs.Prelude.{map}
 use Rattle.std.specs.Option.{option_or}
-use Rattle.ctf_model.specs.Faults.{or_later, first_broken, header_rules, header_fault, on_ctf, walk_fault, types, place_of, truncated, bad_kind, too_many, bad_name, bad_reference, value_deep, decl_deep, bad_funcs, bad_symbol_type, bad_symtab, edges_by, first_nameless, sites, rules, first_fault}
-use Rattle.ctf_model.specs.Header.{fields, is_child, section}
-use Rattle.ctf_model.specs.Lists.{Lists, tables}
-use Rattle.ctf_model.specs.Section.{Piece, step, walk, front_len, records}
+use Rattle.ctf_model.specs.rules.Faults.{or_later, first_broken, header_rules, header_fault, on_ctf, walk_fault, types, place_of, truncated, bad_kind, too_many, bad_name, bad_reference, value_deep, decl_deep, bad_funcs, bad_symbol_type, bad_symtab, edges_by, first_nameless, sites, rules, first_fault}
+use Rattle.ctf_model.specs.format.Header.{fields, is_child, section}
+use Rattle.ctf_model.specs.format.Lists.{Lists, tables}
+use Rattle.ctf_model.specs.format.Section.{Piece, step, walk, front_len, records}
 use Rattle.ctf_model.specs.declared.faults.Fault.{Fault}
 use Rattle.ctf_model.specs.declared.sections.Section.TheVariants.{STypes}
 use Rattle.ctf_check.specs.Stages.{records_fault, types_fault, symbols_fault, fault_before_chains}

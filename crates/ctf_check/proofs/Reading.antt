@@ -1,6 +1,6 @@
 -- Reading record by record.
 use Rattle.std.proofs.Common.{ℕ, zero, suc, ◌+◌, ◌≤◌, Bool, true, false, cond, eqb, drop, List, [], length, Option, Some, None, Result, arith}
-use Rattle.ctf_model.specs.Section.{Piece, step, walk, front_len}
+use Rattle.ctf_model.specs.format.Section.{Piece, step, walk, front_len}
 use Rattle.ctf_model.specs.declared.faults.Fault.{Fault}
 
 cond_len : (t : Bool) (xs : List (Result Piece Fault)) (n : ℕ) → length xs ≤ n → length (cond t [] xs) ≤ n

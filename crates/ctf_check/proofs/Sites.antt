@@ -4,11 +4,11 @@ use Rattle.std.specs.Prelude.{is_none}
 use Rattle.std.proofs.Math.Nat.{mul-suc}
 use Rattle.std.proofs.lemmas.List.{drop-drop}
 use Rattle.std.specs.Option.{option_or}
-use Rattle.ctf_model.specs.Bytes.{u32_at}
-use Rattle.ctf_model.specs.Faults.{Site, label_sites, item_sites, record_sites, first_nameless, sites, types}
-use Rattle.ctf_model.specs.Header.{Fields, fields, range_of}
-use Rattle.ctf_model.specs.Name.{Tables, name}
-use Rattle.ctf_model.specs.Section.{Piece, records}
+use Rattle.ctf_model.specs.format.Bytes.{u32_at}
+use Rattle.ctf_model.specs.rules.Faults.{Site, label_sites, item_sites, record_sites, first_nameless, sites, types}
+use Rattle.ctf_model.specs.format.Header.{Fields, fields, range_of}
+use Rattle.ctf_model.specs.format.Name.{Tables, name}
+use Rattle.ctf_model.specs.format.Section.{Piece, records}
 use Rattle.ctf_check.specs.Stages.{header_sites, own_sites}
 use Rattle.ctf_model.specs.declared.faults.Fault.{Fault}
 use Rattle.ctf_model.specs.declared.sections.Section.TheVariants.{SLabels, STypes}

@@ -2,13 +2,13 @@
 use Rattle.std.proofs.Common.{◌≡◌, ℕ, List, Option, Some, None, refl, ap, subst, ◌∙◌}
 use Rattle.std.specs.Option.{option_map}
 use Rattle.std.proofs.lemmas.Option.{same_Some}
-use Rattle.ctf_model.specs.Bytes.{u32_at}
-use Rattle.ctf_model.specs.Name.{Tables, name}
-use Rattle.ctf_model.specs.Shown.{kind_of, size_of, reference_of, declared_by}
-use Rattle.ctf_model.specs.Record.{kind, is_root, field, size}
-use Rattle.ctf_model.specs.Spelling.{◌>>=◌, body_of, term_of, scalar, elements, tag, members, enumerators, arguments}
-use Rattle.ctf_model.specs.Term.{Body, Term}
-use Rattle.ctf_model.specs.Term as term
+use Rattle.ctf_model.specs.format.Bytes.{u32_at}
+use Rattle.ctf_model.specs.format.Name.{Tables, name}
+use Rattle.ctf_model.specs.format.Shown.{kind_of, size_of, reference_of, declared_by}
+use Rattle.ctf_model.specs.format.Record.{kind, is_root, field, size}
+use Rattle.ctf_model.specs.format.Spelling.{◌>>=◌, body_of, term_of, scalar, elements, tag, members, enumerators, arguments}
+use Rattle.ctf_model.specs.format.Term.{Body, Term}
+use Rattle.ctf_model.specs.format.Term as term
 use Rattle.ctf_model.specs.declared.kinds.Kind.{Kind}
 use Rattle.ctf_model.specs.declared.kinds.Kind.TheVariants.{KUnknown, KInteger, KFloat, KPointer, KArray, KFunction, KStruct, KUnion, KEnum, KForward, KTypedef, KVolatile, KConst, KRestrict}
 use Rattle.ctf_records.specs.ByKind.{size_of_kind, reference_of_kind, declared_of_kind, size_in, reference_in, declared_in}

@@ -2,11 +2,11 @@
 use Rattle.std.proofs.Common.{◌≡◌, ℕ, ◌%◌, ◌<◌, Bool, true, ltb, List, [], length, Some, None, refl}
 use Rattle.std.specs.Prelude.{unwrap_or}
 use Rattle.std.proofs.lemmas.Bool.{lt-ltb}
-use Rattle.ctf_model.specs.Entries.{Entry, entries, entries_of, function_sites}
-use Rattle.ctf_model.specs.Faults.{bad_funcs, bad_symbol_type, types}
-use Rattle.ctf_model.specs.Header.{fields, is_child, section}
-use Rattle.ctf_model.specs.Lists.{Lists}
-use Rattle.ctf_model.specs.Symbols.{symbols, symbols_of, considered}
+use Rattle.ctf_model.specs.symbols.Entries.{Entry, entries, entries_of, function_sites}
+use Rattle.ctf_model.specs.rules.Faults.{bad_funcs, bad_symbol_type, types}
+use Rattle.ctf_model.specs.format.Header.{fields, is_child, section}
+use Rattle.ctf_model.specs.format.Lists.{Lists}
+use Rattle.ctf_model.specs.symbols.Symbols.{symbols, symbols_of, considered}
 use Rattle.ctf_model.specs.declared.sections.Section.TheVariants.{SObjects, SFunctions}
 use Rattle.ctf_entries.specs.Sound.{bad_place}
 use Rattle.ctf_check.specs.Stages.{first_mistold, symbols_fault}

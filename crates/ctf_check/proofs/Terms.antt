@@ -6,16 +6,16 @@ use Rattle.std.specs.Option.{option_or, option_map, option_and_then}
 use Rattle.std.proofs.lemmas.Bool.{eqb-true, eqb-false, false≢true}
 use Rattle.ctf_model.proofs.Cut.{front_whole}
 use Rattle.ctf_model.proofs.Spelled.{AreNamed, split_front, spelled}
-use Rattle.ctf_model.specs.Bytes.{u32_at}
-use Rattle.ctf_model.specs.Dictionary.{said_by}
-use Rattle.ctf_model.specs.Faults.{Site, first_nameless, first_fault, label_sites, list_sites, record_sites, sites, types, walk_fault}
-use Rattle.ctf_model.specs.Header.{fields}
-use Rattle.ctf_model.specs.Lists.{Lists, tables}
-use Rattle.ctf_model.specs.Name.{Tables, name}
-use Rattle.ctf_model.specs.Record.{IsWhole, is_root, kind}
-use Rattle.ctf_model.specs.Spelling.{◌>>=◌, body_of, term_of}
-use Rattle.ctf_model.specs.Section.{Piece, front_len, step, terms_in, walk}
-use Rattle.ctf_model.specs.Term.{Body, Term}
+use Rattle.ctf_model.specs.format.Bytes.{u32_at}
+use Rattle.ctf_model.specs.format.Dictionary.{said_by}
+use Rattle.ctf_model.specs.rules.Faults.{Site, first_nameless, first_fault, label_sites, list_sites, record_sites, sites, types, walk_fault}
+use Rattle.ctf_model.specs.format.Header.{fields}
+use Rattle.ctf_model.specs.format.Lists.{Lists, tables}
+use Rattle.ctf_model.specs.format.Name.{Tables, name}
+use Rattle.ctf_model.specs.format.Record.{IsWhole, is_root, kind}
+use Rattle.ctf_model.specs.format.Spelling.{◌>>=◌, body_of, term_of}
+use Rattle.ctf_model.specs.format.Section.{Piece, front_len, step, terms_in, walk}
+use Rattle.ctf_model.specs.format.Term.{Body, Term}
 use Rattle.ctf_model.specs.declared.faults.Fault.{Fault}
 use Rattle.ctf_model.specs.declared.kinds.Kind.{Kind}
 use Rattle.ctf_chains.specs.Steps.{AreSpelled}

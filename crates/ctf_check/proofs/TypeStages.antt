@@ -2,11 +2,11 @@
 use Rattle.std.proofs.Common.{◌≡◌, ℕ, Bool, List, length, Option, Some, None, Result, sym, ap, subst, ◌∙◌, ◌⊎◌, inl, inr}
 use Rattle.std.specs.List.{AllByRecursion}
 use Rattle.std.specs.Option.{option_or}
-use Rattle.ctf_model.specs.Faults.{or_later, first_misnaming, first_nameless, first_fault, header_fault, bad_name, bad_reference, sites, types, walk_fault}
-use Rattle.ctf_model.specs.Header.{fields, is_child}
-use Rattle.ctf_model.specs.Lists.{Lists, tables}
-use Rattle.ctf_model.specs.Name.{Tables}
-use Rattle.ctf_model.specs.Section.{Piece, records}
+use Rattle.ctf_model.specs.rules.Faults.{or_later, first_misnaming, first_nameless, first_fault, header_fault, bad_name, bad_reference, sites, types, walk_fault}
+use Rattle.ctf_model.specs.format.Header.{fields, is_child}
+use Rattle.ctf_model.specs.format.Lists.{Lists, tables}
+use Rattle.ctf_model.specs.format.Name.{Tables}
+use Rattle.ctf_model.specs.format.Section.{Piece, records}
 use Rattle.ctf_model.specs.declared.faults.Fault.{Fault}
 use Rattle.ctf_chains.specs.Steps.{AreSpelled}
 use Rattle.ctf_check.specs.Named.{first_that_misnames}

@@ -1,10 +1,10 @@
 -- What a `Checked` shows.
 use Rattle.std.specs.Prelude.{◌≡◌, ℕ, ◌-◌, ◌==◌, Option, Some, None, slice_get, if◌then◌else◌}
-use Rattle.ctf_model.specs.Dictionary.{Dictionary, said_by}
-use Rattle.ctf_model.specs.Faults.{types}
-use Rattle.ctf_model.specs.Lists.{Lists, tables}
-use Rattle.ctf_model.specs.Name.{Tables}
-use Rattle.ctf_model.specs.Term.{Term}
+use Rattle.ctf_model.specs.format.Dictionary.{Dictionary, said_by}
+use Rattle.ctf_model.specs.rules.Faults.{types}
+use Rattle.ctf_model.specs.format.Lists.{Lists, tables}
+use Rattle.ctf_model.specs.format.Name.{Tables}
+use Rattle.ctf_model.specs.format.Term.{Term}
 use Rattle.ctf_check.specs.ListsView.{lists_in}
 use Rattle.ctf_records.specs.Pieces.{piece_numbered}
 use Rattle.ctf_records.specs.RecordView.{piece}

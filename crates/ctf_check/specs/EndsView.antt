@@ -1,5 +1,5 @@
 -- What `NameEnds` shows.
-use Rattle.ctf_model.specs.Name.{Tables}
+use Rattle.ctf_model.specs.format.Name.{Tables}
 use Rattle.ctf_sections.specs.StringsView.{tables}
 use Rattle.ctf_check.specs.declared.ends.NameEnds.{NameEnds}
 

@@ -1,6 +1,6 @@
 -- What the facts of a type show.
 use Rattle.std.specs.Option.{option_map}
-use Rattle.ctf_model.specs.Shown as shown
+use Rattle.ctf_model.specs.format.Shown as shown
 use Rattle.ctf_records.specs.RecordView.{tag_of}
 use Rattle.ctf_views.specs.VariantView.{seen}
 use Rattle.ctf_check.specs.declared.facts.Facts.{Facts}

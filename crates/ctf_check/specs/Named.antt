@@ -3,8 +3,8 @@
 -- those of the type that it spells.
 use Rattle.std.specs.Prelude.{ℕ, ◌||◌, Bool, List, [], ◌∷◌, ◌++◌, Option, Some, None, Result, Ok, Err, if◌then◌else◌}
 use Rattle.std.specs.List.{list_any}
-use Rattle.ctf_model.specs.References.{is_missing, has_long_tag}
-use Rattle.ctf_model.specs.Section.{Piece}
+use Rattle.ctf_model.specs.rules.References.{is_missing, has_long_tag}
+use Rattle.ctf_model.specs.format.Section.{Piece}
 use Rattle.ctf_records.specs.ByKind.{reference_in}
 use Rattle.ctf_records.specs.ListedTypes.{listed_types}
 use Rattle.ctf_model.specs.declared.faults.Fault.{Fault}

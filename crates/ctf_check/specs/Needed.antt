@@ -1,9 +1,9 @@
 -- The greatest number of a parent's type that records name, read from their bytes,
 -- and that is told of symbols.
 use Rattle.std.specs.Prelude.{ℕ, max, List, [], ◌∷◌, Result, Ok, Err}
-use Rattle.ctf_model.specs.Entries.{Entry, types_told}
-use Rattle.ctf_model.specs.Needs.{greatest_in_parent}
-use Rattle.ctf_model.specs.Section.{Piece}
+use Rattle.ctf_model.specs.symbols.Entries.{Entry, types_told}
+use Rattle.ctf_model.specs.rules.Needs.{greatest_in_parent}
+use Rattle.ctf_model.specs.format.Section.{Piece}
 use Rattle.ctf_check.specs.Named.{named_types}
 use Rattle.ctf_model.specs.declared.faults.Fault.{Fault}
 

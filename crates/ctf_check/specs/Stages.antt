@@ -2,18 +2,18 @@
 -- its types and its symbols.
 use Rattle.std.specs.Prelude.{◌≡◌, ℕ, List, [], ◌∷◌, length, take, nat_lt, Bool, Option, Some, None, Result, if◌then◌else◌}
 use Rattle.std.specs.Option.{option_or}
-use Rattle.ctf_model.specs.Bytes.{u32_at}
-use Rattle.ctf_model.specs.Chains.{edges}
+use Rattle.ctf_model.specs.format.Bytes.{u32_at}
+use Rattle.ctf_model.specs.rules.Chains.{edges}
 use Rattle.ctf_chains.specs.Steps.{AreSpelled, steps}
 use Rattle.ctf_chains.specs.declared.chain.Chain.{Chain}
 use Rattle.ctf_chains.specs.declared.chain.Chain.TheVariants.{ByValue, Declarator}
-use Rattle.ctf_model.specs.Faults.{Site, list_sites, walk_fault, or_later, first_broken, first_misnaming, first_deep, first_where, tells_missing, bad_funcs, bad_symbol_type, bad_symtab, rules}
-use Rattle.ctf_model.specs.Entries.{Entry}
-use Rattle.ctf_model.specs.Header.{Fields}
-use Rattle.ctf_model.specs.Lists.{Lists}
-use Rattle.ctf_model.specs.Name.{Tables}
-use Rattle.ctf_model.specs.Record.{kind}
-use Rattle.ctf_model.specs.Section.{Piece, terms_in}
+use Rattle.ctf_model.specs.rules.Faults.{Site, list_sites, walk_fault, or_later, first_broken, first_misnaming, first_deep, first_where, tells_missing, bad_funcs, bad_symbol_type, bad_symtab, rules}
+use Rattle.ctf_model.specs.symbols.Entries.{Entry}
+use Rattle.ctf_model.specs.format.Header.{Fields}
+use Rattle.ctf_model.specs.format.Lists.{Lists}
+use Rattle.ctf_model.specs.format.Name.{Tables}
+use Rattle.ctf_model.specs.format.Record.{kind}
+use Rattle.ctf_model.specs.format.Section.{Piece, terms_in}
 use Rattle.ctf_model.specs.declared.faults.Fault.{Fault}
 use Rattle.ctf_model.specs.declared.faults.TheConstants.Fault.{MEMORY, TOO_MANY, BAD_REFERENCE, VALUE_DEEP, DECL_DEEP, BAD_FUNCS, BAD_SYMBOL_TYPE, BAD_SYMTAB}
 

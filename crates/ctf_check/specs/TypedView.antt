@@ -1,7 +1,7 @@
 -- What a `Typed` shows.
 use Rattle.std.specs.Prelude.{Option}
-use Rattle.ctf_model.specs.Spelling.{term_of}
-use Rattle.ctf_model.specs.Term.{Term}
+use Rattle.ctf_model.specs.format.Spelling.{term_of}
+use Rattle.ctf_model.specs.format.Term.{Term}
 use Rattle.ctf_check.specs.CheckedView.{tables_of}
 use Rattle.ctf_check.specs.declared.checked.Checked.{Checked}
 use Rattle.ctf_check.specs.declared.typed.Typed.{Typed}

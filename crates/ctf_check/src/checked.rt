@@ -1,18 +1,18 @@
 //! A dictionary that breaks no rule, and what it answers.
 ghost use Rattle.std.specs.Prelude.{◌≡◌, ◌≤◌, ◌<◌, ◌^◌, ◌+◌, ◌↔◌, length, IsSome, IfOk, IfSome, Some, None};
 ghost use Rattle.std.specs.Option.{ForSome, option_map};
-ghost use Rattle.ctf_model.specs.Dictionary.{said_by, denoted, name_or_empty};
+ghost use Rattle.ctf_model.specs.format.Dictionary.{said_by, denoted, name_or_empty};
 ghost use Rattle.ctf_chains.specs.Starts.{starts_in};
-ghost use Rattle.ctf_model.specs.Faults.{first_fault, types as types_of, walk_fault};
-ghost use Rattle.ctf_model.specs.Header.{fields, section};
-ghost use Rattle.ctf_model.specs.Lists.{tables as tables_in};
+ghost use Rattle.ctf_model.specs.rules.Faults.{first_fault, types as types_of, walk_fault};
+ghost use Rattle.ctf_model.specs.format.Header.{fields, section};
+ghost use Rattle.ctf_model.specs.format.Lists.{tables as tables_in};
 ghost use Rattle.ctf_model.specs.declared.sections.Section.TheVariants.{STypes};
-ghost use Rattle.ctf_model.specs.Needs.{needed};
-ghost use Rattle.ctf_model.specs.Spelling.{term_of};
+ghost use Rattle.ctf_model.specs.rules.Needs.{needed};
+ghost use Rattle.ctf_model.specs.format.Spelling.{term_of};
 ghost use Rattle.ctf_sections.specs.StringsView.{tables};
 ghost use Rattle.ctf_check.specs.ListsView.{lists_in};
-ghost use Rattle.ctf_model.specs.Section.{records};
-ghost use Rattle.ctf_model.specs.Shown.{shown};
+ghost use Rattle.ctf_model.specs.format.Section.{records};
+ghost use Rattle.ctf_model.specs.format.Shown.{shown};
 ghost use Rattle.ctf_records.specs.Pieces.{piece_numbered};
 ghost use Rattle.ctf_records.specs.RecordView.{piece};
 ghost use Rattle.ctf_views.specs.VariantView.{seen};
@@ -170,7 +170,7 @@ impl<'a> Checked<'a> {
     }
 
     /// Whether its low type numbers are those of a parent.
-    #[tactic(auto, unfolding(ctf_model::specs::Dictionary::said_by))]
+    #[tactic(auto, unfolding(ctf_model::specs::format::Dictionary::said_by))]
     pub fn child(&self) -> bool
         ensures { result ≡ (dictionary_of self.now).child }
     {
@@ -178,7 +178,7 @@ impl<'a> Checked<'a> {
     }
 
     /// The name of its parent.
-    #[tactic(auto, unfolding(ctf_model::specs::Dictionary::said_by))]
+    #[tactic(auto, unfolding(ctf_model::specs::format::Dictionary::said_by))]
     pub fn parname(&self) -> &'a [u8]
         ensures { result.now ≡ (dictionary_of self.now).parname }
     {
@@ -186,7 +186,7 @@ impl<'a> Checked<'a> {
     }
 
     /// The label up to which it uses its parent.
-    #[tactic(auto, unfolding(ctf_model::specs::Dictionary::said_by))]
+    #[tactic(auto, unfolding(ctf_model::specs::format::Dictionary::said_by))]
     pub fn parlabel(&self) -> &'a [u8]
         ensures { result.now ≡ (dictionary_of self.now).parlabel }
     {

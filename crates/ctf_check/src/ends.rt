@@ -1,6 +1,6 @@
 //! Which references name something, told by where names end, without reading the names.
 ghost use Rattle.std.specs.Prelude.{◌≡◌, Some, is_none};
-ghost use Rattle.ctf_model.specs.Name.{name};
+ghost use Rattle.ctf_model.specs.format.Name.{name};
 ghost use Rattle.ctf_sections.specs.StringsView.{tables};
 ghost use Rattle.ctf_sections.specs.TableEnds.{EndsAt};
 

@@ -1,9 +1,9 @@
 //! What the record of a type says of it, without a look at its name.
 ghost use Rattle.std.specs.Prelude.{◌≡◌, ◌<◌, length, slice_index, IfSome, Some};
 ghost use Rattle.std.specs.Option.{option_map};
-ghost use Rattle.ctf_model.specs.Chains.{by_value};
-ghost use Rattle.ctf_model.specs.Shown.{kind_of, reference_of, shape, size_of};
-ghost use Rattle.ctf_model.specs.Spelling.{term_of};
+ghost use Rattle.ctf_model.specs.rules.Chains.{by_value};
+ghost use Rattle.ctf_model.specs.format.Shown.{kind_of, reference_of, shape, size_of};
+ghost use Rattle.ctf_model.specs.format.Spelling.{term_of};
 ghost use Rattle.ctf_check.specs.FactsView.{shape_seen};
 
 use crate::checked::Checked;

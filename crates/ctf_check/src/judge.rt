@@ -1,7 +1,7 @@
 //! The check: which rule a dictionary breaks first.
 ghost use Rattle.std.specs.Prelude.{◌≡◌, ◌≤◌, ◌<◌, ◌^◌, ◌⊎◌, length, IfOk, IfErr, OnOk, Some, None, option_copied};
-ghost use Rattle.ctf_model.specs.Faults.{first_fault, walk_fault};
-ghost use Rattle.ctf_model.specs.Section.{records};
+ghost use Rattle.ctf_model.specs.rules.Faults.{first_fault, walk_fault};
+ghost use Rattle.ctf_model.specs.format.Section.{records};
 ghost use Rattle.ctf_check.specs.CheckedView.{lists_of};
 ghost use Rattle.ctf_check.specs.ListsView.{given};
 ghost use Rattle.ctf_check.specs.Named.{first_that_misnames};

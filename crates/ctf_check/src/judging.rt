@@ -1,7 +1,7 @@
 //! The rules of chains: no chain of types is too long.
 ghost use Rattle.std.specs.Prelude.{◌≡◌, ◌<◌, ◌^◌, length, OnOk, IfErr, None, Some, ◌⊎◌};
-ghost use Rattle.ctf_model.specs.Faults.{walk_fault};
-ghost use Rattle.ctf_model.specs.Section.{records};
+ghost use Rattle.ctf_model.specs.rules.Faults.{walk_fault};
+ghost use Rattle.ctf_model.specs.format.Section.{records};
 ghost use Rattle.ctf_chains.specs.Starts.{starts_in};
 ghost use Rattle.ctf_check.specs.Stages.{IsChainPlace, IsChainsFault, want_of_memory};
 

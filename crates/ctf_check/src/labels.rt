@@ -1,6 +1,6 @@
 //! The labels of a dictionary that passed.
 ghost use Rattle.std.specs.Prelude.{◌≡◌, ◌<◌, ◌^◌, length};
-ghost use Rattle.ctf_model.specs.Header.{section};
+ghost use Rattle.ctf_model.specs.format.Header.{section};
 ghost use Rattle.ctf_check.specs.CheckedView.{dictionary_of, lists_of};
 ghost use Rattle.ctf_model.specs.declared.sections.Section.TheVariants.{SLabels};
 

@@ -1,9 +1,9 @@
 //! The rule of names: each name reference names something.
 ghost use Rattle.std.specs.Prelude.{◌≡◌, ◌≤◌, ◌<◌, ◌+◌, ◌*◌, ◌^◌, length};
-ghost use Rattle.ctf_model.specs.Header.{fields};
-ghost use Rattle.ctf_model.specs.Faults.{first_nameless, label_sites, item_sites, list_sites, record_sites, sites};
-ghost use Rattle.ctf_model.specs.Record.{kind as kind_in};
-ghost use Rattle.ctf_model.specs.Section.{records};
+ghost use Rattle.ctf_model.specs.format.Header.{fields};
+ghost use Rattle.ctf_model.specs.rules.Faults.{first_nameless, label_sites, item_sites, list_sites, record_sites, sites};
+ghost use Rattle.ctf_model.specs.format.Record.{kind as kind_in};
+ghost use Rattle.ctf_model.specs.format.Section.{records};
 ghost use Rattle.ctf_records.specs.RecordView.{bytes_of};
 ghost use Rattle.ctf_check.specs.EndsView.{tables_in};
 ghost use Rattle.ctf_check.specs.Stages.{header_sites, own_sites};
@@ -15,7 +15,7 @@ use ctf_sections::Header;
 use ctf_sections::bytes::u32_at;
 
 /// The first of the header's names that is bad: its place in the dictionary.
-#[tactic(auto, unfolding(ctf_model::specs::Faults::first_nameless))]
+#[tactic(auto, unfolding(ctf_model::specs::rules::Faults::first_nameless))]
 fn bad_in_header(header: Header, ends: NameEnds<'_>) -> Option<u64>
     ensures { result ≡ first_nameless (tables_in ends.entry) (header_sites header) }
 {
@@ -29,7 +29,7 @@ fn bad_in_header(header: Header, ends: NameEnds<'_>) -> Option<u64>
 }
 
 /// The first of the names of `count` labels that is bad: its place in the dictionary.
-#[tactic(auto, using(crate::proofs::Sites::label_sites_next, crate::proofs::Sites::label_sites_end), unfolding(ctf_model::specs::Faults::first_nameless))]
+#[tactic(auto, using(crate::proofs::Sites::label_sites_next, crate::proofs::Sites::label_sites_end), unfolding(ctf_model::specs::rules::Faults::first_nameless))]
 fn bad_in_labels(ctf: &[u8], start: usize, count: usize, ends: NameEnds<'_>) -> Option<u64>
     requires { start + 8 * count ≤ length ctf.now }
     ensures { result ≡ first_nameless (tables_in ends.entry) (label_sites ctf.now start count) }
@@ -45,7 +45,7 @@ fn bad_in_labels(ctf: &[u8], start: usize, count: usize, ends: NameEnds<'_>) -> 
 
 /// The first of the names of `count` items of a list that is bad: its place in the dictionary,
 /// where the list begins at `start`.
-#[tactic(auto, using(crate::proofs::Sites::item_sites_next, crate::proofs::Sites::item_sites_end), unfolding(ctf_model::specs::Faults::first_nameless))]
+#[tactic(auto, using(crate::proofs::Sites::item_sites_next, crate::proofs::Sites::item_sites_end), unfolding(ctf_model::specs::rules::Faults::first_nameless))]
 fn bad_in_items(
     list: &[u8],
     start: usize,
@@ -69,7 +69,7 @@ fn bad_in_items(
 
 /// The first of the names in the list of a record that is bad: its place in the dictionary, where
 /// the record begins at `start`.
-#[tactic(auto, unfolding(ctf_model::specs::Faults::first_nameless))]
+#[tactic(auto, unfolding(ctf_model::specs::rules::Faults::first_nameless))]
 fn bad_in_list(term: &Record<'_>, start: usize, ends: NameEnds<'_>) -> Option<u64>
     requires near { start + length (bytes_of term.now) < 2 ^ 64 }
     ensures { result ≡ first_nameless (tables_in ends.entry)
@@ -88,7 +88,7 @@ fn bad_in_list(term: &Record<'_>, start: usize, ends: NameEnds<'_>) -> Option<u6
 
 /// The first of the names of a record that is bad: its place in the dictionary, where the record
 /// begins at `start`.
-#[tactic(auto, unfolding(ctf_model::specs::Faults::first_nameless))]
+#[tactic(auto, unfolding(ctf_model::specs::rules::Faults::first_nameless))]
 fn bad_in_record(term: &Record<'_>, start: usize, ends: NameEnds<'_>) -> Option<u64>
     requires near { start + length (bytes_of term.now) < 2 ^ 64 }
     ensures { result ≡ first_nameless (tables_in ends.entry) (own_sites start (bytes_of term.now)) }

@@ -1,10 +1,10 @@
 //! Which types of its parent a child names.
 ghost use Rattle.std.specs.Prelude.{◌≡◌, max, ◌∷◌};
-ghost use Rattle.ctf_model.specs.Needs.{greatest_in_parent, number_in_parent};
-ghost use Rattle.ctf_model.specs.Section.{records};
+ghost use Rattle.ctf_model.specs.rules.Needs.{greatest_in_parent, number_in_parent};
+ghost use Rattle.ctf_model.specs.format.Section.{records};
 ghost use Rattle.ctf_records.specs.ListedTypes.{listed_types};
 ghost use Rattle.ctf_records.specs.RecordView.{bytes_of};
-ghost use Rattle.ctf_model.specs.Entries.{types_told};
+ghost use Rattle.ctf_model.specs.symbols.Entries.{types_told};
 ghost use Rattle.ctf_entries.specs.EntriesView.{told_in};
 ghost use Rattle.ctf_entries.specs.FunctionView.{signature};
 ghost use Rattle.ctf_check.specs.Needed.{entries_need as entries_need_in, record_needs as record_needs_in, records_need as records_need_in};
@@ -43,7 +43,7 @@ fn listed_needs(term: &Record<'_>) -> u16
 }
 
 /// The greatest number of a parent's type that a record names.
-#[tactic(auto, unfolding(crate::specs::Needed::record_needs, ctf_model::specs::Needs::greatest_in_parent))]
+#[tactic(auto, unfolding(crate::specs::Needed::record_needs, ctf_model::specs::rules::Needs::greatest_in_parent))]
 fn record_needs(term: &Record<'_>) -> u16
     ensures { result ≡ record_needs_in (bytes_of term.now) }
 {
@@ -67,7 +67,7 @@ pub fn records_need(types: &[u8]) -> u16
 }
 
 /// The greatest number of a parent's type among arguments.
-#[tactic(auto, unfolding(ctf_model::specs::Needs::greatest_in_parent))]
+#[tactic(auto, unfolding(ctf_model::specs::rules::Needs::greatest_in_parent))]
 fn args_need(args: Args<'_>) -> u16
     ensures { result ≡ greatest_in_parent args.entry }
 {
@@ -79,7 +79,7 @@ fn args_need(args: Args<'_>) -> u16
 }
 
 /// The greatest number of a parent's type that a signature names.
-#[tactic(auto, unfolding(ctf_model::specs::Needs::greatest_in_parent))]
+#[tactic(auto, unfolding(ctf_model::specs::rules::Needs::greatest_in_parent))]
 fn signature_needs(told: Signature<'_>) -> u16
     ensures { result ≡ greatest_in_parent
         ((signature told.entry).ret ∷ (signature told.entry).args) }
@@ -88,7 +88,7 @@ fn signature_needs(told: Signature<'_>) -> u16
 }
 
 /// The greatest number of a parent's type that is told of a symbol.
-#[tactic(auto, unfolding(ctf_model::specs::Needs::greatest_in_parent))]
+#[tactic(auto, unfolding(ctf_model::specs::rules::Needs::greatest_in_parent))]
 fn told_needs(told: Told<'_>) -> u16
     ensures { result ≡ greatest_in_parent (types_told (told_in told.entry)) }
 {

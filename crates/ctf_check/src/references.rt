@@ -1,8 +1,8 @@
 //! The rule of references: each type that a record names is there.
 ghost use Rattle.std.specs.Prelude.{◌≡◌, ◌≤◌};
 ghost use Rattle.std.specs.List.{list_any};
-ghost use Rattle.ctf_model.specs.References.{has_long_tag as long_tag_in, is_missing as missing};
-ghost use Rattle.ctf_model.specs.Section.{records};
+ghost use Rattle.ctf_model.specs.rules.References.{has_long_tag as long_tag_in, is_missing as missing};
+ghost use Rattle.ctf_model.specs.format.Section.{records};
 ghost use Rattle.ctf_records.specs.ListedTypes.{listed_types};
 ghost use Rattle.ctf_records.specs.RecordView.{bytes_of};
 ghost use Rattle.ctf_check.specs.Named.{first_that_misnames, misnames as misnames_in};

@@ -1,6 +1,6 @@
 //! The bytes of a section of a dictionary.
 ghost use Rattle.std.specs.Prelude.{◌≡◌, ◌+◌, ◌≤◌, ◌<◌, ◌^◌, length};
-ghost use Rattle.ctf_model.specs.Header.{fields, section as bytes_of_section};
+ghost use Rattle.ctf_model.specs.format.Header.{fields, section as bytes_of_section};
 
 use ctf_model::Section;
 use ctf_sections::Header;

@@ -2,10 +2,10 @@
 //! off.
 ghost use Rattle.std.specs.Prelude.{◌≡◌, ◌≤◌, ◌+◌, length, IfErr, OnOk, None, Some, unwrap_or, option_copied, [], ◌∷◌};
 ghost use Rattle.std.specs.List.{list_any};
-ghost use Rattle.ctf_model.specs.Entries.{types_told};
-ghost use Rattle.ctf_model.specs.Faults.{types};
-ghost use Rattle.ctf_model.specs.Header.{fields, is_child};
-ghost use Rattle.ctf_model.specs.References.{is_missing as missing};
+ghost use Rattle.ctf_model.specs.symbols.Entries.{types_told};
+ghost use Rattle.ctf_model.specs.rules.Faults.{types};
+ghost use Rattle.ctf_model.specs.format.Header.{fields, is_child};
+ghost use Rattle.ctf_model.specs.rules.References.{is_missing as missing};
 ghost use Rattle.ctf_entries.specs.EntriesView.{told_in};
 ghost use Rattle.ctf_entries.specs.FunctionView.{signature};
 ghost use Rattle.ctf_check.specs.ListsView.{lists_in};

@@ -1,7 +1,7 @@
 //! What a dictionary that passed tells of the program's symbols.
 ghost use Rattle.std.specs.Prelude.{◌≡◌, ◌<◌, ◌^◌, length, unwrap_or, [], None, option_copied};
-ghost use Rattle.ctf_model.specs.Header.{section};
-ghost use Rattle.ctf_model.specs.Symbols.{considered, symbols_of};
+ghost use Rattle.ctf_model.specs.format.Header.{section};
+ghost use Rattle.ctf_model.specs.symbols.Symbols.{considered, symbols_of};
 ghost use Rattle.ctf_entries.specs.Sound.{bad_place};
 ghost use Rattle.ctf_check.specs.CheckedView.{dictionary_of, lists_of};
 ghost use Rattle.ctf_model.specs.declared.sections.Section.TheVariants.{SObjects, SFunctions};

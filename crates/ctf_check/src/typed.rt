@@ -1,12 +1,12 @@
 //! A type that was found in a dictionary.
 ghost use Rattle.std.specs.Prelude.{◌≡◌, ◌<◌, ◌↔◌, length, slice_index, IsSome, IfSome, Some};
 ghost use Rattle.std.specs.Option.{option_map};
-ghost use Rattle.ctf_model.specs.Chains.{by_value};
-ghost use Rattle.ctf_model.specs.Shown.{facts, shape, shown};
+ghost use Rattle.ctf_model.specs.rules.Chains.{by_value};
+ghost use Rattle.ctf_model.specs.format.Shown.{facts, shape, shown};
 ghost use Rattle.ctf_records.specs.RecordView.{index_of};
 ghost use Rattle.ctf_views.specs.VariantView.{seen};
 ghost use Rattle.ctf_check.specs.CheckedView.{dictionary_of, tables_of, type_at, IsOwn};
-ghost use Rattle.ctf_model.specs.Name.{name as named_by};
+ghost use Rattle.ctf_model.specs.format.Name.{name as named_by};
 ghost use Rattle.ctf_check.specs.FactsView.{facts_seen, shape_seen};
 
 use crate::checked::Checked;

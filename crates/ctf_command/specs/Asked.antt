@@ -1,7 +1,7 @@
 -- What a word NAME=FILE of `ctfd serve` asks for. Source: ours.
 use Rattle.std.specs.Prelude.{ℕ, ◌==◌, List, length, Option, Some, None, nat_lt, if◌then◌else◌}
 use Rattle.std.specs.List.{position_or_len, before_first, after_first}
-use Rattle.ctf_protocol.specs.Publications.{is_publication_name}
+use Rattle.ctf_protocol.specs.sessions.Publications.{is_publication_name}
 use Rattle.ctf_command.specs.declared.wanted.Wanted.{Wanted}
 
 -- a file is to be published under a name

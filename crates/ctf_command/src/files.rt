@@ -9,7 +9,7 @@ use std::fs::File;
 use std::io::{ErrorKind, Read};
 
 /// The greatest length of a file, in bytes.
-const LONGEST_FILE: u32 = 16_777_216;
+const LONGEST_FILE: u32 = 67_108_864;
 
 /// What is left of a reader, unless it is longer than so many bytes. `name` is what an error calls
 /// it.

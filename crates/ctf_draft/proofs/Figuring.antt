@@ -2,14 +2,14 @@
 use Rattle.std.proofs.Common.{◌≡◌, ℕ, suc, ◌-◌, ◌<◌, Bool, true, false, cond, eqb, length, Option, Some, None, Result, Ok, Err, is_some, refl, sym, ap, ◌∙◌, arith}
 use Rattle.std.specs.Prelude.{slice_get, option_map}
 use Rattle.std.proofs.lemmas.Option.{slice_get_within}
-use Rattle.ctf_model.specs.Chains.{own_index}
-use Rattle.ctf_model.specs.Dictionary.{Dictionary}
-use Rattle.ctf_model.specs.Drafts.{Draft, count_of, held}
-use Rattle.ctf_model.specs.Figures.{Figure, at_place, comes_to, figure_in, incomplete, of_found, parents_figure, resolved_body, resolving, size_body, sizing}
-use Rattle.ctf_model.specs.Term.{Body, Term}
-use Rattle.ctf_model.specs.Term as term
-use Rattle.ctf_model.specs.TypeNumbers.{no_type, or_no_type}
-use Rattle.ctf_model.specs.TypePlaces.{place}
+use Rattle.ctf_model.specs.rules.Chains.{own_index}
+use Rattle.ctf_model.specs.format.Dictionary.{Dictionary}
+use Rattle.ctf_model.specs.drafts.Drafts.{Draft, count_of, held}
+use Rattle.ctf_model.specs.figures.Figures.{Figure, at_place, comes_to, figure_in, incomplete, of_found, parents_figure, resolved_body, resolving, size_body, sizing}
+use Rattle.ctf_model.specs.format.Term.{Body, Term}
+use Rattle.ctf_model.specs.format.Term as term
+use Rattle.ctf_model.specs.spaces.TypeNumbers.{no_type, or_no_type}
+use Rattle.ctf_model.specs.spaces.TypePlaces.{place}
 use Rattle.ctf_model.specs.declared.data_model.DataModel.{DataModel}
 use Rattle.ctf_model.specs.declared.faults.Fault.{Fault}
 use Rattle.ctf_model.specs.declared.numbers.Place.{Place}

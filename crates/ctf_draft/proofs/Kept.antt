@@ -4,12 +4,12 @@ use Rattle.std.specs.Prelude.{MatchOption, slice_get, option_map}
 use Rattle.std.specs.List.{AllByRecursion, cons_option, filter_map}
 use Rattle.std.proofs.lemmas.Option.{slice_get-get_or, slice_get_within}
 use Rattle.ctf_chains.specs.Search.{IsDepth}
-use Rattle.ctf_model.specs.Chains.{IsWithin, by_value, own_index, targets}
-use Rattle.ctf_model.specs.Dictionary.{Dictionary}
-use Rattle.ctf_model.specs.FigureLaws.{AsksByValue, nothing, own_body, value_edges}
-use Rattle.ctf_model.specs.Figures.{Figure, at_place, comes_to}
-use Rattle.ctf_model.specs.Term.{Term}
-use Rattle.ctf_model.specs.TypePlaces.{place}
+use Rattle.ctf_model.specs.rules.Chains.{IsWithin, by_value, own_index, targets}
+use Rattle.ctf_model.specs.format.Dictionary.{Dictionary}
+use Rattle.ctf_model.specs.figures.FigureLaws.{AsksByValue, nothing, own_body, value_edges}
+use Rattle.ctf_model.specs.figures.Figures.{Figure, at_place, comes_to}
+use Rattle.ctf_model.specs.format.Term.{Term}
+use Rattle.ctf_model.specs.spaces.TypePlaces.{place}
 use Rattle.ctf_model.specs.declared.faults.Fault.{Fault}
 use Rattle.ctf_model.specs.declared.numbers.Place.{Place}
 use Rattle.ctf_model.specs.declared.numbers.Place.TheVariants.{Nowhere, Own, Parents}

@@ -5,16 +5,16 @@ use Rattle.std.specs.List.{AllByRecursion, list_any}
 use Rattle.std.proofs.lemmas.Bool.{leb-false, lt-ltb}
 use Rattle.std.proofs.lemmas.List.{get_or-set_other, get_or_append_left, length-set}
 use Rattle.std.proofs.lemmas.Option.{slice_get-get_or}
-use Rattle.ctf_model.specs.Chains.{by_value, own_index, own_index_at}
-use Rattle.ctf_model.specs.Dictionary.{Dictionary, Label}
-use Rattle.ctf_model.specs.DraftLaws.{IsSound, NamesThere}
-use Rattle.ctf_model.specs.Drafts.{Draft, all_of, count_of, held, is_absent, space_of}
-use Rattle.ctf_model.specs.FigureLaws.{nothing, own_body}
-use Rattle.ctf_model.specs.Figures.{align, aligning, comes_to, most_numbers, parents_figure}
-use Rattle.ctf_model.specs.References.{is_missing_at, references}
-use Rattle.ctf_model.specs.Term.{Body, Member, Term}
-use Rattle.ctf_model.specs.Term as term
-use Rattle.ctf_model.specs.TypePlaces.{own_number, place}
+use Rattle.ctf_model.specs.rules.Chains.{by_value, own_index, own_index_at}
+use Rattle.ctf_model.specs.format.Dictionary.{Dictionary, Label}
+use Rattle.ctf_model.specs.drafts.DraftLaws.{IsSound, NamesThere}
+use Rattle.ctf_model.specs.drafts.Drafts.{Draft, all_of, count_of, held, is_absent, space_of}
+use Rattle.ctf_model.specs.figures.FigureLaws.{nothing, own_body}
+use Rattle.ctf_model.specs.figures.Figures.{align, aligning, comes_to, most_numbers, parents_figure}
+use Rattle.ctf_model.specs.rules.References.{is_missing_at, references}
+use Rattle.ctf_model.specs.format.Term.{Body, Member, Term}
+use Rattle.ctf_model.specs.format.Term as term
+use Rattle.ctf_model.specs.spaces.TypePlaces.{own_number, place}
 use Rattle.ctf_model.specs.declared.data_model.DataModel.{DataModel}
 use Rattle.ctf_model.specs.declared.numbers.Place.{Place}
 use Rattle.ctf_model.specs.declared.numbers.Place.TheVariants.{Nowhere, Own, Parents}

@@ -1,10 +1,10 @@
 -- A member is added as it is planned.
 use Rattle.std.proofs.Common.{◌≡◌, ℕ, zero, suc, Bool, true, false, cond, List, [], ◌∷◌, take, drop, Option, Some, None, Result, Ok, Err, refl, ap, ◌∙◌, ◌⊎◌, inl, inr}
-use Rattle.ctf_model.specs.Adders.{Added, add_member, against_member, against_place, body_at, is_deep, place_member, put_member, replaced, size_with, with_member}
-use Rattle.ctf_model.specs.Drafts.{Draft, space_of}
-use Rattle.ctf_model.specs.Judgements.{◌then◌, Row, first_met, unless}
-use Rattle.ctf_model.specs.Placement.{bits_filled, member_place}
-use Rattle.ctf_model.specs.Refusals.{placeless, want_of_memory}
+use Rattle.ctf_model.specs.drafts.Adders.{Added, add_member, against_member, against_place, body_at, is_deep, place_member, put_member, replaced, size_with, with_member}
+use Rattle.ctf_model.specs.drafts.Drafts.{Draft, space_of}
+use Rattle.ctf_model.specs.rules.Judgements.{◌then◌, Row, first_met, unless}
+use Rattle.ctf_model.specs.drafts.Placement.{bits_filled, member_place}
+use Rattle.ctf_model.specs.rules.Refusals.{placeless, want_of_memory}
 use Rattle.ctf_model.specs.declared.faults.Fault.{Fault}
 use Rattle.ctf_draft.specs.Planning.{against_name, planned, planned_at, planned_shallow}
 use Rattle.ctf_draft.specs.declared.plan.Plan.{Plan}

@@ -3,12 +3,12 @@ use Rattle.std.proofs.Common.{◌≡◌, ℕ, zero, suc, Bool, true, false, List
 use Rattle.std.specs.Prelude.{IfOk, IfErr, not}
 use Rattle.std.specs.List.{AllByRecursion, list_all}
 use Rattle.ctf_chains.proofs.Depths.{IsWithin-more}
-use Rattle.ctf_model.specs.Adders.{is_deep, is_deep_from}
-use Rattle.ctf_model.specs.Chains.{IsWithin, longest_chain, own_index, targets, within}
-use Rattle.ctf_model.specs.Drafts.{Draft, count_of, held, space_of}
-use Rattle.ctf_model.specs.FigureLaws.{value_edges}
-use Rattle.ctf_model.specs.Figures.{align}
-use Rattle.ctf_model.specs.Refusals.{placeless, want_of_memory}
+use Rattle.ctf_model.specs.drafts.Adders.{is_deep, is_deep_from}
+use Rattle.ctf_model.specs.rules.Chains.{IsWithin, longest_chain, own_index, targets, within}
+use Rattle.ctf_model.specs.drafts.Drafts.{Draft, count_of, held, space_of}
+use Rattle.ctf_model.specs.figures.FigureLaws.{value_edges}
+use Rattle.ctf_model.specs.figures.Figures.{align}
+use Rattle.ctf_model.specs.rules.Refusals.{placeless, want_of_memory}
 use Rattle.ctf_model.specs.declared.faults.Fault.{Fault}
 use Rattle.ctf_model.proofs.ChainRules.{within_true}
 use Rattle.ctf_draft.specs.Planning.{planned, planned_shallow}

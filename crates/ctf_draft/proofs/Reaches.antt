@@ -13,13 +13,13 @@ use Rattle.ctf_chains.proofs.Depths.{deep_target, is_depth, led_more, led_same, 
 use Rattle.ctf_chains.proofs.Lists.{same_or_not}
 use Rattle.ctf_layout.specs.Bases.{greatest_of}
 use Rattle.ctf_layout.proofs.HangsOn.{greatest_step}
-use Rattle.ctf_model.specs.Chains.{IsWithin, by_value, edges, longest_chain, own_index}
-use Rattle.ctf_model.specs.Dictionary.{Dictionary}
-use Rattle.ctf_model.specs.Drafts.{Draft, count_of, held, space_of}
-use Rattle.ctf_model.specs.FigureLaws.{nothing, own_body, value_edges}
-use Rattle.ctf_model.specs.Figures.{align, align_body, aligning, comes_to, first_of, greater, greatest, parents_figure}
-use Rattle.ctf_model.specs.Term.{Body, Member, Term}
-use Rattle.ctf_model.specs.Term as term
+use Rattle.ctf_model.specs.rules.Chains.{IsWithin, by_value, edges, longest_chain, own_index}
+use Rattle.ctf_model.specs.format.Dictionary.{Dictionary}
+use Rattle.ctf_model.specs.drafts.Drafts.{Draft, count_of, held, space_of}
+use Rattle.ctf_model.specs.figures.FigureLaws.{nothing, own_body, value_edges}
+use Rattle.ctf_model.specs.figures.Figures.{align, align_body, aligning, comes_to, first_of, greater, greatest, parents_figure}
+use Rattle.ctf_model.specs.format.Term.{Body, Member, Term}
+use Rattle.ctf_model.specs.format.Term as term
 use Rattle.ctf_model.specs.declared.data_model.DataModel.{DataModel}
 use Rattle.ctf_model.specs.declared.faults.Fault.{Fault}
 use Rattle.ctf_model.proofs.Alls.{all_joined}

@@ -2,14 +2,14 @@
 use Rattle.std.proofs.Common.{◌≡◌, ℕ, false, List, length, Option, Some, None, Result, Ok, Err, is_some, option_map, refl, sym, subst}
 use Rattle.std.specs.Prelude.{not, ◌==◌, OnErr, OnOk, FitsSigned}
 use Rattle.std.specs.Int.{w32}
-use Rattle.ctf_model.specs.Adders.{add_enumerator, against_enumerator, body_at, replaced, with_enumerator, with_member}
-use Rattle.ctf_model.specs.Dictionary.{said_by}
-use Rattle.ctf_model.specs.DraftLaws.{IsSound}
-use Rattle.ctf_model.specs.Drafts.{Draft, above, empty_draft, has_zero, is_childs, is_of_other, new_draft}
-use Rattle.ctf_model.specs.Imports.{Modelled}
-use Rattle.ctf_model.specs.Judgements.{first_met}
-use Rattle.ctf_model.specs.Kept.{Kept, modelled_by}
-use Rattle.ctf_model.specs.Term.{Enumerator}
+use Rattle.ctf_model.specs.drafts.Adders.{add_enumerator, against_enumerator, body_at, replaced, with_enumerator, with_member}
+use Rattle.ctf_model.specs.format.Dictionary.{said_by}
+use Rattle.ctf_model.specs.drafts.DraftLaws.{IsSound}
+use Rattle.ctf_model.specs.drafts.Drafts.{Draft, above, empty_draft, has_zero, is_childs, is_of_other, new_draft}
+use Rattle.ctf_model.specs.spaces.Imports.{Modelled}
+use Rattle.ctf_model.specs.rules.Judgements.{first_met}
+use Rattle.ctf_model.specs.spaces.Kept.{Kept, modelled_by}
+use Rattle.ctf_model.specs.format.Term.{Enumerator}
 use Rattle.ctf_model.specs.declared.data_model.DataModel.{DataModel}
 use Rattle.ctf_model.proofs.SoundDrafts.{enumerator_sound, member_sound, new_sound}
 use Rattle.ctf_draft.specs.Planning.{against_name, planned}

@@ -8,9 +8,9 @@ use Rattle.std.proofs.Math.Dec.{eqb-suc-zero}
 use Rattle.std.proofs.lemmas.List.{map-append}
 use Rattle.std.proofs.lemmas.List.Elements.{filter-append}
 use Rattle.indexmap.specs.IndexSet.{insert_key}
-use Rattle.ctf_model.specs.Adders.{is_among}
-use Rattle.ctf_model.specs.Shown.{enumerators_in, members_in, shown}
-use Rattle.ctf_model.specs.Term as term
+use Rattle.ctf_model.specs.drafts.Adders.{is_among}
+use Rattle.ctf_model.specs.format.Shown.{enumerators_in, members_in, shown}
+use Rattle.ctf_model.specs.format.Term as term
 use Rattle.ctf_draft.specs.KeysView.{names_of}
 use Rattle.ctf_draft.specs.TakenView.{given, is_named, names_in}
 use Rattle.ctf_draft.specs.TypeView.{aggregate_body, body_of, enumerator_of, member_of}

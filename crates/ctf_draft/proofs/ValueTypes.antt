@@ -2,8 +2,8 @@
 use Rattle.std.proofs.Common.{◌≡◌, ℕ, ◌<◌, List, length, map, get_or, sym, ap, ◌∙◌, arith}
 use Rattle.std.specs.Prelude.{slice_index}
 use Rattle.std.proofs.lemmas.List.{get_or-map, length-map}
-use Rattle.ctf_model.specs.Chains.{by_value}
-use Rattle.ctf_model.specs.Term as term
+use Rattle.ctf_model.specs.rules.Chains.{by_value}
+use Rattle.ctf_model.specs.format.Term as term
 use Rattle.ctf_draft.specs.TypeView.{aggregate_body, member_of}
 use Rattle.ctf_draft.specs.declared.types.AggregateKind.{AggregateKind}
 use Rattle.ctf_draft.specs.declared.types.AggregateKind.TheVariants.{Struct, Union}

@@ -4,12 +4,12 @@ use Rattle.std.proofs.Math.Seq.{drop-length}
 use Rattle.std.proofs.lemmas.List.{take_all, take-append-le, drop-append-le, take-append-drop, length-drop, drop-set-add, take-set-le}
 use Rattle.std.specs.List.{list_any}
 use Rattle.std.specs.Str.{bytes_eq}
-use Rattle.ctf_model.specs.Adders.{Added, add_label, add_type, against_label, against_type, with_label, with_pending, with_type}
-use Rattle.ctf_model.specs.Dictionary.{Dictionary, Label}
-use Rattle.ctf_model.specs.Drafts.{Draft, all_of, discarded, has_zero, held, next_number, pending_count, settled}
-use Rattle.ctf_model.specs.Judgements.{first_met}
-use Rattle.ctf_model.specs.NewTypes.{NewType, new_term}
-use Rattle.ctf_model.specs.Term.{Term}
+use Rattle.ctf_model.specs.drafts.Adders.{Added, add_label, add_type, against_label, against_type, with_label, with_pending, with_type}
+use Rattle.ctf_model.specs.format.Dictionary.{Dictionary, Label}
+use Rattle.ctf_model.specs.drafts.Drafts.{Draft, all_of, discarded, has_zero, held, next_number, pending_count, settled}
+use Rattle.ctf_model.specs.rules.Judgements.{first_met}
+use Rattle.ctf_model.specs.drafts.NewTypes.{NewType, new_term}
+use Rattle.ctf_model.specs.format.Term.{Term}
 use Rattle.ctf_model.specs.declared.data_model.DataModel.{DataModel}
 use Rattle.ctf_model.specs.declared.faults.Fault.{Fault}
 use Rattle.ctf_draft.specs.DraftView.{made_of}

@@ -1,9 +1,9 @@
 -- What a draft in code stands for.
 use Rattle.std.specs.Prelude.{ℕ, List, take, drop, Option}
-use Rattle.ctf_model.specs.Dictionary.{Dictionary, Label}
-use Rattle.ctf_model.specs.Drafts.{Contents, Draft}
-use Rattle.ctf_model.specs.Kept.{Kept}
-use Rattle.ctf_model.specs.Term.{Term}
+use Rattle.ctf_model.specs.format.Dictionary.{Dictionary, Label}
+use Rattle.ctf_model.specs.drafts.Drafts.{Contents, Draft}
+use Rattle.ctf_model.specs.spaces.Kept.{Kept}
+use Rattle.ctf_model.specs.format.Term.{Term}
 use Rattle.ctf_model.specs.declared.data_model.DataModel.{DataModel}
 
 -- a draft, and the dictionary that its last update made

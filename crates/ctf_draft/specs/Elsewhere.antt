@@ -1,10 +1,10 @@
 -- Numbers that name no own type of a draft. The words are ours.
 use Rattle.std.specs.Prelude.{◌≡◌, ℕ, suc, true, Some, Err}
-use Rattle.ctf_model.specs.Dictionary.{said_by}
-use Rattle.ctf_model.specs.Drafts.{Draft, held}
-use Rattle.ctf_model.specs.Figures.{Figure, comes_to, parents_figure}
-use Rattle.ctf_model.specs.TypeNumbers.{no_type}
-use Rattle.ctf_model.specs.TypePlaces.{place}
+use Rattle.ctf_model.specs.format.Dictionary.{said_by}
+use Rattle.ctf_model.specs.drafts.Drafts.{Draft, held}
+use Rattle.ctf_model.specs.figures.Figures.{Figure, comes_to, parents_figure}
+use Rattle.ctf_model.specs.spaces.TypeNumbers.{no_type}
+use Rattle.ctf_model.specs.spaces.TypePlaces.{place}
 use Rattle.ctf_model.specs.declared.numbers.Place.TheVariants.{Parents}
 use Rattle.ctf_draft.specs.ParentView.{FitsParent}
 use Rattle.ctf_draft.specs.declared.parents.Parent.{Parent}

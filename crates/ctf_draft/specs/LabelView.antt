@@ -1,7 +1,7 @@
 -- The labels that stand in a map.
 use Rattle.std.specs.Prelude.{ℕ, List, map, Vec}
 use Rattle.std.specs.declared.alloc.Global.{Global}
-use Rattle.ctf_model.specs.Dictionary.{Label}
+use Rattle.ctf_model.specs.format.Dictionary.{Label}
 
 abbrev pub label_in : Vec ℕ Global × ℕ → Label
 label_in entry = record { name = entry.0.items; last = entry.1 }

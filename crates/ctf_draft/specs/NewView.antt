@@ -1,7 +1,7 @@
 -- The new types that a draft is handed.
 use Rattle.std.specs.Prelude.{ℕ, map}
-use Rattle.ctf_model.specs.NewTypes as new
-use Rattle.ctf_model.specs.Term.{Scalar}
+use Rattle.ctf_model.specs.drafts.NewTypes as new
+use Rattle.ctf_model.specs.format.Term.{Scalar}
 use Rattle.ctf_records.specs.RecordView.{tag_of}
 use Rattle.ctf_views.specs.PartsView.{array_info}
 use Rattle.ctf_draft.specs.TypeView.{number_of, scalar_of}

@@ -1,7 +1,7 @@
 -- The parent that a draft keeps.
 use Rattle.std.specs.Prelude.{Option}
 use Rattle.std.specs.Option.{option_map}
-use Rattle.ctf_model.specs.Dictionary.{Dictionary, said_by}
+use Rattle.ctf_model.specs.format.Dictionary.{Dictionary, said_by}
 use Rattle.ctf_model.specs.declared.data_model.DataModel.{DataModel}
 use Rattle.ctf_layout.specs.Fitting.{Fits}
 use Rattle.ctf_space.specs.SpaceView.{alone}

@@ -1,7 +1,7 @@
 -- Where pending types stand among all types. The words are ours.
 use Rattle.std.specs.Prelude.{◌≡◌, ◌≤◌, ℕ, length, Some, is_some}
-use Rattle.ctf_model.specs.Chains.{own_index}
-use Rattle.ctf_model.specs.Drafts.{Draft, count_of}
+use Rattle.ctf_model.specs.rules.Chains.{own_index}
+use Rattle.ctf_model.specs.drafts.Drafts.{Draft, count_of}
 
 -- the number names the type at a place, from 0, and that is pending
 pub record StandsPending (d : Draft) (n i : ℕ) : Type 0 where

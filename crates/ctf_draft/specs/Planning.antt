@@ -1,12 +1,12 @@
 -- Where a member goes, and what size that makes its struct or union. The words are ours.
 use Rattle.std.specs.Prelude.{ℕ, List, Option, None, Result, Ok, Err, if◌then◌else◌, take}
-use Rattle.ctf_model.specs.Adders.{against_member, against_place, body_at, is_deep, size_with}
-use Rattle.ctf_model.specs.Drafts.{Draft, space_of}
-use Rattle.ctf_model.specs.Judgements.{◌then◌, first_met, unless}
-use Rattle.ctf_model.specs.Placement.{bits_filled, last_member, member_place}
-use Rattle.ctf_model.specs.Refusals.{placeless}
-use Rattle.ctf_model.specs.Term.{Body, Member}
-use Rattle.ctf_model.specs.Term as term
+use Rattle.ctf_model.specs.drafts.Adders.{against_member, against_place, body_at, is_deep, size_with}
+use Rattle.ctf_model.specs.drafts.Drafts.{Draft, space_of}
+use Rattle.ctf_model.specs.rules.Judgements.{◌then◌, first_met, unless}
+use Rattle.ctf_model.specs.drafts.Placement.{bits_filled, last_member, member_place}
+use Rattle.ctf_model.specs.rules.Refusals.{placeless}
+use Rattle.ctf_model.specs.format.Term.{Body, Member}
+use Rattle.ctf_model.specs.format.Term as term
 use Rattle.ctf_model.specs.declared.faults.Fault.{Fault}
 use Rattle.ctf_model.specs.declared.faults.TheConstants.Fault.{DEEP_MEMBER}
 use Rattle.ctf_draft.specs.declared.plan.Plan.{Plan}

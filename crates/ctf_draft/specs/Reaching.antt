@@ -3,12 +3,12 @@ use Rattle.std.specs.Prelude.{◌≡◌, ◌<◌, ◌≤◌, ℕ, true, List, le
 use Rattle.std.specs.List.{AllByRecursion}
 use Rattle.ctf_chains.specs.Places.{Places}
 use Rattle.ctf_chains.specs.Search.{IsDepth}
-use Rattle.ctf_model.specs.Chains.{IsWithin, by_value, own_index}
-use Rattle.ctf_model.specs.Dictionary.{Dictionary}
-use Rattle.ctf_model.specs.Drafts.{Draft, count_of, held, space_of}
-use Rattle.ctf_model.specs.FigureLaws.{own_body, value_edges}
-use Rattle.ctf_model.specs.Figures.{align}
-use Rattle.ctf_model.specs.TypePlaces.{own_number}
+use Rattle.ctf_model.specs.rules.Chains.{IsWithin, by_value, own_index}
+use Rattle.ctf_model.specs.format.Dictionary.{Dictionary}
+use Rattle.ctf_model.specs.drafts.Drafts.{Draft, count_of, held, space_of}
+use Rattle.ctf_model.specs.figures.FigureLaws.{own_body, value_edges}
+use Rattle.ctf_model.specs.figures.Figures.{align}
+use Rattle.ctf_model.specs.spaces.TypePlaces.{own_number}
 use Rattle.ctf_draft.specs.declared.reach.Reach.{Reach}
 
 -- of an own type, from 0: how long the longest chain from it is, and its alignment

@@ -1,10 +1,10 @@
 -- What the size of a type, and the type that it stands for, hang on. The words are ours.
 use Rattle.std.specs.Prelude.{ℕ, ◌*◌, min, length, Option, Some, None, Result, Ok, Err}
-use Rattle.ctf_model.specs.Chains.{by_value}
-use Rattle.ctf_model.specs.Figures.{enum_size, incomplete, times}
-use Rattle.ctf_model.specs.Space.{pointer_size}
-use Rattle.ctf_model.specs.Term.{Body, Term}
-use Rattle.ctf_model.specs.Term as term
+use Rattle.ctf_model.specs.rules.Chains.{by_value}
+use Rattle.ctf_model.specs.figures.Figures.{enum_size, incomplete, times}
+use Rattle.ctf_model.specs.spaces.Space.{pointer_size}
+use Rattle.ctf_model.specs.format.Term.{Body, Term}
+use Rattle.ctf_model.specs.format.Term as term
 use Rattle.ctf_model.specs.declared.data_model.DataModel.{DataModel}
 use Rattle.ctf_model.specs.declared.faults.Fault.{Fault}
 use Rattle.ctf_draft.specs.declared.sizing.Sizing.{Sizing}

@@ -1,7 +1,7 @@
 -- The types that types of a draft stand for.
 use Rattle.std.specs.Prelude.{ℕ, List, map}
-use Rattle.ctf_model.specs.Term as term
-use Rattle.ctf_model.specs.Term.{Scalar, Term}
+use Rattle.ctf_model.specs.format.Term as term
+use Rattle.ctf_model.specs.format.Term.{Scalar, Term}
 use Rattle.ctf_model.specs.declared.numbers.TypeNum.{TypeNum}
 use Rattle.ctf_records.specs.RecordView.{tag_of}
 use Rattle.ctf_views.specs.declared.parts.Encoding.{Encoding}

@@ -3,13 +3,13 @@ ghost use Rattle.std.specs.Prelude.{◌≡◌, ◌⊎◌, length, map, Ok, Err, 
 ghost use Rattle.std.specs.List.{list_any};
 ghost use Rattle.ctf_draft.specs.NewView.{new_body_of, new_of};
 ghost use Rattle.ctf_draft.specs.TypeView.{number_of};
-ghost use Rattle.ctf_model.specs.Adders.{against_type, add_label, add_type};
-ghost use Rattle.ctf_model.specs.Drafts.{is_absent as is_absent_in, is_unknown as is_unknown_in, next_number as next_number_in};
-ghost use Rattle.ctf_model.specs.Judgements.{first_met};
-ghost use Rattle.ctf_model.specs.NewTypes.{new_body, new_term};
-ghost use Rattle.ctf_model.specs.References.{references};
-ghost use Rattle.ctf_model.specs.Refusals.{want_of_memory};
-ghost use Rattle.ctf_model.specs.Shown.{list_length, shown};
+ghost use Rattle.ctf_model.specs.drafts.Adders.{against_type, add_label, add_type};
+ghost use Rattle.ctf_model.specs.drafts.Drafts.{is_absent as is_absent_in, is_unknown as is_unknown_in, next_number as next_number_in};
+ghost use Rattle.ctf_model.specs.rules.Judgements.{first_met};
+ghost use Rattle.ctf_model.specs.drafts.NewTypes.{new_body, new_term};
+ghost use Rattle.ctf_model.specs.rules.References.{references};
+ghost use Rattle.ctf_model.specs.rules.Refusals.{want_of_memory};
+ghost use Rattle.ctf_model.specs.format.Shown.{list_length, shown};
 
 use crate::draft::Draft;
 use crate::naming::has_zero;
@@ -99,7 +99,7 @@ impl Draft {
     }
 
     /// Adds a type behind the others, and answers its number.
-    #[tactic(auto, unfolding(ctf_model::specs::Adders::add_type))]
+    #[tactic(auto, unfolding(ctf_model::specs::drafts::Adders::add_type))]
     pub fn add(&mut self, new: NewType) -> Result<TypeNum, Fault>
         ensures ok { IfOk result (λ n. add_type self.old.draft (new_of new)
             ≡ Ok (record { draft = self.new.draft; answer = n.0 })) }
@@ -119,7 +119,7 @@ impl Draft {
     }
 
     /// Adds a label behind the others.
-    #[tactic(auto, unfolding(ctf_model::specs::Adders::add_label))]
+    #[tactic(auto, unfolding(ctf_model::specs::drafts::Adders::add_label))]
     pub fn label(&mut self, name: Bytes, last: u32) -> Result<(), Fault>
         ensures ok { OnOk result (add_label self.old.draft (record { name = name; last = last })
             ≡ Ok self.new.draft) }

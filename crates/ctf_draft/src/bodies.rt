@@ -1,8 +1,8 @@
 //! What a type says by its kind.
 ghost use Rattle.std.specs.Prelude.{◌≡◌, [], map, option_map, unwrap_or};
 ghost use Rattle.ctf_draft.specs.TypeView.{body_of, enumerator_of, member_of};
-ghost use Rattle.ctf_model.specs.Adders.{is_among};
-ghost use Rattle.ctf_model.specs.Shown.{enumerators_in, members_in, shown};
+ghost use Rattle.ctf_model.specs.drafts.Adders.{is_among};
+ghost use Rattle.ctf_model.specs.format.Shown.{enumerators_in, members_in, shown};
 
 use crate::types::{Body, DraftType, Enumerator, Member};
 

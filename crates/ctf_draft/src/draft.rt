@@ -3,11 +3,11 @@ ghost use Rattle.std.specs.Prelude.{◌≡◌, ◌⊎◌, ◌++◌, ◌==◌, no
 ghost use Rattle.std.specs.Option.{ForSome};
 ghost use Rattle.ctf_draft.specs.ParentView.{FitsParent, parent_in};
 ghost use Rattle.ctf_draft.specs.TypeView.{type_of};
-ghost use Rattle.ctf_model.specs.Dictionary.{Denotes, said_by};
-ghost use Rattle.ctf_model.specs.DraftLaws.{IsSound};
-ghost use Rattle.ctf_model.specs.Drafts.{above, all_of, discarded, held, is_childs as is_childs_parent, is_of_other as is_of_other_model, new_draft, pending_count, settled};
-ghost use Rattle.ctf_model.specs.Kept.{modelled_by};
-ghost use Rattle.ctf_model.specs.Refusals.{want_of_memory};
+ghost use Rattle.ctf_model.specs.format.Dictionary.{Denotes, said_by};
+ghost use Rattle.ctf_model.specs.drafts.DraftLaws.{IsSound};
+ghost use Rattle.ctf_model.specs.drafts.Drafts.{above, all_of, discarded, held, is_childs as is_childs_parent, is_of_other as is_of_other_model, new_draft, pending_count, settled};
+ghost use Rattle.ctf_model.specs.spaces.Kept.{modelled_by};
+ghost use Rattle.ctf_model.specs.rules.Refusals.{want_of_memory};
 
 use crate::labels::Labels;
 use crate::marks::Marks;
@@ -43,8 +43,8 @@ impl Model for Draft {
     ghost use Rattle.std.specs.Prelude.{◌≤◌, length, map, option_map, vec_len};
     ghost use Rattle.ctf_draft.specs.DraftView.{Owned, made_of};
     ghost use Rattle.ctf_draft.specs.TypeView.{type_of};
-    ghost use Rattle.ctf_model.specs.Adders.{most_types};
-    ghost use Rattle.ctf_model.specs.DraftLaws.{IsSound};
+    ghost use Rattle.ctf_model.specs.drafts.Adders.{most_types};
+    ghost use Rattle.ctf_model.specs.drafts.DraftLaws.{IsSound};
     ghost use Rattle.std.specs.Option.{ForSome};
     ghost use Rattle.ctf_draft.specs.ParentView.{FitsParent, parent_in};
     ghost use Rattle.ctf_draft.specs.Reaching.{Knows};
@@ -71,7 +71,7 @@ impl Draft {
     /// A draft with nothing in it. It has a parent just where that has a name,
     /// of its own data model,
     /// and keeps it for good.
-    #[tactic(auto, unfolding(ctf_model::specs::Drafts::new_draft))]
+    #[tactic(auto, unfolding(ctf_model::specs::drafts::Drafts::new_draft))]
     pub fn new(
         alloc: Global,
         parent: Option<Rc<Opened>>,

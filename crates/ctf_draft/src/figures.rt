@@ -3,9 +3,9 @@ ghost use Rattle.std.specs.Prelude.{◌≡◌, ◌<◌, ℕ, suc, option_map, No
 ghost use Rattle.std.specs.Result.{result_map_both};
 ghost use Rattle.ctf_draft.specs.Elsewhere.{NamesNone, NamesParents};
 ghost use Rattle.ctf_draft.specs.TypeView.{body_of};
-ghost use Rattle.ctf_model.specs.Chains.{own_index as own_index_of};
-ghost use Rattle.ctf_model.specs.Drafts.{count_of, held, space_of};
-ghost use Rattle.ctf_model.specs.Figures.{comes_to, parents_figure, resolving, sizing, size as size_in, resolved};
+ghost use Rattle.ctf_model.specs.rules.Chains.{own_index as own_index_of};
+ghost use Rattle.ctf_model.specs.drafts.Drafts.{count_of, held, space_of};
+ghost use Rattle.ctf_model.specs.figures.Figures.{comes_to, parents_figure, resolving, sizing, size as size_in, resolved};
 
 use crate::draft::Draft;
 use crate::parents::Parent;

@@ -3,11 +3,11 @@ ghost use Rattle.std.specs.Prelude.{◌≡◌, ◌⊎◌, MatchOption, None, Som
 ghost use Rattle.ctf_draft.specs.Pending.{StandsPending};
 ghost use Rattle.ctf_draft.specs.Planning.{against_name};
 ghost use Rattle.ctf_draft.specs.TypeView.{body_of, enumerator_of, member_of};
-ghost use Rattle.ctf_model.specs.Adders.{add_enumerator, add_member, against_enumerator as against_enumerator_in, body_at, is_among, present_enumerators, present_members, replaced, with_enumerator, with_member};
-ghost use Rattle.ctf_model.specs.DraftLaws.{IsSound};
-ghost use Rattle.ctf_model.specs.Drafts.{is_settled};
-ghost use Rattle.ctf_model.specs.Judgements.{first_met};
-ghost use Rattle.ctf_model.specs.Refusals.{want_of_memory};
+ghost use Rattle.ctf_model.specs.drafts.Adders.{add_enumerator, add_member, against_enumerator as against_enumerator_in, body_at, is_among, present_enumerators, present_members, replaced, with_enumerator, with_member};
+ghost use Rattle.ctf_model.specs.drafts.DraftLaws.{IsSound};
+ghost use Rattle.ctf_model.specs.drafts.Drafts.{is_settled};
+ghost use Rattle.ctf_model.specs.rules.Judgements.{first_met};
+ghost use Rattle.ctf_model.specs.rules.Refusals.{want_of_memory};
 
 use crate::adding::MOST_ITEMS;
 use crate::draft::Draft;
@@ -180,7 +180,7 @@ impl Draft {
     }
 
     /// Adds an enumerator behind the others of a pending enum.
-    #[tactic(auto, unfolding(ctf_model::specs::Adders::add_enumerator))]
+    #[tactic(auto, unfolding(ctf_model::specs::drafts::Adders::add_enumerator))]
     pub fn enumerator(&mut self, n: TypeNum, name: Bytes, value: i32) -> Result<(), Fault>
         ensures ok { OnOk result (add_enumerator self.old.draft n.0
             (record { name = name; value = value }) ≡ Ok self.new.draft) }

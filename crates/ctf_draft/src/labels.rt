@@ -15,7 +15,7 @@ pub struct Labels {
 
 impl Model for Labels {
     ghost use Rattle.std.specs.Prelude.{List};
-    ghost use Rattle.ctf_model.specs.Dictionary.{Label};
+    ghost use Rattle.ctf_model.specs.format.Dictionary.{Label};
     ghost use Rattle.ctf_draft.specs.LabelView.{labels_in};
 
     ghost Value = { List Label };

@@ -1,6 +1,6 @@
 //! What names may be.
 ghost use Rattle.std.specs.Prelude.{◌≡◌};
-ghost use Rattle.ctf_model.specs.Drafts.{has_zero as has_zero_in};
+ghost use Rattle.ctf_model.specs.drafts.Drafts.{has_zero as has_zero_in};
 
 /// Whether a zero byte stands in a name.
 pub(crate) fn has_zero(name: &[u8]) -> bool

@@ -3,8 +3,8 @@ ghost use Rattle.std.specs.Prelude.{◌≡◌, []};
 ghost use Rattle.ctf_draft.specs.NewView.{new_body_of, new_of};
 ghost use Rattle.ctf_draft.specs.TakenView.{names_in};
 ghost use Rattle.ctf_draft.specs.TypeView.{body_of, type_of};
-ghost use Rattle.ctf_model.specs.Fitting.{FitsNew};
-ghost use Rattle.ctf_model.specs.NewTypes.{new_body, new_term};
+ghost use Rattle.ctf_model.specs.drafts.Fitting.{FitsNew};
+ghost use Rattle.ctf_model.specs.drafts.NewTypes.{new_body, new_term};
 
 use crate::taken::Taken;
 use crate::types::{AggregateKind, Body, DraftType, ReferenceKind, ScalarKind};

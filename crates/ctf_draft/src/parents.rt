@@ -1,7 +1,7 @@
 //! The parent of a draft.
 ghost use Rattle.std.specs.Prelude.{◌≡◌, IfOk};
 ghost use Rattle.ctf_draft.specs.ParentView.{FitsParent};
-ghost use Rattle.ctf_model.specs.Dictionary.{said_by};
+ghost use Rattle.ctf_model.specs.format.Dictionary.{said_by};
 ghost use Rattle.ctf_space.specs.SpaceView.{alone};
 
 use ctf_layout::Layout;

@@ -4,12 +4,12 @@ ghost use Rattle.ctf_draft.specs.Pending.{StandsPending};
 ghost use Rattle.ctf_draft.specs.Reaching.{Knows};
 ghost use Rattle.ctf_draft.specs.Planning.{planned, planned_shallow, planned_with, stands_behind};
 ghost use Rattle.ctf_draft.specs.TypeView.{body_of, member_of};
-ghost use Rattle.ctf_model.specs.Adders.{body_at, is_deep};
-ghost use Rattle.ctf_model.specs.Drafts.{space_of};
-ghost use Rattle.ctf_model.specs.Figures.{align as align_in};
-ghost use Rattle.ctf_model.specs.Placement.{aligned_from as aligned_from_in, bytes_holding as bytes_holding_in, grown as grown_in, member_place as member_place_in, own_place as own_place_in};
-ghost use Rattle.ctf_model.specs.Refusals.{want_of_memory};
-ghost use Rattle.ctf_model.specs.Shown.{size_of};
+ghost use Rattle.ctf_model.specs.drafts.Adders.{body_at, is_deep};
+ghost use Rattle.ctf_model.specs.drafts.Drafts.{space_of};
+ghost use Rattle.ctf_model.specs.figures.Figures.{align as align_in};
+ghost use Rattle.ctf_model.specs.drafts.Placement.{aligned_from as aligned_from_in, bytes_holding as bytes_holding_in, grown as grown_in, member_place as member_place_in, own_place as own_place_in};
+ghost use Rattle.ctf_model.specs.rules.Refusals.{want_of_memory};
+ghost use Rattle.ctf_model.specs.format.Shown.{size_of};
 
 use crate::draft::Draft;
 use crate::marks::Marks;

@@ -1,9 +1,9 @@
 //! Members and enumerators, behind the others of a type.
 ghost use Rattle.std.specs.Prelude.{◌≡◌, [], false, map, unwrap_or, IfErr, OnErr, OnOk};
 ghost use Rattle.ctf_draft.specs.TypeView.{body_of, enumerator_of, member_of, type_of};
-ghost use Rattle.ctf_model.specs.Adders.{is_among, with_body, with_enumerator, with_member};
-ghost use Rattle.ctf_model.specs.Refusals.{want_of_memory};
-ghost use Rattle.ctf_model.specs.Shown.{enumerators_in, members_in, shown};
+ghost use Rattle.ctf_model.specs.drafts.Adders.{is_among, with_body, with_enumerator, with_member};
+ghost use Rattle.ctf_model.specs.rules.Refusals.{want_of_memory};
+ghost use Rattle.ctf_model.specs.format.Shown.{enumerators_in, members_in, shown};
 
 use crate::types::{Body, DraftType, Enumerator, Member};
 use ctf_model::{Fault, placeless};

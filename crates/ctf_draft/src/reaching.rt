@@ -1,9 +1,9 @@
 //! How deep a type of a draft is, and how it is aligned.
 ghost use Rattle.std.specs.Prelude.{◌≡◌, ◌<◌, ◌≤◌, ℕ, suc, length, max, None, MatchOption, is_some, if◌then◌else◌};
 ghost use Rattle.ctf_draft.specs.Reaching.{Answers, IsFound, IsKnown, Knows};
-ghost use Rattle.ctf_model.specs.Chains.{longest_chain, own_index as own_index_of};
-ghost use Rattle.ctf_model.specs.Drafts.{count_of, space_of};
-ghost use Rattle.ctf_model.specs.Figures.{aligning, comes_to, greater as greater_of, parents_figure};
+ghost use Rattle.ctf_model.specs.rules.Chains.{longest_chain, own_index as own_index_of};
+ghost use Rattle.ctf_model.specs.drafts.Drafts.{count_of, space_of};
+ghost use Rattle.ctf_model.specs.figures.Figures.{aligning, comes_to, greater as greater_of, parents_figure};
 
 use crate::draft::Draft;
 use crate::marks::Marks;

@@ -2,9 +2,9 @@
 ghost use Rattle.std.specs.Prelude.{◌≡◌, ◌<◌, ℕ, Result, length, option_map, slice_index};
 ghost use Rattle.ctf_draft.specs.Sizing.{aligned_by, own_align, renamed, sized, width};
 ghost use Rattle.ctf_draft.specs.TypeView.{body_of};
-ghost use Rattle.ctf_model.specs.Chains.{by_value};
-ghost use Rattle.ctf_model.specs.Figures.{greater as greater_of, size_body, times};
-ghost use Rattle.ctf_model.specs.Space.{pointer_size as pointer_size_of};
+ghost use Rattle.ctf_model.specs.rules.Chains.{by_value};
+ghost use Rattle.ctf_model.specs.figures.Figures.{greater as greater_of, size_body, times};
+ghost use Rattle.ctf_model.specs.spaces.Space.{pointer_size as pointer_size_of};
 ghost use Rattle.ctf_model.specs.declared.faults.Fault.{Fault};
 
 use crate::types::{AggregateKind, Body, ReferenceKind};

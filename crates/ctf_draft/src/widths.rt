@@ -3,10 +3,10 @@ ghost use Rattle.std.specs.Prelude.{◌≡◌, ◌<◌, ◌^◌, IfOk, Some, opt
 ghost use Rattle.ctf_check.specs.CheckedView.{dictionary_of};
 ghost use Rattle.ctf_check.specs.TypedView.{spelled};
 ghost use Rattle.ctf_draft.specs.Sizing.{filled as filled_of, width, width_found};
-ghost use Rattle.ctf_model.specs.Drafts.{space_of};
-ghost use Rattle.ctf_model.specs.Placement.{bits_filled as bits_filled_in};
-ghost use Rattle.ctf_model.specs.Space.{space_type};
-ghost use Rattle.ctf_model.specs.TypeNumbers.{or_no_type};
+ghost use Rattle.ctf_model.specs.drafts.Drafts.{space_of};
+ghost use Rattle.ctf_model.specs.drafts.Placement.{bits_filled as bits_filled_in};
+ghost use Rattle.ctf_model.specs.spaces.Space.{space_type};
+ghost use Rattle.ctf_model.specs.spaces.TypeNumbers.{or_no_type};
 
 use crate::draft::Draft;
 use ctf_check::{Checked, Typed};

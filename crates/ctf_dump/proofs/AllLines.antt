@@ -5,13 +5,13 @@ use Rattle.std.proofs.lemmas.List.{drop_more, drop_all}
 use Rattle.std.proofs.lemmas.Option.{slice_get-get_or}
 use Rattle.std.specs.List.{flat_map}
 use Rattle.std.proofs.KnownBytes.{Appends-trans}
-use Rattle.ctf_model.specs.Dictionary.{Dictionary}
-use Rattle.ctf_model.specs.Dump.{dump, head_line, label_line, list_lines, symbol_line, type_line, types_from}
-use Rattle.ctf_model.specs.Space.{Space, space_type}
-use Rattle.ctf_model.specs.Term.{Term}
-use Rattle.ctf_model.specs.Term as term
-use Rattle.ctf_model.specs.TypeNumbers.{or_no_type, type_in}
-use Rattle.ctf_model.specs.TypePlaces.{own_number}
+use Rattle.ctf_model.specs.format.Dictionary.{Dictionary}
+use Rattle.ctf_model.specs.dumps.Dump.{dump, head_line, label_line, list_lines, symbol_line, type_line, types_from}
+use Rattle.ctf_model.specs.spaces.Space.{Space, space_type}
+use Rattle.ctf_model.specs.format.Term.{Term}
+use Rattle.ctf_model.specs.format.Term as term
+use Rattle.ctf_model.specs.spaces.TypeNumbers.{or_no_type, type_in}
+use Rattle.ctf_model.specs.spaces.TypePlaces.{own_number}
 use Rattle.ctf_model.proofs.OwnTypes.{place_of_own}
 use Rattle.ctf_dump.specs.Progress.{HasWritten}
 use Rattle.ctf_dump.specs.Words.{lines_of_type}

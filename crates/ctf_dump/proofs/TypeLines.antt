@@ -6,16 +6,16 @@ use Rattle.std.specs.Option.{option_map}
 use Rattle.std.proofs.KnownBytes.{Appends-trans}
 use Rattle.std.proofs.lemmas.Option.{same_Some}
 use Rattle.std.proofs.lemmas.Grind.{flat_map-append}
-use Rattle.ctf_model.specs.Dump.{after_blanks, detail, in_quotes, list_lines, or_fault, type_line, visible, with_value}
-use Rattle.ctf_model.specs.Figures.{align, size}
-use Rattle.ctf_model.specs.KindNames.{name_of_kind}
-use Rattle.ctf_model.specs.Shown.{Facts, Shown, facts, kind_of, shape, shown}
-use Rattle.ctf_model.specs.Space.{Space}
-use Rattle.ctf_model.specs.Term.{Body, Term}
-use Rattle.ctf_model.specs.Term as term
-use Rattle.ctf_model.specs.TypeNames.{spelled_name}
+use Rattle.ctf_model.specs.dumps.Dump.{after_blanks, detail, in_quotes, list_lines, or_fault, type_line, visible, with_value}
+use Rattle.ctf_model.specs.figures.Figures.{align, size}
+use Rattle.ctf_model.specs.names.KindNames.{name_of_kind}
+use Rattle.ctf_model.specs.format.Shown.{Facts, Shown, facts, kind_of, shape, shown}
+use Rattle.ctf_model.specs.spaces.Space.{Space}
+use Rattle.ctf_model.specs.format.Term.{Body, Term}
+use Rattle.ctf_model.specs.format.Term as term
+use Rattle.ctf_model.specs.names.TypeNames.{spelled_name}
 use Rattle.ctf_dump.specs.Words.{figures_text, lines_behind, lines_of_type, root_text, shape_text, typed_text}
-use Rattle.ctf_model.specs.TypeNumbers.{or_no_type}
+use Rattle.ctf_model.specs.spaces.TypeNumbers.{or_no_type}
 use Rattle.ctf_model.specs.declared.faults.Fault.{Fault}
 
 detail_is : (b : Body) → shape_text (shape b) ≡ after_blanks (detail b)

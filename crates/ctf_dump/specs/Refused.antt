@@ -7,11 +7,11 @@ use Rattle.ctf_dump.specs.declared.line.DumpFault.{DumpFault}
 use Rattle.ctf_dump.specs.declared.line.DumpFault.TheVariants as fault
 use Rattle.ctf_dump.specs.declared.inputs.InputFile.{InputFile}
 use Rattle.ctf_dump.specs.declared.inputs.Inputs.{Inputs}
-use Rattle.ctf_model.specs.FaultNames.{name_of_fault}
-use Rattle.ctf_model.specs.Faults.{first_fault}
-use Rattle.ctf_model.specs.Lists.{Lists}
-use Rattle.ctf_model.specs.Space.{Space}
-use Rattle.ctf_model.specs.Kept.{Kept, fault_over, kept_space, kept_unsaid}
+use Rattle.ctf_model.specs.rules.FaultNames.{name_of_fault}
+use Rattle.ctf_model.specs.rules.Faults.{first_fault}
+use Rattle.ctf_model.specs.format.Lists.{Lists}
+use Rattle.ctf_model.specs.spaces.Space.{Space}
+use Rattle.ctf_model.specs.spaces.Kept.{Kept, fault_over, kept_space, kept_unsaid}
 use Rattle.ctf_model.specs.declared.faults.Fault.{Fault}
 
 -- ---- what is dumped

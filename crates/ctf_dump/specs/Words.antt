@@ -3,15 +3,15 @@
 -- words are joined to one text.
 use Rattle.std.specs.Prelude.{ℕ, ◌++◌, Bool, true, false, List, [], ◌∷◌, Option, Some, None, codes, decimal}
 use Rattle.std.specs.List.{flat_map}
-use Rattle.ctf_model.specs.Dictionary.{Dictionary}
-use Rattle.ctf_model.specs.Dump.{in_quotes, line_of, list_lines, member_line, numbers, or_fault, signature_words, type_line, value_line}
-use Rattle.ctf_model.specs.Entries.{Signature}
-use Rattle.ctf_model.specs.Figures.{align, size}
-use Rattle.ctf_model.specs.KindNames.{name_of_kind, name_of_tag}
-use Rattle.ctf_model.specs.Shown.{ArrayParts, EncodingParts, Facts, Shape, Shown, members, enumerators, arguments, array, encoding, tag, nothing}
-use Rattle.ctf_model.specs.Space.{Space}
-use Rattle.ctf_model.specs.Term.{Term}
-use Rattle.ctf_model.specs.TypeNames.{spelled_name}
+use Rattle.ctf_model.specs.format.Dictionary.{Dictionary}
+use Rattle.ctf_model.specs.dumps.Dump.{in_quotes, line_of, list_lines, member_line, numbers, or_fault, signature_words, type_line, value_line}
+use Rattle.ctf_model.specs.symbols.Entries.{Signature}
+use Rattle.ctf_model.specs.figures.Figures.{align, size}
+use Rattle.ctf_model.specs.names.KindNames.{name_of_kind, name_of_tag}
+use Rattle.ctf_model.specs.format.Shown.{ArrayParts, EncodingParts, Facts, Shape, Shown, members, enumerators, arguments, array, encoding, tag, nothing}
+use Rattle.ctf_model.specs.spaces.Space.{Space}
+use Rattle.ctf_model.specs.format.Term.{Term}
+use Rattle.ctf_model.specs.names.TypeNames.{spelled_name}
 
 -- ---- words that are there where they are said
 

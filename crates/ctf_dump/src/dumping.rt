@@ -2,8 +2,8 @@
 ghost use Rattle.std.specs.Prelude.{◌≡◌, ◌<◌, [], OnOk};
 ghost use Rattle.std.specs.Io.KnownBytes.{Appends};
 ghost use Rattle.ctf_layout.specs.Fitting.{Fits};
-ghost use Rattle.ctf_model.specs.Dump.{dump as text_of, types_from};
-ghost use Rattle.ctf_model.specs.TypePlaces.{own_number};
+ghost use Rattle.ctf_model.specs.dumps.Dump.{dump as text_of, types_from};
+ghost use Rattle.ctf_model.specs.spaces.TypePlaces.{own_number};
 ghost use Rattle.ctf_space.specs.SpaceView.{space_of};
 
 use crate::heads::{head_line, label_lines, symbol_lines};

@@ -6,8 +6,8 @@ ghost use Rattle.ctf_check.specs.CheckedView.{dictionary_of};
 ghost use Rattle.ctf_dump.specs.Words.{function_text, object_text, parent_text, signature_text};
 ghost use Rattle.ctf_entries.specs.EntriesView.{entry as entry_shown};
 ghost use Rattle.ctf_entries.specs.FunctionView.{signature};
-ghost use Rattle.ctf_model.specs.Dump.{head_line as line_of_head, in_quotes, label_line as line_of_label, numbers, symbol_line as line_of_symbol, yes_or_no};
-ghost use Rattle.ctf_model.specs.Texts.{after_commas};
+ghost use Rattle.ctf_model.specs.dumps.Dump.{head_line as line_of_head, in_quotes, label_line as line_of_label, numbers, symbol_line as line_of_symbol, yes_or_no};
+ghost use Rattle.ctf_model.specs.dumps.Texts.{after_commas};
 ghost use Rattle.ctf_views.specs.ItemsView.{label as label_shown};
 
 use crate::line::{DumpFault, Line};

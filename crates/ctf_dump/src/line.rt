@@ -2,9 +2,9 @@
 
 ghost use Rattle.std.specs.Prelude.{◌≡◌, ◌<◌, ◌++◌, [], codes, decimal, IfErr, OnOk};
 ghost use Rattle.std.specs.Io.KnownBytes.{Appends, Keeps};
-ghost use Rattle.ctf_model.specs.Dump.{escaped, in_quotes};
-ghost use Rattle.ctf_model.specs.Texts.{signed_decimal};
-ghost use Rattle.ctf_model.specs.Texts.{hex_digit as digit_of, is_plain as plain};
+ghost use Rattle.ctf_model.specs.dumps.Dump.{escaped, in_quotes};
+ghost use Rattle.ctf_model.specs.dumps.Texts.{signed_decimal};
+ghost use Rattle.ctf_model.specs.dumps.Texts.{hex_digit as digit_of, is_plain as plain};
 
 use itoa::Buffer;
 use std::alloc::{AllocError, Global};

@@ -6,9 +6,9 @@ ghost use Rattle.ctf_check.specs.CheckedView.{lists_of};
 ghost use Rattle.ctf_check.specs.ListsView.{lists_in};
 ghost use Rattle.ctf_dump.specs.Refused.{EndsBy, MayAnswer, RefusedBy};
 ghost use Rattle.ctf_dump.specs.Refused.{in_file, over, own_lists, parent_lists, refusal, space_in, status_after};
-ghost use Rattle.ctf_model.specs.Dump.{dump as text_of};
-ghost use Rattle.ctf_model.specs.Faults.{first_fault, types as types_of};
-ghost use Rattle.ctf_model.specs.Refusals.{want_of_memory};
+ghost use Rattle.ctf_model.specs.dumps.Dump.{dump as text_of};
+ghost use Rattle.ctf_model.specs.rules.Faults.{first_fault, types as types_of};
+ghost use Rattle.ctf_model.specs.rules.Refusals.{want_of_memory};
 ghost use Rattle.ctf_space.specs.SpaceView.{space_of};
 
 use crate::dumping::dump;

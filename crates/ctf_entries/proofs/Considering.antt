@@ -1,7 +1,7 @@
 -- Symbols one by one, and those that are considered.
 use Rattle.std.proofs.Common.{◌≡◌, ℕ, suc, ◌+◌, ◌-◌, ◌/◌, ◌<◌, ◌≤◌, true, false, List, [], ◌∷◌, length, drop, Option, refl, ap, arith}
 use Rattle.std.proofs.lemmas.List.{length-drop}
-use Rattle.ctf_model.specs.Symbols.{Symbol, symbol_of, symbols_in, symbols_of, is_considered, considered_from}
+use Rattle.ctf_model.specs.symbols.Symbols.{Symbol, symbol_of, symbols_in, symbols_of, is_considered, considered_from}
 
 -- a symbol more
 pub symbols_more : (strs : Option (List ℕ)) (b : List ℕ) → 24 ≤ length b → symbols_of strs b ≡ symbol_of strs b ∷ symbols_of strs (drop 24 b)

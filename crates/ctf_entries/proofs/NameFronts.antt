@@ -4,7 +4,7 @@ use Rattle.std.specs.Prelude.{◌&&◌}
 use Rattle.std.specs.List.{before_first, position_or_len}
 use Rattle.std.specs.Str.{bytes_eq}
 use Rattle.std.proofs.lemmas.Bool.{ne_eqb}
-use Rattle.ctf_model.specs.Name.{is_zero}
+use Rattle.ctf_model.specs.format.Name.{is_zero}
 
 -- a name that begins with a zero byte is empty; another goes on
 pub name_cons : (x : ℕ) (xs : List ℕ) → is_zero x ≡ false → before_first is_zero (x ∷ xs) ≡ x ∷ before_first is_zero xs

@@ -3,11 +3,11 @@ use Rattle.std.proofs.Common.{◌≡◌, ℕ, ◌+◌, ◌*◌, ◌<◌, ◌≤�
 use Rattle.std.specs.Prelude.{not, ◌&&◌, ◌||◌}
 use Rattle.std.proofs.lemmas.Bool.{ltb-false, lt-ltb}
 use Rattle.std.proofs.lemmas.List.{length-drop, nil_from_length}
-use Rattle.ctf_model.specs.Bytes.{number, u16_at}
-use Rattle.ctf_model.specs.Entries.{Entry, entries_of, entry_len, function_sites_of, is_bad_entry, is_silent, kind_number, argument_count, type_in, signature_in}
-use Rattle.ctf_model.specs.Entries as told
-use Rattle.ctf_model.specs.Spelling.{items, argument_of}
-use Rattle.ctf_model.specs.Symbols.{Symbol, is_object}
+use Rattle.ctf_model.specs.format.Bytes.{number, u16_at}
+use Rattle.ctf_model.specs.symbols.Entries.{Entry, entries_of, entry_len, function_sites_of, is_bad_entry, is_silent, kind_number, argument_count, type_in, signature_in}
+use Rattle.ctf_model.specs.symbols.Entries as told
+use Rattle.ctf_model.specs.format.Spelling.{items, argument_of}
+use Rattle.ctf_model.specs.symbols.Symbols.{Symbol, is_object}
 use Rattle.ctf_entries.specs.Sound.{bad_place}
 
 -- an entry has two bytes or more

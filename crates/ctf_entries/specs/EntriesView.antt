@@ -1,7 +1,7 @@
 -- What lent entries show.
 use Rattle.std.specs.Option.{option_map}
-use Rattle.ctf_model.specs.Entries.{Entry, Told}
-use Rattle.ctf_model.specs.Entries as told
+use Rattle.ctf_model.specs.symbols.Entries.{Entry, Told}
+use Rattle.ctf_model.specs.symbols.Entries as told
 use Rattle.ctf_entries.specs.FunctionView.{signature}
 use Rattle.ctf_entries.specs.SymbolView.{symbol}
 use Rattle.ctf_entries.specs.declared.entries.Entry as lent_entry

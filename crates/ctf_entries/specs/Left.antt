@@ -1,7 +1,7 @@
 -- What is left of symbols and of their entries.
 use Rattle.std.specs.Prelude.{◌≡◌, ℕ, ◌+◌, List, ◌∷◌}
-use Rattle.ctf_model.specs.Entries.{Entry, entries_of}
-use Rattle.ctf_model.specs.Symbols.{Symbol, considered_from, symbols_of}
+use Rattle.ctf_model.specs.symbols.Entries.{Entry, entries_of}
+use Rattle.ctf_model.specs.symbols.Symbols.{Symbol, considered_from, symbols_of}
 use Rattle.ctf_entries.specs.NamesView.{strings_of}
 use Rattle.ctf_entries.specs.SymbolView.{numbered}
 use Rattle.ctf_entries.specs.declared.considered.Found.{Found}

@@ -1,8 +1,8 @@
 -- Which functions have good entries.
 use Rattle.std.specs.Prelude.{ℕ, List, Option}
-use Rattle.ctf_model.specs.Entries.{function_sites_of, is_bad_entry}
-use Rattle.ctf_model.specs.Faults.{first_where}
-use Rattle.ctf_model.specs.Symbols.{Symbol}
+use Rattle.ctf_model.specs.symbols.Entries.{function_sites_of, is_bad_entry}
+use Rattle.ctf_model.specs.rules.Faults.{first_where}
+use Rattle.ctf_model.specs.symbols.Symbols.{Symbol}
 
 -- the first of the functions with a bad entry
 unfoldable pub bad_place : List (ℕ × Symbol) → List ℕ → Option ℕ

@@ -1,8 +1,8 @@
 -- What a lent symbol shows.
 use Rattle.std.specs.Prelude.{ℕ}
 use Rattle.std.specs.List.{before_first}
-use Rattle.ctf_model.specs.Name.{is_zero}
-use Rattle.ctf_model.specs.Symbols.{Symbol}
+use Rattle.ctf_model.specs.format.Name.{is_zero}
+use Rattle.ctf_model.specs.symbols.Symbols.{Symbol}
 use Rattle.ctf_entries.specs.declared.symbol.Symbol as lent
 use Rattle.ctf_entries.specs.declared.considered.Numbered.{Numbered}
 

@@ -1,7 +1,7 @@
 //! The symbols of a program that a dictionary tells something of.
 ghost use Rattle.std.specs.Prelude.{◌≡◌, ◌≤◌, ◌+◌, ◌^◌, length, drop, [], ◌∷◌, MatchOption, IfSome};
 ghost use Rattle.std.specs.Iterator.{YieldsFirstBy, item_count};
-ghost use Rattle.ctf_model.specs.Symbols.{considered, considered_from, symbols_of};
+ghost use Rattle.ctf_model.specs.symbols.Symbols.{considered, considered_from, symbols_of};
 ghost use Rattle.ctf_entries.specs.NamesView.{strings_of};
 ghost use Rattle.ctf_entries.specs.SymbolView.{numbered};
 
@@ -74,7 +74,7 @@ pub struct Considered<'a> {
 
 impl<'a> Model for Considered<'a> {
     ghost use Rattle.std.specs.Prelude.{◌≤◌, ◌+◌, ◌^◌, ℕ, List, length};
-    ghost use Rattle.ctf_model.specs.Symbols.{Symbol as SaidSymbol, considered_from, symbols_of};
+    ghost use Rattle.ctf_model.specs.symbols.Symbols.{Symbol as SaidSymbol, considered_from, symbols_of};
     ghost use Rattle.ctf_entries.specs.NamesView.{strings_of};
 
     ghost Value = { List (ℕ × SaidSymbol) };

@@ -1,8 +1,8 @@
 //! What a dictionary tells of a program's symbols.
 ghost use Rattle.std.specs.Prelude.{◌≡◌, ◌≤◌, ◌+◌, ◌^◌, length, [], ◌∷◌, true, false, None, MatchOption, option_copied};
 ghost use Rattle.std.specs.Iterator.{YieldsFirstBy, item_count};
-ghost use Rattle.ctf_model.specs.Entries.{entries_of};
-ghost use Rattle.ctf_model.specs.Symbols.{considered, is_object, symbols_of};
+ghost use Rattle.ctf_model.specs.symbols.Entries.{entries_of};
+ghost use Rattle.ctf_model.specs.symbols.Symbols.{considered, is_object, symbols_of};
 ghost use Rattle.ctf_entries.specs.EntriesView.{entry};
 ghost use Rattle.ctf_entries.specs.Left.{entries_left, IsFirst};
 ghost use Rattle.ctf_entries.specs.Sound.{bad_place};
@@ -111,7 +111,7 @@ pub struct Entries<'a> {
 
 impl<'a> Model for Entries<'a> {
     ghost use Rattle.std.specs.Prelude.{List};
-    ghost use Rattle.ctf_model.specs.Entries.{Entry as SaidEntry};
+    ghost use Rattle.ctf_model.specs.symbols.Entries.{Entry as SaidEntry};
     ghost use Rattle.ctf_entries.specs.Left.{entries_left};
 
     ghost Value = { List SaidEntry };

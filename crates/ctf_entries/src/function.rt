@@ -1,7 +1,7 @@
 //! The entry of a function.
 ghost use Rattle.std.specs.Prelude.{◌≡◌, ◌≤◌, ◌*◌, length, drop, false};
 ghost use Rattle.std.specs.Option.{option_map};
-ghost use Rattle.ctf_model.specs.Entries.{argument_count as argument_count_in, entry_len as entry_len_in, is_bad_entry, is_silent as silent, kind_number as kind_number_in, signature_in};
+ghost use Rattle.ctf_model.specs.symbols.Entries.{argument_count as argument_count_in, entry_len as entry_len_in, is_bad_entry, is_silent as silent, kind_number as kind_number_in, signature_in};
 ghost use Rattle.ctf_entries.specs.FunctionView.{signature};
 
 use crate::signature::Signature;

@@ -1,6 +1,6 @@
 //! Whether the entries of functions are good.
 ghost use Rattle.std.specs.Prelude.{◌≡◌, option_copied};
-ghost use Rattle.ctf_model.specs.Symbols.{considered, symbols_of};
+ghost use Rattle.ctf_model.specs.symbols.Symbols.{considered, symbols_of};
 ghost use Rattle.ctf_entries.specs.Sound.{bad_place};
 
 use crate::considered::Considered;

@@ -2,8 +2,8 @@
 ghost use Rattle.std.specs.Prelude.{◌≡◌, ◌<◌, length, take};
 ghost use Rattle.std.specs.List.{before_first};
 ghost use Rattle.std.specs.Str.{bytes_eq};
-ghost use Rattle.ctf_model.specs.Name.{is_zero};
-ghost use Rattle.ctf_model.specs.Symbols.{is_mark as mark};
+ghost use Rattle.ctf_model.specs.format.Name.{is_zero};
+ghost use Rattle.ctf_model.specs.symbols.Symbols.{is_mark as mark};
 
 use ctf_sections::up_to_zero;
 

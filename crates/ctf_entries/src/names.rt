@@ -1,8 +1,8 @@
 //! The strings that the names of symbols stand in.
 ghost use Rattle.std.specs.Prelude.{◌≡◌, drop, option_copied};
 ghost use Rattle.std.specs.List.{before_first};
-ghost use Rattle.ctf_model.specs.Name.{is_zero};
-ghost use Rattle.ctf_model.specs.Symbols.{symbol_name};
+ghost use Rattle.ctf_model.specs.format.Name.{is_zero};
+ghost use Rattle.ctf_model.specs.symbols.Symbols.{symbol_name};
 ghost use Rattle.ctf_sections.specs.TableEnds.{EndsAt};
 
 use ctf_sections::end_of_names;

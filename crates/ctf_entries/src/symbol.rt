@@ -1,6 +1,6 @@
 //! A symbol of a program.
 ghost use Rattle.std.specs.Prelude.{◌≡◌, ◌≤◌, length, true};
-ghost use Rattle.ctf_model.specs.Symbols.{is_absolute_zero as absolute_zero, is_considered as considered, is_function as function, is_named as named, is_object as object, symbol_of};
+ghost use Rattle.ctf_model.specs.symbols.Symbols.{is_absolute_zero as absolute_zero, is_considered as considered, is_function as function, is_named as named, is_object as object, symbol_of};
 ghost use Rattle.ctf_entries.specs.NamesView.{strings_of};
 ghost use Rattle.ctf_entries.specs.SymbolView.{symbol, numbered_symbol};
 
@@ -76,7 +76,7 @@ impl<'a> Symbol<'a> {
 
     /// Whether a dictionary tells something of it, where it has this number. Of its name a few
     /// bytes are read.
-    #[tactic(auto, unfolding(ctf_model::specs::Symbols::is_considered))]
+    #[tactic(auto, unfolding(ctf_model::specs::symbols::Symbols::is_considered))]
     pub fn is_considered(self, number: u64) -> bool
         ensures test { result ≡ considered (numbered_symbol number self.entry) }
         ensures small { result ≡ true → number ≤ 0xffffffff }

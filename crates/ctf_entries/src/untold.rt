@@ -1,6 +1,6 @@
 //! Symbols, and what is left of the sections with their entries.
 ghost use Rattle.std.specs.Prelude.{◌≡◌, ◌≤◌, ◌+◌, ◌^◌, length, None};
-ghost use Rattle.ctf_model.specs.Symbols.{considered_from, symbols_of};
+ghost use Rattle.ctf_model.specs.symbols.Symbols.{considered_from, symbols_of};
 ghost use Rattle.ctf_entries.specs.NamesView.{strings_of};
 ghost use Rattle.ctf_entries.specs.Sound.{bad_place};
 

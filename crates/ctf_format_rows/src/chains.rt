@@ -1,7 +1,7 @@
 //! Long chains of each sort, cycles, and what looking for them costs.
 ghost use Rattle.std.specs.Prelude.{◌≡◌, ◌<◌, IfSome, None, length};
-ghost use Rattle.ctf_model.specs.Faults.{walk_fault};
-ghost use Rattle.ctf_model.specs.Section.{records};
+ghost use Rattle.ctf_model.specs.rules.Faults.{walk_fault};
+ghost use Rattle.ctf_model.specs.format.Section.{records};
 
 use ctf_chains::{
     Chain, Graph, Ticks, Types, first_deep, first_deep_counted, first_deep_type, record_started,

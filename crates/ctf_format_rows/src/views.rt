@@ -1,7 +1,7 @@
 //! Records typed by hand.
 ghost use Rattle.std.specs.Prelude.{◌≡◌, IsSome, Some, length};
-ghost use Rattle.ctf_model.specs.Section.{front_len};
-ghost use Rattle.ctf_model.specs.Spelling.{term_of};
+ghost use Rattle.ctf_model.specs.format.Section.{front_len};
+ghost use Rattle.ctf_model.specs.format.Spelling.{term_of};
 ghost use Rattle.ctf_sections.specs.StringsView.{tables};
 
 use ctf_model::TypeNum;
@@ -33,7 +33,7 @@ fn enumerator(name: &[u8], value: i32) -> Option<Enumerator<'_>> {
 }
 
 #[test]
-#[tactic(auto, unfolding(ctf_model::specs::Section::front_len, ctf_model::specs::Spelling::term_of, ctf_model::specs::Bytes::number))]
+#[tactic(auto, unfolding(ctf_model::specs::format::Section::front_len, ctf_model::specs::format::Spelling::term_of, ctf_model::specs::format::Bytes::number))]
 fn shows_narrow_members(rt: HostRuntime) {
     let types = b"\x00\x00\x00\x00\x03\x34\x10\x00\
         \x01\x00\x00\x00\x05\x00\x00\x00\
@@ -58,7 +58,7 @@ fn shows_narrow_members(rt: HostRuntime) {
 }
 
 #[test]
-#[tactic(auto, unfolding(ctf_model::specs::Section::front_len, ctf_model::specs::Spelling::term_of, ctf_model::specs::Bytes::number))]
+#[tactic(auto, unfolding(ctf_model::specs::format::Section::front_len, ctf_model::specs::format::Spelling::term_of, ctf_model::specs::format::Bytes::number))]
 fn shows_wide_members(rt: HostRuntime) {
     let types = b"\x00\x00\x00\x00\x02\x38\x00\x20\
         \x01\x00\x00\x00\x05\x00\xff\xff\x01\x00\x00\x00\x07\x00\x00\x00\
@@ -74,7 +74,7 @@ fn shows_wide_members(rt: HostRuntime) {
 }
 
 #[test]
-#[tactic(auto, unfolding(ctf_model::specs::Section::front_len, ctf_model::specs::Spelling::term_of, ctf_model::specs::Bytes::number))]
+#[tactic(auto, unfolding(ctf_model::specs::format::Section::front_len, ctf_model::specs::format::Spelling::term_of, ctf_model::specs::format::Bytes::number))]
 fn shows_members_by_the_size(rt: HostRuntime) {
     let long_record = b"\x00\x00\x00\x00\x01\x30\xff\xff\x00\x00\x00\x00\xff\x1f\x00\x00\
         \x00\x00\x00\x00\x05\x00\x09\x00";
@@ -92,7 +92,7 @@ fn shows_members_by_the_size(rt: HostRuntime) {
 }
 
 #[test]
-#[tactic(auto, unfolding(ctf_model::specs::Section::front_len, ctf_model::specs::Spelling::term_of, ctf_model::specs::Bytes::number))]
+#[tactic(auto, unfolding(ctf_model::specs::format::Section::front_len, ctf_model::specs::format::Spelling::term_of, ctf_model::specs::format::Bytes::number))]
 fn finds_narrow_members(rt: HostRuntime) {
     let types = b"\x00\x00\x00\x00\x04\x34\x10\x00\
         \x04\x00\x00\x00\x05\x00\x00\x00\
@@ -120,7 +120,7 @@ fn finds_narrow_members(rt: HostRuntime) {
 }
 
 #[test]
-#[tactic(auto, unfolding(ctf_model::specs::Section::front_len, ctf_model::specs::Spelling::term_of, ctf_model::specs::Bytes::number))]
+#[tactic(auto, unfolding(ctf_model::specs::format::Section::front_len, ctf_model::specs::format::Spelling::term_of, ctf_model::specs::format::Bytes::number))]
 fn finds_wide_members(rt: HostRuntime) {
     let types = b"\x00\x00\x00\x00\x02\x38\x00\x20\
         \x01\x00\x00\x00\x05\x00\xff\xff\x01\x00\x00\x00\x07\x00\x00\x00\
@@ -135,7 +135,7 @@ fn finds_wide_members(rt: HostRuntime) {
 }
 
 #[test]
-#[tactic(auto, unfolding(ctf_model::specs::Section::front_len, ctf_model::specs::Spelling::term_of, ctf_model::specs::Bytes::number))]
+#[tactic(auto, unfolding(ctf_model::specs::format::Section::front_len, ctf_model::specs::format::Spelling::term_of, ctf_model::specs::format::Bytes::number))]
 fn shows_enumerators(rt: HostRuntime) {
     let types = b"\x00\x00\x00\x00\x03\x40\x04\x00\
         \x01\x00\x00\x00\xff\xff\xff\xff\
@@ -159,7 +159,7 @@ fn shows_enumerators(rt: HostRuntime) {
 }
 
 #[test]
-#[tactic(auto, unfolding(ctf_model::specs::Section::front_len, ctf_model::specs::Spelling::term_of, ctf_model::specs::Bytes::number))]
+#[tactic(auto, unfolding(ctf_model::specs::format::Section::front_len, ctf_model::specs::format::Spelling::term_of, ctf_model::specs::format::Bytes::number))]
 fn shows_arguments(rt: HostRuntime) {
     let types = b"\x00\x00\x00\x00\x03\x28\x02\x00\x07\x00\x01\x80\x00\x00\x63\x00";
     let Some(Variant::Args(mut args)) = shown(types, Strings::new(b"", None)) else {
@@ -175,7 +175,7 @@ fn shows_arguments(rt: HostRuntime) {
 }
 
 #[test]
-#[tactic(auto, unfolding(ctf_model::specs::Section::front_len, ctf_model::specs::Spelling::term_of, ctf_model::specs::Bytes::number))]
+#[tactic(auto, unfolding(ctf_model::specs::format::Section::front_len, ctf_model::specs::format::Spelling::term_of, ctf_model::specs::format::Bytes::number))]
 fn shows_parts(rt: HostRuntime) {
     let strings = Strings::new(b"", None);
     let types = b"\x00\x00\x00\x00\x00\x20\x00\x00\x07\x00\x08\x80\x01\x02\x03\x04";
@@ -206,7 +206,7 @@ fn shows_parts(rt: HostRuntime) {
 }
 
 #[test]
-#[tactic(auto, unfolding(ctf_model::specs::Section::front_len, ctf_model::specs::Spelling::term_of, ctf_model::specs::Bytes::number))]
+#[tactic(auto, unfolding(ctf_model::specs::format::Section::front_len, ctf_model::specs::format::Spelling::term_of, ctf_model::specs::format::Bytes::number))]
 fn shows_tags(rt: HostRuntime) {
     let strings = Strings::new(b"", None);
     let Some(Variant::Tag(tag)) = shown(b"\x00\x00\x00\x00\x00\x48\x06\x00", strings) else {
@@ -224,7 +224,7 @@ fn shows_tags(rt: HostRuntime) {
 }
 
 #[test]
-#[tactic(auto, unfolding(ctf_model::specs::Section::front_len, ctf_model::specs::Spelling::term_of, ctf_model::specs::Bytes::number))]
+#[tactic(auto, unfolding(ctf_model::specs::format::Section::front_len, ctf_model::specs::format::Spelling::term_of, ctf_model::specs::format::Bytes::number))]
 fn shows_nothing(rt: HostRuntime) {
     let strings = Strings::new(b"", None);
     let pointer = shown(b"\x00\x00\x00\x00\x00\x18\x07\x00", strings);

@@ -1,10 +1,10 @@
 -- Sizes and alignments of numbers that name no own type.
 use Rattle.std.proofs.Common.{◌≡◌, ℕ, ◌<◌, length, None, Err, refl, sym, ◌∙◌}
-use Rattle.ctf_model.specs.Chains.{own_index}
-use Rattle.ctf_model.specs.Figures.{size, align, sizing, aligning}
-use Rattle.ctf_model.specs.Refusals.{placeless}
-use Rattle.ctf_model.specs.Space.{Space}
-use Rattle.ctf_model.specs.TypePlaces.{place}
+use Rattle.ctf_model.specs.rules.Chains.{own_index}
+use Rattle.ctf_model.specs.figures.Figures.{size, align, sizing, aligning}
+use Rattle.ctf_model.specs.rules.Refusals.{placeless}
+use Rattle.ctf_model.specs.spaces.Space.{Space}
+use Rattle.ctf_model.specs.spaces.TypePlaces.{place}
 use Rattle.ctf_model.specs.declared.numbers.Place.TheVariants.{Nowhere, Parents}
 use Rattle.ctf_model.proofs.Settled.{figure_of_missing, figure_of_none, figure_of_parents}
 use Rattle.ctf_layout.specs.Extents.{IsExtent, IsParentsExtent, code_of, neither}

@@ -2,9 +2,9 @@
 use Rattle.std.proofs.Common.{◌≡◌, ◌+◌, ◌≤◌, ℕ, List, Option, None, Some, Result, Ok, Err, arith}
 use Rattle.std.specs.Prelude.{IfOk}
 use Rattle.ctf_chains.specs.Places.{capped}
-use Rattle.ctf_model.specs.Dictionary.{Dictionary}
-use Rattle.ctf_model.specs.Space.{Space}
-use Rattle.ctf_model.specs.Term.{Term}
+use Rattle.ctf_model.specs.format.Dictionary.{Dictionary}
+use Rattle.ctf_model.specs.spaces.Space.{Space}
+use Rattle.ctf_model.specs.format.Term.{Term}
 use Rattle.ctf_layout.specs.Fitting.{steps_of}
 use Rattle.ctf_layout.specs.Work.{space_size, space_work, types_and_members, types_in, types_work}
 use Rattle.ctf_layout.specs.declared.layout.Layout.{Layout}

@@ -2,10 +2,10 @@
 use Rattle.std.proofs.Common.{◌≡◌, List, Option, Some, None, refl, ap, sym}
 use Rattle.std.specs.Prelude.{option_map}
 use Rattle.std.proofs.lemmas.Option.{same_Some}
-use Rattle.ctf_model.specs.Paths.{members_found}
-use Rattle.ctf_model.specs.Shown.{Shown, members_in, shown}
-use Rattle.ctf_model.specs.Term.{Member, Term}
-use Rattle.ctf_model.specs.TypeNumbers.{or_no_type}
+use Rattle.ctf_model.specs.figures.Paths.{members_found}
+use Rattle.ctf_model.specs.format.Shown.{Shown, members_in, shown}
+use Rattle.ctf_model.specs.format.Term.{Member, Term}
+use Rattle.ctf_model.specs.spaces.TypeNumbers.{or_no_type}
 use Rattle.ctf_views.specs.VariantView.{seen}
 use Rattle.ctf_views.specs.declared.shown.Variant.{Variant}
 use Rattle.ctf_views.specs.declared.shown.Variant.TheVariants as lent

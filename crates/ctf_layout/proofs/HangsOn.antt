@@ -3,17 +3,17 @@ use Rattle.std.proofs.Common.{◌≡◌, ℕ, zero, suc, ◌+◌, ◌≤◌, ◌
 use Rattle.std.specs.Prelude.{min, max, slice_index, if◌then◌else◌}
 use Rattle.std.specs.List.{AllByRecursion}
 use Rattle.std.proofs.lemmas.List.{length-map, take_all, take_more}
-use Rattle.ctf_model.specs.Chains.{IsWithin, by_value, longest_chain}
-use Rattle.ctf_model.specs.Term.{Term, Body, Member}
-use Rattle.ctf_model.specs.Term as term
+use Rattle.ctf_model.specs.rules.Chains.{IsWithin, by_value, longest_chain}
+use Rattle.ctf_model.specs.format.Term.{Term, Body, Member}
+use Rattle.ctf_model.specs.format.Term as term
 use Rattle.ctf_model.specs.declared.faults.Fault.{Fault}
 use Rattle.ctf_layout.specs.Bases.{basis, greatest_of, members_read, row_size}
 use Rattle.ctf_layout.specs.Extents.{IsExtent, amount}
-use Rattle.ctf_model.specs.Figures.{Figure, figure_in, size, align, sizing, aligning, size_body, align_body, greater, greatest, first_of, times, array_size}
-use Rattle.ctf_model.specs.FigureLaws.{own_body, value_edges}
-use Rattle.ctf_model.specs.Shown.{shape}
-use Rattle.ctf_model.specs.TypePlaces.{own_number}
-use Rattle.ctf_model.specs.Space.{Space}
+use Rattle.ctf_model.specs.figures.Figures.{Figure, figure_in, size, align, sizing, aligning, size_body, align_body, greater, greatest, first_of, times, array_size}
+use Rattle.ctf_model.specs.figures.FigureLaws.{own_body, value_edges}
+use Rattle.ctf_model.specs.format.Shown.{shape}
+use Rattle.ctf_model.specs.spaces.TypePlaces.{own_number}
+use Rattle.ctf_model.specs.spaces.Space.{Space}
 use Rattle.ctf_layout.specs.declared.extents.Amount.{Amount}
 use Rattle.ctf_layout.specs.declared.extents.Amount.TheVariants.{Known}
 use Rattle.ctf_layout.specs.declared.bases.Basis.{Basis}

@@ -1,11 +1,11 @@
 -- Where types lead, and that none leads to itself.
 use Rattle.std.proofs.Common.{◌≡◌, ℕ, zero, suc, ◌+◌, ◌-◌, ◌≤◌, ◌<◌, List, [], ◌∷◌, Bool, length, Option, Some, None, get_or, refl, sym, ap, subst, ◌∙◌, arith, zero-add}
 use Rattle.std.specs.List.{AllByRecursion, filter_map}
-use Rattle.ctf_model.specs.Chains.{IsWithin, by_value, own_index, targets}
-use Rattle.ctf_model.specs.Dictionary.{Dictionary}
+use Rattle.ctf_model.specs.rules.Chains.{IsWithin, by_value, own_index, targets}
+use Rattle.ctf_model.specs.format.Dictionary.{Dictionary}
 use Rattle.ctf_layout.specs.Table.{LeadsOn}
-use Rattle.ctf_model.specs.FigureLaws.{value_edges, own_body}
-use Rattle.ctf_model.specs.TypePlaces.{own_number}
+use Rattle.ctf_model.specs.figures.FigureLaws.{value_edges, own_body}
+use Rattle.ctf_model.specs.spaces.TypePlaces.{own_number}
 use Rattle.ctf_model.proofs.OwnTypes.{one_own, own_inside, targets_are}
 use Rattle.ctf_chains.proofs.Depths.{IsWithin-more}
 

@@ -1,8 +1,8 @@
 -- A path, step by step.
 use Rattle.std.proofs.Common.{◌≡◌, ◌+◌, ◌≤◌, ◌<◌, ℕ, List, [], ◌∷◌, drop, map, length, Result, Ok, get_or, refl, sym, ap, ◌∙◌}
 use Rattle.std.proofs.lemmas.List.{drop_more, drop_all}
-use Rattle.ctf_model.specs.Paths.{Position, and_on, path_from, step_to}
-use Rattle.ctf_model.specs.Space.{Space}
+use Rattle.ctf_model.specs.figures.Paths.{Position, and_on, path_from, step_to}
+use Rattle.ctf_model.specs.spaces.Space.{Space}
 
 cons_case : (s : Space) (step : ℕ) (name : List ℕ) (names : List (List ℕ)) (at : Position) → path_from s step (name ∷ names) at ≡ and_on (step_to s step name at) (path_from s (step + 1) names)
 unfolding path_from

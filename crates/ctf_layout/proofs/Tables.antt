@@ -5,11 +5,11 @@ use Rattle.std.specs.Option.{ForSome, is_some, option_map}
 use Rattle.std.proofs.lemmas.Bool.{ltb-true}
 use Rattle.std.proofs.lemmas.List.{get_or-map, length-map}
 use Rattle.std.proofs.lemmas.Option.{get_or_from_slice_get, same_Some, slice_get-map, slice_get_cases, slice_get_within}
-use Rattle.ctf_model.specs.Chains.{own_index, own_index_at}
-use Rattle.ctf_model.specs.Dictionary.{Dictionary}
-use Rattle.ctf_model.specs.FigureLaws.{parent_alone}
-use Rattle.ctf_model.specs.Space.{Space}
-use Rattle.ctf_model.specs.TypePlaces.{own_number, place}
+use Rattle.ctf_model.specs.rules.Chains.{own_index, own_index_at}
+use Rattle.ctf_model.specs.format.Dictionary.{Dictionary}
+use Rattle.ctf_model.specs.figures.FigureLaws.{parent_alone}
+use Rattle.ctf_model.specs.spaces.Space.{Space}
+use Rattle.ctf_model.specs.spaces.TypePlaces.{own_number, place}
 use Rattle.ctf_model.specs.declared.numbers.Place.TheVariants.{Own, Parents}
 use Rattle.ctf_model.proofs.OwnTypes.{own_place, own_positive, parents_place, place_of_own}
 use Rattle.ctf_layout.specs.Extents.{IsExtent, IsParentsExtent, neither}

@@ -4,14 +4,14 @@ use Rattle.std.specs.Prelude.{IsSome}
 use Rattle.std.proofs.lemmas.Grind.{get_or-set_at}
 use Rattle.std.proofs.lemmas.List.{get_or-set_other}
 use Rattle.std.proofs.lemmas.Bool.Decides.{eqb_tells}
-use Rattle.ctf_model.specs.Chains.{IsWithin}
-use Rattle.ctf_model.specs.Term.{Term, Body}
+use Rattle.ctf_model.specs.rules.Chains.{IsWithin}
+use Rattle.ctf_model.specs.format.Term.{Term, Body}
 use Rattle.ctf_layout.specs.Bases.{members_read}
 use Rattle.ctf_layout.specs.Extents.{IsExtent}
 use Rattle.ctf_layout.specs.Table.{Table, Knows, Keeps, LeadsOn, FillsBelow, FillsFrom, IsUnderway, IsVisited, entry, owed, work_left}
-use Rattle.ctf_model.specs.FigureLaws.{nothing, own_body, value_edges}
-use Rattle.ctf_model.specs.TypePlaces.{own_number}
-use Rattle.ctf_model.specs.Space.{Space}
+use Rattle.ctf_model.specs.figures.FigureLaws.{nothing, own_body, value_edges}
+use Rattle.ctf_model.specs.spaces.TypePlaces.{own_number}
+use Rattle.ctf_model.specs.spaces.Space.{Space}
 use Rattle.ctf_layout.specs.declared.extents.Extent.{Extent}
 use Rattle.ctf_layout.proofs.Leading.{leads_leads, not_itself}
 

@@ -1,8 +1,8 @@
 -- Sizes and alignments as code has them.
 use Rattle.std.specs.Prelude.{◌≡◌, ℕ, nat_lt, Option, Some, None, Result, Ok, Err, if◌then◌else◌}
-use Rattle.ctf_model.specs.Figures.{size, align, sizing, aligning, parents_figure, times}
-use Rattle.ctf_model.specs.Refusals.{placeless}
-use Rattle.ctf_model.specs.Space.{Space}
+use Rattle.ctf_model.specs.figures.Figures.{size, align, sizing, aligning, parents_figure, times}
+use Rattle.ctf_model.specs.rules.Refusals.{placeless}
+use Rattle.ctf_model.specs.spaces.Space.{Space}
 use Rattle.ctf_model.specs.declared.faults.Fault.{Fault}
 use Rattle.ctf_model.specs.declared.faults.TheConstants.Fault.{INCOMPLETE, TOO_BIG, NO_TYPE, NO_PARENT}
 use Rattle.ctf_layout.specs.declared.extents.Amount.{Amount}

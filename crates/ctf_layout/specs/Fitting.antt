@@ -1,7 +1,7 @@
 -- Which layouts fit a space. Source: ours.
 use Rattle.std.specs.Prelude.{◌≡◌, ℕ, List, Option}
 use Rattle.std.specs.Option.{option_map}
-use Rattle.ctf_model.specs.Space.{Space}
+use Rattle.ctf_model.specs.spaces.Space.{Space}
 use Rattle.ctf_layout.specs.Kept.{AreExtents}
 use Rattle.ctf_layout.specs.Over.{OverParent}
 use Rattle.ctf_layout.specs.declared.layout.Layout.{Layout}

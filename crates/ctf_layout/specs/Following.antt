@@ -1,9 +1,9 @@
 -- One step of following typedefs and qualifiers. The words are ours.
 use Rattle.std.specs.Prelude.{ℕ, Option, Some, None, Result, Ok, Err}
-use Rattle.ctf_model.specs.Dictionary.{Dictionary}
-use Rattle.ctf_model.specs.Figures.{comes_to, most_numbers, resolving}
-use Rattle.ctf_model.specs.Shown.{Shape}
-use Rattle.ctf_model.specs.TypePlaces.{place}
+use Rattle.ctf_model.specs.format.Dictionary.{Dictionary}
+use Rattle.ctf_model.specs.figures.Figures.{comes_to, most_numbers, resolving}
+use Rattle.ctf_model.specs.format.Shown.{Shape}
+use Rattle.ctf_model.specs.spaces.TypePlaces.{place}
 use Rattle.ctf_model.specs.declared.faults.Fault.{Fault}
 use Rattle.ctf_model.specs.declared.kinds.Kind.{Kind}
 use Rattle.ctf_model.specs.declared.kinds.Kind.TheVariants.{KTypedef, KVolatile, KConst, KRestrict}

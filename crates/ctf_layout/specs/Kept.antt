@@ -1,6 +1,6 @@
 -- Sizes and alignments as they are kept. The words are ours.
 use Rattle.std.specs.Prelude.{◌≡◌, ℕ, List, length, map, Option, Some, None, slice_get, unwrap_or}
-use Rattle.ctf_model.specs.Space.{Space}
+use Rattle.ctf_model.specs.spaces.Space.{Space}
 use Rattle.ctf_layout.specs.Extents.{neither}
 use Rattle.ctf_layout.specs.Table.{IsWhole, Table}
 use Rattle.ctf_layout.specs.declared.extents.Amount.{Amount}

@@ -1,8 +1,8 @@
 -- The extents of a parent's types, beside a child. The words are ours.
 use Rattle.std.specs.Prelude.{◌≡◌, Bool, false, List, Option}
 use Rattle.std.specs.Option.{ForSome, is_some}
-use Rattle.ctf_model.specs.FigureLaws.{parent_alone}
-use Rattle.ctf_model.specs.Space.{Space}
+use Rattle.ctf_model.specs.figures.FigureLaws.{parent_alone}
+use Rattle.ctf_model.specs.spaces.Space.{Space}
 use Rattle.ctf_layout.specs.Kept.{AreExtents}
 use Rattle.ctf_layout.specs.declared.entry.Entry.{Entry}
 

@@ -1,6 +1,6 @@
 -- How far a path has come. The words are ours.
 use Rattle.std.specs.Prelude.{ℕ}
-use Rattle.ctf_model.specs.Paths.{Position}
+use Rattle.ctf_model.specs.figures.Paths.{Position}
 use Rattle.ctf_model.specs.declared.numbers.TypeNum.{TypeNum}
 use Rattle.ctf_layout.specs.declared.paths.Reached as reached
 

@@ -1,11 +1,11 @@
 -- The table of sizes and alignments, on the way and at its end. The words are ours.
 use Rattle.std.specs.Prelude.{◌≡◌, ℕ, ◌+◌, ◌<◌, ◌⊎◌, List, [], ◌∷◌, length, sum_by, Option, Some, None, IsSome, slice_index_or}
-use Rattle.ctf_model.specs.Chains.{IsWithin}
-use Rattle.ctf_model.specs.FigureLaws.{value_edges}
-use Rattle.ctf_model.specs.Space.{Space}
-use Rattle.ctf_model.specs.Term.{Term, Body}
-use Rattle.ctf_model.specs.Term as term
-use Rattle.ctf_model.specs.TypePlaces.{own_number}
+use Rattle.ctf_model.specs.rules.Chains.{IsWithin}
+use Rattle.ctf_model.specs.figures.FigureLaws.{value_edges}
+use Rattle.ctf_model.specs.spaces.Space.{Space}
+use Rattle.ctf_model.specs.format.Term.{Term, Body}
+use Rattle.ctf_model.specs.format.Term as term
+use Rattle.ctf_model.specs.spaces.TypePlaces.{own_number}
 use Rattle.ctf_layout.specs.Bases.{members_read}
 use Rattle.ctf_layout.specs.Extents.{IsExtent}
 use Rattle.ctf_layout.specs.declared.extents.Extent.{Extent}

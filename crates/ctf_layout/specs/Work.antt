@@ -1,10 +1,10 @@
 -- What the sizes and alignments of all types cost: one step for each type,
 -- and one for each member that is read. Source: ours.
 use Rattle.std.specs.Prelude.{ℕ, ◌+◌, List, [], length, sum_by, Option, Some, None}
-use Rattle.ctf_model.specs.Dictionary.{Dictionary}
-use Rattle.ctf_model.specs.Space.{Space}
-use Rattle.ctf_model.specs.Term.{Term, Body}
-use Rattle.ctf_model.specs.Term as term
+use Rattle.ctf_model.specs.format.Dictionary.{Dictionary}
+use Rattle.ctf_model.specs.spaces.Space.{Space}
+use Rattle.ctf_model.specs.format.Term.{Term, Body}
+use Rattle.ctf_model.specs.format.Term as term
 use Rattle.ctf_layout.specs.Bases.{members_read}
 
 -- of the types of a dictionary

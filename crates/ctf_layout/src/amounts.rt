@@ -2,7 +2,7 @@
 ghost use Rattle.std.specs.Prelude.{◌≡◌};
 ghost use Rattle.ctf_layout.specs.Bases.{row_size};
 ghost use Rattle.ctf_layout.specs.Extents.{amount};
-ghost use Rattle.ctf_model.specs.Figures.{greater as greater_of, times};
+ghost use Rattle.ctf_model.specs.figures.Figures.{greater as greater_of, times};
 
 use crate::bases::Row;
 use crate::extents::{Amount, Refusal};

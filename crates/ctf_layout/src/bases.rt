@@ -2,9 +2,9 @@
 ghost use Rattle.std.specs.Prelude.{◌≡◌, Some, min, option_map, unwrap_or};
 ghost use Rattle.ctf_check.specs.CheckedView.{IsOwn, tables_of};
 ghost use Rattle.ctf_layout.specs.Bases.{basis as basis_word, both as both_of, of_array, of_function, of_nothing, of_other};
-ghost use Rattle.ctf_model.specs.Shown.{array_in, shape, size_of};
-ghost use Rattle.ctf_model.specs.Space.{pointer_size as pointer_size_of};
-ghost use Rattle.ctf_model.specs.Spelling.{term_of};
+ghost use Rattle.ctf_model.specs.format.Shown.{array_in, shape, size_of};
+ghost use Rattle.ctf_model.specs.spaces.Space.{pointer_size as pointer_size_of};
+ghost use Rattle.ctf_model.specs.format.Spelling.{term_of};
 ghost use Rattle.ctf_records.specs.RecordView.{bytes_of};
 ghost use Rattle.ctf_views.specs.VariantView.{seen};
 

@@ -3,7 +3,7 @@ ghost use Rattle.std.specs.Prelude.{◌≡◌, Ok, option_map};
 ghost use Rattle.std.specs.Result.{result_map_both};
 ghost use Rattle.ctf_check.specs.FactsView.{shape_seen};
 ghost use Rattle.ctf_layout.specs.Following.{followed, onward as onward_of, renamed as renamed_of};
-ghost use Rattle.ctf_model.specs.Figures.{parents_figure, reference as reference_of, referred as referred_of, resolved, resolving};
+ghost use Rattle.ctf_model.specs.figures.Figures.{parents_figure, reference as reference_of, referred as referred_of, resolved, resolving};
 ghost use Rattle.ctf_space.specs.SpaceView.{alone, space_of};
 
 use ctf_check::Shape;

@@ -4,8 +4,8 @@ ghost use Rattle.ctf_layout.specs.Extents.{IsExtent};
 ghost use Rattle.ctf_layout.specs.Kept.{table_kept};
 ghost use Rattle.ctf_layout.specs.Table.{IsVisited, IsWhole, Knows, entry};
 ghost use Rattle.ctf_layout.specs.Work.{types_work};
-ghost use Rattle.ctf_model.specs.Chains.{IsWithin, longest_chain, own_index as own_index_of};
-ghost use Rattle.ctf_model.specs.FigureLaws.{HasBoundedValues, value_edges};
+ghost use Rattle.ctf_model.specs.rules.Chains.{IsWithin, longest_chain, own_index as own_index_of};
+ghost use Rattle.ctf_model.specs.figures.FigureLaws.{HasBoundedValues, value_edges};
 
 use crate::amounts::{greater, row_amount};
 use crate::bases::Basis;

@@ -2,7 +2,7 @@
 ghost use Rattle.std.specs.Prelude.{◌≡◌, ◌+◌, IfOk, OnOk, length};
 ghost use Rattle.ctf_layout.specs.Kept.{AreExtents, extent_at};
 ghost use Rattle.ctf_layout.specs.Work.{types_work};
-ghost use Rattle.ctf_model.specs.FigureLaws.{HasBoundedValues};
+ghost use Rattle.ctf_model.specs.figures.FigureLaws.{HasBoundedValues};
 
 use crate::entry::Entry;
 use crate::extents::{Extent, Refusal, neither};

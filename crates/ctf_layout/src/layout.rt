@@ -7,9 +7,9 @@ ghost use Rattle.ctf_layout.specs.Kept.{AreExtents};
 ghost use Rattle.ctf_layout.specs.Fitting.{Fits, steps_of};
 ghost use Rattle.ctf_layout.specs.Over.{OverParent};
 ghost use Rattle.ctf_layout.specs.Work.{space_size, space_work, types_and_members, types_work};
-ghost use Rattle.ctf_model.specs.FigureLaws.{parent_alone};
-ghost use Rattle.ctf_model.specs.Figures.{align as align_of, size as size_of};
-ghost use Rattle.ctf_model.specs.Space.{Space as WholeSpace};
+ghost use Rattle.ctf_model.specs.figures.FigureLaws.{parent_alone};
+ghost use Rattle.ctf_model.specs.figures.Figures.{align as align_of, size as size_of};
+ghost use Rattle.ctf_model.specs.spaces.Space.{Space as WholeSpace};
 ghost use Rattle.ctf_space.specs.SpaceView.{space_of};
 
 use crate::extents::{Extent, Refusal, neither};

@@ -2,8 +2,8 @@
 ghost use Rattle.std.specs.Prelude.{◌≡◌, map, option_map};
 ghost use Rattle.std.specs.Result.{result_map_both};
 ghost use Rattle.ctf_layout.specs.Reached.{position_of, spot};
-ghost use Rattle.ctf_model.specs.Paths.{member_position, members_found, path as path_to, step_to as stepped};
-ghost use Rattle.ctf_model.specs.Space.{space_type};
+ghost use Rattle.ctf_model.specs.figures.Paths.{member_position, members_found, path as path_to, step_to as stepped};
+ghost use Rattle.ctf_model.specs.spaces.Space.{space_type};
 ghost use Rattle.ctf_space.specs.SpaceView.{space_of};
 ghost use Rattle.ctf_views.specs.ItemsView.{member as shown_member};
 

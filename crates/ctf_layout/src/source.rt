@@ -2,7 +2,7 @@
 ghost use Rattle.std.specs.Prelude.{◌≡◌, IfSome, slice_get, option_and_then, option_map};
 ghost use Rattle.ctf_check.specs.CheckedView.{IsOwn, dictionary_of, tables_of};
 ghost use Rattle.ctf_layout.specs.Over.{OverParent};
-ghost use Rattle.ctf_model.specs.Spelling.{term_of};
+ghost use Rattle.ctf_model.specs.format.Spelling.{term_of};
 ghost use Rattle.ctf_records.specs.RecordView.{bytes_of};
 ghost use Rattle.ctf_space.specs.SpaceView.{space_of};
 

@@ -2,10 +2,10 @@
 ghost use Rattle.std.specs.Prelude.{◌≡◌, ℕ, ◌+◌, ◌<◌, length, slice_index};
 ghost use Rattle.ctf_layout.specs.Bases.{basis as basis_word, members_read};
 ghost use Rattle.ctf_layout.specs.Extents.{IsParentsExtent};
-ghost use Rattle.ctf_model.specs.Chains.{by_value};
-ghost use Rattle.ctf_model.specs.FigureLaws.{own_body};
-ghost use Rattle.ctf_model.specs.Shown.{shape};
-ghost use Rattle.ctf_model.specs.TypePlaces.{place};
+ghost use Rattle.ctf_model.specs.rules.Chains.{by_value};
+ghost use Rattle.ctf_model.specs.figures.FigureLaws.{own_body};
+ghost use Rattle.ctf_model.specs.format.Shown.{shape};
+ghost use Rattle.ctf_model.specs.spaces.TypePlaces.{place};
 ghost use Rattle.ctf_model.specs.declared.numbers.Place.TheVariants.{Parents};
 
 use crate::bases::Basis;
@@ -17,7 +17,7 @@ use std::sync::ledger::Ledger;
 /// The own types of a dictionary, by numbers from 0. To begin a type is a tick, and so is to read a
 /// member.
 pub trait Types<L: Ledger> {
-    ghost use Rattle.ctf_model.specs.Space.{Space};
+    ghost use Rattle.ctf_model.specs.spaces.Space.{Space};
 
     ghost space: { Self → Space };
 

@@ -2,13 +2,13 @@
 use Rattle.std.proofs.Common.{◌≡◌, ℕ, Option, Some, None, Result, Ok, Err, true, is_some, refl, ap, sym, ◌∙◌, ◌⊎◌, inl, inr}
 use Rattle.std.specs.Prelude.{option_map, option_and_then}
 use Rattle.ctf_library.specs.Drafting.{IsWritten}
-use Rattle.ctf_protocol.specs.Creations.{Created}
-use Rattle.ctf_protocol.specs.DraftSteps.{created_slot, model_made, slot_of_draft, updated_slot}
-use Rattle.ctf_model.specs.Drafts.{Draft, held, new_draft, settled}
-use Rattle.ctf_model.specs.Kept.{Kept, modelled_by}
-use Rattle.ctf_protocol.specs.State.{Slot, State}
-use Rattle.ctf_protocol.specs.Steps.{adds_created, creates, creates_from, creates_over, has_room, refuses, slot_at}
-use Rattle.ctf_model.specs.Written.{lists_of, written}
+use Rattle.ctf_protocol.specs.sessions.Creations.{Created}
+use Rattle.ctf_protocol.specs.sessions.DraftSteps.{created_slot, model_made, slot_of_draft, updated_slot}
+use Rattle.ctf_model.specs.drafts.Drafts.{Draft, held, new_draft, settled}
+use Rattle.ctf_model.specs.spaces.Kept.{Kept, modelled_by}
+use Rattle.ctf_protocol.specs.sessions.State.{Slot, State}
+use Rattle.ctf_protocol.specs.sessions.Steps.{adds_created, creates, creates_from, creates_over, has_room, refuses, slot_at}
+use Rattle.ctf_model.specs.writing.Written.{lists_of, written}
 use Rattle.ctf_model.specs.declared.faults.Fault.{Fault}
 use Rattle.ctf_model.specs.declared.faults.TheConstants.Fault.{NO_SLOT}
 

@@ -4,17 +4,17 @@ use Rattle.std.specs.Prelude.{◌||◌, option_map, is_some, not}
 use Rattle.std.specs.Option.{ForSome}
 use Rattle.ctf_answers.specs.declared.counts.Counts.{Counts}
 use Rattle.ctf_library.specs.Drafting.{IsEnlarged, IsUnder}
-use Rattle.ctf_protocol.specs.Additions.{Enlarged, body_of, enlarged, numbered, silent}
-use Rattle.ctf_model.specs.Adders.{Added, add_enumerator, add_label, add_member, add_type, against_enumerator, against_label, against_member, against_place, against_type, body_at, put_member, replaced, replaced_at, size_with, with_enumerator, with_label, with_member, with_type}
-use Rattle.ctf_model.specs.Dictionary.{Label}
-use Rattle.ctf_model.specs.Drafts.{Draft, above as dictionary_above, against_draft, empty_draft, has_zero, is_childs, is_of_other, new_draft, next_number, pending_place, space_of}
-use Rattle.ctf_model.specs.Judgements.{Row, first_met, unless, ◌then◌}
-use Rattle.ctf_model.specs.Imports.{Modelled, same_model}
-use Rattle.ctf_model.specs.Kept.{Kept, kept_dictionary, modelled_by}
-use Rattle.ctf_model.specs.NewTypes.{NewType, new_term}
-use Rattle.ctf_model.specs.Placement.{bits_filled, member_place}
-use Rattle.ctf_model.specs.Space.{space_type}
-use Rattle.ctf_model.specs.Term.{Body, Enumerator, Member, Term}
+use Rattle.ctf_protocol.specs.sessions.Additions.{Enlarged, body_of, enlarged, numbered, silent}
+use Rattle.ctf_model.specs.drafts.Adders.{Added, add_enumerator, add_label, add_member, add_type, against_enumerator, against_label, against_member, against_place, against_type, body_at, put_member, replaced, replaced_at, size_with, with_enumerator, with_label, with_member, with_type}
+use Rattle.ctf_model.specs.format.Dictionary.{Label}
+use Rattle.ctf_model.specs.drafts.Drafts.{Draft, above as dictionary_above, against_draft, empty_draft, has_zero, is_childs, is_of_other, new_draft, next_number, pending_place, space_of}
+use Rattle.ctf_model.specs.rules.Judgements.{Row, first_met, unless, ◌then◌}
+use Rattle.ctf_model.specs.spaces.Imports.{Modelled, same_model}
+use Rattle.ctf_model.specs.spaces.Kept.{Kept, kept_dictionary, modelled_by}
+use Rattle.ctf_model.specs.drafts.NewTypes.{NewType, new_term}
+use Rattle.ctf_model.specs.drafts.Placement.{bits_filled, member_place}
+use Rattle.ctf_model.specs.spaces.Space.{space_type}
+use Rattle.ctf_model.specs.format.Term.{Body, Enumerator, Member, Term}
 use Rattle.ctf_protocol.specs.declared.additions.Addition.{Addition}
 use Rattle.ctf_protocol.specs.declared.additions.Addition.TheVariants as add
 use Rattle.ctf_model.specs.declared.data_model.DataModel.{DataModel}

@@ -6,12 +6,12 @@ use Rattle.ctf_library.proofs.Numbered.{IsPlace}
 use Rattle.ctf_library.specs.Drafting.{HaveStepped, IsStepped}
 use Rattle.ctf_library.specs.SlotView.{slot_of}
 use Rattle.ctf_library.specs.declared.slots.Slot as own
-use Rattle.ctf_protocol.specs.Answers.{Answer}
-use Rattle.ctf_protocol.specs.DraftSteps.{draft_step, slot_step, slots_with, step_if_draft}
-use Rattle.ctf_model.specs.Drafts.{Draft}
-use Rattle.ctf_model.specs.Refusals.{want_of_memory}
-use Rattle.ctf_protocol.specs.State.{Slot}
-use Rattle.ctf_protocol.specs.Steps.{slot_at}
+use Rattle.ctf_protocol.specs.answers.Answers.{Answer}
+use Rattle.ctf_protocol.specs.sessions.DraftSteps.{draft_step, slot_step, slots_with, step_if_draft}
+use Rattle.ctf_model.specs.drafts.Drafts.{Draft}
+use Rattle.ctf_model.specs.rules.Refusals.{want_of_memory}
+use Rattle.ctf_protocol.specs.sessions.State.{Slot}
+use Rattle.ctf_protocol.specs.sessions.Steps.{slot_at}
 use Rattle.ctf_model.specs.declared.faults.Fault.{Fault}
 use Rattle.ctf_protocol.specs.declared.requests.DraftStep.{DraftStep}
 use Rattle.ctf_protocol.specs.declared.requests.DraftStep.TheVariants.{Discard}

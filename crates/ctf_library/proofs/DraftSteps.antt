@@ -3,13 +3,13 @@ use Rattle.std.proofs.Common.{◌≡◌, Option, Some, Result, Ok, Err, ap, sym,
 use Rattle.ctf_answers.specs.Replies.{changed}
 use Rattle.ctf_answers.specs.declared.counts.Counts.{Counts}
 use Rattle.ctf_library.specs.Drafting.{IsWritten, IsEnlarged, IsStepped}
-use Rattle.ctf_protocol.specs.Additions.{Enlarged, enlarged}
-use Rattle.ctf_protocol.specs.DraftSteps.{SlotOutcome, discards, draft_step, enlarges, slot_step, step_if_draft, types_answer, updates_to}
-use Rattle.ctf_model.specs.Drafts.{Draft, held, settled}
-use Rattle.ctf_model.specs.Kept.{Kept}
-use Rattle.ctf_model.specs.Refusals.{want_of_memory}
-use Rattle.ctf_protocol.specs.State.{Slot}
-use Rattle.ctf_model.specs.Written.{lists_of, written}
+use Rattle.ctf_protocol.specs.sessions.Additions.{Enlarged, enlarged}
+use Rattle.ctf_protocol.specs.sessions.DraftSteps.{SlotOutcome, discards, draft_step, enlarges, slot_step, step_if_draft, types_answer, updates_to}
+use Rattle.ctf_model.specs.drafts.Drafts.{Draft, held, settled}
+use Rattle.ctf_model.specs.spaces.Kept.{Kept}
+use Rattle.ctf_model.specs.rules.Refusals.{want_of_memory}
+use Rattle.ctf_protocol.specs.sessions.State.{Slot}
+use Rattle.ctf_model.specs.writing.Written.{lists_of, written}
 use Rattle.ctf_protocol.specs.declared.additions.Addition.{Addition}
 use Rattle.ctf_model.specs.declared.faults.Fault.{Fault}
 use Rattle.ctf_protocol.specs.declared.requests.DraftStep.{DraftStep}

@@ -1,12 +1,12 @@
 -- What an import without a fault says of the two dictionaries.
 use Rattle.std.proofs.Common.{◌≡◌, Bool, true, false, None, refl, subst}
-use Rattle.ctf_model.specs.Dictionary.{Dictionary}
-use Rattle.ctf_model.specs.FigureLaws.{parent_alone}
-use Rattle.ctf_model.specs.Imports.{Import, import_fault, of_one_model, same_model}
-use Rattle.ctf_model.specs.Kept.{Kept, fault_over, kept_dictionary, kept_space, modelled_by}
+use Rattle.ctf_model.specs.format.Dictionary.{Dictionary}
+use Rattle.ctf_model.specs.figures.FigureLaws.{parent_alone}
+use Rattle.ctf_model.specs.spaces.Imports.{Import, import_fault, of_one_model, same_model}
+use Rattle.ctf_model.specs.spaces.Kept.{Kept, fault_over, kept_dictionary, kept_space, modelled_by}
 use Rattle.ctf_model.specs.declared.data_model.DataModel.{DataModel}
 use Rattle.ctf_model.specs.declared.data_model.DataModel.TheVariants.{Lp64, Ilp32}
-use Rattle.ctf_model.specs.Space.{Space}
+use Rattle.ctf_model.specs.spaces.Space.{Space}
 use Rattle.ctf_layout.specs.Fitting.{Fits}
 use Rattle.ctf_layout.specs.declared.layout.Layout.{Layout}
 

@@ -1,7 +1,7 @@
 -- A text that was appended to nothing, as an answer.
 use Rattle.std.proofs.Common.{◌≡◌, ℕ, List, [], Result, Ok, Err, refl}
-use Rattle.ctf_protocol.specs.Answers.{Answer}
-use Rattle.ctf_protocol.specs.Questions.{as_fields, name_fields, value_fields}
+use Rattle.ctf_protocol.specs.answers.Answers.{Answer}
+use Rattle.ctf_protocol.specs.answers.Questions.{as_fields, name_fields, value_fields}
 use Rattle.ctf_model.specs.declared.faults.Fault.{Fault}
 use Rattle.ctf_names.specs.Adding.{added}
 use Rattle.ctf_print.specs.Written as values

@@ -5,10 +5,10 @@ use Rattle.std.specs.List.{remove}
 use Rattle.ctf_library.specs.SlotPlaces.{place_of}
 use Rattle.ctf_library.specs.SlotView.{slot_of}
 use Rattle.ctf_library.specs.declared.slots.Slot as own
-use Rattle.ctf_model.specs.Kept.{Kept}
-use Rattle.ctf_protocol.specs.State.{Slot}
-use Rattle.ctf_protocol.specs.DraftSteps.{slots_with}
-use Rattle.ctf_protocol.specs.Steps.{slot_at, slots_without, slots_with_parent}
+use Rattle.ctf_model.specs.spaces.Kept.{Kept}
+use Rattle.ctf_protocol.specs.sessions.State.{Slot}
+use Rattle.ctf_protocol.specs.sessions.DraftSteps.{slots_with}
+use Rattle.ctf_protocol.specs.sessions.Steps.{slot_at, slots_without, slots_with_parent}
 
 -- the slot of a number stands at a place
 pub record IsPlace (n : ℕ) (slots : List own.Slot) (i : ℕ) : Type 0 where

@@ -3,11 +3,11 @@ use Rattle.std.proofs.Common.{◌≡◌, ℕ, List, map, take, Option, Some, Non
 use Rattle.std.specs.Option.{option_map}
 use Rattle.std.proofs.lemmas.Option.{same_Some}
 use Rattle.std.proofs.lemmas.List.{take-map}
-use Rattle.ctf_protocol.specs.Questions.{number_item, said_of, said_on}
-use Rattle.ctf_model.specs.Shown.{Facts, facts}
-use Rattle.ctf_model.specs.Space.{Space}
-use Rattle.ctf_model.specs.Term.{Term}
-use Rattle.ctf_model.specs.TypeNumbers.{or_no_type}
+use Rattle.ctf_protocol.specs.answers.Questions.{number_item, said_of, said_on}
+use Rattle.ctf_model.specs.format.Shown.{Facts, facts}
+use Rattle.ctf_model.specs.spaces.Space.{Space}
+use Rattle.ctf_model.specs.format.Term.{Term}
+use Rattle.ctf_model.specs.spaces.TypeNumbers.{or_no_type}
 use Rattle.ctf_protocol.specs.declared.questions.TypeQuestion.{TypeQuestion}
 
 pub said_of_facts : (q : TypeQuestion) (s : Space) (t : ℕ) (o : Option Term) (f : Facts) → option_map facts o ≡ Some f → said_on q s t f ≡ said_of q s t (or_no_type o)

@@ -3,14 +3,14 @@ use Rattle.std.specs.Prelude.{◌≡◌, ◌⊎◌, ℕ, List, Option, None, Som
 use Rattle.std.specs.Option.{ForSome}
 use Rattle.ctf_answers.specs.Replies.{changed}
 use Rattle.ctf_answers.specs.declared.counts.Counts.{Counts}
-use Rattle.ctf_protocol.specs.Additions.{Enlarged}
-use Rattle.ctf_protocol.specs.DraftSteps.{SlotOutcome, slot_step, slots_with}
-use Rattle.ctf_model.specs.Drafts.{Draft, held}
-use Rattle.ctf_model.specs.Kept.{Kept, kept_dictionary}
-use Rattle.ctf_model.specs.Refusals.{placeless, want_of_memory}
-use Rattle.ctf_protocol.specs.State.{Slot}
-use Rattle.ctf_protocol.specs.Steps.{slot_at}
-use Rattle.ctf_model.specs.Written.{lists_of, written}
+use Rattle.ctf_protocol.specs.sessions.Additions.{Enlarged}
+use Rattle.ctf_protocol.specs.sessions.DraftSteps.{SlotOutcome, slot_step, slots_with}
+use Rattle.ctf_model.specs.drafts.Drafts.{Draft, held}
+use Rattle.ctf_model.specs.spaces.Kept.{Kept, kept_dictionary}
+use Rattle.ctf_model.specs.rules.Refusals.{placeless, want_of_memory}
+use Rattle.ctf_protocol.specs.sessions.State.{Slot}
+use Rattle.ctf_protocol.specs.sessions.Steps.{slot_at}
+use Rattle.ctf_model.specs.writing.Written.{lists_of, written}
 use Rattle.ctf_model.specs.declared.faults.Fault.{Fault}
 use Rattle.ctf_model.specs.declared.faults.TheConstants.Fault.{NO_SLOT}
 use Rattle.ctf_protocol.specs.declared.requests.DraftStep.{DraftStep}

@@ -3,8 +3,8 @@ use Rattle.std.specs.Prelude.{Option, None}
 use Rattle.std.specs.Option.{ForSome, option_map}
 use Rattle.ctf_layout.specs.Fitting as layouts
 use Rattle.ctf_library.specs.declared.tables.Tables.{Tables}
-use Rattle.ctf_model.specs.FigureLaws.{parent_alone}
-use Rattle.ctf_model.specs.Kept.{Kept, kept_space}
+use Rattle.ctf_model.specs.figures.FigureLaws.{parent_alone}
+use Rattle.ctf_model.specs.spaces.Kept.{Kept, kept_space}
 use Rattle.ctf_names.specs.Fitting as names
 use Rattle.ctf_space.specs.SpaceView.{own_lists, parent_lists, space_of}
 use Rattle.ctf_space.specs.declared.space.Space.{Space}

@@ -1,6 +1,6 @@
 -- Dictionaries that were opened lately. Source: ours.
 use Rattle.std.specs.Prelude.{◌≡◌, ◌⊎◌, ◌==◌, ℕ, List, [], ◌∷◌, ◌++◌, drop, length, if◌then◌else◌}
-use Rattle.ctf_model.specs.Kept.{Kept}
+use Rattle.ctf_model.specs.spaces.Kept.{Kept}
 
 -- how many are held at most
 abbrev pub most_held : ℕ

@@ -1,6 +1,6 @@
 -- Where the slot of a number stands. Source: ours.
 use Rattle.std.specs.Prelude.{ℕ, ◌+◌, ◌==◌, List, [], ◌∷◌, Option, None, Some, option_map, if◌then◌else◌}
-use Rattle.ctf_protocol.specs.State.{Slot}
+use Rattle.ctf_protocol.specs.sessions.State.{Slot}
 
 -- the first place of a number
 abbrev pub place_of : ℕ → List Slot → Option ℕ

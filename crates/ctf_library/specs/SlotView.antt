@@ -1,6 +1,6 @@
 -- What slots and publications show.
 use Rattle.std.specs.Prelude.{option_map}
-use Rattle.ctf_protocol.specs.State as state
+use Rattle.ctf_protocol.specs.sessions.State as state
 use Rattle.ctf_library.specs.declared.publications.Publication.{Publication}
 use Rattle.ctf_library.specs.declared.slots.Slot.{Slot}
 

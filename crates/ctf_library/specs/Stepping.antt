@@ -2,9 +2,9 @@
 use Rattle.std.specs.Prelude.{◌≡◌, Result}
 use Rattle.ctf_answers.specs.Replies.{said}
 use Rattle.ctf_answers.specs.declared.counts.Counts.{Counts}
-use Rattle.ctf_protocol.specs.Runs.{Answered}
-use Rattle.ctf_protocol.specs.State.{State}
-use Rattle.ctf_protocol.specs.Steps.{Outcome}
+use Rattle.ctf_protocol.specs.sessions.Runs.{Answered}
+use Rattle.ctf_protocol.specs.sessions.State.{State}
+use Rattle.ctf_protocol.specs.sessions.Steps.{Outcome}
 use Rattle.ctf_model.specs.declared.faults.Fault.{Fault}
 
 -- a step was made, or memory was refused and nothing changed

@@ -2,9 +2,9 @@
 use Rattle.std.specs.Prelude.{◌≡◌, ℕ, Bool, true, false}
 use Rattle.ctf_library.specs.declared.answering.Told.{Told}
 use Rattle.ctf_library.specs.declared.answering.Told.TheVariants.{Lent, Name, Value}
-use Rattle.ctf_protocol.specs.Questions.{said_on}
-use Rattle.ctf_model.specs.Shown.{Facts}
-use Rattle.ctf_model.specs.Space.{Space}
+use Rattle.ctf_protocol.specs.answers.Questions.{said_on}
+use Rattle.ctf_model.specs.format.Shown.{Facts}
+use Rattle.ctf_model.specs.spaces.Space.{Space}
 use Rattle.ctf_protocol.specs.declared.questions.Question.{Question}
 use Rattle.ctf_protocol.specs.declared.questions.Question.TheVariants.{OfType, OfSlot, OfHeld}
 use Rattle.ctf_protocol.specs.declared.questions.PlainQuestion.TheVariants as plain

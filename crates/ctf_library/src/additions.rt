@@ -2,10 +2,10 @@
 ghost use Rattle.std.specs.Prelude.{◌≡◌, IfOk, codes, map};
 ghost use Rattle.ctf_draft.specs.NewView.{new_body_of, new_of};
 ghost use Rattle.ctf_library.specs.Drafting.{IsEnlarged};
-ghost use Rattle.ctf_protocol.specs.Additions.{array_of, body_of, enlarged, numbered, scalar_of, silent, tag_declared};
-ghost use Rattle.ctf_model.specs.Adders.{add_enumerator as add_enumerator_to, add_label as add_label_to, add_member as add_member_to, add_type as add_type_to};
+ghost use Rattle.ctf_protocol.specs.sessions.Additions.{array_of, body_of, enlarged, numbered, scalar_of, silent, tag_declared};
+ghost use Rattle.ctf_model.specs.drafts.Adders.{add_enumerator as add_enumerator_to, add_label as add_label_to, add_member as add_member_to, add_type as add_type_to};
 ghost use Rattle.ctf_draft.specs.NewView.{new_scalar};
-ghost use Rattle.ctf_model.specs.NewTypes as new;
+ghost use Rattle.ctf_model.specs.drafts.NewTypes as new;
 ghost use Rattle.ctf_records.specs.RecordView.{tag_of};
 
 use ctf_answers::Counts;
@@ -169,7 +169,7 @@ fn add_label(alloc: Global, draft: &mut Draft, name: &Piece, last: u32) -> Resul
 }
 
 /// Adds to a draft; the number of a type or the offset of a member is answered.
-#[tactic(auto, unfolding(ctf_protocol::specs::Additions::enlarged))]
+#[tactic(auto, unfolding(ctf_protocol::specs::sessions::Additions::enlarged))]
 pub(crate) fn enlarge(
     alloc: Global,
     draft: &mut Draft,

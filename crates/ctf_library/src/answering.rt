@@ -1,12 +1,12 @@
 //! What questions to a slot are answered, and those on types.
 ghost use Rattle.std.specs.Prelude.{◌≡◌, ◌≤◌, [], ◌∷◌, codes, length, map, take, true, false, None, Some, Ok, Err, IfOk, IfSome, IfNone, IsNone, option_map, option_and_then};
-ghost use Rattle.ctf_protocol.specs.Answers.{number, says, word};
-ghost use Rattle.ctf_model.specs.KindNames.{name_of_kind, name_of_tag};
-ghost use Rattle.ctf_protocol.specs.Questions.{or_wrong_kind, list_fields, plain_said, said_on, type_said, record_fields, member_fields, enumerator_fields, argument_fields, array_fields, encoding_fields, as_fields, type_fields, name_fields, position_fields, value_fields, number_item, is_variadic as ends_open, named_arguments};
-ghost use Rattle.ctf_model.specs.Shown.{members_in, enumerators_in, arguments_in, array_in, encoding_in, list_length};
-ghost use Rattle.ctf_protocol.specs.Steps.{is_quiet, is_quiet_on, slot_said, slot_space, MayAnswer};
-ghost use Rattle.ctf_model.specs.TypeNames.{spelled_name};
-ghost use Rattle.ctf_model.specs.Values.{value_text};
+ghost use Rattle.ctf_protocol.specs.answers.Answers.{number, says, word};
+ghost use Rattle.ctf_model.specs.names.KindNames.{name_of_kind, name_of_tag};
+ghost use Rattle.ctf_protocol.specs.answers.Questions.{or_wrong_kind, list_fields, plain_said, said_on, type_said, record_fields, member_fields, enumerator_fields, argument_fields, array_fields, encoding_fields, as_fields, type_fields, name_fields, position_fields, value_fields, number_item, is_variadic as ends_open, named_arguments};
+ghost use Rattle.ctf_model.specs.format.Shown.{members_in, enumerators_in, arguments_in, array_in, encoding_in, list_length};
+ghost use Rattle.ctf_protocol.specs.sessions.Steps.{is_quiet, is_quiet_on, slot_said, slot_space, MayAnswer};
+ghost use Rattle.ctf_model.specs.names.TypeNames.{spelled_name};
+ghost use Rattle.ctf_model.specs.values.Values.{value_text};
 ghost use Rattle.ctf_layout.specs.Fitting.{Fits};
 ghost use Rattle.ctf_library.specs.Telling.{IsTold, makes_text, makes_text_on};
 ghost use Rattle.std.specs.Result.{result_map_both};

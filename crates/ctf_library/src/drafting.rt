@@ -6,12 +6,12 @@ ghost use Rattle.ctf_library.specs.Fitting.{AreTablesOf};
 ghost use Rattle.ctf_library.specs.SlotView.{slot_of};
 ghost use Rattle.ctf_answers.specs.Counts.{counts_said};
 ghost use Rattle.ctf_answers.specs.Replies.{changed};
-ghost use Rattle.ctf_model.specs.Dictionary.{Denotes};
-ghost use Rattle.ctf_protocol.specs.DraftSteps.{created_slot, model_made, slot_step, step_if_draft, types_answer};
-ghost use Rattle.ctf_model.specs.Drafts.{held, new_draft as new_draft_of};
-ghost use Rattle.ctf_model.specs.Refusals.{want_of_memory};
-ghost use Rattle.ctf_model.specs.Kept.{Kept, fault_over, kept_dictionary, model_over as parents_model, modelled_by};
-ghost use Rattle.ctf_model.specs.Written.{written};
+ghost use Rattle.ctf_model.specs.format.Dictionary.{Denotes};
+ghost use Rattle.ctf_protocol.specs.sessions.DraftSteps.{created_slot, model_made, slot_step, step_if_draft, types_answer};
+ghost use Rattle.ctf_model.specs.drafts.Drafts.{held, new_draft as new_draft_of};
+ghost use Rattle.ctf_model.specs.rules.Refusals.{want_of_memory};
+ghost use Rattle.ctf_model.specs.spaces.Kept.{Kept, fault_over, kept_dictionary, model_over as parents_model, modelled_by};
+ghost use Rattle.ctf_model.specs.writing.Written.{written};
 ghost use Rattle.ctf_protocol.specs.declared.requests.DraftStep.TheVariants.{Add, Update as Updates, Discard};
 
 use crate::additions::enlarge;
@@ -137,7 +137,7 @@ fn parent_of(imported: &Option<Imported>) -> Option<&Loaded>
 
 impl Slot {
     /// Makes a step of its draft, if it has one. Want of memory changes nothing.
-    #[tactic(auto, unfolding(ctf_protocol::specs::DraftSteps::draft_step))]
+    #[tactic(auto, unfolding(ctf_protocol::specs::sessions::DraftSteps::draft_step))]
     pub(crate) fn step(&mut self, alloc: Global, step: &DraftStep) -> Result<Counts, Fault>
         ensures step { IsStepped (slot_step step.now (slot_of self.old)) result
             (slot_of self.old) (slot_of self.new) }

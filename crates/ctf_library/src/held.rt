@@ -2,7 +2,7 @@
 ghost use Rattle.std.specs.Prelude.{◌≡◌, is_some, take, drop, option_map};
 ghost use Rattle.ctf_check.specs.CheckedView.{dictionary_of, lists_of};
 ghost use Rattle.ctf_library.specs.SlotView.{slot_of};
-ghost use Rattle.ctf_protocol.specs.HeldAnswers.{bytes_fields, held_said, info_fields, pending_in};
+ghost use Rattle.ctf_protocol.specs.answers.HeldAnswers.{bytes_fields, held_said, info_fields, pending_in};
 
 use crate::slots::Slot;
 use ctf_answers::{Answer, Single, model_name};

@@ -1,12 +1,12 @@
 //! The library of one session.
 ghost use Rattle.std.specs.Prelude.{◌≡◌, ◌⊎◌, None, Some, Ok, Err, IfOk, IfErr, OnOk, true, false, is_some, option_map, option_and_then, option_copied};
-ghost use Rattle.ctf_protocol.specs.Publications.{published_as};
-ghost use Rattle.ctf_protocol.specs.State.{empty_state};
+ghost use Rattle.ctf_protocol.specs.sessions.Publications.{published_as};
+ghost use Rattle.ctf_protocol.specs.sessions.State.{empty_state};
 ghost use Rattle.ctf_library.specs.SlotView.{slot_of};
-ghost use Rattle.ctf_model.specs.Refusals.{want_of_memory, placeless as refusal};
+ghost use Rattle.ctf_model.specs.rules.Refusals.{want_of_memory, placeless as refusal};
 ghost use Rattle.ctf_model.specs.declared.faults.TheConstants.Fault.{NO_SLOT};
 ghost use Rattle.ctf_protocol.specs.declared.requests.DraftStep.TheVariants.{Discard};
-ghost use Rattle.ctf_protocol.specs.Steps.{adds_created, answer_to, change_step, checks, clears, closes, creates, has_room as room_in, imports, is_quiet, is_quiet_change, MayAnswer, opens, outcome_of, parts, publishes, publishes_kept, resets, slot_at, steps_draft, takes};
+ghost use Rattle.ctf_protocol.specs.sessions.Steps.{adds_created, answer_to, change_step, checks, clears, closes, creates, has_room as room_in, imports, is_quiet, is_quiet_change, MayAnswer, opens, outcome_of, parts, publishes, publishes_kept, resets, slot_at, steps_draft, takes};
 ghost use Rattle.ctf_library.specs.Stepping.{Does, Makes};
 ghost use Rattle.ctf_library.specs.Telling.{makes_text};
 
@@ -26,7 +26,7 @@ use std::marker::Model;
 use std::mem;
 
 /// How many slots may be in use.
-const MOST_SLOTS: usize = 255;
+const MOST_SLOTS: usize = 1023;
 
 /// What one session holds: its slots, the number of the next one, the staged lists, and what it
 /// published.
@@ -42,8 +42,8 @@ pub struct Library {
 impl Model for Library {
     ghost use Rattle.std.specs.Prelude.{◌≡◌, ◌≤◌, ◌^◌, None, map, true};
     ghost use Rattle.ctf_library.specs.SlotOrder.{rise_between};
-    ghost use Rattle.ctf_model.specs.OwnedLists.{lists_owned};
-    ghost use Rattle.ctf_protocol.specs.State.{State};
+    ghost use Rattle.ctf_model.specs.format.OwnedLists.{lists_owned};
+    ghost use Rattle.ctf_protocol.specs.sessions.State.{State};
     ghost use Rattle.ctf_library.specs.SlotView.{publication_of, slot_of};
 
     ghost Value = { State };
@@ -82,7 +82,7 @@ impl Library {
 
     /// Makes the step of a change, with what was found for a take, whatever the pool holds. Want of
     /// memory changes nothing.
-    #[tactic(auto, unfolding(ctf_protocol::specs::Steps::change_step))]
+    #[tactic(auto, unfolding(ctf_protocol::specs::sessions::Steps::change_step))]
     pub fn step(
         &mut self,
         change: &Change,

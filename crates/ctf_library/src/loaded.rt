@@ -2,9 +2,9 @@
 ghost use Rattle.std.specs.Prelude.{◌≡◌, ◌⊎◌, None, Some, IfOk, IfErr, OnOk};
 ghost use Rattle.ctf_check.specs.CheckedView.{lists_of};
 ghost use Rattle.ctf_library.specs.Fitting.{AreTablesOf};
-ghost use Rattle.ctf_model.specs.Faults.{first_fault};
-ghost use Rattle.ctf_model.specs.OwnedLists.{lists_owned};
-ghost use Rattle.ctf_model.specs.Refusals.{want_of_memory};
+ghost use Rattle.ctf_model.specs.rules.Faults.{first_fault};
+ghost use Rattle.ctf_model.specs.format.OwnedLists.{lists_owned};
+ghost use Rattle.ctf_model.specs.rules.Refusals.{want_of_memory};
 ghost use Rattle.ctf_symbols.specs.Fitting.{Fits};
 
 use crate::tables::Tables;
@@ -40,7 +40,7 @@ pub struct Loaded {
 impl Model for Loaded {
     ghost use Rattle.std.specs.Prelude.{None};
     ghost use Rattle.ctf_library.specs.Fitting.{AreTablesOf};
-    ghost use Rattle.ctf_model.specs.Kept.{Kept};
+    ghost use Rattle.ctf_model.specs.spaces.Kept.{Kept};
     ghost use Rattle.ctf_symbols.specs.Fitting.{Fits};
 
     ghost Value = { Kept };

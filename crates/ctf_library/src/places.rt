@@ -1,10 +1,10 @@
 //! Slots by their numbers.
 ghost use Rattle.std.specs.Prelude.{◌≡◌, ◌≢◌, Err, ◌<◌, ◌+◌, ◌++◌, ◌∷◌, [], ℕ, true, map, option_map, option_copied, IfNone, IfSome, None, Some, vec_len, vec_capacity};
 ghost use Rattle.ctf_library.specs.Drafting.{HaveStepped};
-ghost use Rattle.ctf_model.specs.Refusals.{want_of_memory};
+ghost use Rattle.ctf_model.specs.rules.Refusals.{want_of_memory};
 ghost use Rattle.ctf_protocol.specs.declared.requests.DraftStep.TheVariants.{Discard};
-ghost use Rattle.ctf_model.specs.Kept.{fault_over};
-ghost use Rattle.ctf_protocol.specs.Steps.{slot_at, slots_with_parent, slots_without};
+ghost use Rattle.ctf_model.specs.spaces.Kept.{fault_over};
+ghost use Rattle.ctf_protocol.specs.sessions.Steps.{slot_at, slots_with_parent, slots_without};
 ghost use Rattle.std.specs.List.Sorted.{IsNonDecreasingBy};
 ghost use Rattle.ctf_library.specs.SlotOrder.{rise_between};
 ghost use Rattle.ctf_library.specs.SlotPlaces.{place_of};

@@ -2,9 +2,9 @@
 ghost use Rattle.std.specs.Prelude.{◌≡◌, ◌⊎◌, [], IfOk, IfErr, IfSome, OnOk, Some, None, true};
 ghost use Rattle.ctf_check.specs.ListsView.{lists_in};
 ghost use Rattle.ctf_library.specs.Pooling.{Holds};
-ghost use Rattle.ctf_model.specs.Faults.{first_fault};
-ghost use Rattle.ctf_model.specs.OwnedLists.{lists_owned};
-ghost use Rattle.ctf_model.specs.Refusals.{want_of_memory};
+ghost use Rattle.ctf_model.specs.rules.Faults.{first_fault};
+ghost use Rattle.ctf_model.specs.format.OwnedLists.{lists_owned};
+ghost use Rattle.ctf_model.specs.rules.Refusals.{want_of_memory};
 
 use crate::loaded::Loaded;
 use ctf_check::LentLists;
@@ -30,7 +30,7 @@ pub struct Pool {
 impl Model for Pool {
     ghost use Rattle.std.specs.Prelude.{◌≤◌, List, length};
     ghost use Rattle.ctf_library.specs.Pooling.{most_held};
-    ghost use Rattle.ctf_model.specs.Kept.{Kept};
+    ghost use Rattle.ctf_model.specs.spaces.Kept.{Kept};
 
     ghost Value = { List Kept };
 

@@ -1,7 +1,7 @@
 //! Dictionaries under the names that they were published by.
 ghost use Rattle.std.specs.Prelude.{◌≡◌, map, option_map};
 ghost use Rattle.ctf_library.specs.SlotView.{publication_of};
-ghost use Rattle.ctf_protocol.specs.Publications.{published_as};
+ghost use Rattle.ctf_protocol.specs.sessions.Publications.{published_as};
 
 use crate::loaded::Loaded;
 use ctf_protocol::PublicationName;

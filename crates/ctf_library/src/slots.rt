@@ -3,7 +3,7 @@ ghost use Rattle.std.specs.Prelude.{◌≡◌, None, Some, option_map};
 ghost use Rattle.std.specs.Option.{ForSome};
 ghost use Rattle.ctf_library.specs.Drafting.{IsUnder};
 ghost use Rattle.ctf_library.specs.Fitting.{AreTablesOf};
-ghost use Rattle.ctf_model.specs.Kept.{fault_over};
+ghost use Rattle.ctf_model.specs.spaces.Kept.{fault_over};
 
 use crate::loaded::Loaded;
 use crate::tables::Tables;

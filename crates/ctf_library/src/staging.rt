@@ -1,9 +1,9 @@
 //! Staged lists.
 ghost use Rattle.std.specs.Prelude.{◌≡◌, ◌≢◌, ◌≤◌, ◌<◌, ◌⊎◌, ◌++◌, length, [], Some, None, OnOk, OnErr, IfOk, IfErr, unwrap_or};
-ghost use Rattle.ctf_model.specs.Faults.{first_fault};
-ghost use Rattle.ctf_model.specs.OwnedLists.{lists_owned};
-ghost use Rattle.ctf_model.specs.Refusals.{placeless, want_of_memory};
-ghost use Rattle.ctf_protocol.specs.Steps.{longest_list};
+ghost use Rattle.ctf_model.specs.rules.Faults.{first_fault};
+ghost use Rattle.ctf_model.specs.format.OwnedLists.{lists_owned};
+ghost use Rattle.ctf_model.specs.rules.Refusals.{placeless, want_of_memory};
+ghost use Rattle.ctf_protocol.specs.sessions.Steps.{longest_list};
 ghost use Rattle.ctf_model.specs.declared.faults.TheConstants.Fault.{STAGE_FULL};
 
 use ctf_check::check;
@@ -12,7 +12,7 @@ use ctf_space::lent;
 use std::alloc::Global;
 
 /// The greatest length of a staged list, in bytes.
-const LONGEST_LIST: usize = 16_777_216;
+const LONGEST_LIST: usize = 67_108_864;
 
 /// Adds a piece to the end of a list, and answers how long it is then.
 pub fn add_piece(list: &mut Bytes, piece: &[u8]) -> Result<u64, Fault>

@@ -2,8 +2,8 @@
 ghost use Rattle.std.specs.Prelude.{◌≡◌, ◌⊎◌, None, Some, IfOk, IfErr, OnOk};
 ghost use Rattle.std.specs.Option.{ForSome};
 ghost use Rattle.ctf_library.specs.Fitting.{AreTablesOf, Serve, ServeParent};
-ghost use Rattle.ctf_model.specs.Refusals.{want_of_memory};
-ghost use Rattle.ctf_model.specs.Kept.{fault_over};
+ghost use Rattle.ctf_model.specs.rules.Refusals.{want_of_memory};
+ghost use Rattle.ctf_model.specs.spaces.Kept.{fault_over};
 
 use crate::loaded::Loaded;
 use ctf_layout::Layout;

@@ -1,6 +1,6 @@
 -- The text of a part of an object.
 use Rattle.std.proofs.Common.{◌≡◌, ℕ, zero, suc, ◌<◌, List, [], ◌∷◌, length, get_or, map, refl, arith}
-use Rattle.ctf_protocol.specs.ReplyLines.{entry_text}
+use Rattle.ctf_protocol.specs.lines.ReplyLines.{entry_text}
 use Rattle.ctf_answers.specs.Singles.{entry_of}
 use Rattle.ctf_answers.specs.declared.singles.Entry.{Entry}
 

@@ -4,8 +4,8 @@ use Rattle.std.specs.Prelude.{◌==◌, ◌&&◌, if◌then◌else◌}
 use Rattle.std.proofs.lemmas.List.{take_all}
 use Rattle.std.specs.Option.{option_map}
 use Rattle.ctf_protocol.proofs.TextReading.{plain_spells}
-use Rattle.ctf_model.specs.Texts.{is_plain}
-use Rattle.ctf_protocol.specs.Text.{byte_value, plain_byte, and_bytes, bytes_spelled_by}
+use Rattle.ctf_model.specs.dumps.Texts.{is_plain}
+use Rattle.ctf_protocol.specs.lines.Text.{byte_value, plain_byte, and_bytes, bytes_spelled_by}
 use Rattle.ctf_lines.specs.Fronts.{escape, IsFront}
 
 -- a plain byte spells itself

@@ -1,6 +1,6 @@
 -- How long the digits of bytes are.
 use Rattle.std.proofs.Common.{◌≡◌, ℕ, ◌+◌, List, [], ◌∷◌, length, refl, arith}
-use Rattle.ctf_protocol.specs.Text.{hex_of}
+use Rattle.ctf_protocol.specs.lines.Text.{hex_of}
 
 -- bytes have two digits each
 pub hex_of_twice : (bytes : List ℕ) → length (hex_of bytes) ≡ length bytes + length bytes

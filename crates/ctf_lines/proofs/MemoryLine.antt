@@ -2,9 +2,9 @@
 use Rattle.std.proofs.Common.{◌≡◌, ℕ, ◌+◌, ◌-◌, ◌≤◌, List, ◌++◌, drop, codes, decimal, refl, sym, ap, ◌∙◌, arith}
 use Rattle.std.specs.Fmt.{digits}
 use Rattle.std.proofs.lemmas.List.{drop-drop}
-use Rattle.ctf_model.specs.FaultNames.{name_of_fault}
-use Rattle.ctf_protocol.specs.ReplyLines.{reply_line}
-use Rattle.ctf_protocol.specs.Runs.{no_memory}
+use Rattle.ctf_model.specs.rules.FaultNames.{name_of_fault}
+use Rattle.ctf_protocol.specs.lines.ReplyLines.{reply_line}
+use Rattle.ctf_protocol.specs.sessions.Runs.{no_memory}
 
 pub memory_text : (s : ℕ) → (codes "{\"fault\":{\"code\":0,\"name\":\"Memory\",\"place\":0},\"s\":" ++ decimal s) ++ codes "}\n" ≡ reply_line (no_memory s)
 unfolding name_of_fault digits

@@ -6,7 +6,7 @@ use Rattle.std.proofs.lemmas.List.{drop_more, drop_all}
 use Rattle.serde_json.specs.Data.{Data}
 use Rattle.serde_json.specs.View.{view, items_view}
 use Rattle.serde_json.specs.declared.value.Value.{Value}
-use Rattle.ctf_protocol.specs.LineFields.{each_said}
+use Rattle.ctf_protocol.specs.lines.LineFields.{each_said}
 
 -- items in front of those that others say
 abbrev pub behind : {A : Type 0} → List A → Option (List A) → Option (List A)

@@ -4,7 +4,7 @@ use Rattle.std.specs.Prelude.{nat_lt}
 use Rattle.std.proofs.lemmas.Bool.{lt-ltb}
 use Rattle.std.proofs.lemmas.Grind.{flat_map-append}
 use Rattle.std.proofs.lemmas.List.{take_more, length-take, take-append-drop}
-use Rattle.ctf_model.specs.Texts.{after_commas, separated}
+use Rattle.ctf_model.specs.dumps.Texts.{after_commas, separated}
 use Rattle.ctf_lines.specs.Commas.{comma_before}
 
 -- one more text

@@ -4,14 +4,14 @@ use Rattle.std.specs.Prelude.{◌&&◌, if◌then◌else◌}
 use Rattle.std.specs.List.{list_all, concat}
 use Rattle.std.proofs.lemmas.Bool.{leb-true, le-leb, lt-leb}
 use Rattle.std.proofs.lemmas.Fmt.{length-decimal-le}
-use Rattle.ctf_protocol.specs.Answers.{Field, says}
-use Rattle.ctf_protocol.specs.Answers as answers
+use Rattle.ctf_protocol.specs.answers.Answers.{Field, says}
+use Rattle.ctf_protocol.specs.answers.Answers as answers
 use Rattle.ctf_answers.specs.Counts.{count_said, counts_said}
 use Rattle.ctf_answers.specs.declared.count.Count.{Count}
 use Rattle.ctf_answers.specs.declared.counts.Counts.{Counts}
-use Rattle.ctf_model.specs.FaultNames.{fault_names, name_beside, name_of_fault}
-use Rattle.ctf_model.specs.Texts.{after_commas, separated}
-use Rattle.ctf_protocol.specs.ReplyLines.{key_text, quoted, field_text, object_line, answer_line, fault_fields, fault_line, fitting_line}
+use Rattle.ctf_model.specs.rules.FaultNames.{fault_names, name_beside, name_of_fault}
+use Rattle.ctf_model.specs.dumps.Texts.{after_commas, separated}
+use Rattle.ctf_protocol.specs.lines.ReplyLines.{key_text, quoted, field_text, object_line, answer_line, fault_fields, fault_line, fitting_line}
 use Rattle.ctf_model.specs.declared.faults.Fault.{Fault}
 use Rattle.ctf_model.specs.declared.faults.TheConstants.Fault.{LONG_REPLY}
 

@@ -1,7 +1,7 @@
 -- What stands at the front of a text that is read byte by byte.
 use Rattle.std.specs.Prelude.{◌≡◌, ℕ, ◌<◌, ◌==◌, ◌&&◌, List, ◌∷◌, length, Option, Some, None, if◌then◌else◌}
 use Rattle.std.specs.Option.{option_map}
-use Rattle.ctf_protocol.specs.Text.{byte_value, and_bytes, bytes_spelled_by}
+use Rattle.ctf_protocol.specs.lines.Text.{byte_value, and_bytes, bytes_spelled_by}
 
 -- a byte that is escaped, and the text behind it
 abbrev pub escape : List ℕ → Option (ℕ × List ℕ)

@@ -1,8 +1,8 @@
 //! Reads what is added to a draft.
 ghost use Rattle.std.specs.Prelude.{◌≡◌, ◌≢◌, IfOk, codes, option_and_then};
 ghost use Rattle.serde_json.specs.View.{view, items_view};
-ghost use Rattle.ctf_protocol.specs.LineFields.{text_in, type_under as type_asked_under};
-ghost use Rattle.ctf_protocol.specs.AskAdditions.{addition_asked, addition_with as addition_asked_with, declared_named, kind_with, new_array_asked, new_enumerator_asked, new_function_asked, new_label_asked, new_member_asked, new_type_asked, offset_asked, root_asked, scalar_asked, size_or as size_or_asked, type_said as type_said_by, types_said as types_said_by, value_asked_for};
+ghost use Rattle.ctf_protocol.specs.lines.LineFields.{text_in, type_under as type_asked_under};
+ghost use Rattle.ctf_protocol.specs.lines.AskAdditions.{addition_asked, addition_with as addition_asked_with, declared_named, kind_with, new_array_asked, new_enumerator_asked, new_function_asked, new_label_asked, new_member_asked, new_type_asked, offset_asked, root_asked, scalar_asked, size_or as size_or_asked, type_said as type_said_by, types_said as types_said_by, value_asked_for};
 ghost use Rattle.ctf_protocol.specs.declared.addables.Addable.TheVariants as adds;
 
 use crate::drafts::name_or_empty;

@@ -1,8 +1,8 @@
 //! Reads requests on drafts.
 ghost use Rattle.std.specs.Prelude.{◌≡◌, IfOk};
 ghost use Rattle.serde_json.specs.View.{view};
-ghost use Rattle.ctf_protocol.specs.Ask.{add_asked, create_asked, discard_asked, parent_asked, update_asked};
-ghost use Rattle.ctf_protocol.specs.LineFields.{name_or_empty as name_or_empty_asked};
+ghost use Rattle.ctf_protocol.specs.lines.Ask.{add_asked, create_asked, discard_asked, parent_asked, update_asked};
+ghost use Rattle.ctf_protocol.specs.lines.LineFields.{name_or_empty as name_or_empty_asked};
 
 use crate::additions::addition;
 use crate::models::model;

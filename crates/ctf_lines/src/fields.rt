@@ -1,6 +1,6 @@
 //! Items of lists, and fields.
 ghost use Rattle.std.specs.Prelude.{◌≡◌, ◌++◌, map};
-ghost use Rattle.ctf_protocol.specs.ReplyLines.{item_text, list_text, object_text, field_text, value_text};
+ghost use Rattle.ctf_protocol.specs.lines.ReplyLines.{item_text, list_text, object_text, field_text, value_text};
 ghost use Rattle.ctf_answers.specs.Singles.{entry_of};
 ghost use Rattle.ctf_answers.specs.Items.{item_of};
 ghost use Rattle.ctf_answers.specs.Fields.{field_of, value_of};
@@ -18,7 +18,7 @@ struct Entries<'a> {
 
 impl<'a> Series for Entries<'a> {
     ghost use Rattle.std.specs.Prelude.{map};
-    ghost use Rattle.ctf_protocol.specs.ReplyLines.{entry_text};
+    ghost use Rattle.ctf_protocol.specs.lines.ReplyLines.{entry_text};
     ghost use Rattle.ctf_answers.specs.Singles.{entry_of};
 
     ghost texts = { λ object. map entry_text (map entry_of object.entries.now) };
@@ -54,7 +54,7 @@ fn put_item<P: Paper>(paper: &mut P, item: Item<'_>)
 
 impl<'a> Series for Listed<'a> {
     ghost use Rattle.std.specs.Prelude.{map};
-    ghost use Rattle.ctf_protocol.specs.ReplyLines.{item_text};
+    ghost use Rattle.ctf_protocol.specs.lines.ReplyLines.{item_text};
 
     ghost texts = { λ items. map item_text items };
 
@@ -97,7 +97,7 @@ fn put_field<P: Paper>(paper: &mut P, field: &Field<'_>)
 
 impl<'a> Series for Answer<'a> {
     ghost use Rattle.std.specs.Prelude.{map};
-    ghost use Rattle.ctf_protocol.specs.ReplyLines.{field_text};
+    ghost use Rattle.ctf_protocol.specs.lines.ReplyLines.{field_text};
 
     ghost texts = { λ fields. map field_text fields };
 

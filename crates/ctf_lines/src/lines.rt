@@ -9,8 +9,8 @@ use std::alloc::{AllocError, Global};
 pub trait FromLine: Sized {
     ghost use Rattle.ctf_model.specs.declared.faults.Fault.{Fault};
     ghost use Rattle.ctf_model.specs.declared.faults.TheConstants.Fault.{MEMORY};
-    ghost use Rattle.ctf_model.specs.Refusals.{placeless};
-    ghost use Rattle.ctf_protocol.specs.Lines.{longest_line};
+    ghost use Rattle.ctf_model.specs.rules.Refusals.{placeless};
+    ghost use Rattle.ctf_protocol.specs.lines.Lines.{longest_line};
 
     /// The session of a line and what it asks, or its session (0 where it has none) and the
     /// refusal.

@@ -1,8 +1,8 @@
 //! Reads the data model of a request.
 ghost use Rattle.std.specs.Prelude.{◌≡◌};
 ghost use Rattle.serde_json.specs.View.{view};
-ghost use Rattle.ctf_protocol.specs.Ask.{model_asked as model_said};
-ghost use Rattle.ctf_protocol.specs.ModelNames.{model_named as model_of_word};
+ghost use Rattle.ctf_protocol.specs.lines.Ask.{model_asked as model_said};
+ghost use Rattle.ctf_protocol.specs.words.ModelNames.{model_named as model_of_word};
 
 use ctf_model::DataModel;
 use serde_json::Value;

@@ -1,8 +1,8 @@
 //! Names in a line: their bytes are escaped where they aren't plain.
 ghost use Rattle.std.specs.Prelude.{◌≡◌, ◌<◌, ◌+◌, ◌≤◌, ◌++◌, length, vec_len, vec_capacity};
 ghost use Rattle.ctf_lines.specs.Appending.{HasRoom, Appended};
-ghost use Rattle.ctf_model.specs.Texts.{is_plain as is_plain_byte, hex_digit as digit_of, hex_of_byte};
-ghost use Rattle.ctf_protocol.specs.Text.{text_of_byte, text_of, hex_of};
+ghost use Rattle.ctf_model.specs.dumps.Texts.{is_plain as is_plain_byte, hex_digit as digit_of, hex_of_byte};
+ghost use Rattle.ctf_protocol.specs.lines.Text.{text_of_byte, text_of, hex_of};
 
 use crate::papers::Paper;
 

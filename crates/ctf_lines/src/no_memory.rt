@@ -1,7 +1,7 @@
 //! The line that says that memory was refused, written without taking any.
 ghost use Rattle.std.specs.Prelude.{◌≡◌, ◌+◌, ◌≤◌, ◌++◌, length, take, drop};
-ghost use Rattle.ctf_protocol.specs.ReplyLines.{reply_line};
-ghost use Rattle.ctf_protocol.specs.Runs.{no_memory};
+ghost use Rattle.ctf_protocol.specs.lines.ReplyLines.{reply_line};
+ghost use Rattle.ctf_protocol.specs.sessions.Runs.{no_memory};
 
 use crate::writing::SHORT_LINE;
 use itoa::Buffer;

@@ -1,6 +1,6 @@
 //! What texts are put on: the end of a line, or a measure of how long they are.
 ghost use Rattle.std.specs.Prelude.{◌≡◌, ◌++◌, [], true, ℕ, List};
-ghost use Rattle.ctf_protocol.specs.Text.{hex_of};
+ghost use Rattle.ctf_protocol.specs.lines.Text.{hex_of};
 
 /// What texts are put on, one behind the other.
 pub trait Paper {

@@ -1,6 +1,6 @@
 //! Texts of a line with commas between them.
 ghost use Rattle.std.specs.Prelude.{◌≡◌, ◌<◌, ℕ, List, [], length, get_or};
-ghost use Rattle.ctf_model.specs.Texts.{separated};
+ghost use Rattle.ctf_model.specs.dumps.Texts.{separated};
 ghost use Rattle.ctf_lines.specs.Commas.{comma_before};
 
 use crate::papers::Paper;

@@ -1,7 +1,7 @@
 //! Single values and the parts of objects in a line.
 ghost use Rattle.std.specs.Prelude.{◌≡◌, ◌++◌};
-ghost use Rattle.ctf_protocol.specs.ReplyLines.{single_text, entry_text, key_text, quoted, truth as truth_text};
-ghost use Rattle.ctf_protocol.specs.Text.{text_of, hex_of};
+ghost use Rattle.ctf_protocol.specs.lines.ReplyLines.{single_text, entry_text, key_text, quoted, truth as truth_text};
+ghost use Rattle.ctf_protocol.specs.lines.Text.{text_of, hex_of};
 ghost use Rattle.ctf_answers.specs.Singles.{single_of, entry_of};
 
 use crate::names::put_name;

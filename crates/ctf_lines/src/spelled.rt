@@ -1,8 +1,8 @@
 //! Bytes that texts of a line spell: by hexadecimal digits, or as a name with its escapes.
 ghost use Rattle.std.specs.Prelude.{◌≡◌, ◌<◌, IfOk, IfSome, length, option_map, option_and_then};
 ghost use Rattle.serde_json.specs.View.{view, items_view};
-ghost use Rattle.ctf_protocol.specs.LineFields.{bytes_spelled, not_too_many, not_too_many_names, name_spelled, names_spelled};
-ghost use Rattle.ctf_protocol.specs.Text.{digit_value as digit_value_of, byte_value as byte_value_of, bytes_spelled_by};
+ghost use Rattle.ctf_protocol.specs.lines.LineFields.{bytes_spelled, not_too_many, not_too_many_names, name_spelled, names_spelled};
+ghost use Rattle.ctf_protocol.specs.lines.Text.{digit_value as digit_value_of, byte_value as byte_value_of, bytes_spelled_by};
 ghost use Rattle.ctf_lines.specs.Fronts.{IsFront, escape as escape_of};
 
 use crate::names::is_plain;

@@ -1,6 +1,6 @@
 //! Texts at the end of a line, and those of numbers.
 ghost use Rattle.std.specs.Prelude.{◌≡◌, ◌+◌, ◌≤◌, ◌++◌, length, vec_len, vec_capacity, decimal};
-ghost use Rattle.ctf_model.specs.Texts.{signed_decimal};
+ghost use Rattle.ctf_model.specs.dumps.Texts.{signed_decimal};
 ghost use Rattle.ctf_lines.specs.Appending.{HasRoom, Appended};
 
 use crate::names::append_hex;

@@ -1,6 +1,6 @@
 //! Writes the line of a reply.
 ghost use Rattle.std.specs.Prelude.{◌≡◌, ◌≤◌, length};
-ghost use Rattle.ctf_protocol.specs.ReplyLines.{fault_fields, fault_line, fitting_answer, object_line, reply_line};
+ghost use Rattle.ctf_protocol.specs.lines.ReplyLines.{fault_fields, fault_line, fitting_answer, object_line, reply_line};
 ghost use Rattle.ctf_answers.specs.Counts.{counts_said};
 ghost use Rattle.ctf_answers.specs.Replies.{reply_of, said_to};
 ghost use Rattle.ctf_lines.specs.Appending.{Writes, and_text};

@@ -4,21 +4,21 @@ use Rattle.std.specs.Prelude.{Any, slice_index_or}
 use Rattle.std.specs.List.{AllByRecursion}
 use Rattle.std.proofs.lemmas.Bool.{cases_lt}
 use Rattle.std.proofs.lemmas.Option.{slice_get-get_or}
-use Rattle.ctf_model.specs.Chains.{by_value}
-use Rattle.ctf_model.specs.Dictionary.{said_by}
-use Rattle.ctf_model.specs.Faults.{first_fault, types}
-use Rattle.ctf_model.specs.FigureLaws.{nothing, own_body}
-use Rattle.ctf_model.specs.Header.{fields, is_child, section}
-use Rattle.ctf_model.specs.Laws.{pieces}
-use Rattle.ctf_model.specs.Lists.{Lists, tables}
-use Rattle.ctf_model.specs.Name.{Tables}
-use Rattle.ctf_model.specs.References.{references}
-use Rattle.ctf_model.specs.Rules.{IsMissing, Keeps, Misnames}
-use Rattle.ctf_model.specs.Section.{IsCut, terms_in}
-use Rattle.ctf_model.specs.Spelling.{HasStrayMark}
-use Rattle.ctf_model.specs.Term.{Term, Body}
-use Rattle.ctf_model.specs.Term as term
-use Rattle.ctf_model.specs.ValueLaws.{FaultlessParentsAreBounded}
+use Rattle.ctf_model.specs.rules.Chains.{by_value}
+use Rattle.ctf_model.specs.format.Dictionary.{said_by}
+use Rattle.ctf_model.specs.rules.Faults.{first_fault, types}
+use Rattle.ctf_model.specs.figures.FigureLaws.{nothing, own_body}
+use Rattle.ctf_model.specs.format.Header.{fields, is_child, section}
+use Rattle.ctf_model.specs.format.Laws.{pieces}
+use Rattle.ctf_model.specs.format.Lists.{Lists, tables}
+use Rattle.ctf_model.specs.format.Name.{Tables}
+use Rattle.ctf_model.specs.rules.References.{references}
+use Rattle.ctf_model.specs.rules.Rules.{IsMissing, Keeps, Misnames}
+use Rattle.ctf_model.specs.format.Section.{IsCut, terms_in}
+use Rattle.ctf_model.specs.format.Spelling.{HasStrayMark}
+use Rattle.ctf_model.specs.format.Term.{Term, Body}
+use Rattle.ctf_model.specs.format.Term as term
+use Rattle.ctf_model.specs.values.ValueLaws.{FaultlessParentsAreBounded}
 use Rattle.ctf_model.specs.declared.sections.Section.TheVariants.{STypes}
 use Rattle.ctf_model.proofs.Alls.{all_got}
 use Rattle.ctf_model.proofs.Anywhere.{all_map, any_here, any_there}

@@ -1,13 +1,13 @@
 -- In a dictionary that breaks no rule, chains of steps by value are short.
 use Rattle.std.proofs.Common.{◌≡◌, ℕ, ◌+◌, Bool, true, false, Option, Some, None, refl, arith}
 use Rattle.std.specs.Prelude.{MatchOption}
-use Rattle.ctf_model.specs.Chains.{by_value, longest_chain, within, IsWithin}
-use Rattle.ctf_model.specs.Dictionary.{said_by}
-use Rattle.ctf_model.specs.Faults.{first_fault}
-use Rattle.ctf_model.specs.FigureLaws.{FaultlessValuesAreBounded, value_edges}
-use Rattle.ctf_model.specs.Laws.{KeepsEveryRule}
-use Rattle.ctf_model.specs.Lists.{Lists}
-use Rattle.ctf_model.specs.Rules.{IsFirstFault}
+use Rattle.ctf_model.specs.rules.Chains.{by_value, longest_chain, within, IsWithin}
+use Rattle.ctf_model.specs.format.Dictionary.{said_by}
+use Rattle.ctf_model.specs.rules.Faults.{first_fault}
+use Rattle.ctf_model.specs.figures.FigureLaws.{FaultlessValuesAreBounded, value_edges}
+use Rattle.ctf_model.specs.format.Laws.{KeepsEveryRule}
+use Rattle.ctf_model.specs.format.Lists.{Lists}
+use Rattle.ctf_model.specs.rules.Rules.{IsFirstFault}
 use Rattle.ctf_model.specs.declared.faults.Fault.{Fault}
 use Rattle.ctf_model.proofs.ChainRules.{within_true}
 use Rattle.ctf_model.proofs.ChainSteps.{chain_begins}

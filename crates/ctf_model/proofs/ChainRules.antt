@@ -3,15 +3,15 @@ use Rattle.std.proofs.Common.{◌≡◌, ℕ, zero, suc, ◌+◌, ◌<◌, ◌�
 use Rattle.std.specs.List.{list_all, AllByRecursion}
 use Rattle.std.proofs.lemmas.Bool.{eqb-true, eqb-false, false_from_ne_true, and_parts}
 use Rattle.std.proofs.lemmas.List.{nil_from_length}
-use Rattle.ctf_model.specs.Chains.{by_value, declarator, edges, targets, IsWithin, BeginsChain, within, longest_chain}
+use Rattle.ctf_model.specs.rules.Chains.{by_value, declarator, edges, targets, IsWithin, BeginsChain, within, longest_chain}
 use Rattle.ctf_model.specs.declared.sections.Section.TheVariants.{STypes}
-use Rattle.ctf_model.specs.Faults.{types, first_deep, edges_by, value_deep, decl_deep}
-use Rattle.ctf_model.specs.Header.{fields, is_child, section}
-use Rattle.ctf_model.specs.Lists.{Lists, tables}
-use Rattle.ctf_model.specs.Rules.{IsBroken, IsDeepBy, Keeps}
-use Rattle.ctf_model.specs.Section.{terms_in}
-use Rattle.ctf_model.specs.Term.{Body, Term}
-use Rattle.ctf_model.specs.TypePlaces.{place}
+use Rattle.ctf_model.specs.rules.Faults.{types, first_deep, edges_by, value_deep, decl_deep}
+use Rattle.ctf_model.specs.format.Header.{fields, is_child, section}
+use Rattle.ctf_model.specs.format.Lists.{Lists, tables}
+use Rattle.ctf_model.specs.rules.Rules.{IsBroken, IsDeepBy, Keeps}
+use Rattle.ctf_model.specs.format.Section.{terms_in}
+use Rattle.ctf_model.specs.format.Term.{Body, Term}
+use Rattle.ctf_model.specs.spaces.TypePlaces.{place}
 use Rattle.ctf_model.proofs.ChainSteps.{chain_begins, chain_past, chain_inside}
 use Rattle.ctf_model.proofs.FirstFault.{Agrees, agrees_as}
 use Rattle.ctf_model.proofs.SpelledSection.{section_spelled}

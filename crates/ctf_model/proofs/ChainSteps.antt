@@ -6,11 +6,11 @@ use Rattle.std.proofs.Math.ListN.{get_or-eq_default}
 use Rattle.std.proofs.lemmas.Bool.{ltb-true, lt-ltb}
 use Rattle.std.proofs.lemmas.List.{get_or-map, length-map}
 use Rattle.std.proofs.lemmas.Option.{same_Some, cond_some, slice_get_within, slice_get_cases, get_or_from_slice_get}
-use Rattle.ctf_model.specs.Chains.{edges, own_index, own_index_at, targets, IsWithin, Leads, BeginsChain, within}
+use Rattle.ctf_model.specs.rules.Chains.{edges, own_index, own_index_at, targets, IsWithin, Leads, BeginsChain, within}
 use Rattle.ctf_model.specs.declared.numbers.Place.{Place}
 use Rattle.ctf_model.specs.declared.numbers.Place.TheVariants.{Nowhere, Own, Parents}
-use Rattle.ctf_model.specs.Term.{Body, Term}
-use Rattle.ctf_model.specs.TypePlaces.{place}
+use Rattle.ctf_model.specs.format.Term.{Body, Term}
+use Rattle.ctf_model.specs.spaces.TypePlaces.{place}
 use Rattle.ctf_model.proofs.Anywhere.{any_none, any_here, any_there, any_split}
 
 -- ---- steps

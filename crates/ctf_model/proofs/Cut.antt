@@ -10,10 +10,10 @@ use Rattle.std.proofs.lemmas.Option.{same_Some}
 use Rattle.ctf_model.specs.declared.faults.Fault.{Fault}
 use Rattle.ctf_model.specs.declared.faults.TheConstants.Fault.{TRUNCATED, BAD_KIND}
 use Rattle.ctf_model.specs.declared.kinds.Kind.{Kind}
-use Rattle.ctf_model.specs.Laws.{rest_fault, pieces, Reads}
-use Rattle.ctf_model.specs.Record.{head_len, variant_len, size, vlen, kind, IsWhole, IsWholeAt}
-use Rattle.ctf_model.specs.Rules.{HasUnknownKind}
-use Rattle.ctf_model.specs.Section.{Piece, IsCut, Stops, front_len, fitting, stop_code, walk, records}
+use Rattle.ctf_model.specs.format.Laws.{rest_fault, pieces, Reads}
+use Rattle.ctf_model.specs.format.Record.{head_len, variant_len, size, vlen, kind, IsWhole, IsWholeAt}
+use Rattle.ctf_model.specs.rules.Rules.{HasUnknownKind}
+use Rattle.ctf_model.specs.format.Section.{Piece, IsCut, Stops, front_len, fitting, stop_code, walk, records}
 use Rattle.ctf_model.proofs.Prefix.{record_len-append, head_len-append, kind-append, has_head}
 use Rattle.ctf_model.proofs.Unique.{one_front, one_rest}
 use Rattle.ctf_model.proofs.Walk.{fitting_range, front_len_range, walk_ended, walk_none, took, nonempty}

@@ -3,19 +3,19 @@ use Rattle.std.proofs.Common.{◌≡◌, ℕ, zero, suc, ◌+◌, ◌-◌, ◌*�
 use Rattle.std.specs.Prelude.{MatchOption, ◌↔◌}
 use Rattle.std.proofs.lemmas.List.{length-take, length-drop, take-take, drop-take, drop-drop}
 use Rattle.std.proofs.lemmas.Option.{same_Some}
-use Rattle.ctf_model.specs.Bytes.{number, u32_at}
+use Rattle.ctf_model.specs.format.Bytes.{number, u32_at}
 use Rattle.ctf_model.specs.declared.faults.Fault.{Fault}
 use Rattle.ctf_model.specs.declared.sections.Section.TheVariants.{SLabels, SObjects, SFunctions, STypes}
-use Rattle.ctf_model.specs.Dictionary.{Dictionary, Label, Denotes, AreLabels, labels_in, said_by, denoted, unless_fault}
-use Rattle.ctf_model.specs.Entries.{Entry, AreEntries}
-use Rattle.ctf_model.specs.Faults.{first_fault, label_sites}
-use Rattle.ctf_model.specs.Header.{fields, section}
-use Rattle.ctf_model.specs.Laws.{KeepsEveryRule}
-use Rattle.ctf_model.specs.Lists.{Lists, tables}
-use Rattle.ctf_model.specs.Name.{Tables, name}
-use Rattle.ctf_model.specs.Rules.{IsFirstFault}
-use Rattle.ctf_model.specs.Symbols.{Symbol}
-use Rattle.ctf_model.specs.Term.{Term}
+use Rattle.ctf_model.specs.format.Dictionary.{Dictionary, Label, Denotes, AreLabels, labels_in, said_by, denoted, unless_fault}
+use Rattle.ctf_model.specs.symbols.Entries.{Entry, AreEntries}
+use Rattle.ctf_model.specs.rules.Faults.{first_fault, label_sites}
+use Rattle.ctf_model.specs.format.Header.{fields, section}
+use Rattle.ctf_model.specs.format.Laws.{KeepsEveryRule}
+use Rattle.ctf_model.specs.format.Lists.{Lists, tables}
+use Rattle.ctf_model.specs.format.Name.{Tables, name}
+use Rattle.ctf_model.specs.rules.Rules.{IsFirstFault}
+use Rattle.ctf_model.specs.symbols.Symbols.{Symbol}
+use Rattle.ctf_model.specs.format.Term.{Term}
 use Rattle.ctf_model.proofs.GoodNames.{the_value, good}
 use Rattle.ctf_model.proofs.Judge.{least_fault}
 use Rattle.ctf_model.proofs.HeaderRules.{kept_order, kept_end, section_len}

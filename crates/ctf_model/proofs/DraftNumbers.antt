@@ -5,15 +5,15 @@ use Rattle.std.specs.Result.{is_err}
 use Rattle.std.proofs.lemmas.Bool.{ltb-true, leb-true, leb-false, eqb-true}
 use Rattle.std.proofs.lemmas.Option.{slice_get_within}
 use Rattle.ctf_model.proofs.OwnTypes.{own_inside}
-use Rattle.ctf_model.specs.Chains.{own_index}
-use Rattle.ctf_model.specs.Dictionary.{Dictionary}
-use Rattle.ctf_model.specs.Drafts.{Draft, all_of, behind_updated, count_of, held, is_absent, is_settled, is_unknown, pending_place, space_of}
-use Rattle.ctf_model.specs.Needs.{number_in_parent, parents_number}
-use Rattle.ctf_model.specs.References.{is_missing, is_missing_at}
-use Rattle.ctf_model.specs.Space.{space_type}
-use Rattle.ctf_model.specs.Term.{Term}
-use Rattle.ctf_model.specs.TypeNumbers.{or_no_type, type_in}
-use Rattle.ctf_model.specs.TypePlaces.{place, place_in_child}
+use Rattle.ctf_model.specs.rules.Chains.{own_index}
+use Rattle.ctf_model.specs.format.Dictionary.{Dictionary}
+use Rattle.ctf_model.specs.drafts.Drafts.{Draft, all_of, behind_updated, count_of, held, is_absent, is_settled, is_unknown, pending_place, space_of}
+use Rattle.ctf_model.specs.rules.Needs.{number_in_parent, parents_number}
+use Rattle.ctf_model.specs.rules.References.{is_missing, is_missing_at}
+use Rattle.ctf_model.specs.spaces.Space.{space_type}
+use Rattle.ctf_model.specs.format.Term.{Term}
+use Rattle.ctf_model.specs.spaces.TypeNumbers.{or_no_type, type_in}
+use Rattle.ctf_model.specs.spaces.TypePlaces.{place, place_in_child}
 use Rattle.ctf_model.specs.declared.faults.Fault.{Fault}
 use Rattle.ctf_model.specs.declared.numbers.Place.{Place}
 use Rattle.ctf_model.specs.declared.numbers.Place.TheVariants.{Nowhere, Own, Parents}

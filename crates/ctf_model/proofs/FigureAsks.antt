@@ -1,11 +1,11 @@
 -- What a type comes to hangs on the types that it leads to by value alone.
 use Rattle.std.proofs.Common.{◌≡◌, ℕ, cond, ltb, List, [], ◌∷◌, map, Result, Ok, refl, ap}
 use Rattle.std.specs.List.{AllByRecursion}
-use Rattle.ctf_model.specs.Chains.{by_value}
-use Rattle.ctf_model.specs.FigureLaws.{FiguresAskByValue}
-use Rattle.ctf_model.specs.Figures.{resolved_body, size_body, align_body, greatest, first_of, times}
-use Rattle.ctf_model.specs.Term.{Body, Member}
-use Rattle.ctf_model.specs.Term as term
+use Rattle.ctf_model.specs.rules.Chains.{by_value}
+use Rattle.ctf_model.specs.figures.FigureLaws.{FiguresAskByValue}
+use Rattle.ctf_model.specs.figures.Figures.{resolved_body, size_body, align_body, greatest, first_of, times}
+use Rattle.ctf_model.specs.format.Term.{Body, Member}
+use Rattle.ctf_model.specs.format.Term as term
 use Rattle.ctf_model.specs.declared.data_model.DataModel.{DataModel}
 use Rattle.ctf_model.specs.declared.faults.Fault.{Fault}
 

@@ -5,10 +5,10 @@ use Rattle.std.specs.Bool.{Decides}
 use Rattle.std.proofs.Math.ListN.{get_or-eq_default}
 use Rattle.std.proofs.lemmas.Bool.{cases_lt, false≢true}
 use Rattle.std.proofs.lemmas.Option.{same_Some}
-use Rattle.ctf_model.specs.Faults.{if_broken, first_broken, or_later}
-use Rattle.ctf_model.specs.Laws.{KeepsEveryRule}
-use Rattle.ctf_model.specs.Lists.{Lists}
-use Rattle.ctf_model.specs.Rules.{IsBroken, Keeps, IsFirstFault, Never, rules}
+use Rattle.ctf_model.specs.rules.Faults.{if_broken, first_broken, or_later}
+use Rattle.ctf_model.specs.format.Laws.{KeepsEveryRule}
+use Rattle.ctf_model.specs.format.Lists.{Lists}
+use Rattle.ctf_model.specs.rules.Rules.{IsBroken, Keeps, IsFirstFault, Never, rules}
 use Rattle.ctf_model.specs.declared.faults.Fault.{Fault}
 
 -- ---- one rule

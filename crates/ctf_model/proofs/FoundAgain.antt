@@ -6,10 +6,10 @@ use Rattle.std.specs.Str.{bytes_eq}
 use Rattle.std.specs.Cmp.Lexicographic.{bytes_decides}
 use Rattle.std.proofs.lemmas.Bool.{ne_eqb, eqb-true}
 use Rattle.std.proofs.lemmas.List.{drop_at, append_assoc, length-append, nil_from_length}
-use Rattle.ctf_model.specs.Name.{text, is_zero, name}
-use Rattle.ctf_model.specs.Fitting.{IsName}
-use Rattle.ctf_model.specs.WrittenNames.{closed, string_bytes, reference, is_empty}
-use Rattle.ctf_model.specs.WritingLaws.{IsKept, IsFound, table_of}
+use Rattle.ctf_model.specs.format.Name.{text, is_zero, name}
+use Rattle.ctf_model.specs.drafts.Fitting.{IsName}
+use Rattle.ctf_model.specs.writing.WrittenNames.{closed, string_bytes, reference, is_empty}
+use Rattle.ctf_model.specs.writing.WritingLaws.{IsKept, IsFound, table_of}
 
 -- what stands before the first: nothing where the head passes
 pub first_here : {A : Type 0} (p : A → Bool) (x : A) (xs : List A) → p x ≡ true → before_first p (x ∷ xs) ≡ []

@@ -1,11 +1,11 @@
 -- Where the rule of names is kept, all names are good.
 use Rattle.std.proofs.Common.{◌≡◌, ℕ, ◌<◌, List, [], ◌∷◌, Option, Some, None, refl}
 use Rattle.std.specs.Prelude.{unwrap_or}
-use Rattle.ctf_model.specs.Faults.{Site, sites}
-use Rattle.ctf_model.specs.Header.{fields}
-use Rattle.ctf_model.specs.Lists.{Lists, tables}
-use Rattle.ctf_model.specs.Name.{Tables}
-use Rattle.ctf_model.specs.Rules.{Keeps}
+use Rattle.ctf_model.specs.rules.Faults.{Site, sites}
+use Rattle.ctf_model.specs.format.Header.{fields}
+use Rattle.ctf_model.specs.format.Lists.{Lists, tables}
+use Rattle.ctf_model.specs.format.Name.{Tables}
+use Rattle.ctf_model.specs.rules.Rules.{Keeps}
 use Rattle.ctf_model.proofs.Anywhere.{any_here, any_there}
 use Rattle.ctf_model.proofs.NameRules.{IsNameless}
 use Rattle.ctf_model.proofs.NameSites.{in_labels, in_types, name_stands}

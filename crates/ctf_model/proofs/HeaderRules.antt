@@ -6,11 +6,11 @@ use Rattle.std.proofs.Math.Bool.{or_assoc}
 use Rattle.std.proofs.lemmas.Bool.{cases_lt, false≢true}
 use Rattle.std.proofs.lemmas.Bool.Decides.{Decides-eqb, Decides-ltb, Decides-not, Decides-or, Decides-and, Decides-like, Decides-at}
 use Rattle.std.proofs.lemmas.List.{length-take, length-drop, get_or-take, get_or-drop}
-use Rattle.ctf_model.specs.Bytes.{u16_at}
-use Rattle.ctf_model.specs.Faults.{if_broken, too_short, bad_magic, bad_version, compressed, short_header, bad_order, bad_align, past_end, bad_strings, is_out_of_order, is_misaligned}
-use Rattle.ctf_model.specs.Header.{Fields, fields, section}
-use Rattle.ctf_model.specs.Lists.{Lists}
-use Rattle.ctf_model.specs.Rules.{IsBroken, Keeps, IsOutOfOrder, IsMisaligned}
+use Rattle.ctf_model.specs.format.Bytes.{u16_at}
+use Rattle.ctf_model.specs.rules.Faults.{if_broken, too_short, bad_magic, bad_version, compressed, short_header, bad_order, bad_align, past_end, bad_strings, is_out_of_order, is_misaligned}
+use Rattle.ctf_model.specs.format.Header.{Fields, fields, section}
+use Rattle.ctf_model.specs.format.Lists.{Lists}
+use Rattle.ctf_model.specs.rules.Rules.{IsBroken, Keeps, IsOutOfOrder, IsMisaligned}
 use Rattle.ctf_model.specs.declared.sections.Section.TheVariants.{SStrings}
 use Rattle.ctf_model.proofs.FirstFault.{Agrees, test_agrees}
 

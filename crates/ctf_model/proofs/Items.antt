@@ -2,7 +2,7 @@
 use Rattle.std.proofs.Common.{◌≡◌, ℕ, zero, suc, ◌+◌, ◌*◌, ◌<◌, List, [], ◌∷◌, length, take, drop, Option, Some, None, refl, ap, subst, ◌∙◌, arith}
 use Rattle.std.specs.Prelude.{slice_get}
 use Rattle.std.proofs.lemmas.List.{drop-drop}
-use Rattle.ctf_model.specs.Spelling.{items, ◌>>=◌}
+use Rattle.ctf_model.specs.format.Spelling.{items, ◌>>=◌}
 
 -- the first of suc n items, and the others
 pub record IsFirst {A : Type 0} (item : List ℕ → Option A) (len n : ℕ) (b : List ℕ) (xs : List A) : Type 0 where

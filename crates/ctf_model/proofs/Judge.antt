@@ -1,10 +1,10 @@
 -- The computed first fault is the least rule that is broken, at its least place.
 use Rattle.std.proofs.Common.{Option, Some, None, refl}
 use Rattle.std.specs.Prelude.{MatchOption}
-use Rattle.ctf_model.specs.Faults.{first_fault, rules}
-use Rattle.ctf_model.specs.Laws.{KeepsEveryRule}
-use Rattle.ctf_model.specs.Lists.{Lists}
-use Rattle.ctf_model.specs.Rules.{Keeps, IsFirstFault}
+use Rattle.ctf_model.specs.rules.Faults.{first_fault, rules}
+use Rattle.ctf_model.specs.format.Laws.{KeepsEveryRule}
+use Rattle.ctf_model.specs.format.Lists.{Lists}
+use Rattle.ctf_model.specs.rules.Rules.{Keeps, IsFirstFault}
 use Rattle.ctf_model.specs.declared.faults.Fault.{Fault}
 use Rattle.ctf_model.proofs.ChainRules.{value_deep_agrees, decl_deep_agrees}
 use Rattle.ctf_model.proofs.FirstFault.{AllAgree, first_from, keeps_none, keeps_every}

@@ -6,8 +6,8 @@ use Rattle.std.specs.Str.{bytes_eq}
 use Rattle.std.specs.Cmp.Lexicographic.{bytes_decides}
 use Rattle.ctf_model.proofs.Alls.{all_split}
 use Rattle.ctf_model.proofs.Anywhere.{all_map}
-use Rattle.ctf_model.specs.WritingLaws.{IsKept}
-use Rattle.ctf_model.specs.WrittenNames.{distinct, is_empty}
+use Rattle.ctf_model.specs.writing.WritingLaws.{IsKept}
+use Rattle.ctf_model.specs.writing.WrittenNames.{distinct, is_empty}
 
 -- ---- lists
 

@@ -2,10 +2,10 @@
 use Rattle.std.proofs.Common.{◌≡◌, ℕ, zero, suc, Bool, true, false, cond, ltb, List, [], ◌∷◌, map, drop, Option, Some, None, refl, sym, ap, ◌∙◌}
 use Rattle.std.specs.Option.{option_map}
 use Rattle.ctf_model.proofs.Items.{items_first}
-use Rattle.ctf_model.specs.Bytes.{u16_at, u32_at}
-use Rattle.ctf_model.specs.Name.{Tables, name}
-use Rattle.ctf_model.specs.Spelling.{items, narrow_member, wide_member, member_of}
-use Rattle.ctf_model.specs.Term.{Member}
+use Rattle.ctf_model.specs.format.Bytes.{u16_at, u32_at}
+use Rattle.ctf_model.specs.format.Name.{Tables, name}
+use Rattle.ctf_model.specs.format.Spelling.{items, narrow_member, wide_member, member_of}
+use Rattle.ctf_model.specs.format.Term.{Member}
 
 -- what is made of a name keeps its type
 type_of : (make : List ℕ → Member) (n : ℕ) (o : Option (List ℕ)) (m : Member) → ((text : List ℕ) → (make text).tnum ≡ n) → option_map make o ≡ Some m → m.tnum ≡ n

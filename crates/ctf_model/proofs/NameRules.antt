@@ -7,14 +7,14 @@ use Rattle.ctf_model.specs.declared.faults.Fault.{Fault}
 use Rattle.ctf_model.specs.declared.kinds.Kind.{Kind}
 use Rattle.ctf_model.specs.declared.kinds.Kind.TheVariants.{KUnknown, KInteger, KFloat, KPointer, KArray, KFunction, KStruct, KUnion, KEnum, KForward, KTypedef, KVolatile, KConst, KRestrict}
 use Rattle.ctf_model.specs.declared.sections.Section.TheVariants.{STypes}
-use Rattle.ctf_model.specs.Faults.{Site, first_nameless, label_sites, item_sites, list_sites, record_sites, sites, bad_name, types}
-use Rattle.ctf_model.specs.Header.{fields, section}
-use Rattle.ctf_model.specs.Laws.{pieces}
-use Rattle.ctf_model.specs.Lists.{Lists, tables}
-use Rattle.ctf_model.specs.Name.{Tables, name}
-use Rattle.ctf_model.specs.Record.{IsWhole, IsWholeAt, kind, size, vlen, head_len, member_len, behind_head}
-use Rattle.ctf_model.specs.Rules.{IsBroken, Keeps}
-use Rattle.ctf_model.specs.Section.{Piece, stop_code}
+use Rattle.ctf_model.specs.rules.Faults.{Site, first_nameless, label_sites, item_sites, list_sites, record_sites, sites, bad_name, types}
+use Rattle.ctf_model.specs.format.Header.{fields, section}
+use Rattle.ctf_model.specs.format.Laws.{pieces}
+use Rattle.ctf_model.specs.format.Lists.{Lists, tables}
+use Rattle.ctf_model.specs.format.Name.{Tables, name}
+use Rattle.ctf_model.specs.format.Record.{IsWhole, IsWholeAt, kind, size, vlen, head_len, member_len, behind_head}
+use Rattle.ctf_model.specs.rules.Rules.{IsBroken, Keeps}
+use Rattle.ctf_model.specs.format.Section.{Piece, stop_code}
 use Rattle.ctf_model.proofs.Anywhere.{any_none, any_here, any_there, any_split}
 use Rattle.ctf_model.proofs.Cut.{read}
 use Rattle.ctf_model.proofs.FirstFault.{Agrees, agrees_as}

@@ -5,20 +5,20 @@ use Rattle.std.specs.List.{concat, AllByRecursion}
 use Rattle.std.proofs.Math.Nat.{mul-suc}
 use Rattle.std.proofs.Math.Seq.{drop-append-add}
 use Rattle.std.proofs.lemmas.List.{append_assoc, drop-drop, drop-take, take-take, length-append, length-drop, length-take}
-use Rattle.ctf_model.specs.Bytes.{number, u32_at}
+use Rattle.ctf_model.specs.format.Bytes.{number, u32_at}
 use Rattle.ctf_model.specs.declared.faults.Fault.{Fault}
 use Rattle.ctf_model.specs.declared.kinds.Kind.{Kind}
 use Rattle.ctf_model.specs.declared.kinds.Kind.TheVariants.{KUnknown, KInteger, KFloat, KPointer, KArray, KFunction, KStruct, KUnion, KEnum, KForward, KTypedef, KVolatile, KConst, KRestrict}
 use Rattle.ctf_model.specs.declared.sections.Section.TheVariants.{STypes}
-use Rattle.ctf_model.specs.Faults.{Site, label_sites, item_sites, list_sites, record_sites, sites, types}
-use Rattle.ctf_model.specs.Header.{fields, section}
-use Rattle.ctf_model.specs.Laws.{pieces}
-use Rattle.ctf_model.specs.Lists.{Lists, tables}
-use Rattle.ctf_model.specs.Name.{name}
-use Rattle.ctf_model.specs.NamePlaces.{InList, InRecord, NameStandsAt}
-use Rattle.ctf_model.specs.Record.{IsWhole, IsWholeAt, kind, size, vlen, head_len, member_len, behind_head}
-use Rattle.ctf_model.specs.Rules.{BadName}
-use Rattle.ctf_model.specs.Section.{Piece, IsCut, stop_code}
+use Rattle.ctf_model.specs.rules.Faults.{Site, label_sites, item_sites, list_sites, record_sites, sites, types}
+use Rattle.ctf_model.specs.format.Header.{fields, section}
+use Rattle.ctf_model.specs.format.Laws.{pieces}
+use Rattle.ctf_model.specs.format.Lists.{Lists, tables}
+use Rattle.ctf_model.specs.format.Name.{name}
+use Rattle.ctf_model.specs.format.NamePlaces.{InList, InRecord, NameStandsAt}
+use Rattle.ctf_model.specs.format.Record.{IsWhole, IsWholeAt, kind, size, vlen, head_len, member_len, behind_head}
+use Rattle.ctf_model.specs.rules.Rules.{BadName}
+use Rattle.ctf_model.specs.format.Section.{Piece, IsCut, stop_code}
 use Rattle.ctf_model.proofs.Anywhere.{any_none, any_here, any_there, any_split, any_append, any_left, any_right}
 use Rattle.ctf_model.proofs.Cut.{read}
 use Rattle.ctf_model.proofs.Prefix.{u32-append, has_head}

@@ -1,15 +1,15 @@
 -- Where a record spells a type, all its names are good.
 use Rattle.std.proofs.Common.{◌≡◌, ℕ, zero, suc, ◌+◌, Bool, true, false, cond, ltb, List, [], ◌∷◌, ◌++◌, drop, Option, Some, None, refl, sym, ◌∙◌}
 use Rattle.std.specs.Option.{option_map}
-use Rattle.ctf_model.specs.Bytes.{u32_at}
+use Rattle.ctf_model.specs.format.Bytes.{u32_at}
 use Rattle.ctf_model.specs.declared.kinds.Kind.{Kind}
 use Rattle.ctf_model.specs.declared.kinds.Kind.TheVariants.{KUnknown, KInteger, KFloat, KPointer, KArray, KFunction, KStruct, KUnion, KEnum, KForward, KTypedef, KVolatile, KConst, KRestrict}
-use Rattle.ctf_model.specs.Faults.{Site, item_sites, list_sites}
-use Rattle.ctf_model.specs.Name.{Tables, name}
-use Rattle.ctf_model.specs.Record.{kind, is_root, size, vlen, head_len, member_len, behind_head}
-use Rattle.ctf_model.specs.Spelling.{items, member_of, narrow_member, wide_member, enumerator_of, members, enumerators, body_of, term_of, ◌>>=◌}
-use Rattle.ctf_model.specs.Term.{Member, Enumerator, Body, Term}
-use Rattle.ctf_model.specs.Term as term
+use Rattle.ctf_model.specs.rules.Faults.{Site, item_sites, list_sites}
+use Rattle.ctf_model.specs.format.Name.{Tables, name}
+use Rattle.ctf_model.specs.format.Record.{kind, is_root, size, vlen, head_len, member_len, behind_head}
+use Rattle.ctf_model.specs.format.Spelling.{items, member_of, narrow_member, wide_member, enumerator_of, members, enumerators, body_of, term_of, ◌>>=◌}
+use Rattle.ctf_model.specs.format.Term.{Member, Enumerator, Body, Term}
+use Rattle.ctf_model.specs.format.Term as term
 use Rattle.ctf_model.proofs.Items.{items_first}
 use Rattle.ctf_model.proofs.Spelled.{IsNamed, AreNamed}
 

@@ -2,7 +2,7 @@
 use Rattle.std.proofs.Common.{◌≡◌, ℕ, ◌<◌, ◌≤◌, true, false, eqb, ltb, List, [], ◌∷◌, refl, sym, arith}
 use Rattle.std.specs.List.{list_all}
 use Rattle.std.proofs.lemmas.Bool.{ne_eqb, ltb-true, and_parts}
-use Rattle.ctf_model.specs.FaultNames.{fault_names, name_beside, name_of_fault}
+use Rattle.ctf_model.specs.rules.FaultNames.{fault_names, name_beside, name_of_fault}
 
 -- a code that is not below the bound of a table has no name in it
 beyond : (code bound : ℕ) (rows : List (ℕ × List ℕ)) → list_all (λ row. ltb row.0 bound) rows ≡ true → bound ≤ code → name_beside code rows ≡ []

@@ -4,8 +4,8 @@ use Rattle.std.specs.Int.{next_multiple_of}
 use Rattle.std.proofs.Math.Nat.{mod-eq_of_lt, mod-lt, mul-mod_left, mul_left_comm, mod_self}
 use Rattle.std.proofs.lemmas.Bool.{eqb-true, eqb-false}
 use Rattle.std.proofs.lemmas.Nat.{div-add-mod'}
-use Rattle.ctf_model.specs.DraftLaws.{IsNextPlace}
-use Rattle.ctf_model.specs.Placement.{aligned_from, bytes_holding}
+use Rattle.ctf_model.specs.drafts.DraftLaws.{IsNextPlace}
+use Rattle.ctf_model.specs.drafts.Placement.{aligned_from, bytes_holding}
 
 -- the next multiple of a is one, is not below c, and is less than a behind it
 next_is : (c a : ℕ) → 0 < a → (k : ℕ) × (next_multiple_of c a ≡ k * a) × (c ≤ next_multiple_of c a) × (next_multiple_of c a < c + a)

@@ -4,11 +4,11 @@ use Rattle.std.specs.Prelude.{MatchOption}
 use Rattle.std.specs.List.{AllByRecursion, cons_option, filter_map}
 use Rattle.std.proofs.Math.ListN as listn
 use Rattle.std.proofs.lemmas.Bool.{ltb-true, ltb-false, lt-ltb, eqb-true, eqb-false}
-use Rattle.ctf_model.specs.Chains.{by_value, edges, own_index, own_index_at, targets}
-use Rattle.ctf_model.specs.Dictionary.{Dictionary}
-use Rattle.ctf_model.specs.FigureLaws.{value_edges, nothing, own_body}
-use Rattle.ctf_model.specs.Term.{Term}
-use Rattle.ctf_model.specs.TypePlaces.{own_number, place, place_in_child}
+use Rattle.ctf_model.specs.rules.Chains.{by_value, edges, own_index, own_index_at, targets}
+use Rattle.ctf_model.specs.format.Dictionary.{Dictionary}
+use Rattle.ctf_model.specs.figures.FigureLaws.{value_edges, nothing, own_body}
+use Rattle.ctf_model.specs.format.Term.{Term}
+use Rattle.ctf_model.specs.spaces.TypePlaces.{own_number, place, place_in_child}
 use Rattle.ctf_model.specs.declared.numbers.Place.{Place}
 use Rattle.ctf_model.specs.declared.numbers.Place.TheVariants.{Nowhere, Own, Parents}
 

@@ -3,8 +3,8 @@ use Rattle.std.proofs.Common.{◌≡◌, ℕ, ◌+◌, ◌≤◌, Bool, true, fa
 use Rattle.std.specs.Prelude.{MatchOption}
 use Rattle.std.proofs.lemmas.List.{take-append-le, drop-append-le, length-append, length-drop, nil_from_length}
 use Rattle.ctf_model.specs.declared.kinds.Kind.{Kind}
-use Rattle.ctf_model.specs.Bytes.{number, u16_at, u32_at}
-use Rattle.ctf_model.specs.Record.{info, field, is_long, head_len, size, vlen, kind, variant_len, IsWhole, IsWholeAt}
+use Rattle.ctf_model.specs.format.Bytes.{number, u16_at, u32_at}
+use Rattle.ctf_model.specs.format.Record.{info, field, is_long, head_len, size, vlen, kind, variant_len, IsWhole, IsWholeAt}
 
 -- a piece inside a list is the same with more bytes behind
 pub piece-append : (a x : List ℕ) (at n : ℕ) → at + n ≤ length a → take n (drop at (a ++ x)) ≡ take n (drop at a)

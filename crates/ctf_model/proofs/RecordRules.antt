@@ -6,12 +6,12 @@ use Rattle.std.proofs.lemmas.Option.{same_Some, cond_some}
 use Rattle.ctf_model.specs.declared.faults.Fault.{Fault}
 use Rattle.ctf_model.specs.declared.faults.TheConstants.Fault.{TRUNCATED, BAD_KIND}
 use Rattle.ctf_model.specs.declared.sections.Section.TheVariants.{STypes}
-use Rattle.ctf_model.specs.Faults.{walk_fault, types, place_of, truncated, bad_kind, too_many}
-use Rattle.ctf_model.specs.Header.{section}
-use Rattle.ctf_model.specs.Laws.{pieces, rest_fault}
-use Rattle.ctf_model.specs.Lists.{Lists}
-use Rattle.ctf_model.specs.Rules.{IsBroken, Keeps, Truncated, BadKind, TooMany, HasUnknownKind}
-use Rattle.ctf_model.specs.Section.{Piece, IsCut, stop_code}
+use Rattle.ctf_model.specs.rules.Faults.{walk_fault, types, place_of, truncated, bad_kind, too_many}
+use Rattle.ctf_model.specs.format.Header.{section}
+use Rattle.ctf_model.specs.format.Laws.{pieces, rest_fault}
+use Rattle.ctf_model.specs.format.Lists.{Lists}
+use Rattle.ctf_model.specs.rules.Rules.{IsBroken, Keeps, Truncated, BadKind, TooMany, HasUnknownKind}
+use Rattle.ctf_model.specs.format.Section.{Piece, IsCut, stop_code}
 use Rattle.ctf_model.proofs.Cut.{read, records_cut, code_unknown, code_cut_off, unknown_decided}
 use Rattle.ctf_model.proofs.FirstFault.{Agrees, exact_agrees}
 

@@ -5,18 +5,18 @@ use Rattle.std.specs.List.{flat_map, AllByRecursion}
 use Rattle.std.proofs.lemmas.Bool.{ltb-true, ltb-false}
 use Rattle.std.proofs.lemmas.List.{length-append, append-nil}
 use Rattle.ctf_model.specs.declared.kinds.Kind.{Kind}
-use Rattle.ctf_model.specs.Bytes.{number, u32_at}
-use Rattle.ctf_model.specs.Name.{name}
-use Rattle.ctf_model.specs.Record.{IsWhole, kinds, kind, size, vlen, field, is_root, head_len, behind_head, variant_len, member_len}
-use Rattle.ctf_model.specs.References.{has_long_tag, references}
-use Rattle.ctf_model.specs.Shown.{kind_of}
-use Rattle.ctf_model.specs.Spelling.{HasStrayMark, Spells, is_short_kind, term_of, body_of, scalar, elements, items, member_of, enumerator_of, argument_of, tag}
-use Rattle.ctf_model.specs.Term.{Scalar, Elements, Member, Enumerator, Tag, Body, Term}
-use Rattle.ctf_model.specs.Term as term
-use Rattle.ctf_model.specs.Fitting.{Fits, FitsBody, FitsScalar, FitsElements, FitsMember, FitsEnumerator}
-use Rattle.ctf_model.specs.WritingLaws.{IsFound, NamesShort, table_of}
-use Rattle.ctf_model.specs.WrittenNames.{reference, listed_names, names_of}
-use Rattle.ctf_model.specs.WrittenRecords.{u16, u32, number_of_kind, list_len, root_bit, info_of, tag_number, field_of, scalar_bytes, element_bytes, argument_bytes, member_bytes, enumerator_bytes, variant_bytes, record_bytes}
+use Rattle.ctf_model.specs.format.Bytes.{number, u32_at}
+use Rattle.ctf_model.specs.format.Name.{name}
+use Rattle.ctf_model.specs.format.Record.{IsWhole, kinds, kind, size, vlen, field, is_root, head_len, behind_head, variant_len, member_len}
+use Rattle.ctf_model.specs.rules.References.{has_long_tag, references}
+use Rattle.ctf_model.specs.format.Shown.{kind_of}
+use Rattle.ctf_model.specs.format.Spelling.{HasStrayMark, Spells, is_short_kind, term_of, body_of, scalar, elements, items, member_of, enumerator_of, argument_of, tag}
+use Rattle.ctf_model.specs.format.Term.{Scalar, Elements, Member, Enumerator, Tag, Body, Term}
+use Rattle.ctf_model.specs.format.Term as term
+use Rattle.ctf_model.specs.drafts.Fitting.{Fits, FitsBody, FitsScalar, FitsElements, FitsMember, FitsEnumerator}
+use Rattle.ctf_model.specs.writing.WritingLaws.{IsFound, NamesShort, table_of}
+use Rattle.ctf_model.specs.writing.WrittenNames.{reference, listed_names, names_of}
+use Rattle.ctf_model.specs.writing.WrittenRecords.{u16, u32, number_of_kind, list_len, root_bit, info_of, tag_number, field_of, scalar_bytes, element_bytes, argument_bytes, member_bytes, enumerator_bytes, variant_bytes, record_bytes}
 use Rattle.ctf_model.proofs.WrittenHeads.{HasHead, head_read, number_u16, number_u32}
 use Rattle.ctf_model.proofs.WrittenItems.{IsItem, items_read, items_len, argument_read, enumerator_read, member_read}
 

@@ -7,26 +7,26 @@ use Rattle.std.specs.Option.{option_map}
 use Rattle.std.proofs.lemmas.Bool.{eqb-true, eqb-false, ne_eqb, not-true, leb-true, le-leb, and_parts, or_cases, or_right}
 use Rattle.std.proofs.lemmas.List.Folds.{Any-from_list_any, list_any-from_Any}
 use Rattle.std.proofs.lemmas.Option.{same_Some}
-use Rattle.ctf_model.specs.Bytes.{u32_at}
+use Rattle.ctf_model.specs.format.Bytes.{u32_at}
 use Rattle.ctf_model.specs.declared.faults.Fault.{Fault}
 use Rattle.ctf_model.specs.declared.kinds.Kind.{Kind}
 use Rattle.ctf_model.specs.declared.kinds.Kind.TheVariants.{KUnknown, KInteger, KFloat, KPointer, KArray, KFunction, KStruct, KUnion, KEnum, KForward, KTypedef, KVolatile, KConst, KRestrict}
 use Rattle.ctf_model.specs.declared.numbers.Place.{Place}
 use Rattle.ctf_model.specs.declared.numbers.Place.TheVariants.{Nowhere, Own, Parents}
 use Rattle.ctf_model.specs.declared.sections.Section.TheVariants.{STypes}
-use Rattle.ctf_model.specs.Faults.{first_misnaming, bad_reference, types}
-use Rattle.ctf_model.specs.Header.{fields, is_child, section}
-use Rattle.ctf_model.specs.Laws.{pieces}
-use Rattle.ctf_model.specs.Lists.{Lists, tables}
-use Rattle.ctf_model.specs.Name.{Tables, name}
-use Rattle.ctf_model.specs.Record.{kind, field, is_long, is_root}
-use Rattle.ctf_model.specs.References.{references, is_missing, is_missing_at, is_forward, has_long_tag, is_misnaming}
-use Rattle.ctf_model.specs.Rules.{IsBroken, Keeps, IsMissing, IsMissingAt, Misnames, BadReference}
-use Rattle.ctf_model.specs.Section.{Piece, IsCut, stop_code}
-use Rattle.ctf_model.specs.Spelling.{◌>>=◌, arguments, body_of, term_of, is_short_kind, HasStrayMark}
-use Rattle.ctf_model.specs.Term.{Body, Term}
-use Rattle.ctf_model.specs.Term as term
-use Rattle.ctf_model.specs.TypePlaces.{place}
+use Rattle.ctf_model.specs.rules.Faults.{first_misnaming, bad_reference, types}
+use Rattle.ctf_model.specs.format.Header.{fields, is_child, section}
+use Rattle.ctf_model.specs.format.Laws.{pieces}
+use Rattle.ctf_model.specs.format.Lists.{Lists, tables}
+use Rattle.ctf_model.specs.format.Name.{Tables, name}
+use Rattle.ctf_model.specs.format.Record.{kind, field, is_long, is_root}
+use Rattle.ctf_model.specs.rules.References.{references, is_missing, is_missing_at, is_forward, has_long_tag, is_misnaming}
+use Rattle.ctf_model.specs.rules.Rules.{IsBroken, Keeps, IsMissing, IsMissingAt, Misnames, BadReference}
+use Rattle.ctf_model.specs.format.Section.{Piece, IsCut, stop_code}
+use Rattle.ctf_model.specs.format.Spelling.{◌>>=◌, arguments, body_of, term_of, is_short_kind, HasStrayMark}
+use Rattle.ctf_model.specs.format.Term.{Body, Term}
+use Rattle.ctf_model.specs.format.Term as term
+use Rattle.ctf_model.specs.spaces.TypePlaces.{place}
 use Rattle.ctf_model.proofs.Anywhere.{any_map, all_map}
 use Rattle.ctf_model.proofs.Cut.{one_cut}
 use Rattle.ctf_model.proofs.FirstFault.{Agrees, agrees_as}

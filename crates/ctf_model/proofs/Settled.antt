@@ -3,14 +3,14 @@ use Rattle.std.proofs.Common.{◌≡◌, ℕ, zero, suc, ◌+◌, ◌≤◌, ◌
 use Rattle.std.specs.Prelude.{slice_get, slice_index_or, MatchOption}
 use Rattle.std.specs.List.{AllByRecursion, filter_map}
 use Rattle.std.proofs.lemmas.Option.{slice_get-get_or, get_or_from_slice_get, slice_get_within}
-use Rattle.ctf_model.specs.Chains.{IsWithin, by_value, longest_chain, own_index}
-use Rattle.ctf_model.specs.Dictionary.{Dictionary}
-use Rattle.ctf_model.specs.FigureLaws.{AsksByValue, HasBoundedValues, ParentsFiguresAreTheirOwn, value_edges, nothing, own_body}
-use Rattle.ctf_model.specs.Figures.{Figure, of_found, at_place, comes_to, most_numbers, parents_figure, figure_in}
-use Rattle.ctf_model.specs.Space.{Space}
-use Rattle.ctf_model.specs.Term.{Term, Body}
-use Rattle.ctf_model.specs.TypeNumbers.{no_type, or_no_type}
-use Rattle.ctf_model.specs.TypePlaces.{own_number, place}
+use Rattle.ctf_model.specs.rules.Chains.{IsWithin, by_value, longest_chain, own_index}
+use Rattle.ctf_model.specs.format.Dictionary.{Dictionary}
+use Rattle.ctf_model.specs.figures.FigureLaws.{AsksByValue, HasBoundedValues, ParentsFiguresAreTheirOwn, value_edges, nothing, own_body}
+use Rattle.ctf_model.specs.figures.Figures.{Figure, of_found, at_place, comes_to, most_numbers, parents_figure, figure_in}
+use Rattle.ctf_model.specs.spaces.Space.{Space}
+use Rattle.ctf_model.specs.format.Term.{Term, Body}
+use Rattle.ctf_model.specs.spaces.TypeNumbers.{no_type, or_no_type}
+use Rattle.ctf_model.specs.spaces.TypePlaces.{own_number, place}
 use Rattle.ctf_model.specs.declared.faults.Fault.{Fault}
 use Rattle.ctf_model.specs.declared.numbers.Place.{Place}
 use Rattle.ctf_model.specs.declared.numbers.Place.TheVariants.{Nowhere, Own, Parents}

@@ -8,24 +8,24 @@ use Rattle.std.proofs.lemmas.List.{length-append, append_assoc, length-set, map-
 use Rattle.ctf_model.proofs.Alls.{all_got, all_joined, all_set, all_split, none_joined, none_weaker, or_parts}
 use Rattle.ctf_model.proofs.Anywhere.{all_map}
 use Rattle.ctf_model.proofs.DraftNumbers.{IsOpen, opened, still_there}
-use Rattle.ctf_model.specs.Adders.{Added, add_enumerator, add_label, add_member, add_type, against_enumerator, against_label, against_member, against_place, against_type, body_at, found_body, members_at, most_items, most_types, place_member, present_enumerators, present_members, put_member, replaced, size_with, with_body, with_enumerator, with_label, with_member, with_pending, with_type}
-use Rattle.ctf_model.specs.Dictionary.{Label}
-use Rattle.ctf_model.specs.DraftChanges.{DraftChange, after, changed, draft_of, or_as_before}
-use Rattle.ctf_model.specs.DraftChanges as does
-use Rattle.ctf_model.specs.DraftLaws.{FitsChange, HoldsTogether, IsSound, NamesThere}
-use Rattle.ctf_model.specs.Drafts.{Draft, above, against_draft, all_of, count_of, discarded, empty_draft, has_zero, held, is_absent, new_draft, next_number, settled, space_of}
-use Rattle.ctf_model.specs.Fitting.{Fits, FitsBody, FitsEnumerator, FitsLabel, FitsMember, FitsMembers, FitsNew, IsName}
-use Rattle.ctf_model.specs.Imports.{Modelled}
-use Rattle.ctf_model.specs.Judgements.{Row, first_met, unless, ◌then◌}
-use Rattle.ctf_model.specs.NewTypes.{NewBody, NewType, new_body, new_term}
-use Rattle.ctf_model.specs.NewTypes as new
-use Rattle.ctf_model.specs.Placement.{bits_filled, grown, is_too_far, member_place}
-use Rattle.ctf_model.specs.References.{references}
-use Rattle.ctf_model.specs.Refusals.{placeless}
-use Rattle.ctf_model.specs.Shown.{enumerators_in, list_length, members_in, shown, size_of}
-use Rattle.ctf_model.specs.Term.{Body, Enumerator, Member, Term}
-use Rattle.ctf_model.specs.Term as term
-use Rattle.ctf_model.specs.TypePlaces.{place}
+use Rattle.ctf_model.specs.drafts.Adders.{Added, add_enumerator, add_label, add_member, add_type, against_enumerator, against_label, against_member, against_place, against_type, body_at, found_body, members_at, most_items, most_types, place_member, present_enumerators, present_members, put_member, replaced, size_with, with_body, with_enumerator, with_label, with_member, with_pending, with_type}
+use Rattle.ctf_model.specs.format.Dictionary.{Label}
+use Rattle.ctf_model.specs.drafts.DraftChanges.{DraftChange, after, changed, draft_of, or_as_before}
+use Rattle.ctf_model.specs.drafts.DraftChanges as does
+use Rattle.ctf_model.specs.drafts.DraftLaws.{FitsChange, HoldsTogether, IsSound, NamesThere}
+use Rattle.ctf_model.specs.drafts.Drafts.{Draft, above, against_draft, all_of, count_of, discarded, empty_draft, has_zero, held, is_absent, new_draft, next_number, settled, space_of}
+use Rattle.ctf_model.specs.drafts.Fitting.{Fits, FitsBody, FitsEnumerator, FitsLabel, FitsMember, FitsMembers, FitsNew, IsName}
+use Rattle.ctf_model.specs.spaces.Imports.{Modelled}
+use Rattle.ctf_model.specs.rules.Judgements.{Row, first_met, unless, ◌then◌}
+use Rattle.ctf_model.specs.drafts.NewTypes.{NewBody, NewType, new_body, new_term}
+use Rattle.ctf_model.specs.drafts.NewTypes as new
+use Rattle.ctf_model.specs.drafts.Placement.{bits_filled, grown, is_too_far, member_place}
+use Rattle.ctf_model.specs.rules.References.{references}
+use Rattle.ctf_model.specs.rules.Refusals.{placeless}
+use Rattle.ctf_model.specs.format.Shown.{enumerators_in, list_length, members_in, shown, size_of}
+use Rattle.ctf_model.specs.format.Term.{Body, Enumerator, Member, Term}
+use Rattle.ctf_model.specs.format.Term as term
+use Rattle.ctf_model.specs.spaces.TypePlaces.{place}
 use Rattle.ctf_model.specs.declared.data_model.DataModel.{DataModel}
 use Rattle.ctf_model.specs.declared.faults.Fault.{Fault}
 

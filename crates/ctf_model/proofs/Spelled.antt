@@ -4,15 +4,15 @@ use Rattle.std.specs.Prelude.{MatchOption}
 use Rattle.std.specs.List.{AllByRecursion}
 use Rattle.std.specs.Option.{option_map}
 use Rattle.std.specs.Int.{cast_signed, w32}
-use Rattle.ctf_model.specs.Bytes.{u16_at, u32_at}
+use Rattle.ctf_model.specs.format.Bytes.{u16_at, u32_at}
 use Rattle.ctf_model.specs.declared.kinds.Kind.{Kind}
 use Rattle.ctf_model.specs.declared.kinds.Kind.TheVariants.{KUnknown, KInteger, KFloat, KPointer, KArray, KFunction, KStruct, KUnion, KEnum, KForward, KTypedef, KVolatile, KConst, KRestrict}
-use Rattle.ctf_model.specs.Faults.{Site, item_sites, list_sites}
-use Rattle.ctf_model.specs.Name.{Tables, name}
-use Rattle.ctf_model.specs.Record.{IsWhole, IsWholeAt, kind, is_root, field, size, vlen, head_len, member_len, behind_head}
-use Rattle.ctf_model.specs.Spelling.{items, member_of, narrow_member, wide_member, enumerator_of, argument_of, scalar, elements, tag, body_of, term_of}
-use Rattle.ctf_model.specs.Term.{Member, Enumerator, Body, Term}
-use Rattle.ctf_model.specs.Term as term
+use Rattle.ctf_model.specs.rules.Faults.{Site, item_sites, list_sites}
+use Rattle.ctf_model.specs.format.Name.{Tables, name}
+use Rattle.ctf_model.specs.format.Record.{IsWhole, IsWholeAt, kind, is_root, field, size, vlen, head_len, member_len, behind_head}
+use Rattle.ctf_model.specs.format.Spelling.{items, member_of, narrow_member, wide_member, enumerator_of, argument_of, scalar, elements, tag, body_of, term_of}
+use Rattle.ctf_model.specs.format.Term.{Member, Enumerator, Body, Term}
+use Rattle.ctf_model.specs.format.Term as term
 
 -- the reference names something
 abbrev pub IsNamed : Tables → ℕ → Type 0

@@ -5,16 +5,16 @@ use Rattle.std.proofs.lemmas.Bool.{cases_lt}
 use Rattle.std.proofs.lemmas.List.{append_assoc, nil_from_length}
 use Rattle.ctf_model.specs.declared.faults.Fault.{Fault}
 use Rattle.ctf_model.specs.declared.sections.Section.TheVariants.{STypes}
-use Rattle.ctf_model.specs.Faults.{list_sites, record_sites, types}
-use Rattle.ctf_model.specs.Header.{fields, section}
-use Rattle.ctf_model.specs.Laws.{pieces}
-use Rattle.ctf_model.specs.Lists.{Lists, tables}
-use Rattle.ctf_model.specs.Name.{Tables}
-use Rattle.ctf_model.specs.Record.{IsWhole, kind}
-use Rattle.ctf_model.specs.Rules.{Keeps}
-use Rattle.ctf_model.specs.Section.{Section, Piece, IsCut, terms_in}
-use Rattle.ctf_model.specs.Spelling.{HasStrayMark}
-use Rattle.ctf_model.specs.Term.{Term}
+use Rattle.ctf_model.specs.rules.Faults.{list_sites, record_sites, types}
+use Rattle.ctf_model.specs.format.Header.{fields, section}
+use Rattle.ctf_model.specs.format.Laws.{pieces}
+use Rattle.ctf_model.specs.format.Lists.{Lists, tables}
+use Rattle.ctf_model.specs.format.Name.{Tables}
+use Rattle.ctf_model.specs.format.Record.{IsWhole, kind}
+use Rattle.ctf_model.specs.rules.Rules.{Keeps}
+use Rattle.ctf_model.specs.format.Section.{Section, Piece, IsCut, terms_in}
+use Rattle.ctf_model.specs.format.Spelling.{HasStrayMark}
+use Rattle.ctf_model.specs.format.Term.{Term}
 use Rattle.ctf_model.proofs.GoodNames.{good}
 use Rattle.ctf_model.proofs.RecordRules.{kept_records, length_all, types_cut}
 use Rattle.ctf_model.proofs.Spelled.{AreNamed, Says, split_front, split_back, spelled}

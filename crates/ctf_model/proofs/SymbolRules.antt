@@ -6,15 +6,15 @@ use Rattle.std.specs.List.{list_any}
 use Rattle.std.proofs.lemmas.Bool.{false≢true}
 use Rattle.std.proofs.lemmas.Bool.Decides.{Decides-eqb, Decides-ltb, Decides-not, Decides-or, Decides-and}
 use Rattle.std.proofs.lemmas.List.Folds.{Any-from_list_any, list_any-from_Any}
-use Rattle.ctf_model.specs.Entries.{Entry, FunctionSite, is_bad_entry, is_silent, kind_number, entry_len, entries_of, entries, function_sites_of, function_sites, types_told, type_in, signature_in}
-use Rattle.ctf_model.specs.Entries as told
-use Rattle.ctf_model.specs.Faults.{first_where, bad_funcs, bad_symbol_type, bad_symtab, tells_missing, types}
-use Rattle.ctf_model.specs.Header.{fields, is_child, section}
-use Rattle.ctf_model.specs.Lists.{Lists}
-use Rattle.ctf_model.specs.References.{is_missing}
-use Rattle.ctf_model.specs.Rules.{IsBroken, Keeps, IsBadEntry, IsMissing, TellsMissing, BadSymbolType}
-use Rattle.ctf_model.specs.Section.{Piece, IsCut}
-use Rattle.ctf_model.specs.Symbols.{Symbol, symbols, considered, considered_from, is_considered, is_object}
+use Rattle.ctf_model.specs.symbols.Entries.{Entry, FunctionSite, is_bad_entry, is_silent, kind_number, entry_len, entries_of, entries, function_sites_of, function_sites, types_told, type_in, signature_in}
+use Rattle.ctf_model.specs.symbols.Entries as told
+use Rattle.ctf_model.specs.rules.Faults.{first_where, bad_funcs, bad_symbol_type, bad_symtab, tells_missing, types}
+use Rattle.ctf_model.specs.format.Header.{fields, is_child, section}
+use Rattle.ctf_model.specs.format.Lists.{Lists}
+use Rattle.ctf_model.specs.rules.References.{is_missing}
+use Rattle.ctf_model.specs.rules.Rules.{IsBroken, Keeps, IsBadEntry, IsMissing, TellsMissing, BadSymbolType}
+use Rattle.ctf_model.specs.format.Section.{Piece, IsCut}
+use Rattle.ctf_model.specs.symbols.Symbols.{Symbol, symbols, considered, considered_from, is_considered, is_object}
 use Rattle.ctf_model.specs.declared.sections.Section.TheVariants.{SObjects, SFunctions, STypes}
 use Rattle.ctf_model.specs.declared.faults.Fault.{Fault}
 use Rattle.ctf_model.proofs.Anywhere.{any_here, any_there, any_split, any_map}

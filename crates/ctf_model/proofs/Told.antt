@@ -2,11 +2,11 @@
 use Rattle.std.proofs.Common.{◌≡◌, ℕ, zero, suc, ◌+◌, ◌*◌, Bool, true, false, cond, List, [], ◌∷◌, drop, Option, refl, sym, ap, ◌∙◌, arith}
 use Rattle.std.specs.Prelude.{map}
 use Rattle.std.proofs.lemmas.List.{drop-drop}
-use Rattle.ctf_model.specs.Entries.{Entry, Owner, Signature, Told, AreEntries, AreObjects, AreFunctions, entries_of, entries, entry_len, type_in, signature_in, objects_in, functions_in, owner, owner_of}
-use Rattle.ctf_model.specs.Entries as told
-use Rattle.ctf_model.specs.Header.{section}
-use Rattle.ctf_model.specs.Lists.{Lists}
-use Rattle.ctf_model.specs.Symbols.{Symbol, symbols, considered, is_object}
+use Rattle.ctf_model.specs.symbols.Entries.{Entry, Owner, Signature, Told, AreEntries, AreObjects, AreFunctions, entries_of, entries, entry_len, type_in, signature_in, objects_in, functions_in, owner, owner_of}
+use Rattle.ctf_model.specs.symbols.Entries as told
+use Rattle.ctf_model.specs.format.Header.{section}
+use Rattle.ctf_model.specs.format.Lists.{Lists}
+use Rattle.ctf_model.specs.symbols.Symbols.{Symbol, symbols, considered, is_object}
 use Rattle.ctf_model.specs.declared.sections.Section.TheVariants.{SObjects, SFunctions}
 use Rattle.ctf_model.specs.declared.symbols.SymbolClass.TheVariants.{Object, Function}
 

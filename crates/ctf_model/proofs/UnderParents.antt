@@ -5,13 +5,13 @@ use Rattle.std.proofs.lemmas.Bool.{le-ltb}
 use Rattle.ctf_model.proofs.Alls.{all_joined, none_all, none_weaker}
 use Rattle.ctf_model.proofs.Anywhere.{all_map}
 use Rattle.ctf_model.proofs.DraftNumbers.{there_in_parent, there_low, there_not_missing}
-use Rattle.ctf_model.specs.Dictionary.{Dictionary}
-use Rattle.ctf_model.specs.DraftLaws.{IsSound, NamesThere}
-use Rattle.ctf_model.specs.Drafts.{Draft, held, is_absent, is_childs}
-use Rattle.ctf_model.specs.Needs.{greatest_in_parent, named_by, number_in_parent}
-use Rattle.ctf_model.specs.References.{is_missing, references}
-use Rattle.ctf_model.specs.Imports.{import_fault, of_one_model, same_model}
-use Rattle.ctf_model.specs.Term.{Term}
+use Rattle.ctf_model.specs.format.Dictionary.{Dictionary}
+use Rattle.ctf_model.specs.drafts.DraftLaws.{IsSound, NamesThere}
+use Rattle.ctf_model.specs.drafts.Drafts.{Draft, held, is_absent, is_childs}
+use Rattle.ctf_model.specs.rules.Needs.{greatest_in_parent, named_by, number_in_parent}
+use Rattle.ctf_model.specs.rules.References.{is_missing, references}
+use Rattle.ctf_model.specs.spaces.Imports.{import_fault, of_one_model, same_model}
+use Rattle.ctf_model.specs.format.Term.{Term}
 use Rattle.ctf_model.specs.declared.data_model.DataModel.{DataModel}
 use Rattle.ctf_model.specs.declared.data_model.DataModel.TheVariants.{Lp64, Ilp32}
 

@@ -5,11 +5,11 @@ use Rattle.std.proofs.lemmas.Bool.{cases_lt}
 use Rattle.std.proofs.lemmas.List.{take-append-le, take-append-drop, append_cancel_left, take_at, append-nil, length-append}
 use Rattle.std.proofs.lemmas.Option.{same_Some}
 use Rattle.ctf_model.specs.declared.kinds.Kind.{Kind}
-use Rattle.ctf_model.specs.Name.{Tables}
-use Rattle.ctf_model.specs.Term.{Term}
-use Rattle.ctf_model.specs.Record.{IsWhole, kind, IsWholeAt}
-use Rattle.ctf_model.specs.Spelling.{term_of}
-use Rattle.ctf_model.specs.Section.{Section}
+use Rattle.ctf_model.specs.format.Name.{Tables}
+use Rattle.ctf_model.specs.format.Term.{Term}
+use Rattle.ctf_model.specs.format.Record.{IsWhole, kind, IsWholeAt}
+use Rattle.ctf_model.specs.format.Spelling.{term_of}
+use Rattle.ctf_model.specs.format.Section.{Section}
 use Rattle.ctf_model.proofs.Prefix.{IsWhole-prefix}
 
 -- the shorter of two fronts begins the longer

@@ -5,18 +5,18 @@ use Rattle.std.specs.List.{AllByRecursion, range_with_len}
 use Rattle.std.specs.Option.{ForSome}
 use Rattle.std.proofs.lemmas.Bool.{lt-ltb}
 use Rattle.std.proofs.lemmas.Option.{slice_get_within}
-use Rattle.ctf_model.specs.Chains.{IsWithin, by_value, longest_chain}
-use Rattle.ctf_model.specs.Dictionary.{Dictionary}
-use Rattle.ctf_model.specs.FigureLaws.{HasBoundedValues, value_edges, own_body}
-use Rattle.ctf_model.specs.Figures.{incomplete, size}
-use Rattle.ctf_model.specs.Pieces.{Pieces, ends}
-use Rattle.ctf_model.specs.Space.{Space, space_type}
-use Rattle.ctf_model.specs.Term.{Term, Body, Member}
-use Rattle.ctf_model.specs.Term as term
-use Rattle.ctf_model.specs.TypeNumbers.{or_no_type, type_in}
-use Rattle.ctf_model.specs.TypePlaces.{place}
-use Rattle.ctf_model.specs.ValueLaws.{IsBoundedParent, ValuesAreTheirRules}
-use Rattle.ctf_model.specs.Values.{Shows, body_shown, by_rule, elements, found_shown, member_shown, most_values, shown_within}
+use Rattle.ctf_model.specs.rules.Chains.{IsWithin, by_value, longest_chain}
+use Rattle.ctf_model.specs.format.Dictionary.{Dictionary}
+use Rattle.ctf_model.specs.figures.FigureLaws.{HasBoundedValues, value_edges, own_body}
+use Rattle.ctf_model.specs.figures.Figures.{incomplete, size}
+use Rattle.ctf_model.specs.values.Pieces.{Pieces, ends}
+use Rattle.ctf_model.specs.spaces.Space.{Space, space_type}
+use Rattle.ctf_model.specs.format.Term.{Term, Body, Member}
+use Rattle.ctf_model.specs.format.Term as term
+use Rattle.ctf_model.specs.spaces.TypeNumbers.{or_no_type, type_in}
+use Rattle.ctf_model.specs.spaces.TypePlaces.{place}
+use Rattle.ctf_model.specs.values.ValueLaws.{IsBoundedParent, ValuesAreTheirRules}
+use Rattle.ctf_model.specs.values.Values.{Shows, body_shown, by_rule, elements, found_shown, member_shown, most_values, shown_within}
 use Rattle.ctf_model.specs.declared.faults.Fault.{Fault}
 use Rattle.ctf_model.specs.declared.numbers.Place.{Place}
 use Rattle.ctf_model.specs.declared.numbers.Place.TheVariants.{Nowhere, Own, Parents}

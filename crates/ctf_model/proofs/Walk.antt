@@ -6,8 +6,8 @@ use Rattle.std.proofs.lemmas.Option.{cond_some}
 use Rattle.std.proofs.lemmas.Bool.{leb-true, eqb-false, ne_eqb}
 use Rattle.ctf_model.specs.declared.faults.Fault.{Fault}
 use Rattle.ctf_model.specs.declared.kinds.Kind.{Kind}
-use Rattle.ctf_model.specs.Record.{head_len, is_long, variant_len, size, vlen, kind}
-use Rattle.ctf_model.specs.Section.{Piece, front_len, fitting, step, stop_code, walk}
+use Rattle.ctf_model.specs.format.Record.{head_len, is_long, variant_len, size, vlen, kind}
+use Rattle.ctf_model.specs.format.Section.{Piece, front_len, fitting, step, stop_code, walk}
 
 -- what fits is in range
 pub fitting_range : (room m n : ℕ) → fitting room m ≡ Some n → (m ≡ n) × (n ≤ room)

@@ -4,30 +4,30 @@ use Rattle.std.specs.Prelude.{not}
 use Rattle.std.specs.List.{AllByRecursion, flat_map}
 use Rattle.std.proofs.lemmas.Bool.{ne_eqb, ltb-false, le-ltb}
 use Rattle.std.proofs.lemmas.List.{length-append, drop-drop}
-use Rattle.ctf_model.specs.Bytes.{number, u32_at}
-use Rattle.ctf_model.specs.Chains.{by_value, declarator, edges}
-use Rattle.ctf_model.specs.Dictionary.{Dictionary, Label, Denotes, AreLabels}
-use Rattle.ctf_model.specs.Faults.{Site, first_fault, first_broken, first_nameless, first_deep, or_later, rules, on_ctf, header_rules, truncated, bad_kind, too_many, bad_name, bad_reference, value_deep, decl_deep, bad_funcs, bad_symbol_type, bad_symtab, edges_by, first_misnaming, types, sites, label_sites, record_sites, walk_fault, place_of}
-use Rattle.ctf_model.specs.Header.{Fields, fields, is_child, section}
-use Rattle.ctf_model.specs.Lists.{Lists, tables}
-use Rattle.ctf_model.specs.Name.{Tables, name}
-use Rattle.ctf_model.specs.Term.{Member, Enumerator, Body, Term}
-use Rattle.ctf_model.specs.Term as term
+use Rattle.ctf_model.specs.format.Bytes.{number, u32_at}
+use Rattle.ctf_model.specs.rules.Chains.{by_value, declarator, edges}
+use Rattle.ctf_model.specs.format.Dictionary.{Dictionary, Label, Denotes, AreLabels}
+use Rattle.ctf_model.specs.rules.Faults.{Site, first_fault, first_broken, first_nameless, first_deep, or_later, rules, on_ctf, header_rules, truncated, bad_kind, too_many, bad_name, bad_reference, value_deep, decl_deep, bad_funcs, bad_symbol_type, bad_symtab, edges_by, first_misnaming, types, sites, label_sites, record_sites, walk_fault, place_of}
+use Rattle.ctf_model.specs.format.Header.{Fields, fields, is_child, section}
+use Rattle.ctf_model.specs.format.Lists.{Lists, tables}
+use Rattle.ctf_model.specs.format.Name.{Tables, name}
+use Rattle.ctf_model.specs.format.Term.{Member, Enumerator, Body, Term}
+use Rattle.ctf_model.specs.format.Term as term
 use Rattle.ctf_model.specs.declared.faults.Fault.{Fault}
-use Rattle.ctf_model.specs.Laws.{pieces}
-use Rattle.ctf_model.specs.Section.{Section, Piece, IsCut, terms_in}
-use Rattle.ctf_model.specs.Entries.{AreEntries, entries, entries_of, function_sites, function_sites_of}
-use Rattle.ctf_model.specs.Symbols.{symbols, symbols_in}
+use Rattle.ctf_model.specs.format.Laws.{pieces}
+use Rattle.ctf_model.specs.format.Section.{Section, Piece, IsCut, terms_in}
+use Rattle.ctf_model.specs.symbols.Entries.{AreEntries, entries, entries_of, function_sites, function_sites_of}
+use Rattle.ctf_model.specs.symbols.Symbols.{symbols, symbols_in}
 use Rattle.ctf_model.specs.declared.sections.Section.TheVariants.{SFunctions, SLabels, SObjects, STypes}
 use Rattle.ctf_model.proofs.RecordRules.{types_cut}
 use Rattle.ctf_model.proofs.Alls.{all_joined, all_split}
 use Rattle.ctf_model.proofs.Anywhere.{all_map}
 use Rattle.ctf_model.proofs.Spelled.{IsNamed, AreNamed}
-use Rattle.ctf_model.specs.Fitting.{IsName, Fits, FitsBody, FitsLabel, FitsMember, FitsEnumerator}
-use Rattle.ctf_model.specs.WritingLaws.{IsFound, IsKept, NamesShort, table_of}
-use Rattle.ctf_model.specs.WrittenNames.{used_names, strings_of, string_bytes, reference, is_empty, names_of, listed_names}
-use Rattle.ctf_model.specs.Written.{bytes_of, bytes_unless, deep_by, label_bytes, labels_written, lists_of, records_written, unwritten, written}
-use Rattle.ctf_model.specs.WrittenRecords.{record_bytes, u32}
+use Rattle.ctf_model.specs.drafts.Fitting.{IsName, Fits, FitsBody, FitsLabel, FitsMember, FitsEnumerator}
+use Rattle.ctf_model.specs.writing.WritingLaws.{IsFound, IsKept, NamesShort, table_of}
+use Rattle.ctf_model.specs.writing.WrittenNames.{used_names, strings_of, string_bytes, reference, is_empty, names_of, listed_names}
+use Rattle.ctf_model.specs.writing.Written.{bytes_of, bytes_unless, deep_by, label_bytes, labels_written, lists_of, records_written, unwritten, written}
+use Rattle.ctf_model.specs.writing.WrittenRecords.{record_bytes, u32}
 use Rattle.ctf_model.proofs.FoundAgain.{found}
 use Rattle.ctf_model.proofs.WrittenHeads.{number_u32}
 use Rattle.ctf_model.proofs.KeptNames.{all_flat, all_kept, kept_of}
@@ -54,20 +54,20 @@ pub record IsWritable (d : Dictionary) : Type 0 where
 
 record IsWrittenOut (d : Dictionary) (bytes : List ℕ) : Type 0 where
   same : bytes_of d ≡ bytes
-  small : length (bytes_of d) ≤ 16777216
+  small : length (bytes_of d) ≤ 67108864
   value : deep_by by_value d ≡ None
   declared : deep_by declarator d ≡ None
 
 written_out : (d : Dictionary) (bytes : List ℕ) → written d ≡ Ok bytes → IsWrittenOut d bytes
 unfolding written unwritten
-written_out d bytes e = at (deep_by by_value d) refl (deep_by declarator d) refl (ltb 16777216 (length (bytes_of d))) refl e
+written_out d bytes e = at (deep_by by_value d) refl (deep_by declarator d) refl (ltb 67108864 (length (bytes_of d))) refl e
   where
-    at : (v : Option ℕ) → deep_by by_value d ≡ v → (w : Option ℕ) → deep_by declarator d ≡ w → (b : Bool) → ltb 16777216 (length (bytes_of d)) ≡ b
+    at : (v : Option ℕ) → deep_by by_value d ≡ v → (w : Option ℕ) → deep_by declarator d ≡ w → (b : Bool) → ltb 67108864 (length (bytes_of d)) ≡ b
         → bytes_unless (or_later 15 v (or_later 16 w (or_later 47 (cond b (Some 0) None) None))) (bytes_of d) ≡ Ok bytes → IsWrittenOut d bytes
     at (Some p) f w g b h e = absurd cc
     at None f (Some p) g b h e = absurd cc
     at None f None g true h e = absurd cc
-    at None f None g false h e = record { same = cc; small = ltb-false 16777216 (length (bytes_of d)) h; value = f; declared = g }
+    at None f None g false h e = record { same = cc; small = ltb-false 67108864 (length (bytes_of d)) h; value = f; declared = g }
 
 -- ---- names
 
@@ -203,7 +203,7 @@ pub each_recorded : (names : List (List ℕ)) (xs : List Term) → AllByRecursio
 each_recorded names [] f r g = tt
 each_recorded names (x ∷ xs) f r g = (recorded names x f.0 r.0 g.0, each_recorded names xs f.1 r.1 g.1)
 
-are_read : (d : Dictionary) → IsWritable d → length (bytes_of d) ≤ 16777216 → AreRead d (bytes_of d)
+are_read : (d : Dictionary) → IsWritable d → length (bytes_of d) ≤ 67108864 → AreRead d (bytes_of d)
 unfolding bytes_of
 are_read d ok small =
     let names = strings_of d in
@@ -330,8 +330,8 @@ whole d bytes ok e =
     let out = written_out d bytes e in
     subst (λ (b : List ℕ). Denotes (lists_of b) d) out.same (denoted_by d (bytes_of d) ok (are_read d ok out.small) out.value out.declared)
 
-pub alike : (d : Dictionary) → IsWritable d → length (bytes_of d) ≤ 16777216 → first_fault (lists_of (bytes_of d)) ≡ unwritten d
+pub alike : (d : Dictionary) → IsWritable d → length (bytes_of d) ≤ 67108864 → first_fault (lists_of (bytes_of d)) ≡ unwritten d
 unfolding unwritten
 alike d ok small =
-    let few : ltb 16777216 (length (bytes_of d)) ≡ false = le-ltb 16777216 (length (bytes_of d)) small in
+    let few : ltb 67108864 (length (bytes_of d)) ≡ false = le-ltb 67108864 (length (bytes_of d)) small in
     rw few (fault_is d (bytes_of d) ok (are_read d ok small))

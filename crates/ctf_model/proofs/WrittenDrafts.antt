@@ -4,13 +4,13 @@ use Rattle.std.specs.Prelude.{is_some}
 use Rattle.ctf_model.proofs.Denoted.{one_dictionary}
 use Rattle.ctf_model.proofs.UnderParents.{misses_none, names_short, stays_under}
 use Rattle.ctf_model.proofs.WrittenBytes.{IsWritable, alike, whole}
-use Rattle.ctf_model.specs.Dictionary.{Dictionary, Denotes}
-use Rattle.ctf_model.specs.DraftLaws.{IsSound}
-use Rattle.ctf_model.specs.Drafts.{Draft, held}
-use Rattle.ctf_model.specs.Faults.{first_fault}
-use Rattle.ctf_model.specs.Header.{fields, is_child}
-use Rattle.ctf_model.specs.Imports.{import_fault, of_one_model}
-use Rattle.ctf_model.specs.Written.{bytes_of, lists_of, most_written, unwritten, written}
+use Rattle.ctf_model.specs.format.Dictionary.{Dictionary, Denotes}
+use Rattle.ctf_model.specs.drafts.DraftLaws.{IsSound}
+use Rattle.ctf_model.specs.drafts.Drafts.{Draft, held}
+use Rattle.ctf_model.specs.rules.Faults.{first_fault}
+use Rattle.ctf_model.specs.format.Header.{fields, is_child}
+use Rattle.ctf_model.specs.spaces.Imports.{import_fault, of_one_model}
+use Rattle.ctf_model.specs.writing.Written.{bytes_of, lists_of, most_written, unwritten, written}
 
 writable : (d : Draft) → IsSound d → IsWritable (held d)
 writable d ok = record {

@@ -1,9 +1,9 @@
 -- What the head of a written record reads as.
 use Rattle.std.proofs.Common.{◌≡◌, ℕ, ◌+◌, ◌/◌, ◌%◌, ◌^◌, ◌<◌, ◌≤◌, Bool, true, false, eqb, ltb, List, ◌++◌, length, refl, arith}
 use Rattle.std.proofs.lemmas.Bool.{ne_eqb, ltb-true, ltb-false}
-use Rattle.ctf_model.specs.Bytes.{number, u32_at}
-use Rattle.ctf_model.specs.Record.{info, field, is_long, head_len, size, behind_head}
-use Rattle.ctf_model.specs.WrittenRecords.{u16, u32, field_bytes}
+use Rattle.ctf_model.specs.format.Bytes.{number, u32_at}
+use Rattle.ctf_model.specs.format.Record.{info, field, is_long, head_len, size, behind_head}
+use Rattle.ctf_model.specs.writing.WrittenRecords.{u16, u32, field_bytes}
 
 pub number_u16 : (n : ℕ) → n < 2 ^ 16 → number (u16 n) ≡ n
 unfolding number

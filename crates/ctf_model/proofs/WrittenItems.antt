@@ -7,15 +7,15 @@ use mir.ValLaws.{of_z_fits}
 use Rattle.std.proofs.lemmas.Bool.{ltb-true}
 use Rattle.std.proofs.lemmas.List.{drop_at, append_assoc, length-append}
 use Rattle.std.proofs.Math.Nat.{mul-suc}
-use Rattle.ctf_model.specs.Bytes.{number}
-use Rattle.ctf_model.specs.Record.{member_len}
-use Rattle.ctf_model.specs.Spelling.{items, member_of, enumerator_of, argument_of}
-use Rattle.ctf_model.specs.Term.{Member, Enumerator}
+use Rattle.ctf_model.specs.format.Bytes.{number}
+use Rattle.ctf_model.specs.format.Record.{member_len}
+use Rattle.ctf_model.specs.format.Spelling.{items, member_of, enumerator_of, argument_of}
+use Rattle.ctf_model.specs.format.Term.{Member, Enumerator}
 use Rattle.ctf_model.proofs.Items.{items_more}
-use Rattle.ctf_model.specs.Fitting.{FitsMember, FitsEnumerator}
-use Rattle.ctf_model.specs.WritingLaws.{IsFound, table_of}
-use Rattle.ctf_model.specs.WrittenNames.{reference}
-use Rattle.ctf_model.specs.WrittenRecords.{u16, u32, member_bytes, enumerator_bytes}
+use Rattle.ctf_model.specs.drafts.Fitting.{FitsMember, FitsEnumerator}
+use Rattle.ctf_model.specs.writing.WritingLaws.{IsFound, table_of}
+use Rattle.ctf_model.specs.writing.WrittenNames.{reference}
+use Rattle.ctf_model.specs.writing.WrittenRecords.{u16, u32, member_bytes, enumerator_bytes}
 use Rattle.ctf_model.proofs.WrittenHeads.{number_u16, number_u32}
 
 -- the bytes are an item of this length, whatever stands behind them

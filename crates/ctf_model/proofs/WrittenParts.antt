@@ -4,12 +4,12 @@ use Rattle.std.specs.Prelude.{slice_range, slice_index, not, ◌&&◌}
 use Rattle.std.specs.List.{AllByRecursion}
 use Rattle.std.proofs.lemmas.Bool.{le-ltb}
 use Rattle.std.proofs.lemmas.List.{take_at, drop_at, append_assoc, append-nil, length-append, get_or-append-add}
-use Rattle.ctf_model.specs.Bytes.{number, u16_at}
-use Rattle.ctf_model.specs.Faults.{header_rules, if_broken, is_out_of_order, is_misaligned}
-use Rattle.ctf_model.specs.Header.{Fields, fields, section}
+use Rattle.ctf_model.specs.format.Bytes.{number, u16_at}
+use Rattle.ctf_model.specs.rules.Faults.{header_rules, if_broken, is_out_of_order, is_misaligned}
+use Rattle.ctf_model.specs.format.Header.{Fields, fields, section}
 use Rattle.ctf_model.specs.declared.sections.Section.TheVariants.{SLabels, STypes, SStrings}
-use Rattle.ctf_model.specs.Written.{fields_over, header_bytes}
-use Rattle.ctf_model.specs.WrittenRecords.{u32}
+use Rattle.ctf_model.specs.writing.Written.{fields_over, header_bytes}
+use Rattle.ctf_model.specs.writing.WrittenRecords.{u32}
 use Rattle.ctf_model.proofs.WrittenHeads.{number_u32}
 
 -- a part of joined bytes

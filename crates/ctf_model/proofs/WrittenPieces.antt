@@ -2,15 +2,15 @@
 use Rattle.std.proofs.Common.{◌≡◌, ℕ, suc, ◌+◌, Bool, false, List, [], ◌∷◌, ◌++◌, length, map, None, refl, ap, sym, ◌∙◌}
 use Rattle.std.specs.List.{AllByRecursion, flat_map, concat, list_any}
 use Rattle.std.proofs.lemmas.List.{append_assoc}
-use Rattle.ctf_model.specs.Faults.{walk_fault, record_sites, list_sites, first_misnaming}
-use Rattle.ctf_model.specs.Laws.{pieces}
-use Rattle.ctf_model.specs.Record.{IsWhole, kind}
-use Rattle.ctf_model.specs.References.{references, is_missing, is_misnaming}
-use Rattle.ctf_model.specs.Section.{Section, IsCut, Stops, front_len, terms_in}
-use Rattle.ctf_model.specs.Term.{Term}
+use Rattle.ctf_model.specs.rules.Faults.{walk_fault, record_sites, list_sites, first_misnaming}
+use Rattle.ctf_model.specs.format.Laws.{pieces}
+use Rattle.ctf_model.specs.format.Record.{IsWhole, kind}
+use Rattle.ctf_model.specs.rules.References.{references, is_missing, is_misnaming}
+use Rattle.ctf_model.specs.format.Section.{Section, IsCut, Stops, front_len, terms_in}
+use Rattle.ctf_model.specs.format.Term.{Term}
 use Rattle.ctf_model.proofs.Cut.{stops_none}
 use Rattle.ctf_model.proofs.Spelled.{AreNamed}
-use Rattle.ctf_model.specs.WritingLaws.{table_of}
+use Rattle.ctf_model.specs.writing.WritingLaws.{table_of}
 use Rattle.ctf_model.proofs.NamedSites.{said_named, joined_named}
 use Rattle.ctf_model.proofs.RecordedTypes.{IsRecorded}
 

@@ -1,6 +1,6 @@
 //! Faults: what was refused, and where.
 ghost use Rattle.std.specs.Prelude.{◌≡◌};
-ghost use Rattle.ctf_model.specs.FaultNames.{name_of_fault};
+ghost use Rattle.ctf_model.specs.rules.FaultNames.{name_of_fault};
 
 /// A refusal: which one, and at which place (0 where none is said).
 ///
@@ -140,7 +140,7 @@ impl Fault {
 }
 
 /// The name of a code, as replies and messages show it; the empty text for a code that has none.
-#[tactic(auto, unfolding(crate::specs::FaultNames::name_of_fault))]
+#[tactic(auto, unfolding(crate::specs::rules::FaultNames::name_of_fault))]
 pub fn fault_name(code: u16) -> &'static str
     ensures { result.now ≡ name_of_fault code }
 {

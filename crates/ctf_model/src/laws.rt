@@ -1,5 +1,5 @@
 //! Laws over the definitions alone. Each is the contract of a function that does nothing.
-ghost use Rattle.ctf_model.specs.DraftLaws.{
+ghost use Rattle.ctf_model.specs.drafts.DraftLaws.{
   ChangesKeepSound,
   EnumeratorsKeepSound,
   LabelsKeepSound,
@@ -12,13 +12,13 @@ ghost use Rattle.ctf_model.specs.DraftLaws.{
   SoundDraftsStayUnder,
   TypesKeepSound,
 };
-ghost use Rattle.ctf_model.specs.FigureLaws.{
+ghost use Rattle.ctf_model.specs.figures.FigureLaws.{
   FaultlessValuesAreBounded,
   FiguresAskByValue,
   OwnFiguresAreTheirRules,
   ParentsFiguresAreTheirOwn,
 };
-ghost use Rattle.ctf_model.specs.Laws.{
+ghost use Rattle.ctf_model.specs.format.Laws.{
   ComputesWhatIsDenoted,
   DenotesOne,
   FaultlessWhereDenoted,
@@ -28,8 +28,8 @@ ghost use Rattle.ctf_model.specs.Laws.{
   RecordsAreACut,
   SectionSpellsOneList,
 };
-ghost use Rattle.ctf_model.specs.ValueLaws.{FaultlessParentsAreBounded, ValuesAreTheirRules};
-ghost use Rattle.ctf_model.specs.WritingLaws.{
+ghost use Rattle.ctf_model.specs.values.ValueLaws.{FaultlessParentsAreBounded, ValuesAreTheirRules};
+ghost use Rattle.ctf_model.specs.writing.WritingLaws.{
   BytesAreJudgedAlike,
   NamesAreFoundAgain,
   RecordsSpell,

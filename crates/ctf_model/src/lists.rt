@@ -1,7 +1,7 @@
 //! The byte lists that a dictionary is handed in as, owned.
 ghost use Rattle.std.specs.Prelude.{◌≡◌};
-ghost use Rattle.ctf_model.specs.OwnedLists.{lists_owned};
-ghost use Rattle.ctf_model.specs.Lists.{no_lists};
+ghost use Rattle.ctf_model.specs.format.OwnedLists.{lists_owned};
+ghost use Rattle.ctf_model.specs.format.Lists.{no_lists};
 
 use crate::bytes::Bytes;
 use std::alloc::Global;

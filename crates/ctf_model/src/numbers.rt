@@ -1,6 +1,6 @@
 //! Numbers with a range of their own.
 ghost use Rattle.std.specs.Prelude.{◌≡◌};
-ghost use Rattle.ctf_model.specs.TypePlaces.{place as place_of};
+ghost use Rattle.ctf_model.specs.spaces.TypePlaces.{place as place_of};
 
 /// The number of a type. A parent's types are 1 to their count, a child's own ones 0x8001 and up;
 /// 0 is no type.

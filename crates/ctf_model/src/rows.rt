@@ -1,23 +1,23 @@
 //! Worked rows: what the definitions say of small inputs. Each is the contract of a function that
 //! does nothing.
-ghost use Rattle.ctf_model.specs.DraftRows.{
+ghost use Rattle.ctf_model.specs.drafts.DraftRows.{
   DraftsLive,
   EnumeratorsAndLabelsAreAdded,
   MembersAreAdded,
   MembersArePlaced,
   TypesAreAdded,
 };
-ghost use Rattle.ctf_model.specs.DumpRows.{DumpsAre};
-ghost use Rattle.ctf_model.specs.FaultRows.{ConstantsAreCodes};
-ghost use Rattle.ctf_model.specs.FindRows.{NamesAreFound};
-ghost use Rattle.ctf_model.specs.FigureRows.{FiguresAre, FiguresOverParents, PathsLead};
-ghost use Rattle.ctf_model.specs.ImportRows.{ImportsAreJudged};
-ghost use Rattle.ctf_model.specs.KindRows.{KindsDenote, KindsHaveFaults};
-ghost use Rattle.ctf_model.specs.NameRows.{NamesAreSpelled, NamesOverParents};
-ghost use Rattle.ctf_model.specs.SymbolRows.{SymbolsHaveFaults, SymbolsTell};
-ghost use Rattle.ctf_model.specs.ValueRows.{ValuesShow, ValuesOverParents};
-ghost use Rattle.ctf_model.specs.WritingRows.{DictionariesAreWritten, NamesAreWritten, RecordsAreWritten};
-ghost use Rattle.ctf_model.specs.Rows.{BytesDenote, BytesHaveFaults, ListsAreLong, NumbersName};
+ghost use Rattle.ctf_model.specs.dumps.DumpRows.{DumpsAre};
+ghost use Rattle.ctf_model.specs.rules.FaultRows.{ConstantsAreCodes};
+ghost use Rattle.ctf_model.specs.names.FindRows.{NamesAreFound};
+ghost use Rattle.ctf_model.specs.figures.FigureRows.{FiguresAre, FiguresOverParents, PathsLead};
+ghost use Rattle.ctf_model.specs.spaces.ImportRows.{ImportsAreJudged};
+ghost use Rattle.ctf_model.specs.format.KindRows.{KindsDenote, KindsHaveFaults};
+ghost use Rattle.ctf_model.specs.names.NameRows.{NamesAreSpelled, NamesOverParents};
+ghost use Rattle.ctf_model.specs.symbols.SymbolRows.{SymbolsHaveFaults, SymbolsTell};
+ghost use Rattle.ctf_model.specs.values.ValueRows.{ValuesShow, ValuesOverParents};
+ghost use Rattle.ctf_model.specs.writing.WritingRows.{DictionariesAreWritten, NamesAreWritten, RecordsAreWritten};
+ghost use Rattle.ctf_model.specs.format.Rows.{BytesDenote, BytesHaveFaults, ListsAreLong, NumbersName};
 
 /// Which code of a fault each of its names stands for.
 pub fn faults_have_codes()

@@ -8,11 +8,11 @@ use Rattle.std.proofs.lemmas.Bool.{eqb-true, le-leb, ltb-true, ltb-false}
 use Rattle.std.proofs.lemmas.List.Elements.{Contains-append_left, Contains-append_right, Contains-append_cases}
 use Rattle.std.proofs.lemmas.Option.{slice_get_within}
 use Rattle.std.proofs.lemmas.Slice.Eq.{bytes_eq-Decides}
-use Rattle.ctf_model.specs.Found.{first_place, is_called, same_tag, tag_of}
-use Rattle.ctf_model.specs.Name.{Tables, name}
-use Rattle.ctf_model.specs.Shown.{Shape, shape}
-use Rattle.ctf_model.specs.Term.{Body, Tag, Term}
-use Rattle.ctf_model.specs.Term as term
+use Rattle.ctf_model.specs.names.Found.{first_place, is_called, same_tag, tag_of}
+use Rattle.ctf_model.specs.format.Name.{Tables, name}
+use Rattle.ctf_model.specs.format.Shown.{Shape, shape}
+use Rattle.ctf_model.specs.format.Term.{Body, Tag, Term}
+use Rattle.ctf_model.specs.format.Term as term
 use Rattle.ctf_order.specs.Holding.{entries_of, is_early, same_entry, Fits, IsFound, IsNamed}
 use Rattle.ctf_order.specs.Names.{is_text}
 use Rattle.ctf_order.specs.declared.entries.Entry.{Entry}

@@ -1,9 +1,9 @@
 -- A dictionary that breaks no rule has few types.
 use Rattle.std.proofs.Common.{◌≡◌, ◌≤◌, ltb, Bool, true, false, length, Option, Some, None, refl, sym, ◌∙◌}
 use Rattle.std.proofs.lemmas.Bool.{ltb-false}
-use Rattle.ctf_model.specs.Dictionary.{said_by}
-use Rattle.ctf_model.specs.Faults.{first_fault, types}
-use Rattle.ctf_model.specs.Lists.{Lists}
+use Rattle.ctf_model.specs.format.Dictionary.{said_by}
+use Rattle.ctf_model.specs.rules.Faults.{first_fault, types}
+use Rattle.ctf_model.specs.format.Lists.{Lists}
 use Rattle.ctf_model.specs.declared.faults.Fault.{Fault}
 use Rattle.ctf_model.specs.declared.faults.TheConstants.Fault.{TOO_MANY}
 use Rattle.ctf_check.specs.Stages.{records_fault}

@@ -2,11 +2,11 @@
 use Rattle.std.proofs.Common.{◌≡◌, ℕ, List, Option, Some, None, Result, refl, ap, ◌∙◌}
 use Rattle.std.specs.Prelude.{option_map}
 use Rattle.std.proofs.lemmas.Option.{same_Some}
-use Rattle.ctf_model.specs.Shown.{Shape, shape}
-use Rattle.ctf_model.specs.Term.{Body, Tag, Term}
-use Rattle.ctf_model.specs.Term as term
-use Rattle.ctf_model.specs.TypeNames.{Declaration, around, bare, declaration_by, declaration_of, or_anon}
-use Rattle.ctf_model.specs.TypeNumbers.{or_no_type}
+use Rattle.ctf_model.specs.format.Shown.{Shape, shape}
+use Rattle.ctf_model.specs.format.Term.{Body, Tag, Term}
+use Rattle.ctf_model.specs.format.Term as term
+use Rattle.ctf_model.specs.names.TypeNames.{Declaration, around, bare, declaration_by, declaration_of, or_anon}
+use Rattle.ctf_model.specs.spaces.TypeNumbers.{or_no_type}
 use Rattle.ctf_model.specs.declared.faults.Fault.{Fault}
 use Rattle.ctf_model.specs.declared.layers.Layer.{Layer}
 use Rattle.ctf_names.specs.Bases.{behind_tag}

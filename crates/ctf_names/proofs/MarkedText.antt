@@ -5,7 +5,7 @@ use Rattle.std.proofs.lemmas.List.Folds.{length-flat_map-take}
 use Rattle.std.proofs.lemmas.List.{append-nil, reverse-append, drop_more, take_more}
 use Rattle.std.proofs.lemmas.Bool.{ne_eqb}
 use Rattle.std.proofs.lemmas.Grind.{flat_map-append}
-use Rattle.ctf_model.specs.TypeNames.{declared, joined, past, is_pointer, is_behind, word_of_qualifier}
+use Rattle.ctf_model.specs.names.TypeNames.{declared, joined, past, is_pointer, is_behind, word_of_qualifier}
 use Rattle.ctf_names.specs.Marks.{mark, marks, front, left, right, declarator, marked_text}
 use Rattle.ctf_names.specs.MarkSteps.{beyond, marks_from}
 use Rattle.ctf_model.specs.declared.layers.Layer.{Layer}

@@ -2,8 +2,8 @@
 use Rattle.std.proofs.Common.{◌≡◌, ℕ, zero, suc, ◌<◌, Bool, true, false, List, [], ◌∷◌, length, Option, Some, None, refl, arith}
 use Rattle.std.specs.Prelude.{slice_get, if◌then◌else◌}
 use Rattle.std.specs.Option.{option_map}
-use Rattle.ctf_model.specs.Found.{first_place}
-use Rattle.ctf_model.specs.Term.{Term}
+use Rattle.ctf_model.specs.names.Found.{first_place}
+use Rattle.ctf_model.specs.format.Term.{Term}
 
 pub none_passes : (passes : Term → Bool) (terms : List Term) → ((i : ℕ) (x : Term) → slice_get terms i ≡ Some x → passes x ≡ false) → first_place passes terms ≡ None
 none_passes passes [] none = refl

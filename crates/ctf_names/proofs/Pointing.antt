@@ -14,9 +14,9 @@ use Rattle.std.proofs.lemmas.List.{get_or_default}
 use Rattle.std.proofs.lemmas.List.MinMax.{ranks_by}
 use Rattle.std.proofs.lemmas.List.Sorted.{sorted_far, Contains-permutation, IsPermutation-sym}
 use Rattle.std.proofs.lemmas.Option.{slice_get_within}
-use Rattle.ctf_model.specs.Found.{first_place, is_pointer_body, is_pointer_to}
-use Rattle.ctf_model.specs.Term.{Body, Term}
-use Rattle.ctf_model.specs.Term as term
+use Rattle.ctf_model.specs.names.Found.{first_place, is_pointer_body, is_pointer_to}
+use Rattle.ctf_model.specs.format.Term.{Body, Term}
+use Rattle.ctf_model.specs.format.Term as term
 use Rattle.ctf_order.proofs.Lent.{any_to, itself, only}
 use Rattle.ctf_order.proofs.Search.{any_from, both}
 use Rattle.ctf_names.specs.Pointers.{is_early_pointer, is_pointer_of, pointer_precedes, points_to, HasPointers, IsPointerAt, PointersInOrder}

@@ -1,8 +1,8 @@
 -- The spelled name of a type from its declaration.
 use Rattle.std.proofs.Common.{◌≡◌, ℕ, ◌<◌, ◌≤◌, leb, true, false, List, length, Ok, Err, refl}
 use Rattle.std.proofs.lemmas.Bool.{le-leb, lt-leb}
-use Rattle.ctf_model.specs.Space.{Space}
-use Rattle.ctf_model.specs.TypeNames.{declaration, spelled_name, too_long, longest_text}
+use Rattle.ctf_model.specs.spaces.Space.{Space}
+use Rattle.ctf_model.specs.names.TypeNames.{declaration, spelled_name, too_long, longest_text}
 use Rattle.ctf_model.specs.declared.layers.Layer.{Layer}
 use Rattle.ctf_names.specs.Marks.{marks, marked_text}
 use Rattle.ctf_names.specs.declared.marks.Mark.{Mark}

@@ -1,7 +1,7 @@
 -- One pointer further.
 use Rattle.std.proofs.Common.{◌≡◌, ℕ, zero, suc, ◌+◌, ◌-◌, ◌<◌, Ok, Err, refl, arith}
-use Rattle.ctf_model.specs.Found.{pointed, pointer_to}
-use Rattle.ctf_model.specs.Space.{Space}
+use Rattle.ctf_model.specs.names.Found.{pointed, pointer_to}
+use Rattle.ctf_model.specs.spaces.Space.{Space}
 use Rattle.ctf_model.specs.declared.faults.Fault.{Fault}
 
 pub one_further : (s : Space) (n i t : ℕ) → i < n → pointed s (n - i) (Ok t) ≡ pointed s (n - (i + 1)) (pointer_to s t)

@@ -2,7 +2,7 @@
 use Rattle.std.proofs.Common.{◌≡◌, ℕ, Bool, true, false, List, [], ◌∷◌, ◌++◌, refl, ap, ◌∙◌}
 use Rattle.std.specs.Prelude.{◌&&◌}
 use Rattle.std.specs.List.{list_all}
-use Rattle.ctf_model.specs.Found.{base, is_star_or_blank}
+use Rattle.ctf_model.specs.names.Found.{base, is_star_or_blank}
 
 all_more : (xs : List ℕ) (b : ℕ) → is_star_or_blank b ≡ true → list_all is_star_or_blank (xs ++ b ∷ []) ≡ list_all is_star_or_blank xs
 all_more [] b e = rw e refl

@@ -1,8 +1,8 @@
 -- The text of the name inside of all layers. The words are ours.
 use Rattle.std.specs.Prelude.{ℕ, ◌++◌, List, Option, Some, None, codes}
 use Rattle.std.specs.Option.{option_map}
-use Rattle.ctf_model.specs.KindNames.{name_of_tag}
-use Rattle.ctf_model.specs.Term.{Tag}
+use Rattle.ctf_model.specs.names.KindNames.{name_of_tag}
+use Rattle.ctf_model.specs.format.Term.{Tag}
 use Rattle.ctf_names.specs.declared.inside.Base.{Base}
 use Rattle.ctf_records.specs.RecordView.{tag_of}
 

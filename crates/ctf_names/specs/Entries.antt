@@ -2,10 +2,10 @@
 use Rattle.std.specs.Prelude.{◌≡◌, ◌<◌, ℕ, length, ◌&&◌, Bool, true, false, List, Option, Some, None, MatchOption, slice_get}
 use Rattle.std.specs.List.{list_any, Contains}
 use Rattle.std.specs.List.Sorted.{IsSortedBy}
-use Rattle.ctf_model.specs.Dictionary.{name_or_empty}
-use Rattle.ctf_model.specs.Found.{same_tag, tag_of}
-use Rattle.ctf_model.specs.Name.{Tables, name}
-use Rattle.ctf_model.specs.Term.{Tag, Term}
+use Rattle.ctf_model.specs.format.Dictionary.{name_or_empty}
+use Rattle.ctf_model.specs.names.Found.{same_tag, tag_of}
+use Rattle.ctf_model.specs.format.Name.{Tables, name}
+use Rattle.ctf_model.specs.format.Term.{Tag, Term}
 use Rattle.ctf_order.specs.Holding.{entries_of, is_early, precedes}
 use Rattle.ctf_order.specs.Names.{is_text}
 use Rattle.ctf_order.specs.declared.entries.Entry.{Entry}

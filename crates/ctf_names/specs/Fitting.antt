@@ -1,9 +1,9 @@
 -- Which indexes of names fit a space. Source: ours.
 use Rattle.std.specs.Prelude.{◌≡◌, Option, Some, None}
 use Rattle.std.specs.Option.{ForSome, is_some, option_map}
-use Rattle.ctf_model.specs.Dictionary.{said_by}
-use Rattle.ctf_model.specs.Lists.{Lists, tables}
-use Rattle.ctf_model.specs.Term as term
+use Rattle.ctf_model.specs.format.Dictionary.{said_by}
+use Rattle.ctf_model.specs.format.Lists.{Lists, tables}
+use Rattle.ctf_model.specs.format.Term as term
 use Rattle.ctf_names.specs.Entries.{AreInOrder}
 use Rattle.ctf_names.specs.Pointers.{PointersInOrder}
 use Rattle.ctf_names.specs.declared.index.NameIndex.{NameIndex}

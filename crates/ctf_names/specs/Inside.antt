@@ -1,8 +1,8 @@
 -- What is inside of a type's name. The words are ours.
 use Rattle.std.specs.Prelude.{ℕ, List, Option, Some, None, Result}
-use Rattle.ctf_model.specs.Shown.{ArrayParts, Shape, array_in}
-use Rattle.ctf_model.specs.Term.{Tag, struct_tag, union_tag, enum_tag}
-use Rattle.ctf_model.specs.TypeNames.{Declaration, around, bare, or_anon, tagged}
+use Rattle.ctf_model.specs.format.Shown.{ArrayParts, Shape, array_in}
+use Rattle.ctf_model.specs.format.Term.{Tag, struct_tag, union_tag, enum_tag}
+use Rattle.ctf_model.specs.names.TypeNames.{Declaration, around, bare, or_anon, tagged}
 use Rattle.ctf_model.specs.declared.faults.Fault.{Fault}
 use Rattle.ctf_model.specs.declared.kinds.Kind.{Kind}
 use Rattle.ctf_model.specs.declared.kinds.Kind.TheVariants.{KUnknown, KInteger, KFloat, KPointer, KArray, KFunction, KStruct, KUnion, KEnum, KForward, KTypedef, KVolatile, KConst, KRestrict}

@@ -1,7 +1,7 @@
 -- What each layer of a declaration adds to its text, and where. The words are ours.
 use Rattle.std.specs.Prelude.{ℕ, ◌++◌, Bool, false, List, [], ◌∷◌, Option, reverse, codes, decimal, if◌then◌else◌}
 use Rattle.std.specs.List.{flat_map}
-use Rattle.ctf_model.specs.TypeNames.{joined, past, is_pointer, is_behind, word_of_qualifier}
+use Rattle.ctf_model.specs.names.TypeNames.{joined, past, is_pointer, is_behind, word_of_qualifier}
 use Rattle.ctf_model.specs.declared.layers.Layer.{Layer}
 use Rattle.ctf_model.specs.declared.layers.Layer.TheVariants.{Pointer, Array, Function, Qualified}
 use Rattle.ctf_names.specs.declared.marks.Mark.{Mark}

@@ -3,8 +3,8 @@ use Rattle.std.specs.Prelude.{◌≡◌, ◌<◌, ℕ, ◌==◌, ◌&&◌, nat_l
 use Rattle.std.specs.List.{list_any, Contains}
 use Rattle.std.specs.List.Sorted.{IsSortedBy}
 use Rattle.std.specs.Ordering.{is_lt, nat_cmp, ordering_then}
-use Rattle.ctf_model.specs.Found.{is_pointer_body}
-use Rattle.ctf_model.specs.Term.{Term}
+use Rattle.ctf_model.specs.names.Found.{is_pointer_body}
+use Rattle.ctf_model.specs.format.Term.{Term}
 use Rattle.ctf_names.specs.declared.pointers.Pointer.{Pointer}
 
 abbrev pub points_to : ℕ → Option Term → Bool

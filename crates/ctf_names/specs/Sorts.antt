@@ -1,8 +1,8 @@
 -- Which word stands in front of the name of a type. The words are ours.
 use Rattle.std.specs.Prelude.{Option, Some, None}
-use Rattle.ctf_model.specs.Shown.{Shape}
-use Rattle.ctf_model.specs.Term.{Tag}
-use Rattle.ctf_model.specs.Term as term
+use Rattle.ctf_model.specs.format.Shown.{Shape}
+use Rattle.ctf_model.specs.format.Term.{Tag}
+use Rattle.ctf_model.specs.format.Term as term
 use Rattle.ctf_model.specs.declared.kinds.Kind.{Kind}
 use Rattle.ctf_model.specs.declared.kinds.Kind.TheVariants.{KStruct, KUnion, KEnum, KForward}
 use Rattle.ctf_names.specs.declared.sorts.Sort.{Sort}

@@ -1,7 +1,7 @@
 -- What is looked for among types. The words are ours.
 use Rattle.std.specs.Prelude.{Bool}
-use Rattle.ctf_model.specs.Found.{is_called, is_pointer_to}
-use Rattle.ctf_model.specs.Term.{Term}
+use Rattle.ctf_model.specs.names.Found.{is_called, is_pointer_to}
+use Rattle.ctf_model.specs.format.Term.{Term}
 use Rattle.ctf_names.specs.Sorts.{tag_in}
 use Rattle.ctf_names.specs.declared.sought.Sought.{Sought}
 use Rattle.ctf_names.specs.declared.sought.Sought.TheVariants.{Named, PointerTo}

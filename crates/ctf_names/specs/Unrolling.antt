@@ -1,6 +1,6 @@
 -- A declaration as it is unrolled from the outermost layer on. The words are ours.
 use Rattle.std.specs.Prelude.{List, [], ◌∷◌, Result}
-use Rattle.ctf_model.specs.TypeNames.{Declaration, around}
+use Rattle.ctf_model.specs.names.TypeNames.{Declaration, around}
 use Rattle.ctf_model.specs.declared.faults.Fault.{Fault}
 use Rattle.ctf_model.specs.declared.layers.Layer.{Layer}
 use Rattle.ctf_names.specs.Bases.{base_text}

@@ -2,8 +2,8 @@
 ghost use Rattle.std.specs.Prelude.{◌≡◌, Ok};
 ghost use Rattle.std.specs.Option.{option_map};
 ghost use Rattle.std.specs.Result.{result_map_both};
-ghost use Rattle.ctf_model.specs.Found.{found, or_not_found as or_not_found_of, pointed as pointed_of, pointer_behind as pointer_behind_of, pointer_to as pointer_of};
-ghost use Rattle.ctf_model.specs.Figures.{resolved};
+ghost use Rattle.ctf_model.specs.names.Found.{found, or_not_found as or_not_found_of, pointed as pointed_of, pointer_behind as pointer_behind_of, pointer_to as pointer_of};
+ghost use Rattle.ctf_model.specs.figures.Figures.{resolved};
 ghost use Rattle.ctf_names.specs.Fitting.{Fits};
 ghost use Rattle.ctf_space.specs.SpaceView.{own_lists, parent_lists, space_of};
 

@@ -1,9 +1,9 @@
 //! What is inside of a type's name: the next layer and the type that it is round, or a name.
 ghost use Rattle.std.specs.Prelude.{◌≡◌, ◌+◌, ◌≤◌, ◌++◌, length, min, option_map, vec_len, vec_capacity};
 ghost use Rattle.ctf_check.specs.FactsView.{shape_seen};
-ghost use Rattle.ctf_model.specs.KindNames.{name_of_tag};
-ghost use Rattle.ctf_model.specs.Shown.{array_in};
-ghost use Rattle.ctf_model.specs.TypeNames.{or_anon as named};
+ghost use Rattle.ctf_model.specs.names.KindNames.{name_of_tag};
+ghost use Rattle.ctf_model.specs.format.Shown.{array_in};
+ghost use Rattle.ctf_model.specs.names.TypeNames.{or_anon as named};
 ghost use Rattle.ctf_names.specs.Bases.{base_text};
 ghost use Rattle.ctf_names.specs.Inside.{inside as inside_of, layer_round, of_array};
 ghost use Rattle.ctf_names.specs.Layered.{inside_seen};

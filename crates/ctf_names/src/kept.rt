@@ -1,9 +1,9 @@
 //! The names and pointers of a dictionary, as they are kept.
 ghost use Rattle.std.specs.Prelude.{◌≡◌, IfOk};
 ghost use Rattle.ctf_check.specs.CheckedView.{lists_of};
-ghost use Rattle.ctf_model.specs.Dictionary.{said_by};
-ghost use Rattle.ctf_model.specs.Found.{first_place};
-ghost use Rattle.ctf_model.specs.Lists.{Lists, tables as tables_in};
+ghost use Rattle.ctf_model.specs.format.Dictionary.{said_by};
+ghost use Rattle.ctf_model.specs.names.Found.{first_place};
+ghost use Rattle.ctf_model.specs.format.Lists.{Lists, tables as tables_in};
 ghost use Rattle.ctf_names.specs.Entries.{AreInOrder};
 ghost use Rattle.ctf_names.specs.Fitting.{IsNamesOf};
 ghost use Rattle.ctf_names.specs.Sorts.{tag_in};

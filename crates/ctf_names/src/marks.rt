@@ -1,6 +1,6 @@
 //! What each layer adds to a text, and where.
 ghost use Rattle.std.specs.Prelude.{◌≡◌, IfOk, Option, true};
-ghost use Rattle.ctf_model.specs.TypeNames.{is_pointer as is_pointer_below, is_behind as is_behind_below};
+ghost use Rattle.ctf_model.specs.names.TypeNames.{is_pointer as is_pointer_below, is_behind as is_behind_below};
 ghost use Rattle.ctf_names.specs.Marks.{mark, marks};
 ghost use Rattle.ctf_names.specs.MarkSteps.{beyond};
 

@@ -1,9 +1,9 @@
 //! The types of one sort, by their names.
 ghost use Rattle.std.specs.Prelude.{◌≡◌, IfOk, Option, List, length};
 ghost use Rattle.ctf_check.specs.CheckedView.{dictionary_of, tables_of};
-ghost use Rattle.ctf_model.specs.Found.{first_place, is_called};
-ghost use Rattle.ctf_model.specs.Name.{Tables};
-ghost use Rattle.ctf_model.specs.Term.{Term, Tag};
+ghost use Rattle.ctf_model.specs.names.Found.{first_place, is_called};
+ghost use Rattle.ctf_model.specs.format.Name.{Tables};
+ghost use Rattle.ctf_model.specs.format.Term.{Term, Tag};
 ghost use Rattle.ctf_names.specs.Entries.{AreInOrder, HasEntries};
 ghost use Rattle.ctf_names.specs.Sorts.{tag_in};
 ghost use Rattle.ctf_sections.specs.StringsView.{tables};

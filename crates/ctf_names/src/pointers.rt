@@ -2,8 +2,8 @@
 ghost use Rattle.std.specs.Prelude.{◌≡◌, ◌<◌, ◌^◌, IfOk, List, length};
 ghost use Rattle.std.specs.List.Sorted.{IsSortedBy, IsPermutation};
 ghost use Rattle.ctf_check.specs.CheckedView.{dictionary_of};
-ghost use Rattle.ctf_model.specs.Found.{first_place, is_pointer_to};
-ghost use Rattle.ctf_model.specs.Term.{Term};
+ghost use Rattle.ctf_model.specs.names.Found.{first_place, is_pointer_to};
+ghost use Rattle.ctf_model.specs.format.Term.{Term};
 ghost use Rattle.ctf_names.specs.Pointers.{pointer_precedes, HasPointers, IsPointerAt, PointersInOrder};
 
 use crate::types::own_type;

@@ -1,7 +1,7 @@
 //! The three parts that marks have in a text, measured and appended.
 ghost use Rattle.std.specs.Prelude.{◌≡◌, ◌+◌, ◌≤◌, ◌++◌, length, min, reverse, vec_len, vec_capacity};
 ghost use Rattle.std.specs.List.{flat_map};
-ghost use Rattle.ctf_model.specs.TypeNames.{word_of_qualifier};
+ghost use Rattle.ctf_model.specs.names.TypeNames.{word_of_qualifier};
 ghost use Rattle.ctf_names.specs.Marks.{front as front_text, left as left_text, right as right_text};
 ghost use Rattle.ctf_names.specs.declared.marks.Mark.TheVariants.{Front};
 

@@ -1,7 +1,7 @@
 //! Spells the name of a type.
 ghost use Rattle.std.specs.Prelude.{◌≡◌, ◌+◌, ◌≤◌, ◌⊎◌, ◌++◌, length, min, vec_len, vec_capacity, OnOk, IfErr, OnErr, Ok, Err};
-ghost use Rattle.ctf_model.specs.Refusals.{want_of_memory};
-ghost use Rattle.ctf_model.specs.TypeNames.{spelled_name};
+ghost use Rattle.ctf_model.specs.rules.Refusals.{want_of_memory};
+ghost use Rattle.ctf_model.specs.names.TypeNames.{spelled_name};
 ghost use Rattle.ctf_names.specs.Adding.{added};
 ghost use Rattle.ctf_names.specs.Bases.{base_text};
 ghost use Rattle.ctf_names.specs.Marks.{marked_text};

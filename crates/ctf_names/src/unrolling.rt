@@ -1,7 +1,7 @@
 //! The layers of a type, and the name inside.
 ghost use Rattle.std.specs.Prelude.{◌≡◌, ◌⊎◌, ◌<◌, IfOk, IfErr, Ok, Err, codes, vec_len};
-ghost use Rattle.ctf_model.specs.Refusals.{want_of_memory};
-ghost use Rattle.ctf_model.specs.TypeNames.{declaration, longest_text};
+ghost use Rattle.ctf_model.specs.rules.Refusals.{want_of_memory};
+ghost use Rattle.ctf_model.specs.names.TypeNames.{declaration, longest_text};
 ghost use Rattle.ctf_names.specs.Bases.{base_text};
 ghost use Rattle.ctf_names.specs.Unrolling.{unrolled};
 ghost use Rattle.ctf_space.specs.SpaceView.{space_of};

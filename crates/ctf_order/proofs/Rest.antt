@@ -5,7 +5,7 @@ use Rattle.std.specs.List.{list_any, before_first, position_or_len}
 use Rattle.std.specs.Option.{option_map}
 use Rattle.std.proofs.lemmas.Bool.{eqb-true}
 use Rattle.std.proofs.lemmas.List.{drop-drop, length-drop, take_all}
-use Rattle.ctf_model.specs.Name.{Tables, is_zero, name, table, text, text_at}
+use Rattle.ctf_model.specs.format.Name.{Tables, is_zero, name, table, text, text_at}
 use Rattle.ctf_sections.specs.StringsView.{tables}
 use Rattle.ctf_order.specs.Naming.{naming}
 use Rattle.ctf_order.specs.declared.texts.Texts.{Texts}

@@ -1,6 +1,6 @@
 -- What names are known by. The words are ours.
 use Rattle.std.specs.Prelude.{ℕ, List, [], Option, Some, unwrap_or}
-use Rattle.ctf_model.specs.Name.{name, text_at}
+use Rattle.ctf_model.specs.format.Name.{name, text_at}
 use Rattle.ctf_sections.specs.StringsView.{tables}
 use Rattle.ctf_order.specs.declared.texts.Texts.{Texts}
 use Rattle.ctf_order.specs.declared.texts.Texts.TheVariants.{Dictionary, Program}

@@ -2,15 +2,15 @@
 use Rattle.std.proofs.Common.{◌≡◌, ℕ, zero, suc, ◌+◌, ◌*◌, ◌<◌, ◌≤◌, min, eqb, ltb, true, false, Bool, cond, List, [], ◌∷◌, length, map, Result, Ok, Err, refl, ap, arith}
 use Rattle.std.specs.List.{range_with_len}
 use Rattle.std.proofs.lemmas.Bool.{lt-ltb, eqb-false, ltb-true, ltb-false}
-use Rattle.ctf_model.specs.Figures.{enum_size, incomplete, size}
-use Rattle.ctf_model.specs.MemoryBits.{field, short_memory, signed_value}
-use Rattle.ctf_model.specs.Pieces.{Pieces, ends, followed_by}
-use Rattle.ctf_model.specs.Texts.{signed_decimal}
-use Rattle.ctf_model.specs.Shown.{EncodingParts, encoding_parts}
-use Rattle.ctf_model.specs.Space.{Space, pointer_size, space_type}
-use Rattle.ctf_model.specs.Term.{Body, Enumerator, Member, Term}
-use Rattle.ctf_model.specs.Term as term
-use Rattle.ctf_model.specs.Values.{Shows, body_shown, by_number, by_rule, elements, enum_shown, float_shown, found_shown, integer_shown, integer_value, label, member_shown, name_of_value, raw_shown, raw_text, shown_within}
+use Rattle.ctf_model.specs.figures.Figures.{enum_size, incomplete, size}
+use Rattle.ctf_model.specs.values.MemoryBits.{field, short_memory, signed_value}
+use Rattle.ctf_model.specs.values.Pieces.{Pieces, ends, followed_by}
+use Rattle.ctf_model.specs.dumps.Texts.{signed_decimal}
+use Rattle.ctf_model.specs.format.Shown.{EncodingParts, encoding_parts}
+use Rattle.ctf_model.specs.spaces.Space.{Space, pointer_size, space_type}
+use Rattle.ctf_model.specs.format.Term.{Body, Enumerator, Member, Term}
+use Rattle.ctf_model.specs.format.Term as term
+use Rattle.ctf_model.specs.values.Values.{Shows, body_shown, by_number, by_rule, elements, enum_shown, float_shown, found_shown, integer_shown, integer_value, label, member_shown, name_of_value, raw_shown, raw_text, shown_within}
 use Rattle.ctf_model.specs.declared.data_model.DataModel.{DataModel}
 use Rattle.ctf_model.specs.declared.data_model.DataModel.TheVariants.{Lp64, Ilp32}
 use Rattle.ctf_model.specs.declared.faults.Fault.{Fault}

@@ -3,8 +3,8 @@ use Rattle.std.proofs.Common.{◌≡◌, ℕ, zero, suc, ◌+◌, ◌-◌, ◌*�
 use Rattle.std.proofs.Math.Nat.{div-div-eq-div-mul, zero-div}
 use Rattle.std.proofs.lemmas.Nat.{pow-add, mod-pow-add}
 use Rattle.std.proofs.lemmas.Bool.{ltb-true, ltb-false}
-use Rattle.ctf_model.specs.Bytes.{number}
-use Rattle.ctf_model.specs.MemoryBits.{bits_at}
+use Rattle.ctf_model.specs.format.Bytes.{number}
+use Rattle.ctf_model.specs.values.MemoryBits.{bits_at}
 
 -- a bit more in front of a field
 pub field_more : (x i : ℕ) → x % 2 ^ (i + 1) ≡ (x / 2 % 2 ^ i) * 2 + x % 2

@@ -3,10 +3,10 @@ use Rattle.std.proofs.Common.{◌≡◌, ℕ, zero, suc, [], ◌+◌, ◌-◌, �
 use Rattle.std.proofs.Math.Nat.{div-div-eq-div-mul, mod-lt}
 use Rattle.std.proofs.lemmas.Nat.{pow-add, mod-pow-add, div-mul-add}
 use Rattle.std.proofs.lemmas.Bool.{ltb-true, ltb-false}
-use Rattle.ctf_model.specs.Bytes.{number}
-use Rattle.ctf_model.specs.MemoryBits.{bits_at, hexadecimal}
-use Rattle.ctf_model.specs.Pieces.{followed_by, nothing, piece}
-use Rattle.ctf_model.specs.Texts.{hex_of_byte}
+use Rattle.ctf_model.specs.format.Bytes.{number}
+use Rattle.ctf_model.specs.values.MemoryBits.{bits_at, hexadecimal}
+use Rattle.ctf_model.specs.values.Pieces.{followed_by, nothing, piece}
+use Rattle.ctf_model.specs.dumps.Texts.{hex_of_byte}
 
 -- ---- powers
 

@@ -4,9 +4,9 @@ use Rattle.std.specs.Prelude.{IsSome, slice_get}
 use Rattle.std.specs.Ordering.{int_eq}
 use Rattle.std.specs.Option.{option_map}
 use Rattle.std.proofs.lemmas.List.{drop_all}
-use Rattle.ctf_model.specs.Texts.{signed_decimal}
-use Rattle.ctf_model.specs.Term.{Enumerator}
-use Rattle.ctf_model.specs.Values.{name_of_value}
+use Rattle.ctf_model.specs.dumps.Texts.{signed_decimal}
+use Rattle.ctf_model.specs.format.Term.{Enumerator}
+use Rattle.ctf_model.specs.values.Values.{name_of_value}
 
 from_here : (es : List Enumerator) (i : ℕ) (e : Enumerator) → slice_get es i ≡ Some e → drop i es ≡ e ∷ drop (i + 1) es
 from_here (x ∷ es) zero e h = let same : x ≡ e = cc in rw same refl

@@ -5,7 +5,7 @@ use Rattle.std.proofs.Math.Facts.{to_z_pos, to_z-neg}
 use Rattle.std.proofs.Math.Nat.{pow-le-pow_right}
 use Rattle.std.proofs.lemmas.Nat.Bits.{ones_shr}
 use Rattle.std.proofs.lemmas.Bool.{lt-ltb, le-ltb}
-use Rattle.ctf_model.specs.MemoryBits.{signed_value}
+use Rattle.ctf_model.specs.values.MemoryBits.{signed_value}
 use Rattle.ctf_print.proofs.Digits.{halves, positive}
 
 -- as many ones as there are bits

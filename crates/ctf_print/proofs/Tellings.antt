@@ -2,14 +2,14 @@
 use Rattle.std.proofs.Common.{◌≡◌, ℕ, zero, suc, ◌-◌, List, Option, Some, None, Result, Err, Bool, cond, refl, sym, ap, ◌∙◌, arith}
 use Rattle.std.specs.Option.{option_map}
 use Rattle.std.proofs.lemmas.Bool.{ne_eqb}
-use Rattle.ctf_model.specs.Figures.{incomplete}
-use Rattle.ctf_model.specs.Pieces.{ends}
-use Rattle.ctf_model.specs.Shown.{Shape, shape}
-use Rattle.ctf_model.specs.Space.{Space, space_type}
-use Rattle.ctf_model.specs.Term.{Body, Term}
-use Rattle.ctf_model.specs.Term as term
-use Rattle.ctf_model.specs.TypeNumbers.{or_no_type}
-use Rattle.ctf_model.specs.Values.{Shows, body_shown, by_rule, found_shown, shown_within}
+use Rattle.ctf_model.specs.figures.Figures.{incomplete}
+use Rattle.ctf_model.specs.values.Pieces.{ends}
+use Rattle.ctf_model.specs.format.Shown.{Shape, shape}
+use Rattle.ctf_model.specs.spaces.Space.{Space, space_type}
+use Rattle.ctf_model.specs.format.Term.{Body, Term}
+use Rattle.ctf_model.specs.format.Term as term
+use Rattle.ctf_model.specs.spaces.TypeNumbers.{or_no_type}
+use Rattle.ctf_model.specs.values.Values.{Shows, body_shown, by_rule, found_shown, shown_within}
 use Rattle.ctf_model.specs.declared.faults.Fault.{Fault}
 use Rattle.ctf_print.specs.Telling.{told_in, told_shown}
 

@@ -5,11 +5,11 @@ use Rattle.std.proofs.lemmas.List.{append-nil, drop_more, drop_all, length-map}
 use Rattle.std.specs.Prelude.{slice_get}
 use Rattle.std.specs.List.{range_with_len}
 use Rattle.std.proofs.lemmas.List.FromFn.{length-map-range_with_len, get_or-map-range_with_len}
-use Rattle.ctf_model.specs.Pieces.{Pieces, piece, nothing, ends, goes_on, followed_by, each_behind_comma, separated, answered, ended_by}
-use Rattle.ctf_model.specs.Refusals.{want_of_memory}
-use Rattle.ctf_model.specs.Space.{Space}
-use Rattle.ctf_model.specs.TypeNames.{longest_text, too_long}
-use Rattle.ctf_model.specs.Values.{Shows, elements, label, most_values, shown_within, value_text}
+use Rattle.ctf_model.specs.values.Pieces.{Pieces, piece, nothing, ends, goes_on, followed_by, each_behind_comma, separated, answered, ended_by}
+use Rattle.ctf_model.specs.rules.Refusals.{want_of_memory}
+use Rattle.ctf_model.specs.spaces.Space.{Space}
+use Rattle.ctf_model.specs.names.TypeNames.{longest_text, too_long}
+use Rattle.ctf_model.specs.values.Values.{Shows, elements, label, most_values, shown_within, value_text}
 use Rattle.ctf_model.specs.declared.faults.Fault.{Fault}
 use Rattle.ctf_print.specs.Written.{written, comma_before, separated_from, Refused}
 

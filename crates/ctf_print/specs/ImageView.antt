@@ -1,7 +1,7 @@
 -- What an `Image` shows.
 use Rattle.std.specs.Prelude.{ℕ, List}
-use Rattle.ctf_model.specs.Space.{Space}
-use Rattle.ctf_model.specs.Values.{Shows, shown_within}
+use Rattle.ctf_model.specs.spaces.Space.{Space}
+use Rattle.ctf_model.specs.values.Values.{Shows, shown_within}
 use Rattle.ctf_space.specs.SpaceView.{space_of}
 use Rattle.ctf_print.specs.declared.image.Image.{Image}
 

@@ -1,12 +1,12 @@
 -- How the value of a type is shown, by what its record says. The words are ours.
 use Rattle.std.specs.Prelude.{ℕ, ◌*◌, List, Option, Some, None}
-use Rattle.ctf_model.specs.Figures.{enum_size, incomplete, size as size_of}
-use Rattle.ctf_model.specs.Pieces.{Pieces, ends}
-use Rattle.ctf_model.specs.Shown.{ArrayParts, EncodingParts, Shape, Shown}
-use Rattle.ctf_model.specs.Shown as behind
-use Rattle.ctf_model.specs.Space.{Space, pointer_size}
-use Rattle.ctf_model.specs.Term.{Enumerator, Member}
-use Rattle.ctf_model.specs.Values.{Shows, array_shown, enum_shown, float_shown, integer_shown, members_shown, raw_shown}
+use Rattle.ctf_model.specs.figures.Figures.{enum_size, incomplete, size as size_of}
+use Rattle.ctf_model.specs.values.Pieces.{Pieces, ends}
+use Rattle.ctf_model.specs.format.Shown.{ArrayParts, EncodingParts, Shape, Shown}
+use Rattle.ctf_model.specs.format.Shown as behind
+use Rattle.ctf_model.specs.spaces.Space.{Space, pointer_size}
+use Rattle.ctf_model.specs.format.Term.{Enumerator, Member}
+use Rattle.ctf_model.specs.values.Values.{Shows, array_shown, enum_shown, float_shown, integer_shown, members_shown, raw_shown}
 use Rattle.ctf_model.specs.declared.kinds.Kind.{Kind}
 use Rattle.ctf_model.specs.declared.kinds.Kind.TheVariants.{KUnknown, KInteger, KFloat, KPointer, KArray, KFunction, KStruct, KUnion, KEnum, KForward, KTypedef, KVolatile, KConst, KRestrict}
 

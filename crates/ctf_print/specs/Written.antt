@@ -1,8 +1,8 @@
 -- What is shown, as it is put behind a text. The words are ours.
 use Rattle.std.specs.Prelude.{◌≡◌, ◌⊎◌, ℕ, ◌+◌, ◌==◌, ◌++◌, nat_lt, List, [], ◌∷◌, length, Result, Ok, Err, codes, if◌then◌else◌}
-use Rattle.ctf_model.specs.Pieces.{Pieces, piece, nothing, followed_by, ended_by}
-use Rattle.ctf_model.specs.Refusals.{want_of_memory}
-use Rattle.ctf_model.specs.TypeNames.{longest_text, too_long}
+use Rattle.ctf_model.specs.values.Pieces.{Pieces, piece, nothing, followed_by, ended_by}
+use Rattle.ctf_model.specs.rules.Refusals.{want_of_memory}
+use Rattle.ctf_model.specs.names.TypeNames.{longest_text, too_long}
 use Rattle.ctf_model.specs.declared.faults.Fault.{Fault}
 
 -- a text with what is shown behind it, or why not

@@ -1,8 +1,8 @@
 //! Enums.
 ghost use Rattle.std.specs.Prelude.{◌≡◌, ◌<◌, IfErr, OnOk, Ok};
 ghost use Rattle.std.specs.Ordering.{int_eq};
-ghost use Rattle.ctf_model.specs.Pieces.{piece};
-ghost use Rattle.ctf_model.specs.Values.{enum_shown, name_of_value};
+ghost use Rattle.ctf_model.specs.values.Pieces.{piece};
+ghost use Rattle.ctf_model.specs.values.Values.{enum_shown, name_of_value};
 ghost use Rattle.ctf_print.specs.Telling.{said_size};
 ghost use Rattle.ctf_print.specs.Written.{Refused, written};
 

@@ -17,7 +17,7 @@ pub struct Image<'a> {
 
 impl<'a> Image<'a> {
     ghost use Rattle.std.specs.Prelude.{◌≡◌};
-    ghost use Rattle.ctf_model.specs.Figures.{size as size_of};
+    ghost use Rattle.ctf_model.specs.figures.Figures.{size as size_of};
     ghost use Rattle.ctf_print.specs.ImageView.{types_of};
 
     /// The size in bytes of a value of the type that a number names.

@@ -1,9 +1,9 @@
 //! Integers and floats.
 ghost use Rattle.std.specs.Prelude.{◌≡◌, ◌≤◌, ◌<◌, ◌^◌, decimal, IfErr, OnOk, Ok};
-ghost use Rattle.ctf_model.specs.MemoryBits.{signed_value};
-ghost use Rattle.ctf_model.specs.Pieces.{piece};
-ghost use Rattle.ctf_model.specs.Values.{float_shown, integer_shown, integer_value};
-ghost use Rattle.ctf_model.specs.Texts.{signed_decimal};
+ghost use Rattle.ctf_model.specs.values.MemoryBits.{signed_value};
+ghost use Rattle.ctf_model.specs.values.Pieces.{piece};
+ghost use Rattle.ctf_model.specs.values.Values.{float_shown, integer_shown, integer_value};
+ghost use Rattle.ctf_model.specs.dumps.Texts.{signed_decimal};
 ghost use Rattle.ctf_views.specs.PartsView.{encoding_info};
 ghost use Rattle.ctf_print.specs.Written.{Refused, written};
 

@@ -1,8 +1,8 @@
 //! Shows a value.
 ghost use Rattle.std.specs.Prelude.{◌≡◌, ◌⊎◌, IfErr, OnErr, OnOk, Err, Ok};
 ghost use Rattle.ctf_layout.specs.Fitting.{Fits};
-ghost use Rattle.ctf_model.specs.Refusals.{want_of_memory};
-ghost use Rattle.ctf_model.specs.Values.{value_text};
+ghost use Rattle.ctf_model.specs.rules.Refusals.{want_of_memory};
+ghost use Rattle.ctf_model.specs.values.Values.{value_text};
 ghost use Rattle.ctf_space.specs.SpaceView.{space_of};
 ghost use Rattle.ctf_print.specs.Written.{added};
 

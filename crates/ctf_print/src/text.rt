@@ -1,7 +1,7 @@
 //! A text of bounded length, and how pieces are put behind it.
 ghost use Rattle.std.specs.Prelude.{◌≡◌, [], IfErr, IsOk, OnOk, Err, Ok};
-ghost use Rattle.ctf_model.specs.Pieces.{ends, nothing, piece};
-ghost use Rattle.ctf_model.specs.Values.{label};
+ghost use Rattle.ctf_model.specs.values.Pieces.{ends, nothing, piece};
+ghost use Rattle.ctf_model.specs.values.Values.{label};
 ghost use Rattle.ctf_print.specs.Written.{Refused, comma_before, written};
 
 use ctf_model::{Fault, placeless};

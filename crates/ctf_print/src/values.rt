@@ -1,10 +1,10 @@
 //! Values and the values that they hold. Each shows what it may, up to the longest text; no more
 //! than so many values stand in each other.
 ghost use Rattle.std.specs.Prelude.{◌≡◌, ◌*◌, map, IfErr, OnOk, Ok};
-ghost use Rattle.ctf_model.specs.Figures.{size as size_of};
-ghost use Rattle.ctf_model.specs.Pieces.{separated};
-ghost use Rattle.ctf_model.specs.Space.{pointer_size};
-ghost use Rattle.ctf_model.specs.Values.{array_shown, elements_shown, member_shown, members_shown};
+ghost use Rattle.ctf_model.specs.figures.Figures.{size as size_of};
+ghost use Rattle.ctf_model.specs.values.Pieces.{separated};
+ghost use Rattle.ctf_model.specs.spaces.Space.{pointer_size};
+ghost use Rattle.ctf_model.specs.values.Values.{array_shown, elements_shown, member_shown, members_shown};
 ghost use Rattle.ctf_views.specs.ItemsView.{member as member_seen};
 ghost use Rattle.ctf_print.specs.ImageView.{memory_of, shows, types_of};
 ghost use Rattle.ctf_print.specs.Telling.{told_shown};

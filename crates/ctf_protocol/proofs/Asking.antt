@@ -5,8 +5,8 @@ use Rattle.std.proofs.lemmas.Bool.{lt-ltb, le-ltb}
 use Rattle.std.proofs.lemmas.Str.{IsUtf8-from_is_utf8, is_utf8-from_IsUtf8}
 use Rattle.serde_json.specs.Data.{Data}
 use Rattle.serde_json.specs.Read.{read}
-use Rattle.ctf_protocol.specs.Ask.{ask, value_asked}
-use Rattle.ctf_model.specs.Refusals.{placeless}
+use Rattle.ctf_protocol.specs.lines.Ask.{ask, value_asked}
+use Rattle.ctf_model.specs.rules.Refusals.{placeless}
 use Rattle.ctf_model.specs.declared.faults.TheConstants.Fault.{NOT_JSON, LONG_LINE}
 
 -- a long line is refused as such

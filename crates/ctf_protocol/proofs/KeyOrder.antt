@@ -6,35 +6,35 @@ use Rattle.std.specs.Option.{option_map}
 use Rattle.std.specs.Cmp.Derive.{both_true}
 use Rattle.std.proofs.lemmas.List.{take-append-drop}
 use Rattle.std.proofs.lemmas.List.Folds.{list_all-append}
-use Rattle.ctf_model.specs.Adders.{Added}
-use Rattle.ctf_protocol.specs.Additions.{enlarged, numbered, silent}
-use Rattle.ctf_protocol.specs.Creations.{Created}
-use Rattle.ctf_protocol.specs.DraftSteps.{created_slot, draft_step, enlarges, slot_step, step_if_draft, updates_to}
-use Rattle.ctf_model.specs.Drafts.{Draft, held}
-use Rattle.ctf_protocol.specs.HeldAnswers.{pending_in}
-use Rattle.ctf_model.specs.Written.{written}
+use Rattle.ctf_model.specs.drafts.Adders.{Added}
+use Rattle.ctf_protocol.specs.sessions.Additions.{enlarged, numbered, silent}
+use Rattle.ctf_protocol.specs.sessions.Creations.{Created}
+use Rattle.ctf_protocol.specs.sessions.DraftSteps.{created_slot, draft_step, enlarges, slot_step, step_if_draft, updates_to}
+use Rattle.ctf_model.specs.drafts.Drafts.{Draft, held}
+use Rattle.ctf_protocol.specs.answers.HeldAnswers.{pending_in}
+use Rattle.ctf_model.specs.writing.Written.{written}
 use Rattle.ctf_protocol.specs.declared.additions.Addition.{Addition}
 use Rattle.ctf_protocol.specs.declared.additions.Addition.TheVariants as add
-use Rattle.ctf_protocol.specs.Answers.{Answer, Item, Single, number, truth, word, text, says, may_say}
-use Rattle.ctf_model.specs.Faults.{first_fault}
-use Rattle.ctf_model.specs.Found.{found, pointer_to}
-use Rattle.ctf_model.specs.KindNames.{name_of_kind}
-use Rattle.ctf_model.specs.Figures.{align, referred, resolved, size}
-use Rattle.ctf_protocol.specs.KeyOrder.{item_in_order, in_order, IsInOrder, KeysRise}
-use Rattle.ctf_model.specs.Lists.{Lists}
-use Rattle.ctf_model.specs.Kept.{Kept, fault_over}
-use Rattle.ctf_model.specs.Paths.{path}
-use Rattle.ctf_protocol.specs.Publications.{published_as}
-use Rattle.ctf_protocol.specs.Questions.{at_most, windowed, or_wrong_kind, as_fields, member_fields, member_item, enumerator_fields, enumerator_item, number_item, named_arguments, argument_fields, array_fields, encoding_fields, type_fields, size_fields, align_fields, name_fields, position_fields, value_fields, plain_said, said_on, said_of}
-use Rattle.ctf_protocol.specs.SlotAnswers.{symbol_fields, signature_fields, label_item, last_fields, whole_said}
-use Rattle.ctf_model.specs.SymbolQuestions.{symbol_found, object_of, function_of, label_of}
-use Rattle.ctf_model.specs.Shown.{Facts, facts, members_in, enumerators_in, arguments_in, array_in, encoding_in, list_length}
-use Rattle.ctf_protocol.specs.State.{State, Slot}
-use Rattle.ctf_protocol.specs.Steps.{change_step, with_slot, grants, slots_without, imports_unless, publishes_kept, publishes_slot, imports_into, takes, takes_found, adds_created, creates_over, creates_from, slot_becomes, stages, opens, opens_unless, has_room, accepts_unless, longest_list, slot_at, slot_space, said_by_slot}
-use Rattle.ctf_model.specs.Space.{Space, space_type}
-use Rattle.ctf_model.specs.Term.{Term}
-use Rattle.ctf_model.specs.TypeNames.{spelled_name}
-use Rattle.ctf_model.specs.Values.{value_text}
+use Rattle.ctf_protocol.specs.answers.Answers.{Answer, Item, Single, number, truth, word, text, says, may_say}
+use Rattle.ctf_model.specs.rules.Faults.{first_fault}
+use Rattle.ctf_model.specs.names.Found.{found, pointer_to}
+use Rattle.ctf_model.specs.names.KindNames.{name_of_kind}
+use Rattle.ctf_model.specs.figures.Figures.{align, referred, resolved, size}
+use Rattle.ctf_protocol.specs.answers.KeyOrder.{item_in_order, in_order, IsInOrder, KeysRise}
+use Rattle.ctf_model.specs.format.Lists.{Lists}
+use Rattle.ctf_model.specs.spaces.Kept.{Kept, fault_over}
+use Rattle.ctf_model.specs.figures.Paths.{path}
+use Rattle.ctf_protocol.specs.sessions.Publications.{published_as}
+use Rattle.ctf_protocol.specs.answers.Questions.{at_most, windowed, or_wrong_kind, as_fields, member_fields, member_item, enumerator_fields, enumerator_item, number_item, named_arguments, argument_fields, array_fields, encoding_fields, type_fields, size_fields, align_fields, name_fields, position_fields, value_fields, plain_said, said_on, said_of}
+use Rattle.ctf_protocol.specs.answers.SlotAnswers.{symbol_fields, signature_fields, label_item, last_fields, whole_said}
+use Rattle.ctf_model.specs.symbols.SymbolQuestions.{symbol_found, object_of, function_of, label_of}
+use Rattle.ctf_model.specs.format.Shown.{Facts, facts, members_in, enumerators_in, arguments_in, array_in, encoding_in, list_length}
+use Rattle.ctf_protocol.specs.sessions.State.{State, Slot}
+use Rattle.ctf_protocol.specs.sessions.Steps.{change_step, with_slot, grants, slots_without, imports_unless, publishes_kept, publishes_slot, imports_into, takes, takes_found, adds_created, creates_over, creates_from, slot_becomes, stages, opens, opens_unless, has_room, accepts_unless, longest_list, slot_at, slot_space, said_by_slot}
+use Rattle.ctf_model.specs.spaces.Space.{Space, space_type}
+use Rattle.ctf_model.specs.format.Term.{Term}
+use Rattle.ctf_model.specs.names.TypeNames.{spelled_name}
+use Rattle.ctf_model.specs.values.Values.{value_text}
 use Rattle.ctf_model.specs.declared.data_model.DataModel.{DataModel}
 use Rattle.ctf_model.specs.declared.faults.Fault.{Fault}
 use Rattle.ctf_protocol.specs.declared.questions.Question.TheVariants.{OfType, OfSlot, OfHeld}

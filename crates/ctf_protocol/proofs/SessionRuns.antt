@@ -2,13 +2,13 @@
 use Rattle.std.proofs.Common.{◌≡◌, ◌≢◌, ℕ, List, [], ◌∷◌, map, Bool, true, false, Option, Some, None, option_and_then, eqb, refl, ◌∙◌, ap, sym, subst, arith, ◌⊎◌, inl, inr}
 use Rattle.std.specs.Option.{ForSome}
 use Rattle.std.proofs.lemmas.Bool.Decides.{nat_tests}
-use Rattle.ctf_protocol.specs.Answers.{Reply}
-use Rattle.ctf_model.specs.Kept.{Kept}
-use Rattle.ctf_protocol.specs.Publications.{published_as}
-use Rattle.ctf_protocol.specs.Runs.{Call, Given, Steps, IsGranted, IsRefused, given, found_in, own_state, own_replies, addressed, private_state, private_replies, taken_by}
-use Rattle.ctf_protocol.specs.SessionLaws.{SameGiven, UnreachedDoNotMatter, is_among, TakesFrom, IsClosed, calls_among, Event, Happens, IsReplied, EachStepHappens, granted, calls_of, replies_to, EachRunsAlone}
-use Rattle.ctf_protocol.specs.State.{State}
-use Rattle.ctf_protocol.specs.Steps.{step, Outcome}
+use Rattle.ctf_protocol.specs.answers.Answers.{Reply}
+use Rattle.ctf_model.specs.spaces.Kept.{Kept}
+use Rattle.ctf_protocol.specs.sessions.Publications.{published_as}
+use Rattle.ctf_protocol.specs.sessions.Runs.{Call, Given, Steps, IsGranted, IsRefused, given, found_in, own_state, own_replies, addressed, private_state, private_replies, taken_by}
+use Rattle.ctf_protocol.specs.sessions.SessionLaws.{SameGiven, UnreachedDoNotMatter, is_among, TakesFrom, IsClosed, calls_among, Event, Happens, IsReplied, EachStepHappens, granted, calls_of, replies_to, EachRunsAlone}
+use Rattle.ctf_protocol.specs.sessions.State.{State}
+use Rattle.ctf_protocol.specs.sessions.Steps.{step, Outcome}
 use Rattle.ctf_protocol.specs.declared.requests.Request.{Request}
 
 -- ---- two worlds

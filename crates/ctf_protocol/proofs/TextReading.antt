@@ -7,9 +7,9 @@ use Rattle.std.proofs.Math.Nat.{div-add-mod}
 use Rattle.std.proofs.lemmas.Bool.{ltb-true, ltb-false, le-leb, lt-leb, ne_eqb}
 use Rattle.std.proofs.lemmas.Grind.{flat_map-append}
 use Rattle.std.proofs.lemmas.List.Elements.{All-head, All-tail}
-use Rattle.ctf_model.specs.Texts.{is_plain, hex_digit}
-use Rattle.ctf_protocol.specs.Text.{digit_value, byte_value, and_bytes, text_of_byte, text_of, bytes_spelled_by}
-use Rattle.ctf_protocol.specs.TextLaws.{written_byte, written, in_json, LinesHaveTheText, TextsAreReadBack}
+use Rattle.ctf_model.specs.dumps.Texts.{is_plain, hex_digit}
+use Rattle.ctf_protocol.specs.lines.Text.{digit_value, byte_value, and_bytes, text_of_byte, text_of, bytes_spelled_by}
+use Rattle.ctf_protocol.specs.lines.TextLaws.{written_byte, written, in_json, LinesHaveTheText, TextsAreReadBack}
 
 -- ---- plain bytes
 

@@ -1,6 +1,6 @@
 //! What may be added to a draft, by the words of requests.
 ghost use Rattle.std.specs.Prelude.{◌≡◌};
-ghost use Rattle.ctf_protocol.specs.Addables.{addable_named};
+ghost use Rattle.ctf_protocol.specs.words.Addables.{addable_named};
 
 /// What may be added to a draft: a type of one of the kinds, or a part of what is there.
 #[derive(Clone, Copy, Debug, PartialEq, Eq)]

@@ -17,7 +17,7 @@ pub struct Creation {
 
 impl Model for Creation {
     ghost use Rattle.std.specs.Prelude.{◌≡◌, ◌==◌, not, is_some, length};
-    ghost use Rattle.ctf_protocol.specs.Creations.{Created};
+    ghost use Rattle.ctf_protocol.specs.sessions.Creations.{Created};
 
     ghost Value = { Created };
 
@@ -32,7 +32,7 @@ impl Model for Creation {
 }
 
 impl Creation {
-    ghost use Rattle.ctf_protocol.specs.Creations.{creation};
+    ghost use Rattle.ctf_protocol.specs.sessions.Creations.{creation};
 
     /// The draft of these, if it has a parent just where that has a name.
     pub fn new(

@@ -1,7 +1,7 @@
 //! Laws over the definitions of answers and texts. Each is the contract of a function that does
 //! nothing.
-ghost use Rattle.ctf_protocol.specs.KeyOrder.{KeysRise};
-ghost use Rattle.ctf_protocol.specs.TextLaws.{LinesHaveTheText, TextsAreReadBack};
+ghost use Rattle.ctf_protocol.specs.answers.KeyOrder.{KeysRise};
+ghost use Rattle.ctf_protocol.specs.lines.TextLaws.{LinesHaveTheText, TextsAreReadBack};
 
 /// The keys of each answer, and of each object in it, stand in byte order, whatever was asked of
 /// which library.

@@ -1,7 +1,7 @@
 //! Names of publications.
 ghost use Rattle.std.specs.Prelude.{◌≡◌, IfOk, IfSome, is_some};
 ghost use Rattle.std.specs.List.{list_all};
-ghost use Rattle.ctf_protocol.specs.Publications.{is_publication_name, is_name_byte};
+ghost use Rattle.ctf_protocol.specs.sessions.Publications.{is_publication_name, is_name_byte};
 
 use std::alloc::{AllocError, Global};
 use std::marker::Model;
@@ -17,7 +17,7 @@ pub struct PublicationName {
 
 impl Model for PublicationName {
     ghost use Rattle.std.specs.Prelude.{◌≡◌, ℕ, List, true};
-    ghost use Rattle.ctf_protocol.specs.Publications.{is_publication_name};
+    ghost use Rattle.ctf_protocol.specs.sessions.Publications.{is_publication_name};
 
     ghost Value = { List ℕ };
 

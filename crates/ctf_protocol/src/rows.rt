@@ -1,10 +1,10 @@
 //! Worked rows: what the definitions say of small inputs. Each is the contract of a function that
 //! does nothing.
-ghost use Rattle.ctf_protocol.specs.MeetingRows.{MeetingsAreAsked, SessionsMeet};
-ghost use Rattle.ctf_protocol.specs.ParentRows.{ParentsAreImported, SlotsAreClosed};
-ghost use Rattle.ctf_protocol.specs.QuestionRows.{PathsAreLines, QuestionsAreAnswered, QuestionsAreLines, TextsSpell};
-ghost use Rattle.ctf_protocol.specs.WordRows.{WordsAreWritten};
-ghost use Rattle.ctf_protocol.specs.SessionRows.{LinesAsk, LinesSay, OutputIs, SessionRuns};
+ghost use Rattle.ctf_protocol.specs.sessions.MeetingRows.{MeetingsAreAsked, SessionsMeet};
+ghost use Rattle.ctf_protocol.specs.sessions.ParentRows.{ParentsAreImported, SlotsAreClosed};
+ghost use Rattle.ctf_protocol.specs.answers.QuestionRows.{PathsAreLines, QuestionsAreAnswered, QuestionsAreLines, TextsSpell};
+ghost use Rattle.ctf_protocol.specs.words.WordRows.{WordsAreWritten};
+ghost use Rattle.ctf_protocol.specs.sessions.SessionRows.{LinesAsk, LinesSay, OutputIs, SessionRuns};
 
 /// How each word is written.
 pub fn words_are_written()

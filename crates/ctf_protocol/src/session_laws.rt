@@ -1,5 +1,5 @@
 //! Laws over the runs of many sessions. Each is the contract of a function that does nothing.
-ghost use Rattle.ctf_protocol.specs.SessionLaws.{EachRunsAlone, EachStepHappens, SameGiven, UnreachedDoNotMatter};
+ghost use Rattle.ctf_protocol.specs.sessions.SessionLaws.{EachRunsAlone, EachStepHappens, SameGiven, UnreachedDoNotMatter};
 
 /// What a session was given decides its replies and its library: its own requests, and what its
 /// takes found.

@@ -1,6 +1,6 @@
 //! The words of requests.
 ghost use Rattle.std.specs.Prelude.{◌≡◌, map};
-ghost use Rattle.ctf_protocol.specs.Words.{words as all_words, word_named};
+ghost use Rattle.ctf_protocol.specs.words.Words.{words as all_words, word_named};
 
 use crate::questions::{HeldQuestion, PlainQuestion};
 
@@ -92,7 +92,7 @@ fn find(table: &[(&str, Word)], text: &str) -> Option<Word>
 
 impl Word {
     /// The word that a text is.
-    #[tactic(auto, unfolding(crate::specs::Words::words))]
+    #[tactic(auto, unfolding(crate::specs::words::Words::words))]
     pub fn named(text: &str) -> Option<Word>
         ensures { result ≡ word_named text.now all_words }
     {

@@ -2,8 +2,8 @@
 use Rattle.std.proofs.Common.{◌≡◌, ℕ, zero, suc, ◌+◌, ◌*◌, ◌<◌, ◌≤◌, List, length, drop, Option, Some, Bool, true, false, cond, ltb, refl, sym, ap, ◌∙◌, arith}
 use Rattle.std.specs.Prelude.{slice_index}
 use Rattle.std.proofs.lemmas.List.{drop-drop}
-use Rattle.ctf_model.specs.Bytes.{u16_at}
-use Rattle.ctf_model.specs.Record.{kind, size, vlen, member_len, behind_head}
+use Rattle.ctf_model.specs.format.Bytes.{u16_at}
+use Rattle.ctf_model.specs.format.Record.{kind, size, vlen, member_len, behind_head}
 use Rattle.ctf_model.specs.declared.kinds.Kind.{Kind}
 use Rattle.ctf_model.specs.declared.kinds.Kind.TheVariants.{KUnknown, KInteger, KFloat, KPointer, KArray, KFunction, KStruct, KUnion, KEnum, KForward, KTypedef, KVolatile, KConst, KRestrict}
 use Rattle.ctf_records.specs.ByKind.{listed, len_behind}

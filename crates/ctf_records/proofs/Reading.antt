@@ -1,7 +1,7 @@
 -- Reading record by record.
 use Rattle.std.proofs.Common.{◌≡◌, ◌<◌, List, ◌∷◌, length, Some, Result, sym, subst, arith}
 use Rattle.std.specs.Iterator.{MakesProgress, item_count}
-use Rattle.ctf_model.specs.Section.{Piece}
+use Rattle.ctf_model.specs.format.Section.{Piece}
 use Rattle.ctf_model.specs.declared.faults.Fault.{Fault}
 
 -- an iterator that gives its first item makes progress

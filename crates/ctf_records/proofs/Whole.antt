@@ -3,8 +3,8 @@ use Rattle.std.proofs.Common.{◌≡◌, ℕ, ◌-◌, ◌≤◌, true, List, []
 use Rattle.std.specs.Prelude.{MatchOption, is_some}
 use Rattle.std.proofs.lemmas.Bool.{lt-ltb}
 use Rattle.std.proofs.lemmas.List.{append-nil, length-drop, take_all}
-use Rattle.ctf_model.specs.Record.{IsWhole, IsWholeAt, head_len, variant_len, size, vlen, kind, behind_head}
-use Rattle.ctf_model.specs.Section.{front_len}
+use Rattle.ctf_model.specs.format.Record.{IsWhole, IsWholeAt, head_len, variant_len, size, vlen, kind, behind_head}
+use Rattle.ctf_model.specs.format.Section.{front_len}
 use Rattle.ctf_model.specs.declared.kinds.Kind.{Kind}
 use Rattle.ctf_model.proofs.Cut.{front_len-whole, front_whole}
 use Rattle.ctf_records.specs.ByKind.{at_kind, len_behind}

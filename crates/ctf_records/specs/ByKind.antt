@@ -2,9 +2,9 @@
 -- and what stands behind the head, go by kind.
 use Rattle.std.specs.Prelude.{ℕ, List, Option, Some, None}
 use Rattle.std.specs.Option.{option_and_then}
-use Rattle.ctf_model.specs.Record.{kind, field, size, vlen, variant_len}
-use Rattle.ctf_model.specs.Spelling.{tag}
-use Rattle.ctf_model.specs.Term.{Tag}
+use Rattle.ctf_model.specs.format.Record.{kind, field, size, vlen, variant_len}
+use Rattle.ctf_model.specs.format.Spelling.{tag}
+use Rattle.ctf_model.specs.format.Term.{Tag}
 use Rattle.ctf_model.specs.declared.kinds.Kind.{Kind}
 use Rattle.ctf_model.specs.declared.kinds.Kind.TheVariants.{KInteger, KFloat, KPointer, KArray, KFunction, KStruct, KUnion, KEnum, KForward, KTypedef, KVolatile, KConst, KRestrict}
 

@@ -1,8 +1,8 @@
 -- The types that stand behind the head of a record, as numbers and without any names.
 -- Source: ctf(5), "The Type Section"; ctf_array_t, ctf_member_t, ctf_lmember_t of sys/ctf.h.
 use Rattle.std.specs.Prelude.{ℕ, zero, suc, List, [], ◌∷◌, drop, Option, Some, None}
-use Rattle.ctf_model.specs.Bytes.{u16_at}
-use Rattle.ctf_model.specs.Record.{kind, size, vlen, member_len, behind_head}
+use Rattle.ctf_model.specs.format.Bytes.{u16_at}
+use Rattle.ctf_model.specs.format.Record.{kind, size, vlen, member_len, behind_head}
 use Rattle.ctf_model.specs.declared.kinds.Kind.{Kind}
 use Rattle.ctf_model.specs.declared.kinds.Kind.TheVariants.{KArray, KFunction, KStruct, KUnion}
 

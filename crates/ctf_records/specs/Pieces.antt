@@ -1,6 +1,6 @@
 -- The records of a section by their numbers.
 use Rattle.std.specs.Prelude.{ℕ, ◌==◌, List, [], ◌∷◌, Option, Some, None, Result, Ok, Err, if◌then◌else◌}
-use Rattle.ctf_model.specs.Section.{Piece}
+use Rattle.ctf_model.specs.format.Section.{Piece}
 use Rattle.ctf_model.specs.declared.faults.Fault.{Fault}
 
 -- the record with a number, if it is read before a fault

@@ -1,8 +1,8 @@
 -- What a lent record shows. The words are ours; what its bytes say is in Record.antt of ctf_model.
 use Rattle.std.specs.Prelude.{ℕ, List, take, drop, Option, Result, Ok, Err}
 use Rattle.std.specs.Option.{option_map}
-use Rattle.ctf_model.specs.Section.{Piece, front_len}
-use Rattle.ctf_model.specs.Term as term
+use Rattle.ctf_model.specs.format.Section.{Piece, front_len}
+use Rattle.ctf_model.specs.format.Term as term
 use Rattle.ctf_model.specs.declared.faults.Fault.{Fault}
 use Rattle.ctf_records.specs.declared.record.Record.{Record}
 use Rattle.ctf_records.specs.declared.tag.Tag.{Tag}

@@ -2,7 +2,7 @@
 ghost use Rattle.std.specs.Prelude.{◌≡◌};
 ghost use Rattle.std.specs.Option.{option_map};
 ghost use Rattle.std.specs.Iterator.{YieldsFirstBy, item_count};
-ghost use Rattle.ctf_model.specs.Section.{records, stop_code};
+ghost use Rattle.ctf_model.specs.format.Section.{records, stop_code};
 ghost use Rattle.ctf_records.specs.RecordView.{piece, result_piece};
 ghost use Rattle.ctf_records.specs.Pieces.{piece_numbered};
 
@@ -22,7 +22,7 @@ pub struct Records<'a> {
 
 impl<'a> Model for Records<'a> {
     ghost use Rattle.std.specs.Prelude.{◌≤◌, ◌+◌, ◌^◌, length, List, Result};
-    ghost use Rattle.ctf_model.specs.Section.{Piece, walk};
+    ghost use Rattle.ctf_model.specs.format.Section.{Piece, walk};
     ghost use Rattle.ctf_model.specs.declared.faults.Fault.{Fault};
 
     ghost Value = { List (Result Piece Fault) };

@@ -1,7 +1,7 @@
 //! The head of the record that begins some bytes, and where that record ends.
 ghost use Rattle.std.specs.Prelude.{◌≡◌, ◌≤◌, length, slice_get};
-ghost use Rattle.ctf_model.specs.Record.{kinds, kind, size, vlen, head_len, variant_len};
-ghost use Rattle.ctf_model.specs.Section.{front_len as front_of};
+ghost use Rattle.ctf_model.specs.format.Record.{kinds, kind, size, vlen, head_len, variant_len};
+ghost use Rattle.ctf_model.specs.format.Section.{front_len as front_of};
 
 use crate::listed::member_len;
 use ctf_model::Kind;
@@ -81,7 +81,7 @@ fn variant_len_of(kind: Kind, size: u64, vlen: usize) -> usize
 }
 
 /// The length of the whole record that begins some bytes, if one does.
-#[tactic(auto, unfolding(ctf_model::specs::Section::front_len))]
+#[tactic(auto, unfolding(ctf_model::specs::format::Section::front_len))]
 pub(crate) fn front_len(bytes: &[u8]) -> Option<usize>
     ensures { result ≡ front_of bytes.now }
 {

@@ -1,6 +1,6 @@
 //! The types that stand behind the head of a record, and how long its members are.
 ghost use Rattle.std.specs.Prelude.{◌≡◌, ◌*◌, ◌+◌, ◌≤◌, ◌<◌, length, slice_index};
-ghost use Rattle.ctf_model.specs.Record.{member_len as len_of_member, size};
+ghost use Rattle.ctf_model.specs.format.Record.{member_len as len_of_member, size};
 ghost use Rattle.ctf_records.specs.ListedTypes.{numbers_in, listed_types};
 ghost use Rattle.ctf_records.specs.RecordView.{bytes_of};
 

@@ -1,7 +1,7 @@
 //! The record that begins at a place of a section.
 ghost use Rattle.std.specs.Prelude.{◌≡◌, ◌≤◌, ◌+◌, ◌^◌, take, Some};
 ghost use Rattle.std.specs.Option.{option_map};
-ghost use Rattle.ctf_model.specs.Section.{front_len as front_of};
+ghost use Rattle.ctf_model.specs.format.Section.{front_len as front_of};
 ghost use Rattle.ctf_records.specs.RecordView.{piece, piece_at};
 
 use crate::front::front_len;

@@ -1,9 +1,9 @@
 //! A whole type record, and what its head says.
 ghost use Rattle.std.specs.Prelude.{◌≡◌, ◌≤◌, ◌+◌, ◌^◌, length, IsTrue, is_some, Some};
 ghost use Rattle.std.specs.Option.{option_map};
-ghost use Rattle.ctf_model.specs.Record.{kind as kind_in, head_len, is_root, is_long as is_long_in, behind_head};
-ghost use Rattle.ctf_model.specs.Bytes.{u32_at as number32_at};
-ghost use Rattle.ctf_model.specs.Section.{front_len};
+ghost use Rattle.ctf_model.specs.format.Record.{kind as kind_in, head_len, is_root, is_long as is_long_in, behind_head};
+ghost use Rattle.ctf_model.specs.format.Bytes.{u32_at as number32_at};
+ghost use Rattle.ctf_model.specs.format.Section.{front_len};
 
 use crate::front::{head_len_of, kind_of, size_of, vlen_of};
 use crate::tag::Tag;

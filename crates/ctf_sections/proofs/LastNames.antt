@@ -5,7 +5,7 @@ use Rattle.std.proofs.lemmas.Bool.{false_from_ne_true, cases_lt, le-leb, lt-leb}
 use Rattle.std.proofs.lemmas.List.{get_or_default, get_or-drop}
 use Rattle.std.proofs.lemmas.List.Folds.{list_any_at, list_any_none}
 use Rattle.memchr.specs.Find.{IsLastByte, is_byte}
-use Rattle.ctf_model.specs.Name.{is_zero, text_at}
+use Rattle.ctf_model.specs.format.Name.{is_zero, text_at}
 
 none_from : (bytes : List ℕ) (at : ℕ) → ((k : ℕ) → at ≤ k → k < length bytes → is_zero (get_or bytes k 0) ≡ false) → is_none (text_at (Some bytes) at) ≡ true
 none_from bytes at h = rw (list_any_none is_zero (drop at bytes) (λ k d lt. here k d lt)) refl

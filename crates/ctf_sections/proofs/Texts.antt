@@ -9,7 +9,7 @@ use Rattle.std.proofs.lemmas.List.{get_or_default, take_all}
 use Rattle.std.proofs.lemmas.List.Folds.{list_any_at, list_any_none}
 use Rattle.std.proofs.lemmas.List.Sums.{position_or_len_is}
 use Rattle.memchr.specs.Find.{IsFirstByte, is_byte}
-use Rattle.ctf_model.specs.Name.{is_zero, text}
+use Rattle.ctf_model.specs.format.Name.{is_zero, text}
 use Rattle.ctf_sections.specs.ShortNames.{if_short}
 
 -- inside a list the default doesn't count

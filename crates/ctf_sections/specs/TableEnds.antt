@@ -1,7 +1,7 @@
 -- Where the names of a table end. Source: ctf(5), "String Identifiers":
 -- a name ends with a zero byte.
 use Rattle.std.specs.Prelude.{◌≡◌, ℕ, List, Option, is_none, nat_le}
-use Rattle.ctf_model.specs.Name.{text_at}
+use Rattle.ctf_model.specs.format.Name.{text_at}
 
 -- what begins there or later in the table is no name, and what begins before is one
 abbrev pub EndsAt : Option (List ℕ) → ℕ → Type 0

@@ -1,6 +1,6 @@
 //! Numbers in bytes, the low byte first.
 ghost use Rattle.std.specs.Prelude.{◌≡◌, ◌+◌, ◌≤◌, length};
-ghost use Rattle.ctf_model.specs.Bytes.{u16_at as number16_at, u32_at as number32_at, u64_at as number64_at};
+ghost use Rattle.ctf_model.specs.format.Bytes.{u16_at as number16_at, u32_at as number32_at, u64_at as number64_at};
 
 use byteorder::{ByteOrder, LittleEndian};
 

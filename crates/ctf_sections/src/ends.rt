@@ -1,7 +1,7 @@
 //! Where names end.
 ghost use Rattle.std.specs.Prelude.{◌≡◌, Some};
 ghost use Rattle.std.specs.List.{before_first};
-ghost use Rattle.ctf_model.specs.Name.{is_zero};
+ghost use Rattle.ctf_model.specs.format.Name.{is_zero};
 ghost use Rattle.ctf_sections.specs.TableEnds.{EndsAt};
 
 use memchr::{memchr, memrchr};

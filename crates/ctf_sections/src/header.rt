@@ -1,7 +1,7 @@
 //! The 36 bytes at the front of a dictionary, and where they say that its sections lie.
 ghost use Rattle.std.specs.Prelude.{◌≡◌, ◌+◌, ◌≤◌, length, IfOk, IfErr, OnOk, Some, None};
-ghost use Rattle.ctf_model.specs.Header.{Fields, fields, range_of};
-ghost use Rattle.ctf_model.specs.Faults.{header_fault, is_out_of_order as out_of_order, is_misaligned as misaligned};
+ghost use Rattle.ctf_model.specs.format.Header.{Fields, fields, range_of};
+ghost use Rattle.ctf_model.specs.rules.Faults.{header_fault, is_out_of_order as out_of_order, is_misaligned as misaligned};
 
 use crate::bytes::{u16_at, u32_at};
 use ctf_model::{Fault, Section, placeless};
@@ -62,7 +62,7 @@ pub struct Header {
 }
 
 impl Model for Header {
-    ghost use Rattle.ctf_model.specs.Header.{Fields};
+    ghost use Rattle.ctf_model.specs.format.Header.{Fields};
     ghost use Rattle.ctf_sections.specs.HeaderView.{fields_of, numbers_of, IsInOrder};
 
     ghost Value = { Fields };

@@ -1,6 +1,6 @@
 //! The two tables that names stand in, and the names that references name there.
 ghost use Rattle.std.specs.Prelude.{◌≡◌, ◌+◌, Some, option_copied, take};
-ghost use Rattle.ctf_model.specs.Name.{name as named, table as table_of, text_at};
+ghost use Rattle.ctf_model.specs.format.Name.{name as named, table as table_of, text_at};
 ghost use Rattle.ctf_sections.specs.ShortNames.{if_short};
 
 use memchr::memchr;

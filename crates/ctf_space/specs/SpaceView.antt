@@ -1,10 +1,10 @@
 -- What a lent space shows.
 use Rattle.std.specs.Prelude.{Option, Some, None}
 use Rattle.std.specs.Option.{option_map}
-use Rattle.ctf_model.specs.Dictionary.{Dictionary}
-use Rattle.ctf_model.specs.Space as spaces
+use Rattle.ctf_model.specs.format.Dictionary.{Dictionary}
+use Rattle.ctf_model.specs.spaces.Space as spaces
 use Rattle.ctf_model.specs.declared.data_model.DataModel.{DataModel}
-use Rattle.ctf_model.specs.Lists.{Lists}
+use Rattle.ctf_model.specs.format.Lists.{Lists}
 use Rattle.ctf_check.specs.CheckedView.{dictionary_of, lists_of}
 use Rattle.ctf_space.specs.declared.space.Space.{Space}
 

@@ -1,9 +1,9 @@
 -- What a type that was found shows. The words are ours.
 use Rattle.std.specs.Prelude.{ℕ, List, Option, Result, Ok, Err}
-use Rattle.ctf_model.specs.Shown.{Shown, shown}
-use Rattle.ctf_model.specs.Imports.{Modelled, import_fault}
-use Rattle.ctf_model.specs.Term.{Term}
-use Rattle.ctf_model.specs.TypeNumbers.{or_no_type}
+use Rattle.ctf_model.specs.format.Shown.{Shown, shown}
+use Rattle.ctf_model.specs.spaces.Imports.{Modelled, import_fault}
+use Rattle.ctf_model.specs.format.Term.{Term}
+use Rattle.ctf_model.specs.spaces.TypeNumbers.{or_no_type}
 use Rattle.ctf_model.specs.declared.data_model.DataModel.{DataModel}
 use Rattle.ctf_model.specs.declared.faults.Fault.{Fault}
 use Rattle.ctf_check.specs.CheckedView.{dictionary_of}

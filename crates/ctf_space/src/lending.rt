@@ -1,6 +1,6 @@
 //! Owned lists, lent.
 ghost use Rattle.std.specs.Prelude.{◌≡◌, option_copied};
-ghost use Rattle.ctf_model.specs.OwnedLists.{lists_owned};
+ghost use Rattle.ctf_model.specs.format.OwnedLists.{lists_owned};
 ghost use Rattle.ctf_check.specs.ListsView.{lists_in};
 
 use ctf_check::LentLists;

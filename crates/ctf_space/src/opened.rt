@@ -1,10 +1,10 @@
 //! A dictionary that was opened: it owns its lists.
 ghost use Rattle.std.specs.Prelude.{◌≡◌, ◌⊎◌, IfOk, IfErr, OnOk, None, Some, length};
 ghost use Rattle.ctf_chains.specs.Starts.{starts_in};
-ghost use Rattle.ctf_model.specs.Dictionary.{said_by};
-ghost use Rattle.ctf_model.specs.Faults.{first_fault, types as types_of};
-ghost use Rattle.ctf_model.specs.OwnedLists.{lists_owned};
-ghost use Rattle.ctf_model.specs.Refusals.{want_of_memory};
+ghost use Rattle.ctf_model.specs.format.Dictionary.{said_by};
+ghost use Rattle.ctf_model.specs.rules.Faults.{first_fault, types as types_of};
+ghost use Rattle.ctf_model.specs.format.OwnedLists.{lists_owned};
+ghost use Rattle.ctf_model.specs.rules.Refusals.{want_of_memory};
 ghost use Rattle.ctf_check.specs.CheckedView.{lists_of};
 ghost use Rattle.ctf_check.specs.ListsView.{lists_in};
 
@@ -29,9 +29,9 @@ pub struct Opened {
 impl Model for Opened {
     ghost use Rattle.std.specs.Prelude.{◌≡◌, None};
     ghost use Rattle.ctf_chains.specs.Starts.{starts_in};
-    ghost use Rattle.ctf_model.specs.Faults.{first_fault, types as types_of};
-    ghost use Rattle.ctf_model.specs.OwnedLists.{lists_owned};
-    ghost use Rattle.ctf_model.specs.Kept.{Kept};
+    ghost use Rattle.ctf_model.specs.rules.Faults.{first_fault, types as types_of};
+    ghost use Rattle.ctf_model.specs.format.OwnedLists.{lists_owned};
+    ghost use Rattle.ctf_model.specs.spaces.Kept.{Kept};
 
     ghost Value = { Kept };
 

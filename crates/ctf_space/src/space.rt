@@ -2,9 +2,9 @@
 ghost use Rattle.std.specs.Prelude.{◌≡◌, ◌<◌, IfOk, IfErr, OnOk, None, Some, false, length, slice_get};
 ghost use Rattle.std.specs.Result.{result_map_both};
 ghost use Rattle.std.specs.Option.{ForSome, option_map};
-ghost use Rattle.ctf_model.specs.Imports.{import_fault, of_one_model};
-ghost use Rattle.ctf_model.specs.Space.{space_type};
-ghost use Rattle.ctf_model.specs.TypeNumbers.{or_no_type};
+ghost use Rattle.ctf_model.specs.spaces.Imports.{import_fault, of_one_model};
+ghost use Rattle.ctf_model.specs.spaces.Space.{space_type};
+ghost use Rattle.ctf_model.specs.spaces.TypeNumbers.{or_no_type};
 ghost use Rattle.ctf_check.specs.CheckedView.{dictionary_of, lists_of};
 ghost use Rattle.ctf_space.specs.TypeView.{type_found};
 

@@ -6,13 +6,13 @@ use Rattle.std.proofs.lemmas.Bool.{ltb-true, ltb-false, ne_eqb}
 use Rattle.std.proofs.lemmas.Bool.Decides.{Decides-eqb}
 use Rattle.std.proofs.lemmas.List.{length-drop, drop-drop, get_or-drop, nil_from_length}
 use Rattle.std.proofs.lemmas.Option.{same_Some, slice_get_past}
-use Rattle.ctf_model.specs.Dictionary.{said_by}
-use Rattle.ctf_model.specs.Entries.{Told, Signature, entries, entries_of, is_bad_entry, type_in, signature_in}
-use Rattle.ctf_model.specs.Header.{section}
-use Rattle.ctf_model.specs.Lists.{Lists}
-use Rattle.ctf_model.specs.Refusals.{placeless}
-use Rattle.ctf_model.specs.SymbolQuestions.{told_of, type_told, signature_told, or_refused, object_of, function_of, name_of_symbol}
-use Rattle.ctf_model.specs.Symbols.{Symbol, symbol_of, symbols_in, symbols_of, symbols, considered, is_object, is_function}
+use Rattle.ctf_model.specs.format.Dictionary.{said_by}
+use Rattle.ctf_model.specs.symbols.Entries.{Told, Signature, entries, entries_of, is_bad_entry, type_in, signature_in}
+use Rattle.ctf_model.specs.format.Header.{section}
+use Rattle.ctf_model.specs.format.Lists.{Lists}
+use Rattle.ctf_model.specs.rules.Refusals.{placeless}
+use Rattle.ctf_model.specs.symbols.SymbolQuestions.{told_of, type_told, signature_told, or_refused, object_of, function_of, name_of_symbol}
+use Rattle.ctf_model.specs.symbols.Symbols.{Symbol, symbol_of, symbols_in, symbols_of, symbols, considered, is_object, is_function}
 use Rattle.ctf_model.specs.declared.sections.Section.TheVariants.{SObjects, SFunctions}
 use Rattle.ctf_entries.proofs.Telling.{no_signature}
 use Rattle.ctf_entries.specs.Sound.{bad_place}

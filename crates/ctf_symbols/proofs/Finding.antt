@@ -10,15 +10,15 @@ use Rattle.std.proofs.lemmas.Option.{same_Some}
 use Rattle.std.proofs.lemmas.Slice.Eq.{bytes_eq-Decides}
 use Rattle.ctf_model.proofs.Denoted.{denotes_said}
 use Rattle.ctf_model.proofs.SymbolRules.{AreRising, considered_rising}
-use Rattle.ctf_model.specs.Dictionary.{Label, said_by}
-use Rattle.ctf_model.specs.Entries as told
-use Rattle.ctf_model.specs.Entries.{Owner, owner, owner_of}
-use Rattle.ctf_model.specs.Faults.{first_fault}
-use Rattle.ctf_model.specs.Lists.{Lists, tables}
-use Rattle.ctf_model.specs.Name.{name}
-use Rattle.ctf_model.specs.Refusals.{placeless}
-use Rattle.ctf_model.specs.SymbolQuestions.{entry_named, label_of, last_of_label}
-use Rattle.ctf_model.specs.Symbols.{Symbol, class_of, considered, considered_from, is_considered, symbols}
+use Rattle.ctf_model.specs.format.Dictionary.{Label, said_by}
+use Rattle.ctf_model.specs.symbols.Entries as told
+use Rattle.ctf_model.specs.symbols.Entries.{Owner, owner, owner_of}
+use Rattle.ctf_model.specs.rules.Faults.{first_fault}
+use Rattle.ctf_model.specs.format.Lists.{Lists, tables}
+use Rattle.ctf_model.specs.format.Name.{name}
+use Rattle.ctf_model.specs.rules.Refusals.{placeless}
+use Rattle.ctf_model.specs.symbols.SymbolQuestions.{entry_named, label_of, last_of_label}
+use Rattle.ctf_model.specs.symbols.Symbols.{Symbol, class_of, considered, considered_from, is_considered, symbols}
 use Rattle.ctf_model.specs.declared.faults.TheConstants.Fault.{NO_LABEL}
 use Rattle.ctf_model.specs.declared.symbols.SymbolClass.TheVariants.{Object, Function}
 use Rattle.ctf_order.specs.Holding.{Fits, IsFound, IsLeast, IsNamed}

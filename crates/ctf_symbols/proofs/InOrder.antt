@@ -1,8 +1,8 @@
 -- The orders that a map is built with are those of its dictionary.
 use Rattle.std.proofs.Common.{◌≡◌, ℕ, List, [], Option, ◌∙◌}
 use Rattle.std.specs.Prelude.{unwrap_or}
-use Rattle.ctf_model.specs.Lists.{Lists}
-use Rattle.ctf_model.specs.Symbols.{considered, symbols, symbols_of}
+use Rattle.ctf_model.specs.format.Lists.{Lists}
+use Rattle.ctf_model.specs.symbols.Symbols.{considered, symbols, symbols_of}
 use Rattle.ctf_order.specs.Holding.{Fits}
 use Rattle.ctf_order.specs.Naming.{Naming}
 use Rattle.ctf_order.specs.declared.entries.Entry.{Entry}

@@ -3,15 +3,15 @@ use Rattle.std.proofs.Common.{◌≡◌, ℕ, suc, ◌+◌, ◌-◌, ◌/◌, �
 use Rattle.std.specs.Prelude.{◌==◌, ◌&&◌, ◌||◌, nat_le, not, unwrap_or}
 use Rattle.std.specs.List.{enumerate_from}
 use Rattle.std.proofs.lemmas.List.{append-nil, append_assoc, length-drop}
-use Rattle.ctf_model.specs.Bytes.{u32_at}
+use Rattle.ctf_model.specs.format.Bytes.{u32_at}
 use Rattle.ctf_model.proofs.Denoted.{denotes_said}
-use Rattle.ctf_model.specs.Dictionary.{AreLabels, Label, labels_in, name_or_empty, said_by}
-use Rattle.ctf_model.specs.Faults.{first_fault}
-use Rattle.ctf_model.specs.Header.{section}
-use Rattle.ctf_model.specs.Lists.{Lists, tables}
+use Rattle.ctf_model.specs.format.Dictionary.{AreLabels, Label, labels_in, name_or_empty, said_by}
+use Rattle.ctf_model.specs.rules.Faults.{first_fault}
+use Rattle.ctf_model.specs.format.Header.{section}
+use Rattle.ctf_model.specs.format.Lists.{Lists, tables}
 use Rattle.ctf_model.specs.declared.sections.Section.TheVariants.{SLabels}
-use Rattle.ctf_model.specs.Name.{Tables, name, text_at}
-use Rattle.ctf_model.specs.Symbols.{Symbol, is_absolute_zero, is_considered, is_function, is_mark, is_named, is_object, symbol_name, symbol_of}
+use Rattle.ctf_model.specs.format.Name.{Tables, name, text_at}
+use Rattle.ctf_model.specs.symbols.Symbols.{Symbol, is_absolute_zero, is_considered, is_function, is_mark, is_named, is_object, symbol_name, symbol_of}
 use Rattle.ctf_order.specs.Naming.{Naming}
 use Rattle.ctf_order.specs.declared.entries.Entry.{Entry}
 use Rattle.ctf_symbols.specs.Named.{AreItems, called_label, program_names}

@@ -1,8 +1,8 @@
 -- How much is left behind one symbol.
 use Rattle.std.proofs.Common.{◌≡◌, ℕ, ◌+◌, ◌<◌, ◌≤◌, true, false, List, [], ◌∷◌, ◌++◌, length, drop, Option, None, refl, sym, ap, ◌∙◌}
 use Rattle.std.proofs.lemmas.List.{append-nil, append_assoc}
-use Rattle.ctf_model.specs.Entries.{entry_len, is_bad_entry}
-use Rattle.ctf_model.specs.Symbols.{Symbol, symbol_of, symbols_of, considered_from, is_considered, is_object}
+use Rattle.ctf_model.specs.symbols.Entries.{entry_len, is_bad_entry}
+use Rattle.ctf_model.specs.symbols.Symbols.{Symbol, symbol_of, symbols_of, considered_from, is_considered, is_object}
 use Rattle.ctf_entries.proofs.Considering.{symbols_more, symbols_end, considered_more, considered_less}
 use Rattle.ctf_entries.proofs.Telling.{sound_object, sound_function}
 use Rattle.ctf_entries.specs.Sound.{bad_place}

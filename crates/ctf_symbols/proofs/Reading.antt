@@ -5,10 +5,10 @@ use Rattle.std.proofs.lemmas.Bool.{ne_eqb, cases_lt}
 use Rattle.std.proofs.lemmas.Bool.Decides.{Decides-eqb}
 use Rattle.std.proofs.lemmas.List.{length-drop, drop-drop, nil_from_length}
 use Rattle.std.proofs.lemmas.Option.{same_Some}
-use Rattle.ctf_model.specs.Entries.{Entry, Told, entries_of, entry_len, is_bad_entry, type_in, signature_in}
-use Rattle.ctf_model.specs.Entries as told
-use Rattle.ctf_model.specs.SymbolQuestions.{told_of}
-use Rattle.ctf_model.specs.Symbols.{Symbol, considered_from, is_considered, is_object}
+use Rattle.ctf_model.specs.symbols.Entries.{Entry, Told, entries_of, entry_len, is_bad_entry, type_in, signature_in}
+use Rattle.ctf_model.specs.symbols.Entries as told
+use Rattle.ctf_model.specs.symbols.SymbolQuestions.{told_of}
+use Rattle.ctf_model.specs.symbols.Symbols.{Symbol, considered_from, is_considered, is_object}
 use Rattle.ctf_model.proofs.SymbolRules.{AreRising, considered_rising, entries_rising}
 use Rattle.ctf_entries.proofs.Telling.{entries_object, entries_function, sound_object, sound_function}
 use Rattle.ctf_entries.specs.Sound.{bad_place}

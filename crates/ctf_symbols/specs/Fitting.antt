@@ -1,6 +1,6 @@
 -- Which maps fit a dictionary. Source: ours.
 use Rattle.std.specs.Prelude.{◌≡◌}
-use Rattle.ctf_model.specs.Lists.{Lists}
+use Rattle.ctf_model.specs.format.Lists.{Lists}
 use Rattle.ctf_symbols.specs.Kept.{lefts_of}
 use Rattle.ctf_symbols.specs.Named.{SymbolsInOrder, LabelsInOrder}
 use Rattle.ctf_symbols.specs.declared.map.SymbolMap.{SymbolMap}

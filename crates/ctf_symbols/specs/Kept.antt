@@ -1,9 +1,9 @@
 -- How much is left of its section where the entry of each symbol begins. The words are ours.
 use Rattle.std.specs.Prelude.{ℕ, ◌+◌, ◌-◌, ◌*◌, ◌/◌, ◌%◌, ◌==◌, List, [], ◌∷◌, length, drop, slice_index, nat_lt, Option, Some, None, if◌then◌else◌}
-use Rattle.ctf_model.specs.Entries.{entry_len}
-use Rattle.ctf_model.specs.Header.{section}
-use Rattle.ctf_model.specs.Lists.{Lists}
-use Rattle.ctf_model.specs.Symbols.{Symbol, symbols, is_considered, is_object}
+use Rattle.ctf_model.specs.symbols.Entries.{entry_len}
+use Rattle.ctf_model.specs.format.Header.{section}
+use Rattle.ctf_model.specs.format.Lists.{Lists}
+use Rattle.ctf_model.specs.symbols.Symbols.{Symbol, symbols, is_considered, is_object}
 use Rattle.ctf_model.specs.declared.symbols.SymbolClass.{SymbolClass}
 use Rattle.ctf_model.specs.declared.symbols.SymbolClass.TheVariants.{Object, Function}
 use Rattle.ctf_model.specs.declared.sections.Section.TheVariants.{SObjects, SFunctions}

@@ -2,10 +2,10 @@
 use Rattle.std.specs.Prelude.{◌≡◌, ℕ, List, [], ◌∷◌, Option, Some, None, unwrap_or, if◌then◌else◌}
 use Rattle.std.specs.List.{enumerate_from}
 use Rattle.std.specs.Str.{bytes_eq}
-use Rattle.ctf_model.specs.Dictionary.{Label, said_by}
-use Rattle.ctf_model.specs.Lists.{Lists, tables}
-use Rattle.ctf_model.specs.Name.{name, text_at}
-use Rattle.ctf_model.specs.Symbols.{Symbol, considered, symbols}
+use Rattle.ctf_model.specs.format.Dictionary.{Label, said_by}
+use Rattle.ctf_model.specs.format.Lists.{Lists, tables}
+use Rattle.ctf_model.specs.format.Name.{name, text_at}
+use Rattle.ctf_model.specs.symbols.Symbols.{Symbol, considered, symbols}
 use Rattle.ctf_order.specs.Holding.{Fits}
 use Rattle.ctf_order.specs.Naming.{Naming}
 use Rattle.ctf_order.specs.declared.entries.Entry.{Entry}

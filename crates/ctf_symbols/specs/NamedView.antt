@@ -1,6 +1,6 @@
 -- What a symbol shows that was found by its name.
 use Rattle.std.specs.Prelude.{ℕ, List}
-use Rattle.ctf_model.specs.Entries.{Owner}
+use Rattle.ctf_model.specs.symbols.Entries.{Owner}
 use Rattle.ctf_symbols.specs.declared.named.NamedSymbol.{NamedSymbol}
 
 -- it owns an entry, with the name that was looked for

@@ -1,6 +1,6 @@
 //! How much is left of its section where the entry of each symbol begins.
 ghost use Rattle.std.specs.Prelude.{◌≡◌, ◌≤◌, ◌<◌, ◌^◌, length, IfOk, None};
-ghost use Rattle.ctf_model.specs.Symbols.{considered, symbols_of};
+ghost use Rattle.ctf_model.specs.symbols.Symbols.{considered, symbols_of};
 ghost use Rattle.ctf_entries.specs.NamesView.{strings_of};
 ghost use Rattle.ctf_entries.specs.Sound.{bad_place};
 ghost use Rattle.ctf_symbols.specs.Kept.{lefts_from};

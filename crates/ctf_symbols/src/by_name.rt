@@ -1,8 +1,8 @@
 //! Symbols and labels, by their names.
 ghost use Rattle.std.specs.Prelude.{◌≡◌, option_copied};
 ghost use Rattle.std.specs.Option.{option_map};
-ghost use Rattle.ctf_model.specs.Entries.{owner_of};
-ghost use Rattle.ctf_model.specs.SymbolQuestions.{by_name, entry_named, label_of};
+ghost use Rattle.ctf_model.specs.symbols.Entries.{owner_of};
+ghost use Rattle.ctf_model.specs.symbols.SymbolQuestions.{by_name, entry_named, label_of};
 ghost use Rattle.ctf_check.specs.CheckedView.{dictionary_of, lists_of};
 ghost use Rattle.ctf_order.specs.Naming.{naming};
 ghost use Rattle.ctf_symbols.specs.Fitting.{Fits};

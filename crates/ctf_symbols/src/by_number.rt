@@ -1,7 +1,7 @@
 //! What a dictionary tells of a symbol, by its number.
 ghost use Rattle.std.specs.Prelude.{◌≡◌, unwrap_or, slice_get};
 ghost use Rattle.std.specs.Result.{result_map_both};
-ghost use Rattle.ctf_model.specs.SymbolQuestions.{function_of, object_of};
+ghost use Rattle.ctf_model.specs.symbols.SymbolQuestions.{function_of, object_of};
 ghost use Rattle.ctf_check.specs.CheckedView.{dictionary_of, lists_of};
 ghost use Rattle.ctf_entries.specs.FunctionView.{signature};
 ghost use Rattle.ctf_symbols.specs.Fitting.{Fits};

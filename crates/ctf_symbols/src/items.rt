@@ -1,8 +1,8 @@
 //! Symbols and labels, by where their names stand.
 ghost use Rattle.std.specs.Prelude.{◌≡◌, ◌≤◌, ◌<◌, ◌^◌, length, drop, IfOk};
 ghost use Rattle.std.specs.List.{enumerate_from};
-ghost use Rattle.ctf_model.specs.Name.{name};
-ghost use Rattle.ctf_model.specs.Symbols.{considered, symbols_of};
+ghost use Rattle.ctf_model.specs.format.Name.{name};
+ghost use Rattle.ctf_model.specs.symbols.Symbols.{considered, symbols_of};
 ghost use Rattle.ctf_check.specs.CheckedView.{dictionary_of, tables_of};
 ghost use Rattle.ctf_entries.specs.NamesView.{strings_of};
 ghost use Rattle.ctf_symbols.specs.Named.{AreItems, called_label, called_symbol, program_names};

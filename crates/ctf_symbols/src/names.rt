@@ -2,8 +2,8 @@
 ghost use Rattle.std.specs.Prelude.{◌≡◌, ◌≤◌, ◌<◌, ◌*◌, ◌/◌, length, drop, slice_get};
 ghost use Rattle.std.specs.Option.{option_map};
 ghost use Rattle.std.specs.Result.{result_map_both};
-ghost use Rattle.ctf_model.specs.SymbolQuestions.{name_of_symbol};
-ghost use Rattle.ctf_model.specs.Symbols.{symbols_of};
+ghost use Rattle.ctf_model.specs.symbols.SymbolQuestions.{name_of_symbol};
+ghost use Rattle.ctf_model.specs.symbols.Symbols.{symbols_of};
 ghost use Rattle.ctf_check.specs.CheckedView.{dictionary_of};
 ghost use Rattle.ctf_entries.specs.NamesView.{strings_of};
 ghost use Rattle.ctf_entries.specs.SymbolView.{symbol};

@@ -4,8 +4,8 @@ use Rattle.std.specs.Prelude.{slice_get, unwrap_or, IsSome}
 use Rattle.std.specs.Iterator.{MakesProgress, item_count}
 use Rattle.std.proofs.lemmas.List.{take-append-drop}
 use Rattle.std.proofs.lemmas.Option.{slice_get_past, same_Some}
-use Rattle.ctf_model.specs.Bytes.{u16_at}
-use Rattle.ctf_model.specs.Spelling.{◌>>=◌, items, argument_of}
+use Rattle.ctf_model.specs.format.Bytes.{u16_at}
+use Rattle.ctf_model.specs.format.Spelling.{◌>>=◌, items, argument_of}
 use Rattle.ctf_model.proofs.Items.{items_first, items_length, items_split, items_at}
 use Rattle.ctf_views.specs.Lists.{items_in, AreGood}
 

@@ -4,8 +4,8 @@ use Rattle.std.specs.Prelude.{slice_get, bytes_eq}
 use Rattle.std.specs.Option.{option_map}
 use Rattle.std.proofs.lemmas.List.{drop_all}
 use Rattle.std.proofs.lemmas.Option.{same_Some}
-use Rattle.ctf_model.specs.Paths.{member_named}
-use Rattle.ctf_model.specs.Term.{Member}
+use Rattle.ctf_model.specs.figures.Paths.{member_named}
+use Rattle.ctf_model.specs.format.Term.{Member}
 
 -- whether the member with a number has a name
 abbrev says : List ℕ → List Member → ℕ → Bool → Type 0

@@ -3,11 +3,11 @@ use Rattle.std.proofs.Common.{◌≡◌, ℕ, ◌*◌, Bool, List, length, Optio
 use Rattle.std.specs.Prelude.{IsSome}
 use Rattle.std.specs.Option.{option_map}
 use Rattle.std.proofs.lemmas.Option.{same_Some}
-use Rattle.ctf_model.specs.Bytes.{u32_at}
-use Rattle.ctf_model.specs.Name.{Tables, name}
-use Rattle.ctf_model.specs.Record.{kind, is_root, field, size, vlen, member_len, behind_head}
-use Rattle.ctf_model.specs.Spelling.{◌>>=◌, items, member_of, enumerator_of, argument_of, members, enumerators, tag, body_of, term_of}
-use Rattle.ctf_model.specs.Term.{Body, Term, Member, Enumerator}
+use Rattle.ctf_model.specs.format.Bytes.{u32_at}
+use Rattle.ctf_model.specs.format.Name.{Tables, name}
+use Rattle.ctf_model.specs.format.Record.{kind, is_root, field, size, vlen, member_len, behind_head}
+use Rattle.ctf_model.specs.format.Spelling.{◌>>=◌, items, member_of, enumerator_of, argument_of, members, enumerators, tag, body_of, term_of}
+use Rattle.ctf_model.specs.format.Term.{Body, Term, Member, Enumerator}
 use Rattle.ctf_model.specs.declared.kinds.Kind.{Kind}
 use Rattle.ctf_model.specs.declared.kinds.Kind.TheVariants.{KUnknown, KInteger, KFloat, KPointer, KArray, KFunction, KStruct, KUnion, KEnum, KForward, KTypedef, KVolatile, KConst, KRestrict}
 use Rattle.ctf_records.specs.ByKind.{size_in, declared_in, listed, len_behind}
@@ -15,8 +15,8 @@ use Rattle.ctf_records.specs.RecordView.{tag_of}
 use Rattle.ctf_records.specs.declared.tag.Tag.{Tag}
 use Rattle.ctf_views.specs.Lists.{AreGood}
 use Rattle.ctf_views.specs.PartsView.{array_in, encoding_in}
-use Rattle.ctf_model.specs.Shown.{Shown, ArrayParts, EncodingParts, shown}
-use Rattle.ctf_model.specs.Shown as show
+use Rattle.ctf_model.specs.format.Shown.{Shown, ArrayParts, EncodingParts, shown}
+use Rattle.ctf_model.specs.format.Shown as show
 
 -- what is shown of the type that bytes spell
 abbrev pub shown_by : Tables → List ℕ → Option Shown

@@ -1,7 +1,7 @@
 -- What a lent member, enumerator or label shows. The words are ours;
 -- what bytes say is in Spelling.antt and Dictionary.antt of ctf_model.
-use Rattle.ctf_model.specs.Dictionary as dictionary
-use Rattle.ctf_model.specs.Term as term
+use Rattle.ctf_model.specs.format.Dictionary as dictionary
+use Rattle.ctf_model.specs.format.Term as term
 use Rattle.ctf_views.specs.declared.enumerators.Enumerator.{Enumerator}
 use Rattle.ctf_views.specs.declared.labels.Label.{Label}
 use Rattle.ctf_views.specs.declared.members.Member.{Member}

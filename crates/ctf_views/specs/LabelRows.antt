@@ -2,9 +2,9 @@
 -- over the reading in Dictionary.antt of ctf_model.
 use Rattle.std.specs.Prelude.{ℕ, List, Option}
 use Rattle.std.specs.Option.{option_map}
-use Rattle.ctf_model.specs.Bytes.{u32_at}
-use Rattle.ctf_model.specs.Dictionary.{Label}
-use Rattle.ctf_model.specs.Name.{Tables, name}
+use Rattle.ctf_model.specs.format.Bytes.{u32_at}
+use Rattle.ctf_model.specs.format.Dictionary.{Label}
+use Rattle.ctf_model.specs.format.Name.{Tables, name}
 
 -- its name, and its last type
 abbrev pub label_of : Tables → List ℕ → Option Label

@@ -1,7 +1,7 @@
 -- Lists of items that stand one after the other in bytes. The words are ours,
 -- over the reading in Spelling.antt of ctf_model.
 use Rattle.std.specs.Prelude.{◌≤◌, ◌*◌, ℕ, List, [], length, Option, unwrap_or, IsSome}
-use Rattle.ctf_model.specs.Spelling.{items}
+use Rattle.ctf_model.specs.format.Spelling.{items}
 
 -- n items of a length, where each is good
 unfoldable pub items_in : {A : Type 0} → (List ℕ → Option A) → ℕ → ℕ → List ℕ → List A

@@ -1,8 +1,8 @@
 -- What the lent parts of an array, an integer or a float show, and what is read behind a head.
 -- Source: ctf(5), "The Type Section"; ctf_array_t and CTF_INT_DATA of sys/ctf.h.
 use Rattle.std.specs.Prelude.{ℕ, ◌/◌, ◌%◌, ◌^◌, List}
-use Rattle.ctf_model.specs.Bytes.{u16_at, u32_at}
-use Rattle.ctf_model.specs.Shown.{ArrayParts, EncodingParts}
+use Rattle.ctf_model.specs.format.Bytes.{u16_at, u32_at}
+use Rattle.ctf_model.specs.format.Shown.{ArrayParts, EncodingParts}
 use Rattle.ctf_views.specs.declared.parts.ArrayInfo.{ArrayInfo}
 use Rattle.ctf_views.specs.declared.parts.Encoding.{Encoding}
 

@@ -1,7 +1,7 @@
 -- What a lent variant shows. The word is ours.
 use Rattle.ctf_records.specs.RecordView.{tag_of}
 use Rattle.ctf_views.specs.PartsView.{array_info, encoding_info}
-use Rattle.ctf_model.specs.Shown.{Shown, members, enumerators, arguments, array, encoding, tag, nothing}
+use Rattle.ctf_model.specs.format.Shown.{Shown, members, enumerators, arguments, array, encoding, tag, nothing}
 use Rattle.ctf_views.specs.declared.shown.Variant.{Variant}
 use Rattle.ctf_views.specs.declared.shown.Variant.TheVariants as lent
 

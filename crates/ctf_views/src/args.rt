@@ -1,6 +1,6 @@
 //! The arguments of a function type.
 ghost use Rattle.std.specs.Prelude.{◌≡◌, ◌*◌, ◌≤◌, length, Some};
-ghost use Rattle.ctf_model.specs.Spelling.{items, argument_of};
+ghost use Rattle.ctf_model.specs.format.Spelling.{items, argument_of};
 
 use crate::row::Row;
 use crate::rows::Rows;

@@ -1,5 +1,5 @@
 //! The enumerators of an enum.
-ghost use Rattle.ctf_model.specs.Spelling.{enumerator_of};
+ghost use Rattle.ctf_model.specs.format.Spelling.{enumerator_of};
 ghost use Rattle.ctf_sections.specs.StringsView.{tables};
 ghost use Rattle.ctf_views.specs.ItemsView.{enumerator};
 
@@ -21,7 +21,7 @@ pub struct SpelledEnumerator(i32);
 
 impl Model for SpelledEnumerator {
     ghost use Rattle.std.specs.Prelude.{[]};
-    ghost use Rattle.ctf_model.specs.Term.{Enumerator as Spelled};
+    ghost use Rattle.ctf_model.specs.format.Term.{Enumerator as Spelled};
 
     ghost Value = { Spelled };
 

@@ -1,7 +1,7 @@
 //! The labels of a dictionary.
 ghost use Rattle.std.specs.Prelude.{◌≡◌, ◌/◌, length, slice_get};
 ghost use Rattle.std.specs.Option.{option_map};
-ghost use Rattle.ctf_model.specs.Dictionary.{AreLabels, labels_in};
+ghost use Rattle.ctf_model.specs.format.Dictionary.{AreLabels, labels_in};
 ghost use Rattle.ctf_sections.specs.StringsView.{tables};
 ghost use Rattle.ctf_views.specs.ItemsView.{label};
 ghost use Rattle.ctf_views.specs.LabelRows.{label_of};
@@ -24,7 +24,7 @@ pub struct SaidLabel(u32);
 
 impl Model for SaidLabel {
     ghost use Rattle.std.specs.Prelude.{[]};
-    ghost use Rattle.ctf_model.specs.Dictionary.{Label as Said};
+    ghost use Rattle.ctf_model.specs.format.Dictionary.{Label as Said};
 
     ghost Value = { Said };
 

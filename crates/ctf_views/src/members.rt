@@ -1,9 +1,9 @@
 //! The members of a struct or union.
 ghost use Rattle.std.specs.Prelude.{◌≡◌, ◌≤◌, ◌<◌, length, IsSome, Some, bytes_eq, slice_get};
 ghost use Rattle.std.specs.Option.{option_map};
-ghost use Rattle.ctf_model.specs.Paths.{member_named};
-ghost use Rattle.ctf_model.specs.Record.{member_len as len_of_member};
-ghost use Rattle.ctf_model.specs.Spelling.{member_of};
+ghost use Rattle.ctf_model.specs.figures.Paths.{member_named};
+ghost use Rattle.ctf_model.specs.format.Record.{member_len as len_of_member};
+ghost use Rattle.ctf_model.specs.format.Spelling.{member_of};
 ghost use Rattle.ctf_sections.specs.StringsView.{tables};
 ghost use Rattle.ctf_views.specs.ItemsView.{member};
 
@@ -28,7 +28,7 @@ pub struct SpelledMember(());
 
 impl Model for SpelledMember {
     ghost use Rattle.std.specs.Prelude.{[]};
-    ghost use Rattle.ctf_model.specs.Term.{Member as Spelled};
+    ghost use Rattle.ctf_model.specs.format.Term.{Member as Spelled};
 
     ghost Value = { Spelled };
 

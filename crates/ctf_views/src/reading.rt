@@ -1,10 +1,10 @@
 //! What stands behind the head of a record, by its kind.
 ghost use Rattle.std.specs.Prelude.{◌≡◌, IsSome, Some};
 ghost use Rattle.std.specs.Option.{option_map};
-ghost use Rattle.ctf_model.specs.Spelling.{term_of};
+ghost use Rattle.ctf_model.specs.format.Spelling.{term_of};
 ghost use Rattle.ctf_sections.specs.StringsView.{tables};
 ghost use Rattle.ctf_records.specs.RecordView.{bytes_of};
-ghost use Rattle.ctf_model.specs.Shown.{shown};
+ghost use Rattle.ctf_model.specs.format.Shown.{shown};
 ghost use Rattle.ctf_views.specs.VariantView.{seen};
 
 use crate::args::arguments;

@@ -3,7 +3,7 @@ ghost use Rattle.std.specs.Prelude.{◌≡◌, ◌*◌, ◌<◌, ◌≤◌, leng
 ghost use Rattle.std.specs.Option.{option_map};
 ghost use Rattle.std.specs.Iterator.{YieldsFirstBy, YieldsLastBy, item_count, UpTo, at_most};
 ghost use Rattle.std.specs.Iterator.SizeHint.{IsWithinCount};
-ghost use Rattle.ctf_model.specs.Spelling.{items};
+ghost use Rattle.ctf_model.specs.format.Spelling.{items};
 ghost use Rattle.ctf_views.specs.Lists.{AreGood, items_in};
 
 use crate::row::Row;

@@ -2,15 +2,15 @@
 use Rattle.std.proofs.Common.{◌≡◌, ◌≢◌, ℕ, List, [], ◌∷◌, length, Bool, true, false, Ok, Err, Result, eqb, leb, refl, ◌∙◌, ap, sym, subst, arith, ◌⊎◌, inl, inr}
 use Rattle.std.proofs.lemmas.Bool.{leb-false}
 use Rattle.std.proofs.lemmas.Bool.Decides.{nat_tests}
-use Rattle.ctf_protocol.specs.Ask.{ask}
-use Rattle.ctf_protocol.specs.Lines.{stored}
-use Rattle.ctf_protocol.specs.Output.{Mark, answered, refused, unread, line_out, calls_after, out, calls_made}
-use Rattle.ctf_protocol.specs.ReplyLines.{reply_line}
-use Rattle.ctf_protocol.specs.Runs.{Call, Steps, IsGranted, IsRefused, found_in, own_state, addressed}
-use Rattle.ctf_protocol.specs.State.{State}
-use Rattle.ctf_protocol.specs.Steps.{step, Outcome}
+use Rattle.ctf_protocol.specs.lines.Ask.{ask}
+use Rattle.ctf_protocol.specs.lines.Lines.{stored}
+use Rattle.ctf_protocol.specs.lines.Output.{Mark, answered, refused, unread, line_out, calls_after, out, calls_made}
+use Rattle.ctf_protocol.specs.lines.ReplyLines.{reply_line}
+use Rattle.ctf_protocol.specs.sessions.Runs.{Call, Steps, IsGranted, IsRefused, found_in, own_state, addressed}
+use Rattle.ctf_protocol.specs.sessions.State.{State}
+use Rattle.ctf_protocol.specs.sessions.Steps.{step, Outcome}
 use Rattle.ctf_model.specs.declared.faults.Fault.{Fault}
-use Rattle.ctf_protocol.specs.Answers.{Reply}
+use Rattle.ctf_protocol.specs.answers.Answers.{Reply}
 use Rattle.ctf_protocol.specs.declared.requests.Request.{Request}
 use Rattle.ctf_protocol.proofs.Asking.{ask-long}
 use Rattle.ctf_protocol.proofs.SessionRuns.{found_same}

@@ -5,7 +5,7 @@ use Rattle.std.proofs.Math.Seq.{take-add}
 use Rattle.std.specs.Prelude.{if◌then◌else◌, slice_index}
 use Rattle.std.proofs.lemmas.Bool.Decides.{nat_tests}
 use Rattle.memchr.specs.Find.{Nowhere, Passes, is_byte}
-use Rattle.ctf_protocol.specs.Lines.{onto_first, onto_last, whole_lines, last_piece}
+use Rattle.ctf_protocol.specs.lines.Lines.{onto_first, onto_last, whole_lines, last_piece}
 use Rattle.ctf_wire.specs.Served.{BeginsWith}
 
 -- no newline stands before place n

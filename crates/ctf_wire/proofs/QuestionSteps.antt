@@ -2,11 +2,11 @@
 use Rattle.std.proofs.Common.{◌≡◌, ℕ, Result, refl, ap, ◌⊎◌, inl, inr}
 use Rattle.std.specs.Prelude.{Vec}
 use Rattle.std.specs.declared.alloc.Global.{Global}
-use Rattle.ctf_protocol.specs.Answers.{Answer, Reply}
-use Rattle.ctf_protocol.specs.ReplyLines.{reply_line}
-use Rattle.ctf_protocol.specs.Runs.{Steps, IsGranted, IsRefused, no_memory}
-use Rattle.ctf_protocol.specs.State.{State}
-use Rattle.ctf_protocol.specs.Steps.{answer_to, MayAnswer}
+use Rattle.ctf_protocol.specs.answers.Answers.{Answer, Reply}
+use Rattle.ctf_protocol.specs.lines.ReplyLines.{reply_line}
+use Rattle.ctf_protocol.specs.sessions.Runs.{Steps, IsGranted, IsRefused, no_memory}
+use Rattle.ctf_protocol.specs.sessions.State.{State}
+use Rattle.ctf_protocol.specs.sessions.Steps.{answer_to, MayAnswer}
 use Rattle.ctf_model.specs.declared.faults.Fault.{Fault}
 use Rattle.ctf_protocol.specs.declared.questions.Question.{Question}
 use Rattle.ctf_protocol.specs.declared.requests.Request.{Request}

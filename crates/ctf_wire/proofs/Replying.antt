@@ -5,7 +5,7 @@ use Rattle.std.specs.List.{concat}
 use Rattle.std.specs.Io.KnownBytes.{Appends}
 use Rattle.std.proofs.KnownBytes.{Appends-trans}
 use Rattle.std.proofs.lemmas.List.Folds.{concat-append}
-use Rattle.ctf_protocol.specs.Lines.{whole_lines, last_piece, all_lines, if_not_empty, stored}
+use Rattle.ctf_protocol.specs.lines.Lines.{whole_lines, last_piece, all_lines, if_not_empty, stored}
 use Rattle.ctf_wire.specs.Flushes.{after_pieces}
 use Rattle.ctf_wire.specs.Served.{Answers, BeginsWith, Sent, SentFront, Sends, Serves, BrokenOff}
 use Rattle.ctf_wire.specs.Standing.{Stands, Feeds, Finishes}

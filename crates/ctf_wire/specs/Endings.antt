@@ -1,7 +1,7 @@
 -- How a run over a source and a sink begins and ends. Source: ours.
 use Rattle.std.specs.Prelude.{◌≡◌, ℕ, ◌+◌, ◌<◌, ◌≤◌, ◌^◌, List, Bool, true, false, Result, Ok, Err, if◌then◌else◌}
 use Rattle.std.specs.Io.KnownBytes.{Consumes, IsAtEnd}
-use Rattle.ctf_protocol.specs.Lines.{all_lines, whole_lines}
+use Rattle.ctf_protocol.specs.lines.Lines.{all_lines, whole_lines}
 use Rattle.ctf_wire.specs.Streams.{Pulled, Pushed}
 use Rattle.ctf_wire.specs.declared.run_faults.RunFault.{RunFault}
 use Rattle.ctf_wire.specs.declared.run_faults.RunFault.TheVariants as fault

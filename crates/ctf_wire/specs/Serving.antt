@@ -1,14 +1,14 @@
 -- What serving the lines of all sessions does to a broker and a sink. Source: ours.
 use Rattle.std.specs.Prelude.{◌≡◌, ◌≢◌, ℕ, List, [], ◌∷◌, ◌++◌, Option, None, Some, Result, Ok, Err, ◌⊎◌}
-use Rattle.ctf_protocol.specs.Ask.{ask}
-use Rattle.ctf_protocol.specs.Output.{Mark, out, calls_made}
-use Rattle.ctf_model.specs.Refusals.{placeless}
-use Rattle.ctf_protocol.specs.ReplyLines.{fault_line, reply_line}
-use Rattle.ctf_protocol.specs.Runs.{Steps, no_memory, own_state}
-use Rattle.ctf_protocol.specs.State.{State}
+use Rattle.ctf_protocol.specs.lines.Ask.{ask}
+use Rattle.ctf_protocol.specs.lines.Output.{Mark, out, calls_made}
+use Rattle.ctf_model.specs.rules.Refusals.{placeless}
+use Rattle.ctf_protocol.specs.lines.ReplyLines.{fault_line, reply_line}
+use Rattle.ctf_protocol.specs.sessions.Runs.{Steps, no_memory, own_state}
+use Rattle.ctf_protocol.specs.sessions.State.{State}
 use Rattle.ctf_model.specs.declared.faults.Fault.{Fault}
 use Rattle.ctf_model.specs.declared.faults.TheConstants.Fault.{LONG_LINE}
-use Rattle.ctf_protocol.specs.Answers.{Reply}
+use Rattle.ctf_protocol.specs.answers.Answers.{Reply}
 use Rattle.ctf_protocol.specs.declared.requests.Request.{Request}
 use Rattle.ctf_wire.specs.Endings.{EndsBy}
 use Rattle.ctf_wire.specs.Served.{Answers, BeginsWith, Sent, SentFront}

@@ -1,6 +1,6 @@
 -- How things stand between two pieces of the input. Source: ours.
 use Rattle.std.specs.Prelude.{◌≡◌, ℕ, ◌++◌, List, Bool, true, false, Option}
-use Rattle.ctf_protocol.specs.Lines.{whole_lines, all_lines, last_piece, stored}
+use Rattle.ctf_protocol.specs.lines.Lines.{whole_lines, all_lines, last_piece, stored}
 use Rattle.ctf_wire.specs.Served.{Serves, BrokenOff}
 use Rattle.ctf_wire.specs.Streams.{Pushed}
 

@@ -1,6 +1,6 @@
 //! Pieces of the input in: lines to a machine, replies to a sink.
 ghost use Rattle.std.specs.Prelude.{◌≡◌, ℕ, ◌≤◌, ◌++◌, ◌∷◌, [], List, vec_capacity};
-ghost use Rattle.ctf_protocol.specs.Lines.{whole_lines};
+ghost use Rattle.ctf_protocol.specs.lines.Lines.{whole_lines};
 ghost use Rattle.ctf_wire.specs.Served.{Sends};
 ghost use Rattle.ctf_wire.specs.Standing.{Feeds, Finishes};
 

@@ -1,6 +1,6 @@
 //! The line so far.
 ghost use Rattle.std.specs.Prelude.{◌≡◌, ◌↔◌, ℕ, ◌++◌, [], List, IfOk, IsTrue, IsSome, Some, is_none};
-ghost use Rattle.ctf_protocol.specs.Lines.{stored};
+ghost use Rattle.ctf_protocol.specs.lines.Lines.{stored};
 
 use ctf_lines::LONGEST_LINE;
 use std::alloc::{AllocError, Global};
@@ -15,7 +15,7 @@ pub struct Pending {
 
 impl Model for Pending {
     ghost use Rattle.std.specs.Prelude.{ℕ, ◌≤◌, List, Option, vec_capacity, vec_len, Some, None, if◌then◌else◌};
-    ghost use Rattle.ctf_protocol.specs.Lines.{longest_line};
+    ghost use Rattle.ctf_protocol.specs.lines.Lines.{longest_line};
 
     ghost Value = { Option (List ℕ) };
 

@@ -1,6 +1,6 @@
 //! Bytes cut at their first newline.
 ghost use Rattle.std.specs.Prelude.{◌≡◌, ◌++◌, ◌∷◌, [], MatchOption};
-ghost use Rattle.ctf_protocol.specs.Lines.{whole_lines};
+ghost use Rattle.ctf_protocol.specs.lines.Lines.{whole_lines};
 
 use memchr::memchr;
 

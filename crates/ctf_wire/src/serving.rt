@@ -1,8 +1,8 @@
 //! Serves the lines of all sessions.
 ghost use Rattle.std.specs.Prelude.{◌≡◌, ◌≢◌, ◌⊎◌, ◌^◌, Err};
-ghost use Rattle.ctf_protocol.specs.Answers.{Reply as SaidReply};
-ghost use Rattle.ctf_protocol.specs.ReplyLines.{reply_line};
-ghost use Rattle.ctf_protocol.specs.Runs.{Steps, no_memory};
+ghost use Rattle.ctf_protocol.specs.answers.Answers.{Reply as SaidReply};
+ghost use Rattle.ctf_protocol.specs.lines.ReplyLines.{reply_line};
+ghost use Rattle.ctf_protocol.specs.sessions.Runs.{Steps, no_memory};
 ghost use Rattle.ctf_answers.specs.Replies.{reply_of, said_to};
 ghost use Rattle.ctf_wire.specs.Endings.{IsReady, PullsAtMost};
 ghost use Rattle.ctf_wire.specs.Room.{HasShortRoom, Replies};

@@ -5,7 +5,7 @@ use Rattle.std.specs.List.{list_any, filter}
 use Rattle.std.specs.Str.{bytes_eq}
 use Rattle.std.specs.Cmp.Lexicographic.{bytes_decides}
 use Rattle.std.proofs.lemmas.List.{append-nil, append_assoc}
-use Rattle.ctf_model.specs.WrittenNames.{distinct, is_empty}
+use Rattle.ctf_model.specs.writing.WrittenNames.{distinct, is_empty}
 use Rattle.ctf_writer.specs.Offsets.{with_name}
 
 -- what passes two tests passes one that is both

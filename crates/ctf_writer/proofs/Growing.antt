@@ -6,7 +6,7 @@ use Rattle.std.proofs.lemmas.List.{drop_more, take_more, take-append-drop, map-a
 use Rattle.std.proofs.lemmas.Grind.{flat_map-append}
 use Rattle.std.proofs.lemmas.List.Sums.{fold-append}
 use Rattle.ctf_model.specs.declared.faults.Fault.{Fault}
-use Rattle.ctf_model.specs.WrittenNames.{string_bytes, is_empty}
+use Rattle.ctf_model.specs.writing.WrittenNames.{string_bytes, is_empty}
 use Rattle.ctf_writer.specs.Offsets.{with_name}
 use Rattle.ctf_writer.specs.Uses.{with_names, IsRefused}
 use Rattle.ctf_writer.proofs.Offsets.{strings_more}

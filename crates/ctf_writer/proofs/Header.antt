@@ -1,8 +1,8 @@
 -- The header, and what stands behind it, appended part by part.
 use Rattle.std.proofs.Common.{◌≡◌, ℕ, ◌+◌, List, [], ◌∷◌, ◌++◌, ap, ◌∙◌}
 use Rattle.std.proofs.lemmas.List.{append_assoc}
-use Rattle.ctf_model.specs.Written.{fields_over, header_bytes}
-use Rattle.ctf_model.specs.WrittenRecords.{u32}
+use Rattle.ctf_model.specs.writing.Written.{fields_over, header_bytes}
+use Rattle.ctf_model.specs.writing.WrittenRecords.{u32}
 
 -- one more part
 more : (o o1 o2 a b : List ℕ) → o1 ≡ o ++ a → o2 ≡ o1 ++ b → o2 ≡ o ++ (a ++ b)

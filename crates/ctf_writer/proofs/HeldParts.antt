@@ -8,16 +8,16 @@ use Rattle.ctf_draft.specs.TypeView.{type_of}
 use Rattle.ctf_draft.specs.declared.types.DraftType.{DraftType}
 use Rattle.ctf_model.proofs.Alls.{all_split}
 use Rattle.ctf_model.proofs.KeptNames.{all_flat, kept_of}
-use Rattle.ctf_model.specs.Chains.{by_value, declarator}
-use Rattle.ctf_model.specs.Dictionary.{Dictionary, Label}
-use Rattle.ctf_model.specs.Faults.{or_later}
-use Rattle.ctf_model.specs.Fitting.{Fits}
-use Rattle.ctf_model.specs.Refusals.{placeless, want_of_memory}
-use Rattle.ctf_model.specs.Term.{Term}
-use Rattle.ctf_model.specs.WritingLaws.{IsKept}
-use Rattle.ctf_model.specs.Written.{bytes_of, deep_by, fields_over, header_bytes, label_bytes, labels_written, most_written, records_written, too_big, unwritten, written}
-use Rattle.ctf_model.specs.WrittenNames.{names_of, reference, string_bytes, strings_of, used_names}
-use Rattle.ctf_model.specs.WrittenRecords.{record_bytes}
+use Rattle.ctf_model.specs.rules.Chains.{by_value, declarator}
+use Rattle.ctf_model.specs.format.Dictionary.{Dictionary, Label}
+use Rattle.ctf_model.specs.rules.Faults.{or_later}
+use Rattle.ctf_model.specs.drafts.Fitting.{Fits}
+use Rattle.ctf_model.specs.rules.Refusals.{placeless, want_of_memory}
+use Rattle.ctf_model.specs.format.Term.{Term}
+use Rattle.ctf_model.specs.writing.WritingLaws.{IsKept}
+use Rattle.ctf_model.specs.writing.Written.{bytes_of, deep_by, fields_over, header_bytes, label_bytes, labels_written, most_written, records_written, too_big, unwritten, written}
+use Rattle.ctf_model.specs.writing.WrittenNames.{names_of, reference, string_bytes, strings_of, used_names}
+use Rattle.ctf_model.specs.writing.WrittenRecords.{record_bytes}
 use Rattle.ctf_model.specs.declared.faults.Fault.{Fault}
 use Rattle.ctf_model.specs.declared.faults.TheConstants.Fault.{DICT_TOO_BIG}
 use Rattle.ctf_writer.specs.HeldView.{dictionary_of, uses, written_type}

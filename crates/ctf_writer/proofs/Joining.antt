@@ -6,16 +6,16 @@ use Rattle.std.proofs.lemmas.Grind.{flat_map-append}
 use Rattle.std.proofs.lemmas.List.Folds.{length-flat_map-take, flat_map-map}
 use Rattle.std.proofs.lemmas.Bool.{le-ltb, lt-ltb}
 use Rattle.std.proofs.lemmas.List.{append_assoc, append-nil, get_or_default, length-append, length-map, take_more}
-use Rattle.ctf_model.specs.Term as term
-use Rattle.ctf_model.specs.WrittenNames.{reference}
+use Rattle.ctf_model.specs.format.Term as term
+use Rattle.ctf_model.specs.writing.WrittenNames.{reference}
 use Rattle.ctf_draft.specs.TypeView.{enumerator_of, member_of, number_of}
 use Rattle.ctf_draft.specs.declared.types.Enumerator.{Enumerator}
 use Rattle.ctf_draft.specs.declared.types.Member.{Member}
 use Rattle.ctf_model.specs.declared.numbers.TypeNum.{TypeNum}
-use Rattle.ctf_model.specs.Dictionary.{Label}
-use Rattle.ctf_model.specs.Written.{label_bytes}
+use Rattle.ctf_model.specs.format.Dictionary.{Label}
+use Rattle.ctf_model.specs.writing.Written.{label_bytes}
 use Rattle.ctf_writer.specs.HeldView.{no_label, written_argument, written_enumerator, written_member}
-use Rattle.ctf_model.specs.WrittenRecords.{u16, u32, halves, member_bytes, record_bytes, field_bytes, field_of, variant_bytes, info_of, argument_bytes, enumerator_bytes}
+use Rattle.ctf_model.specs.writing.WrittenRecords.{u16, u32, halves, member_bytes, record_bytes, field_bytes, field_of, variant_bytes, info_of, argument_bytes, enumerator_bytes}
 
 pub joined_four : (o a b c d o1 o2 o3 o4 : List ℕ) → o1 ≡ o ++ a → o2 ≡ o1 ++ b → o3 ≡ o2 ++ c → o4 ≡ o3 ++ d → o4 ≡ o ++ (a ++ b ++ c ++ d)
 joined_four o a b c d o1 o2 o3 o4 p q r s = s ∙ ap (λ (x : List ℕ). x ++ d) (r ∙ ap (λ (x : List ℕ). x ++ c) (q ∙ ap (λ (x : List ℕ). x ++ b) p)) ∙ simp append_assoc

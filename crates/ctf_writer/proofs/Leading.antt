@@ -5,9 +5,9 @@ use Rattle.std.specs.Option.{option_map}
 use Rattle.std.proofs.lemmas.List.{length-map, get_or-map}
 use Rattle.ctf_model.proofs.ChainRules.{DeepFrom, deep_agrees}
 use Rattle.ctf_model.proofs.FirstFault.{Agrees}
-use Rattle.ctf_model.specs.Chains.{edges, own_index, longest_chain}
-use Rattle.ctf_model.specs.Faults.{first_deep}
-use Rattle.ctf_model.specs.Term.{Body, Term}
+use Rattle.ctf_model.specs.rules.Chains.{edges, own_index, longest_chain}
+use Rattle.ctf_model.specs.rules.Faults.{first_deep}
+use Rattle.ctf_model.specs.format.Term.{Body, Term}
 use Rattle.ctf_chains.specs.Deep.{IsLeastDeep}
 use Rattle.ctf_chains.specs.Places.{led_to, steps_between}
 use Rattle.ctf_chains.specs.Steps.{steps}
@@ -19,7 +19,7 @@ use Rattle.ctf_writer.specs.Leading.{type_places, draft_places}
 use Rattle.ctf_draft.specs.TypeView.{aggregate_body, body_of, member_of, type_of}
 use Rattle.ctf_writer.specs.HeldView.{dictionary_of}
 use Rattle.ctf_writer.specs.declared.lent.Held.{Held}
-use Rattle.ctf_model.specs.Written.{deep_by}
+use Rattle.ctf_model.specs.writing.Written.{deep_by}
 use Rattle.ctf_draft.specs.declared.types.DraftType.{DraftType}
 use Rattle.ctf_draft.specs.declared.types.Member.{Member}
 

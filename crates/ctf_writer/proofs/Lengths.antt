@@ -4,8 +4,8 @@ use Rattle.std.specs.List.{flat_map}
 use Rattle.std.proofs.lemmas.Bool.{ltb-true, ltb-false}
 use Rattle.std.proofs.lemmas.List.{append-nil, length-append}
 use Rattle.std.proofs.lemmas.List.Folds.{length-flat_map-take}
-use Rattle.ctf_model.specs.Record.{member_len}
-use Rattle.ctf_model.specs.Term as term
+use Rattle.ctf_model.specs.format.Record.{member_len}
+use Rattle.ctf_model.specs.format.Term as term
 use Rattle.ctf_draft.specs.TypeView.{aggregate_body, member_of, reference_body, scalar_body}
 use Rattle.ctf_draft.specs.declared.types.Member.{Member}
 use Rattle.ctf_writer.specs.HeldView.{written_member}
@@ -16,11 +16,11 @@ use Rattle.ctf_draft.specs.declared.types.ReferenceKind.{ReferenceKind}
 use Rattle.ctf_draft.specs.declared.types.ReferenceKind.TheVariants.{Pointer, Typedef, Volatile, Const, Restrict}
 use Rattle.ctf_draft.specs.declared.types.ScalarKind.{ScalarKind}
 use Rattle.ctf_draft.specs.declared.types.ScalarKind.TheVariants.{Integer, Float}
-use Rattle.ctf_model.specs.Dictionary.{Dictionary, Label}
-use Rattle.ctf_model.specs.Fitting.{FitsBody, FitsMembers}
-use Rattle.ctf_model.specs.WrittenNames.{listed_names, reference, strings_of, string_bytes}
-use Rattle.ctf_model.specs.Written.{bytes_of, label_bytes, labels_written, records_written}
-use Rattle.ctf_model.specs.WrittenRecords.{argument_bytes, enumerator_bytes, field_of, halves, list_len, member_bytes, scalar_bytes, u16, u32, variant_bytes}
+use Rattle.ctf_model.specs.format.Dictionary.{Dictionary, Label}
+use Rattle.ctf_model.specs.drafts.Fitting.{FitsBody, FitsMembers}
+use Rattle.ctf_model.specs.writing.WrittenNames.{listed_names, reference, strings_of, string_bytes}
+use Rattle.ctf_model.specs.writing.Written.{bytes_of, label_bytes, labels_written, records_written}
+use Rattle.ctf_model.specs.writing.WrittenRecords.{argument_bytes, enumerator_bytes, field_of, halves, list_len, member_bytes, scalar_bytes, u16, u32, variant_bytes}
 
 one_member : (names : List (List ℕ)) (size : ℕ) (m : term.Member) → length (member_bytes names size m) ≡ member_len size
 one_member names size m = at (ltb size 8192)
@@ -148,7 +148,7 @@ bytes_len d =
     omega (arith, a, b)
 
 -- what is too long so far is too long
-pub too_long_at : {X : Type 0} (f : X → List ℕ) (xs : List X) (i : ℕ) (x : X) (len one : ℕ) → i < length xs → x ≡ get_or xs i x → len ≡ length (flat_map f (take i xs)) → one ≡ length (f x) → 16777216 < len + one → 16777216 < length (flat_map f xs)
+pub too_long_at : {X : Type 0} (f : X → List ℕ) (xs : List X) (i : ℕ) (x : X) (len one : ℕ) → i < length xs → x ≡ get_or xs i x → len ≡ length (flat_map f (take i xs)) → one ≡ length (f x) → 67108864 < len + one → 67108864 < length (flat_map f xs)
 too_long_at {X} f xs i x len one lt is e g more =
     let up = length-flat_map-take f xs i x lt in
     let same = ap (λ (y : X). length (f y)) is in

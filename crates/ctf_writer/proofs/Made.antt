@@ -3,11 +3,11 @@ use Rattle.std.proofs.Common.{◌≡◌, ℕ, List, ◌++◌, [], is_some, Ok, a
 use Rattle.std.proofs.lemmas.List.{append-nil}
 use Rattle.ctf_model.proofs.Denoted.{denotes_said}
 use Rattle.ctf_model.proofs.WrittenDrafts.{draft_denoted, draft_imported}
-use Rattle.ctf_model.specs.Dictionary.{Label, said_by}
-use Rattle.ctf_model.specs.DraftLaws.{IsSound}
-use Rattle.ctf_model.specs.Drafts.{Contents, Draft, all_of, followed_by, held, no_contents, settled}
-use Rattle.ctf_model.specs.Term.{Term}
-use Rattle.ctf_model.specs.Written.{lists_of, written}
+use Rattle.ctf_model.specs.format.Dictionary.{Label, said_by}
+use Rattle.ctf_model.specs.drafts.DraftLaws.{IsSound}
+use Rattle.ctf_model.specs.drafts.Drafts.{Contents, Draft, all_of, followed_by, held, no_contents, settled}
+use Rattle.ctf_model.specs.format.Term.{Term}
+use Rattle.ctf_model.specs.writing.Written.{lists_of, written}
 use Rattle.ctf_writer.specs.Updating.{StandsFor}
 
 pub stands_for : (d : Draft) (bytes : List ℕ) → IsSound d → written (held d) ≡ Ok bytes → StandsFor d bytes

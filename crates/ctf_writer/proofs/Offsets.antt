@@ -7,7 +7,7 @@ use Rattle.std.specs.Map.{lookup}
 use Rattle.std.specs.Str.{bytes_eq}
 use Rattle.std.proofs.lemmas.List.{length-append, map-append, append_assoc}
 use Rattle.std.proofs.lemmas.Option.{same_Some}
-use Rattle.ctf_model.specs.WrittenNames.{closed, string_bytes, reference, is_empty}
+use Rattle.ctf_model.specs.writing.WrittenNames.{closed, string_bytes, reference, is_empty}
 use Rattle.ctf_model.proofs.FoundAgain.{first_here, first_later}
 use Rattle.ctf_writer.specs.Offsets.{Entry, names_in, offsets_from, AreOffsets}
 

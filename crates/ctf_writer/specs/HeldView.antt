@@ -1,8 +1,8 @@
 -- What a draft lends to be written stands for. Source: ours.
 use Rattle.std.specs.Prelude.{ℕ, List, [], map}
-use Rattle.ctf_model.specs.Dictionary.{Dictionary, Label}
-use Rattle.ctf_model.specs.WrittenNames.{names_of}
-use Rattle.ctf_model.specs.WrittenRecords.{enumerator_bytes, member_bytes, record_bytes, u16}
+use Rattle.ctf_model.specs.format.Dictionary.{Dictionary, Label}
+use Rattle.ctf_model.specs.writing.WrittenNames.{names_of}
+use Rattle.ctf_model.specs.writing.WrittenRecords.{enumerator_bytes, member_bytes, record_bytes, u16}
 use Rattle.ctf_model.specs.declared.numbers.TypeNum.{TypeNum}
 use Rattle.ctf_draft.specs.TypeView.{enumerator_of, member_of, type_of}
 use Rattle.ctf_draft.specs.declared.types.DraftType.{DraftType}

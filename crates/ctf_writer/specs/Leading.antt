@@ -1,6 +1,6 @@
 -- Where the steps of a draft's types lead. Source: ours.
 use Rattle.std.specs.Prelude.{ℕ, Bool, List, length, map, Option}
-use Rattle.ctf_model.specs.Chains.{own_index}
+use Rattle.ctf_model.specs.rules.Chains.{own_index}
 use Rattle.ctf_chains.specs.Places.{Places}
 use Rattle.ctf_chains.specs.Steps.{steps}
 use Rattle.ctf_chains.specs.declared.chain.Chain.{Chain}

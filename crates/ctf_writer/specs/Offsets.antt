@@ -3,7 +3,7 @@ use Rattle.std.specs.Prelude.{◌≡◌, ℕ, ◌+◌, List, [], ◌∷◌, ◌+
 use Rattle.std.specs.Borrow.{Bor}
 use Rattle.std.specs.List.{list_any}
 use Rattle.std.specs.Str.{bytes_eq}
-use Rattle.ctf_model.specs.WrittenNames.{is_empty}
+use Rattle.ctf_model.specs.writing.WrittenNames.{is_empty}
 
 abbrev pub Entry : Type 0
 Entry = Bor (List ℕ) × ℕ

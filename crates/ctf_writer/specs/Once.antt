@@ -1,7 +1,7 @@
 -- Names that are added one after the other.
 use Rattle.std.specs.Prelude.{◌≡◌, [], fold}
-use Rattle.ctf_model.specs.Dictionary.{Dictionary}
-use Rattle.ctf_model.specs.WrittenNames.{strings_of, used_names}
+use Rattle.ctf_model.specs.format.Dictionary.{Dictionary}
+use Rattle.ctf_model.specs.writing.WrittenNames.{strings_of, used_names}
 use Rattle.ctf_writer.specs.Offsets.{with_name}
 
 -- adding each name at its use gives the strings of a dictionary

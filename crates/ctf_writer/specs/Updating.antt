@@ -2,11 +2,11 @@
 -- Source: libctf(3LIB), ctf_update.
 use Rattle.std.specs.Prelude.{◌≡◌, ℕ, List, Ok, None}
 use Rattle.std.specs.Option.{ForSome}
-use Rattle.ctf_model.specs.Dictionary.{Denotes, said_by}
-use Rattle.ctf_model.specs.Drafts.{Draft, held, settled}
-use Rattle.ctf_model.specs.Imports.{import_fault, of_one_model}
-use Rattle.ctf_model.specs.Kept.{Kept}
-use Rattle.ctf_model.specs.Written.{lists_of, written}
+use Rattle.ctf_model.specs.format.Dictionary.{Denotes, said_by}
+use Rattle.ctf_model.specs.drafts.Drafts.{Draft, held, settled}
+use Rattle.ctf_model.specs.spaces.Imports.{import_fault, of_one_model}
+use Rattle.ctf_model.specs.spaces.Kept.{Kept}
+use Rattle.ctf_model.specs.writing.Written.{lists_of, written}
 
 -- the bytes denote what the draft holds, and can be imported over its parent
 pub record StandsFor (d : Draft) (bytes : List ℕ) : Type 0 where

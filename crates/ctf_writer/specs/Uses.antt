@@ -1,8 +1,8 @@
 -- How names are added at their uses. Source: ours.
 use Rattle.std.specs.Prelude.{◌≡◌, ◌<◌, ℕ, List, length, fold, ◌⊎◌}
-use Rattle.ctf_model.specs.Refusals.{placeless, want_of_memory}
-use Rattle.ctf_model.specs.Written.{most_written}
-use Rattle.ctf_model.specs.WrittenNames.{string_bytes}
+use Rattle.ctf_model.specs.rules.Refusals.{placeless, want_of_memory}
+use Rattle.ctf_model.specs.writing.Written.{most_written}
+use Rattle.ctf_model.specs.writing.WrittenNames.{string_bytes}
 use Rattle.ctf_model.specs.declared.faults.Fault.{Fault}
 use Rattle.ctf_model.specs.declared.faults.TheConstants.Fault.{DICT_TOO_BIG}
 use Rattle.ctf_writer.specs.Offsets.{with_name}

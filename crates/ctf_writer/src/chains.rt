@@ -3,10 +3,10 @@
 ghost use Rattle.std.specs.Prelude.{◌≡◌, ◌+◌, ◌<◌, ◌⊎◌, length, map, None, Some, IfErr, IfOk, OnOk, Option, slice_index};
 ghost use Rattle.ctf_chains.specs.Steps.{steps};
 ghost use Rattle.ctf_draft.specs.TypeView.{body_of};
-ghost use Rattle.ctf_model.specs.Chains.{by_value, declarator, own_index as own_index_of};
-ghost use Rattle.ctf_model.specs.Faults.{or_later};
-ghost use Rattle.ctf_model.specs.Refusals.{want_of_memory};
-ghost use Rattle.ctf_model.specs.Written.{deep_by};
+ghost use Rattle.ctf_model.specs.rules.Chains.{by_value, declarator, own_index as own_index_of};
+ghost use Rattle.ctf_model.specs.rules.Faults.{or_later};
+ghost use Rattle.ctf_model.specs.rules.Refusals.{want_of_memory};
+ghost use Rattle.ctf_model.specs.writing.Written.{deep_by};
 ghost use Rattle.ctf_writer.specs.HeldView.{dictionary_of};
 ghost use Rattle.ctf_writer.specs.Leading.{draft_places, type_places};
 

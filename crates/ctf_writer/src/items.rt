@@ -2,9 +2,9 @@
 ghost use Rattle.std.specs.Prelude.{◌≡◌, ◌+◌, ◌≤◌, ◌<◌, ◌++◌, length, map, vec_len, vec_capacity};
 ghost use Rattle.std.specs.List.{flat_map, All};
 ghost use Rattle.ctf_draft.specs.TypeView.{enumerator_of, member_of, number_of};
-ghost use Rattle.ctf_model.specs.Fitting.{FitsMember};
-ghost use Rattle.ctf_model.specs.WritingLaws.{IsKept};
-ghost use Rattle.ctf_model.specs.WrittenRecords.{argument_bytes, member_bytes};
+ghost use Rattle.ctf_model.specs.drafts.Fitting.{FitsMember};
+ghost use Rattle.ctf_model.specs.writing.WritingLaws.{IsKept};
+ghost use Rattle.ctf_model.specs.writing.WrittenRecords.{argument_bytes, member_bytes};
 ghost use Rattle.ctf_writer.specs.HeldView.{written_argument, written_enumerator, written_member};
 ghost use Rattle.ctf_writer.specs.Tables.{names};
 

@@ -1,8 +1,8 @@
 //! The labels of a draft, as they are written.
 ghost use Rattle.std.specs.Prelude.{◌≡◌, ℕ, ◌*◌, ◌+◌, ◌<◌, ◌≤◌, ◌++◌, length, slice_index_or, vec_len, vec_capacity};
 ghost use Rattle.std.specs.List.{flat_map, All};
-ghost use Rattle.ctf_model.specs.Written.{label_bytes};
-ghost use Rattle.ctf_model.specs.WritingLaws.{IsKept};
+ghost use Rattle.ctf_model.specs.writing.Written.{label_bytes};
+ghost use Rattle.ctf_model.specs.writing.WritingLaws.{IsKept};
 ghost use Rattle.ctf_writer.specs.Tables.{names};
 ghost use Rattle.ctf_writer.specs.HeldView.{no_label};
 

@@ -1,7 +1,7 @@
 //! What a draft lends to be written.
 ghost use Rattle.std.specs.Prelude.{◌≡◌};
-ghost use Rattle.ctf_model.specs.DraftLaws.{IsSound};
-ghost use Rattle.ctf_model.specs.Drafts.{held};
+ghost use Rattle.ctf_model.specs.drafts.DraftLaws.{IsSound};
+ghost use Rattle.ctf_model.specs.drafts.Drafts.{held};
 ghost use Rattle.ctf_writer.specs.HeldView.{dictionary_of};
 
 use ctf_draft::{Draft, DraftType, Labels};

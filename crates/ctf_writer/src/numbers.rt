@@ -1,6 +1,6 @@
 //! Numbers, appended where there is room.
 ghost use Rattle.std.specs.Prelude.{◌≡◌, ◌+◌, ◌≤◌, ◌++◌, length, vec_len, vec_capacity};
-ghost use Rattle.ctf_model.specs.WrittenRecords.{u16 as two_bytes, u32 as four_bytes, halves, field_bytes};
+ghost use Rattle.ctf_model.specs.writing.WrittenRecords.{u16 as two_bytes, u32 as four_bytes, halves, field_bytes};
 
 /// Appends bytes where there is room.
 pub fn put(out: &mut Vec<u8>, bytes: &[u8])

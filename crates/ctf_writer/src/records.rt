@@ -2,11 +2,11 @@
 ghost use Rattle.std.specs.Prelude.{◌≡◌, ◌+◌, ◌≤◌, ◌++◌, length, vec_len, vec_capacity};
 ghost use Rattle.std.specs.List.{AllByRecursion};
 ghost use Rattle.ctf_draft.specs.TypeView.{body_of, scalar_of, type_of};
-ghost use Rattle.ctf_model.specs.Fitting.{Fits, FitsBody};
-ghost use Rattle.ctf_model.specs.Shown.{array_parts, kind_of};
-ghost use Rattle.ctf_model.specs.WritingLaws.{IsKept};
-ghost use Rattle.ctf_model.specs.WrittenNames.{listed_names, names_of};
-ghost use Rattle.ctf_model.specs.WrittenRecords.{element_bytes, field_of, info_of, list_len, number_of_kind, record_bytes, scalar_bytes, tag_number as tag_number_of, variant_bytes};
+ghost use Rattle.ctf_model.specs.drafts.Fitting.{Fits, FitsBody};
+ghost use Rattle.ctf_model.specs.format.Shown.{array_parts, kind_of};
+ghost use Rattle.ctf_model.specs.writing.WritingLaws.{IsKept};
+ghost use Rattle.ctf_model.specs.writing.WrittenNames.{listed_names, names_of};
+ghost use Rattle.ctf_model.specs.writing.WrittenRecords.{element_bytes, field_of, info_of, list_len, number_of_kind, record_bytes, scalar_bytes, tag_number as tag_number_of, variant_bytes};
 ghost use Rattle.ctf_records.specs.RecordView.{tag_of};
 ghost use Rattle.ctf_writer.specs.Tables.{names};
 

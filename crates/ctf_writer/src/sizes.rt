@@ -2,10 +2,10 @@
 ghost use Rattle.std.specs.Prelude.{◌≡◌, ℕ, ◌*◌, ◌+◌, ◌<◌, ◌≤◌, List, length, MatchOption};
 ghost use Rattle.std.specs.List.{flat_map, All};
 ghost use Rattle.ctf_draft.specs.TypeView.{body_of, type_of};
-ghost use Rattle.ctf_model.specs.Fitting.{Fits, FitsBody};
-ghost use Rattle.ctf_model.specs.Record.{member_len as member_len_of};
-ghost use Rattle.ctf_model.specs.Written.{most_written};
-ghost use Rattle.ctf_model.specs.WrittenRecords.{variant_bytes};
+ghost use Rattle.ctf_model.specs.drafts.Fitting.{Fits, FitsBody};
+ghost use Rattle.ctf_model.specs.format.Record.{member_len as member_len_of};
+ghost use Rattle.ctf_model.specs.writing.Written.{most_written};
+ghost use Rattle.ctf_model.specs.writing.WrittenRecords.{variant_bytes};
 ghost use Rattle.ctf_writer.specs.HeldView.{written_type};
 
 use crate::items::FIRST_WIDE;

@@ -2,8 +2,8 @@
 ghost use Rattle.std.specs.Prelude.{vec_len, vec_capacity, ◌≡◌, ◌<◌, ◌≤◌, ◌+◌, ◌++◌, [], ◌∷◌, false, length, IfErr, OnOk, OnErr, ◌⊎◌};
 ghost use Rattle.std.specs.List.{list_any};
 ghost use Rattle.std.specs.Str.{bytes_eq};
-ghost use Rattle.ctf_model.specs.WritingLaws.{IsKept};
-ghost use Rattle.ctf_model.specs.WrittenNames.{closed, string_bytes, reference};
+ghost use Rattle.ctf_model.specs.writing.WritingLaws.{IsKept};
+ghost use Rattle.ctf_model.specs.writing.WrittenNames.{closed, string_bytes, reference};
 ghost use Rattle.ctf_writer.specs.Offsets.{names_in, AreOffsets, with_name};
 ghost use Rattle.ctf_writer.specs.Uses.{IsRefused};
 
@@ -13,7 +13,7 @@ use indexmap::IndexMap;
 use std::alloc::{AllocError, Global};
 
 /// The greatest length of a written dictionary, in bytes.
-pub const LONGEST: usize = 16_777_216;
+pub const LONGEST: usize = 67_108_864;
 
 /// Names in the order of their first use.
 #[derive(Drop)]
@@ -22,7 +22,7 @@ pub struct Strings<'a> {
     len: usize,
     ghost placed: { AreOffsets offsets.entries },
     ghost ends: { len ≡ length (string_bytes (names_in offsets.entries)) },
-    ghost within: { len ≤ 16777216 },
+    ghost within: { len ≤ 67108864 },
 }
 
 impl<'a> Strings<'a> {
@@ -40,7 +40,7 @@ impl<'a> Strings<'a> {
     /// The length of the string section.
     pub fn len(&self) -> usize
         ensures exact { result ≡ length (string_bytes (names self.now)) }
-        ensures short { result ≤ 16777216 }
+        ensures short { result ≤ 67108864 }
     {
         self.len
     }
@@ -55,7 +55,7 @@ impl<'a> Strings<'a> {
     /// Adds a name that is not there yet, behind the others.
     fn push(&mut self, name: &'a [u8]) -> Result<(), AllocError>
         requires fresh { list_any (bytes_eq name.now) (names self.old) ≡ false }
-        requires room { length (string_bytes (names self.old)) + length name.now < 16777216 }
+        requires room { length (string_bytes (names self.old)) + length name.now < 67108864 }
         ensures ok { OnOk result (names self.new ≡ names self.old ++ name.now ∷ []) }
         ensures err { OnErr result (names self.new ≡ names self.old) }
     {

@@ -1,9 +1,9 @@
 //! What was added to a draft becomes part of its dictionary.
 ghost use Rattle.std.specs.Prelude.{◌≡◌, ◌⊎◌, IfErr, IfOk, OnErr, OnOk, MatchOption, None, Err};
-ghost use Rattle.ctf_model.specs.Drafts.{held as held_by, settled};
-ghost use Rattle.ctf_model.specs.Faults.{first_fault};
-ghost use Rattle.ctf_model.specs.Refusals.{want_of_memory};
-ghost use Rattle.ctf_model.specs.Written.{lists_of, written};
+ghost use Rattle.ctf_model.specs.drafts.Drafts.{held as held_by, settled};
+ghost use Rattle.ctf_model.specs.rules.Faults.{first_fault};
+ghost use Rattle.ctf_model.specs.rules.Refusals.{want_of_memory};
+ghost use Rattle.ctf_model.specs.writing.Written.{lists_of, written};
 ghost use Rattle.ctf_writer.specs.Updating.{IsMadeOf};
 
 use crate::writing::write;

@@ -2,12 +2,12 @@
 ghost use Rattle.std.specs.Prelude.{◌≡◌, ◌+◌, ◌<◌, ◌≤◌, ◌^◌, ◌⊎◌, ◌++◌, length, IfErr, IfOk, MatchOption, Err, Ok, vec_len, vec_capacity};
 ghost use Rattle.std.specs.List.{All, AllByRecursion, flat_map};
 ghost use Rattle.ctf_draft.specs.TypeView.{type_of};
-ghost use Rattle.ctf_model.specs.Drafts.{held as held_by};
-ghost use Rattle.ctf_model.specs.Fitting.{Fits};
-ghost use Rattle.ctf_model.specs.Refusals.{want_of_memory};
-ghost use Rattle.ctf_model.specs.WritingLaws.{IsKept};
-ghost use Rattle.ctf_model.specs.Written.{bytes_of, fields_over, header_bytes, labels_written, most_written, records_written, written};
-ghost use Rattle.ctf_model.specs.WrittenNames.{strings_of as strings_in};
+ghost use Rattle.ctf_model.specs.drafts.Drafts.{held as held_by};
+ghost use Rattle.ctf_model.specs.drafts.Fitting.{Fits};
+ghost use Rattle.ctf_model.specs.rules.Refusals.{want_of_memory};
+ghost use Rattle.ctf_model.specs.writing.WritingLaws.{IsKept};
+ghost use Rattle.ctf_model.specs.writing.Written.{bytes_of, fields_over, header_bytes, labels_written, most_written, records_written, written};
+ghost use Rattle.ctf_model.specs.writing.WrittenNames.{strings_of as strings_in};
 ghost use Rattle.ctf_writer.specs.HeldView.{dictionary_of, uses, written_type};
 ghost use Rattle.ctf_writer.specs.Tables.{names};
 ghost use Rattle.ctf_writer.specs.Updating.{StandsFor};

@@ -1,7 +1,7 @@
 use Rattle.std.proofs.Common.{◌≡◌, ℕ, ◌+◌, ◌≤◌, List, Option, subst, arith}
 use Rattle.std.proofs.lemmas.Result.{IfOk-weaker}
-use Rattle.ctf_model.specs.Chains.{longest_chain}
-use Rattle.ctf_model.specs.Section.{records}
+use Rattle.ctf_model.specs.rules.Chains.{longest_chain}
+use Rattle.ctf_model.specs.format.Section.{records}
 use Rattle.ctf_chains.specs.Deep.{IsLeastDeep, IsLeastDeepType}
 use Rattle.ctf_chains.specs.Numbers.{section_places}
 use Rattle.ctf_chains.specs.Places.{full_work, steps_between}

@@ -1,5 +1,5 @@
 use Rattle.std.proofs.Common.{◌≡◌, ◌≤◌, arith, slice_index_or}
-use Rattle.ctf_model.specs.Chains.{IsWithin}
+use Rattle.ctf_model.specs.rules.Chains.{IsWithin}
 use Rattle.ctf_chains.specs.Places.{steps_between, full_work}
 use Rattle.ctf_chains.specs.Search.{GoesOn, work_left}
 use Rattle.ctf_chains.proofs.Visits.{one_more_before, one_more_entered, found, empty_knows, on_way_none}

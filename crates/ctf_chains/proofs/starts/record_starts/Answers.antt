@@ -1,6 +1,6 @@
 use Rattle.std.proofs.Common.{◌≡◌, ◌+◌, [], length, ap, ◌∙◌, refl, arith}
 use Rattle.std.specs.Prelude.{vec_len}
-use Rattle.ctf_model.specs.Section.{records}
+use Rattle.ctf_model.specs.format.Section.{records}
 use Rattle.ctf_chains.proofs.Begins.{records_at}
 use Rattle.ctf_chains.proofs.starts.record_starts.Goals as goal
 

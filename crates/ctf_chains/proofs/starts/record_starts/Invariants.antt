@@ -1,5 +1,5 @@
 use Rattle.std.proofs.Common.{◌≡◌, ◌+◌, ◌≤◌, ◌++◌, length, vec_len, vec_capacity}
-use Rattle.ctf_model.specs.Section.{records}
+use Rattle.ctf_model.specs.format.Section.{records}
 use Rattle.ctf_chains.specs.Starts.{starts_in}
 use Rattle.ctf_chains.proofs.Begins.{AreAt}
 use Rattle.ctf_chains.proofs.starts.record_starts.Given as goal

@@ -1,5 +1,5 @@
 use Rattle.std.proofs.Common.{◌-◌, inl, inr, sym, ap, length, arith}
-use Rattle.ctf_model.specs.Section.{records}
+use Rattle.ctf_model.specs.format.Section.{records}
 use Rattle.ctf_records.specs.RecordView.{piece}
 use Rattle.ctf_chains.proofs.Begins.{starts_count}
 use Rattle.ctf_check.proofs.Indexed.{found_numbered, none_numbered}

@@ -1,11 +1,11 @@
 use Rattle.std.proofs.Common.{◌≡◌, eqb, List, ℕ, Result, option_copied, None, inr, refl, sym, ap, ◌∙◌, length}
 use Rattle.std.specs.Prelude.{not}
 use Rattle.std.proofs.lemmas.Result.{err_from_is_err_and}
-use Rattle.ctf_model.specs.Faults.{first_nameless, sites}
-use Rattle.ctf_model.specs.Header.{Fields, fields, is_child}
-use Rattle.ctf_model.specs.Lists.{Lists, tables as tables_of}
-use Rattle.ctf_model.specs.Name.{Tables}
-use Rattle.ctf_model.specs.Section.{Piece, records}
+use Rattle.ctf_model.specs.rules.Faults.{first_nameless, sites}
+use Rattle.ctf_model.specs.format.Header.{Fields, fields, is_child}
+use Rattle.ctf_model.specs.format.Lists.{Lists, tables as tables_of}
+use Rattle.ctf_model.specs.format.Name.{Tables}
+use Rattle.ctf_model.specs.format.Section.{Piece, records}
 use Rattle.ctf_model.specs.declared.faults.Fault.{Fault}
 use Rattle.ctf_check.specs.ListsView.{given}
 use Rattle.ctf_check.specs.Stages.{records_fault}

@@ -1,6 +1,6 @@
 use Rattle.std.proofs.Common.{◌≡◌, ◌+◌, length}
-use Rattle.ctf_model.specs.Faults.{walk_fault}
-use Rattle.ctf_model.specs.Section.{records}
+use Rattle.ctf_model.specs.rules.Faults.{walk_fault}
+use Rattle.ctf_model.specs.format.Section.{records}
 use Rattle.ctf_check.proofs.judge.count_records.Given as goal
 
 abbrev pub invariant-loop-record : goal.invariant-loop-record

@@ -1,6 +1,6 @@
 use Rattle.std.proofs.Common.{None, ◌∙◌, sym, inr}
 use Rattle.std.proofs.lemmas.Result.{on_ok_weaker, IfErr-weaker}
-use Rattle.ctf_model.specs.Section.{records}
+use Rattle.ctf_model.specs.format.Section.{records}
 use Rattle.ctf_check.proofs.TypeStages.{at_reference, past_references, or_memory}
 use Rattle.ctf_check.proofs.judge.judge_types.Goals as goal
 

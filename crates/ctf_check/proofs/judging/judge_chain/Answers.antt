@@ -1,5 +1,5 @@
 use Rattle.std.proofs.Common.{length, Some, None, inr, refl, arith}
-use Rattle.ctf_model.specs.Section.{records}
+use Rattle.ctf_model.specs.format.Section.{records}
 use Rattle.ctf_check.proofs.LongChains.{found_place, found_inside}
 use Rattle.ctf_check.proofs.judging.judge_chain.Goals as goal
 

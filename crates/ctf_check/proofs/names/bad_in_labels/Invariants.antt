@@ -1,5 +1,5 @@
 use Rattle.std.proofs.Common.{◌≡◌, ◌+◌, ◌-◌, ◌*◌}
-use Rattle.ctf_model.specs.Faults.{first_nameless, label_sites}
+use Rattle.ctf_model.specs.rules.Faults.{first_nameless, label_sites}
 use Rattle.ctf_check.specs.EndsView.{tables_in}
 use Rattle.ctf_check.proofs.names.bad_in_labels.Given as goal
 

@@ -1,6 +1,6 @@
 use Rattle.std.proofs.Common.{◌≡◌}
-use Rattle.ctf_model.specs.Faults.{first_nameless, record_sites}
-use Rattle.ctf_model.specs.Section.{records}
+use Rattle.ctf_model.specs.rules.Faults.{first_nameless, record_sites}
+use Rattle.ctf_model.specs.format.Section.{records}
 use Rattle.ctf_check.specs.EndsView.{tables_in}
 use Rattle.ctf_check.proofs.names.bad_in_records.Given as goal
 

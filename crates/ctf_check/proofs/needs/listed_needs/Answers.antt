@@ -1,5 +1,5 @@
 use Rattle.std.proofs.Common.{◌≡◌, ◌<◌, ◌+◌, max, length, drop, arith}
-use Rattle.ctf_model.specs.Needs.{greatest_in_parent}
+use Rattle.ctf_model.specs.rules.Needs.{greatest_in_parent}
 use Rattle.ctf_records.specs.ListedTypes.{listed_types}
 use Rattle.ctf_records.specs.RecordView.{bytes_of}
 use Rattle.ctf_check.proofs.Listed.{greatest_next}

@@ -1,5 +1,5 @@
 use Rattle.std.proofs.Common.{◌≡◌, max}
-use Rattle.ctf_model.specs.Section.{records}
+use Rattle.ctf_model.specs.format.Section.{records}
 use Rattle.ctf_check.specs.Needed.{records_need}
 use Rattle.ctf_check.proofs.needs.records_need.Given as goal
 

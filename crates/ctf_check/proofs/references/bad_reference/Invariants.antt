@@ -1,5 +1,5 @@
 use Rattle.std.proofs.Common.{◌≡◌}
-use Rattle.ctf_model.specs.Section.{records}
+use Rattle.ctf_model.specs.format.Section.{records}
 use Rattle.ctf_check.specs.Named.{first_that_misnames}
 use Rattle.ctf_check.proofs.references.bad_reference.Given as goal
 

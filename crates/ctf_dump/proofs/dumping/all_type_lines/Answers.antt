@@ -1,9 +1,9 @@
 use Rattle.std.proofs.Common.{ℕ, ◌<◌, ◌≤◌, arith, ap, ◌∙◌, subst, length}
 use Rattle.std.specs.Io.KnownBytes.{Appends}
-use Rattle.ctf_model.specs.Dictionary.{Dictionary}
-use Rattle.ctf_model.specs.Dump.{types_from}
-use Rattle.ctf_model.specs.Space.{space_type}
-use Rattle.ctf_model.specs.TypePlaces.{own_number}
+use Rattle.ctf_model.specs.format.Dictionary.{Dictionary}
+use Rattle.ctf_model.specs.dumps.Dump.{types_from}
+use Rattle.ctf_model.specs.spaces.Space.{space_type}
+use Rattle.ctf_model.specs.spaces.TypePlaces.{own_number}
 use Rattle.ctf_names.proofs.Few.{few_terms}
 use Rattle.ctf_space.specs.SpaceView.{own_lists, space_of}
 use Rattle.ctf_dump.specs.Words.{lines_of_type}

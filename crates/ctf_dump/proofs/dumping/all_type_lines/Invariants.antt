@@ -1,7 +1,7 @@
 use Rattle.std.proofs.Common.{◌≡◌, [], drop}
 use Rattle.ctf_dump.specs.Progress.{HasWritten}
 use Rattle.ctf_layout.specs.Fitting.{Fits}
-use Rattle.ctf_model.specs.Dump.{types_from}
+use Rattle.ctf_model.specs.dumps.Dump.{types_from}
 use Rattle.ctf_space.specs.SpaceView.{space_of}
 use Rattle.ctf_dump.proofs.dumping.all_type_lines.Given as goal
 

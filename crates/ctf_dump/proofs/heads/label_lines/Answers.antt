@@ -1,7 +1,7 @@
 use Rattle.std.proofs.Common.{List, subst}
 use Rattle.std.specs.List.{flat_map}
-use Rattle.ctf_model.specs.Dump.{label_line}
-use Rattle.ctf_model.specs.Dictionary.{Label}
+use Rattle.ctf_model.specs.dumps.Dump.{label_line}
+use Rattle.ctf_model.specs.format.Dictionary.{Label}
 use Rattle.ctf_views.specs.ItemsView.{label}
 use Rattle.ctf_dump.specs.Progress.{HasWritten}
 use Rattle.ctf_dump.proofs.Progress.{one_more}

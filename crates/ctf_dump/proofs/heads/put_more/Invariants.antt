@@ -1,6 +1,6 @@
 use Rattle.std.proofs.Common.{◌≡◌, ◌++◌, map}
 use Rattle.std.specs.Prelude.{decimal}
-use Rattle.ctf_model.specs.Texts.{after_commas}
+use Rattle.ctf_model.specs.dumps.Texts.{after_commas}
 use Rattle.ctf_dump.proofs.heads.put_more.Given as goal
 
 abbrev pub invariant-loop-arg : goal.invariant-loop-arg

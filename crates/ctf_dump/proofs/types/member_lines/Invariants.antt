@@ -1,6 +1,6 @@
 use Rattle.std.proofs.Common.{◌≡◌, []}
 use Rattle.std.specs.List.{flat_map}
-use Rattle.ctf_model.specs.Dump.{member_line}
+use Rattle.ctf_model.specs.dumps.Dump.{member_line}
 use Rattle.ctf_dump.specs.Progress.{HasWritten}
 use Rattle.ctf_dump.proofs.types.member_lines.Given as goal
 

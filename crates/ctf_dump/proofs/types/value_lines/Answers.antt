@@ -1,7 +1,7 @@
 use Rattle.std.proofs.Common.{List, subst}
 use Rattle.std.specs.List.{flat_map}
-use Rattle.ctf_model.specs.Dump.{value_line}
-use Rattle.ctf_model.specs.Term.{Enumerator}
+use Rattle.ctf_model.specs.dumps.Dump.{value_line}
+use Rattle.ctf_model.specs.format.Term.{Enumerator}
 use Rattle.ctf_views.specs.ItemsView.{enumerator}
 use Rattle.ctf_dump.specs.Progress.{HasWritten}
 use Rattle.ctf_dump.proofs.Progress.{one_more}

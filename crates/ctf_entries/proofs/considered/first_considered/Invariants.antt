@@ -1,5 +1,5 @@
 use Rattle.std.proofs.Common.{◌≡◌, ◌+◌, ◌≤◌, ◌^◌, length}
-use Rattle.ctf_model.specs.Symbols.{considered_from, symbols_of}
+use Rattle.ctf_model.specs.symbols.Symbols.{considered_from, symbols_of}
 use Rattle.ctf_entries.specs.NamesView.{strings_of}
 use Rattle.ctf_entries.proofs.considered.first_considered.Given as goal
 

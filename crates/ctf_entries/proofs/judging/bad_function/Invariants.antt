@@ -1,5 +1,5 @@
 use Rattle.std.proofs.Common.{◌≡◌, option_copied}
-use Rattle.ctf_model.specs.Symbols.{considered, symbols_of}
+use Rattle.ctf_model.specs.symbols.Symbols.{considered, symbols_of}
 use Rattle.ctf_entries.specs.Sound.{bad_place}
 use Rattle.ctf_entries.proofs.judging.bad_function.Given as goal
 

@@ -2,8 +2,8 @@ use Rattle.std.proofs.Common.{◌≡◌, ℕ, ◌+◌, sym, ap, ◌∙◌, arith
 use Rattle.std.specs.Prelude.{option_map}
 use Rattle.ctf_check.specs.FactsView.{shape_seen}
 use Rattle.ctf_check.specs.TypedView.{spelled}
-use Rattle.ctf_model.specs.Figures.{of_found, resolving}
-use Rattle.ctf_model.specs.TypePlaces.{place}
+use Rattle.ctf_model.specs.figures.Figures.{of_found, resolving}
+use Rattle.ctf_model.specs.spaces.TypePlaces.{place}
 use Rattle.ctf_model.specs.declared.numbers.Place.TheVariants.{Parents}
 use Rattle.ctf_space.specs.SpaceView.{space_of}
 use Rattle.ctf_layout.proofs.Follow.{by_renamed, found_shape, left, left_all, left_found, left_none, left_out, left_parents}

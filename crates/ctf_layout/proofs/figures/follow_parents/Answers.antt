@@ -1,7 +1,7 @@
 use Rattle.std.proofs.Common.{◌≡◌, ℕ, refl, sym, ap, ◌∙◌}
 use Rattle.std.specs.Prelude.{Err, Ok}
-use Rattle.ctf_model.specs.TypeNumbers.{no_parent}
-use Rattle.ctf_model.specs.TypePlaces.{place}
+use Rattle.ctf_model.specs.spaces.TypeNumbers.{no_parent}
+use Rattle.ctf_model.specs.spaces.TypePlaces.{place}
 use Rattle.ctf_model.specs.declared.numbers.Place.TheVariants.{Parents}
 use Rattle.ctf_space.specs.SpaceView.{alone, space_of}
 use Rattle.ctf_layout.specs.Following.{onward}

@@ -1,5 +1,5 @@
 use Rattle.std.proofs.Common.{◌≡◌, sym, ap, ◌∙◌}
-use Rattle.ctf_model.specs.Figures.{referred_by}
+use Rattle.ctf_model.specs.figures.Figures.{referred_by}
 use Rattle.ctf_check.specs.FactsView.{shape_seen}
 use Rattle.ctf_check.specs.TypedView.{spelled}
 use Rattle.ctf_layout.proofs.Follow.{referred_shape}

@@ -1,5 +1,5 @@
 use Rattle.std.proofs.Common.{◌≡◌, sym, ap, ◌∙◌}
-use Rattle.ctf_model.specs.Figures.{parents_figure, resolving}
+use Rattle.ctf_model.specs.figures.Figures.{parents_figure, resolving}
 use Rattle.ctf_space.specs.SpaceView.{space_of}
 use Rattle.ctf_layout.specs.Following.{onward}
 use Rattle.ctf_layout.proofs.Follow.{resolved_is}

@@ -8,9 +8,9 @@ use Rattle.ctf_layout.specs.Table.{IsUnderway, IsVisited}
 use Rattle.ctf_layout.specs.declared.bases.Basis.TheVariants.{Itself, One, Members}
 use Rattle.ctf_layout.specs.declared.extents.Amount.TheVariants.{Known}
 use Rattle.ctf_layout.specs.declared.extents.Extent.{Extent}
-use Rattle.ctf_model.specs.Chains.{by_value}
-use Rattle.ctf_model.specs.FigureLaws.{own_body, value_edges}
-use Rattle.ctf_model.specs.Figures.{align}
+use Rattle.ctf_model.specs.rules.Chains.{by_value}
+use Rattle.ctf_model.specs.figures.FigureLaws.{own_body, value_edges}
+use Rattle.ctf_model.specs.figures.Figures.{align}
 use Rattle.ctf_layout.proofs.HangsOn.{IsOwnAt, basis_read, itself_extent, one_extent, members_extent, greatest_step}
 use Rattle.ctf_layout.proofs.Leading.{leads_within, one_found, step_found}
 use Rattle.ctf_layout.proofs.Visits.{none_from, visited_before, begun, more_steps, visited_one, visited, at_number}

@@ -3,9 +3,9 @@ use Rattle.ctf_layout.specs.Bases.{greatest_of}
 use Rattle.ctf_layout.specs.Extents.{amount}
 use Rattle.ctf_layout.specs.Kept.{table_kept}
 use Rattle.ctf_layout.specs.Table.{IsUnderway}
-use Rattle.ctf_model.specs.Chains.{by_value}
-use Rattle.ctf_model.specs.FigureLaws.{own_body}
-use Rattle.ctf_model.specs.Figures.{align}
+use Rattle.ctf_model.specs.rules.Chains.{by_value}
+use Rattle.ctf_model.specs.figures.FigureLaws.{own_body}
+use Rattle.ctf_model.specs.figures.Figures.{align}
 use Rattle.ctf_layout.proofs.filling.+extent.Given as goal
 
 abbrev pub decreases-extent : goal.decreases-extent

@@ -1,6 +1,6 @@
 use Rattle.std.proofs.Common.{◌≡◌, sym, ap, ◌∙◌}
-use Rattle.ctf_model.specs.Paths.{members_found}
-use Rattle.ctf_model.specs.Shown.{members_in}
+use Rattle.ctf_model.specs.figures.Paths.{members_found}
+use Rattle.ctf_model.specs.format.Shown.{members_in}
 use Rattle.ctf_check.specs.TypedView.{spelled}
 use Rattle.ctf_views.specs.VariantView.{seen}
 use Rattle.ctf_views.specs.declared.shown.Variant.{Variant}

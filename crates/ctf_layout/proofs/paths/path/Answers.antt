@@ -1,5 +1,5 @@
 use Rattle.std.proofs.Common.{◌≡◌, ◌+◌, drop, map, sym, ap, ◌∙◌, rules, arith}
-use Rattle.ctf_model.specs.Paths.{and_on, path_from}
+use Rattle.ctf_model.specs.figures.Paths.{and_on, path_from}
 use Rattle.ctf_space.specs.SpaceView.{space_of}
 use Rattle.ctf_layout.specs.Reached.{spot}
 use Rattle.ctf_layout.proofs.PathSteps.{path_end, path_next}

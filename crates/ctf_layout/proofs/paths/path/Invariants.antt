@@ -1,5 +1,5 @@
 use Rattle.std.proofs.Common.{◌≡◌, ◌+◌, drop, map}
-use Rattle.ctf_model.specs.Paths.{path, path_from}
+use Rattle.ctf_model.specs.figures.Paths.{path, path_from}
 use Rattle.ctf_space.specs.SpaceView.{space_of}
 use Rattle.ctf_layout.specs.Reached.{spot}
 use Rattle.ctf_layout.proofs.paths.path.Given as goal

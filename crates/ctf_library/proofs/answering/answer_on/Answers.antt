@@ -1,5 +1,5 @@
 use Rattle.std.proofs.Common.{ap, inl, ◌∙◌}
-use Rattle.ctf_protocol.specs.Questions.{said_of}
+use Rattle.ctf_protocol.specs.answers.Questions.{said_of}
 use Rattle.ctf_space.specs.SpaceView.{space_of}
 use Rattle.ctf_library.proofs.SaidOfFacts.{said_of_facts}
 use Rattle.ctf_library.proofs.answering.answer_on.Goals as goal

@@ -1,5 +1,5 @@
 use Rattle.std.proofs.Common.{ap, ◌∙◌}
-use Rattle.ctf_protocol.specs.Questions.{align_fields, as_fields, size_fields}
+use Rattle.ctf_protocol.specs.answers.Questions.{align_fields, as_fields, size_fields}
 use Rattle.ctf_space.specs.SpaceView.{space_of}
 use Rattle.ctf_library.proofs.answering.plain_answer.Goals as goal
 

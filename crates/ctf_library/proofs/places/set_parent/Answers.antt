@@ -1,8 +1,8 @@
 use Rattle.std.specs.Prelude.{option_map}
 use Rattle.ctf_draft.specs.declared.draft.Draft.{Draft}
 use Rattle.std.proofs.Common.{◌≡◌, List, map, Some, None, Option, IfSome, ap, sym, subst, ◌∙◌, arith}
-use Rattle.ctf_protocol.specs.State.{Slot}
-use Rattle.ctf_model.specs.Kept.{fault_over}
+use Rattle.ctf_protocol.specs.sessions.State.{Slot}
+use Rattle.ctf_model.specs.spaces.Kept.{fault_over}
 use Rattle.ctf_library.specs.Fitting.{AreTablesOf}
 use Rattle.ctf_library.specs.SlotPlaces.{place_of}
 use Rattle.ctf_library.specs.SlotView.{slot_of}

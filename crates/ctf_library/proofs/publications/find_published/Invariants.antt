@@ -1,6 +1,6 @@
 use Rattle.std.proofs.Common.{◌≡◌, drop}
 use Rattle.std.specs.Prelude.{map}
-use Rattle.ctf_protocol.specs.Publications.{published_as}
+use Rattle.ctf_protocol.specs.sessions.Publications.{published_as}
 use Rattle.ctf_library.specs.SlotView.{publication_of}
 use Rattle.ctf_library.proofs.publications.find_published.Given as goal
 

@@ -1,10 +1,10 @@
 use Rattle.std.proofs.Common.{◌≡◌, Some, None, ap, subst, sym, ◌∙◌}
 use Rattle.ctf_check.specs.CheckedView.{dictionary_of, lists_of}
 use Rattle.ctf_library.proofs.Importing.{parents_fit, same_models}
-use Rattle.ctf_model.specs.Dictionary.{said_by}
-use Rattle.ctf_model.specs.Kept.{fault_over}
-use Rattle.ctf_model.specs.Lists.{Lists}
-use Rattle.ctf_model.specs.Space as spaces
+use Rattle.ctf_model.specs.format.Dictionary.{said_by}
+use Rattle.ctf_model.specs.spaces.Kept.{fault_over}
+use Rattle.ctf_model.specs.format.Lists.{Lists}
+use Rattle.ctf_model.specs.spaces.Space as spaces
 use Rattle.ctf_names.specs.Fitting as names
 use Rattle.ctf_space.specs.SpaceView.{parent_lists, space_of}
 use Rattle.ctf_library.proofs.tables.tables_over.Goals as goal

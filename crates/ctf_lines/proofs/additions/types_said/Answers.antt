@@ -1,7 +1,7 @@
 use Rattle.std.proofs.Common.{◌+◌, ◌++◌, List, drop, arith, ap, sym, ◌∙◌, Some}
 use Rattle.std.specs.Option.{option_map}
 use Rattle.serde_json.specs.View.{items_view}
-use Rattle.ctf_protocol.specs.AskAdditions.{type_said, types_said}
+use Rattle.ctf_protocol.specs.lines.AskAdditions.{type_said, types_said}
 use Rattle.ctf_model.specs.declared.numbers.TypeNum.{TypeNum}
 use Rattle.ctf_lines.proofs.SaidItems.{next_said, none_said, all_said}
 use Rattle.ctf_lines.proofs.additions.types_said.Goals as goal

@@ -1,7 +1,7 @@
 use Rattle.std.proofs.Common.{◌≡◌, ◌≤◌, ◌++◌, drop, length, vec_len, vec_capacity}
 use Rattle.std.specs.Option.{option_map}
 use Rattle.serde_json.specs.View.{items_view}
-use Rattle.ctf_protocol.specs.AskAdditions.{types_said}
+use Rattle.ctf_protocol.specs.lines.AskAdditions.{types_said}
 use Rattle.ctf_lines.proofs.additions.types_said.Given as goal
 
 abbrev pub invariant-loop-value : goal.invariant-loop-value

@@ -1,6 +1,6 @@
 use Rattle.std.proofs.Common.{arith}
 use Rattle.std.proofs.lemmas.List.Folds.{length-flat_map-take}
-use Rattle.ctf_model.specs.Texts.{hex_of_byte}
+use Rattle.ctf_model.specs.dumps.Texts.{hex_of_byte}
 use Rattle.ctf_lines.proofs.names.append_hex.Goals as goal
 
 pub append_digits-requires : goal.append_digits-requires

@@ -1,5 +1,5 @@
 use Rattle.std.proofs.Common.{◌≡◌, ◌++◌, ◌+◌, length, take, vec_capacity, vec_len}
-use Rattle.ctf_protocol.specs.Text.{hex_of}
+use Rattle.ctf_protocol.specs.lines.Text.{hex_of}
 use Rattle.ctf_lines.proofs.names.append_hex.Given as goal
 
 abbrev pub invariant-loop-byte : goal.invariant-loop-byte

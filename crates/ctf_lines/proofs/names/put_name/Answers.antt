@@ -1,5 +1,5 @@
 use Rattle.std.proofs.Common.{drop}
-use Rattle.ctf_protocol.specs.Text.{text_of_byte, text_of}
+use Rattle.ctf_protocol.specs.lines.Text.{text_of_byte, text_of}
 use Rattle.ctf_lines.proofs.Walks.{as_text, walked, left_out, all_walked}
 use Rattle.ctf_lines.proofs.names.put_name.Goals as goal
 

@@ -1,5 +1,5 @@
 use Rattle.std.proofs.Common.{take}
-use Rattle.ctf_protocol.specs.Text.{text_of}
+use Rattle.ctf_protocol.specs.lines.Text.{text_of}
 use Rattle.ctf_lines.proofs.names.put_name.Given as goal
 
 abbrev pub invariant-loop-byte : goal.invariant-loop-byte

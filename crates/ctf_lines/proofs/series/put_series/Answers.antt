@@ -1,6 +1,6 @@
 use Rattle.std.proofs.Common.{arith, ap, sym, ◌∙◌}
 use Rattle.std.proofs.lemmas.List.{take_all}
-use Rattle.ctf_model.specs.Texts.{separated}
+use Rattle.ctf_model.specs.dumps.Texts.{separated}
 use Rattle.ctf_lines.proofs.Separated.{first-next, first-rest}
 use Rattle.ctf_lines.proofs.Walks.{as_text}
 use Rattle.ctf_lines.proofs.series.put_series.Goals as goal

@@ -1,5 +1,5 @@
 use Rattle.std.proofs.Common.{take}
-use Rattle.ctf_model.specs.Texts.{separated}
+use Rattle.ctf_model.specs.dumps.Texts.{separated}
 use Rattle.ctf_lines.proofs.series.put_series.Given as goal
 
 abbrev pub invariant-loop-index : goal.invariant-loop-index

@@ -1,6 +1,6 @@
 use Rattle.std.proofs.Common.{◌≡◌, ◌+◌, ◌≤◌, ◌++◌, length, vec_len, vec_capacity}
 use Rattle.std.specs.Option.{option_map}
-use Rattle.ctf_protocol.specs.Text.{bytes_spelled_by}
+use Rattle.ctf_protocol.specs.lines.Text.{bytes_spelled_by}
 use Rattle.ctf_lines.proofs.spelled.bytes_of.Given as goal
 
 abbrev pub invariant-loop-rest : goal.invariant-loop-rest

@@ -1,7 +1,7 @@
 use Rattle.std.proofs.Common.{◌≡◌, ◌≤◌, ◌++◌, drop, length, vec_len, vec_capacity}
 use Rattle.std.specs.Option.{option_map}
 use Rattle.serde_json.specs.View.{items_view}
-use Rattle.ctf_protocol.specs.LineFields.{names_spelled}
+use Rattle.ctf_protocol.specs.lines.LineFields.{names_spelled}
 use Rattle.ctf_lines.proofs.spelled.names.Given as goal
 
 abbrev pub invariant-loop-value : goal.invariant-loop-value

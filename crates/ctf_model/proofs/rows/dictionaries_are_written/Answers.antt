@@ -1,12 +1,12 @@
 use Rattle.std.proofs.Common.{refl}
-use Rattle.ctf_model.specs.Adders.{add_type, add_member}
-use Rattle.ctf_model.specs.Chains.{edges, within}
-use Rattle.ctf_model.specs.DraftChanges.{after}
-use Rattle.ctf_model.specs.Faults.{first_deep}
-use Rattle.ctf_model.specs.Figures.{comes_to, most_numbers}
-use Rattle.ctf_model.specs.Written.{bytes_of, labels_written, records_written, unwritten, written}
-use Rattle.ctf_model.specs.WrittenNames.{distinct, reference, strings_of, used_names}
-use Rattle.ctf_model.specs.WrittenRecords.{record_bytes}
+use Rattle.ctf_model.specs.drafts.Adders.{add_type, add_member}
+use Rattle.ctf_model.specs.rules.Chains.{edges, within}
+use Rattle.ctf_model.specs.drafts.DraftChanges.{after}
+use Rattle.ctf_model.specs.rules.Faults.{first_deep}
+use Rattle.ctf_model.specs.figures.Figures.{comes_to, most_numbers}
+use Rattle.ctf_model.specs.writing.Written.{bytes_of, labels_written, records_written, unwritten, written}
+use Rattle.ctf_model.specs.writing.WrittenNames.{distinct, reference, strings_of, used_names}
+use Rattle.ctf_model.specs.writing.WrittenRecords.{record_bytes}
 use Rattle.ctf_model.proofs.rows.dictionaries_are_written.Goals as goal
 
 pub returns : goal.returns

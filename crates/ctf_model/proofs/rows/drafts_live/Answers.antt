@@ -1,9 +1,9 @@
 use Rattle.std.proofs.Common.{refl}
-use Rattle.ctf_model.specs.Adders.{add_type, add_member, add_enumerator, add_label}
-use Rattle.ctf_model.specs.Chains.{edges, within}
-use Rattle.ctf_model.specs.DraftChanges.{after}
-use Rattle.ctf_model.specs.Drafts.{new_draft}
-use Rattle.ctf_model.specs.Figures.{comes_to, most_numbers}
+use Rattle.ctf_model.specs.drafts.Adders.{add_type, add_member, add_enumerator, add_label}
+use Rattle.ctf_model.specs.rules.Chains.{edges, within}
+use Rattle.ctf_model.specs.drafts.DraftChanges.{after}
+use Rattle.ctf_model.specs.drafts.Drafts.{new_draft}
+use Rattle.ctf_model.specs.figures.Figures.{comes_to, most_numbers}
 use Rattle.ctf_model.proofs.rows.drafts_live.Goals as goal
 
 pub returns : goal.returns

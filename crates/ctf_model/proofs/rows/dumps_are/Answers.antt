@@ -1,9 +1,9 @@
 use Rattle.std.proofs.Common.{refl}
 use Rattle.std.specs.Fmt.{digits}
-use Rattle.ctf_model.specs.Dump.{types_from}
-use Rattle.ctf_model.specs.FaultNames.{name_of_fault}
-use Rattle.ctf_model.specs.Figures.{comes_to, most_numbers}
-use Rattle.ctf_model.specs.TypeNames.{declaration_within, declared}
+use Rattle.ctf_model.specs.dumps.Dump.{types_from}
+use Rattle.ctf_model.specs.rules.FaultNames.{name_of_fault}
+use Rattle.ctf_model.specs.figures.Figures.{comes_to, most_numbers}
+use Rattle.ctf_model.specs.names.TypeNames.{declaration_within, declared}
 use Rattle.ctf_model.proofs.rows.dumps_are.Goals as goal
 
 pub returns : goal.returns

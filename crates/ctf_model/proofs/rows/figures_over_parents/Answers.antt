@@ -1,5 +1,5 @@
 use Rattle.std.proofs.Common.{refl}
-use Rattle.ctf_model.specs.Figures.{comes_to, most_numbers}
+use Rattle.ctf_model.specs.figures.Figures.{comes_to, most_numbers}
 use Rattle.ctf_model.proofs.rows.figures_over_parents.Goals as goal
 
 pub returns : goal.returns

@@ -1,5 +1,5 @@
 use Rattle.std.proofs.Common.{refl}
-use Rattle.ctf_model.specs.Needs.{greatest_in_parent}
+use Rattle.ctf_model.specs.rules.Needs.{greatest_in_parent}
 use Rattle.ctf_model.proofs.rows.imports_are_judged.Goals as goal
 
 pub returns : goal.returns

@@ -1,6 +1,6 @@
 use Rattle.std.proofs.Common.{refl}
 use Rattle.std.specs.Fmt.{digits}
-use Rattle.ctf_model.specs.TypeNames.{declaration_within, declared}
+use Rattle.ctf_model.specs.names.TypeNames.{declaration_within, declared}
 use Rattle.ctf_model.proofs.rows.names_are_spelled.Goals as goal
 
 pub returns : goal.returns

@@ -1,5 +1,5 @@
 use Rattle.std.proofs.Common.{refl}
-use Rattle.ctf_model.specs.WrittenNames.{distinct, reference, strings_of, used_names}
+use Rattle.ctf_model.specs.writing.WrittenNames.{distinct, reference, strings_of, used_names}
 use Rattle.ctf_model.proofs.rows.names_are_written.Goals as goal
 
 pub returns : goal.returns

@@ -1,6 +1,6 @@
 use Rattle.std.proofs.Common.{refl}
-use Rattle.ctf_model.specs.Figures.{comes_to, most_numbers}
-use Rattle.ctf_model.specs.Paths.{path_from}
+use Rattle.ctf_model.specs.figures.Figures.{comes_to, most_numbers}
+use Rattle.ctf_model.specs.figures.Paths.{path_from}
 use Rattle.ctf_model.proofs.rows.paths_lead.Goals as goal
 
 pub returns : goal.returns

@@ -1,6 +1,6 @@
 use Rattle.std.proofs.Common.{refl}
-use Rattle.ctf_model.specs.WrittenNames.{reference}
-use Rattle.ctf_model.specs.WrittenRecords.{record_bytes}
+use Rattle.ctf_model.specs.writing.WrittenNames.{reference}
+use Rattle.ctf_model.specs.writing.WrittenRecords.{record_bytes}
 use Rattle.ctf_model.proofs.rows.records_are_written.Goals as goal
 
 pub returns : goal.returns

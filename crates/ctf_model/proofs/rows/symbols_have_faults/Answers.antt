@@ -1,14 +1,14 @@
 use Rattle.std.proofs.Common.{refl}
-use Rattle.ctf_model.specs.Bytes.{number}
-use Rattle.ctf_model.specs.Chains.{edges, within}
-use Rattle.ctf_model.specs.Dictionary.{denoted, said_by, labels_in}
-use Rattle.ctf_model.specs.Faults.{first_fault, rules, types, first_nameless, label_sites, item_sites, record_sites, sites, bad_name, first_misnaming, bad_reference, first_deep, edges_by, bad_funcs, bad_symbol_type}
-use Rattle.ctf_model.specs.Entries.{entries, entries_of, function_sites, function_sites_of}
-use Rattle.ctf_model.specs.Needs.{greatest_in_parent}
-use Rattle.ctf_model.specs.References.{is_misnaming}
-use Rattle.ctf_model.specs.Spelling.{term_of}
-use Rattle.ctf_model.specs.Symbols.{symbols, symbols_in, is_considered}
-use Rattle.ctf_model.specs.Section.{front_len, terms_in, walk}
+use Rattle.ctf_model.specs.format.Bytes.{number}
+use Rattle.ctf_model.specs.rules.Chains.{edges, within}
+use Rattle.ctf_model.specs.format.Dictionary.{denoted, said_by, labels_in}
+use Rattle.ctf_model.specs.rules.Faults.{first_fault, rules, types, first_nameless, label_sites, item_sites, record_sites, sites, bad_name, first_misnaming, bad_reference, first_deep, edges_by, bad_funcs, bad_symbol_type}
+use Rattle.ctf_model.specs.symbols.Entries.{entries, entries_of, function_sites, function_sites_of}
+use Rattle.ctf_model.specs.rules.Needs.{greatest_in_parent}
+use Rattle.ctf_model.specs.rules.References.{is_misnaming}
+use Rattle.ctf_model.specs.format.Spelling.{term_of}
+use Rattle.ctf_model.specs.symbols.Symbols.{symbols, symbols_in, is_considered}
+use Rattle.ctf_model.specs.format.Section.{front_len, terms_in, walk}
 use Rattle.ctf_model.proofs.rows.symbols_have_faults.Goals as goal
 
 pub returns : goal.returns

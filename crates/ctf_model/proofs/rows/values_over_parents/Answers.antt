@@ -1,10 +1,10 @@
 use Rattle.std.proofs.Common.{refl}
 use Rattle.std.specs.Fmt.{digits}
-use Rattle.ctf_model.specs.Bytes.{number}
-use Rattle.ctf_model.specs.Figures.{comes_to, most_numbers}
-use Rattle.ctf_model.specs.MemoryBits.{hexadecimal}
-use Rattle.ctf_model.specs.Pieces.{followed_by}
-use Rattle.ctf_model.specs.Values.{most_values, name_of_value, shown_within}
+use Rattle.ctf_model.specs.format.Bytes.{number}
+use Rattle.ctf_model.specs.figures.Figures.{comes_to, most_numbers}
+use Rattle.ctf_model.specs.values.MemoryBits.{hexadecimal}
+use Rattle.ctf_model.specs.values.Pieces.{followed_by}
+use Rattle.ctf_model.specs.values.Values.{most_values, name_of_value, shown_within}
 use Rattle.ctf_model.proofs.rows.values_over_parents.Goals as goal
 
 pub returns : goal.returns

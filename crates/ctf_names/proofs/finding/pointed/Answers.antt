@@ -1,6 +1,6 @@
 use Rattle.std.proofs.Common.{◌+◌, ◌-◌, sym, ap, ◌∙◌, arith}
 use Rattle.std.specs.Result.{result_map_both}
-use Rattle.ctf_model.specs.Found.{pointed as pointed_of}
+use Rattle.ctf_model.specs.names.Found.{pointed as pointed_of}
 use Rattle.ctf_space.specs.SpaceView.{space_of}
 use Rattle.ctf_names.proofs.Steps.{at_end, fault_stays, one_further}
 use Rattle.ctf_names.proofs.finding.pointed.Goals as goal

@@ -1,5 +1,5 @@
 use Rattle.std.proofs.Common.{◌≡◌, ◌-◌, length, drop, reverse}
-use Rattle.ctf_model.specs.TypeNames.{past}
+use Rattle.ctf_model.specs.names.TypeNames.{past}
 use Rattle.ctf_names.specs.MarkSteps.{marks_from}
 use Rattle.ctf_names.proofs.marks.marked.Given as goal
 

@@ -1,7 +1,7 @@
 use Rattle.std.proofs.Common.{Some, sym, ap, ◌∙◌, arith}
-use Rattle.ctf_model.specs.Dictionary.{said_by}
-use Rattle.ctf_model.specs.Lists.{tables as tables_in}
-use Rattle.ctf_model.specs.TypePlaces.{own_number}
+use Rattle.ctf_model.specs.format.Dictionary.{said_by}
+use Rattle.ctf_model.specs.format.Lists.{tables as tables_in}
+use Rattle.ctf_model.specs.spaces.TypePlaces.{own_number}
 use Rattle.std.specs.Option.{option_map}
 use Rattle.ctf_space.specs.SpaceView.{own_lists}
 use Rattle.ctf_names.specs.Sought.{passes}

@@ -1,5 +1,5 @@
 use Rattle.std.proofs.Common.{◌≡◌, true, Ok, Err, arith, inr, refl, sym, ap, ◌∙◌}
-use Rattle.ctf_model.specs.TypeNames.{spelled_name, too_long}
+use Rattle.ctf_model.specs.names.TypeNames.{spelled_name, too_long}
 use Rattle.ctf_names.specs.Marks.{marks, marked_text}
 use Rattle.ctf_names.specs.Bases.{base_text}
 use Rattle.ctf_space.specs.SpaceView.{space_of}

@@ -2,8 +2,8 @@ use Rattle.std.proofs.Common.{rules, Some, sym, ap, ◌∙◌, refl}
 use Rattle.ctf_check.specs.CheckedView.{tables_of}
 use Rattle.ctf_check.specs.FactsView.{shape_seen}
 use Rattle.ctf_check.specs.TypedView.{spelled}
-use Rattle.ctf_model.specs.Found.{same_tag}
-use Rattle.ctf_model.specs.Name.{name}
+use Rattle.ctf_model.specs.names.Found.{same_tag}
+use Rattle.ctf_model.specs.format.Name.{name}
 use Rattle.ctf_names.specs.Sorts.{tag_in}
 use Rattle.ctf_names.proofs.Entered.{called_by}
 use Rattle.ctf_names.proofs.types.entry_at.Goals as goal

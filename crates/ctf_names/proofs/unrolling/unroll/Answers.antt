@@ -3,7 +3,7 @@ use Rattle.std.specs.Prelude.{option_map}
 use Rattle.std.proofs.lemmas.Grind.{common_steps}
 use Rattle.ctf_check.specs.FactsView.{shape_seen}
 use Rattle.ctf_check.specs.TypedView.{spelled}
-use Rattle.ctf_model.specs.TypeNames.{declaration_of, declaration_within, longest_text}
+use Rattle.ctf_model.specs.names.TypeNames.{declaration_of, declaration_within, longest_text}
 use Rattle.ctf_records.specs.RecordView.{tag_of}
 use Rattle.ctf_space.specs.SpaceView.{space_of}
 use Rattle.ctf_names.proofs.FoundInside.{layer_found, name_found}

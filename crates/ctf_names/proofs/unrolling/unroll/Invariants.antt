@@ -1,5 +1,5 @@
 use Rattle.std.proofs.Common.{◌≡◌, ◌-◌, vec_len}
-use Rattle.ctf_model.specs.TypeNames.{declaration_within, longest_text}
+use Rattle.ctf_model.specs.names.TypeNames.{declaration_within, longest_text}
 use Rattle.ctf_names.specs.Unrolling.{around_all}
 use Rattle.ctf_names.proofs.unrolling.unroll.Given as goal
 use Rattle.ctf_space.specs.SpaceView.{space_of}

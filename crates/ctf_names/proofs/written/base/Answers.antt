@@ -1,6 +1,6 @@
 use Rattle.std.proofs.Common.{◌≡◌, true, false, take, get_or, sym, ◌∙◌, arith}
 use Rattle.std.proofs.lemmas.List.{take_more}
-use Rattle.ctf_model.specs.Found.{is_star_or_blank}
+use Rattle.ctf_model.specs.names.Found.{is_star_or_blank}
 use Rattle.ctf_names.proofs.WrittenTexts.{base_all, base_same}
 use Rattle.ctf_names.proofs.written.base.Goals as goal
 use Rattle.ctf_names.proofs.written.base.Goals.{then-not-is_star_or_blank, else-not-is_star_or_blank}

@@ -1,5 +1,5 @@
 use Rattle.std.proofs.Common.{◌≡◌, ◌≤◌, take}
-use Rattle.ctf_model.specs.Found.{base as base_of}
+use Rattle.ctf_model.specs.names.Found.{base as base_of}
 use Rattle.ctf_names.proofs.written.base.Given as goal
 
 abbrev pub invariant-loop-i : goal.invariant-loop-i

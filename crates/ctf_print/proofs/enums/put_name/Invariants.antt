@@ -1,5 +1,5 @@
 use Rattle.std.proofs.Common.{◌≡◌, drop}
-use Rattle.ctf_model.specs.Values.{name_of_value}
+use Rattle.ctf_model.specs.values.Values.{name_of_value}
 use Rattle.ctf_print.proofs.enums.put_name.Given as goal
 
 abbrev pub invariant-loop-i : goal.invariant-loop-i

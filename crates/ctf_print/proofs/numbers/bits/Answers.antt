@@ -1,6 +1,6 @@
 use Rattle.std.proofs.Common.{◌≡◌, ◌+◌, ◌-◌, arith, sym, ◌∙◌}
 use Rattle.std.proofs.lemmas.Nat.{pow-add}
-use Rattle.ctf_model.specs.MemoryBits.{bits_at}
+use Rattle.ctf_model.specs.values.MemoryBits.{bits_at}
 use Rattle.ctf_print.proofs.Bits.{bits_more, bit_is}
 use Rattle.ctf_print.proofs.numbers.bits.Goals as goal
 

@@ -1,5 +1,5 @@
 use Rattle.std.proofs.Common.{◌≡◌, ◌+◌, ◌-◌, ◌<◌, ◌^◌}
-use Rattle.ctf_model.specs.MemoryBits.{bits_at}
+use Rattle.ctf_model.specs.values.MemoryBits.{bits_at}
 use Rattle.ctf_print.proofs.numbers.bits.Given as goal
 
 abbrev pub invariant-loop-i : goal.invariant-loop-i

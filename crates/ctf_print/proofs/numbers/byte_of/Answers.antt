@@ -1,5 +1,5 @@
 use Rattle.std.proofs.Common.{◌∙◌, ap, ◌+◌, ◌*◌}
-use Rattle.ctf_model.specs.MemoryBits.{bits_at}
+use Rattle.ctf_model.specs.values.MemoryBits.{bits_at}
 use Rattle.ctf_print.proofs.Digits.{byte_is}
 use Rattle.ctf_print.proofs.numbers.byte_of.Goals as goal
 

@@ -1,8 +1,8 @@
 use Rattle.std.proofs.Common.{◌+◌, ◌-◌, ◌/◌, ◌%◌, ◌^◌, ◌∙◌, ap}
 use Rattle.std.proofs.lemmas.Result.{err_from_is_err_and}
-use Rattle.ctf_model.specs.MemoryBits.{bits_at, hexadecimal, started_bytes}
-use Rattle.ctf_model.specs.Pieces.{nothing, piece}
-use Rattle.ctf_model.specs.Texts.{hex_of_byte}
+use Rattle.ctf_model.specs.values.MemoryBits.{bits_at, hexadecimal, started_bytes}
+use Rattle.ctf_model.specs.values.Pieces.{nothing, piece}
+use Rattle.ctf_model.specs.dumps.Texts.{hex_of_byte}
 use Rattle.ctf_print.specs.Written.{written}
 use Rattle.ctf_print.proofs.Digits.{digits_left, none_left}
 use Rattle.ctf_print.proofs.Writes.{first_refused, later_refused, next_ok}

@@ -1,6 +1,6 @@
 use Rattle.std.proofs.Common.{◌≡◌, ◌-◌}
-use Rattle.ctf_model.specs.MemoryBits.{bits_at, hexadecimal, started_bytes}
-use Rattle.ctf_model.specs.Pieces.{piece}
+use Rattle.ctf_model.specs.values.MemoryBits.{bits_at, hexadecimal, started_bytes}
+use Rattle.ctf_model.specs.values.Pieces.{piece}
 use Rattle.ctf_print.specs.Written.{written}
 use Rattle.ctf_print.proofs.numbers.put_digits.Given as goal
 

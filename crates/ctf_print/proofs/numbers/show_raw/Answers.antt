@@ -1,8 +1,8 @@
 use Rattle.std.proofs.Common.{◌+◌, ◌*◌, length, sym, ◌∙◌, codes}
 use Rattle.std.proofs.lemmas.Bool.{leb-true}
 use Rattle.std.proofs.lemmas.Result.{err_from_is_err_and}
-use Rattle.ctf_model.specs.MemoryBits.{bits_at, hexadecimal, started_bytes}
-use Rattle.ctf_model.specs.Pieces.{piece}
+use Rattle.ctf_model.specs.values.MemoryBits.{bits_at, hexadecimal, started_bytes}
+use Rattle.ctf_model.specs.values.Pieces.{piece}
 use Rattle.ctf_print.proofs.Raws.{raw_is}
 use Rattle.ctf_print.proofs.Writes.{next_ok, refused_first, later_refused}
 use Rattle.ctf_print.proofs.numbers.show_raw.Goals as goal

@@ -1,6 +1,6 @@
 use Rattle.std.proofs.Common.{◌≡◌, ◌∙◌, Ok, refl, sym}
 use Rattle.std.proofs.lemmas.Result.{err_from_is_err_and}
-use Rattle.ctf_model.specs.Values.{value_text}
+use Rattle.ctf_model.specs.values.Values.{value_text}
 use Rattle.ctf_space.specs.SpaceView.{space_of}
 use Rattle.ctf_print.proofs.Writes.{alone_is, alone_refused}
 use Rattle.ctf_print.proofs.showing.show.Goals as goal

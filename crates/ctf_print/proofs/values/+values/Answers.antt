@@ -3,9 +3,9 @@ use Rattle.std.proofs.lemmas.Bool.{ne_eqb}
 use Rattle.std.proofs.lemmas.Result.{err_from_is_err_and}
 use Rattle.ctf_check.specs.FactsView.{shape_seen}
 use Rattle.ctf_check.specs.TypedView.{spelled}
-use Rattle.ctf_model.specs.Figures.{incomplete, size as size_of}
-use Rattle.ctf_model.specs.Pieces.{ends, piece, separated}
-use Rattle.ctf_model.specs.Values.{elements, elements_shown, label, member_shown}
+use Rattle.ctf_model.specs.figures.Figures.{incomplete, size as size_of}
+use Rattle.ctf_model.specs.values.Pieces.{ends, piece, separated}
+use Rattle.ctf_model.specs.values.Values.{elements, elements_shown, label, member_shown}
 use Rattle.ctf_views.specs.ItemsView.{member as member_seen}
 use Rattle.ctf_print.specs.ImageView.{memory_of, shows, types_of}
 use Rattle.ctf_print.specs.Written.{written}

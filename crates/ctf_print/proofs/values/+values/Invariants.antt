@@ -1,7 +1,7 @@
 use Rattle.std.proofs.Common.{◌≡◌, ◌^◌, ◌*◌, ◌+◌, ◌-◌, min, drop, map}
-use Rattle.ctf_model.specs.Figures.{size as size_of}
-use Rattle.ctf_model.specs.Pieces.{separated}
-use Rattle.ctf_model.specs.Values.{elements, elements_shown, member_shown}
+use Rattle.ctf_model.specs.figures.Figures.{size as size_of}
+use Rattle.ctf_model.specs.values.Pieces.{separated}
+use Rattle.ctf_model.specs.values.Values.{elements, elements_shown, member_shown}
 use Rattle.ctf_print.specs.ImageView.{shows, types_of}
 use Rattle.ctf_print.specs.Written.{separated_from, written}
 use Rattle.ctf_print.proofs.values.+values.Given as goal

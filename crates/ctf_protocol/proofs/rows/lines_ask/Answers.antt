@@ -2,8 +2,8 @@ use Rattle.std.proofs.Common.{refl}
 use Rattle.std.specs.Str.{is_utf8, chars}
 use Rattle.hex.proofs.OnLiterals.{hex_on_literals}
 use Rattle.serde_json.proofs.OnLiterals.{serde_json_on_literals}
-use Rattle.ctf_protocol.specs.Ask.{ask}
-use Rattle.ctf_protocol.specs.Words.{words}
+use Rattle.ctf_protocol.specs.lines.Ask.{ask}
+use Rattle.ctf_protocol.specs.words.Words.{words}
 use Rattle.ctf_protocol.proofs.rows.lines_ask.Goals as goal
 
 pub returns : goal.returns

@@ -1,7 +1,7 @@
 use Rattle.std.proofs.Common.{refl}
 use Rattle.std.specs.Fmt.{digits}
-use Rattle.ctf_model.specs.FaultNames.{name_of_fault}
-use Rattle.ctf_protocol.specs.ReplyLines.{fitting_line}
+use Rattle.ctf_model.specs.rules.FaultNames.{name_of_fault}
+use Rattle.ctf_protocol.specs.lines.ReplyLines.{fitting_line}
 use Rattle.ctf_protocol.proofs.rows.lines_say.Goals as goal
 
 pub returns : goal.returns

@@ -2,10 +2,10 @@ use Rattle.std.proofs.Common.{refl}
 use Rattle.std.specs.Str.{is_utf8, chars}
 use Rattle.hex.proofs.OnLiterals.{hex_on_literals}
 use Rattle.serde_json.proofs.OnLiterals.{serde_json_on_literals}
-use Rattle.ctf_protocol.specs.Ask.{ask}
-use Rattle.ctf_protocol.specs.LineFields.{each_said}
-use Rattle.ctf_protocol.specs.Text.{bytes_spelled_by}
-use Rattle.ctf_protocol.specs.Words.{words}
+use Rattle.ctf_protocol.specs.lines.Ask.{ask}
+use Rattle.ctf_protocol.specs.lines.LineFields.{each_said}
+use Rattle.ctf_protocol.specs.lines.Text.{bytes_spelled_by}
+use Rattle.ctf_protocol.specs.words.Words.{words}
 use Rattle.ctf_protocol.proofs.rows.paths_are_lines.Goals as goal
 
 pub returns : goal.returns

@@ -2,12 +2,12 @@ use Rattle.std.proofs.Common.{refl}
 use Rattle.std.specs.Str.{is_utf8, chars}
 use Rattle.hex.proofs.OnLiterals.{hex_on_literals}
 use Rattle.serde_json.proofs.OnLiterals.{serde_json_on_literals}
-use Rattle.ctf_protocol.specs.Ask.{ask}
-use Rattle.ctf_protocol.specs.Text.{bytes_spelled_by}
-use Rattle.ctf_protocol.specs.Words.{words}
+use Rattle.ctf_protocol.specs.lines.Ask.{ask}
+use Rattle.ctf_protocol.specs.lines.Text.{bytes_spelled_by}
+use Rattle.ctf_protocol.specs.words.Words.{words}
 use Rattle.std.specs.Fmt.{digits}
-use Rattle.ctf_model.specs.FaultNames.{name_of_fault}
-use Rattle.ctf_protocol.specs.ReplyLines.{fitting_line}
+use Rattle.ctf_model.specs.rules.FaultNames.{name_of_fault}
+use Rattle.ctf_protocol.specs.lines.ReplyLines.{fitting_line}
 use Rattle.ctf_protocol.proofs.rows.questions_are_lines.Goals as goal
 
 pub returns : goal.returns

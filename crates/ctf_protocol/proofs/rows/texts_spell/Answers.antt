@@ -1,5 +1,5 @@
 use Rattle.std.proofs.Common.{refl}
-use Rattle.ctf_protocol.specs.Text.{bytes_spelled_by}
+use Rattle.ctf_protocol.specs.lines.Text.{bytes_spelled_by}
 use Rattle.ctf_protocol.proofs.rows.texts_spell.Goals as goal
 
 pub returns : goal.returns

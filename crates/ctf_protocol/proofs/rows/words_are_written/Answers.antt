@@ -1,5 +1,5 @@
 use Rattle.std.proofs.Common.{refl}
-use Rattle.ctf_protocol.specs.Words.{words}
+use Rattle.ctf_protocol.specs.words.Words.{words}
 use Rattle.ctf_protocol.proofs.rows.words_are_written.Goals as goal
 
 pub returns : goal.returns

@@ -1,5 +1,5 @@
 use Rattle.std.proofs.Common.{◌≡◌, map, drop}
-use Rattle.ctf_protocol.specs.Words.{word_named}
+use Rattle.ctf_protocol.specs.words.Words.{word_named}
 use Rattle.ctf_protocol.proofs.words.find.Given as goal
 
 abbrev pub invariant-loop-row : goal.invariant-loop-row

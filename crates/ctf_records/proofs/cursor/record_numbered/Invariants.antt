@@ -1,5 +1,5 @@
 use Rattle.std.proofs.Common.{◌≡◌}
-use Rattle.ctf_model.specs.Section.{records}
+use Rattle.ctf_model.specs.format.Section.{records}
 use Rattle.ctf_records.specs.Pieces.{piece_numbered}
 use Rattle.ctf_records.proofs.cursor.record_numbered.Given as goal
 

@@ -1,6 +1,6 @@
 use Rattle.std.proofs.Common.{◌≡◌, List, ℕ, Some, length, arith, subst, sym}
 use Rattle.ctf_model.proofs.Walk.{front_len_range}
-use Rattle.ctf_model.specs.Section.{front_len}
+use Rattle.ctf_model.specs.format.Section.{front_len}
 use Rattle.ctf_records.proofs.Whole.{taken_whole, whole_facts}
 use Rattle.ctf_records.proofs.place.taken.Goals as goal
 

@@ -1,6 +1,6 @@
 use Rattle.std.proofs.Common.{rules, ap, arith, length}
 use Rattle.std.proofs.lemmas.List.{length-drop}
-use Rattle.ctf_model.specs.Entries.{entry_len}
+use Rattle.ctf_model.specs.symbols.Entries.{entry_len}
 use Rattle.ctf_entries.specs.NamesView.{strings_of}
 use Rattle.ctf_symbols.proofs.Passing.{past_other, past_object, past_function, good_function, at_end}
 use Rattle.ctf_symbols.proofs.building.lefts.Goals as goal

@@ -1,5 +1,5 @@
 use Rattle.std.proofs.Common.{◌+◌, ◌≤◌, ◌<◌, ◌^◌, length}
-use Rattle.ctf_model.specs.Symbols.{symbols_of}
+use Rattle.ctf_model.specs.symbols.Symbols.{symbols_of}
 use Rattle.ctf_entries.specs.NamesView.{strings_of}
 use Rattle.ctf_symbols.specs.Kept.{lefts_from}
 use Rattle.ctf_symbols.proofs.Passing.{Passes}

@@ -1,6 +1,6 @@
 use Rattle.std.proofs.Common.{rules, ◌+◌, ◌≤◌, ◌^◌, ap, arith, length}
 use Rattle.std.proofs.lemmas.List.{length-drop}
-use Rattle.ctf_model.specs.Symbols.{considered, symbols_of}
+use Rattle.ctf_model.specs.symbols.Symbols.{considered, symbols_of}
 use Rattle.ctf_entries.proofs.Considering.{considered_end, considered_less, considered_more}
 use Rattle.ctf_entries.specs.NamesView.{strings_of}
 use Rattle.ctf_entries.specs.SymbolView.{symbol}

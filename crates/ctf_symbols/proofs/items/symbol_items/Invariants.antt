@@ -1,5 +1,5 @@
 use Rattle.std.proofs.Common.{◌+◌, ◌≤◌, ◌^◌, length}
-use Rattle.ctf_model.specs.Symbols.{considered, considered_from, symbols_of}
+use Rattle.ctf_model.specs.symbols.Symbols.{considered, considered_from, symbols_of}
 use Rattle.ctf_entries.specs.NamesView.{strings_of}
 use Rattle.ctf_symbols.specs.Named.{called_symbol, program_names}
 use Rattle.ctf_symbols.proofs.Itemizing.{GoesOn}

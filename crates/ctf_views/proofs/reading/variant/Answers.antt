@@ -1,5 +1,5 @@
 use Rattle.std.proofs.Common.{◌≡◌, ◌⊎◌, Some, ap, sym, ◌∙◌, ⊎_elim, inl, inr}
-use Rattle.ctf_model.specs.Record.{kind}
+use Rattle.ctf_model.specs.format.Record.{kind}
 use Rattle.ctf_model.specs.declared.kinds.Kind.TheVariants.{KInteger, KFloat, KStruct, KUnion}
 use Rattle.ctf_records.specs.RecordView.{bytes_of}
 use Rattle.ctf_sections.specs.StringsView.{tables}

@@ -2,7 +2,7 @@ use Rattle.std.proofs.Common.{arith, length, ◌≡◌, sym, ap, ◌∙◌}
 use Rattle.std.proofs.lemmas.Bool.Decides.{nat_tests}
 use Rattle.std.proofs.Math.Seq.{take-length}
 use Rattle.std.specs.Prelude.{slice_index}
-use Rattle.ctf_protocol.specs.Lines.{whole_lines}
+use Rattle.ctf_protocol.specs.lines.Lines.{whole_lines}
 use Rattle.ctf_wire.proofs.Cutting.{whole_lines-before, bytes-about}
 use Rattle.ctf_wire.proofs.pieces.cut.Goals as goal
 

@@ -1,6 +1,6 @@
 use Rattle.std.proofs.Common.{◌≡◌, ap, sym, ◌∙◌, ℕ, ◌++◌, List}
-use Rattle.ctf_model.specs.WrittenNames.{reference}
-use Rattle.ctf_model.specs.WrittenRecords.{u16, u32, halves}
+use Rattle.ctf_model.specs.writing.WrittenNames.{reference}
+use Rattle.ctf_model.specs.writing.WrittenRecords.{u16, u32, halves}
 use Rattle.ctf_writer.specs.Tables.{names}
 use Rattle.ctf_draft.specs.TypeView.{member_of}
 use Rattle.ctf_writer.proofs.Joining.{joined_four, wide_member}

@@ -1,6 +1,6 @@
 use Rattle.std.proofs.Common.{◌≡◌, ◌++◌, ◌+◌, take, length, vec_capacity, vec_len}
 use Rattle.std.specs.List.{flat_map}
-use Rattle.ctf_model.specs.Written.{label_bytes}
+use Rattle.ctf_model.specs.writing.Written.{label_bytes}
 use Rattle.ctf_writer.specs.Tables.{names}
 use Rattle.ctf_writer.proofs.labels.put_labels.Given as goal
 

@@ -1,6 +1,6 @@
 use Rattle.std.proofs.Common.{◌≡◌, ℕ, ◌++◌, arith, ap, length, ◌∙◌}
-use Rattle.ctf_model.specs.WrittenNames.{reference}
-use Rattle.ctf_model.specs.WrittenRecords.{u16, u32, field_bytes}
+use Rattle.ctf_model.specs.writing.WrittenNames.{reference}
+use Rattle.ctf_model.specs.writing.WrittenRecords.{u16, u32, field_bytes}
 use Rattle.ctf_writer.specs.Tables.{names}
 use Rattle.ctf_draft.specs.TypeView.{type_of}
 use Rattle.ctf_writer.proofs.Joining.{record_len, record_joined}

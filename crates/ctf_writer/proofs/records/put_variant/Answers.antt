@@ -1,9 +1,9 @@
 use Rattle.std.proofs.Common.{ℕ, List, ◌++◌, arith, ap, sym, subst, length, map, ◌∙◌}
 use Rattle.std.proofs.lemmas.List.Elements.{All-from_recursion}
 use Rattle.std.specs.List.{AllByRecursion, flat_map}
-use Rattle.ctf_model.specs.Fitting.{FitsMember}
-use Rattle.ctf_model.specs.Term as term
-use Rattle.ctf_model.specs.WritingLaws.{IsKept}
+use Rattle.ctf_model.specs.drafts.Fitting.{FitsMember}
+use Rattle.ctf_model.specs.format.Term as term
+use Rattle.ctf_model.specs.writing.WritingLaws.{IsKept}
 use Rattle.ctf_draft.specs.TypeView.{enumerator_of, member_of}
 use Rattle.ctf_draft.specs.declared.types.Enumerator.{Enumerator}
 use Rattle.ctf_draft.specs.declared.types.Member.{Member}

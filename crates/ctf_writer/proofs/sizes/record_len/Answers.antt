@@ -1,5 +1,5 @@
 use Rattle.std.proofs.Common.{ℕ, ap, arith, length}
-use Rattle.ctf_model.specs.WrittenRecords.{field_bytes}
+use Rattle.ctf_model.specs.writing.WrittenRecords.{field_bytes}
 use Rattle.ctf_draft.specs.TypeView.{type_of}
 use Rattle.ctf_writer.proofs.Joining.{record_len}
 use Rattle.ctf_writer.proofs.sizes.record_len.Goals as goal

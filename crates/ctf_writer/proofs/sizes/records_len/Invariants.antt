@@ -6,5 +6,5 @@ use Rattle.ctf_writer.proofs.sizes.records_len.Given as goal
 abbrev pub invariant-loop-t : goal.invariant-loop-t
 invariant-loop-t l = record {
   exact : (names : List (List ℕ)) → l.len ≡ length (flat_map (written_type names) (take l.t-index l.types));
-  short : l.len ≤ 16777216;
+  short : l.len ≤ 67108864;
 }

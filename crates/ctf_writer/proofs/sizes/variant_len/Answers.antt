@@ -1,7 +1,7 @@
 use Rattle.std.proofs.Common.{◌≡◌, ℕ, ◌*◌, ap, length, map, ◌∙◌, refl}
 use Rattle.std.proofs.lemmas.List.{length-map}
 use Rattle.ctf_draft.specs.TypeView.{enumerator_of, member_of, number_of}
-use Rattle.ctf_model.specs.Record.{member_len}
+use Rattle.ctf_model.specs.format.Record.{member_len}
 use Rattle.ctf_writer.proofs.Lengths.{arguments_len, enumerators_len, members_len, variant_aggregate}
 use Rattle.ctf_writer.proofs.sizes.variant_len.Goals as goal
 

@@ -1,6 +1,6 @@
 use Rattle.std.proofs.Common.{ℕ, List, subst}
 use Rattle.std.proofs.lemmas.Result.{err_from_is_err_and}
-use Rattle.ctf_model.specs.WrittenNames.{listed_names}
+use Rattle.ctf_model.specs.writing.WrittenNames.{listed_names}
 use Rattle.ctf_writer.specs.Offsets.{with_name}
 use Rattle.ctf_writer.specs.Tables.{names}
 use Rattle.ctf_draft.specs.TypeView.{body_of}

@@ -1,10 +1,10 @@
 use Rattle.std.proofs.Common.{◌≡◌, ℕ, ◌≤◌, ◌++◌, List, Option, Ok, Err, Some, arith, sym, ap, ◌∙◌, length, ◌⊎◌, inl, inr}
 use Rattle.std.proofs.lemmas.Result.{err_from_is_err_and}
-use Rattle.ctf_model.specs.Refusals.{want_of_memory}
-use Rattle.ctf_model.specs.Written.{bytes_of, deep_by, most_written, written}
-use Rattle.ctf_model.specs.Chains.{by_value, declarator}
-use Rattle.ctf_model.specs.Dictionary.{Dictionary}
-use Rattle.ctf_model.specs.Faults.{or_later}
+use Rattle.ctf_model.specs.rules.Refusals.{want_of_memory}
+use Rattle.ctf_model.specs.writing.Written.{bytes_of, deep_by, most_written, written}
+use Rattle.ctf_model.specs.rules.Chains.{by_value, declarator}
+use Rattle.ctf_model.specs.format.Dictionary.{Dictionary}
+use Rattle.ctf_model.specs.rules.Faults.{or_later}
 use Rattle.ctf_model.specs.declared.faults.Fault.{Fault}
 use Rattle.ctf_writer.specs.HeldView.{dictionary_of}
 use Rattle.ctf_writer.proofs.HeldParts.{refused_deep, refused_long, refused_strings, accepted}

@@ -1,4 +1,4 @@
-use Rattle.ctf_model.specs.Section.{records}
+use Rattle.ctf_model.specs.format.Section.{records}
 use Rattle.ctf_chains.proofs.Edges.{places_count}
 use Rattle.ctf_chains.proofs.types.TypesGraph.len.Goals as goal
 

@@ -1,5 +1,5 @@
 use Rattle.std.proofs.Common.{sym, arith}
-use Rattle.ctf_model.specs.Section.{records}
+use Rattle.ctf_model.specs.format.Section.{records}
 use Rattle.ctf_records.specs.RecordView.{piece}
 use Rattle.ctf_chains.proofs.Edges.{places_count, places_are}
 use Rattle.ctf_chains.proofs.types.TypesGraph.open.Goals as goal

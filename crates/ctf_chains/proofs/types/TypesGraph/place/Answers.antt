@@ -1,8 +1,8 @@
 use Rattle.std.proofs.Common.{◌≡◌, ℕ, ◌<◌, length, map, sym, ap, ◌∙◌, arith, subst}
 use Rattle.std.specs.Prelude.{MatchOption, Option}
 use Rattle.std.proofs.lemmas.List.{length-map}
-use Rattle.ctf_model.specs.Chains.{own_index}
-use Rattle.ctf_model.specs.Section.{records}
+use Rattle.ctf_model.specs.rules.Chains.{own_index}
+use Rattle.ctf_model.specs.format.Section.{records}
 use Rattle.ctf_records.specs.RecordView.{bytes_of}
 use Rattle.ctf_chains.specs.Numbers.{numbers, section_places}
 use Rattle.ctf_chains.proofs.Begins.{starts_count}

@@ -1,7 +1,7 @@
 use Rattle.std.proofs.Common.{length, sym, ◌∙◌}
 use Rattle.std.proofs.lemmas.List.{length-map}
-use Rattle.ctf_model.specs.Chains.{own_index}
-use Rattle.ctf_model.specs.Section.{records}
+use Rattle.ctf_model.specs.rules.Chains.{own_index}
+use Rattle.ctf_model.specs.format.Section.{records}
 use Rattle.ctf_records.specs.RecordView.{bytes_of}
 use Rattle.ctf_chains.specs.Numbers.{numbers}
 use Rattle.ctf_chains.proofs.types.TypesGraph.place_count.Goals as goal

@@ -1,7 +1,7 @@
 use Rattle.std.proofs.Common.{◌∙◌, ap, Option, List, ℕ}
-use Rattle.ctf_model.specs.Dictionary.{said_by}
-use Rattle.ctf_model.specs.Entries.{entries_of}
-use Rattle.ctf_model.specs.Symbols.{considered, symbols_of}
+use Rattle.ctf_model.specs.format.Dictionary.{said_by}
+use Rattle.ctf_model.specs.symbols.Entries.{entries_of}
+use Rattle.ctf_model.specs.symbols.Symbols.{considered, symbols_of}
 use Rattle.ctf_check.specs.CheckedView.{lists_of}
 use Rattle.ctf_check.proofs.SymbolStages.{entries_are}
 use Rattle.ctf_check.proofs.checked.Checked.entries.Goals as goal

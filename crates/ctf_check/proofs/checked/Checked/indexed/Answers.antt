@@ -1,5 +1,5 @@
 use Rattle.std.proofs.Common.{length, sym, ap, ◌∙◌}
-use Rattle.ctf_model.specs.Faults.{types}
+use Rattle.ctf_model.specs.rules.Faults.{types}
 use Rattle.ctf_chains.proofs.Begins.{starts_count}
 use Rattle.ctf_check.proofs.Order.{faultless}
 use Rattle.ctf_check.proofs.Terms.{terms_count}

@@ -1,4 +1,4 @@
-use Rattle.ctf_model.specs.Dictionary.{said_by}
+use Rattle.ctf_model.specs.format.Dictionary.{said_by}
 use Rattle.ctf_model.proofs.Denoted.{denotes_said}
 use Rattle.ctf_check.specs.CheckedView.{lists_of}
 use Rattle.ctf_check.proofs.checked.Checked.labels.Goals as goal

@@ -1,5 +1,5 @@
 use Rattle.std.proofs.Common.{refl}
-use Rattle.ctf_model.specs.Dictionary.{denoted}
+use Rattle.ctf_model.specs.format.Dictionary.{denoted}
 use Rattle.ctf_check.proofs.checked.Checked.lists.Goals as goal
 
 pub returns-clause-denotes : goal.returns-clause-denotes

@@ -1,5 +1,5 @@
 use Rattle.std.proofs.Common.{◌∙◌, ap}
-use Rattle.ctf_model.specs.Faults.{first_fault}
+use Rattle.ctf_model.specs.rules.Faults.{first_fault}
 use Rattle.ctf_check.specs.ListsView.{lists_in}
 use Rattle.ctf_check.proofs.Order.{faultless}
 use Rattle.ctf_check.proofs.SymbolStages.{funcs_are}

@@ -4,11 +4,11 @@ use Rattle.std.proofs.lemmas.Bool.{false≢true}
 use Rattle.std.specs.Option.{option_map}
 use Rattle.std.specs.List.{AllByRecursion}
 use Rattle.ctf_chains.specs.Starts.{starts_in}
-use Rattle.ctf_model.specs.Faults.{types, walk_fault}
-use Rattle.ctf_model.specs.Name.{Tables}
-use Rattle.ctf_model.specs.Spelling.{term_of}
-use Rattle.ctf_model.specs.Section.{Piece}
-use Rattle.ctf_model.specs.Term.{Term}
+use Rattle.ctf_model.specs.rules.Faults.{types, walk_fault}
+use Rattle.ctf_model.specs.format.Name.{Tables}
+use Rattle.ctf_model.specs.format.Spelling.{term_of}
+use Rattle.ctf_model.specs.format.Section.{Piece}
+use Rattle.ctf_model.specs.format.Term.{Term}
 use Rattle.ctf_model.specs.declared.faults.Fault.{Fault}
 use Rattle.ctf_check.proofs.Order.{faultless, types_are}
 use Rattle.ctf_check.proofs.Terms.{IsSpelled, all_spelled, numbered_index, numbered_spelled, spelled_at, type_is}

@@ -1,6 +1,6 @@
 use Rattle.std.proofs.Common.{◌≡◌}
 use Rattle.std.specs.List.{list_any}
-use Rattle.ctf_model.specs.References.{is_missing}
+use Rattle.ctf_model.specs.rules.References.{is_missing}
 use Rattle.ctf_check.proofs.references.Numbers.misses_argument.Given as goal
 
 abbrev pub invariant-loop-number : goal.invariant-loop-number

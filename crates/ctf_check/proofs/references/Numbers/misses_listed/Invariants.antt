@@ -1,6 +1,6 @@
 use Rattle.std.proofs.Common.{◌≡◌, drop}
 use Rattle.std.specs.List.{list_any}
-use Rattle.ctf_model.specs.References.{is_missing as missing}
+use Rattle.ctf_model.specs.rules.References.{is_missing as missing}
 use Rattle.ctf_records.specs.ListedTypes.{listed_types}
 use Rattle.ctf_records.specs.RecordView.{bytes_of}
 use Rattle.ctf_check.proofs.references.Numbers.misses_listed.Given as goal

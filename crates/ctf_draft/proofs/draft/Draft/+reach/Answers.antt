@@ -4,10 +4,10 @@ use Rattle.std.proofs.lemmas.List.{take_all}
 use Rattle.std.specs.Prelude.{max}
 use Rattle.ctf_chains.specs.Places.{steps_between}
 use Rattle.ctf_chains.proofs.Depths.{none_yet}
-use Rattle.ctf_model.specs.Chains.{by_value}
-use Rattle.ctf_model.specs.Drafts.{held, space_of}
-use Rattle.ctf_model.specs.FigureLaws.{own_body}
-use Rattle.ctf_model.specs.Figures.{align}
+use Rattle.ctf_model.specs.rules.Chains.{by_value}
+use Rattle.ctf_model.specs.drafts.Drafts.{held, space_of}
+use Rattle.ctf_model.specs.figures.FigureLaws.{own_body}
+use Rattle.ctf_model.specs.figures.Figures.{align}
 use Rattle.ctf_draft.specs.Reaching.{IsKnownAt, IsReach, value_places}
 use Rattle.ctf_draft.specs.Sizing.{aligned_by, own_align}
 use Rattle.ctf_draft.specs.TypeView.{body_of}

@@ -4,10 +4,10 @@ use Rattle.std.specs.List.{AllByRecursion}
 use Rattle.ctf_chains.specs.Places.{led_to, places_at, steps_between}
 use Rattle.ctf_chains.specs.Search.{IsLongest}
 use Rattle.ctf_layout.specs.Bases.{greatest_of}
-use Rattle.ctf_model.specs.Chains.{by_value}
-use Rattle.ctf_model.specs.Drafts.{count_of, held, space_of}
-use Rattle.ctf_model.specs.FigureLaws.{own_body}
-use Rattle.ctf_model.specs.Figures.{align, greater}
+use Rattle.ctf_model.specs.rules.Chains.{by_value}
+use Rattle.ctf_model.specs.drafts.Drafts.{count_of, held, space_of}
+use Rattle.ctf_model.specs.figures.FigureLaws.{own_body}
+use Rattle.ctf_model.specs.figures.Figures.{align, greater}
 use Rattle.ctf_draft.specs.Reaching.{IsKnown, IsKnownAt, Knows, value_places}
 use Rattle.ctf_draft.specs.Sizing.{aligned_by, own_align}
 use Rattle.ctf_draft.proofs.draft.Draft.+reach.Given as goal

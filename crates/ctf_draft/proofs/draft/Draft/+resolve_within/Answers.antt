@@ -1,7 +1,7 @@
 use Rattle.std.proofs.Common.{ap, sym, refl, ◌∙◌, arith}
 use Rattle.std.specs.Prelude.{◌-◌, option_map}
-use Rattle.ctf_model.specs.Drafts.{held}
-use Rattle.ctf_model.specs.Figures.{comes_to, parents_figure, resolving}
+use Rattle.ctf_model.specs.drafts.Drafts.{held}
+use Rattle.ctf_model.specs.figures.Figures.{comes_to, parents_figure, resolving}
 use Rattle.ctf_draft.specs.TypeView.{body_of}
 use Rattle.ctf_draft.proofs.Figuring.{by_renamed, by_renaming, elsewhere_at, none_at, none_follow}
 use Rattle.ctf_draft.proofs.draft.Draft.+resolve_within.Goals as goal

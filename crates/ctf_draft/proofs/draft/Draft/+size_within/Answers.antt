@@ -1,7 +1,7 @@
 use Rattle.std.proofs.Common.{ap, sym, ◌∙◌, arith}
 use Rattle.std.specs.Prelude.{◌-◌}
-use Rattle.ctf_model.specs.Drafts.{held}
-use Rattle.ctf_model.specs.Figures.{comes_to, parents_figure, sizing, times}
+use Rattle.ctf_model.specs.drafts.Drafts.{held}
+use Rattle.ctf_model.specs.figures.Figures.{comes_to, parents_figure, sizing, times}
 use Rattle.ctf_draft.specs.Sizing.{sized}
 use Rattle.ctf_draft.specs.TypeView.{body_of}
 use Rattle.ctf_draft.proofs.Figuring.{by_sizing, elsewhere_at, none_at, none_follow}

@@ -1,11 +1,11 @@
 use Rattle.std.proofs.Common.{◌≡◌, List, ◌++◌, ◌∷◌, [], Ok, length, map, sym, ap, subst, ◌∙◌, arith}
 use Rattle.std.proofs.lemmas.List.{map-append, length-map}
 use Rattle.ctf_draft.specs.ParentView.{parent_in}
-use Rattle.ctf_model.specs.Adders.{Added, add_type}
-use Rattle.ctf_model.specs.DraftLaws.{IsSound}
-use Rattle.ctf_model.specs.NewTypes.{new_term}
+use Rattle.ctf_model.specs.drafts.Adders.{Added, add_type}
+use Rattle.ctf_model.specs.drafts.DraftLaws.{IsSound}
+use Rattle.ctf_model.specs.drafts.NewTypes.{new_term}
 use Rattle.ctf_model.proofs.SoundDrafts.{type_sound}
-use Rattle.ctf_model.specs.Term.{Term}
+use Rattle.ctf_model.specs.format.Term.{Term}
 use Rattle.ctf_draft.specs.NewView.{new_of}
 use Rattle.ctf_draft.specs.TypeView.{type_of}
 use Rattle.ctf_draft.specs.Reaching.{Knows}

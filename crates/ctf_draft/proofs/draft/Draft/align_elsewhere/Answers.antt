@@ -1,7 +1,7 @@
 use Rattle.std.proofs.Common.{sym, ◌∙◌}
-use Rattle.ctf_model.specs.Dictionary.{said_by}
-use Rattle.ctf_model.specs.Drafts.{held}
-use Rattle.ctf_model.specs.Figures.{aligning, parents_figure}
+use Rattle.ctf_model.specs.format.Dictionary.{said_by}
+use Rattle.ctf_model.specs.drafts.Drafts.{held}
+use Rattle.ctf_model.specs.figures.Figures.{aligning, parents_figure}
 use Rattle.ctf_space.specs.SpaceView.{alone}
 use Rattle.ctf_draft.proofs.Figuring.{none_step, parents_step}
 use Rattle.ctf_draft.proofs.draft.Draft.align_elsewhere.Goals as goal

@@ -1,6 +1,6 @@
 use Rattle.std.proofs.Common.{ap, sym, ◌∙◌}
-use Rattle.ctf_model.specs.Adders.{is_deep_from}
-use Rattle.ctf_model.specs.Drafts.{held}
+use Rattle.ctf_model.specs.drafts.Adders.{is_deep_from}
+use Rattle.ctf_model.specs.drafts.Drafts.{held}
 use Rattle.ctf_draft.proofs.Known.{same_known}
 use Rattle.ctf_draft.proofs.Planned.{deep, shallow}
 use Rattle.ctf_draft.proofs.Reaches.{elsewhere_is}

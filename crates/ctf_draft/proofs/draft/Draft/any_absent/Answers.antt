@@ -1,5 +1,5 @@
 use Rattle.std.proofs.Common.{get_or, sym, ◌∙◌}
-use Rattle.ctf_model.specs.Drafts.{is_absent}
+use Rattle.ctf_model.specs.drafts.Drafts.{is_absent}
 use Rattle.ctf_model.specs.declared.numbers.TypeNum.{TypeNum}
 use Rattle.ctf_draft.specs.TypeView.{number_of}
 use Rattle.ctf_draft.proofs.Among.{any_at, none_more, same_at}

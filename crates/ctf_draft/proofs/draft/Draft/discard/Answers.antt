@@ -1,6 +1,6 @@
 use Rattle.std.proofs.Common.{length, map, sym, ap, subst, arith}
 use Rattle.std.proofs.lemmas.List.{length-take, take-map}
-use Rattle.ctf_model.specs.DraftLaws.{IsSound}
+use Rattle.ctf_model.specs.drafts.DraftLaws.{IsSound}
 use Rattle.ctf_model.proofs.SoundDrafts.{life_sound}
 use Rattle.ctf_draft.specs.ParentView.{parent_in}
 use Rattle.ctf_draft.specs.TypeView.{type_of}

@@ -1,7 +1,7 @@
 use Rattle.std.proofs.Common.{List, ℕ, ap, sym, ◌∙◌, w32}
 use Rattle.std.proofs.Math.Facts.{to_z-of_z}
-use Rattle.ctf_model.specs.Adders.{against_enumerator}
-use Rattle.ctf_model.specs.Judgements.{first_met}
+use Rattle.ctf_model.specs.drafts.Adders.{against_enumerator}
+use Rattle.ctf_model.specs.rules.Judgements.{first_met}
 use Rattle.ctf_draft.proofs.Sounding.{enumerated_sound}
 use Rattle.ctf_draft.proofs.draft.Draft.enumerator.Goals as goal
 

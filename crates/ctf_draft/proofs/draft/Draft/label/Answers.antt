@@ -2,12 +2,12 @@ use Rattle.std.proofs.Common.{◌≡◌, ℕ, List, ◌++◌, ◌∷◌, [], Ok,
 use Rattle.std.specs.List.{list_any}
 use Rattle.std.specs.Str.{bytes_eq}
 use Rattle.std.proofs.lemmas.List.{length-append}
-use Rattle.ctf_model.specs.Adders.{add_label}
-use Rattle.ctf_model.specs.Dictionary.{Label}
-use Rattle.ctf_model.specs.DraftLaws.{IsSound}
+use Rattle.ctf_model.specs.drafts.Adders.{add_label}
+use Rattle.ctf_model.specs.format.Dictionary.{Label}
+use Rattle.ctf_model.specs.drafts.DraftLaws.{IsSound}
 use Rattle.ctf_model.proofs.SoundDrafts.{label_sound}
 use Rattle.ctf_draft.specs.ParentView.{parent_in}
-use Rattle.ctf_model.specs.Drafts.{Draft, has_zero, held}
+use Rattle.ctf_model.specs.drafts.Drafts.{Draft, has_zero, held}
 use Rattle.ctf_draft.specs.TypeView.{type_of}
 use Rattle.ctf_draft.proofs.Known.{terms_known}
 use Rattle.ctf_draft.proofs.Views.{all_labels, label_free, labelled, one_label, seen, label_accepted}

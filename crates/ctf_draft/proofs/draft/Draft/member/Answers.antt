@@ -1,7 +1,7 @@
 use Rattle.std.proofs.Common.{◌≡◌, List, ℕ, Result, Ok, ap, sym, subst, ◌∙◌, inr}
-use Rattle.ctf_model.specs.Adders.{Added, body_at, replaced, with_member}
-use Rattle.ctf_model.specs.DraftLaws.{IsSound}
-use Rattle.ctf_model.specs.Drafts.{Draft}
+use Rattle.ctf_model.specs.drafts.Adders.{Added, body_at, replaced, with_member}
+use Rattle.ctf_model.specs.drafts.DraftLaws.{IsSound}
+use Rattle.ctf_model.specs.drafts.Drafts.{Draft}
 use Rattle.ctf_model.specs.declared.faults.Fault.{Fault}
 use Rattle.ctf_draft.specs.Planning.{against_name}
 use Rattle.ctf_draft.proofs.MemberAdded.{member_accepted, member_barred, refused_or_memory}

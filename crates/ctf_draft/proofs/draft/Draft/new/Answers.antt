@@ -1,7 +1,7 @@
 use Rattle.std.proofs.Common.{◌≡◌, false, None, option_map, slice_index_or, sym, ap, ◌∙◌, arith}
 use Rattle.ctf_layout.proofs.Tables.{same_some}
-use Rattle.ctf_model.specs.Kept.{modelled_by}
-use Rattle.ctf_model.specs.Drafts.{has_zero}
+use Rattle.ctf_model.specs.spaces.Kept.{modelled_by}
+use Rattle.ctf_model.specs.drafts.Drafts.{has_zero}
 use Rattle.ctf_draft.proofs.Known.{none_known}
 use Rattle.ctf_draft.proofs.Sounding.{empty_sound, same_above}
 use Rattle.ctf_draft.proofs.draft.Draft.new.Goals as goal

@@ -1,12 +1,12 @@
 use Rattle.std.proofs.Common.{◌≤◌, List, [], length, map, unwrap_or, option_map, set, sym, ap, subst, ◌∙◌, arith}
 use Rattle.std.proofs.lemmas.List.{map-set}
-use Rattle.ctf_model.specs.Shown.{enumerators_in, shown}
-use Rattle.ctf_model.specs.Term.{Body, Term}
+use Rattle.ctf_model.specs.format.Shown.{enumerators_in, shown}
+use Rattle.ctf_model.specs.format.Term.{Body, Term}
 use Rattle.std.proofs.lemmas.Result.{on_ok_weaker, on_err_weaker}
-use Rattle.ctf_model.specs.Adders.{body_at, is_among, replaced, with_enumerator}
+use Rattle.ctf_model.specs.drafts.Adders.{body_at, is_among, replaced, with_enumerator}
 use Rattle.ctf_draft.specs.ParentView.{parent_in}
-use Rattle.ctf_model.specs.DraftLaws.{IsSound}
-use Rattle.ctf_model.specs.Drafts.{Draft}
+use Rattle.ctf_model.specs.drafts.DraftLaws.{IsSound}
+use Rattle.ctf_model.specs.drafts.Drafts.{Draft}
 use Rattle.ctf_draft.specs.DraftView.{Owned}
 use Rattle.ctf_draft.specs.TypeView.{enumerator_of, type_of}
 use Rattle.ctf_draft.proofs.Pending.{body_here, left_here, put_here}

@@ -1,8 +1,8 @@
 use Rattle.std.proofs.Common.{◌≡◌, ap, sym, ◌∙◌}
-use Rattle.ctf_model.specs.Dictionary.{said_by}
-use Rattle.ctf_model.specs.Figures.{resolving, resolved}
-use Rattle.ctf_model.specs.Lists.{Lists}
-use Rattle.ctf_model.specs.Space.{Space}
+use Rattle.ctf_model.specs.format.Dictionary.{said_by}
+use Rattle.ctf_model.specs.figures.Figures.{resolving, resolved}
+use Rattle.ctf_model.specs.format.Lists.{Lists}
+use Rattle.ctf_model.specs.spaces.Space.{Space}
 use Rattle.ctf_space.specs.SpaceView.{alone, space_of}
 use Rattle.ctf_draft.proofs.Figuring.{parents_step}
 use Rattle.ctf_draft.proofs.draft.Draft.resolve_elsewhere.Goals as goal

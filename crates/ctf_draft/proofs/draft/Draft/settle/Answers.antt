@@ -1,7 +1,7 @@
 use Rattle.std.proofs.Common.{◌≡◌, ℕ, length, map, sym, ap, subst, ◌∙◌, arith}
 use Rattle.std.proofs.lemmas.List.{length-map}
-use Rattle.ctf_model.specs.DraftLaws.{IsSound}
-use Rattle.ctf_model.specs.Drafts.{settled}
+use Rattle.ctf_model.specs.drafts.DraftLaws.{IsSound}
+use Rattle.ctf_model.specs.drafts.Drafts.{settled}
 use Rattle.ctf_model.proofs.SoundDrafts.{life_sound}
 use Rattle.ctf_draft.specs.DraftView.{made_of}
 use Rattle.ctf_draft.specs.ParentView.{parent_in}

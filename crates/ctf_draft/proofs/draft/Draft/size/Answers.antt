@@ -1,6 +1,6 @@
 use Rattle.std.proofs.Common.{ap, sym, ◌∙◌}
-use Rattle.ctf_model.specs.Drafts.{held}
-use Rattle.ctf_model.specs.Figures.{comes_to, parents_figure, sizing}
+use Rattle.ctf_model.specs.drafts.Drafts.{held}
+use Rattle.ctf_model.specs.figures.Figures.{comes_to, parents_figure, sizing}
 use Rattle.ctf_model.proofs.Settled.{most_is}
 use Rattle.ctf_draft.proofs.draft.Draft.size.Goals as goal
 

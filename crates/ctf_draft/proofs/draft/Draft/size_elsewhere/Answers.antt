@@ -1,6 +1,6 @@
 use Rattle.std.proofs.Common.{sym, ◌∙◌}
-use Rattle.ctf_model.specs.Dictionary.{said_by}
-use Rattle.ctf_model.specs.Figures.{sizing}
+use Rattle.ctf_model.specs.format.Dictionary.{said_by}
+use Rattle.ctf_model.specs.figures.Figures.{sizing}
 use Rattle.ctf_space.specs.SpaceView.{alone}
 use Rattle.ctf_draft.proofs.Figuring.{parents_step}
 use Rattle.ctf_draft.proofs.draft.Draft.size_elsewhere.Goals as goal

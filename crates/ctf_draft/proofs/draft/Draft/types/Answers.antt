@@ -1,5 +1,5 @@
 use Rattle.std.proofs.Common.{ap, subst}
-use Rattle.ctf_model.specs.DraftLaws.{IsSound}
+use Rattle.ctf_model.specs.drafts.DraftLaws.{IsSound}
 use Rattle.ctf_draft.proofs.draft.Draft.types.Goals as goal
 
 pub returns-clause-sound : goal.returns-clause-sound

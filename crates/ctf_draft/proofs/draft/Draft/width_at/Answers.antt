@@ -1,7 +1,7 @@
 use Rattle.std.proofs.Common.{ap, sym, refl, ◌∙◌, arith}
 use Rattle.ctf_layout.proofs.Tables.{same_some}
-use Rattle.ctf_model.specs.Dictionary.{said_by}
-use Rattle.ctf_model.specs.TypePlaces.{place}
+use Rattle.ctf_model.specs.format.Dictionary.{said_by}
+use Rattle.ctf_model.specs.spaces.TypePlaces.{place}
 use Rattle.ctf_draft.specs.ParentView.{parent_in}
 use Rattle.ctf_draft.proofs.Pending.{none_at, seen_type, taken_at}
 use Rattle.ctf_draft.proofs.draft.Draft.width_at.Goals as goal

@@ -1,8 +1,8 @@
 use Rattle.std.proofs.Common.{ap, sym, ◌∙◌}
 use Rattle.std.specs.Prelude.{is_some, option_and_then, option_map}
 use Rattle.std.proofs.lemmas.Result.{IfOk-weaker}
-use Rattle.ctf_protocol.specs.State.{Slot, State}
-use Rattle.ctf_protocol.specs.Steps.{slot_at}
+use Rattle.ctf_protocol.specs.sessions.State.{Slot, State}
+use Rattle.ctf_protocol.specs.sessions.Steps.{slot_at}
 use Rattle.ctf_library.proofs.Creating.{creates_done, map_there}
 use Rattle.ctf_library.proofs.library.Library.created.Goals as goal
 

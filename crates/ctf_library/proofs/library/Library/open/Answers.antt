@@ -1,6 +1,6 @@
 use Rattle.std.proofs.Common.{rules, inl, sym, ap, ◌∙◌}
-use Rattle.ctf_model.specs.Faults.{first_fault}
-use Rattle.ctf_model.specs.OwnedLists.{lists_owned}
+use Rattle.ctf_model.specs.rules.Faults.{first_fault}
+use Rattle.ctf_model.specs.format.OwnedLists.{lists_owned}
 use Rattle.ctf_library.proofs.Opening.{opens_to}
 use Rattle.ctf_library.proofs.library.Library.open.Goals as goal
 

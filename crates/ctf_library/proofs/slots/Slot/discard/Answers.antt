@@ -3,9 +3,9 @@ use Rattle.std.specs.Prelude.{option_map}
 use Rattle.ctf_draft.specs.declared.draft.Draft.{Draft}
 use Rattle.ctf_library.specs.SlotView.{slot_of}
 use Rattle.ctf_library.proofs.DraftSteps.{discard_step}
-use Rattle.ctf_protocol.specs.Answers.{Answer}
-use Rattle.ctf_protocol.specs.DraftSteps.{SlotOutcome}
-use Rattle.ctf_model.specs.Drafts as model
+use Rattle.ctf_protocol.specs.answers.Answers.{Answer}
+use Rattle.ctf_protocol.specs.sessions.DraftSteps.{SlotOutcome}
+use Rattle.ctf_model.specs.drafts.Drafts as model
 use Rattle.ctf_library.proofs.slots.Slot.discard.Goals as goal
 
 pub returns-in-Some-clause-said : goal.returns-in-Some-clause-said

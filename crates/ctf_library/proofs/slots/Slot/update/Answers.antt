@@ -3,7 +3,7 @@ use Rattle.std.specs.Prelude.{option_map}
 use Rattle.ctf_draft.specs.declared.draft.Draft.{Draft}
 use Rattle.ctf_library.specs.SlotView.{slot_of}
 use Rattle.ctf_library.proofs.DraftSteps.{update_done, update_refused}
-use Rattle.ctf_protocol.specs.Answers.{Answer}
+use Rattle.ctf_protocol.specs.answers.Answers.{Answer}
 use Rattle.ctf_library.proofs.slots.Slot.update.Goals as goal
 
 pub returns-in-Err-clause-step : goal.returns-in-Err-clause-step

@@ -1,7 +1,7 @@
 use Rattle.std.proofs.Common.{length, sym, ◌∙◌, codes}
 use Rattle.std.proofs.lemmas.Bool.{eqb-false, eqb-true}
 use Rattle.std.proofs.lemmas.Result.{err_from_is_err_and}
-use Rattle.ctf_model.specs.Pieces.{piece}
+use Rattle.ctf_model.specs.values.Pieces.{piece}
 use Rattle.ctf_print.proofs.Writes.{label_none, label_some, next_ok, refused_first, later_refused}
 use Rattle.ctf_print.proofs.text.Text.put_label.Goals as goal
 

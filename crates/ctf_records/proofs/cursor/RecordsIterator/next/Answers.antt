@@ -1,7 +1,7 @@
 use Rattle.std.proofs.Common.{◌≡◌, ◌<◌, ◌+◌, ◌∷◌, Ok, Err, length, refl, sym, ap, ◌∙◌, arith}
 use Rattle.std.proofs.lemmas.Bool.{eqb-true}
 use Rattle.ctf_model.proofs.Walk.{front_len_range, walk_ended, nonempty, ended_by, took}
-use Rattle.ctf_model.specs.Section.{Piece, walk}
+use Rattle.ctf_model.specs.format.Section.{Piece, walk}
 use Rattle.ctf_model.specs.declared.faults.Fault.{Fault}
 use Rattle.ctf_records.proofs.Reading.{goes_first}
 use Rattle.ctf_records.proofs.cursor.RecordsIterator.next.Goals as goal

@@ -1,6 +1,6 @@
 use Rattle.std.proofs.Common.{◌<◌, List, ℕ, length, Some, ap, ◌∙◌, arith}
 use Rattle.std.specs.Prelude.{slice_index}
-use Rattle.ctf_model.specs.Record.{size}
+use Rattle.ctf_model.specs.format.Record.{size}
 use Rattle.ctf_records.proofs.ListedNumbers.{array_listed, arguments_count, members_listed, member_fits}
 use Rattle.ctf_records.specs.ListedTypes.{numbers_in, listed_types}
 use Rattle.ctf_records.specs.RecordView.{bytes_of}

@@ -2,7 +2,7 @@ use Rattle.std.proofs.Common.{◌∙◌, ap, arith, None}
 use Rattle.ctf_check.specs.CheckedView.{lists_of}
 use Rattle.ctf_symbols.proofs.Answering.{not_there, there, kept_of, function_kept, function_good, function_missing, function_other, function_said, is_sort, other_sort, sound_parts, left_is, ending_is}
 use Rattle.ctf_symbols.proofs.map.SymbolMap.function.Goals as goal
-use Rattle.ctf_model.specs.Entries.{signature_in, is_bad_entry}
+use Rattle.ctf_model.specs.symbols.Entries.{signature_in, is_bad_entry}
 
 pub returns-in_default : goal.returns-in_default
 returns-in_default c =

@@ -1,5 +1,5 @@
 use Rattle.std.proofs.Common.{None, Some, ap, sym, ◌∙◌}
-use Rattle.ctf_model.specs.Name.{name}
+use Rattle.ctf_model.specs.format.Name.{name}
 use Rattle.ctf_check.specs.CheckedView.{lists_of}
 use Rattle.ctf_symbols.proofs.Finding.{found_label, label_refused, label_said}
 use Rattle.ctf_symbols.proofs.map.SymbolMap.label.Goals as goal

@@ -2,7 +2,7 @@ use Rattle.std.proofs.Common.{◌∙◌, ap, arith, Some, None}
 use Rattle.ctf_check.specs.CheckedView.{lists_of}
 use Rattle.ctf_symbols.proofs.Answering.{not_there, there, kept_of, object_kept, object_missing, object_other, object_said, is_sort, other_sort, sound_parts, left_is, ending_is}
 use Rattle.ctf_symbols.proofs.map.SymbolMap.object.Goals as goal
-use Rattle.ctf_model.specs.Entries.{type_in}
+use Rattle.ctf_model.specs.symbols.Entries.{type_in}
 
 pub returns-in_default : goal.returns-in_default
 returns-in_default c =

@@ -1,5 +1,5 @@
 use Rattle.std.proofs.Common.{◌≡◌, drop}
-use Rattle.ctf_model.specs.Paths.{member_named}
+use Rattle.ctf_model.specs.figures.Paths.{member_named}
 use Rattle.ctf_views.proofs.members.Rows+MemberRow.named.Given as goal
 
 abbrev pub invariant-loop-index : goal.invariant-loop-index

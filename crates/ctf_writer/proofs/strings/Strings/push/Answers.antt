@@ -1,7 +1,7 @@
 use Rattle.std.proofs.Common.{◌≡◌, ℕ, List, [], ◌∷◌, ◌++◌, arith, length, ap, ◌∙◌}
 use Rattle.std.specs.List.{flat_map}
 use Rattle.indexmap.proofs.CallerLemmas.{insert_entry-new}
-use Rattle.ctf_model.specs.WrittenNames.{closed}
+use Rattle.ctf_model.specs.writing.WrittenNames.{closed}
 use Rattle.ctf_writer.specs.Offsets.{Entry, names_in}
 use Rattle.ctf_writer.proofs.Offsets.{none_where, entry_more, names_more, strings_more}
 use Rattle.ctf_writer.proofs.strings.Strings.push.Goals as goal

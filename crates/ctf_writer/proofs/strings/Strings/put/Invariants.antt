@@ -1,6 +1,6 @@
 use Rattle.std.proofs.Common.{◌≡◌, ◌++◌, ◌+◌, length, map, vec_capacity, vec_len}
 use Rattle.std.specs.List.{flat_map}
-use Rattle.ctf_model.specs.WrittenNames.{closed, string_bytes}
+use Rattle.ctf_model.specs.writing.WrittenNames.{closed, string_bytes}
 use Rattle.ctf_writer.specs.Tables.{names}
 use Rattle.ctf_writer.proofs.strings.Strings.put.Given as goal
 

@@ -1,5 +1,5 @@
 use Rattle.std.proofs.Common.{◌≡◌, true, false, sym, ap, is_some, ◌∙◌, refl}
-use Rattle.ctf_model.specs.WrittenNames.{reference}
+use Rattle.ctf_model.specs.writing.WrittenNames.{reference}
 use Rattle.ctf_writer.proofs.Offsets.{reference_found, found_where}
 use Rattle.ctf_writer.proofs.strings.Strings.reference.Goals as goal
 

@@ -1,0 +1,42 @@
+-- A draft in the hands of its owner: what may be done to it,
+-- one thing after the other. Source: ours.
+use Rattle.std.specs.Prelude.{ℕ, List, [], ◌∷◌, Option, Result, Ok, Err}
+use Rattle.ctf_model.specs.drafts.Adders.{Added, add_enumerator, add_label, add_member, add_type}
+use Rattle.ctf_model.specs.format.Dictionary.{Label}
+use Rattle.ctf_model.specs.drafts.Drafts.{Draft, discarded, settled}
+use Rattle.ctf_model.specs.drafts.NewTypes.{NewType}
+use Rattle.ctf_model.specs.format.Term.{Enumerator}
+use Rattle.ctf_model.specs.declared.faults.Fault.{Fault}
+
+pub data DraftChange : Type 0 where
+  adds_type : NewType → DraftChange
+  -- to the type of a number: a name, a type and an offset in bits, if that is stated
+  adds_member : ℕ → List ℕ → ℕ → Option ℕ → DraftChange
+  adds_enumerator : ℕ → Enumerator → DraftChange
+  adds_label : Label → DraftChange
+  discards : DraftChange
+  -- by an update that is accepted
+  settles : DraftChange
+
+-- what is refused leaves the draft as it was
+abbrev pub or_as_before : Draft → Result Draft Fault → Draft
+or_as_before d (Err f) = d
+or_as_before d (Ok e) = e
+
+abbrev pub draft_of : Result Added Fault → Result Draft Fault
+draft_of (Err f) = Err f
+draft_of (Ok added) = Ok added.draft
+
+abbrev pub changed : Draft → DraftChange → Draft
+changed d (adds_type new) = or_as_before d (draft_of (add_type d new))
+changed d (adds_member n name tnum offset) =
+    or_as_before d (draft_of (add_member d n name tnum offset))
+changed d (adds_enumerator n e) = or_as_before d (add_enumerator d n e)
+changed d (adds_label label) = or_as_before d (add_label d label)
+changed d discards = discarded d
+changed d settles = settled d
+
+-- after such changes, the first of the list first
+unfoldable pub after : Draft → List DraftChange → Draft
+after d [] = d
+after d (change ∷ changes) = after (changed d change) changes

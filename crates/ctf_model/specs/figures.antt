@@ -1,0 +1,4 @@
+pub mod Figures
+pub mod Paths
+pub mod FigureLaws
+pub mod FigureRows

@@ -1,0 +1,15 @@
+pub mod Bytes
+pub mod Name
+pub mod Header
+pub mod Term
+pub mod Record
+pub mod Spelling
+pub mod Section
+pub mod NamePlaces
+pub mod Lists
+pub mod Laws
+pub mod Dictionary
+pub mod OwnedLists
+pub mod Shown
+pub mod Rows
+pub mod KindRows

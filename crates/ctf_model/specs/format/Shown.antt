@@ -1,0 +1,153 @@
+-- What of a type stands in the head of its record, and what behind it. Source: ctf(5), "The Type
+-- Section": whether ctt_size or ctt_type is meant, and the variable-length data of each kind.
+use Rattle.std.specs.Prelude.{ℕ, Bool, List, length, Option, Some, None}
+use Rattle.ctf_model.specs.format.Term.{Body, Enumerator, Member, Scalar, Elements, Tag, Term}
+use Rattle.ctf_model.specs.format.Term as term
+use Rattle.ctf_model.specs.declared.kinds.Kind.{Kind}
+use Rattle.ctf_model.specs.declared.kinds.Kind.TheVariants.{KUnknown, KInteger, KFloat, KPointer, KArray, KFunction, KStruct, KUnion, KEnum, KForward, KTypedef, KVolatile, KConst, KRestrict}
+
+-- ---- in the head
+
+abbrev pub kind_of : Body → Kind
+kind_of term.unknown = KUnknown
+kind_of (term.integer scalar) = KInteger
+kind_of (term.float scalar) = KFloat
+kind_of (term.pointer t) = KPointer
+kind_of (term.array elements) = KArray
+kind_of (term.function ret args) = KFunction
+kind_of (term.struct size members) = KStruct
+kind_of (term.union size members) = KUnion
+kind_of (term.enum size enumerators) = KEnum
+kind_of (term.forward tag) = KForward
+kind_of (term.typedef t) = KTypedef
+kind_of (term.volatile t) = KVolatile
+kind_of (term.const t) = KConst
+kind_of (term.restrict t) = KRestrict
+
+-- the size in bytes of a value
+abbrev pub size_of : Body → Option ℕ
+size_of (term.integer scalar) = Some scalar.size
+size_of (term.float scalar) = Some scalar.size
+size_of (term.array elements) = Some elements.size
+size_of (term.struct size members) = Some size
+size_of (term.union size members) = Some size
+size_of (term.enum size enumerators) = Some size
+size_of _ = None
+
+-- the type that is pointed to, returned, renamed or qualified
+abbrev pub reference_of : Body → Option ℕ
+reference_of (term.pointer t) = Some t
+reference_of (term.function ret args) = Some ret
+reference_of (term.typedef t) = Some t
+reference_of (term.volatile t) = Some t
+reference_of (term.const t) = Some t
+reference_of (term.restrict t) = Some t
+reference_of _ = None
+
+-- what a forward declares
+abbrev pub declared_by : Body → Option Tag
+declared_by (term.forward tag) = Some tag
+declared_by _ = None
+
+-- ---- behind the head
+
+-- the parts of an array apart from its size
+pub record ArrayParts : Type 0 where
+  pub contents : ℕ
+  pub index : ℕ
+  pub count : ℕ
+
+-- the parts of an integer or a float apart from its size
+pub record EncodingParts : Type 0 where
+  pub encoding : ℕ
+  pub offset : ℕ
+  pub bits : ℕ
+
+-- what is shown, by kind
+pub data Shown : Type 0 where
+  members : List Member → Shown
+  enumerators : List Enumerator → Shown
+  arguments : List ℕ → Shown
+  array : ArrayParts → Shown
+  encoding : EncodingParts → Shown
+  tag : Tag → Shown
+  nothing : Shown
+
+-- of an array
+abbrev pub array_parts : Elements → ArrayParts
+array_parts e = record { contents = e.contents; index = e.index; count = e.count }
+
+-- of an integer or a float
+abbrev pub encoding_parts : Scalar → EncodingParts
+encoding_parts s = record { encoding = s.encoding; offset = s.offset; bits = s.bits }
+
+-- what is shown of a type; its size, and the type that it points to, renames,
+-- qualifies or returns, stand in the head
+abbrev pub shown : Body → Shown
+shown (term.struct size items) = members items
+shown (term.union size items) = members items
+shown (term.enum size items) = enumerators items
+shown (term.function returned items) = arguments items
+shown (term.array e) = array (array_parts e)
+shown (term.integer s) = encoding (encoding_parts s)
+shown (term.float s) = encoding (encoding_parts s)
+shown (term.forward t) = tag t
+shown _ = nothing
+
+-- ---- each part, where it is shown
+
+abbrev pub members_in : Shown → Option (List Member)
+members_in (members items) = Some items
+members_in _ = None
+
+abbrev pub enumerators_in : Shown → Option (List Enumerator)
+enumerators_in (enumerators items) = Some items
+enumerators_in _ = None
+
+abbrev pub arguments_in : Shown → Option (List ℕ)
+arguments_in (arguments items) = Some items
+arguments_in _ = None
+
+abbrev pub array_in : Shown → Option ArrayParts
+array_in (array parts) = Some parts
+array_in _ = None
+
+abbrev pub encoding_in : Shown → Option EncodingParts
+encoding_in (encoding parts) = Some parts
+encoding_in _ = None
+
+-- how long the list of a type is; 0 where it has none
+abbrev pub list_length : Shown → ℕ
+list_length (members items) = length items
+list_length (enumerators items) = length items
+list_length (arguments items) = length items
+list_length _ = 0
+
+-- ---- all of it
+
+-- what a type is, apart from its name, without looking at other types
+pub record Shape : Type 0 where
+  pub kind : Kind
+  pub size : Option ℕ
+  pub reference : Option ℕ
+  pub declares : Option Tag
+  pub behind : Shown
+
+abbrev pub shape : Body → Shape
+shape body =
+    record {
+      kind = kind_of body;
+      size = size_of body;
+      reference = reference_of body;
+      declares = declared_by body;
+      behind = shown body;
+    }
+
+-- what a type says of itself
+pub record Facts : Type 0 where
+  pub name : List ℕ
+  pub root : Bool
+  pub shape : Shape
+
+abbrev pub facts : Term → Facts
+facts x = record { name = x.name; root = x.root; shape = shape x.body }

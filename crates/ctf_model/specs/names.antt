@@ -1,0 +1,5 @@
+pub mod KindNames
+pub mod TypeNames
+pub mod NameRows
+pub mod Found
+pub mod FindRows

@@ -1,0 +1,142 @@
+-- Which type a written name finds, and which type is a pointer to another.
+-- Source: libctf(3LIB), ctf_lookup_by_name and ctf_type_pointer; which names are read,
+-- and that the least number is taken, is ours.
+use Rattle.std.specs.Prelude.{ℕ, zero, suc, ◌==◌, ◌&&◌, ◌||◌, Bool, true, false, List, [], ◌∷◌, length, take, drop, Option, Some, None, Result, Ok, Err, codes, if◌then◌else◌}
+use Rattle.std.specs.List.{list_all, count_by}
+use Rattle.std.specs.Option.{option_map, option_or}
+use Rattle.std.specs.Str.{bytes_eq}
+use Rattle.ctf_model.specs.format.Dictionary.{Dictionary}
+use Rattle.ctf_model.specs.figures.Figures.{resolved}
+use Rattle.ctf_model.specs.rules.Refusals.{placeless}
+use Rattle.ctf_model.specs.spaces.Space.{Space}
+use Rattle.ctf_model.specs.format.Term.{Term, Body, Tag}
+use Rattle.ctf_model.specs.format.Term as term
+use Rattle.ctf_model.specs.spaces.TypePlaces.{own_number}
+use Rattle.ctf_model.specs.declared.faults.Fault.{Fault}
+use Rattle.ctf_model.specs.declared.faults.TheConstants.Fault.{BAD_SYNTAX, NOT_FOUND}
+
+-- ---- the least number
+
+-- the first type that passes, counted from 0
+abbrev pub first_place : (Term → Bool) → List Term → Option ℕ
+first_place passes [] = None
+first_place passes (x ∷ xs) = if passes x then Some 0 else option_map suc (first_place passes xs)
+
+-- the least number of an own type that passes
+abbrev pub least_own : (Term → Bool) → Dictionary → Option ℕ
+least_own passes d = option_map (own_number d.child) (first_place passes d.terms)
+
+abbrev pub least_parents : (Term → Bool) → Option Dictionary → Option ℕ
+least_parents passes None = None
+least_parents passes (Some parent) = least_own passes parent
+
+-- the least number of an own type that passes, or else of a type of the imported parent's
+abbrev pub least : (Term → Bool) → Space → Option ℕ
+least passes s = option_or (least_own passes s.own) (least_parents passes s.parent)
+
+abbrev pub or_not_found : Option ℕ → Result ℕ Fault
+or_not_found None = Err (placeless NOT_FOUND)
+or_not_found (Some n) = Ok n
+
+-- ---- names
+
+-- the word in front of its name: a forward has that of what it declares, and other types have none
+abbrev pub tag_of : Body → Option Tag
+tag_of (term.struct size members) = Some term.struct_tag
+tag_of (term.union size members) = Some term.union_tag
+tag_of (term.enum size enumerators) = Some term.enum_tag
+tag_of (term.forward tag) = Some tag
+tag_of _ = None
+
+abbrev pub same_tag : Option Tag → Option Tag → Bool
+same_tag None None = true
+same_tag (Some term.struct_tag) (Some term.struct_tag) = true
+same_tag (Some term.union_tag) (Some term.union_tag) = true
+same_tag (Some term.enum_tag) (Some term.enum_tag) = true
+same_tag _ _ = false
+
+-- a name as it is written, without stars: the word in front of it,
+-- if there is one, and the name itself
+pub record Written : Type 0 where
+  pub tag : Option Tag
+  pub name : List ℕ
+
+-- a type that is visible to look-ups by name, and has this one
+abbrev pub is_called : Written → Term → Bool
+is_called w x = x.root && same_tag (tag_of x.body) w.tag && bytes_eq x.name w.name
+
+-- ---- texts
+
+abbrev pub is_blank : ℕ → Bool
+is_blank b = b == 32
+
+abbrev pub is_star : ℕ → Bool
+is_star b = b == 42
+
+abbrev pub is_star_or_blank : ℕ → Bool
+is_star_or_blank b = is_star b || is_blank b
+
+-- what stands in front of the last stars and blanks
+abbrev pub base : List ℕ → List ℕ
+base [] = []
+base (b ∷ text) = if list_all is_star_or_blank (b ∷ text) then [] else b ∷ base text
+
+-- how many stars stand behind it
+abbrev pub stars : List ℕ → ℕ
+stars text = count_by is_star (drop (length (base text)) text)
+
+abbrev pub begins_with : List ℕ → List ℕ → Bool
+begins_with word text = bytes_eq (take (length word) text) word
+
+-- blanks behind the first one belong to the name
+abbrev pub written : List ℕ → Written
+written text =
+    if begins_with (codes "struct ") text
+    then record { tag = Some term.struct_tag; name = drop 7 text }
+    else if begins_with (codes "union ") text
+    then record { tag = Some term.union_tag; name = drop 6 text }
+    else if begins_with (codes "enum ") text
+    then record { tag = Some term.enum_tag; name = drop 5 text }
+    else record { tag = None; name = text }
+
+-- it is empty, or begins with a blank
+abbrev pub is_no_name : List ℕ → Bool
+is_no_name [] = true
+is_no_name (b ∷ text) = is_blank b
+
+-- ---- pointers
+
+abbrev pub is_pointer_body : ℕ → Body → Bool
+is_pointer_body t (term.pointer u) = u == t
+is_pointer_body t _ = false
+
+-- a pointer to a type, hidden from look-ups by name or not
+abbrev pub is_pointer_to : ℕ → Term → Bool
+is_pointer_to t x = is_pointer_body t x.body
+
+-- the pointer to what a type stands for, unless that is no type
+abbrev pub pointer_behind : Space → Result ℕ Fault → Result ℕ Fault
+pointer_behind s (Err fault) = Err fault
+pointer_behind s (Ok u) = or_not_found (if u == 0 then None else least (is_pointer_to u) s)
+
+abbrev pub pointer_or_behind : Space → ℕ → Option ℕ → Result ℕ Fault
+pointer_or_behind s t (Some n) = Ok n
+pointer_or_behind s t None = pointer_behind s (resolved s t)
+
+-- the least pointer to a type, or else to what that stands for
+abbrev pub pointer_to : Space → ℕ → Result ℕ Fault
+pointer_to s t = pointer_or_behind s t (least (is_pointer_to t) s)
+
+-- ---- what a text finds
+
+-- so many pointers further
+abbrev pub pointed : Space → ℕ → Result ℕ Fault → Result ℕ Fault
+pointed s zero from = from
+pointed s (suc k) (Err fault) = Err fault
+pointed s (suc k) (Ok t) = pointed s k (pointer_to s t)
+
+-- the type of a name with stars behind it, as in `struct node **`
+abbrev pub found : Space → List ℕ → Result ℕ Fault
+found s text =
+    if is_no_name (base text) then Err (placeless BAD_SYNTAX)
+    else pointed s (stars text) (or_not_found (least (is_called (written (base text))) s))

@@ -1,0 +1,137 @@
+-- How C spells the name of a type. Source: ISO C, "Declarators" and "Type names";
+-- ctf_type_lname of libctf(3LIB); where a blank stands, and what stands for an empty name, is ours.
+use Rattle.std.specs.Prelude.{ℕ, zero, suc, ◌==◌, ◌++◌, nat_le, Bool, true, false, List, [], ◌∷◌, length, Option, Some, None, Result, Ok, Err, codes, decimal, if◌then◌else◌}
+use Rattle.ctf_model.specs.names.KindNames.{name_of_tag}
+use Rattle.ctf_model.specs.rules.Refusals.{placeless}
+use Rattle.ctf_model.specs.spaces.Space.{Space, space_type}
+use Rattle.ctf_model.specs.format.Term.{Body, Tag, Term}
+use Rattle.ctf_model.specs.format.Term as term
+use Rattle.ctf_model.specs.declared.faults.Fault.{Fault}
+use Rattle.ctf_model.specs.declared.faults.TheConstants.Fault.{TOO_LONG}
+use Rattle.ctf_model.specs.declared.layers.Layer.{Layer}
+use Rattle.ctf_model.specs.declared.layers.Layer.TheVariants.{Pointer, Array, Function, Qualified}
+use Rattle.ctf_model.specs.declared.layers.Qualifier.{Qualifier}
+use Rattle.ctf_model.specs.declared.layers.Qualifier.TheVariants.{Volatile, Const, Restrict}
+
+-- a text is longer than those that are answered
+abbrev pub too_long : Fault
+too_long = placeless TOO_LONG
+
+-- ---- the text of a declaration
+
+abbrev pub word_of_qualifier : Qualifier → List ℕ
+word_of_qualifier Volatile = codes "volatile"
+word_of_qualifier Const = codes "const"
+word_of_qualifier Restrict = codes "restrict"
+
+-- two texts, with a blank between them if the second isn't empty
+abbrev pub joined : List ℕ → List ℕ → List ℕ
+joined b [] = b
+joined b (x ∷ d) = b ++ 32 ∷ x ∷ d
+
+-- what qualifiers stand round, if that is no name
+abbrev pub past : List Layer → Option Layer
+past [] = None
+past (Qualified q ∷ layers) = past layers
+past (Pointer ∷ layers) = Some Pointer
+past (Array count ∷ layers) = Some (Array count)
+past (Function ∷ layers) = Some Function
+
+abbrev pub is_pointer : Option Layer → Bool
+is_pointer (Some Pointer) = true
+is_pointer _ = false
+
+-- an array or a function: its brackets stand behind a declarator, and bind it before a star does
+abbrev pub is_behind : Option Layer → Bool
+is_behind (Some (Array count)) = true
+is_behind (Some Function) = true
+is_behind _ = false
+
+-- The declarator d, of what these layers, the outermost first, make of the type with a name.
+-- A qualifier of a pointer stands behind its star, any other in front of the name.
+unfoldable pub declared : List Layer → List ℕ → List ℕ → List ℕ
+declared [] name d = joined name d
+declared (Pointer ∷ layers) name d =
+    declared layers name (if is_behind (past layers) then codes "(*" ++ (d ++ codes ")")
+    else codes "*" ++ d)
+declared (Array count ∷ layers) name d =
+    declared layers name (d ++ (codes "[" ++ (decimal count ++ codes "]")))
+declared (Function ∷ layers) name d = declared layers name (d ++ codes "()")
+declared (Qualified q ∷ layers) name d =
+    if is_pointer (past layers) then declared layers name (joined (word_of_qualifier q) d)
+    else word_of_qualifier q ++ (codes " " ++ declared layers name d)
+
+-- ---- the declaration of a type
+
+-- the layers of a type, the outermost first, and the name inside
+pub record Declaration : Type 0 where
+  pub layers : List Layer
+  pub name : List ℕ
+
+abbrev pub or_anon : List ℕ → List ℕ
+or_anon [] = codes "(anon)"
+or_anon (x ∷ name) = x ∷ name
+
+-- a name without any layer
+abbrev pub bare : List ℕ → Result Declaration Fault
+bare name = Ok (record { layers = []; name = name })
+
+-- that of a struct, a union or an enum
+abbrev pub tagged : Tag → List ℕ → Result Declaration Fault
+tagged tag name = bare (name_of_tag tag ++ (codes " " ++ or_anon name))
+
+-- a layer round a declaration, if there is one
+abbrev pub around : Layer → Result Declaration Fault → Result Declaration Fault
+around layer (Ok inside) = Ok (record { layers = layer ∷ inside.layers; name = inside.name })
+around layer (Err fault) = Err fault
+
+-- the declaration of a type with a name, where others have these
+abbrev pub declaration_by : (ℕ → Result Declaration Fault) → List ℕ → Body
+    → Result Declaration Fault
+declaration_by others name term.unknown = bare (or_anon name)
+declaration_by others name (term.integer scalar) = bare (or_anon name)
+declaration_by others name (term.float scalar) = bare (or_anon name)
+declaration_by others name (term.typedef t) = bare (or_anon name)
+declaration_by others name (term.struct size members) = tagged term.struct_tag name
+declaration_by others name (term.union size members) = tagged term.union_tag name
+declaration_by others name (term.enum size enumerators) = tagged term.enum_tag name
+declaration_by others name (term.forward tag) = tagged tag name
+declaration_by others name (term.pointer t) = around Pointer (others t)
+declaration_by others name (term.array elements) =
+    around (Array elements.count) (others elements.contents)
+declaration_by others name (term.function returned arguments) = around Function (others returned)
+declaration_by others name (term.volatile t) = around (Qualified Volatile) (others t)
+declaration_by others name (term.const t) = around (Qualified Const) (others t)
+declaration_by others name (term.restrict t) = around (Qualified Restrict) (others t)
+
+abbrev pub declaration_of : (ℕ → Result Declaration Fault) → Result Term Fault
+    → Result Declaration Fault
+declaration_of others (Ok x) = declaration_by others x.name x.body
+declaration_of others (Err fault) = Err fault
+
+-- the declaration of a number, if fewer than so many layers are round its name
+unfoldable pub declaration_within : Space → ℕ → ℕ → Result Declaration Fault
+declaration_within s zero n = Err too_long
+declaration_within s (suc k) n =
+    if n == 0 then bare (codes "void") else declaration_of (declaration_within s k) (space_type s n)
+
+-- ---- names
+
+-- the longest text that is answered, in bytes
+abbrev pub longest_text : ℕ
+longest_text = 65536
+
+-- each layer adds a byte or more, so the text of a declaration with as many layers is too long
+abbrev pub declaration : Space → ℕ → Result Declaration Fault
+declaration s n = declaration_within s longest_text n
+
+abbrev pub unless_too_long : List ℕ → Result (List ℕ) Fault
+unless_too_long text = if nat_le (length text) longest_text then Ok text else Err too_long
+
+abbrev pub text_of_declaration : Result Declaration Fault → Result (List ℕ) Fault
+text_of_declaration (Ok d) = unless_too_long (declared d.layers d.name [])
+text_of_declaration (Err fault) = Err fault
+
+-- the name of the type with a number, as C spells it
+abbrev pub spelled_name : Space → ℕ → Result (List ℕ) Fault
+spelled_name s n = text_of_declaration (declaration s n)

@@ -1,0 +1,9 @@
+pub mod Faults
+pub mod Rules
+pub mod References
+pub mod Chains
+pub mod Needs
+pub mod Refusals
+pub mod FaultRows
+pub mod FaultNames
+pub mod Judgements

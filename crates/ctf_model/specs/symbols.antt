@@ -1,0 +1,4 @@
+pub mod Symbols
+pub mod Entries
+pub mod SymbolQuestions
+pub mod SymbolRows

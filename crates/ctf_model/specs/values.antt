@@ -1,0 +1,5 @@
+pub mod Pieces
+pub mod MemoryBits
+pub mod Values
+pub mod ValueRows
+pub mod ValueLaws

@@ -1,0 +1,53 @@
+-- What is shown of a value: pieces of text, one behind the other, and then an end,
+-- which is done or a fault. Source: ours.
+use Rattle.std.specs.Prelude.{ℕ, ◌++◌, nat_lt, List, [], ◌∷◌, length, Option, Some, None, Result, Ok, Err, codes, if◌then◌else◌}
+use Rattle.ctf_model.specs.names.TypeNames.{longest_text, too_long}
+use Rattle.ctf_model.specs.declared.faults.Fault.{Fault}
+
+pub record Pieces : Type 0 where
+  -- those before the end, joined
+  pub text : List ℕ
+  -- the fault that they end by; none where they end done
+  pub fault : Option Fault
+
+-- one piece
+abbrev pub piece : List ℕ → Pieces
+piece text = record { text = text; fault = None }
+
+abbrev pub nothing : Pieces
+nothing = piece []
+
+abbrev pub ends : Fault → Pieces
+ends fault = record { text = []; fault = Some fault }
+
+abbrev pub goes_on : List ℕ → Option Fault → Pieces → Pieces
+goes_on text None next = record { text = text ++ next.text; fault = next.fault }
+goes_on text (Some fault) next = record { text = text; fault = Some fault }
+
+-- one and then the next; nothing is shown behind a fault
+unfoldable pub followed_by : Pieces → Pieces → Pieces
+followed_by first next = goes_on first.text first.fault next
+
+abbrev pub each_behind_comma : List Pieces → Pieces
+each_behind_comma [] = nothing
+each_behind_comma (x ∷ xs) = followed_by (piece (codes ", ")) (followed_by x (each_behind_comma xs))
+
+-- one after the other, with commas between them
+abbrev pub separated : List Pieces → Pieces
+separated [] = nothing
+separated (x ∷ xs) = followed_by x (each_behind_comma xs)
+
+abbrev pub between : List ℕ → List ℕ → Pieces → Pieces
+between first last inside = followed_by (piece first) (followed_by inside (piece last))
+
+-- ---- what is answered
+
+abbrev pub ended_by : Option Fault → List ℕ → Result (List ℕ) Fault
+ended_by None text = Ok text
+ended_by (Some fault) text = Err fault
+
+-- a text that is too long is refused, however it ends; else the fault is answered, or the text
+abbrev pub answered : Pieces → Result (List ℕ) Fault
+answered pieces =
+    if nat_lt longest_text (length pieces.text) then Err too_long
+    else ended_by pieces.fault pieces.text

@@ -1,0 +1,43 @@
+-- What a question on what a slot holds is answered. Source: ours.
+use Rattle.std.specs.Prelude.{ℕ, Bool, List, [], ◌∷◌, length, take, drop, is_some, codes, Option, Some, None}
+use Rattle.ctf_protocol.specs.answers.Answers.{Answer, says, number, truth, word, text, bytes}
+use Rattle.ctf_model.specs.format.Dictionary.{Dictionary, said_by}
+use Rattle.ctf_model.specs.drafts.Drafts.{Draft, pending_count}
+use Rattle.ctf_protocol.specs.words.ModelNames.{name_of_model}
+use Rattle.ctf_protocol.specs.sessions.State.{Slot}
+use Rattle.ctf_model.specs.declared.data_model.DataModel.{DataModel}
+use Rattle.ctf_protocol.specs.declared.questions.HeldQuestion.{HeldQuestion}
+use Rattle.ctf_protocol.specs.declared.questions.HeldQuestion.TheVariants as held
+
+-- how many types and labels a draft has pending, if there is a draft
+abbrev pub pending_in : Option Draft → ℕ
+pending_in None = 0
+pending_in (Some draft) = pending_count draft
+
+-- a dictionary as a whole, whether it is that of a draft, and whether it has a parent
+abbrev pub info_fields : Dictionary → Bool → Bool → ℕ → Answer
+info_fields d draft imported pending =
+    says (codes "child") (truth d.child)
+    ∷ says (codes "draft") (truth draft)
+    ∷ says (codes "imported") (truth imported)
+    ∷ says (codes "labels") (number (length d.labels))
+    ∷ says (codes "parlabel") (text d.parlabel)
+    ∷ says (codes "parname") (text d.parname)
+    ∷ says (codes "pending") (number pending)
+    ∷ says (codes "types") (number (length d.terms)) ∷ []
+
+-- some bytes of a dictionary, and how many it has in all
+abbrev pub bytes_fields : ℕ → ℕ → List ℕ → Answer
+bytes_fields from count ctf =
+    says (codes "bytes") (bytes (take count (drop from ctf)))
+    ∷ says (codes "length") (number (length ctf)) ∷ []
+
+abbrev pub model_fields : DataModel → Answer
+model_fields model = says (codes "model") (word (name_of_model model)) ∷ []
+
+abbrev pub held_said : HeldQuestion → Slot → Answer
+held_said held.Info slot =
+    info_fields (said_by slot.kept.lists) (is_some slot.draft) (is_some slot.parent)
+    (pending_in slot.draft)
+held_said held.Model slot = model_fields slot.kept.model
+held_said (held.Bytes from count) slot = bytes_fields from count slot.kept.lists.ctf

@@ -1,0 +1,167 @@
+-- What a question is answered. Source: libctf(3LIB), ctf_type_kind, ctf_member_iter, ctf_enum_iter,
+-- ctf_func_args, ctf_array_info, ctf_type_encoding, ctf_type_reference, ctf_type_resolve,
+-- ctf_type_size, ctf_type_align, ctf_type_lname, ctf_type_pointer; the form of answers is ours.
+use Rattle.std.specs.Prelude.{ℕ, ◌-◌, ◌&&◌, ◌==◌, ◌++◌, nat_lt, Bool, List, [], ◌∷◌, length, map, take, drop, slice_index, option_and_then, Option, Some, None, Result, Ok, Err, codes, if◌then◌else◌}
+use Rattle.std.specs.Option.{option_map}
+use Rattle.ctf_protocol.specs.answers.Answers.{Answer, Item, says, may_say, lists, entry, number, signed, truth, word, text, bare, object}
+use Rattle.ctf_model.specs.figures.Figures.{align, referred, resolved, size}
+use Rattle.ctf_model.specs.names.Found.{pointer_to}
+use Rattle.ctf_model.specs.names.KindNames.{name_of_kind, name_of_tag}
+use Rattle.ctf_model.specs.figures.Paths.{Position, path}
+use Rattle.ctf_model.specs.rules.Refusals.{placeless}
+use Rattle.ctf_model.specs.format.Shown.{ArrayParts, EncodingParts, Facts, Shape, facts, members_in, enumerators_in, arguments_in, array_in, encoding_in, list_length}
+use Rattle.ctf_model.specs.spaces.Space.{Space, space_type}
+use Rattle.ctf_model.specs.format.Term.{Member, Enumerator, Term}
+use Rattle.ctf_model.specs.names.TypeNames.{spelled_name}
+use Rattle.ctf_model.specs.values.Values.{value_text}
+use Rattle.ctf_model.specs.declared.faults.Fault.{Fault}
+use Rattle.ctf_model.specs.declared.faults.TheConstants.Fault.{WRONG_KIND}
+use Rattle.ctf_protocol.specs.declared.questions.PlainQuestion.{PlainQuestion}
+use Rattle.ctf_protocol.specs.declared.questions.PlainQuestion.TheVariants as plain
+use Rattle.ctf_protocol.specs.declared.questions.TypeQuestion.{TypeQuestion}
+use Rattle.ctf_protocol.specs.declared.questions.TypeQuestion.TheVariants as ask
+use Rattle.ctf_protocol.specs.declared.questions.Window.{Window}
+
+-- ---- answers, field by field
+
+abbrev pub kind_fields : Shape → Answer
+kind_fields x = says (codes "kind") (word (name_of_kind x.kind)) ∷ []
+
+-- a type without its list
+abbrev pub record_fields : Facts → Answer
+record_fields x =
+    says (codes "kind") (word (name_of_kind x.shape.kind))
+    ∷ says (codes "name") (text x.name)
+    ∷ says (codes "root") (truth x.root)
+    ∷ (may_say (codes "size") (option_map number x.shape.size)
+    ++ (may_say (codes "tag") (option_map (λ tag. word (name_of_tag tag)) x.shape.declares)
+    ++ (may_say (codes "type") (option_map number x.shape.reference)
+    ++ says (codes "vlen") (number (list_length x.shape.behind)) ∷ [])))
+
+-- as many as are wanted, or all
+abbrev pub at_most : {A : Type 0} → Option ℕ → List A → List A
+at_most None xs = xs
+at_most (Some count) xs = take count xs
+
+-- the items from one on
+abbrev pub windowed : {A : Type 0} → Window → List A → List A
+windowed window xs = at_most window.count (drop window.from xs)
+
+-- some items of a list, and how many there are in all
+abbrev pub list_fields : List ℕ → Window → List Item → Answer
+list_fields key window items =
+    lists key (windowed window items) ∷ says (codes "total") (number (length items)) ∷ []
+
+abbrev pub member_item : Member → Item
+member_item m =
+    object (entry (codes "name") (text m.name) ∷ entry (codes "offset") (number m.offset)
+    ∷ entry (codes "type") (number m.tnum) ∷ [])
+
+abbrev pub member_fields : Window → List Member → Answer
+member_fields window items = list_fields (codes "members") window (map member_item items)
+
+abbrev pub enumerator_item : Enumerator → Item
+enumerator_item e =
+    object (entry (codes "name") (text e.name) ∷ entry (codes "value") (signed e.value) ∷ [])
+
+abbrev pub enumerator_fields : Window → List Enumerator → Answer
+enumerator_fields window items =
+    list_fields (codes "enumerators") window (map enumerator_item items)
+
+-- a last argument 0 says that more arguments may follow, and isn't one itself
+abbrev pub is_variadic : List ℕ → Bool
+is_variadic args = nat_lt 0 (length args) && slice_index args (length args - 1) == 0
+
+abbrev pub named_arguments : List ℕ → List ℕ
+named_arguments args = if is_variadic args then take (length args - 1) args else args
+
+abbrev pub number_item : ℕ → Item
+number_item n = bare (number n)
+
+abbrev pub argument_fields : ℕ → List ℕ → Answer
+argument_fields ret args =
+    lists (codes "args") (map number_item (named_arguments args))
+    ∷ says (codes "return") (number ret) ∷ says (codes "varargs") (truth (is_variadic args)) ∷ []
+
+abbrev pub array_fields : ArrayParts → Answer
+array_fields a =
+    says (codes "contents") (number a.contents) ∷ says (codes "count") (number a.count)
+    ∷ says (codes "index") (number a.index) ∷ []
+
+abbrev pub encoding_fields : EncodingParts → Answer
+encoding_fields e =
+    says (codes "bits") (number e.bits) ∷ says (codes "encoding") (number e.encoding)
+    ∷ says (codes "offset") (number e.offset) ∷ []
+
+-- the number of a type
+abbrev pub type_fields : ℕ → Answer
+type_fields t = says (codes "t") (number t) ∷ []
+
+-- in bytes
+abbrev pub size_fields : ℕ → Answer
+size_fields n = says (codes "size") (number n) ∷ []
+
+abbrev pub align_fields : ℕ → Answer
+align_fields n = says (codes "align") (number n) ∷ []
+
+-- as C spells it
+abbrev pub name_fields : List ℕ → Answer
+name_fields name = says (codes "name") (text name) ∷ []
+
+-- what a value shows
+abbrev pub value_fields : List ℕ → Answer
+value_fields shown = says (codes "text") (text shown) ∷ []
+
+-- how many bits lie in front of a member, and its type
+abbrev pub position_fields : Position → Answer
+position_fields at =
+    says (codes "offset") (number at.offset) ∷ says (codes "t") (number at.tnum) ∷ []
+
+-- ---- questions on types
+
+-- what a part is answered as, if the kind has it
+abbrev pub or_wrong_kind : Option Answer → Result Answer Fault
+or_wrong_kind None = Err (placeless WRONG_KIND)
+or_wrong_kind (Some answer) = Ok answer
+
+-- what a figure is answered as, or its fault
+abbrev pub as_fields : {A : Type 0} → (A → Answer) → Result A Fault → Result Answer Fault
+as_fields say (Err fault) = Err fault
+as_fields say (Ok a) = Ok (say a)
+
+-- each question that brings no more than the type, which a number names in a space,
+-- and which says this of itself
+abbrev pub plain_said : PlainQuestion → Space → ℕ → Facts → Result Answer Fault
+plain_said plain.Kind s t x = Ok (kind_fields x.shape)
+plain_said plain.Record s t x = Ok (record_fields x)
+plain_said plain.Args s t x =
+    or_wrong_kind (option_and_then
+    (λ ret. option_map (argument_fields ret) (arguments_in x.shape.behind)) x.shape.reference)
+plain_said plain.Array s t x = or_wrong_kind (option_map array_fields (array_in x.shape.behind))
+plain_said plain.Encoding s t x =
+    or_wrong_kind (option_map encoding_fields (encoding_in x.shape.behind))
+plain_said plain.Reference s t x = as_fields type_fields (referred x.shape)
+plain_said plain.Resolve s t x = as_fields type_fields (resolved s t)
+plain_said plain.Size s t x = as_fields size_fields (size s t)
+plain_said plain.Align s t x = as_fields align_fields (align s t)
+plain_said plain.Name s t x = as_fields name_fields (spelled_name s t)
+plain_said plain.Pointer s t x = as_fields type_fields (pointer_to s t)
+
+-- each question on such a type
+abbrev pub said_on : TypeQuestion → Space → ℕ → Facts → Result Answer Fault
+said_on (ask.Plain question) s t x = plain_said question s t x
+said_on (ask.Members window) s t x =
+    or_wrong_kind (option_map (member_fields window) (members_in x.shape.behind))
+said_on (ask.Enumerators window) s t x =
+    or_wrong_kind (option_map (enumerator_fields window) (enumerators_in x.shape.behind))
+said_on (ask.Path names) s t x = as_fields position_fields (path s t names)
+said_on (ask.Show memory offset) s t x = as_fields value_fields (value_text s memory t offset)
+
+-- the same where the number may name no type
+abbrev pub said_of : TypeQuestion → Space → ℕ → Result Term Fault → Result Answer Fault
+said_of question s t (Ok x) = said_on question s t (facts x)
+said_of question s t (Err fault) = Err fault
+
+-- what a question on the type of a number is answered
+abbrev pub type_said : TypeQuestion → Space → ℕ → Result Answer Fault
+type_said question s t = said_of question s t (space_type s t)

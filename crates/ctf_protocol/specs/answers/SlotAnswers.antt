@@ -1,0 +1,48 @@
+-- What a question on a slot as a whole is answered.
+-- Source: libctf(3LIB), ctf_lookup_by_name, ctf_lookup_by_symbol, ctf_func_info, ctf_func_args,
+-- ctf_label_iter, ctf_label_info; the form of answers is ours.
+use Rattle.std.specs.Prelude.{ℕ, List, [], ◌∷◌, map, Result, Ok, codes}
+use Rattle.ctf_protocol.specs.answers.Answers.{Answer, Item, says, entry, number, word, text, object}
+use Rattle.ctf_model.specs.format.Dictionary.{Label}
+use Rattle.ctf_model.specs.symbols.Entries.{Owner, Signature}
+use Rattle.ctf_model.specs.names.Found.{found}
+use Rattle.ctf_model.specs.names.KindNames.{name_of_class}
+use Rattle.ctf_protocol.specs.answers.Questions.{argument_fields, as_fields, list_fields, type_fields}
+use Rattle.ctf_model.specs.spaces.Space.{Space}
+use Rattle.ctf_model.specs.symbols.SymbolQuestions.{function_of, label_of, object_of, symbol_found}
+use Rattle.ctf_model.specs.declared.faults.Fault.{Fault}
+use Rattle.ctf_protocol.specs.declared.questions.SlotQuestion.{SlotQuestion}
+use Rattle.ctf_protocol.specs.declared.questions.SlotQuestion.TheVariants as whole
+use Rattle.ctf_protocol.specs.declared.questions.Window.{Window}
+
+-- ---- answers, field by field
+
+-- whether a symbol is an object or a function, and its number
+abbrev pub symbol_fields : Owner → Answer
+symbol_fields x =
+    says (codes "class") (word (name_of_class x.class)) ∷ says (codes "sym") (number x.number) ∷ []
+
+abbrev pub signature_fields : Signature → Answer
+signature_fields f = argument_fields f.ret f.args
+
+abbrev pub label_item : Label → Item
+label_item x =
+    object (entry (codes "last") (number x.last) ∷ entry (codes "name") (text x.name) ∷ [])
+
+abbrev pub label_fields : Window → List Label → Answer
+label_fields window labels = list_fields (codes "labels") window (map label_item labels)
+
+-- the last type that a label covers
+abbrev pub last_fields : ℕ → Answer
+last_fields last = says (codes "last") (number last) ∷ []
+
+-- ---- questions
+
+-- what a question on a slot is answered, from what the slot sees
+abbrev pub whole_said : SlotQuestion → Space → Result Answer Fault
+whole_said (whole.Find written) s = as_fields type_fields (found s written)
+whole_said (whole.Symbol name) s = as_fields symbol_fields (symbol_found s.own name)
+whole_said (whole.Object n) s = as_fields type_fields (object_of s.own n)
+whole_said (whole.Function n) s = as_fields signature_fields (function_of s.own n)
+whole_said (whole.Labels window) s = Ok (label_fields window s.own.labels)
+whole_said (whole.Label name) s = as_fields last_fields (label_of s.own name)

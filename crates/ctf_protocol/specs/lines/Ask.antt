@@ -1,0 +1,241 @@
+-- What a line asks. What is JSON is serde_json's reading of it; all else is ours.
+use Rattle.std.specs.Prelude.{ℕ, List, length, is_none, unwrap_or, Option, None, Some, Result, Ok, Err, option_and_then, nat_lt, codes, if◌then◌else◌}
+use Rattle.std.specs.Option.{option_map}
+use Rattle.std.specs.Str.{is_utf8}
+use Rattle.serde_json.specs.Data.{Data}
+use Rattle.serde_json.specs.Find.{get, as_array}
+use Rattle.serde_json.specs.Read.{read}
+use Rattle.ctf_protocol.specs.sessions.Creations.{creation}
+use Rattle.ctf_protocol.specs.lines.Lines.{longest_line}
+use Rattle.ctf_protocol.specs.sessions.Publications.{is_publication_name}
+use Rattle.ctf_model.specs.spaces.Kept.{model_unsaid}
+use Rattle.ctf_protocol.specs.words.ModelNames.{model_named}
+use Rattle.ctf_model.specs.declared.data_model.DataModel.{DataModel}
+use Rattle.ctf_model.specs.rules.Refusals.{placeless}
+use Rattle.ctf_model.specs.declared.faults.Fault.{Fault}
+use Rattle.ctf_model.specs.declared.faults.TheConstants.Fault.{NOT_JSON, BAD_REQUEST, LONG_LINE}
+use Rattle.ctf_protocol.specs.declared.requests.ListName.{ListName}
+use Rattle.ctf_protocol.specs.declared.requests.ListName.TheVariants.{Ctf, Sym, Str}
+use Rattle.ctf_protocol.specs.declared.requests.Request.{Request}
+use Rattle.ctf_protocol.specs.declared.requests.Request.TheVariants.{Changes, Asks}
+use Rattle.ctf_protocol.specs.declared.requests.Change.TheVariants as change
+use Rattle.ctf_protocol.specs.declared.requests.DraftStep.TheVariants as draft
+use Rattle.ctf_protocol.specs.declared.questions.Question.TheVariants.{OfType, OfSlot, OfHeld}
+use Rattle.ctf_protocol.specs.declared.questions.HeldQuestion.{HeldQuestion}
+use Rattle.ctf_protocol.specs.declared.questions.HeldQuestion.TheVariants as holding
+use Rattle.ctf_protocol.specs.declared.questions.SlotQuestion.{SlotQuestion}
+use Rattle.ctf_protocol.specs.declared.questions.SlotQuestion.TheVariants as whole
+use Rattle.ctf_protocol.specs.declared.questions.TypeQuestion.{TypeQuestion}
+use Rattle.ctf_protocol.specs.declared.questions.TypeQuestion.TheVariants as about
+use Rattle.ctf_protocol.specs.declared.words.Word.{Word}
+use Rattle.ctf_protocol.specs.declared.words.Word.TheVariants as word
+use Rattle.ctf_protocol.specs.words.Words.{words, word_named, is_text}
+use Rattle.ctf_protocol.specs.lines.LineFields.{number_in, text_in, bytes_spelled, slot_under, slot_in, type_in, names_spelled, not_too_many_names, name_under, name_or_empty, window_asked}
+use Rattle.ctf_protocol.specs.lines.AskAdditions.{addition_asked}
+
+-- ---- questions and parts
+
+-- the list that a part belongs to
+abbrev pub list_named : List ℕ → Option ListName
+list_named w =
+    if is_text w (codes "ctf") then Some Ctf
+    else if is_text w (codes "sym") then Some Sym
+    else if is_text w (codes "str") then Some Str
+    else None
+
+-- a question on a type of a slot, where its own fields are good
+abbrev pub about_type : Option TypeQuestion → Data → Option Request
+about_type question line =
+    option_and_then
+    (λ q. option_and_then (λ d. option_map (λ t. Asks d (OfType t q)) (type_in line))
+    (slot_in line))
+    question
+
+-- a question on a slot as a whole, likewise
+abbrev pub about_slot : Option SlotQuestion → Data → Option Request
+about_slot question line =
+    option_and_then (λ q. option_map (λ d. Asks d (OfSlot q)) (slot_in line)) question
+
+-- a question on what a slot holds, likewise
+abbrev pub about_held : Option HeldQuestion → Data → Option Request
+about_held question line =
+    option_and_then (λ q. option_map (λ d. Asks d (OfHeld q)) (slot_in line)) question
+
+abbrev pub names_asked : Data → Option (List (List ℕ))
+names_asked line =
+    option_and_then not_too_many_names
+    (option_and_then names_spelled (option_and_then as_array (get (codes "names") line)))
+
+-- the number of a symbol
+abbrev pub symbol_asked : Data → Option ℕ
+symbol_asked line = number_in 0 4294967295 (codes "sym") line
+
+abbrev pub part_asked : Data → Option Request
+part_asked line =
+    option_and_then
+    (λ list. option_map (λ bytes. Changes (change.Part list bytes))
+    (option_and_then bytes_spelled (text_in (codes "bytes") line)))
+    (option_and_then list_named (text_in (codes "section") line))
+
+-- the data model, if one is said
+abbrev pub model_asked : Data → Option (Option DataModel)
+model_asked line =
+    if is_none (get (codes "model") line) then Some None
+    else option_map (λ model. Some model)
+    (option_and_then model_named (text_in (codes "model") line))
+
+abbrev pub open_asked : Data → Option Request
+open_asked line =
+    option_map (λ model. Changes (change.Open (unwrap_or model model_unsaid))) (model_asked line)
+
+abbrev pub close_asked : Data → Option Request
+close_asked line = option_map (λ d. Changes (change.Close d)) (slot_in line)
+
+abbrev pub import_asked : Data → Option Request
+import_asked line =
+    option_and_then
+    (λ d. option_map (λ parent. Changes (change.Import d parent))
+    (slot_under (codes "parent") line))
+    (slot_in line)
+
+-- the name of a publication is a text as it stands, without escapes
+abbrev pub publication_named : List ℕ → Option (List ℕ)
+publication_named name = if is_publication_name name then Some name else None
+
+abbrev pub publication_asked : Data → Option (List ℕ)
+publication_asked line = option_and_then publication_named (text_in (codes "name") line)
+
+abbrev pub publish_asked : Data → Option Request
+publish_asked line =
+    option_and_then
+    (λ d. option_map (λ name. Changes (change.Publish d name)) (publication_asked line))
+    (slot_in line)
+
+-- any session may be taken from, the operator's among them
+abbrev pub owner_asked : Data → Option ℕ
+owner_asked line = number_in 0 4294967295 (codes "owner") line
+
+abbrev pub take_asked : Data → Option Request
+take_asked line =
+    option_and_then
+    (λ owner. option_map (λ name. Changes (change.Take owner name)) (publication_asked line))
+    (owner_asked line)
+
+-- the memory that a value stands in, and the bit that it begins at
+abbrev pub show_asked : Data → Option TypeQuestion
+show_asked line =
+    option_and_then
+    (λ memory. option_map (λ offset. about.Show memory offset)
+    (number_in 0 18446744073709551615 (codes "offset") line))
+    (option_and_then bytes_spelled (text_in (codes "bytes") line))
+
+-- the bytes that are wanted of a dictionary: the first of them, and at most how many
+abbrev pub bytes_asked : Data → Option HeldQuestion
+bytes_asked line =
+    option_and_then
+    (λ from. option_map (λ count. holding.Bytes from count)
+    (number_in 0 1048576 (codes "count") line))
+    (number_in 0 4294967295 (codes "from") line)
+
+-- the slot of the parent, if one is named
+abbrev pub parent_asked : Data → Option (Option ℕ)
+parent_asked line =
+    if is_none (get (codes "parent") line) then Some None
+    else option_map (λ d. Some d) (slot_under (codes "parent") line)
+
+abbrev pub create_asked : Data → Option Request
+create_asked line =
+    option_and_then (λ parent.
+    option_and_then (λ parname.
+    option_and_then (λ parlabel.
+    option_and_then (λ model.
+    option_map (λ created. Changes (change.Create created))
+    (creation parent parname parlabel model))
+    (model_asked line))
+    (name_or_empty (codes "parlabel") line))
+    (name_or_empty (codes "parname") line))
+    (parent_asked line)
+
+abbrev pub update_asked : Data → Option Request
+update_asked line = option_map (λ d. Changes (change.Draft d draft.Update)) (slot_in line)
+
+abbrev pub discard_asked : Data → Option Request
+discard_asked line = option_map (λ d. Changes (change.Draft d draft.Discard)) (slot_in line)
+
+abbrev pub add_asked : Data → Option Request
+add_asked line =
+    option_and_then
+    (λ d. option_map (λ addition. Changes (change.Draft d (draft.Add addition)))
+    (addition_asked line))
+    (slot_in line)
+
+-- ---- words
+
+-- what a word asks, with its fields
+abbrev pub asked_with : Data → Word → Option Request
+asked_with line word.Part = part_asked line
+asked_with line word.Check = Some (Changes change.Check)
+asked_with line word.Open = open_asked line
+asked_with line word.Clear = Some (Changes change.Clear)
+asked_with line word.Reset = Some (Changes change.Reset)
+asked_with line word.Close = close_asked line
+asked_with line word.Import = import_asked line
+asked_with line word.Publish = publish_asked line
+asked_with line word.Take = take_asked line
+asked_with line word.Create = create_asked line
+asked_with line word.Add = add_asked line
+asked_with line word.Update = update_asked line
+asked_with line word.Discard = discard_asked line
+asked_with line (word.Plain question) = about_type (Some (about.Plain question)) line
+asked_with line word.Members =
+    about_type (option_map (λ window. about.Members window) (window_asked line)) line
+asked_with line word.Enumerators =
+    about_type (option_map (λ window. about.Enumerators window) (window_asked line)) line
+asked_with line word.Find =
+    about_slot (option_map (λ written. whole.Find written) (name_under (codes "text") line)) line
+asked_with line word.Path =
+    about_type (option_map (λ names. about.Path names) (names_asked line)) line
+asked_with line word.Show = about_type (show_asked line) line
+asked_with line word.Symbol =
+    about_slot (option_map (λ name. whole.Symbol name) (name_under (codes "name") line)) line
+asked_with line word.Object =
+    about_slot (option_map (λ number. whole.Object number) (symbol_asked line)) line
+asked_with line word.Function =
+    about_slot (option_map (λ number. whole.Function number) (symbol_asked line)) line
+asked_with line word.Labels =
+    about_slot (option_map (λ window. whole.Labels window) (window_asked line)) line
+asked_with line word.Label =
+    about_slot (option_map (λ name. whole.Label name) (name_under (codes "name") line)) line
+asked_with line (word.Held question) = about_held (Some question) line
+asked_with line word.Bytes = about_held (bytes_asked line) line
+
+-- the word of a line
+abbrev pub word_asked : Data → Option Word
+word_asked line = option_and_then (λ w. word_named w words) (text_in (codes "op") line)
+
+abbrev pub request_asked : Data → Option Request
+request_asked line = option_and_then (asked_with line) (word_asked line)
+
+-- ---- lines
+
+abbrev pub or_bad_request : ℕ → Option Request → Result (ℕ × Request) (ℕ × Fault)
+or_bad_request s None = Err (s, placeless BAD_REQUEST)
+or_bad_request s (Some request) = Ok (s, request)
+
+abbrev pub asked_by : Data → Option ℕ → Result (ℕ × Request) (ℕ × Fault)
+asked_by line None = Err (0, placeless BAD_REQUEST)
+asked_by line (Some s) = or_bad_request s (request_asked line)
+
+abbrev pub value_asked : Option Data → Result (ℕ × Request) (ℕ × Fault)
+value_asked None = Err (0, placeless NOT_JSON)
+value_asked (Some line) = asked_by line (number_in 1 4294967295 (codes "s") line)
+
+-- the value of a line; bytes that are no text aren't JSON
+abbrev pub json : List ℕ → Option Data
+json line = if is_utf8 line then read line else None
+
+-- a line's session and request, or its session or 0 and the refusal
+unfoldable pub ask : List ℕ → Result (ℕ × Request) (ℕ × Fault)
+ask line =
+    if nat_lt longest_line (length line) then Err (0, placeless LONG_LINE)
+    else value_asked (json line)

@@ -1,0 +1,11 @@
+pub mod State
+pub mod Publications
+pub mod Creations
+pub mod Additions
+pub mod DraftSteps
+pub mod Steps
+pub mod Runs
+pub mod SessionLaws
+pub mod ParentRows
+pub mod MeetingRows
+pub mod SessionRows

@@ -1,0 +1,74 @@
+-- What is added to a draft, as a request says it.
+-- Source: libctf(3LIB), ctf_add_type and its kin; the form of answers is ours.
+use Rattle.std.specs.Prelude.{ℕ, List, [], ◌∷◌, map, Result, Ok, Err, codes}
+use Rattle.ctf_model.specs.drafts.Adders.{Added, add_enumerator, add_label, add_member, add_type}
+use Rattle.ctf_protocol.specs.answers.Answers.{Answer, number, says}
+use Rattle.ctf_model.specs.drafts.Drafts.{Draft}
+use Rattle.ctf_model.specs.drafts.NewTypes.{NewBody}
+use Rattle.ctf_model.specs.drafts.NewTypes as new
+use Rattle.ctf_model.specs.format.Shown.{ArrayParts}
+use Rattle.ctf_model.specs.format.Term.{Scalar, Tag, struct_tag, union_tag, enum_tag}
+use Rattle.ctf_protocol.specs.declared.additions.Addition.{Addition}
+use Rattle.ctf_protocol.specs.declared.additions.Addition.TheVariants as add
+use Rattle.ctf_protocol.specs.declared.additions.Declared.{Declared}
+use Rattle.ctf_protocol.specs.declared.additions.Declared.TheVariants as declared
+use Rattle.ctf_protocol.specs.declared.additions.NewArray.{NewArray}
+use Rattle.ctf_protocol.specs.declared.additions.NewKind.{NewKind}
+use Rattle.ctf_protocol.specs.declared.additions.NewKind.TheVariants as kind
+use Rattle.ctf_protocol.specs.declared.additions.NewScalar.{NewScalar}
+use Rattle.ctf_model.specs.declared.faults.Fault.{Fault}
+
+-- ---- types
+
+abbrev pub tag_declared : Declared → Tag
+tag_declared declared.Struct = struct_tag
+tag_declared declared.Union = union_tag
+tag_declared declared.Enum = enum_tag
+
+abbrev pub scalar_of : NewScalar → Scalar
+scalar_of s = record { size = s.size; encoding = s.encoding; offset = s.offset; bits = s.bits }
+
+abbrev pub array_of : NewArray → ArrayParts
+array_of a = record { contents = a.contents.0; index = a.index.0; count = a.count }
+
+abbrev pub body_of : NewKind → NewBody
+body_of kind.Unknown = new.unknown
+body_of (kind.Integer s) = new.integer (scalar_of s)
+body_of (kind.Float s) = new.float (scalar_of s)
+body_of (kind.Pointer t) = new.pointer t.0
+body_of (kind.Array a) = new.array (array_of a)
+body_of (kind.Function returned args) = new.function returned.0 (map (λ t. t.0) args)
+body_of (kind.Struct size) = new.struct size
+body_of (kind.Union size) = new.union size
+body_of (kind.Enum size) = new.enum size
+body_of (kind.Forward tag) = new.forward (tag_declared tag)
+body_of (kind.Typedef t) = new.typedef t.0
+body_of (kind.Volatile t) = new.volatile t.0
+body_of (kind.Const t) = new.const t.0
+body_of (kind.Restrict t) = new.restrict t.0
+
+-- ---- additions
+
+-- a draft that something was added to, and what is answered
+pub record Enlarged : Type 0 where
+  pub draft : Draft
+  pub answer : Answer
+
+-- the number of a type or an offset is answered under a key
+abbrev pub numbered : List ℕ → Result Added Fault → Result Enlarged Fault
+numbered key (Ok added) =
+    Ok (record { draft = added.draft; answer = says key (number added.answer) ∷ [] })
+numbered key (Err fault) = Err fault
+
+abbrev pub silent : Result Draft Fault → Result Enlarged Fault
+silent (Ok draft) = Ok (record { draft = draft; answer = [] })
+silent (Err fault) = Err fault
+
+unfoldable pub enlarged : Draft → Addition → Result Enlarged Fault
+enlarged d (add.Type name root kind) =
+    numbered (codes "t") (add_type d (record { name = name; root = root; body = body_of kind }))
+enlarged d (add.Member t name tnum offset) =
+    numbered (codes "offset") (add_member d t.0 name tnum.0 offset)
+enlarged d (add.Enumerator t name value) =
+    silent (add_enumerator d t.0 (record { name = name; value = value }))
+enlarged d (add.Label name last) = silent (add_label d (record { name = name; last = last }))

@@ -1,0 +1,88 @@
+-- Worked rows for sessions that meet. The values were worked out by hand.
+use Rattle.std.specs.Prelude.{◌≡◌, ℕ, ◌==◌, List, [], ◌∷◌, None, Ok, Err, codes, if◌then◌else◌}
+use Rattle.ctf_model.specs.spaces.Kept.{kept_unsaid}
+use Rattle.ctf_protocol.specs.lines.Ask.{ask}
+use Rattle.ctf_protocol.specs.lines.Output.{own_reply}
+use Rattle.ctf_protocol.specs.lines.ReplyLines.{reply_line}
+use Rattle.ctf_model.specs.format.Rows.{alone, fault, int_bytes}
+use Rattle.ctf_protocol.specs.sessions.Runs.{Call, given, own_state}
+use Rattle.ctf_protocol.specs.sessions.SessionLaws.{calls_among}
+use Rattle.ctf_protocol.specs.sessions.State.{State, Slot, empty_state}
+use Rattle.ctf_protocol.specs.declared.requests.Change.{Change}
+use Rattle.ctf_protocol.specs.declared.requests.Change.TheVariants.{Clear, Publish, Reset, Take}
+use Rattle.ctf_protocol.specs.declared.requests.Request.TheVariants.{Changes}
+
+-- ---- inputs
+
+-- the integer int, in a slot
+abbrev pub int_in : ℕ → Slot
+int_in number =
+    record { number = number; kept = kept_unsaid (alone int_bytes); parent = None; draft = None }
+
+-- a session that has it in slot 1
+abbrev pub holder : State
+holder = record empty_state { slots = int_in 1 ∷ []; next = 2 }
+
+-- session 1 has it, and no other session has anything
+abbrev pub world : ℕ → State
+world s = if s == 1 then holder else empty_state
+
+abbrev pub call : ℕ → Change → Call
+call s change = record { session = s; request = Changes change }
+
+abbrev pub base : List ℕ
+base = codes "base"
+
+-- ---- what is answered
+
+-- the newest call first: session 1 publishes, and then session 2 takes
+abbrev pub published : List Call
+published = call 1 (Publish 1 base) ∷ []
+
+abbrev pub taken : List Call
+taken = call 2 (Take 1 base) ∷ published
+
+-- session 1 resets
+abbrev pub then_reset : List Call
+then_reset = call 1 Reset ∷ taken
+
+-- what a session is replied then
+abbrev pub replied : List Call → ℕ → Change → List ℕ
+replied calls s change = reply_line (own_reply world calls s (Changes change))
+
+pub record SessionsMeet : Type 0 where
+  pub done : replied [] 1 (Publish 1 base) ≡ codes "{\"ok\":{},\"s\":1}\n"
+  pub no_slot : replied [] 1 (Publish 2 base)
+      ≡ codes "{\"fault\":{\"code\":49,\"name\":\"NoSlot\",\"place\":0},\"s\":1}\n"
+  pub found : replied published 2 (Take 1 base) ≡ codes "{\"ok\":{\"d\":1,\"types\":1},\"s\":2}\n"
+  pub same_dictionary : own_state world taken 2
+      ≡ record empty_state { slots = int_in 1 ∷ []; next = 2 }
+  pub other_name : replied published 2 (Take 1 (codes "none"))
+      ≡ codes "{\"fault\":{\"code\":54,\"name\":\"NotPublished\",\"place\":0},\"s\":2}\n"
+  pub other_owner : replied published 2 (Take 3 base)
+      ≡ codes "{\"fault\":{\"code\":54,\"name\":\"NotPublished\",\"place\":0},\"s\":2}\n"
+  pub too_early : replied [] 2 (Take 1 base)
+      ≡ codes "{\"fault\":{\"code\":54,\"name\":\"NotPublished\",\"place\":0},\"s\":2}\n"
+  pub twice : replied published 1 (Publish 1 base)
+      ≡ codes "{\"fault\":{\"code\":53,\"name\":\"NameTaken\",\"place\":0},\"s\":1}\n"
+  pub reset_stays : replied then_reset 4 (Take 1 base)
+      ≡ codes "{\"ok\":{\"d\":1,\"types\":1},\"s\":4}\n"
+  pub taker_keeps : own_state world then_reset 2 ≡ own_state world taken 2
+  pub left_out :
+      given world (calls_among (1 ∷ 2 ∷ []) (call 2 (Take 1 base) ∷ call 3 Clear ∷ published)) 2
+      ≡ given world taken 2
+
+-- ---- what lines ask
+
+pub record MeetingsAreAsked : Type 0 where
+  pub publish : ask (codes "{\"s\":1,\"op\":\"publish\",\"d\":2,\"name\":\"Az09._-\"}")
+      ≡ Ok (1, Changes (Publish 2 (codes "Az09._-")))
+  pub take : ask (codes "{\"s\":2,\"op\":\"take\",\"owner\":1,\"name\":\"base\"}")
+      ≡ Ok (2, Changes (Take 1 base))
+  pub operators : ask (codes "{\"s\":2,\"op\":\"take\",\"owner\":0,\"name\":\"base\"}")
+      ≡ Ok (2, Changes (Take 0 base))
+  pub empty_name : ask (codes "{\"s\":1,\"op\":\"publish\",\"d\":2,\"name\":\"\"}")
+      ≡ Err (1, fault 58 0)
+  pub other_byte : ask (codes "{\"s\":1,\"op\":\"publish\",\"d\":2,\"name\":\"a/b\"}")
+      ≡ Err (1, fault 58 0)
+  pub no_owner : ask (codes "{\"s\":1,\"op\":\"take\",\"name\":\"base\"}") ≡ Err (1, fault 58 0)

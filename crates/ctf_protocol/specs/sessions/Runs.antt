@@ -1,0 +1,101 @@
+-- Runs of one session by itself, and of many sessions together.
+-- Source: ours. A history is a list, the newest first.
+use Rattle.std.specs.Prelude.{◌≡◌, ◌≢◌, ◌⊎◌, ℕ, ◌==◌, List, [], ◌∷◌, Option, None, Some, Err, option_and_then, if◌then◌else◌}
+use Rattle.ctf_protocol.specs.answers.Answers.{Reply}
+use Rattle.ctf_model.specs.spaces.Kept.{Kept}
+use Rattle.ctf_protocol.specs.sessions.Publications.{published_as}
+use Rattle.ctf_model.specs.rules.Refusals.{want_of_memory}
+use Rattle.ctf_protocol.specs.sessions.State.{State}
+use Rattle.ctf_protocol.specs.sessions.Steps.{step, Outcome}
+use Rattle.ctf_protocol.specs.declared.requests.Change.TheVariants.{Take}
+use Rattle.ctf_protocol.specs.declared.requests.Request.{Request}
+use Rattle.ctf_protocol.specs.declared.requests.Request.TheVariants.{Changes}
+
+-- ---- a session by itself
+
+-- a request with what its take found
+pub record Given : Type 0 where
+  pub request : Request
+  pub found : Option Kept
+
+-- a private library after a history of requests
+abbrev pub private_state : State → List Given → State
+private_state start [] = start
+private_state start (now ∷ earlier) =
+    (step (private_state start earlier) now.request now.found).state
+
+-- its replies, the newest first
+abbrev pub private_replies : State → List Given → List Reply
+private_replies start [] = []
+private_replies start (now ∷ earlier) =
+    (step (private_state start earlier) now.request now.found).reply ∷ private_replies start earlier
+
+-- ---- many sessions
+
+-- a request of a session
+pub record Call : Type 0 where
+  pub session : ℕ
+  pub request : Request
+
+-- the owner and the name that a request takes by, if it is a take
+abbrev pub taken_by : Request → Option (ℕ × List ℕ)
+taken_by (Changes (Take owner name)) = Some (owner, name)
+taken_by _ = None
+
+-- what a request finds where each session's library is this: a take, what its owner has published
+-- under the name
+abbrev pub found_in : (ℕ → State) → Request → Option Kept
+found_in libraries request =
+    option_and_then (λ taken. published_as taken.1 (libraries taken.0).published) (taken_by request)
+
+-- what a session was given by a history of all sessions: its own requests,
+-- each with what the owner's own run had published
+abbrev pub given : (ℕ → State) → List Call → ℕ → List Given
+given start [] s = []
+given start (call ∷ earlier) s =
+    if call.session == s
+    then record {
+      request = call.request;
+      found = found_in (λ q. private_state (start q) (given start earlier q)) call.request;
+    }
+    ∷ given start earlier s
+    else given start earlier s
+
+-- the library of a session's own run after a history of all sessions
+abbrev pub own_state : (ℕ → State) → List Call → ℕ → State
+own_state start calls s = private_state (start s) (given start calls s)
+
+-- the replies of a session's own run after a history of all sessions, the newest first
+abbrev pub own_replies : (ℕ → State) → List Call → ℕ → List Reply
+own_replies start calls s = private_replies (start s) (given start calls s)
+
+-- ---- one call among many libraries
+
+abbrev pub addressed : ℕ → Reply → Reply
+addressed s reply = record reply { session = s }
+
+-- memory was refused to a request of a session
+abbrev pub no_memory : ℕ → Reply
+no_memory s = record { session = s; outcome = Err want_of_memory }
+
+-- a step of one library by itself: its definition's outcome,
+-- or memory was refused and nothing changed
+abbrev pub Answered : State → Outcome → Reply → State → Type 0
+Answered old outcome reply new =
+    ((reply ≡ outcome.reply) × (new ≡ outcome.state)) ⊎ ((reply ≡ no_memory 0) × (new ≡ old))
+
+-- the step of the caller's own library was made
+abbrev pub IsGranted : (ℕ → State) → ℕ → Request → Reply → (ℕ → State) → Type 0
+IsGranted old s request reply new =
+    (reply ≡ addressed s (step (old s) request (found_in old request)).reply)
+    × (new s ≡ (step (old s) request (found_in old request)).state)
+
+-- memory was refused, and the caller's library stays
+abbrev pub IsRefused : (ℕ → State) → ℕ → Reply → (ℕ → State) → Type 0
+IsRefused old s reply new = (reply ≡ no_memory s) × (new s ≡ old s)
+
+-- one of the two, and all other libraries stay
+pub record Steps (old : ℕ → State) (s : ℕ) (request : Request) (reply : Reply)
+    (new : ℕ → State) : Type 0 where
+  pub own : IsGranted old s request reply new ⊎ IsRefused old s reply new
+  pub others : (other : ℕ) → other ≢ s → new other ≡ old other

@@ -1,0 +1,4 @@
+pub mod Words
+pub mod ModelNames
+pub mod WordRows
+pub mod Addables
