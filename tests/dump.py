@@ -1,47 +1,58 @@
 #!/usr/bin/env python3
-"""Prints a dictionary as `ctfd dump` does, from the words of docs/DUMP.md and docs/FORMAT.md alone.
+"""Prints a dictionary as `ctfd dump` does, from the words of docs/DUMP.md, the pages that it names
+and docs/FORMAT.md alone.
 
-usage: tests/dump.py CTF [SYM STR]
+usage: tests/dump.py [--model lp64|ilp32] CTF [SYM STR]
 
 A second program for the same text, to compare the first with. It knows no parents and judges
 nothing: the dictionary is one that ctfd accepts. `examples/lua.dump` was made by it.
 """
+from __future__ import annotations
+
+import argparse
 import struct
-import sys
+from collections.abc import Callable, Iterable, Iterator
 
 KINDS = "unknown integer float pointer array function struct union enum forward typedef volatile const restrict".split()
 UNKNOWN, INTEGER, FLOAT, POINTER, ARRAY, FUNCTION, STRUCT, UNION, ENUM, FORWARD, TYPEDEF, VOLATILE, CONST, RESTRICT = range(14)
 QUALIFIERS = (VOLATILE, CONST, RESTRICT)
 AGGREGATES = (STRUCT, UNION)
+# How many bytes a pointer has.
+POINTERS = {"lp64": 8, "ilp32": 4}
+
+# What stands behind a type's head: numbers that struct unpacked.
+Item = tuple[int, ...]
+# A kind, whether it is root, a name, a size or what it refers to, and what stands behind.
+Record = tuple[int, int, bytes, int, list[Item]]
 
 
 class Fault(Exception):
     pass
 
 
-def quoted(name):
+def quoted(name: bytes) -> str:
     return '"%s"' % "".join(chr(b) if 0x20 <= b <= 0x7E and b not in b'"\\' else "\\x%02x" % b for b in name)
 
 
-def joined(numbers):
+def joined(numbers: Iterable[int]) -> str:
     return ",".join(str(n) for n in numbers)
 
 
 class Dictionary:
-    def __init__(self, ctf, strs):
+    def __init__(self, ctf: bytes, strs: bytes, pointer: int) -> None:
         parlabel, parname, labels, objects, functions, types, strings, length = struct.unpack_from("<8I", ctf, 4)
-        self.body, self.strs = ctf[36:], strs
+        self.body, self.strs, self.pointer = ctf[36:], strs, pointer
         self.strings = self.body[strings : strings + length]
         self.child, self.parname, self.parlabel = parname != 0, self.name(parname), self.name(parlabel)
         self.labels = [struct.unpack_from("<II", self.body, at) for at in range(labels, objects - 7, 8)]
         self.objects, self.functions = self.body[objects:functions], self.body[functions:types]
         self.types = list(self.records(self.body[types:strings]))
 
-    def name(self, reference):
+    def name(self, reference: int) -> bytes:
         table, at = (self.strs if reference >> 31 else self.strings), reference & 0x7FFFFFFF
         return table[at : table.index(b"\0", at)] if at else b""
 
-    def records(self, section):
+    def records(self, section: bytes) -> Iterator[Record]:
         at = 0
         while at < len(section):
             name, info, field = struct.unpack_from("<IHH", section, at)
@@ -68,15 +79,15 @@ class Dictionary:
                 items = [m[:3] if len(m) == 3 else (m[0], m[1], m[3] << 32 | m[4]) for m in items]
             yield kind, root, self.name(name), size, items
 
-    def type(self, number):
+    def type(self, number: int) -> Record:
         return self.types[number - 1]
 
-    def resolve(self, number):
+    def resolve(self, number: int) -> int:
         while number and self.type(number)[0] in QUALIFIERS + (TYPEDEF,):
             number = self.type(number)[3]
         return number
 
-    def size(self, number):
+    def size(self, number: int) -> int:
         number = self.resolve(number)
         kind, _, _, size, items = self.type(number) if number else (UNKNOWN, 0, b"", 0, [])
         if kind in (UNKNOWN, FORWARD):
@@ -85,13 +96,13 @@ class Dictionary:
             size = self.size(items[0][0]) * items[0][2]
             if size >= 1 << 64:
                 raise Fault("TooBig")
-        return {POINTER: 8, FUNCTION: 0}.get(kind, 4 if kind == ENUM and size == 0 else size)
+        return {POINTER: self.pointer, FUNCTION: 0}.get(kind, 4 if kind == ENUM and size == 0 else size)
 
-    def align(self, number):
+    def align(self, number: int) -> int:
         number = self.resolve(number)
         kind, _, _, _, items = self.type(number) if number else (UNKNOWN, 0, b"", 0, [])
         if kind in (POINTER, FUNCTION):
-            return 8
+            return self.pointer
         if kind == ARRAY:
             return self.align(items[0][0])
         if kind == STRUCT:
@@ -100,13 +111,13 @@ class Dictionary:
             return max([self.align(m[1]) for m in items], default=0)
         return self.size(number)
 
-    def past(self, number):
+    def past(self, number: int) -> int:
         while number and self.type(number)[0] in QUALIFIERS:
             number = self.type(number)[3]
         return self.type(number)[0] if number else UNKNOWN
 
-    def spelled(self, number, declared=b""):
-        def behind(word):
+    def spelled(self, number: int, declared: bytes = b"") -> bytes:
+        def behind(word: bytes) -> bytes:
             return word + b" " + declared if declared else word
 
         if number == 0:
@@ -132,14 +143,14 @@ class Dictionary:
         return behind(name)
 
 
-def or_fault(figure):
+def or_fault(figure: Callable[[], int]) -> int | Fault:
     try:
         return figure()
     except Fault as fault:
         return fault
 
 
-def considered(sym, strs):
+def considered(sym: bytes, strs: bytes) -> Iterator[tuple[int, int, bytes]]:
     for i in range(len(sym) // 24):
         at, info, _, section, value, _ = struct.unpack_from("<IBBHQQ", sym, 24 * i)
         end = strs.find(b"\0", at)
@@ -149,7 +160,7 @@ def considered(sym, strs):
             yield i, info & 15, name
 
 
-def symbol_lines(d, sym):
+def symbol_lines(d: Dictionary, sym: bytes) -> None:
     objects = functions = 0
     for number, class_, name in considered(sym, d.strs):
         if class_ == 1:
@@ -166,7 +177,7 @@ def symbol_lines(d, sym):
                 print("function", number, quoted(name), "return=%d args=%s" % (ret, joined(args)))
 
 
-def detail(kind, size, items):
+def detail(kind: int, size: int, items: list[Item]) -> str:
     if kind in (INTEGER, FLOAT):
         (word,) = items[0]
         return " size=%d encoding=%d offset=%d bits=%d" % (size, word >> 24, word >> 16 & 255, word & 0xFFFF)
@@ -182,7 +193,7 @@ def detail(kind, size, items):
     return "" if kind == UNKNOWN else " to=%d" % size
 
 
-def type_lines(d):
+def type_lines(d: Dictionary) -> None:
     for number, (kind, root, name, size, items) in enumerate(d.types, 1):
         print(
             "type", number, KINDS[kind], quoted(name), ("root" if root else "hidden") + detail(kind, size, items), ":",
@@ -197,9 +208,26 @@ def type_lines(d):
                 print("  value", quoted(d.name(name)), value)
 
 
-def main():
-    ctf, sym, strs = [open(path, "rb").read() for path in sys.argv[1:]] + [b""] * (4 - len(sys.argv))
-    d = Dictionary(ctf, strs)
+def read(path: str | None) -> bytes:
+    if path is None:
+        return b""
+    with open(path, "rb") as file:
+        return file.read()
+
+
+def words() -> argparse.Namespace:
+    parser = argparse.ArgumentParser(description="Prints a dictionary as `ctfd dump` does.")
+    parser.add_argument("--model", choices=list(POINTERS), default="lp64")
+    parser.add_argument("ctf", metavar="CTF")
+    parser.add_argument("sym", metavar="SYM", nargs="?")
+    parser.add_argument("strs", metavar="STR", nargs="?")
+    return parser.parse_args()
+
+
+def main() -> None:
+    said = words()
+    sym = read(said.sym)
+    d = Dictionary(read(said.ctf), read(said.strs), POINTERS[said.model])
     print(
         "ctf types=%d child=%s" % (len(d.types), "yes" if d.child else "no"),
         "parname=%s parlabel=%s" % (quoted(d.parname), quoted(d.parlabel)),

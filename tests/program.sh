@@ -112,11 +112,26 @@ cat > child.dump << 'EOF'
 ctf types=1 child=yes parname="p" parlabel=""
 type 32769 pointer "" hidden to=3 : "void **" bytes=8 align=8
 EOF
+sed 's/=8/=4/g' child.dump > short.dump
+# A child whose type is a constant of its parent's pointer: the parent goes by the model too.
+section '\x01' '\0\0\0\0\0\x60\x03\0' '\0p\0' '\x08' '\x03' > const
+cat > const.dump << 'EOF'
+ctf types=1 child=yes parname="p" parlabel=""
+type 32769 const "" hidden to=3 : "void *const" bytes=4 align=4
+EOF
 dumps "a dump" int.dump int
 dumps "a dump over a parent" child.dump child --parent three
+dumps "a dump of the default model" child.dump child --parent three --model lp64
+dumps "a dump of another model" int.dump int --model ilp32
+dumps "short pointers over a parent" short.dump child --model ilp32 --parent three
+dumps "short pointers of a parent" const.dump const --model=ilp32 --parent three
 dumps "a dump of a real program" "$examples/lua.dump" "$examples/lua.ctf" --sym "$examples/lua.sym" --str "$examples/lua.str"
 "$examples/../tests/dump.py" "$examples"/zlib.{ctf,sym,str} > zlib.dump
 dumps "a dump of another, by two programs" zlib.dump "$examples/zlib.ctf" --sym "$examples/zlib.sym" --str "$examples/zlib.str"
+for of in lua zlib; do
+    "$examples/../tests/dump.py" --model ilp32 "$examples/$of".{ctf,sym,str} > short-$of.dump
+    dumps "$of with short pointers" short-$of.dump "$examples/$of.ctf" --model ilp32 --sym "$examples/$of.sym" --str "$examples/$of.str"
+done
 dumps "a file at the limit" int.dump longest
 
 ends /dev/null dump;            expect "a dump of nothing" 2 '' 'CTF'
@@ -125,7 +140,20 @@ ends /dev/null dump a --bad b;  expect "an option that is not there" 2 '' '--bad
 ends /dev/null dump a --sym;    expect "an option without its file" 2 '' '--sym'
 ends /dev/null dump a --sym b --sym b
                                 expect "an option twice" 2 '' '--sym'
+ends /dev/null dump int --model lp32
+                                expect "a model that is none" 2 '' "'lp32'"
+ends /dev/null dump int --model ILP32
+                                expect "a model in upper case" 2 '' "'ILP32'"
+ends /dev/null dump int --model ''
+                                expect "a model without letters" 2 '' '--model'
+ends /dev/null dump int --model;
+                                expect "an option without its model" 2 '' '--model'
+ends /dev/null dump int --model lp64 --model lp64
+                                expect "a model twice" 2 '' '--model'
+ends /dev/null dump none --model lp32
+                                expect "a model before a missing file" 2 '' "'lp32'"
 ends /dev/null dump --help;     expect "help of dump" 0 '^Usage: .* <CTF>$' ''
+ends /dev/null dump --help;     expect "help of dump tells the models" 0 'default: lp64. .possible values: lp64, ilp32.$' ''
 ends /dev/null dump none;       expect "a missing file" 3 '' '^ctfd: none: Read$'
 ends /dev/null dump '';         expect "a file without a name" 3 '' '^ctfd: : Read$'
 ends /dev/null dump folder;     expect "a folder" 3 '' '^ctfd: folder: Read$'
@@ -138,6 +166,8 @@ ends /dev/null dump child --parent "$first"
                                 expect "a refused parent" 1 '' '^ctfd: .*first.jsonl: BadMagic at 0$'
 ends /dev/null dump child --parent two
                                 expect "a parent that is too short" 1 '' '^ctfd: child: ParentShort at 3$'
+ends /dev/null dump child --parent two --model ilp32
+                                expect "short pointers, and a short parent" 1 '' '^ctfd: child: ParentShort at 3$'
 ends /dev/null dump child --parent child
                                 expect "a parent that is a child" 1 '' '^ctfd: child: ParentIsChild at 0$'
 ends /dev/null dump int --parent two

@@ -3,13 +3,16 @@
 #![tactic(auto)]
 
 mod files;
+mod models;
 mod starts;
 mod status;
 mod wanted;
 
 pub use ctf_dump::{DumpEnd, InputFile, Inputs, dump_lists};
+pub use ctf_model::DataModel;
 pub use ctf_wire::{Broker, FromReader, RunFault, ToWriter, serve};
 pub use files::read_file;
+pub use models::model_named;
 pub use starts::NotStarted;
 pub use status::{MISUSED, end, status_told};
 pub use wanted::{Wanted, all_wanted};

@@ -11,7 +11,7 @@ use Rattle.ctf_model.specs.rules.FaultNames.{name_of_fault}
 use Rattle.ctf_model.specs.rules.Faults.{first_fault}
 use Rattle.ctf_model.specs.format.Lists.{Lists}
 use Rattle.ctf_model.specs.spaces.Space.{Space}
-use Rattle.ctf_model.specs.spaces.Kept.{Kept, fault_over, kept_space, kept_unsaid}
+use Rattle.ctf_model.specs.spaces.Kept.{Kept, fault_over, kept_space}
 use Rattle.ctf_model.specs.declared.faults.Fault.{Fault}
 
 -- ---- what is dumped
@@ -27,16 +27,17 @@ own_lists i = record { ctf = i.ctf.bytes.now; sym = bytes_of i.sym; strs = bytes
 abbrev pub parent_lists : InputFile → Lists
 parent_lists f = record { ctf = f.bytes.now; sym = None; strs = None }
 
--- files say no data model
+-- No file tells its data model: one is handed in beside the files, for all of them.
+-- So no parent is of another than its child.
 abbrev pub own_kept : Inputs → Kept
-own_kept i = kept_unsaid (own_lists i)
+own_kept i = record { lists = own_lists i; model = i.model }
 
-abbrev pub parent_kept : InputFile → Kept
-parent_kept f = kept_unsaid (parent_lists f)
+abbrev pub parent_kept : Inputs → InputFile → Kept
+parent_kept i f = record { lists = parent_lists f; model = i.model }
 
 -- the dictionary over its parent, where one is handed in
 abbrev pub space_in : Inputs → Space
-space_in i = kept_space (own_kept i) (option_map parent_kept i.parent)
+space_in i = kept_space (own_kept i) (option_map (parent_kept i) i.parent)
 
 -- ---- what is refused
 
@@ -60,7 +61,7 @@ abbrev pub over : Inputs → Option InputFile → Option Refusal
 over i None = None
 over i (Some p) =
     or_else (in_file p (first_fault (parent_lists p)))
-    (in_file i.ctf (fault_over (own_kept i) (parent_kept p)))
+    (in_file i.ctf (fault_over (own_kept i) (parent_kept i p)))
 
 -- the dictionary is judged first
 abbrev pub refusal : Inputs → Option Refusal

@@ -4,6 +4,7 @@ ghost use Rattle.ctf_check.specs.ListsView.{lists_in};
 ghost use Rattle.ctf_dump.specs.Refused.{bytes_of, own_lists, parent_lists};
 
 use ctf_check::LentLists;
+use ctf_model::DataModel;
 
 /// A file that was read: what it was called, and its bytes.
 #[derive(Clone, Copy)]
@@ -13,13 +14,14 @@ pub struct InputFile<'a> {
 }
 
 /// A dictionary, and where they are there its parent, the symbols of its program,
-/// and their strings.
+/// and their strings; and the data model of that program, which is the parent's too.
 #[derive(Clone, Copy)]
 pub struct Inputs<'a> {
     pub ctf: InputFile<'a>,
     pub parent: Option<InputFile<'a>>,
     pub sym: Option<InputFile<'a>>,
     pub str: Option<InputFile<'a>>,
+    pub model: DataModel,
 }
 
 /// The bytes of a file, if it is there.

@@ -17,7 +17,7 @@ use crate::inputs::{InputFile, Inputs};
 use ctf_chains::Starts;
 use ctf_check::{Checked, LentLists, check};
 use ctf_layout::Layout;
-use ctf_model::{DataModel, Fault};
+use ctf_model::Fault;
 use ctf_space::Space;
 use std::alloc::Global;
 use std::io::Write;
@@ -88,7 +88,7 @@ fn dump_over<'a, W: Write>(
 {
     let starts = judged(alloc, parent, parent.lists())?;
     let dictionary = Checked::indexed(parent.lists(), starts.as_slice());
-    match Space::over(own, DataModel::Lp64, dictionary, DataModel::Lp64) {
+    match Space::over(own, inputs.model, dictionary, inputs.model) {
         Ok(space) => dump_space(alloc, &space, out),
         Err(fault) => Err(DumpEnd::Refused(inputs.ctf.name, fault)),
     }
@@ -111,7 +111,7 @@ fn dump_inputs<'a, W: Write>(
     let starts = judged(alloc, inputs.ctf, lists)?;
     let own = Checked::indexed(lists, starts.as_slice());
     match inputs.parent {
-        None => dump_space(alloc, &Space::own(own, DataModel::Lp64), out),
+        None => dump_space(alloc, &Space::own(own, inputs.model), out),
         Some(parent) => dump_over(alloc, inputs, own, parent, out),
     }
 }

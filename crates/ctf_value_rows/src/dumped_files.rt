@@ -1,7 +1,7 @@
 //! Dumps of files in memory: what is written, what is said of a refusal, and the exit statuses.
 
 use ctf_dump::{DumpEnd, InputFile, Inputs, dump_lists};
-use ctf_model::{Fault, placeless};
+use ctf_model::{DataModel, Fault, placeless};
 use std::alloc::{AllocError, Global};
 use std::io;
 use std::io::{ErrorKind, Write};
@@ -9,7 +9,7 @@ use std::test::Fail;
 
 /// A dictionary: the reference to its parent's name, where its objects, functions, types and
 /// strings begin, the length of these, and what stands behind the header.
-fn dictionary(alloc: Global, fields: [u8; 6], behind: &[u8]) -> Result<Vec<u8>, AllocError> {
+pub fn dictionary(alloc: Global, fields: [u8; 6], behind: &[u8]) -> Result<Vec<u8>, AllocError> {
     let [parname, objects, functions, types, strings, len] = fields;
     let mut ctf = Vec::from_slice(alloc, b"\xf1\xcf\x02\0\0\0\0\0")?;
     for field in [parname, 0, objects, functions, types, strings, len] {
@@ -35,8 +35,8 @@ fn child(alloc: Global) -> Result<Vec<u8>, AllocError> {
     dictionary(alloc, [1, 0, 0, 0, 8, 3], b"\0\0\0\0\0\x18\x03\0\0p\0")
 }
 
-/// A file `c` and, with a parent, `p`.
-fn inputs<'a>(ctf: &'a [u8], parent: Option<&'a [u8]>) -> Inputs<'a> {
+/// A file `c` and, with a parent, `p`, of a program whose pointers have 8 bytes.
+pub fn inputs<'a>(ctf: &'a [u8], parent: Option<&'a [u8]>) -> Inputs<'a> {
     Inputs {
         ctf: InputFile {
             name: "c",
@@ -45,11 +45,12 @@ fn inputs<'a>(ctf: &'a [u8], parent: Option<&'a [u8]>) -> Inputs<'a> {
         parent: parent.map(|bytes| InputFile { name: "p", bytes }),
         sym: None,
         str: None,
+        model: DataModel::Lp64,
     }
 }
 
 /// Whether a dump of files writes this text, says this of an end, and has this exit status.
-fn ends(alloc: Global, inputs: &Inputs<'_>, status: u8, text: &str, said: &str) -> bool {
+pub fn ends(alloc: Global, inputs: &Inputs<'_>, status: u8, text: &str, said: &str) -> bool {
     let mut out = Vec::new(alloc);
     let mut err = Vec::new(alloc);
     dump_lists(alloc, inputs, &mut out, &mut err) == status

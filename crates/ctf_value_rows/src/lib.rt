@@ -9,6 +9,8 @@ pub use framing::put_body;
 #[cfg(test)]
 mod dumped_files;
 #[cfg(test)]
+mod dumped_models;
+#[cfg(test)]
 mod dumps;
 #[cfg(test)]
 mod imports;

@@ -26,6 +26,17 @@ fn file_option<'a>(alloc: Global, name: &'a str, help: &'a str) -> Arg<'a> {
     Arg::new(alloc, name).long(name).value_name("F").help(help)
 }
 
+/// The option that says how many bytes a pointer of the program has.
+fn model_option<'a>(alloc: Global) -> Arg<'a> {
+    let models: &'a [&'a str] = &["lp64", "ilp32"];
+    Arg::new(alloc, "model")
+        .long("model")
+        .value_name("MODEL")
+        .value_parser(models)
+        .default_value("lp64")
+        .help("The program's data model: pointers of 8 bytes, or of 4")
+}
+
 fn dump_command<'a>(alloc: Global) -> Result<Command<'a>, AllocError> {
     let ctf = Arg::new(alloc, "ctf")
         .value_name("CTF")
@@ -35,6 +46,7 @@ fn dump_command<'a>(alloc: Global) -> Result<Command<'a>, AllocError> {
         .about("Prints a dictionary as text, one line for each type, member and symbol")
         .after_help(STATUSES_AND_PAGES)
         .arg(ctf)?
+        .arg(model_option(alloc))?
         .arg(file_option(alloc, "parent", "Its parent's CTF section"))?
         .arg(file_option(alloc, "sym", "The program's symbol table"))?
         .arg(file_option(alloc, "str", "The strings of that symbol table"))

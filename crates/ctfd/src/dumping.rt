@@ -1,7 +1,9 @@
 //! `ctfd dump`: a dictionary as text, on standard output.
 
 use clap::ArgMatches;
-use ctf_command::{DumpEnd, InputFile, Inputs, dump_lists, read_file};
+use ctf_command::{
+    DataModel, DumpEnd, InputFile, Inputs, MISUSED, dump_lists, model_named, read_file,
+};
 use std::io;
 use std::io::BufWriter;
 
@@ -39,7 +41,11 @@ impl<'a> Given<'a> {
 }
 
 /// Reads the files, dumps them, and answers the exit status; an error where not all were read.
-fn dump_files<'a>(rt: &HostRuntime, words: &ArgMatches<'a>) -> Result<u8, DumpEnd<'a>> {
+fn dump_files<'a>(
+    rt: &HostRuntime,
+    words: &ArgMatches<'a>,
+    model: DataModel,
+) -> Result<u8, DumpEnd<'a>> {
     let ctf = Given::read(rt, words.get_str("ctf").unwrap_or(""))?;
     let parent = Given::option(rt, words, "parent")?;
     let sym = Given::option(rt, words, "sym")?;
@@ -49,6 +55,7 @@ fn dump_files<'a>(rt: &HostRuntime, words: &ArgMatches<'a>) -> Result<u8, DumpEn
         parent: parent.as_ref().map(Given::lent),
         sym: sym.as_ref().map(Given::lent),
         str: strs.as_ref().map(Given::lent),
+        model,
     };
     let Ok(mut out) = BufWriter::new(rt.alloc(), io::writer(rt)) else {
         return Err(DumpEnd::Memory);
@@ -58,7 +65,11 @@ fn dump_files<'a>(rt: &HostRuntime, words: &ArgMatches<'a>) -> Result<u8, DumpEn
 
 /// Dumps the files that the words name, and answers the exit status.
 pub fn run(rt: &HostRuntime, words: &ArgMatches<'_>) -> u8 {
-    match dump_files(rt, words) {
+    // There is a word for it, since it has a default, and the parser lets no other through.
+    let Some(model) = words.get_str("model").and_then(model_named) else {
+        return MISUSED;
+    };
+    match dump_files(rt, words, model) {
         Ok(status) => status,
         Err(end) => {
             let _ = eprintln!(rt; "ctfd: {end}");
