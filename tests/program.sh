@@ -92,8 +92,8 @@ section '\0' '\x01\0\0\0\0\x0c\x04\0\x20\0\0\x01' '\0int\0' '\x0c' '\x05' > int
 section '\x01' '\0\0\0\0\0\x18\x03\0' '\0p\0' '\x08' '\x03' > child
 section '\0' '\0\0\0\0\0\x18\0\0\0\0\0\0\0\x18\0\0' '' '\x10' '\0' > two
 section '\0' '\0\0\0\0\0\x18\0\0\0\0\0\0\0\x18\0\0\0\0\0\0\0\x18\0\0' '' '\x18' '\0' > three
-cp int longest; truncate -s 16777216 longest
-cp int long; truncate -s 16777217 long
+cp int longest; truncate -s 67108864 longest
+cp int long; truncate -s 67108865 long
 mkdir folder
 
 # dumps NAME FILE WORD..: a dump of these files is what FILE holds.

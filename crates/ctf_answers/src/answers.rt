@@ -8,7 +8,7 @@ use crate::fields::{Field, Value};
 use crate::listed::Listed;
 use crate::singles::Single;
 use arrayvec::ArrayVec;
-use ctf_model::Bytes;
+use ctf_protocol::Bytes;
 use std::marker::Model;
 
 /// What a granted request is answered: at most eight fields, their keys in byte order.

@@ -2,7 +2,7 @@
 
 use crate::listed::Listed;
 use crate::singles::Single;
-use ctf_model::Bytes;
+use ctf_protocol::Bytes;
 
 /// The value of a field.
 #[derive(Drop)]

@@ -4,7 +4,7 @@ ghost use Rattle.ctf_model.specs.names.KindNames.{name_of_kind, name_of_tag, nam
 ghost use Rattle.ctf_protocol.specs.words.ModelNames.{name_of_model};
 ghost use Rattle.ctf_records.specs.RecordView.{tag_of};
 
-use ctf_model::{DataModel, Kind, SymbolClass};
+use ctf_protocol::{DataModel, Kind, SymbolClass};
 use ctf_records::Tag;
 
 pub fn kind_name(kind: Kind) -> &'static str

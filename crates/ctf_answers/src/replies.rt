@@ -1,7 +1,7 @@
 //! The reply to one request.
 
 use crate::answers::Answer;
-use ctf_model::Fault;
+use ctf_protocol::Fault;
 
 /// The reply to one request: the session that it goes to, and the answer or the refusal.
 #[derive(Drop)]

@@ -10,8 +10,7 @@ ghost use Rattle.ctf_broker.specs.Table.{kept_for, library_at};
 
 use ctf_answers::Counts;
 use ctf_library::{Library, Loaded, Pool};
-use ctf_model::{Fault, placeless};
-use ctf_protocol::{Change, PublicationName};
+use ctf_protocol::{Change, Fault, PublicationName, placeless};
 use std::alloc::{AllocError, Global};
 use std::collections::BTreeMap;
 

@@ -3,7 +3,7 @@ ghost use Rattle.std.specs.Prelude.{◌≡◌, ◌<◌, ◌≤◌, IfOk, IfErr, 
 ghost use Rattle.ctf_dump.specs.Refused.{status_after};
 
 use ctf_dump::DumpEnd;
-use ctf_model::{Fault, placeless};
+use ctf_protocol::{Fault, placeless};
 use std::alloc::Global;
 use std::fs::File;
 use std::io::{ErrorKind, Read};

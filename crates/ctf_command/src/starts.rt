@@ -5,7 +5,7 @@ ghost use Rattle.ctf_command.specs.Starts.{status_unstarted};
 
 use crate::status::MISUSED;
 use ctf_dump::DumpEnd;
-use ctf_model::Fault;
+use ctf_protocol::Fault;
 use std::fmt;
 use std::fmt::{Display, Formatter};
 

@@ -23,12 +23,12 @@ fn add_long_name(alloc: Global, draft: &mut Draft, len: usize) -> Result<TypeNum
 }
 
 #[test]
-fn more_than_16_megabytes_are_not_written(rt: HostRuntime) {
+fn more_than_64_megabytes_are_not_written(rt: HostRuntime) {
     let alloc = rt.alloc();
     let Some(mut draft) = fresh(alloc, DataModel::Lp64) else {
         assert!(rt; false);
         return;
     };
-    assert!(rt; add_long_name(alloc, &mut draft, 16_777_171) == Ok(TypeNum(1)));
+    assert!(rt; add_long_name(alloc, &mut draft, 67_108_819) == Ok(TypeNum(1)));
     assert!(rt; refusal(alloc, &draft) == Some(placeless(Fault::DICT_TOO_BIG)));
 }

@@ -10,8 +10,10 @@ ghost use Rattle.ctf_records.specs.RecordView.{tag_of};
 
 use ctf_answers::Counts;
 use ctf_draft::{AggregateKind, Draft, NewBody, NewType, ReferenceKind, ScalarKind};
-use ctf_model::{Bytes, Fault, Piece, TypeNum, placeless};
-use ctf_protocol::{Addition, Declared, NewArray, NewKind, NewScalar, TypeNums};
+use ctf_protocol::{
+    Addition, Bytes, Declared, Fault, NewArray, NewKind, NewScalar, Piece, TypeNum, TypeNums,
+    placeless,
+};
 use ctf_records::Tag;
 use ctf_views::{ArrayInfo, Encoding};
 use std::alloc::{AllocError, Global};

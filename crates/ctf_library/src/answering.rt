@@ -26,10 +26,11 @@ use crate::whole::whole_answer;
 use ctf_answers::{Answer, Items, Listed, Single, kind_name, tag_name};
 use ctf_check::Facts;
 use ctf_layout::{Layout, path, referred, resolve};
-use ctf_model::{Bytes, Fault, Kind, TypeNum, placeless};
 use ctf_names::{pointer_to, spell};
 use ctf_print::show;
-use ctf_protocol::{PlainQuestion, Question, TypeQuestion, Window};
+use ctf_protocol::{
+    Bytes, Fault, Kind, PlainQuestion, Question, TypeNum, TypeQuestion, Window, placeless,
+};
 use ctf_records::Tag;
 use ctf_space::Space;
 use ctf_views::{Args, Variant};

@@ -19,8 +19,10 @@ use crate::slots::{Imported, Slot};
 use crate::staging::{add_first_piece, add_piece, judge};
 use crate::tables::tables_over;
 use ctf_answers::{Answer, Counts};
-use ctf_model::{DataModel, Fault, Parts, no_parts, placeless};
-use ctf_protocol::{Change, Creation, DraftStep, ListName, PublicationName, Question, SlotNumber};
+use ctf_protocol::{
+    Change, Creation, DataModel, DraftStep, Fault, ListName, Parts, PublicationName, Question,
+    SlotNumber, no_parts, placeless,
+};
 use std::alloc::Global;
 use std::marker::Model;
 use std::mem;

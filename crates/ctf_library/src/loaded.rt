@@ -9,7 +9,7 @@ ghost use Rattle.ctf_symbols.specs.Fitting.{Fits};
 
 use crate::tables::Tables;
 use ctf_check::Checked;
-use ctf_model::{DataModel, Fault, Parts, placeless};
+use ctf_protocol::{DataModel, Fault, Parts, placeless};
 use ctf_space::Opened;
 use ctf_symbols::SymbolMap;
 use std::alloc::{AllocError, Global};

@@ -13,8 +13,7 @@ ghost use Rattle.ctf_library.specs.SlotView.{slot_of};
 
 use crate::slots::{Imported, Slot};
 use ctf_answers::Counts;
-use ctf_model::{Fault, placeless};
-use ctf_protocol::DraftStep;
+use ctf_protocol::{DraftStep, Fault, placeless};
 use std::alloc::Global;
 
 /// The place of the slot of a number, found by halves.

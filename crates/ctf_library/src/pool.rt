@@ -8,7 +8,7 @@ ghost use Rattle.ctf_model.specs.rules.Refusals.{want_of_memory};
 
 use crate::loaded::Loaded;
 use ctf_check::LentLists;
-use ctf_model::{DataModel, Fault, Parts, placeless};
+use ctf_protocol::{DataModel, Fault, Parts, placeless};
 use ctf_space::lent;
 use std::alloc::Global;
 use std::marker::Model;

@@ -7,7 +7,7 @@ ghost use Rattle.ctf_protocol.specs.sessions.Steps.{longest_list};
 ghost use Rattle.ctf_model.specs.declared.faults.TheConstants.Fault.{STAGE_FULL};
 
 use ctf_check::check;
-use ctf_model::{Bytes, Fault, Parts, placeless};
+use ctf_protocol::{Bytes, Fault, Parts, placeless};
 use ctf_space::lent;
 use std::alloc::Global;
 

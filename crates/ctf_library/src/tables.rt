@@ -7,8 +7,8 @@ ghost use Rattle.ctf_model.specs.spaces.Kept.{fault_over};
 
 use crate::loaded::Loaded;
 use ctf_layout::Layout;
-use ctf_model::{Fault, placeless};
 use ctf_names::NameIndex;
+use ctf_protocol::{Fault, placeless};
 use ctf_space::{Opened, Space};
 use std::alloc::{AllocError, Global};
 

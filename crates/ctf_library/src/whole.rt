@@ -17,9 +17,8 @@ use crate::answering::{listed, signed, type_answer};
 use crate::tables::Tables;
 use ctf_answers::{Answer, Items, Single, class_name};
 use ctf_entries::Signature;
-use ctf_model::{Fault, placeless};
 use ctf_names::find;
-use ctf_protocol::SlotQuestion;
+use ctf_protocol::{Fault, SlotQuestion, placeless};
 use ctf_space::Space;
 use ctf_symbols::{NamedSymbol, SymbolMap};
 

@@ -7,8 +7,7 @@ ghost use Rattle.ctf_protocol.specs.declared.addables.Addable.TheVariants as add
 
 use crate::drafts::name_or_empty;
 use crate::reading::{items, number, number_said, text, type_number};
-use ctf_model::TypeNum;
-use ctf_protocol::{Addable, Addition, Declared, NewArray, NewKind, NewScalar, TypeNums};
+use ctf_protocol::{Addable, Addition, Declared, NewArray, NewKind, NewScalar, TypeNum, TypeNums};
 use serde_json::Value;
 use std::alloc::{AllocError, Global};
 

@@ -8,8 +8,7 @@ use crate::additions::addition;
 use crate::models::model;
 use crate::reading::{slot, slot_said};
 use crate::spelled::name;
-use ctf_model::Piece;
-use ctf_protocol::{Change, Creation, DraftStep, Request, SlotNumber};
+use ctf_protocol::{Change, Creation, DraftStep, Piece, Request, SlotNumber};
 use serde_json::Value;
 use std::alloc::{AllocError, Global};
 

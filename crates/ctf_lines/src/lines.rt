@@ -2,7 +2,7 @@
 ghost use Rattle.std.specs.Prelude.{◌≡◌, ◌≢◌, ◌<◌, length, ℕ, List, Result, Ok, Err, IfOk, IfErr};
 ghost use Rattle.ctf_lines.specs.Appending.{Writes};
 
-use ctf_model::Fault;
+use ctf_protocol::Fault;
 use std::alloc::{AllocError, Global};
 
 /// What a line may ask.

@@ -4,7 +4,7 @@ ghost use Rattle.serde_json.specs.View.{view};
 ghost use Rattle.ctf_protocol.specs.lines.Ask.{model_asked as model_said};
 ghost use Rattle.ctf_protocol.specs.words.ModelNames.{model_named as model_of_word};
 
-use ctf_model::DataModel;
+use ctf_protocol::DataModel;
 use serde_json::Value;
 
 /// The data model, if one is said.

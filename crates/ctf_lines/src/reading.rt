@@ -13,10 +13,9 @@ use crate::drafts::{add, create, discard, update};
 use crate::lines::FromLine;
 use crate::models::model;
 use crate::spelled::{name, names, piece};
-use ctf_model::{DataModel, Fault, Piece, TypeNum, placeless};
 use ctf_protocol::{
-    Change, HeldQuestion, ListName, Names, PublicationName, Question, Request, SlotNumber,
-    SlotQuestion, TypeQuestion, Window, Word,
+    Change, DataModel, Fault, HeldQuestion, ListName, Names, Piece, PublicationName, Question,
+    Request, SlotNumber, SlotQuestion, TypeNum, TypeQuestion, Window, Word, placeless,
 };
 use serde_json::Value;
 use std::alloc::{AllocError, Global};

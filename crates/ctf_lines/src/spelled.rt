@@ -6,8 +6,7 @@ ghost use Rattle.ctf_protocol.specs.lines.Text.{digit_value as digit_value_of, b
 ghost use Rattle.ctf_lines.specs.Fronts.{IsFront, escape as escape_of};
 
 use crate::names::is_plain;
-use ctf_model::{LONGEST_PIECE, Piece};
-use ctf_protocol::Names;
+use ctf_protocol::{LONGEST_PIECE, Names, Piece};
 use hex::FromHexError;
 use serde_json::Value;
 use std::alloc::{AllocError, Global};

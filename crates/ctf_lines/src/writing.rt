@@ -11,7 +11,7 @@ use crate::papers::Paper;
 use crate::series::put_series;
 use crate::texts::{LONGEST_REPLY, put_number};
 use ctf_answers::{Answer, Counts, Reply, Single};
-use ctf_model::{Fault, fault_name, placeless};
+use ctf_protocol::{Fault, fault_name, placeless};
 use std::alloc::AllocError;
 
 /// The greatest length of the line of a refusal, or of a reply to a change.

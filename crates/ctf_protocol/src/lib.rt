@@ -33,3 +33,9 @@ pub use session_laws::{
 };
 pub use slots::SlotNumber;
 pub use words::Word;
+
+// The names of the format that who speaks the protocol needs too.
+pub use ctf_model::{
+    Bytes, DataModel, Fault, Kind, LONGEST_PIECE, Parts, Piece, SymbolClass, TypeNum, fault_name,
+    no_parts, placeless,
+};

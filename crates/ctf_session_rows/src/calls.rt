@@ -2,8 +2,7 @@
 
 use ctf_answers::Reply;
 use ctf_lines::{FromLine, ToLine, memory_line, write_change};
-use ctf_model::{DataModel, Fault, placeless};
-use ctf_protocol::{Change, Request};
+use ctf_protocol::{Change, DataModel, Fault, Request, placeless};
 use ctf_wire::{Broker, Library, Pool};
 use std::alloc::{AllocError, Global};
 use std::test::Fail;

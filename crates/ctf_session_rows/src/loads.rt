@@ -1,7 +1,6 @@
 //! What the operator publishes before any line is read.
 
-use ctf_model::{Bytes, DataModel, Fault, Parts, placeless};
-use ctf_protocol::PublicationName;
+use ctf_protocol::{Bytes, DataModel, Fault, Parts, PublicationName, placeless};
 use ctf_runs::served_by;
 use ctf_space::Opened;
 use ctf_wire::Broker;

@@ -1,6 +1,6 @@
 //! Dictionaries that are opened again while a pool holds them, or when it holds them no more.
 
-use ctf_model::{Bytes, DataModel, Fault, Parts};
+use ctf_protocol::{Bytes, DataModel, Fault, Parts};
 use ctf_wire::Pool;
 use std::alloc::{AllocError, Global};
 use std::test::Fail;

@@ -17,12 +17,12 @@ fn put_part(
     input.extend_from_slice(b"\"}\n")
 }
 
-/// A full list handed in by 64 parts of 262,144 bytes, each with its reply:
+/// A full list handed in by 256 parts of 262,144 bytes, each with its reply:
 /// an empty dictionary, and zero bytes.
 fn fill(alloc: Global, input: &mut Vec<u8>, want: &mut Vec<u8>) -> Result<(), AllocError> {
     put_part(alloc, input, b"f1cf0200", 524_280)?;
     want.extend_from_slice(b"{\"ok\":{\"length\":262144},\"s\":7}\n")?;
-    for parts in 2..=64_u32 {
+    for parts in 2..=256_u32 {
         put_part(alloc, input, b"", 524_288)?;
         let length = parts.wrapping_mul(262_144);
         let reply = format!(in alloc; "{{\"ok\":{{\"length\":{length}}},\"s\":7}}\n")?;
@@ -42,7 +42,7 @@ fn a_list_gets_full(rt: HostRuntime) -> Result<(), Fail> {
     input.extend_from_slice(b"{\"s\":7,\"op\":\"open\"}\n")?;
     want.extend_from_slice(
         b"{\"fault\":{\"code\":51,\"name\":\"StageFull\",\"place\":0},\"s\":7}\n\
-        {\"ok\":{\"length\":16777216},\"s\":7}\n\
+        {\"ok\":{\"length\":67108864},\"s\":7}\n\
         {\"ok\":{\"d\":1,\"types\":0},\"s\":7}\n",
     )?;
     let (end, written) = served(rt.alloc(), &input, 65_536);

@@ -2,7 +2,7 @@
 
 use ctf_answers::{Answer, Counts, Reply, Single};
 use ctf_lines::{ToLine, write_change};
-use ctf_model::{Fault, placeless};
+use ctf_protocol::{Fault, placeless};
 use std::alloc::{AllocError, Global};
 use std::test::Fail;
 

@@ -17,8 +17,7 @@ use crate::sources::Source;
 use ctf_answers::{Counts, Reply};
 use ctf_broker::Broker;
 use ctf_lines::{FromLine, ToLine, write_change};
-use ctf_model::{Fault, placeless};
-use ctf_protocol::Request;
+use ctf_protocol::{Fault, Request, placeless};
 use std::alloc::Global;
 
 /// Appends the line of a short reply.
