@@ -109,6 +109,7 @@ fn slot_question_said(question: &SlotQuestion) -> (&'static str, Option<Window>)
 fn held_question_said(question: HeldQuestion) -> &'static str {
     match question {
         HeldQuestion::Info => "info",
+        HeldQuestion::Model => "model",
         HeldQuestion::Bytes { .. } => "bytes",
     }
 }

@@ -66,7 +66,7 @@ fn dump_files<'a>(
 /// Dumps the files that the words name, and answers the exit status.
 pub fn run(rt: &HostRuntime, words: &ArgMatches<'_>) -> u8 {
     // There is a word for it, since it has a default, and the parser lets no other through.
-    let Some(model) = words.get_str("model").and_then(model_named) else {
+    let Some(model) = words.get_str("model").and_then(|word| model_named(word)) else {
         return MISUSED;
     };
     match dump_files(rt, words, model) {
