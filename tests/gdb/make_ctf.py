@@ -7,6 +7,7 @@ the object and function sections are written for. A word of C alone: what C++ or
 not known here. Two things are not in CTF and get lost: widths of enums as bit-fields, and which
 of two arrays without elements was declared without a length.
 """
+import operator
 import os
 import pathlib
 import struct
@@ -21,9 +22,12 @@ from ctfd.elf import Elf  # noqa: E402
  RESTRICT) = range(1, 14)
 SIGNED, CHARACTER, BOOLEAN = 1, 2, 4
 LONG_MEMBERS = 8192
-FLOATS = {("float", 4): 1, ("double", 8): 2, ("long double", 16): 6,
-          ("complex float", 8): 3, ("complex double", 16): 4, ("complex long double", 32): 7}
+FLOATS = {"float": 1, "double": 2, "long double": 6,
+          "complex float": 3, "complex double": 4, "complex long double": 7}
 OBJECT_SYMBOL, FUNCTION_SYMBOL, ABSOLUTE = 1, 2, 0xFFF1
+# The entries of a symbol table, and where each has its name, its info, its section and its value.
+SYMBOLS = {"lp64": (struct.Struct("<IBBHQQ"), operator.itemgetter(0, 1, 3, 4)),
+           "ilp32": (struct.Struct("<IIIBBH"), operator.itemgetter(0, 3, 5, 1))}
 
 
 class Maker:
@@ -87,7 +91,7 @@ class Maker:
     def float(self, t, key):
         name = t.name or str(t)
         return self.record(key, FLOAT, name, t.sizeof,
-                           struct.pack("<I", FLOATS[name, t.sizeof] << 24 | 8 * t.sizeof))
+                           struct.pack("<I", FLOATS[name] << 24 | 8 * t.sizeof))
 
     def pointer(self, t, key):
         if str(t).endswith("restrict"):
@@ -198,8 +202,8 @@ def symbols(program):
     file = Elf(program.read_bytes(), str(program))
     table = file.named(".symtab")
     data, strings = file.bytes(table), file.bytes(file.numbered(table.link))
-    for start in range(0, len(data), 24):
-        at, info, _, section, value, _ = struct.unpack_from("<IBBHQQ", data, start)
+    entry, parts = SYMBOLS[file.model]
+    for at, info, section, value in map(parts, entry.iter_unpack(data)):
         name = strings[at:strings.index(b"\0", at)].decode()
         kind = info & 15
         absolute = kind == OBJECT_SYMBOL and section == ABSOLUTE and not value
