@@ -27,19 +27,19 @@ def described(types: ctfd.Dictionary) -> Set[Described]:
     """All structs, unions and enums of a dictionary, as the service tells them."""
     own = types.types()
     types.gather([t.number for t in own])
-    return {one(t) for t in own if t.kind in KINDS.values()}
+    return {_described(t) for t in own if t.kind in KINDS.values()}
 
 
-def one(t: ctfd.Type) -> Described:
+def _described(t: ctfd.Type) -> Described:
     """A struct, union or enum."""
     if t.kind == "enum":
         parts = [Part(printable(name), value & ENUMERATOR, None) for name, value in t.enumerators]
     else:
-        parts = [part(member) for member in t.members]
+        parts = [_member(member) for member in t.members]
     return Described(t.kind, printable(t.name), t.size, tuple(parts))
 
 
-def part(member: ctfd.Member) -> Part:
+def _member(member: ctfd.Member) -> Part:
     """A member: a bit-field lies where its type says it does within its storage."""
     lies, size, name = member.type.bit_field, member.type.size, printable(member.name)
     if lies is not None:
@@ -48,9 +48,9 @@ def part(member: ctfd.Member) -> Part:
 
 
 def differing(known: Set[Described], told: Set[Described]) -> int:
-    """Prints what one has and the other has not; how many of gcc's the service has not."""
-    lines = [f"gcc      {one}" for one in known - told]
-    lines += [f"service  {one}" for one in told - known]
+    """Prints what one of the two has and the other has not; how many there are."""
+    lines = [f"gcc      {t}" for t in known - told]
+    lines += [f"service  {t}" for t in told - known]
     for line in sorted(lines, key=lambda line: line.split(None, 1)[1])[:MOST]:
         print(line)
     if len(lines) > MOST:
@@ -65,9 +65,9 @@ def main(service: str, twin: str, program: str) -> int:
         model, told = types.model, described(types)
         wrongly = described(ctfd.open_file(client.session(), program, model="lp64"))
     differs = differing(known, told)
-    kinds = Counter(one.kind for one in known)
+    kinds = Counter(t.kind for t in known)
     counted = ", ".join(f"{kinds[kind]} {kind}s" for kind in KINDS.values())
-    members = sum(len(one.parts) for one in known if one.kind != "enum")
+    members = sum(len(t.parts) for t in known if t.kind != "enum")
     print(f"{model}: {counted}, {members} members; {left_out} left out")
     print(f"{len(known & told)} of {len(known)} as gcc has them, {len(known & wrongly)} with"
           " pointers of 8 bytes")
