@@ -1,10 +1,11 @@
 #!/usr/bin/env bash
 # Compares what the plug-in of clients/gdb prints on a program without debug information with what
-# gdb itself prints on the same program with it.
+# gdb itself prints on the same program with it, of 64 bits and of 32.
 # usage: tests/gdb.sh PROGRAM
 # PROGRAM is crates/ctfd/out/ctfd once `rt run` in crates/ctfd has built it. Needs gdb with Python,
-# gcc, objcopy and nm; says so and ends with status 0 where one is missing. Prints each answer that
-# differs, then how many are the same; the status is 1 where one differs. Not part of the gate.
+# gcc, objcopy and nm; says so and ends with status 0 where one is missing, or where gcc or the
+# machine has no programs of 32 bits. Prints each answer that differs, then how many are the same;
+# the status is 1 where one differs. Not part of the gate.
 #
 # tests/gdb/values.c is compiled with debug information, and tests/gdb/with_ctf.sh makes a program
 # without, which has a CTF section that was written from what gdb reads of it. One gdb runs the
@@ -21,18 +22,53 @@ gdb -batch -nx -ex 'python print(1)' > /dev/null 2>&1 ||
 work=$(mktemp -d)
 trap 'rm -r "$work"' EXIT
 cd "$work"
+export CTFD=$program LC_ALL=C
+failed=0
 
-gcc -g -O0 -fpie -pie -nostdlib -ffreestanding -fno-stack-protector -o twin "$tests/gdb/values.c"
-"$tests/gdb/with_ctf.sh" twin stripped
+# built SOURCE OPTION..: makes ./twin, with debug information.
+built() {
+    gcc -g -O0 -fpie -pie -nostdlib -ffreestanding -fno-stack-protector -o twin "$@"
+}
 
-nm stripped | awk '$2 ~ /^[BDdbRr]$/ && $3 !~ /^_/ {
-    print "print " $3; print "print/x " $3; print "print &" $3
-    print "whatis " $3; print "whatis &" $3 }' | sort > expressions
-cat "$tests/gdb/expressions.txt" >> expressions
+# named KINDS: the names in ./twin that are of some of nm's kinds, but for the compiler's own.
+named() {
+    nm twin | awk -v kinds="^[$1]\$" '$2 ~ kinds && $3 !~ /^_/ { print $3 }' | sort
+}
 
-export TWIN=twin EXPRESSIONS=expressions CTFD=$program LC_ALL=C
-KNOWN=$(nm stripped | awk '$3 == "_start" { print $3 "=0x" $1 }')
-export KNOWN
-gdb -batch -nx -ex 'set width 0' -ex 'set charset ASCII' -ex 'set max-value-size unlimited' \
-    -ex "source $tests/../clients/gdb/ctfgdb.py" -ex 'ctf load' -ex 'break *stop' -ex 'run' \
-    -x "$tests/gdb/compare.py" stripped
+# asked: what is asked of each object of ./twin, and tests/gdb/expressions.txt.
+asked() {
+    named BDdbRr | sed 's/.*/print &\nprint\/x &\nprint \&&\nwhatis &\nwhatis \&&/'
+    cat "$tests/gdb/expressions.txt"
+}
+
+# compared BUILD WORD..: asks for ./expressions on ./twin; WORD.. stand in the environment too.
+compared() {
+    "$tests/gdb/with_ctf.sh" twin stripped
+    known=$(nm stripped | awk '$3 == "_start" { print $3 "=0x" $1 }')
+    env BUILD="$1" TWIN=twin EXPRESSIONS=expressions KNOWN="$known" "${@:2}" gdb -batch -nx \
+        -ex 'set width 0' -ex 'set charset ASCII' -ex 'set max-value-size unlimited' \
+        -ex "source $tests/../clients/gdb/ctfgdb.py" -ex 'ctf load' -ex 'break *stop' -ex 'run' \
+        -x "$tests/gdb/compare.py" stripped || failed=1
+}
+
+built "$tests/gdb/values.c"
+asked > expressions
+compared "64 bits"
+
+# Symbols of 32 bits are not read, so every.c gives the program a pointer to each object and
+# function, all in one object. stop() takes its arguments in registers, as it does in 64 bits.
+if ! built "$tests/gdb/values.c" -m32 -mregparm=3 2> said || ! ./twin; then
+    cat said
+    echo "skipped in 32 bits: gcc -m32 makes no program here, or none that runs"
+    exit $failed
+fi
+asked | sed 's/\$rdi/$eax/g; s/\$rsi/$edx/g' > expressions
+named BDdbRrTt > names
+{
+    echo "#include \"$tests/gdb/values.c\""
+    echo "struct every {" && sed 's/.*/__typeof__(&) *&;/' names
+    echo "} every = {" && sed 's/.*/\&&,/' names && echo "};"
+} > every.c
+built every.c -m32 -mregparm=3
+compared "32 bits" POINTED=names
+exit $failed

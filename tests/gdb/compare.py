@@ -1,12 +1,15 @@
 """Asks the plug-in for each expression on a program without debug information, then gdb itself.
 
-usage: TWIN=FILE EXPRESSIONS=FILE KNOWN=FUNCTION=ADDRESS gdb -batch -nx -x compare.py PROGRAM
+usage: BUILD=WORDS TWIN=FILE EXPRESSIONS=FILE KNOWN=FUNCTION=ADDRESS [POINTED=FILE] \
+    gdb -batch -nx -x compare.py PROGRAM
 
 The program was stopped; TWIN is the same with debug information, which is loaded only when the
 plug-in has answered all. A line of EXPRESSIONS is a command, `print`, `print/x` or `whatis`, and
-an expression; behind ` | ` may stand what gdb is asked instead. All are asked under several of
-gdb's settings for printing. Prints those that differ, and how many answers and values are the same;
-the status is 1 where one differs.
+an expression; behind ` | ` may stand what gdb is asked instead. Where names have no types, POINTED
+has those to which the program's object `every` holds a pointer each, and the plug-in is asked for
+what is behind that. All are asked under several of gdb's settings for printing. Prints those that
+differ, and, behind BUILD, how many answers and values are the same; the status is 1 where one
+differs.
 """
 import os
 import pathlib
@@ -36,10 +39,25 @@ def plain(told):
 
 def wanted():
     """Each line as what is asked of the plug-in and what of gdb."""
-    for line in pathlib.Path(os.environ["EXPRESSIONS"]).read_text().splitlines():
+    names = lines_of("POINTED") if "POINTED" in os.environ else []
+    for line in lines_of("EXPRESSIONS"):
         if line and not line.startswith("#"):
             asked, _, other = line.partition(" | ")
-            yield asked, f"{asked.split()[0]} {other}" if other else asked
+            command, _, expression = asked.partition(" ")
+            yield f"{command} {pointed(expression, names)}", f"{command} {other or expression}"
+
+
+def lines_of(variable):
+    """The lines of the file that a variable of the environment names."""
+    return pathlib.Path(os.environ[variable]).read_text().splitlines()
+
+
+def pointed(expression, names):
+    """An expression with what is behind the pointers of `every` in place of some names."""
+    if not names:
+        return expression
+    name = rf"(?<![\w.>$])(?<!struct )(?<!union )(?<!enum )({'|'.join(names)})\b"
+    return re.sub(name, r"(*((struct every *) &every)->\1)", expression)
 
 
 def slide():
@@ -71,7 +89,7 @@ def main():
             asked, settings = lines[number % len(lines)][0], SETTINGS[number // len(lines)]
             print(f"{asked} {settings or ''}\n  ctf {told}\n  gdb {known}")
     leaves = sum(told.count(",") + 1 for told in same)
-    print(f"{len(same)} of {len(by_ctf)} the same, {leaves} values in them")
+    print(f"{os.environ['BUILD']}: {len(same)} of {len(by_ctf)} the same, {leaves} values in them")
     gdb.execute("set confirm off")
     gdb.execute(f"quit {0 if len(same) == len(by_ctf) else 1}")
 

@@ -1,16 +1,21 @@
 """Writes a CTF section of version 2 from what gdb reads of a program's DWARF.
 
-usage: MADE_OF=PROGRAM MADE=FILE gdb -batch -nx -x make_ctf.py TWIN
+usage: MADE_OF=PROGRAM MADE=FILE [ALL=1] gdb -batch -nx -x make_ctf.py TWIN
 
 TWIN has debug information; PROGRAM is the same without it, and its symbol table is the one that
-the object and function sections are written for. A word of C alone: what C++ or Fortran say is
-not known here. Two things are not in CTF and get lost: widths of enums as bit-fields, and which
-of two arrays without elements was declared without a length.
+the object and function sections are written for. The types are those to which its symbols lead;
+with ALL, all that have a name or enumerators in the sources of these symbols. A word of C alone:
+what C++ or Fortran say is not known here. A program may be of 64 bits or of 32: CTF has no size of
+pointers, and all other sizes are those of the debug information. What is not in CTF gets lost:
+widths of enums as bit-fields, which of two arrays without elements was declared without a length,
+all but 32 bits of an enumerator, and formats of floats such as _Float128.
 """
+import operator
 import os
 import pathlib
 import struct
 import sys
+import traceback
 
 import gdb
 
@@ -21,9 +26,12 @@ from ctfd.elf import Elf  # noqa: E402
  RESTRICT) = range(1, 14)
 SIGNED, CHARACTER, BOOLEAN = 1, 2, 4
 LONG_MEMBERS = 8192
-FLOATS = {("float", 4): 1, ("double", 8): 2, ("long double", 16): 6,
-          ("complex float", 8): 3, ("complex double", 16): 4, ("complex long double", 32): 7}
+FLOATS = {"float": 1, "double": 2, "long double": 6,
+          "complex float": 3, "complex double": 4, "complex long double": 5}
 OBJECT_SYMBOL, FUNCTION_SYMBOL, ABSOLUTE = 1, 2, 0xFFF1
+# The entries of a symbol table, and where each has its name, its info, its section and its value.
+SYMBOLS = {"lp64": (struct.Struct("<IBBHQQ"), operator.itemgetter(0, 1, 3, 4)),
+           "ilp32": (struct.Struct("<IIIBBH"), operator.itemgetter(0, 3, 5, 1))}
 
 
 class Maker:
@@ -87,7 +95,7 @@ class Maker:
     def float(self, t, key):
         name = t.name or str(t)
         return self.record(key, FLOAT, name, t.sizeof,
-                           struct.pack("<I", FLOATS[name, t.sizeof] << 24 | 8 * t.sizeof))
+                           struct.pack("<I", FLOATS.get(name, 0) << 24 | 8 * t.sizeof))
 
     def pointer(self, t, key):
         if str(t).endswith("restrict"):
@@ -149,7 +157,8 @@ class Maker:
         return number, field.bitpos - inside
 
     def enum(self, t, key):
-        listed = b"".join(struct.pack("<Ii", self.name(e.name), e.enumval) for e in t.fields())
+        listed = b"".join(struct.pack("<II", self.name(e.name), e.enumval & 0xFFFFFFFF)
+                          for e in t.fields())
         return self.record(key, ENUM, t.tag, t.sizeof, listed, len(t.fields()))
 
     def typedef(self, t, key):
@@ -198,8 +207,8 @@ def symbols(program):
     file = Elf(program.read_bytes(), str(program))
     table = file.named(".symtab")
     data, strings = file.bytes(table), file.bytes(file.numbered(table.link))
-    for start in range(0, len(data), 24):
-        at, info, _, section, value, _ = struct.unpack_from("<IBBHQQ", data, start)
+    entry, parts = SYMBOLS[file.model]
+    for at, info, section, value in map(parts, entry.iter_unpack(data)):
         name = strings[at:strings.index(b"\0", at)].decode()
         kind = info & 15
         absolute = kind == OBJECT_SYMBOL and section == ABSOLUTE and not value
@@ -209,28 +218,43 @@ def symbols(program):
 
 
 def declared(name):
-    """What gdb knows of a symbol; None where the compiler told nothing."""
-    found = gdb.lookup_global_symbol(name) or gdb.lookup_static_symbol(name)
-    return found.type if found else None
+    """The symbol as gdb knows it; None where the compiler told nothing."""
+    return gdb.lookup_global_symbol(name) or gdb.lookup_static_symbol(name)
+
+
+def object_entry(maker, symbol):
+    """What the section of objects has for a symbol."""
+    return struct.pack("<H", maker.type(symbol.type) if symbol else 0)
+
+
+def function_entry(maker, symbol):
+    """What the section of functions has for a symbol."""
+    if symbol is None:
+        return struct.pack("<H", 0)
+    returns, listed = maker.signature(symbol.type)
+    info = FUNCTION << 11 | 1 << 10 | len(listed)
+    return struct.pack(f"<{2 + len(listed)}H", info, returns, *listed)
+
+
+def named_beside(found):
+    """The types of all that has a name in the sources of some symbols, as tags and enumerators."""
+    tables = [symbol.symtab for symbol in found]
+    for table in {(one.static_block().start, one.filename): one for one in tables}.values():
+        for block in (table.global_block(), table.static_block()):
+            yield from (symbol.type for symbol in block if symbol.type)
 
 
 def main():
     sys.setrecursionlimit(20_000)  # from struct to struct by their pointers
     maker = Maker()
-    objects, functions = b"", b""
-    for kind, name in symbols(pathlib.Path(os.environ["MADE_OF"])):
-        t = declared(name)
-        if kind == OBJECT_SYMBOL:
-            objects += struct.pack("<H", maker.type(t) if t else 0)
-        elif t is None:
-            functions += struct.pack("<H", 0)
-        else:
-            returns, listed = maker.signature(t)
-            info = FUNCTION << 11 | 1 << 10 | len(listed)
-            functions += struct.pack(f"<{2 + len(listed)}H", info, returns, *listed)
-    for name in os.environ.get("WANTED", "").split(","):
-        if name:
-            maker.type(gdb.lookup_type(name))
+    if os.environ.get("ALL"):  # once all is read, a symbol is its definition and no declaration
+        gdb.execute("maint expand-symtabs")
+    known = [(kind, declared(name)) for kind, name in symbols(pathlib.Path(os.environ["MADE_OF"]))]
+    objects = b"".join(object_entry(maker, s) for kind, s in known if kind == OBJECT_SYMBOL)
+    functions = b"".join(function_entry(maker, s) for kind, s in known if kind == FUNCTION_SYMBOL)
+    if os.environ.get("ALL"):
+        for t in named_beside([symbol for _, symbol in known if symbol]):
+            maker.type(t)
     functions += bytes(-(len(objects) + len(functions)) % 4)
     types = b"".join(maker.records)
     ends = [0, 0, 0, 0, len(objects), len(objects + functions), len(objects + functions + types)]
@@ -239,4 +263,8 @@ def main():
     pathlib.Path(os.environ["MADE"]).write_bytes(made)
 
 
-main()
+try:
+    main()
+except Exception:
+    traceback.print_exc()
+    gdb.execute("quit 1")  # gdb itself ends with status 0

@@ -1,10 +1,21 @@
 /* The values that tests/gdb.sh asks for: each kind that the plug-in prints. Without a C library,
-   so that all of it is known. stop() is called once all is set. */
+   so that all of it is known. stop() is called once all is set. It is compiled for x86-64 and for
+   i386, where a long has 32 bits and the system is called in another way. */
+
+#ifdef __x86_64__
+#define WIDTH 37
+#define NARROW -12345678901
+#define EXIT "andq $-16, %%rsp\n\tmovl $60, %%eax\n\txorl %%edi, %%edi\n\tsyscall"
+#else
+#define WIDTH 27
+#define NARROW -12345678
+#define EXIT "movl $1, %%eax\n\txorl %%ebx, %%ebx\n\tint $0x80"
+#endif
 
 typedef unsigned char byte;
 typedef unsigned long word;
 typedef int (*operation)(int, const char *);
-typedef int wchar_t;
+typedef __WCHAR_TYPE__ wchar_t;
 
 enum color { RED, GREEN = 5, BLUE = -1 };
 enum mode { READ = 1, WRITE = 2, EXECUTE = 4, SHARED = 24 };
@@ -44,7 +55,7 @@ struct bits {
 	unsigned int c : 11;
 	_Bool d : 1;
 	int : 4;
-	long e : 37;
+	long e : WIDTH;
 	unsigned char f : 2;
 	char g : 7;
 	short h;
@@ -120,10 +131,12 @@ struct {
 int zero;
 int answer = 42;
 int negative = -7;
-long big = 0x7123456789abcdefL;
+long big = (long) 0x7123456789abcdefLL;
 word bits_of_all = ~0UL;
 unsigned long long most = ~0ULL;
+#ifdef __SIZEOF_INT128__
 __int128 huge = ((__int128) 1 << 100) + 5;
+#endif
 _Bool truth = 1;
 char letter = 'A', quote = '\'', newline = '\n', low = 1, high = (char) 200;
 byte octet = 200;
@@ -161,7 +174,7 @@ double odds[3] = { __builtin_inf(), __builtin_nan(""), -__builtin_nan("7") };
 _Complex double rotated = 1.5 - 2.5i;
 struct numbers numbers = { 'x', -3, 250, -300, 60000, -70000, 4000000000u, -5, 6, -7, 8, 1, 0 };
 struct floats floats = { 1.5f, -2.25, 3.125L };
-struct bits bits = { 5, -3, 1234, 1, -12345678901, 2, -9, -77 };
+struct bits bits = { 5, -3, 1234, 1, NARROW, 2, -9, -77 };
 struct bits more_bits[2] = { { 7, 15, 2047, 0, 1, 3, 63, 1 }, { 0, -16, 1, 1, -1, 0, -64, -1 } };
 union any any = { .bytes = { 0, 0, 0x80, 0x3f, 1, 2, 3, 4 } };
 struct nested nested = { 1, { 2, { 3 }, { 'd', BLUE } }, { 4, 5 }, { { 6, 7 }, { 8, 9 }, { 10, 11 } },
@@ -232,6 +245,6 @@ void _start(void)
 {
 	set();
 	stop(&first, &items[1]);
-	__asm__("andq $-16, %%rsp\n\tmovl $60, %%eax\n\txorl %%edi, %%edi\n\tsyscall" : : : "memory");
+	__asm__(EXIT : : : "memory");
 	__builtin_unreachable();
 }

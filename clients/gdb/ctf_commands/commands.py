@@ -8,7 +8,7 @@ import gdb
 import ctfd
 from ctfd import expressions, formats, lists
 from ctfd.declare import declaration, declarator, function
-from ctfd.operands import BadExpression, Code, Located, Number, Operand, Steps
+from ctfd.operands import BadExpression, Code, Located, Number, Operand, Steps, Untold
 from ctfd.text import printable
 
 from .inferior import Inferior
@@ -23,6 +23,8 @@ def shown(target: Inferior, operand: Operand, hexadecimal: bool = False) -> str:
     """An operand as gdb prints it."""
     if isinstance(operand, Code):
         return f"{{{declared(operand)}}} {gdb.format_address(operand.address)}"
+    if isinstance(operand, Untold):
+        raise untold(operand)
     if operand.type is None:
         return hex(operand.number) if hexadecimal else str(operand.number)
     t = operand.type.gather()
@@ -37,8 +39,16 @@ def shown(target: Inferior, operand: Operand, hexadecimal: bool = False) -> str:
     return formats.Formatter(target, style(hexadecimal)).top(t, told, at)
 
 
+def untold(symbol: Untold) -> BadExpression:
+    """What is said where a symbol's type is needed."""
+    return BadExpression(f"{symbol.name}: {symbol.why}; cast its address, as"
+                         f" *(TYPE *) &{symbol.name}")
+
+
 def declared(found: Union[ctfd.Type, Operand]) -> str:
     """How C declares what was found."""
+    if isinstance(found, Untold):
+        raise untold(found)
     if isinstance(found, Code):
         return function(found.signature, "") if found.signature else UNTYPED
     if isinstance(found, (Located, Number)):
@@ -158,7 +168,7 @@ class Ptype(Command):
     def run(self, arguments: str) -> None:
         found = typed(STATE.target(), arguments)
         t = found.type if isinstance(found, (Located, Number)) else found
-        if t is None or isinstance(t, Code):
+        if t is None or isinstance(t, (Code, Untold)):
             print(f"type = {declared(found)}")
             return
         base = declarator(t.gather()).base.resolved

@@ -1,19 +1,34 @@
 """The program that gdb looks at, as the package asks for it: memory, registers, names."""
 from __future__ import annotations
 
+import contextlib
 from typing import List, Optional, Sequence, Tuple
 
 import gdb
 
 import ctfd
-from ctfd.operands import BadExpression, Number, Operand
+from ctfd.model import Model, of_pointers
+from ctfd.operands import BadExpression, Operand, Untold
 from ctfd.quoting import quoted
 
 from .loaded import Loaded
 
 PAGE = 4096
 STEP = 64
-ADDRESS = (1 << 64) - 1
+
+
+def pointer_size() -> int:
+    """How many bytes a pointer has in the program, or in gdb's architecture where it has none."""
+    return int(gdb.lookup_type("void").pointer().sizeof)
+
+
+def model_of_program() -> Model:
+    """The data model of the program."""
+    size = pointer_size()
+    found = of_pointers(size)
+    if found is None:
+        raise BadExpression(f"the program has pointers of {size} bytes, and only 8 and 4 are known")
+    return found
 
 
 class Inferior:
@@ -39,26 +54,29 @@ class Inferior:
             value = gdb.parse_and_eval(f"${name}")
             if value.type.code == gdb.TYPE_CODE_VOID:
                 raise BadExpression(f"there is no register or variable ${name}")
-            return int(value) & ADDRESS
+            return int(value) & (1 << 8 * pointer_size()) - 1
         except gdb.error as error:
             raise BadExpression(str(error)) from None
 
     def symbol(self, name: str) -> Operand:
-        """What a name stands for; one that no file knows is gdb's, and has no type."""
-        untold = False
+        """What a name stands for; one whose type no file tells is at gdb's address."""
         for one in self.loaded:
             if name in one.program.symbols:
-                try:
+                with contextlib.suppress(ctfd.NotFound):
                     return one.program.symbol(name, one.slide())
-                except ctfd.NotFound:
-                    untold = True
-        if untold:
-            raise BadExpression(f"the dictionary tells no type of {name}: cast gdb's address of it")
         try:
-            return Number(None, int(gdb.parse_and_eval(f"(unsigned long) &'{name}'")))
+            address = int(gdb.parse_and_eval(f"(unsigned long) &'{name}'"))
         except gdb.error:
-            raise BadExpression(f"no symbol {name} in the files that were loaded, or in gdb"
-                                ) from None
+            raise BadExpression(f"no symbol {name} whose type the loaded files tell, and none in"
+                                " gdb") from None
+        return Untold(name, address, self._why_untold())
+
+    def _why_untold(self) -> str:
+        """Why there is no type of a name that gdb knows."""
+        unread = [one.program.path for one in self.loaded if one.program.types.how == "unread"]
+        if unread:
+            return f"the symbol table of {unread[0]} is one of 32 bits, which is not read"
+        return "no dictionary tells its type"
 
     def find(self, name: str) -> ctfd.Type:
         """The type of a name, in the first file that has it."""

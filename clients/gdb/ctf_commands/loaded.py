@@ -20,6 +20,8 @@ WARNINGS = {
                " were written for, names are told wrongly",
     "refused": "the file's symbol table is not the one that the types were written for: nothing"
                " is told of names",
+    "unread": "the file's symbol table is one of 32 bits, which is not read: a name has gdb's"
+              " address and no type, so cast it, as *(TYPE *) &NAME",
 }
 
 _LIBRARY = re.compile(r"(0x[0-9a-f]+)\s+0x[0-9a-f]+\s+(?:Yes|No)\s+(?:\(\*\)\s+)?(.*)")
@@ -59,6 +61,8 @@ class Loaded:
         """A line on what this is and where it runs."""
         types = self.program.types
         said = f"{self.program.path}: {types.own} types, {len(self.program.symbols)} symbols"
+        if types.model != "lp64":
+            said += f", {types.model}"
         if types.is_child and not self.parent:
             said += f", without its parent {types.parent_name}"
         try:

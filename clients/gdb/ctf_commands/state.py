@@ -12,7 +12,7 @@ from ctfd import formats, program, values
 from ctfd.operands import BadExpression
 from ctfd.program import Program
 
-from .inferior import Inferior
+from .inferior import Inferior, model_of_program
 from .loaded import Loaded
 
 MOST = 65_536
@@ -27,11 +27,15 @@ class State:
         self.loaded: List[Loaded] = []
 
     def open(self, path: str) -> Program:
-        """A file's dictionary. The service is the program that CTFD in the environment names."""
+        """A file's dictionary; a section by itself is taken to be of gdb's program.
+
+        The service is the program that CTFD in the environment names.
+        """
         if self.service is None:
             client = ctfd.Client(os.environ.get("CTFD", "ctfd"))
             self.service = client, client.session()
-        return program.open_program(self.service[1], os.path.expanduser(path))
+        path = os.path.expanduser(path)
+        return program.open_program(self.service[1], path, model_of_program())
 
     def close(self) -> None:
         """Ends the service, and with it all that was loaded."""

@@ -10,13 +10,14 @@ from .faults import (BadDictionary, BadSymbols, Error, Gone, Incomplete, NoMemor
                      NotFound, Refused, Unreadable)
 from .layout import Layout, Place, layout
 from .listing import definition, listing
+from .model import Model
 from .source import Source, read
 from .types import Encoding, Enumerator, Member, PointerTo, Signature, Type
 from .wire import Client, Session
 
 __all__ = [
     "BadDictionary", "BadSymbols", "Client", "Dictionary", "Encoding", "Enumerator", "Error",
-    "Gone", "Incomplete", "Layout", "Member", "NoMemory", "NoParent", "NotFound", "Place",
+    "Gone", "Incomplete", "Layout", "Member", "Model", "NoMemory", "NoParent", "NotFound", "Place",
     "PointerTo", "Refused", "Session", "Signature", "Source", "Type", "Unreadable", "declaration",
     "definition", "layout", "listing", "open_file", "open_source", "read", "taken",
 ]

@@ -13,8 +13,9 @@ from typing import List, Optional
 
 from . import declare
 from .dictionary import Dictionary, open_file
-from .faults import Error, NotFound, Refused
+from .faults import Error, NotFound, Refused, Unreadable
 from .listing import definition, listing
+from .model import POINTER_SIZES
 from .text import printable
 from .types import Signature, Type
 from .wire import Client
@@ -46,6 +47,9 @@ def _parser() -> argparse.ArgumentParser:
                         help="all types of the name, hidden ones too, and not the first alone")
     parser.add_argument("--plain", action="store_true", help="C alone, without places")
     parser.add_argument("--parent", metavar="FILE", help="the dictionary of which FILE is a child")
+    parser.add_argument("--model", choices=list(POINTER_SIZES),
+                        help="whether pointers have 8 bytes or 4, in FILE and in its parent;"
+                        " without it an ELF file says so itself, and a section is taken for lp64")
     parser.add_argument("--symbols", metavar="FILE", help="the bytes of the program's symbol table")
     parser.add_argument("--strings", metavar="FILE", help="the bytes of the strings of that table")
     parser.add_argument("--service", metavar="CTFD", default=os.environ.get("CTFD", "ctfd"),
@@ -55,12 +59,13 @@ def _parser() -> argparse.ArgumentParser:
 
 def _run(client: Client, words: argparse.Namespace) -> None:
     session = client.session()
-    types = open_file(session, words.file, _bytes(words.symbols), _bytes(words.strings))
+    beside = _bytes(words.symbols), _bytes(words.strings)
+    types = open_file(session, words.file, *beside, model=words.model)
     if types.how == "refused":
         _warn(f"{words.file}: its symbol table is not the one that the types were written for:"
               " nothing is told of symbols")
     if words.parent:
-        types.import_parent(open_file(session, words.parent))
+        types.import_parent(open_file(session, words.parent, model=words.model))
     if words.name is None:
         _print_all(types)
     else:
@@ -108,12 +113,13 @@ def _worth_listing(found: Type) -> Type:
 
 
 def _symbol(types: Dictionary, name: str) -> str:
-    """How C declares a symbol; where there is none, the refusal of the type's name is the one."""
+    """How C declares a symbol. Raises Error where nothing is told of one, and says why."""
     try:
         said = types.symbol(name)
-    except NotFound as fault:
+    except (NotFound, Unreadable) as fault:
+        why = fault.name if isinstance(fault, NotFound) else str(fault)
         raise Error(f"{name}: neither a type nor a symbol of which something is told"
-                    f" ({fault.name})") from fault
+                    f" ({why})") from fault
     if types.how == "guessed":
         _warn("the section names no symbol table: that of the file is taken, and if it is not the"
               " one that the types were written for, this is another symbol's")

@@ -4,8 +4,9 @@ from __future__ import annotations
 from typing import Any, Dict, Iterable, List, Optional, Tuple, Union
 
 from . import source, text
-from .faults import BadSymbols, NoMemory, Refused
+from .faults import BadSymbols, NoMemory, Refused, Unreadable
 from .gather import Gathering
+from .model import Model, POINTER_SIZES
 from .source import Source
 from .text import Name
 from .types import PointerTo, QUALIFIERS, Signature, Type
@@ -30,25 +31,27 @@ WORDS = {
 
 
 def open_file(session: Session, path: str, sym: Optional[bytes] = None,
-              strings: Optional[bytes] = None) -> Dictionary:
+              strings: Optional[bytes] = None, model: Optional[Model] = None) -> Dictionary:
     """Opens the dictionary of a file (see `ctfd.source`).
 
-    Where symbols or strings are given, they stand in place of the file's symbols.
+    Where symbols or strings are given, they stand in place of the file's symbols, and a model in
+    place of the file's.
     """
     found = source.read(path)
     if sym is not None or strings is not None:
-        found = Source(found.ctf, sym, found.strings if strings is None else strings, "given")
-    return open_source(session, found)
+        beside = found.strings if strings is None else strings
+        found = found._replace(sym=sym, strings=beside, how="given")
+    return open_source(session, found._replace(model=model or found.model))
 
 
 def open_source(session: Session, found: Source) -> Dictionary:
     """Opens a dictionary. If guessed symbols do not fit it is opened without, and `how` says so."""
     try:
-        opened = session.open(found.ctf, found.sym, found.strings)
+        opened = session.open(found.ctf, found.sym, found.strings, found.model)
     except BadSymbols:
         if found.how != "guessed":
             raise
-        opened = session.open(found.ctf, None, found.strings)
+        opened = session.open(found.ctf, None, found.strings, found.model)
         found = found._replace(sym=None, how="refused")
     return Dictionary(session, opened["d"], found.how)
 
@@ -62,7 +65,8 @@ class Dictionary:
     """Slot `slot` of a session.
 
     `how` tells where its symbols come from, as in `Source`, or "refused" where guessed ones did
-    not fit. A child shares what its parent was answered, so the parent's slot stays open.
+    not fit. `model` is the data model by which the service sizes and shows pointers. A child
+    shares what its parent was answered, so the parent's slot stays open.
     """
 
     def __init__(self, session: Session, slot: int, how: str = "none") -> None:
@@ -76,12 +80,22 @@ class Dictionary:
         self.own: int = info["types"]
         self.parent_name = text.name(info["parname"])
         self.parent_label = text.name(info["parlabel"])
+        self.model: Model = session.ask("model", d=slot)["model"]
 
     def import_parent(self, parent: Dictionary) -> None:
         """Gives a child its parent, a dictionary of the same session."""
         self.session.ask("import", d=self.slot, parent=parent.slot)
         self.parent = parent
         self._answers.clear()
+
+    @property
+    def pointer_size(self) -> int:
+        """How many bytes a pointer of the program has."""
+        return POINTER_SIZES[self.model]
+
+    def address(self, number: int) -> int:
+        """A number as an address of the program, which has no more bits than a pointer."""
+        return number & (1 << 8 * self.pointer_size) - 1
 
     def close(self) -> None:
         self.session.ask("close", d=self.slot)
@@ -183,19 +197,27 @@ class Dictionary:
     # Symbols.
 
     def symbol(self, name: Name) -> Union[Type, Signature]:
-        """What is told of the first symbol of a name: an object's type, a function's signature."""
-        found = self.session.ask("symbol", d=self.slot, name=text.escape(name))
+        """What is told of the first symbol of a name: an object's type, a function's signature.
+
+        Raises Unreadable where the file's symbols are none that the service reads.
+        """
+        found = self._ask_symbols("symbol", name=text.escape(name))
         if found["class"] == "object":
             return self.object(found["sym"])
         return self.function(found["sym"])
 
     def object(self, number: int) -> Type:
         """The type of the object with a number in the symbol table."""
-        return self.type(self.session.ask("object", d=self.slot, sym=number)["t"])
+        return self.type(self._ask_symbols("object", sym=number)["t"])
 
     def function(self, number: int) -> Signature:
         """The signature of the function with a number in the symbol table."""
-        return self.signature(self.session.ask("function", d=self.slot, sym=number))
+        return self.signature(self._ask_symbols("function", sym=number))
+
+    def _ask_symbols(self, op: str, **fields: Any) -> Answer:
+        if self.how == "unread":
+            raise Unreadable("the file's symbol table is one of 32 bits, which is not read")
+        return self.session.ask(op, d=self.slot, **fields)
 
     def signature(self, said: Answer) -> Signature:
         """What `args` or `function` answered, with types."""

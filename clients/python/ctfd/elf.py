@@ -1,17 +1,39 @@
-"""Sections of an ELF file of 64 bits, little-endian."""
+"""Sections of a little-endian ELF file, of 32 bits or of 64."""
 from __future__ import annotations
 
 import struct
-from typing import Iterator, List, NamedTuple, Optional
+from typing import Iterator, List, NamedTuple, Optional, Tuple
 
 from .faults import Unreadable
+from .model import Model
 
 MAGIC = b"\x7fELF"
 NOBITS, SYMTAB, STRTAB, DYNSYM = 8, 2, 3, 11
 COMPRESSED = 0x800
 EXTENDED = 0xFFFF
+ENTRY = 24
 OBJECT, FUNCTION = 1, 2
-SYMBOL = struct.Struct("<IBBHQQ")
+SYMBOL = struct.Struct("<IBBHQQ")  # of 64 bits: the service reads no others
+
+
+class Form(NamedTuple):
+    """How the files of one class are written.
+
+    `sections` is where the header says where the section headers begin, and `counts` where it
+    has the size and number of these, and which section has their names.
+    """
+
+    model: Model
+    address: str
+    sections: int
+    counts: int
+    section: struct.Struct
+
+
+FORMS = {
+    b"\x01": Form("ilp32", "<I", 32, 46, struct.Struct("<10I")),
+    b"\x02": Form("lp64", "<Q", 40, 58, struct.Struct("<IIQQQQIIQQ")),
+}
 
 
 class Section(NamedTuple):
@@ -41,23 +63,30 @@ class Elf:
     def __init__(self, data: bytes, path: str = "the file") -> None:
         self.data = data
         self.path = path
-        self._judge()
+        self.form = self._judged()
         try:
             self.sections = self._sections()
         except (struct.error, IndexError) as error:
             raise Unreadable(f"{path}: an ELF file whose section headers are cut off") from error
 
-    def _judge(self) -> None:
+    def _judged(self) -> Form:
         if self.data[:4] != MAGIC:
             raise Unreadable(f"{self.path}: no ELF file")
         if self.data[5:6] == b"\x02":
             raise Unreadable(f"{self.path}: a big-endian ELF file, which is not read")
-        if self.data[4:6] != b"\x02\x01":
-            raise Unreadable(f"{self.path}: an ELF file of 32 bits, which is not read")
+        form = FORMS.get(self.data[4:5])
+        if form is None or self.data[5:6] != b"\x01":
+            raise Unreadable(f"{self.path}: an ELF file whose header is damaged or cut off")
+        return form
+
+    @property
+    def model(self) -> Model:
+        """The data model of the program."""
+        return self.form.model
 
     def _sections(self) -> List[Section]:
-        (start,) = struct.unpack_from("<Q", self.data, 40)
-        size, count, names = struct.unpack_from("<HHH", self.data, 58)
+        start = self._address(self.form.sections)
+        size, count, names = struct.unpack_from("<HHH", self.data, self.form.counts)
         if not start:
             return []
         first = self._header(start)
@@ -69,8 +98,13 @@ class Elf:
         strings = self._cut(headers[names][4], headers[names][5]) if names else b""
         return [Section(_text(strings, h[0]), h[1], h[2], h[4], h[5], h[6], h[3]) for h in headers]
 
-    def _header(self, offset: int) -> tuple:
-        return struct.unpack_from("<IIQQQQIIQQ", self.data, offset)
+    def _header(self, offset: int) -> Tuple[int, ...]:
+        return self.form.section.unpack_from(self.data, offset)
+
+    def _address(self, offset: int) -> int:
+        """The address or offset that stands somewhere in the file."""
+        found: int = struct.unpack_from(self.form.address, self.data, offset)[0]
+        return found
 
     def _cut(self, offset: int, size: int) -> bytes:
         if offset + size > len(self.data):
@@ -85,7 +119,7 @@ class Elf:
     @property
     def entry(self) -> int:
         """The address at which the program begins."""
-        return int.from_bytes(self.data[24:32], "little")
+        return self._address(ENTRY)
 
     def named(self, name: str) -> Optional[Section]:
         """The first section of a name."""
@@ -106,7 +140,7 @@ class Elf:
 
 
 def symbols(table: bytes, strings: bytes) -> Iterator[Symbol]:
-    """The functions and objects of a symbol table that have a name and a section."""
+    """The functions and objects of a table of 64 bits that have a name and a section."""
     for number, (name, info, _, section, value, _) in enumerate(SYMBOL.iter_unpack(
             table[:len(table) // SYMBOL.size * SYMBOL.size])):
         if name and section and info & 15 in (OBJECT, FUNCTION):

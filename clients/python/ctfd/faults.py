@@ -13,7 +13,7 @@ class Gone(Error):
 
 
 class Unreadable(Error):
-    """A file is nothing that can be handed in; the text says what it is instead."""
+    """A file or its symbol table is nothing that can be handed in; the text says what it is."""
 
 
 class Refused(Error):
@@ -115,9 +115,12 @@ ADVICE: Dict[str, str] = {
     "DeclDeep": "a declaration goes on for more than 512 steps: no C program has that",
     "BadFuncs": "is this the symbol table that the section was written for? Else leave it out",
     "BadSymbolType": "is this the symbol table that the section was written for? Else leave it out",
-    "BadSymtab": "a symbol table is a list of 24 bytes each: this is none, or it is cut off",
+    "BadSymtab": "a symbol table is a list of 24 bytes each: this is none, or it is cut off, or it"
+    " is one of 32 bits, which is not read",
     "NotChild": "the dictionary names no parent and needs none: were the two swapped?",
     "ParentIsChild": "a parent has no parent itself: is this the file that the child names?",
+    "ModelDiffers": "child and parent are of programs whose pointers differ in size: open both with"
+    " the data model of the one that they belong to",
     "ParentShort": "the child names more types than this parent has: it is not its parent",
     "NoParent": "open the parent's file too and import it",
     "NoType": "no type has this number",

@@ -1,4 +1,4 @@
-"""Linked lists, followed from a head: the links first, eight bytes each, then all nodes at once."""
+"""Linked lists, followed from a head: the links first, a pointer each, then all nodes at once."""
 from __future__ import annotations
 
 from dataclasses import dataclass
@@ -9,8 +9,6 @@ from .operands import BadExpression, Located, Operand, Steps
 from .parse import Value
 from .types import Type
 from .values import AGGREGATES, Bounds, Wanted, values
-
-POINTER = 8
 
 
 class Node(NamedTuple):
@@ -60,7 +58,7 @@ def follow(steps: Steps, head: Operand, member: str, inside: Optional[Type],
     seen: Dict[int, int] = {}
     at, lost = chain.first, None
     while at and at != chain.end and at not in seen and len(seen) < bounds.elements:
-        following = _pointer(steps, at + chain.link)
+        following = _pointer(steps, chain.type, at + chain.link)
         if following is None:
             lost = at + chain.link
             break
@@ -95,16 +93,17 @@ def _embedded(steps: Steps, head: Operand, member: str, inside: Type) -> Chain:
     following = link.address
     if link.type.resolved.kind in AGGREGATES:
         following = steps.member(link, "next").address
-    first = _pointer(steps, end + following - link.address)
+    first = _pointer(steps, inside, end + following - link.address)
     if first is None:
         raise BadExpression(f"the list's head at 0x{end:x} can't be read")
     return Chain(inside, first, following - link.address, link.address, end)
 
 
-def _pointer(steps: Steps, address: int) -> Optional[int]:
-    """The pointer at an address, None where it can't be read."""
+def _pointer(steps: Steps, node: Type, address: int) -> Optional[int]:
+    """The pointer at an address, as those of a node's program are; None where none can be read."""
+    size = node.dictionary.pointer_size
     try:
-        data = steps.target.read(address, POINTER)
+        data = steps.target.read(address, size)
     except Error:
         return None
-    return int.from_bytes(data, "little") if len(data) == POINTER else None
+    return int.from_bytes(data, "little") if len(data) == size else None

@@ -10,8 +10,6 @@ from .parse import Leaf, Value
 from .types import FunctionOf, PointerTo, Signature, Type
 from .values import AGGREGATES, Bounds, Wanted, value, values
 
-ADDRESS = (1 << 64) - 1
-
 
 class BadExpression(Error):
     """An expression that is not C, or asks for what its types do not allow."""
@@ -39,7 +37,15 @@ class Code(NamedTuple):
     address: int
 
 
-Operand = Union[Located, Number, Code]
+class Untold(NamedTuple):
+    """A symbol whose address is known, and not its type; `why` says what hinders that."""
+
+    name: str
+    address: int
+    why: str
+
+
+Operand = Union[Located, Number, Code, Untold]
 
 
 class Target(Protocol):
@@ -69,7 +75,7 @@ class Steps:
         if isinstance(operand, Located):
             wanted = Wanted(operand.type, operand.address, operand.bit)
             return values([wanted], self.target.read, bounds)[0]
-        if isinstance(operand, Code) or operand.type is None:
+        if isinstance(operand, (Code, Untold)) or operand.type is None:
             return Leaf(str(self.number(operand)))
         size = operand.type.size or 8
         memory = (operand.number & (1 << 8 * size) - 1).to_bytes(size, "little")
@@ -79,7 +85,7 @@ class Steps:
         """A pointer or number, out of memory; an array or function as a pointer to it."""
         if isinstance(operand, Number):
             return operand
-        if isinstance(operand, Code):
+        if isinstance(operand, (Code, Untold)):
             return self.address(operand)
         kind = operand.type.resolved.kind
         if kind == "array":
@@ -97,13 +103,15 @@ class Steps:
         target = pointer.type.resolved if pointer.type else None
         if target is None or target.kind != "pointer":
             raise BadExpression("only a pointer can be followed: cast it, as (TYPE *) EXPR")
-        return Located(target.reference.gather(), pointer.number & ADDRESS)
+        return Located(target.reference.gather(), target.dictionary.address(pointer.number))
 
     def address(self, operand: Operand) -> Number:
         """A pointer to a place."""
         if isinstance(operand, Code):
             told = operand.signature
             return Number(PointerTo(FunctionOf(told)) if told else None, operand.address)
+        if isinstance(operand, Untold):
+            return Number(None, operand.address)
         if isinstance(operand, Number):
             raise BadExpression("only what lies in memory has an address")
         if operand.bit or operand.type.bit_field:
@@ -122,7 +130,8 @@ class Steps:
         except KeyError:
             raise BadExpression(f"there is no member named {name}") from None
         bits = whole.bit + found.offset
-        return Located(found.type, whole.address + bits // 8 & ADDRESS, bits % 8)
+        address = whole.type.dictionary.address(whole.address + bits // 8)
+        return Located(found.type, address, bits % 8)
 
     def moved(self, operand: Operand, steps: int) -> Number:
         """A pointer moved by elements, a number by ones."""
@@ -133,7 +142,8 @@ class Steps:
         size = 1 if pointer.reference.resolved.kind == "void" else pointer.reference.size
         if not size:
             raise BadExpression(f"{declaration(pointer.reference)} has no size")
-        return start._replace(number=start.number + steps * size & ADDRESS)
+        address = pointer.dictionary.address(start.number + steps * size)
+        return start._replace(number=address)
 
     def element(self, operand: Operand, number: int) -> Located:
         """An element of an array, or behind a pointer."""

@@ -8,6 +8,7 @@ from . import elf, source
 from .dictionary import Dictionary, open_source
 from .elf import Elf, Symbol
 from .faults import Error, NotFound
+from .model import Model
 from .operands import Code, Located, Operand
 from .wire import Session
 
@@ -48,15 +49,15 @@ class Program:
         raise refused
 
 
-def open_program(session: Session, path: str) -> Program:
-    """Opens the dictionary of a file."""
+def open_program(session: Session, path: str, model: Optional[Model] = None) -> Program:
+    """Opens the dictionary of a file; `model` is that of a section by itself."""
     try:
         with open(path, "rb") as file:
             data = file.read()
     except OSError as error:
         raise Error(f"{path}: {error.strerror}") from error
     found = source.of_bytes(data, path)
-    types = open_source(session, found)
+    types = open_source(session, found._replace(model=found.model or model))
     program = Program(path, types, Elf(data, path) if data[:4] == elf.MAGIC else None)
     if found.sym and found.strings and types.how != "refused":
         for symbol in elf.symbols(found.sym, found.strings):

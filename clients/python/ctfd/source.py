@@ -12,6 +12,7 @@ from typing import NamedTuple, Optional, Tuple
 from . import elf
 from .elf import Elf, Section
 from .faults import Unreadable
+from .model import Model
 
 HEADER = 36
 LONGEST = 16_777_216
@@ -21,17 +22,20 @@ ADVICE = "make CTF of version 2 from the program's DWARF, as illumos' ctfconvert
 
 
 class Source(NamedTuple):
-    """The lists of a dictionary.
+    """The lists of a dictionary, and the data model of its program.
 
     `how` tells where `sym` and `strings` come from: "linked", named by the section itself;
     "guessed", the file's symbol table, which may not be the one that the section was written for;
-    "given", handed in by the caller; or "none".
+    "given", handed in by the caller; or "none". It is "unread" where the file's symbol table is
+    one of 32 bits: the service does not read it, and only the strings are there. `model` is None
+    where nothing tells it, as with a section by itself.
     """
 
     ctf: bytes
     sym: Optional[bytes] = None
     strings: Optional[bytes] = None
     how: str = "none"
+    model: Optional[Model] = None
 
 
 def read(path: str) -> Source:
@@ -109,8 +113,8 @@ def _of_elf(file: Elf) -> Source:
     if section is None:
         raise Unreadable(f"{file.path}: an ELF file without {' or '.join(SECTIONS)}: compile it"
                          " with debug information and let a tool such as ctfconvert add one")
-    sym, strings, how = _symbols(file, section)
-    return Source(plain(file.bytes(section), f"{file.path}, {section.name}"), sym, strings, how)
+    ctf = plain(file.bytes(section), f"{file.path}, {section.name}")
+    return Source(ctf, *_symbols(file, section), file.model)
 
 
 def _symbols(file: Elf, section: Section) -> Tuple[Optional[bytes], Optional[bytes], str]:
@@ -123,4 +127,6 @@ def _symbols(file: Elf, section: Section) -> Tuple[Optional[bytes], Optional[byt
     strings = file.numbered(table.link) if table else None
     if table is None or strings is None:
         return None, None, "none"
+    if file.model == "ilp32":
+        return None, file.bytes(strings), "unread"
     return file.bytes(table), file.bytes(strings), how

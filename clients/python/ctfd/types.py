@@ -10,7 +10,6 @@ if TYPE_CHECKING:
     from .dictionary import Dictionary
 
 QUALIFIERS = ("const", "volatile", "restrict")
-POINTER_SIZE = 8
 
 
 class Member(NamedTuple):
@@ -210,7 +209,6 @@ class PointerTo(Type):
     """A pointer that the dictionary has no type for, made here."""
 
     kind, name, tag = "pointer", "", ""  # type: ignore[assignment]
-    size = align = POINTER_SIZE  # type: ignore[assignment]
     is_root = False  # type: ignore[assignment]
 
     def __init__(self, target: Type) -> None:
@@ -219,6 +217,14 @@ class PointerTo(Type):
 
     def _identity(self) -> Tuple[Any, ...]:
         return ("*", *self.target._identity(), type(self.target))
+
+    @property
+    def size(self) -> int:
+        return self.dictionary.pointer_size
+
+    @property
+    def align(self) -> int:
+        return self.dictionary.pointer_size
 
     def _ask(self, op: str) -> Any:
         fault = {"code": 30, "name": "WrongKind", "place": 0}  # as the service says of a pointer
@@ -243,7 +249,7 @@ class FunctionOf(Type):
     """The type of a function by a symbol's signature, made here."""
 
     kind, name, tag = "function", "", ""  # type: ignore[assignment]
-    size = align = 0  # type: ignore[assignment]
+    size = 0  # type: ignore[assignment]
     is_root = False  # type: ignore[assignment]
 
     def __init__(self, signature: Signature) -> None:
@@ -252,6 +258,11 @@ class FunctionOf(Type):
 
     def _identity(self) -> Tuple[Any, ...]:
         return "()", id(self.told)
+
+    @property
+    def align(self) -> int:
+        """That of a pointer, as the service says of any function."""
+        return self.dictionary.pointer_size
 
     def gather(self) -> Type:
         return self

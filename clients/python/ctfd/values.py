@@ -125,14 +125,17 @@ class Reading:
             piece.put(self._characters(piece, t))
             return False
         if isinstance(t, PointerTo):
-            data = self._memory(piece, 8)
-            short = len(data) < 8
-            piece.put(Lost("ShortMemory") if short else Leaf(f"0x{data[::-1].hex()}"))
+            piece.put(self._pointer(piece, t.size))
             return False
         if self._is_split(t):
             refused.append((piece, "TooLong"))
             return False
         return True
+
+    def _pointer(self, piece: Piece, size: int) -> Value:
+        """A pointer that the service has no type for, as `show` would show it."""
+        data = self._memory(piece, size)
+        return Lost("ShortMemory") if len(data) < size else Leaf(f"0x{data[::-1].hex()}")
 
     def _characters(self, piece: Piece, t: Type) -> Value:
         """The bytes themselves: `show` would spell each as a number."""

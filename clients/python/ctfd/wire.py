@@ -15,7 +15,10 @@ from types import TracebackType
 from typing import (Any, Deque, Dict, Iterable, List, NoReturn, Optional, Sequence, Tuple, Type,
                     Union)
 
+from . import text
 from .faults import Error, Gone, Refused, refused
+from .model import Model
+from .text import Name
 
 Answer = Dict[str, Any]
 Request = Tuple[str, Dict[str, Any]]
@@ -210,16 +213,17 @@ class Session:
             raise outcome
         return outcome
 
-    def open(self, ctf: bytes, sym: Optional[bytes] = None,
-             strings: Optional[bytes] = None) -> Answer:
+    def open(self, ctf: bytes, sym: Optional[bytes] = None, strings: Optional[bytes] = None,
+             model: Optional[Model] = None) -> Answer:
         """Hands in the lists of a dictionary and opens it, in one round: `d` and `types`.
 
-        The stage is cleared first, and once more where the dictionary is refused.
+        Without a model it is "lp64". The stage is cleared first, and once more where the
+        dictionary is refused.
         """
         requests: List[Request] = [("clear", {})]
         for section, data in (("ctf", ctf), ("sym", sym), ("str", strings)):
             requests += _parts(section, data)
-        outcomes = self.ask_all([*requests, ("open", {})])
+        outcomes = self.ask_all([*requests, ("open", _given(model=model))])
         opened = outcomes[-1]
         fault = next((o for o in outcomes if isinstance(o, Refused)), None)
         if isinstance(opened, Refused) or fault:
@@ -228,6 +232,16 @@ class Session:
             self.ask("clear")
             raise fault or Error("open was refused")
         return opened
+
+    def create(self, parent: Optional[int] = None, parname: Name = "", parlabel: Name = "",
+               model: Optional[Model] = None) -> Answer:
+        """Makes a slot of a new draft: `d`.
+
+        A draft over the dictionary of a slot `parent` needs a `parname`. Without a model it is
+        of its parent's, and without a parent of "lp64".
+        """
+        named = {"parname": text.escape(parname), "parlabel": text.escape(parlabel)}
+        return self.ask("create", **named, **_given(parent=parent, model=model))
 
 
 def _started(command: Sequence[str]) -> "subprocess.Popen[bytes]":
@@ -241,6 +255,11 @@ def _started(command: Sequence[str]) -> "subprocess.Popen[bytes]":
 def _line(session: int, op: str, fields: Answer) -> bytes:
     request = {"s": session, "op": op, **fields}
     return json.dumps(request, separators=(",", ":")).encode("ascii") + b"\n"
+
+
+def _given(**fields: Any) -> Answer:
+    """The fields that are not None: in a request null is not the same as absent."""
+    return {name: value for name, value in fields.items() if value is not None}
 
 
 def _outcome(reply: Answer, op: str, fields: Answer) -> Outcome:

@@ -8,9 +8,10 @@ import struct
 import subprocess
 import unittest
 from pathlib import Path
-from typing import List, Optional
+from typing import List, Optional, Sequence
 
 import ctfd
+from ctfd.model import Model
 
 EXAMPLES = Path(__file__).resolve().parents[3] / "examples"
 COMMAND = Path(__file__).resolve().parents[1] / "ctfd-types"
@@ -18,6 +19,12 @@ PROGRAM = os.environ.get("CTFD", "")
 TOOLS = all(shutil.which(tool) for tool in ("gcc", "objcopy"))
 
 INTEGER, POINTER, ARRAY, FUNCTION, STRUCT, UNION, ENUM, CONST = 1, 3, 4, 5, 6, 7, 8, 12
+
+
+def compiles(*options: str) -> bool:
+    """Whether gcc makes object files with some options."""
+    command = ["gcc", *options, "-c", "-x", "c", "/dev/null", "-o", "/dev/null"]
+    return TOOLS and subprocess.run(command, capture_output=True).returncode == 0
 
 
 class WithService(unittest.TestCase):
@@ -30,8 +37,8 @@ class WithService(unittest.TestCase):
         self.addCleanup(self.client.close)
         self.session = self.client.session()
 
-    def opened(self, ctf: bytes) -> ctfd.Dictionary:
-        return ctfd.open_source(self.session, ctfd.Source(ctf))
+    def opened(self, ctf: bytes, model: Optional[Model] = None) -> ctfd.Dictionary:
+        return ctfd.open_source(self.session, ctfd.Source(ctf, model=model))
 
     def example(self, name: str, symbols: bool = False) -> ctfd.Dictionary:
         """A dictionary of the examples, with its .sym and .str where symbols are wanted."""
@@ -74,13 +81,14 @@ def member(name: int, t: int, offset: int) -> bytes:
     return struct.pack("<IHH", name, t, offset)
 
 
-def object_file(folder: str, ctf: bytes, section: str = ".SUNW_ctf", code: str = "") -> Path:
+def object_file(folder: str, ctf: bytes, section: str = ".SUNW_ctf", code: str = "",
+                options: Sequence[str] = ()) -> Path:
     """An object file of gcc with a section added by objcopy."""
     place = Path(folder)
     (place / "code.c").write_text(code)
     (place / "section").write_bytes(ctf)
     made = place / "code.o"
-    subprocess.run(["gcc", "-c", str(place / "code.c"), "-o", str(made)], check=True)
+    subprocess.run(["gcc", *options, "-c", str(place / "code.c"), "-o", str(made)], check=True)
     added = f"{section}={place / 'section'}"
     subprocess.run(["objcopy", "--add-section", added, str(made)], check=True)
     return made

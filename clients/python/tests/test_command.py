@@ -3,7 +3,8 @@ import tempfile
 import unittest
 from pathlib import Path
 
-from .support import EXAMPLES, PROGRAM, TOOLS, dictionary, integer, object_file, run, staged
+from .support import (EXAMPLES, PROGRAM, TOOLS, compiles, dictionary, integer, object_file, run,
+                      staged)
 from .test_listing import DEBUG, MATCH
 
 LUA = str(EXAMPLES / "lua.ctf")
@@ -44,6 +45,16 @@ class Command(unittest.TestCase):
         told = self.told(*beside, LUA, "closepaux")
         self.assertEqual(told, "void closepaux(lua_State *, void *);\n")
 
+    def test_a_model(self) -> None:
+        for words, size in (((), 8), (("--model", "lp64"), 8), (("--model", "ilp32"), 4)):
+            lines = self.told(*words, LUA).splitlines()
+            self.assertEqual(lines[59], f"    60 {size:>8}  struct lua_State *")
+
+    def test_a_model_that_is_none(self) -> None:
+        done = run("--model", "lp32", LUA)
+        self.assertEqual((done.returncode, done.stdout), (2, ""))
+        self.assertIn("argument --model", done.stderr)
+
     def test_a_child(self) -> None:
         with tempfile.TemporaryDirectory() as folder:
             for name, ctf in zip(("parent", "child"), staged("parent.jsonl")):
@@ -51,6 +62,8 @@ class Command(unittest.TestCase):
             child, parent = f"{folder}/child", f"{folder}/parent"
             told = self.told("--parent", parent, child)
             self.assertEqual(told, " 32769        8  struct point *\n")
+            told = self.told("--model", "ilp32", "--parent", parent, child)
+            self.assertEqual(told, " 32769        4  struct point *\n")
             self.assertEqual(self.told(child), " 32769        8  (NoParent)\n")
             self.assertIn("NotChild", self.refused("--parent", child, parent))
 
@@ -59,6 +72,22 @@ class Command(unittest.TestCase):
         with tempfile.TemporaryDirectory() as folder:
             made = object_file(folder, Path(LUA).read_bytes())
             self.assertEqual(self.told(str(made), "lua_Debug"), DEBUG + "\n")
+
+    @unittest.skipUnless(compiles("-m32"), "no gcc with -m32, or no objcopy, here")
+    def test_an_object_file_of_32_bits(self) -> None:
+        with tempfile.TemporaryDirectory() as folder:
+            made = str(object_file(folder, Path(LUA).read_bytes(), options=["-m32"]))
+            self.assertIn("    60        4  struct lua_State *\n", self.told(made))
+            self.assertIn("    60        8  struct lua_State *\n",
+                          self.told("--model", "lp64", made))
+            said = self.refused(made, "closepaux")
+            self.assertIn("closepaux: neither a type nor a symbol of which something is told", said)
+            self.assertIn("symbol table is one of 32 bits, which is not read", said)
+            self.assertIn("ModelDiffers", self.refused("--parent", LUA, self.child_of_32(folder)))
+
+    def child_of_32(self, folder: str) -> str:
+        """A file of 32 bits whose dictionary is a child."""
+        return str(object_file(folder, staged("parent.jsonl")[1], options=["-m32"]))
 
     def test_what_is_refused(self) -> None:
         self.assertIn("nothing: neither a type nor a symbol", self.refused(LUA, "nothing"))

@@ -11,7 +11,7 @@ from ctfd.program import Program, open_program
 from ctfd.types import Type
 
 from .support import EXAMPLES, WithService
-from .test_source import LUA
+from .test_source import BITS_32, LUA
 from .test_source import elf as file_of
 
 SYMBOLS, STRINGS = ((EXAMPLES / f"lua.{suffix}").read_bytes() for suffix in ("sym", "str"))
@@ -63,6 +63,11 @@ class Lua(WithService):
     def test_a_section_by_itself(self) -> None:
         program = self.opened(LUA)
         self.assertEqual((program.image, program.symbols, program.text), (None, {}, None))
+
+    def test_a_program_of_32_bits_says_its_model_and_has_no_symbols(self) -> None:
+        program = self.opened(file_of(LUA, 2, SYMBOLS, STRINGS, BITS_32))
+        self.assertEqual((program.types.model, program.types.how), ("ilp32", "unread"))
+        self.assertEqual(program.symbols, {})
 
     def test_symbols_that_do_not_fit_are_not_used(self) -> None:
         program = self.opened(file_of(LUA, 0, bytes(23), b"\0"))

@@ -3,32 +3,50 @@ import struct
 import tempfile
 import unittest
 import zlib
+from typing import NamedTuple
 
 import ctfd
 from ctfd import source
+from ctfd.elf import Elf
 
-from .support import EXAMPLES, TOOLS, WithService, object_file
+from .support import (EXAMPLES, POINTER, TOOLS, WithService, compiles, dictionary, integer,
+                      object_file, record)
 
 LUA = (EXAMPLES / "lua.ctf").read_bytes()
+ENTRY = 0x1234
 
 
 def compressed(ctf: bytes, body: bytes = b"") -> bytes:
     return ctf[:3] + b"\x01" + ctf[4:36] + zlib.compress(body or ctf[36:])
 
 
-def elf(ctf: bytes, link: int = 2, sym: bytes = b"", strings: bytes = b"\0") -> bytes:
+class Shape(NamedTuple):
+    """How the headers of a class of ELF files are packed."""
+
+    number: int
+    header: struct.Struct
+    section: struct.Struct
+
+
+BITS_64 = Shape(2, struct.Struct("<HHIQQQIHHHHHH"), struct.Struct("<IIQQQQIIQQ"))
+BITS_32 = Shape(1, struct.Struct("<HHIIIIIHHHHHH"), struct.Struct("<10I"))
+
+
+def elf(ctf: bytes, link: int = 2, sym: bytes = b"", strings: bytes = b"\0",
+        shape: Shape = BITS_64) -> bytes:
     """An ELF file of the sections .SUNW_ctf, .symtab and .strtab, which has all names."""
     names = b"\0.SUNW_ctf\0.symtab\0.strtab\0"
     listed = [(0, 0, b"", 0), (1, 1, ctf, link), (11, 2, sym, 3), (19, 3, strings, 0),
               (19, 3, names, 0)]
     body, headers = b"", b""
+    first = 16 + shape.header.size
     for name, kind, data, linked in listed:
-        start = 64 + len(body)
-        headers += struct.pack("<IIQQQQIIQQ", name, kind, 0, 0, start, len(data), linked, 0, 0, 0)
+        start = first + len(body)
+        headers += shape.section.pack(name, kind, 0, 0, start, len(data), linked, 0, 0, 0)
         body += data
-    rest = struct.pack("<HHIQQQIHHHHHH", 1, 62, 1, 0, 0, 64 + len(body), 0, 64, 0, 0, 64,
-                       len(listed), 4)
-    return b"\x7fELF\x02\x01\x01" + bytes(9) + rest + body + headers
+    rest = shape.header.pack(1, 62, 1, ENTRY, 0, first + len(body), 0, first, 0, 0,
+                             shape.section.size, len(listed), 4)
+    return b"\x7fELF" + bytes([shape.number, 1, 1]) + bytes(9) + rest + body + headers
 
 
 class Inflating(unittest.TestCase):
@@ -67,7 +85,8 @@ class Foreign(unittest.TestCase):
         self.told(b"", "begins with nothing")
         self.told(b"#!/bin/sh", "begins with 23212f62")
         self.told(b"\x7fELF\x02\x02" + bytes(60), "big-endian ELF")
-        self.told(b"\x7fELF\x01\x01" + bytes(60), "32 bits")
+        for damaged in (b"", b"\x02", b"\x03\x01", b"\x01\x03"):
+            self.told(b"\x7fELF" + damaged, "header is damaged or cut off")
 
     def test_a_foreign_section_in_an_elf_file(self) -> None:
         self.told(elf(b"\xf2\xdf\x04\0" + bytes(60)), "SUNW_ctf: GNU CTF")
@@ -80,17 +99,45 @@ class Foreign(unittest.TestCase):
 class ElfFiles(WithService):
     def test_strings_and_symbols_by_the_link(self) -> None:
         whole = source.of_bytes(elf(LUA, 2, bytes(24), b"\0s\0"))
-        self.assertEqual(whole, ctfd.Source(LUA, bytes(24), b"\0s\0", "linked"))
+        self.assertEqual(whole, ctfd.Source(LUA, bytes(24), b"\0s\0", "linked", "lp64"))
         only = source.of_bytes(elf(LUA, 3, bytes(24), b"\0s\0"))
-        self.assertEqual(only, ctfd.Source(LUA, None, b"\0s\0", "linked"))
+        self.assertEqual(only, ctfd.Source(LUA, None, b"\0s\0", "linked", "lp64"))
         guess = source.of_bytes(elf(LUA, 0, bytes(24), b"\0s\0"))
-        self.assertEqual(guess, ctfd.Source(LUA, bytes(24), b"\0s\0", "guessed"))
+        self.assertEqual(guess, ctfd.Source(LUA, bytes(24), b"\0s\0", "guessed", "lp64"))
+        self.assertEqual(source.of_bytes(LUA), ctfd.Source(LUA))
+
+    def test_symbols_of_32_bits_are_left_out_and_their_strings_are_not(self) -> None:
+        for link in (0, 2):
+            found = source.of_bytes(elf(LUA, link, bytes(16), b"\0s\0", BITS_32))
+            self.assertEqual(found, ctfd.Source(LUA, None, b"\0s\0", "unread", "ilp32"))
+        only = source.of_bytes(elf(LUA, 3, bytes(16), b"\0s\0", BITS_32))
+        self.assertEqual(only, ctfd.Source(LUA, None, b"\0s\0", "linked", "ilp32"))
+
+    def test_a_file_of_32_bits(self) -> None:
+        """int *, and the name of int in the strings of the file's symbol table."""
+        ctf = dictionary([integer(0x8000_0001), record(POINTER, 0, 1)])
+        slot = ctfd.open_source(self.session, source.of_bytes(
+            elf(ctf, 2, bytes(16), b"\0int\0", BITS_32)))
+        self.assertEqual((slot.model, slot.how), ("ilp32", "unread"))
+        self.assertEqual((slot.type(1).name, slot.type(2).size), ("int", 4))
+        with self.assertRaisesRegex(ctfd.Unreadable, "one of 32 bits, which is not read"):
+            slot.symbol("main")
+        for ask in (slot.object, slot.function):
+            self.assertRaises(ctfd.Unreadable, ask, 1)
 
     def test_a_file_that_is_cut_off_anywhere(self) -> None:
-        whole = elf(LUA[:60], 2, bytes(24), b"\0s\0")
-        for length in range(len(whole)):
-            with self.assertRaises(ctfd.Unreadable):
-                source.of_bytes(whole[:length])
+        for shape in (BITS_32, BITS_64):
+            whole = elf(LUA[:60], 2, bytes(24), b"\0s\0", shape)
+            for length in range(len(whole)):
+                with self.assertRaises(ctfd.Unreadable):
+                    source.of_bytes(whole[:length])
+
+    def test_a_header(self) -> None:
+        for shape, model in ((BITS_32, "ilp32"), (BITS_64, "lp64")):
+            file = Elf(elf(LUA, shape=shape))
+            self.assertEqual((file.model, file.entry, file.is_fixed), (model, ENTRY, False))
+            self.assertEqual([section.name for section in file.sections],
+                             ["", ".SUNW_ctf", ".symtab", ".strtab", ".strtab"])
 
     def test_symbols_answer_by_name(self) -> None:
         sym, strings = ((EXAMPLES / f"lua.{s}").read_bytes() for s in ("sym", "str"))
@@ -116,6 +163,15 @@ class ElfFiles(WithService):
                 self.assertEqual((found.ctf, found.how), (LUA, "guessed"))
                 slot = ctfd.open_source(self.session, found)
                 self.assertEqual(slot.find("struct lua_State").size, 200)
+
+    @unittest.skipUnless(compiles("-m32"), "no gcc with -m32, or no objcopy, here")
+    def test_an_object_file_of_32_bits(self) -> None:
+        with tempfile.TemporaryDirectory() as folder:
+            made = object_file(folder, LUA, code="int counter;", options=["-m32"])
+            found = source.read(str(made))
+        self.assertEqual((found.ctf, found.sym, found.how, found.model),
+                         (LUA, None, "unread", "ilp32"))
+        self.assertIn(b"\0counter\0", found.strings or b"")
 
     @unittest.skipUnless(TOOLS, "no gcc or objcopy here")
     def test_an_object_file_without_a_section(self) -> None:
