@@ -6,7 +6,7 @@ ghost use Rattle.ctf_library.specs.SlotView.{slot_of};
 ghost use Rattle.ctf_model.specs.rules.Refusals.{want_of_memory, placeless as refusal};
 ghost use Rattle.ctf_model.specs.declared.faults.TheConstants.Fault.{NO_SLOT};
 ghost use Rattle.ctf_protocol.specs.declared.requests.DraftStep.TheVariants.{Discard};
-ghost use Rattle.ctf_protocol.specs.sessions.Steps.{adds_created, answer_to, change_step, checks, clears, closes, creates, has_room as room_in, imports, is_quiet, is_quiet_change, MayAnswer, opens, outcome_of, parts, publishes, publishes_kept, resets, slot_at, steps_draft, takes};
+ghost use Rattle.ctf_protocol.specs.sessions.Steps.{adds_created, answer_to, change_step, checks, clears, closes, creates, has_room as room_in, imports, is_quiet, is_quiet_change, MayAnswer, opens, outcome_of, parts, publishes, publishes_kept, resets, slot_at, steps_draft, takes, withdraws};
 ghost use Rattle.ctf_library.specs.Stepping.{Does, Makes};
 ghost use Rattle.ctf_library.specs.Telling.{makes_text};
 
@@ -106,6 +106,7 @@ impl Library {
             Change::Close { d } => self.close(d.get()),
             Change::Import { d, parent } => self.import(d.get(), parent.get()),
             Change::Publish { d, name } => self.publish(d.get(), name),
+            Change::Withdraw { name } => self.withdraw(name),
             Change::Take { .. } => self.take(found),
             Change::Create(creation) => self.create(creation),
             Change::Draft { d, step } => self.step_draft(d.get(), step),
@@ -247,6 +248,16 @@ impl Library {
             return Err(placeless(Fault::MEMORY));
         }
         self.published.push_reserved(Publication { name, loaded });
+        Ok(Counts::done())
+    }
+
+    fn withdraw(&mut self, name: &PublicationName) -> Result<Counts, Fault>
+        ensures { Does (withdraws name.now self.old) result self.new }
+    {
+        if self.published(name.as_slice()).is_none() {
+            return Err(placeless(Fault::NOT_PUBLISHED));
+        }
+        self.published.retain(|publication| publication.name.as_slice() != name.as_slice());
         Ok(Counts::done())
     }
 

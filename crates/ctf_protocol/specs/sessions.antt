@@ -3,6 +3,7 @@ pub mod Publications
 pub mod Creations
 pub mod Additions
 pub mod DraftSteps
+pub mod Charges
 pub mod Steps
 pub mod Runs
 pub mod SessionLaws
