@@ -5,6 +5,7 @@ pub mod Additions
 pub mod DraftSteps
 pub mod Charges
 pub mod Steps
+pub mod ChargeLaws
 pub mod Runs
 pub mod SessionLaws
 pub mod ParentRows

@@ -17,4 +17,4 @@ use Rattle.ctf_protocol.proofs.rows.sessions_meet.Goals as goal
 
 pub returns : goal.returns
 unfolding number denoted said_by labels_in terms_in first_fault rules types first_nameless label_sites item_sites record_sites sites bad_name is_misnaming first_misnaming bad_reference first_deep edges_by edges within term_of front_len walk change_step charge digits name_of_fault fitting_line bad_funcs bad_symbol_type symbols symbols_in entries entries_of function_sites function_sites_of
-returns c = record { done = refl; no_slot = refl; found = refl; same_dictionary = refl; other_name = refl; other_owner = refl; too_early = refl; twice = refl; reset_stays = refl; taker_keeps = refl; left_out = refl }
+returns c = record { done = refl; no_slot = refl; found = refl; same_dictionary = refl; other_name = refl; other_owner = refl; too_early = refl; twice = refl; reset_stays = refl; taker_keeps = refl; withdraws = refl; published_no_more = refl; once = refl; owners_alone = refl; again = refl; earlier_takers_keep = refl; left_out = refl }
