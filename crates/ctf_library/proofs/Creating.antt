@@ -1,7 +1,9 @@
 -- What a create comes to.
-use Rattle.std.proofs.Common.{◌≡◌, ℕ, Option, Some, None, Result, Ok, Err, true, is_some, refl, ap, sym, ◌∙◌, ◌⊎◌, inl, inr}
+use Rattle.std.proofs.Common.{◌≡◌, ◌+◌, ℕ, List, subst, arith, Option, Some, None, Result, Ok, Err, true, is_some, refl, ap, sym, ◌∙◌, ◌⊎◌, inl, inr}
 use Rattle.std.specs.Prelude.{option_map, option_and_then}
 use Rattle.ctf_library.specs.Drafting.{IsWritten}
+use Rattle.ctf_library.specs.Quotas.{IsUncreated, IsUnwritten}
+use Rattle.ctf_protocol.specs.sessions.Charges.{parent_bytes}
 use Rattle.ctf_protocol.specs.sessions.Creations.{Created}
 use Rattle.ctf_protocol.specs.sessions.DraftSteps.{created_slot, model_made, slot_of_draft, updated_slot}
 use Rattle.ctf_model.specs.drafts.Drafts.{Draft, held, new_draft, settled}
@@ -27,13 +29,19 @@ created_done n above asked d kept made w =
 pub created_as : (n : ℕ) (above parent : Option Kept) (asked : Created) (d now : Draft) (kept : Kept) → MadeOf above asked ≡ Ok d → IsWritten d kept → parent ≡ above → now ≡ settled d → created_slot n above asked ≡ Ok (record { number = n; kept = kept; parent = parent; draft = Some now })
 created_as n above parent asked d now kept made w same settles = rw (same, settles) (created_done n above asked d kept made w)
 
-pub created_unwritten : (n : ℕ) (above : Option Kept) (asked : Created) (d : Draft) (f : Fault) → MadeOf above asked ≡ Ok d → written (held d) ≡ Err f → created_slot n above asked ≡ Err f
-unfolding created_slot
-created_unwritten n above asked d f made refused = ap (slot_of_draft n above) made ∙ ap (updated_slot n above d) refused
+unwritten_as : (n others : ℕ) (above : Option Kept) (d : Draft) (f : Fault) (r : Result (List ℕ) Fault) → IsUnwritten r (parent_bytes above) others f → IsUncreated (updated_slot n above d r) others f
+unwritten_as n others above d f (Ok bytes) h = (h.0, let lt = h.1 in omega (arith, lt))
+unwritten_as n others above d f (Err g) h = h
 
-pub created_unmade : (n : ℕ) (above : Option Kept) (asked : Created) (f : Fault) → MadeOf above asked ≡ Err f → created_slot n above asked ≡ Err f
+pub created_unwritten : (n others : ℕ) (above : Option Kept) (asked : Created) (d : Draft) (f : Fault) → MadeOf above asked ≡ Ok d → IsUnwritten (written (held d)) (parent_bytes above) others f → IsUncreated (created_slot n above asked) others f
 unfolding created_slot
-created_unmade n above asked f refused = ap (slot_of_draft n above) refused
+created_unwritten n others above asked d f made refused =
+    subst (λ (r : Result Slot Fault). IsUncreated r others f) (sym (ap (slot_of_draft n above) made)) (unwritten_as n others above d f (written (held d)) refused)
+
+pub created_unmade : (n others : ℕ) (above : Option Kept) (asked : Created) (f : Fault) → MadeOf above asked ≡ Err f → IsUncreated (created_slot n above asked) others f
+unfolding created_slot
+created_unmade n others above asked f refused =
+    subst (λ (r : Result Slot Fault). IsUncreated r others f) (sym (ap (slot_of_draft n above) refused)) refl
 
 -- ---- the library
 

@@ -1,13 +1,15 @@
 -- The step of the draft in the slot at a place.
-use Rattle.std.proofs.Common.{◌≡◌, ℕ, List, [], ◌∷◌, map, set, Bool, true, false, Option, Some, None, Result, Ok, Err, eqb, refl, ap, sym, ◌∙◌, ◌⊎◌, inl, inr, arith}
+use Rattle.std.proofs.Common.{◌≡◌, ℕ, ◌+◌, ◌-◌, sum_by, subst, List, [], ◌∷◌, map, set, Bool, true, false, Option, Some, None, Result, Ok, Err, eqb, refl, ap, sym, ◌∙◌, ◌⊎◌, inl, inr, arith}
 use Rattle.ctf_answers.specs.Replies.{changed}
 use Rattle.ctf_answers.specs.declared.counts.Counts.{Counts}
 use Rattle.ctf_library.proofs.Numbered.{IsPlace}
-use Rattle.ctf_library.specs.Drafting.{HaveStepped, IsStepped}
+use Rattle.ctf_library.specs.Drafting.{HaveStepped, IsStepped, step_in}
+use Rattle.ctf_library.specs.Quotas.{step_beside}
+use Rattle.ctf_protocol.specs.sessions.Charges.{slot_bytes}
 use Rattle.ctf_library.specs.SlotView.{slot_of}
 use Rattle.ctf_library.specs.declared.slots.Slot as own
 use Rattle.ctf_protocol.specs.answers.Answers.{Answer}
-use Rattle.ctf_protocol.specs.sessions.DraftSteps.{draft_step, slot_step, slots_with, step_if_draft}
+use Rattle.ctf_protocol.specs.sessions.DraftSteps.{SlotOutcome, draft_step, slot_step, slots_with, step_if_draft}
 use Rattle.ctf_model.specs.drafts.Drafts.{Draft}
 use Rattle.ctf_model.specs.rules.Refusals.{want_of_memory}
 use Rattle.ctf_protocol.specs.sessions.State.{Slot}
@@ -26,12 +28,12 @@ kept_at n s x xs later false t e =
     let there : slot_at n xs ≡ Some s = rw t at e in
     rw t (ap (λ (ys : List Slot). x ∷ ys) (later there))
 
-slot_kept : (n : ℕ) (s : Slot) (slots : List Slot) → slot_at n slots ≡ Some s → slots_with n s slots ≡ slots
+pub slot_kept : (n : ℕ) (s : Slot) (slots : List Slot) → slot_at n slots ≡ Some s → slots_with n s slots ≡ slots
 slot_kept n s [] e = refl
 slot_kept n s (x ∷ xs) e = kept_at n s x xs (λ h. slot_kept n s xs h) (eqb x.number n) refl e
 
-pub have_stepped : (step : DraftStep) (n : ℕ) (items : List own.Slot) (i : ℕ) (old new : own.Slot) (result : Result Counts Fault) → IsPlace n items i → slot_at n (map slot_of items) ≡ Some (slot_of old) → IsStepped (slot_step step (slot_of old)) result (slot_of old) (slot_of new) → HaveStepped step n result (map slot_of items) (map slot_of (set items i new))
-have_stepped step n items i old new result p at h = rw at (by h)
+pub have_stepped : (others rest : ℕ) (step : DraftStep) (n : ℕ) (items : List own.Slot) (i : ℕ) (old new : own.Slot) (result : Result Counts Fault) → IsPlace n items i → slot_at n (map slot_of items) ≡ Some (slot_of old) → rest ≡ others + (sum_by slot_bytes (map slot_of items) - slot_bytes (slot_of old)) → IsStepped (step_beside rest step (slot_of old)) result (slot_of old) (slot_of new) → HaveStepped others step n result (map slot_of items) (map slot_of (set items i new))
+have_stepped others rest step n items i old new result p at same h = rw at (by (subst (λ (k : ℕ). IsStepped (step_beside k step (slot_of old)) result (slot_of old) (slot_of new)) same h))
   where
     slots : List Slot
     slots = map slot_of items
@@ -39,9 +41,12 @@ have_stepped step n items i old new result p at h = rw at (by h)
     becomes : (s : Slot) → slot_of new ≡ s → map slot_of (set items i new) ≡ slots_with n s slots
     becomes s e = sym (p.replaced new) ∙ ap (λ (x : Slot). slots_with n x slots) e
 
-    by : IsStepped (slot_step step (slot_of old)) result (slot_of old) (slot_of new)
-        → ((changed result ≡ (slot_step step (slot_of old)).said) × (map slot_of (set items i new) ≡ slots_with n (slot_step step (slot_of old)).slot slots)) ⊎ ((result ≡ Err want_of_memory) × (map slot_of (set items i new) ≡ slots))
-    by (inl done) = inl (done.0, becomes (slot_step step (slot_of old)).slot done.1)
+    stepped : SlotOutcome
+    stepped = step_in others step (slot_of old) slots
+
+    by : IsStepped stepped result (slot_of old) (slot_of new)
+        → ((changed result ≡ stepped.said) × (map slot_of (set items i new) ≡ slots_with n stepped.slot slots)) ⊎ ((result ≡ Err want_of_memory) × (map slot_of (set items i new) ≡ slots))
+    by (inl done) = inl (done.0, becomes stepped.slot done.1)
     by (inr none) = inr (none.0, becomes (slot_of old) none.1 ∙ slot_kept n (slot_of old) slots at)
 
 -- a discard takes no memory

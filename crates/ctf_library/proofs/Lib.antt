@@ -1,5 +1,6 @@
 pub mod SaidOfFacts
 pub mod Numbered
+pub mod Quota
 pub mod Rising
 pub mod Importing
 pub mod Named
@@ -8,3 +9,6 @@ pub mod DraftParents
 pub mod DraftSteps
 pub mod DraftPlaces
 pub mod Creating
+pub mod Counting
+pub mod Pooled
+pub mod DraftQuota

@@ -1,8 +1,10 @@
 -- Drafts in slots. The words are ours.
-use Rattle.std.specs.Prelude.{◌≡◌, ◌⊎◌, ℕ, List, Option, None, Some, Result, Ok, Err, option_map}
+use Rattle.std.specs.Prelude.{◌≡◌, ◌⊎◌, ◌+◌, ◌-◌, sum_by, ℕ, List, Option, None, Some, Result, Ok, Err, option_map}
 use Rattle.std.specs.Option.{ForSome}
 use Rattle.ctf_answers.specs.Replies.{changed}
 use Rattle.ctf_answers.specs.declared.counts.Counts.{Counts}
+use Rattle.ctf_library.specs.Quotas.{step_beside}
+use Rattle.ctf_protocol.specs.sessions.Charges.{slot_bytes}
 use Rattle.ctf_protocol.specs.sessions.Additions.{Enlarged}
 use Rattle.ctf_protocol.specs.sessions.DraftSteps.{SlotOutcome, slot_step, slots_with}
 use Rattle.ctf_model.specs.drafts.Drafts.{Draft, held}
@@ -39,15 +41,22 @@ IsStepped outcome result old new =
     ((changed result ≡ outcome.said) × (new ≡ outcome.slot))
     ⊎ ((result ≡ Err want_of_memory) × (new ≡ old))
 
+-- beside the other slots, and all that is no slot
+abbrev pub step_in : ℕ → DraftStep → Slot → List Slot → SlotOutcome
+step_in others step slot slots =
+    step_beside (others + (sum_by slot_bytes slots - slot_bytes slot)) step slot
+
 -- the same of the slot of a number among others, if it is there
-abbrev pub HaveSteppedAt : Option Slot → DraftStep → ℕ → Result Counts Fault → List Slot
+abbrev pub HaveSteppedAt : ℕ → Option Slot → DraftStep → ℕ → Result Counts Fault → List Slot
     → List Slot → Type 0
-HaveSteppedAt None step number result old new = (result ≡ Err (placeless NO_SLOT)) × (new ≡ old)
-HaveSteppedAt (Some slot) step number result old new =
-    ((changed result ≡ (slot_step step slot).said)
-    × (new ≡ slots_with number (slot_step step slot).slot old))
+HaveSteppedAt others None step number result old new =
+    (result ≡ Err (placeless NO_SLOT)) × (new ≡ old)
+HaveSteppedAt others (Some slot) step number result old new =
+    ((changed result ≡ (step_in others step slot old).said)
+    × (new ≡ slots_with number (step_in others step slot old).slot old))
     ⊎ ((result ≡ Err want_of_memory) × (new ≡ old))
 
-abbrev pub HaveStepped : DraftStep → ℕ → Result Counts Fault → List Slot → List Slot → Type 0
-HaveStepped step number result old new =
-    HaveSteppedAt (slot_at number old) step number result old new
+-- beside all that is no slot
+abbrev pub HaveStepped : ℕ → DraftStep → ℕ → Result Counts Fault → List Slot → List Slot → Type 0
+HaveStepped others step number result old new =
+    HaveSteppedAt others (slot_at number old) step number result old new

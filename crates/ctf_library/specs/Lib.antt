@@ -1,3 +1,5 @@
+pub mod Charged
+pub mod Quotas
 pub mod Drafting
 pub mod SlotView
 pub mod Stepping

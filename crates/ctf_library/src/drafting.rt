@@ -1,7 +1,10 @@
 //! Drafts in slots: how they are made, updated and dropped.
-ghost use Rattle.std.specs.Prelude.{◌≡◌, ◌==◌, ◌⊎◌, not, length, is_some, IfErr, IfOk, Ok, Err, None, Some, option_map, option_copied, option_and_then};
+ghost use Rattle.std.specs.Prelude.{◌≡◌, ◌==◌, ◌⊎◌, ◌+◌, ◌≤◌, nat_lt, not, length, is_some, IfErr, IfOk, Ok, Err, None, Some, option_map, option_copied, option_and_then};
 ghost use Rattle.std.specs.Option.{ForSome};
+ghost use Rattle.ctf_library.specs.Quotas.{IsUncreated, IsUnwritten, step_beside, within};
 ghost use Rattle.ctf_library.specs.Drafting.{IsWritten, IsStepped, IsUnder};
+ghost use Rattle.ctf_protocol.specs.sessions.Charges.{kept_bytes, parent_bytes, slot_bytes};
+ghost use Rattle.ctf_protocol.specs.sessions.Steps.{quota};
 ghost use Rattle.ctf_library.specs.Fitting.{AreTablesOf};
 ghost use Rattle.ctf_library.specs.SlotView.{slot_of};
 ghost use Rattle.ctf_answers.specs.Counts.{counts_said};
@@ -15,6 +18,7 @@ ghost use Rattle.ctf_model.specs.writing.Written.{written};
 ghost use Rattle.ctf_protocol.specs.declared.requests.DraftStep.TheVariants.{Add, Update as Updates, Discard};
 
 use crate::additions::enlarge;
+use crate::charges::fits;
 use crate::loaded::{Loaded, MODEL_UNSAID};
 use crate::slots::{Imported, Slot};
 use crate::tables::tables_over;
@@ -42,7 +46,7 @@ fn imported_over(
     let Some(parent) = parent else {
         return Ok(None);
     };
-    let tables = match tables_over(alloc, own, parent) {
+    let tables = match tables_over(alloc, own, parent, true) {
         Ok(tables) => tables,
         Err(fault) => return Err(fault),
     };
@@ -60,20 +64,33 @@ struct Updated {
     imported: Option<Imported>,
 }
 
-/// The dictionary that a draft's bytes make.
-fn loaded(alloc: Global, draft: &Draft) -> Result<Loaded, Fault>
+/// Whether a dictionary of so many bytes has room over a parent of so many, beside what all else
+/// comes to.
+fn has_room(bytes: u128, parent: u128, others: u128) -> bool
+    ensures { result ≡ not (nat_lt quota (others + (bytes + parent))) }
+{
+    fits(others, parent) && fits(others + parent, bytes)
+}
+
+/// The dictionary that a draft's bytes make, where it has room over a parent of so many bytes,
+/// beside what all else comes to.
+fn loaded(alloc: Global, draft: &Draft, parent: u128, others: u128) -> Result<Loaded, Fault>
     ensures written { IfOk result (λ l. IsWritten draft.now.draft l) }
     ensures denotes { IfOk result (λ l. Denotes l.lists (held draft.now.draft)) }
     ensures under { IfOk result
         (λ l. (p : Kept) → draft.now.draft.parent ≡ Some (kept_dictionary p)
         → p.model ≡ draft.now.draft.model → fault_over l p ≡ None) }
+    ensures fits { IfOk result (λ l. others + (kept_bytes l + parent) ≤ quota) }
     ensures exact_err { IfErr result (λ f. (f ≡ want_of_memory)
-        ⊎ (written (held draft.now.draft) ≡ Err f)) }
+        ⊎ IsUnwritten (written (held draft.now.draft)) parent others f) }
 {
     let bytes = match write(alloc, draft) {
         Ok(bytes) => bytes,
         Err(fault) => return Err(fault),
     };
+    if !has_room(bytes.len() as u128, parent, others) {
+        return Err(placeless(Fault::QUOTA_FULL));
+    }
     let parts = Parts {
         ctf: Bytes::from(bytes),
         sym: None,
@@ -85,8 +102,14 @@ fn loaded(alloc: Global, draft: &Draft) -> Result<Loaded, Fault>
     }
 }
 
-/// What a draft's dictionary becomes by an update, over the draft's parent.
-fn updated_over(alloc: Global, draft: &Draft, parent: Option<&Loaded>) -> Result<Updated, Fault>
+/// What a draft's dictionary becomes by an update, over the draft's parent, where the two have room
+/// beside what all else comes to.
+fn updated_over(
+    alloc: Global,
+    draft: &Draft,
+    parent: Option<&Loaded>,
+    others: u128,
+) -> Result<Updated, Fault>
     requires { IsUnder draft.now.draft (option_copied parent) }
     ensures written { IfOk result (λ u. IsWritten draft.now.draft u.own) }
     ensures denotes { IfOk result (λ u. Denotes u.own.lists (held draft.now.draft)) }
@@ -96,10 +119,13 @@ fn updated_over(alloc: Global, draft: &Draft, parent: Option<&Loaded>) -> Result
     ensures fits { IfOk result (λ u. ForSome u.imported (λ i. fault_over u.own i.parent ≡ None)) }
     ensures made { IfOk result (λ u. ForSome u.imported
         (λ i. AreTablesOf u.own (Some i.parent) i.tables)) }
+    ensures room { IfOk result (λ u. others
+        + (kept_bytes u.own + parent_bytes (option_copied parent.entry)) ≤ quota) }
     ensures exact_err { IfErr result (λ f. (f ≡ want_of_memory)
-        ⊎ (written (held draft.now.draft) ≡ Err f)) }
+        ⊎ IsUnwritten (written (held draft.now.draft))
+        (parent_bytes (option_copied parent.entry)) others f) }
 {
-    let own = match loaded(alloc, draft) {
+    let own = match loaded(alloc, draft, bytes_above(parent), others) {
         Ok(own) => own,
         Err(fault) => return Err(fault),
     };
@@ -124,6 +150,16 @@ fn types_of(own: &Loaded) -> Counts
     Counts::one("types", own.view().count() as u64)
 }
 
+/// How many bytes a parent has, if there is one.
+fn bytes_above(parent: Option<&Loaded>) -> u128
+    ensures { result ≡ parent_bytes (option_copied parent.entry) }
+{
+    match parent {
+        Some(parent) => parent.bytes(),
+        None => 0,
+    }
+}
+
 /// The parent of a slot, if it has one.
 fn parent_of(imported: &Option<Imported>) -> Option<&Loaded>
     ensures { option_copied result ≡ option_map (λ i. i.parent) imported.now }
@@ -135,19 +171,27 @@ fn parent_of(imported: &Option<Imported>) -> Option<&Loaded>
 }
 
 impl Slot {
-    /// Makes a step of its draft, if it has one. Want of memory changes nothing.
+    /// Makes a step of its draft, if it has one, where what it makes has room beside what all else
+    /// comes to. Want of memory changes nothing.
     #[tactic(auto, unfolding(ctf_protocol::specs::sessions::DraftSteps::draft_step))]
-    pub(crate) fn step(&mut self, alloc: Global, step: &DraftStep) -> Result<Counts, Fault>
-        ensures step { IsStepped (slot_step step.now (slot_of self.old)) result
+    pub(crate) fn step(
+        &mut self,
+        alloc: Global,
+        step: &DraftStep,
+        others: u128,
+    ) -> Result<Counts, Fault>
+        ensures step { IsStepped (step_beside others step.now (slot_of self.old)) result
             (slot_of self.old) (slot_of self.new) }
         ensures number { self.new.number ≡ self.old.number }
+        ensures room { (slot_bytes (slot_of self.new) ≡ slot_bytes (slot_of self.old))
+            ⊎ (others + slot_bytes (slot_of self.new) ≤ quota) }
         // This takes no memory.
         ensures quiet { step.now ≡ Discard
             → changed result ≡ (slot_step step.now (slot_of self.old)).said }
     {
         match step {
             DraftStep::Add(addition) => self.add(alloc, addition),
-            DraftStep::Update => self.update(alloc),
+            DraftStep::Update => self.update(alloc, others),
             DraftStep::Discard => self.discard(),
         }
     }
@@ -157,6 +201,7 @@ impl Slot {
             (step_if_draft (Add addition.now) (slot_of self.old) (slot_of self.old).draft) result
             (slot_of self.old) (slot_of self.new) }
         ensures number { self.new.number ≡ self.old.number }
+        ensures same { slot_bytes (slot_of self.new) ≡ slot_bytes (slot_of self.old) }
     {
         match &mut self.draft {
             Some(draft) => enlarge(alloc, draft, addition),
@@ -164,16 +209,18 @@ impl Slot {
         }
     }
 
-    fn update(&mut self, alloc: Global) -> Result<Counts, Fault>
-        ensures step { IsStepped
-            (step_if_draft Updates (slot_of self.old) (slot_of self.old).draft) result
-            (slot_of self.old) (slot_of self.new) }
+    fn update(&mut self, alloc: Global, others: u128) -> Result<Counts, Fault>
+        ensures step { IsStepped (within others
+            (step_if_draft Updates (slot_of self.old) (slot_of self.old).draft)
+            (slot_of self.old)) result (slot_of self.old) (slot_of self.new) }
         ensures number { self.new.number ≡ self.old.number }
+        ensures room { (slot_bytes (slot_of self.new) ≡ slot_bytes (slot_of self.old))
+            ⊎ (others + slot_bytes (slot_of self.new) ≤ quota) }
     {
         let Some(draft) = &mut self.draft else {
             return Err(placeless(Fault::READ_ONLY));
         };
-        let update = match updated_over(alloc, draft, parent_of(&self.imported)) {
+        let update = match updated_over(alloc, draft, parent_of(&self.imported), others) {
             Ok(update) => update,
             Err(fault) => return Err(fault),
         };
@@ -189,6 +236,7 @@ impl Slot {
         ensures slot { slot_of self.new
             ≡ (step_if_draft Discard (slot_of self.old) (slot_of self.old).draft).slot }
         ensures number { self.new.number ≡ self.old.number }
+        ensures same { slot_bytes (slot_of self.new) ≡ slot_bytes (slot_of self.old) }
     {
         match &mut self.draft {
             Some(draft) => {
@@ -199,24 +247,28 @@ impl Slot {
         }
     }
 
-    /// A slot with a new draft, over a parent if there is one, updated with nothing in it.
+    /// A slot with a new draft, over a parent if there is one, updated with nothing in it, where it
+    /// has room beside what all else comes to.
     pub(crate) fn create(
         alloc: Global,
         number: u32,
         parent: Option<&Loaded>,
         creation: &Creation,
+        others: u128,
     ) -> Result<Slot, Fault>
         requires { is_some parent ≡ not (length creation.now.parname == 0) }
         ensures ok { IfOk result (λ slot. (created_slot number (option_copied parent.entry)
             creation.now ≡ Ok (slot_of slot)) × (slot.number ≡ number)) }
+        ensures room { IfOk result (λ slot. others + slot_bytes (slot_of slot) ≤ quota) }
         ensures exact_err { IfErr result (λ f. (f ≡ want_of_memory)
-            ⊎ (created_slot number (option_copied parent.entry) creation.now ≡ Err f)) }
+            ⊎ IsUncreated (created_slot number (option_copied parent.entry) creation.now)
+            others f) }
     {
         let mut draft = match new_draft(alloc, parent, creation) {
             Ok(draft) => draft,
             Err(fault) => return Err(fault),
         };
-        let update = match updated_over(alloc, &draft, parent) {
+        let update = match updated_over(alloc, &draft, parent, others) {
             Ok(update) => update,
             Err(fault) => return Err(fault),
         };

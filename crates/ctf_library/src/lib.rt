@@ -3,6 +3,7 @@
 
 mod additions;
 mod answering;
+mod charges;
 mod drafting;
 mod held;
 mod library;

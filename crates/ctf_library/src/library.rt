@@ -1,22 +1,24 @@
 //! The library of one session.
-ghost use Rattle.std.specs.Prelude.{◌≡◌, ◌⊎◌, None, Some, Ok, Err, IfOk, IfErr, OnOk, true, false, is_some, option_map, option_and_then, option_copied};
+ghost use Rattle.std.specs.Prelude.{◌≡◌, ◌⊎◌, ◌+◌, ◌≤◌, None, Some, Ok, Err, IfOk, IfErr, OnOk, true, false, is_some, option_map, option_and_then, option_copied};
+ghost use Rattle.ctf_protocol.specs.sessions.Charges.{charge, slot_bytes};
 ghost use Rattle.ctf_protocol.specs.sessions.Publications.{published_as};
 ghost use Rattle.ctf_protocol.specs.sessions.State.{empty_state};
 ghost use Rattle.ctf_library.specs.SlotView.{slot_of};
 ghost use Rattle.ctf_model.specs.rules.Refusals.{want_of_memory, placeless as refusal};
 ghost use Rattle.ctf_model.specs.declared.faults.TheConstants.Fault.{NO_SLOT};
 ghost use Rattle.ctf_protocol.specs.declared.requests.DraftStep.TheVariants.{Discard};
-ghost use Rattle.ctf_protocol.specs.sessions.Steps.{adds_created, answer_to, change_step, checks, clears, closes, creates, has_room as room_in, imports, is_quiet, is_quiet_change, MayAnswer, opens, outcome_of, parts, publishes, publishes_kept, resets, slot_at, steps_draft, takes};
+ghost use Rattle.ctf_protocol.specs.sessions.Steps.{adds_created, answer_to, change_step, checks, clears, closes, creates, has_room as room_in, imports, is_quiet, is_quiet_change, MayAnswer, opens, outcome_of, parts, publishes, publishes_kept, quota, resets, slot_at, steps_draft, takes, withdraws};
 ghost use Rattle.ctf_library.specs.Stepping.{Does, Makes};
 ghost use Rattle.ctf_library.specs.Telling.{makes_text};
 
+use crate::charges::{fits, owned_bytes, published_bytes};
 use crate::held::pending;
 use crate::loaded::Loaded;
 use crate::places::{find_slot, push_slot, remove_slot, set_parent, step_draft};
 use crate::pool::Pool;
-use crate::publications::{Publication, find_published};
+use crate::publications::{Publication, find_published, remove_published};
 use crate::slots::{Imported, Slot};
-use crate::staging::{add_first_piece, add_piece, judge};
+use crate::staging::{judge, stage_piece};
 use crate::tables::tables_over;
 use ctf_answers::{Answer, Counts};
 use ctf_protocol::{
@@ -31,18 +33,21 @@ use std::mem;
 const MOST_SLOTS: usize = 1023;
 
 /// What one session holds: its slots, the number of the next one, the staged lists, and what it
-/// published.
+/// published. How many bytes slots and publications have is kept beside them.
 #[derive(Drop)]
 pub struct Library {
     alloc: Global,
     slots: Vec<Slot>,
+    slot_bytes: u128,
     next: u64,
     stage: Parts,
     published: Vec<Publication>,
+    published_bytes: u128,
 }
 
 impl Model for Library {
     ghost use Rattle.std.specs.Prelude.{◌≡◌, ◌≤◌, ◌^◌, None, map, true};
+    ghost use Rattle.ctf_library.specs.Charged.{IsCounted};
     ghost use Rattle.ctf_library.specs.SlotOrder.{rise_between};
     ghost use Rattle.ctf_model.specs.format.OwnedLists.{lists_owned};
     ghost use Rattle.ctf_protocol.specs.sessions.State.{State};
@@ -58,7 +63,9 @@ impl Model for Library {
     } };
 
     ghost invariant = { λ l. (l.next ≤ 2 ^ 32)
-        × (rise_between 0 l.slots.items l.next ≡ true) };
+        × (rise_between 0 l.slots.items l.next ≡ true)
+        × IsCounted l.slots.items l.published.items (lists_owned l.stage) l.slot_bytes
+        l.published_bytes };
 }
 
 impl Library {
@@ -69,9 +76,11 @@ impl Library {
         Library {
             alloc,
             slots: Vec::new(alloc),
+            slot_bytes: 0,
             next: 1,
             stage: no_parts(alloc),
             published: Vec::new(alloc),
+            published_bytes: 0,
         }
     }
 
@@ -106,20 +115,26 @@ impl Library {
             Change::Close { d } => self.close(d.get()),
             Change::Import { d, parent } => self.import(d.get(), parent.get()),
             Change::Publish { d, name } => self.publish(d.get(), name),
+            Change::Withdraw { name } => self.withdraw(name),
             Change::Take { .. } => self.take(found),
             Change::Create(creation) => self.create(creation),
             Change::Draft { d, step } => self.step_draft(d.get(), step),
         }
     }
 
+    /// What all of it comes to, in bytes.
+    #[tactic(auto, unfolding(ctf_protocol::specs::sessions::Charges::charge))]
+    fn charge(&self) -> u128
+        ensures { result ≡ charge self.now }
+    {
+        owned_bytes(&self.stage) + (self.slot_bytes + self.published_bytes)
+    }
+
     fn part(&mut self, list: ListName, piece: &[u8]) -> Result<Counts, Fault>
         ensures { Makes self.old (parts list piece.now self.old) result self.new }
     {
-        let added = match list {
-            ListName::Ctf => add_piece(&mut self.stage.ctf, piece),
-            ListName::Sym => add_first_piece(self.alloc, &mut self.stage.sym, piece),
-            ListName::Str => add_first_piece(self.alloc, &mut self.stage.strs, piece),
-        };
+        let has_room = fits(self.charge(), piece.len() as u128);
+        let added = stage_piece(self.alloc, &mut self.stage, list, piece, has_room);
         match added {
             Ok(length) => Ok(Counts::one("length", length)),
             Err(fault) => Err(fault),
@@ -156,6 +171,7 @@ impl Library {
             Ok(loaded) => {
                 let number = self.next as u32;
                 let types = loaded.view().count() as u64;
+                self.slot_bytes += loaded.bytes();
                 push_slot(&mut self.slots, Slot::of(number, loaded));
                 self.next += 1;
                 Ok(Counts::two("d", u64::from(number), "types", types))
@@ -178,6 +194,7 @@ impl Library {
         ensures { Does (resets self.old) result self.new }
     {
         self.slots.clear();
+        self.slot_bytes = 0;
         self.next = 1;
         self.clear()
     }
@@ -185,9 +202,10 @@ impl Library {
     fn close(&mut self, d: u32) -> Result<Counts, Fault>
         ensures { Does (closes d self.old) result self.new }
     {
-        let Some(_closed) = remove_slot(&mut self.slots, d) else {
+        let Some(closed) = remove_slot(&mut self.slots, d) else {
             return Err(placeless(Fault::NO_SLOT));
         };
+        self.slot_bytes -= closed.bytes();
         Ok(Counts::done())
     }
 
@@ -203,7 +221,10 @@ impl Library {
         if child.draft.is_some() {
             return Err(placeless(Fault::FIXED_PARENT));
         }
-        let tables = match tables_over(self.alloc, &child.own, &source.own) {
+        let old = child.parent_bytes();
+        let new = source.own.bytes();
+        let has_room = fits(self.charge() - old, new);
+        let tables = match tables_over(self.alloc, &child.own, &source.own, has_room) {
             Ok(tables) => tables,
             Err(fault) => return Err(fault),
         };
@@ -211,6 +232,7 @@ impl Library {
             return Err(placeless(Fault::MEMORY));
         };
         set_parent(&mut self.slots, d, Imported { parent, tables });
+        self.slot_bytes = self.slot_bytes - old + new;
         Ok(Counts::done())
     }
 
@@ -223,13 +245,20 @@ impl Library {
         if pending(&slot.draft) > 0 {
             return Err(placeless(Fault::NOT_UPDATED));
         }
+        if self.published(name.as_slice()).is_some() {
+            return Err(placeless(Fault::NAME_TAKEN));
+        }
+        if !fits(self.charge(), slot.own.bytes()) {
+            return Err(placeless(Fault::QUOTA_FULL));
+        }
         let Ok(loaded) = slot.own.share() else {
             return Err(placeless(Fault::MEMORY));
         };
         self.publish_loaded(name, loaded)
     }
 
-    /// Publishes a dictionary that stands in no slot, under a name that has none yet.
+    /// Publishes a dictionary that stands in no slot, under a name that has none yet, whatever it
+    /// comes to; where that can't be counted in 128 bits, memory is refused.
     pub fn publish_loaded(
         &mut self,
         name: &PublicationName,
@@ -240,13 +269,29 @@ impl Library {
         if self.published(name.as_slice()).is_some() {
             return Err(placeless(Fault::NAME_TAKEN));
         }
+        let bytes = loaded.bytes();
+        if bytes > u128::MAX - self.charge() {
+            return Err(placeless(Fault::MEMORY));
+        }
         let Ok(name) = name.copied(self.alloc) else {
             return Err(placeless(Fault::MEMORY));
         };
         if self.published.reserve(1).is_err() {
             return Err(placeless(Fault::MEMORY));
         }
+        self.published_bytes += bytes;
         self.published.push_reserved(Publication { name, loaded });
+        Ok(Counts::done())
+    }
+
+    fn withdraw(&mut self, name: &PublicationName) -> Result<Counts, Fault>
+        ensures { Does (withdraws name.now self.old) result self.new }
+    {
+        if self.published(name.as_slice()).is_none() {
+            return Err(placeless(Fault::NOT_PUBLISHED));
+        }
+        remove_published(&mut self.published, name.as_slice());
+        self.published_bytes = published_bytes(&self.published);
         Ok(Counts::done())
     }
 
@@ -260,11 +305,16 @@ impl Library {
         let Some(loaded) = found else {
             return Err(placeless(Fault::NOT_PUBLISHED));
         };
+        let bytes = loaded.bytes();
+        if !fits(self.charge(), bytes) {
+            return Err(placeless(Fault::QUOTA_FULL));
+        }
         if self.slots.reserve(1).is_err() {
             return Err(placeless(Fault::MEMORY));
         }
         let number = self.next as u32;
         let types = loaded.view().count() as u64;
+        self.slot_bytes += bytes;
         push_slot(&mut self.slots, Slot::of(number, loaded));
         self.next += 1;
         Ok(Counts::two("d", u64::from(number), "types", types))
@@ -298,6 +348,7 @@ impl Library {
             Err(fault) => return Err(fault),
         };
         let number = slot.number;
+        self.slot_bytes += slot.bytes();
         push_slot(&mut self.slots, slot);
         self.next += 1;
         Ok(Counts::one("d", u64::from(number)))
@@ -307,7 +358,8 @@ impl Library {
     fn created(&self, creation: &Creation) -> Result<Slot, Fault>
         ensures ok { IfOk result (λ slot. (creates creation.now self.now
             ≡ adds_created (Ok (slot_of slot)) self.now) × (slot.number ≡ self.now.next)) }
-        ensures room { OnOk result (room_in self.now ≡ true) }
+        ensures free { OnOk result (room_in self.now ≡ true) }
+        ensures room { IfOk result (λ slot. charge self.now + slot_bytes (slot_of slot) ≤ quota) }
         ensures exact_err { IfErr result (λ f. (f ≡ want_of_memory)
             ⊎ (creates creation.now self.now ≡ outcome_of (Err f) self.now)) }
     {
@@ -318,7 +370,13 @@ impl Library {
         if !self.has_room() {
             return Err(placeless(Fault::SLOTS_FULL));
         }
-        Slot::create(self.alloc, self.next as u32, parent, creation)
+        Slot::create(
+            self.alloc,
+            self.next as u32,
+            parent,
+            creation,
+            self.charge(),
+        )
     }
 
     fn step_draft(&mut self, d: u32, step: &DraftStep) -> Result<Counts, Fault>
@@ -326,7 +384,15 @@ impl Library {
         ensures quiet { step.now ≡ Discard
             → Does (steps_draft d step.now self.old) result self.new }
     {
-        step_draft(self.alloc, &mut self.slots, d, step)
+        let others = self.charge() - self.slot_bytes;
+        step_draft(
+            self.alloc,
+            &mut self.slots,
+            &mut self.slot_bytes,
+            others,
+            d,
+            step,
+        )
     }
 
     /// Answers a question to a slot. Names and lists are lent from its dictionary, or its parent.

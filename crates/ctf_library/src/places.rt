@@ -1,6 +1,8 @@
 //! Slots by their numbers.
-ghost use Rattle.std.specs.Prelude.{◌≡◌, ◌≢◌, Err, ◌<◌, ◌+◌, ◌++◌, ◌∷◌, [], ℕ, true, map, option_map, option_copied, IfNone, IfSome, None, Some, vec_len, vec_capacity};
+ghost use Rattle.std.specs.Prelude.{◌≡◌, ◌≢◌, Err, ◌<◌, ◌+◌, ◌^◌, ◌++◌, ◌∷◌, [], ℕ, true, map, option_map, option_copied, IfNone, IfSome, None, Some, vec_len, vec_capacity};
+ghost use Rattle.ctf_library.specs.Charged.{bytes_in};
 ghost use Rattle.ctf_library.specs.Drafting.{HaveStepped};
+ghost use Rattle.ctf_protocol.specs.sessions.Charges.{kept_bytes, parent_bytes, slot_bytes};
 ghost use Rattle.ctf_model.specs.rules.Refusals.{want_of_memory};
 ghost use Rattle.ctf_protocol.specs.declared.requests.DraftStep.TheVariants.{Discard};
 ghost use Rattle.ctf_model.specs.spaces.Kept.{fault_over};
@@ -46,6 +48,8 @@ pub fn find_slot(slots: &[Slot], number: u32) -> Option<&Slot>
 pub fn push_slot(slots: &mut Vec<Slot>, slot: Slot)
     requires room { vec_len slots.old < vec_capacity slots.old }
     ensures slots { map slot_of slots.new.items ≡ map slot_of slots.old.items ++ slot_of slot ∷ [] }
+    ensures bytes { bytes_in slots.new.items
+        ≡ bytes_in slots.old.items + slot_bytes (slot_of slot) }
     ensures rise { rise_between 0 slots.old.items slot.number ≡ true
         → rise_between 0 slots.new.items (slot.number + 1) ≡ true }
 {
@@ -58,6 +62,8 @@ pub fn remove_slot(slots: &mut Vec<Slot>, number: u32) -> Option<Slot>
     ensures slot { option_map slot_of result ≡ slot_at number (map slot_of slots.old.items) }
     ensures slots { map slot_of slots.new.items
         ≡ slots_without number (map slot_of slots.old.items) }
+    ensures bytes { IfSome result (λ slot. bytes_in slots.new.items + slot_bytes (slot_of slot)
+        ≡ bytes_in slots.old.items) }
     ensures none { IfNone result (slots.new.items ≡ slots.old.items) }
     ensures rise { (next : ℕ) → rise_between 0 slots.old.items next ≡ true
         → rise_between 0 slots.new.items next ≡ true }
@@ -79,6 +85,9 @@ pub fn set_parent(slots: &mut Vec<Slot>, number: u32, imported: Imported)
         (λ slot. AreTablesOf slot.kept (Some imported.parent) imported.tables) }
     ensures slots { map slot_of slots.new.items
         ≡ slots_with_parent number imported.parent (map slot_of slots.old.items) }
+    ensures bytes { IfSome (slot_at number (map slot_of slots.old.items))
+        (λ slot. bytes_in slots.new.items + parent_bytes slot.parent
+        ≡ bytes_in slots.old.items + kept_bytes imported.parent) }
     ensures rise { (next : ℕ) → rise_between 0 slots.old.items next ≡ true
         → rise_between 0 slots.new.items next ≡ true }
 {
@@ -88,23 +97,34 @@ pub fn set_parent(slots: &mut Vec<Slot>, number: u32, imported: Imported)
     }
 }
 
-/// Makes a step of the draft in the slot of a number. Want of memory changes nothing.
+/// Makes a step of the draft in the slot of a number, and counts what slots come to, beside what all
+/// else does. Want of memory changes nothing.
 pub fn step_draft(
     alloc: Global,
     slots: &mut Vec<Slot>,
+    bytes: &mut u128,
+    others: u128,
     number: u32,
     step: &DraftStep,
 ) -> Result<Counts, Fault>
-    requires { IsNonDecreasingBy (λ s. s.number) slots.old.items }
-    ensures slots { HaveStepped step.now number result (map slot_of slots.old.items)
+    requires order { IsNonDecreasingBy (λ s. s.number) slots.old.items }
+    requires counted { bytes.old ≡ bytes_in slots.old.items }
+    requires small { others + bytes.old < 2 ^ 128 }
+    ensures slots { HaveStepped others step.now number result (map slot_of slots.old.items)
         (map slot_of slots.new.items) }
+    ensures counted { bytes.new ≡ bytes_in slots.new.items }
+    ensures small { others + bytes.new < 2 ^ 128 }
     ensures rise { (next : ℕ) → rise_between 0 slots.old.items next ≡ true
         → rise_between 0 slots.new.items next ≡ true }
     // This takes no memory.
     ensures quiet { step.now ≡ Discard → result ≢ Err want_of_memory }
 {
-    match find_place(slots, number) {
-        Some(place) => slots[place].step(alloc, step),
-        None => Err(placeless(Fault::NO_SLOT)),
-    }
+    let Some(place) = find_place(slots, number) else {
+        return Err(placeless(Fault::NO_SLOT));
+    };
+    let slot = &mut slots[place];
+    let other_slots = *bytes - slot.bytes();
+    let stepped = slot.step(alloc, step, others + other_slots);
+    *bytes = other_slots + slot.bytes();
+    stepped
 }

@@ -1,7 +1,8 @@
 //! Dictionaries that were opened lately.
-ghost use Rattle.std.specs.Prelude.{◌≡◌, ◌⊎◌, [], IfOk, IfErr, IfSome, OnOk, Some, None, true};
+ghost use Rattle.std.specs.Prelude.{◌≡◌, ◌⊎◌, ◌≤◌, ◌<◌, ◌^◌, [], IfOk, IfErr, IfSome, OnOk, Some, None, sum_by, true};
 ghost use Rattle.ctf_check.specs.ListsView.{lists_in};
-ghost use Rattle.ctf_library.specs.Pooling.{Holds};
+ghost use Rattle.ctf_library.specs.Pooling.{Holds, have_room, most_bytes, with_room};
+ghost use Rattle.ctf_protocol.specs.sessions.Charges.{kept_bytes};
 ghost use Rattle.ctf_model.specs.rules.Faults.{first_fault};
 ghost use Rattle.ctf_model.specs.format.OwnedLists.{lists_owned};
 ghost use Rattle.ctf_model.specs.rules.Refusals.{want_of_memory};
@@ -16,7 +17,11 @@ use std::marker::Model;
 /// How many dictionaries a pool holds.
 const MOST_HELD: usize = 16;
 
-/// The last dictionaries that were opened, at most 16, the oldest first.
+/// How many bytes of them it holds.
+const MOST_BYTES: u128 = 268_435_456;
+
+/// The last dictionaries that were opened, at most 16 and at most 268,435,456 bytes of them, the
+/// oldest first.
 ///
 /// Lists that are equal to those of one that is held, for the same data model,
 /// are not judged again:
@@ -28,15 +33,17 @@ pub struct Pool {
 }
 
 impl Model for Pool {
-    ghost use Rattle.std.specs.Prelude.{◌≤◌, List, length};
-    ghost use Rattle.ctf_library.specs.Pooling.{most_held};
+    ghost use Rattle.std.specs.Prelude.{◌≤◌, List, length, sum_by};
+    ghost use Rattle.ctf_library.specs.Pooling.{most_bytes, most_held};
     ghost use Rattle.ctf_model.specs.spaces.Kept.{Kept};
+    ghost use Rattle.ctf_protocol.specs.sessions.Charges.{kept_bytes};
 
     ghost Value = { List Kept };
 
     ghost view = { λ p. p.held.items };
 
-    ghost invariant = { λ p. length p.held.items ≤ most_held };
+    ghost invariant = { λ p. (length p.held.items ≤ most_held)
+        × (sum_by kept_bytes p.held.items ≤ most_bytes) };
 }
 
 /// Whether these are the same lists, byte for byte.
@@ -45,6 +52,18 @@ fn are_same(a: LentLists<'_>, b: LentLists<'_>) -> bool
     ensures found { lists_in a.entry ≡ lists_in b.entry → result ≡ true }
 {
     a.ctf == b.ctf && a.sym == b.sym && a.strs == b.strs
+}
+
+/// How many bytes dictionaries have, where that is no more than a pool holds.
+fn bytes_held(held: &[Loaded]) -> u128
+    requires { sum_by kept_bytes held.now ≤ most_bytes }
+    ensures { result ≡ sum_by kept_bytes held.now }
+{
+    let mut bytes = 0;
+    for loaded in held {
+        bytes += loaded.bytes();
+    }
+    bytes
 }
 
 impl Pool {
@@ -61,7 +80,8 @@ impl Pool {
     /// The dictionary of lists, for programs of a data model, or their first fault with the lists,
     /// whatever is held.
     ///
-    /// A new dictionary is held from then on, and where there are too many the oldest is not.
+    /// A new dictionary is held from then on, and the oldest are not where it would be too many. One
+    /// that is too large is not held.
     pub fn open(&mut self, parts: Parts, model: DataModel) -> Result<Loaded, (Fault, Parts)>
         ensures ok { IfOk result (λ l. l ≡ record { lists = lists_owned parts; model = model }) }
         ensures exact_ok { OnOk result (first_fault (lists_owned parts) ≡ None) }
@@ -100,13 +120,37 @@ impl Pool {
         None
     }
 
+    /// Whether there is room for one more of so many bytes.
+    fn has_room(&self, bytes: u128) -> bool
+        requires { bytes < 2 ^ 66 }
+        ensures { result ≡ have_room bytes self.now }
+    {
+        self.held.len() < MOST_HELD && bytes_held(&self.held) + bytes <= MOST_BYTES
+    }
+
+    /// Lets the oldest go until there is.
+    fn make_room(&mut self, bytes: u128)
+        requires { bytes ≤ most_bytes }
+        ensures { self.new ≡ with_room bytes self.old }
+    {
+        let most = self.held.len();
+        for _gone in 0..most {
+            if self.has_room(bytes) {
+                return;
+            }
+            self.held.remove(0);
+        }
+    }
+
     /// Holds a dictionary in place of the oldest; where memory for that is refused, it does not.
     fn hold(&mut self, loaded: &Loaded)
         ensures { Holds self.old loaded.now self.new }
     {
-        if self.held.len() == MOST_HELD {
-            self.held.remove(0);
+        let bytes = loaded.bytes();
+        if bytes > MOST_BYTES {
+            return;
         }
+        self.make_room(bytes);
         let Ok(shared) = loaded.share() else {
             return;
         };

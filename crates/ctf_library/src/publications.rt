@@ -1,7 +1,7 @@
 //! Dictionaries under the names that they were published by.
 ghost use Rattle.std.specs.Prelude.{◌≡◌, map, option_map};
 ghost use Rattle.ctf_library.specs.SlotView.{publication_of};
-ghost use Rattle.ctf_protocol.specs.sessions.Publications.{published_as};
+ghost use Rattle.ctf_protocol.specs.sessions.Publications.{published_as, published_without};
 
 use crate::loaded::Loaded;
 use ctf_protocol::PublicationName;
@@ -24,4 +24,12 @@ pub fn find_published<'a>(published: &'a [Publication], name: &[u8]) -> Option<&
         }
     }
     None
+}
+
+/// Takes out what is published under a name.
+pub fn remove_published(published: &mut Vec<Publication>, name: &[u8])
+    ensures { map publication_of published.new.items
+        ≡ published_without name.now (map publication_of published.old.items) }
+{
+    published.retain(|publication| publication.name.as_slice() != name);
 }

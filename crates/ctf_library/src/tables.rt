@@ -1,6 +1,7 @@
 //! What a slot keeps beside its dictionary, so that its questions are answered by looking up.
-ghost use Rattle.std.specs.Prelude.{◌≡◌, ◌⊎◌, None, Some, IfOk, IfErr, OnOk};
+ghost use Rattle.std.specs.Prelude.{◌≡◌, ◌⊎◌, None, Some, IfOk, IfErr, OnOk, true};
 ghost use Rattle.std.specs.Option.{ForSome};
+ghost use Rattle.ctf_library.specs.Quotas.{IsUnserved};
 ghost use Rattle.ctf_library.specs.Fitting.{AreTablesOf, Serve, ServeParent};
 ghost use Rattle.ctf_model.specs.rules.Refusals.{want_of_memory};
 ghost use Rattle.ctf_model.specs.spaces.Kept.{fault_over};
@@ -43,18 +44,29 @@ impl Tables {
     }
 }
 
-/// The tables of a dictionary over another as its parent, or the fault of such an import.
-pub(crate) fn tables_over(alloc: Global, child: &Loaded, parent: &Loaded) -> Result<Tables, Fault>
+/// The tables of a dictionary over another as its parent, or the fault of such an import. Whether
+/// the session has room for the parent is said; where it has not, none are built.
+pub(crate) fn tables_over(
+    alloc: Global,
+    child: &Loaded,
+    parent: &Loaded,
+    fits: bool,
+) -> Result<Tables, Fault>
     ensures ok { IfOk result (λ t. AreTablesOf child.now (Some parent.now) t) }
     ensures exact_ok { OnOk result (fault_over child.now parent.now ≡ None) }
+    ensures fits { OnOk result (fits ≡ true) }
     ensures exact_err { IfErr result (λ f. (f ≡ want_of_memory)
-        ⊎ (fault_over child.now parent.now ≡ Some f)) }
+        ⊎ IsUnserved fits (fault_over child.now parent.now) f) }
 {
-    match Space::over(child.view(), child.model(), parent.view(), parent.model()) {
-        Ok(space) => match Tables::over(alloc, &space, parent.tables()) {
-            Ok(tables) => Ok(tables),
-            Err(AllocError) => Err(placeless(Fault::MEMORY)),
-        },
-        Err(fault) => Err(fault),
+    let space = match Space::over(child.view(), child.model(), parent.view(), parent.model()) {
+        Ok(space) => space,
+        Err(fault) => return Err(fault),
+    };
+    if !fits {
+        return Err(placeless(Fault::QUOTA_FULL));
+    }
+    match Tables::over(alloc, &space, parent.tables()) {
+        Ok(tables) => Ok(tables),
+        Err(AllocError) => Err(placeless(Fault::MEMORY)),
     }
 }

@@ -2,7 +2,7 @@
 ghost use Rattle.std.specs.Prelude.{◌≡◌, ◌≢◌, ◌≤◌, IfSome, Option, None, Some, IfOk, IfErr, Ok, Err, codes, option_map, option_and_then};
 ghost use Rattle.serde_json.specs.Find.{as_array, as_number, as_u64, get};
 ghost use Rattle.serde_json.specs.View.{view, items_view};
-ghost use Rattle.ctf_protocol.specs.lines.Ask.{ask, open_asked, list_named, close_asked, import_asked, publication_asked, publish_asked, take_asked, about_type as type_question_asked, about_slot as slot_question_asked, about_held as held_question_asked, bytes_asked, symbol_asked, show_asked, names_asked, part_asked, word_asked, asked_with, request_asked, value_asked};
+ghost use Rattle.ctf_protocol.specs.lines.Ask.{ask, open_asked, list_named, close_asked, import_asked, publication_asked, publish_asked, take_asked, withdraw_asked, about_type as type_question_asked, about_slot as slot_question_asked, about_held as held_question_asked, bytes_asked, symbol_asked, show_asked, names_asked, part_asked, word_asked, asked_with, request_asked, value_asked};
 ghost use Rattle.ctf_protocol.specs.lines.LineFields.{within, number_in, text_in, slot_under as slot_named, slot_in, type_in, name_under as name_asked, from_asked, count_asked, window_asked};
 ghost use Rattle.ctf_model.specs.rules.Refusals.{placeless};
 ghost use Rattle.ctf_model.specs.declared.faults.TheConstants.Fault.{MEMORY};
@@ -133,6 +133,7 @@ fn read_word(alloc: Global, value: &Value, word: Word) -> Result<Option<Request>
         Word::Close => Ok(close(value)),
         Word::Import => Ok(import(value)),
         Word::Publish => publish(alloc, value),
+        Word::Withdraw => withdraw(alloc, value),
         Word::Take => take(alloc, value),
         Word::Create => create(alloc, value),
         Word::Add => add(alloc, value),
@@ -218,6 +219,15 @@ fn publish(alloc: Global, value: &Value) -> Result<Option<Request>, AllocError>
     };
     match publication(alloc, value)? {
         Some(name) => Ok(Some(Request::Changes(Change::Publish { d, name }))),
+        None => Ok(None),
+    }
+}
+
+fn withdraw(alloc: Global, value: &Value) -> Result<Option<Request>, AllocError>
+    ensures { IfOk result (λ request. request ≡ withdraw_asked (view value.now)) }
+{
+    match publication(alloc, value)? {
+        Some(name) => Ok(Some(Request::Changes(Change::Withdraw { name }))),
         None => Ok(None),
     }
 }

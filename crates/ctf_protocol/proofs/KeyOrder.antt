@@ -9,7 +9,7 @@ use Rattle.std.proofs.lemmas.List.Folds.{list_all-append}
 use Rattle.ctf_model.specs.drafts.Adders.{Added}
 use Rattle.ctf_protocol.specs.sessions.Additions.{enlarged, numbered, silent}
 use Rattle.ctf_protocol.specs.sessions.Creations.{Created}
-use Rattle.ctf_protocol.specs.sessions.DraftSteps.{created_slot, draft_step, enlarges, slot_step, step_if_draft, updates_to}
+use Rattle.ctf_protocol.specs.sessions.DraftSteps.{SlotOutcome, created_slot, draft_step, enlarges, slot_step, step_if_draft, updates_to}
 use Rattle.ctf_model.specs.drafts.Drafts.{Draft, held}
 use Rattle.ctf_protocol.specs.answers.HeldAnswers.{pending_in}
 use Rattle.ctf_model.specs.writing.Written.{written}
@@ -29,8 +29,9 @@ use Rattle.ctf_protocol.specs.answers.Questions.{at_most, windowed, or_wrong_kin
 use Rattle.ctf_protocol.specs.answers.SlotAnswers.{symbol_fields, signature_fields, label_item, last_fields, whole_said}
 use Rattle.ctf_model.specs.symbols.SymbolQuestions.{symbol_found, object_of, function_of, label_of}
 use Rattle.ctf_model.specs.format.Shown.{Facts, facts, members_in, enumerators_in, arguments_in, array_in, encoding_in, list_length}
+use Rattle.ctf_protocol.specs.sessions.Charges.{charge}
 use Rattle.ctf_protocol.specs.sessions.State.{State, Slot}
-use Rattle.ctf_protocol.specs.sessions.Steps.{change_step, with_slot, grants, slots_without, imports_unless, publishes_kept, publishes_slot, imports_into, takes, takes_found, adds_created, creates_over, creates_from, slot_becomes, stages, opens, opens_unless, has_room, accepts_unless, longest_list, slot_at, slot_space, said_by_slot}
+use Rattle.ctf_protocol.specs.sessions.Steps.{change_step, with_slot, grants, slots_without, imports_unless, publishes_kept, publishes_within, publishes_slot, within_quota, quota, becomes_by, updates_within, outcome_of, Outcome, withdraws, imports_into, takes, takes_found, adds_created, creates_over, creates_from, slot_becomes, stages, opens, opens_unless, has_room, accepts_unless, longest_list, slot_at, slot_space, said_by_slot}
 use Rattle.ctf_model.specs.spaces.Space.{Space, space_type}
 use Rattle.ctf_model.specs.format.Term.{Term}
 use Rattle.ctf_model.specs.names.TypeNames.{spelled_name}
@@ -149,9 +150,13 @@ of_slot (OfHeld (holding.Bytes from count)) (Some slot) = refl
 
 -- ---- changes
 
+quoted : (over : Bool) (outcome : Outcome) (state : State) → nat_lt quota (charge outcome.state) ≡ over → IsInOrder outcome.reply.outcome → IsInOrder (within_quota outcome state).reply.outcome
+quoted true outcome state e h = rw e tt
+quoted false outcome state e h = rw e h
+
 staging : (list : ListName) (bytes : List ℕ) (state : State) (long : Bool) → nat_lt longest_list (length bytes) ≡ long → IsInOrder (stages list bytes state).reply.outcome
 staging list bytes state true e = rw e tt
-staging list bytes state false e = rw e refl
+staging list bytes state false e = rw e (quoted _ _ state refl refl)
 
 opened : (fault : Option Fault) (kept : Kept) (state : State) → IsInOrder (opens_unless fault kept state).reply.outcome
 opened None kept state = refl
@@ -170,7 +175,7 @@ closed d None state = tt
 closed d (Some slot) state = refl
 
 imported : (fault : Option Fault) (d : ℕ) (parent : Kept) (state : State) → IsInOrder (imports_unless fault d parent state).reply.outcome
-imported None d parent state = refl
+imported None d parent state = quoted _ _ state refl refl
 imported (Some fault) d parent state = tt
 
 import_of : (drafted : Bool) (child : Slot) (d : ℕ) (parent : Kept) (state : State) → is_some child.draft ≡ drafted → IsInOrder (imports_into child d parent state).reply.outcome
@@ -186,9 +191,17 @@ published : (taken : Bool) (name : List ℕ) (kept : Kept) (state : State) → i
 published true name kept state e = rw e tt
 published false name kept state e = rw e refl
 
+withdrawn : (there : Bool) (name : List ℕ) (state : State) → is_some (published_as name state.published) ≡ there → IsInOrder (withdraws name state).reply.outcome
+withdrawn true name state e = rw e refl
+withdrawn false name state e = rw e tt
+
+published_within : (taken : Bool) (name : List ℕ) (kept : Kept) (state : State) → is_some (published_as name state.published) ≡ taken → IsInOrder (publishes_within name kept state).reply.outcome
+published_within true name kept state e = rw e tt
+published_within false name kept state e = rw e (quoted _ _ state refl refl)
+
 publish_of : (late : Bool) (name : List ℕ) (slot : Slot) (state : State) → nat_lt 0 (pending_in slot.draft) ≡ late → IsInOrder (publishes_slot name slot state).reply.outcome
 publish_of true name slot state e = rw e tt
-publish_of false name slot state e = rw e (published _ name slot.kept state refl)
+publish_of false name slot state e = rw e (published_within _ name slot.kept state refl)
 
 publishing : (name : List ℕ) (slot : Option Slot) (state : State) → IsInOrder (with_slot (λ s. publishes_slot name s state) slot state).reply.outcome
 publishing name None state = tt
@@ -196,7 +209,7 @@ publishing name (Some slot) state = publish_of _ name slot state refl
 
 taken : (found : Option Kept) (state : State) → IsInOrder (takes_found found state).reply.outcome
 taken None state = tt
-taken (Some kept) state = refl
+taken (Some kept) state = quoted _ _ state refl refl
 
 taking : (found : Option Kept) (state : State) (room : Bool) → has_room state ≡ room → IsInOrder (takes found state).reply.outcome
 taking found state true e = rw e (taken found state)
@@ -205,7 +218,7 @@ taking found state false e = rw e tt
 -- ---- drafts
 
 created : (slot : Result Slot Fault) (state : State) → IsInOrder (adds_created slot state).reply.outcome
-created (Ok slot) state = refl
+created (Ok slot) state = quoted _ _ state refl refl
 created (Err fault) state = tt
 
 created_over : (room : Bool) (parent : Option Kept) (asked : Created) (state : State) → has_room state ≡ room → IsInOrder (creates_over parent asked state).reply.outcome
@@ -250,9 +263,18 @@ of_draft (steps.Add addition) slot (Some draft) = enlarging slot draft addition
 of_draft steps.Update slot (Some draft) = updating slot draft (written (held draft))
 of_draft steps.Discard slot (Some draft) = refl
 
-stepping : (d : ℕ) (step : DraftStep) (slot : Option Slot) (state : State) → IsInOrder (with_slot (λ s. slot_becomes d (slot_step step s) state) slot state).reply.outcome
+updated_within : (said : Result Answer Fault) (outcome : Outcome) (state : State) → IsInOrder outcome.reply.outcome → IsInOrder (updates_within said outcome state).reply.outcome
+updated_within (Ok answer) outcome state h = quoted _ outcome state refl h
+updated_within (Err fault) outcome state h = h
+
+becoming : (d : ℕ) (step : DraftStep) (outcome : SlotOutcome) (state : State) → IsInOrder outcome.said → IsInOrder (becomes_by step d outcome state).reply.outcome
+becoming d (steps.Add addition) outcome state h = h
+becoming d steps.Update outcome state h = updated_within outcome.said _ state h
+becoming d steps.Discard outcome state h = h
+
+stepping : (d : ℕ) (step : DraftStep) (slot : Option Slot) (state : State) → IsInOrder (with_slot (λ s. becomes_by step d (slot_step step s) state) slot state).reply.outcome
 stepping d step None state = tt
-stepping d step (Some slot) state = of_draft step slot slot.draft
+stepping d step (Some slot) state = becoming d step (slot_step step slot) state (of_draft step slot slot.draft)
 
 pub keys_rise : KeysRise
 unfolding change_step
@@ -264,6 +286,7 @@ keys_rise state (Changes change.Reset) found = refl
 keys_rise state (Changes (change.Close d)) found = closed d (slot_at d state.slots) state
 keys_rise state (Changes (change.Import d p)) found = importing d (slot_at d state.slots) (slot_at p state.slots) state
 keys_rise state (Changes (change.Publish d name)) found = publishing name (slot_at d state.slots) state
+keys_rise state (Changes (change.Withdraw name)) found = withdrawn _ name state refl
 keys_rise state (Changes (change.Take owner name)) found = taking found state _ refl
 keys_rise state (Changes (change.Create asked)) found = created_from asked.parent asked state
 keys_rise state (Changes (change.Draft d step)) found = stepping d step (slot_at d state.slots) state

@@ -1,4 +1,6 @@
+pub mod Charged
 pub mod KeyOrder
 pub mod Asking
 pub mod SessionRuns
 pub mod TextReading
+pub mod WithinQuota

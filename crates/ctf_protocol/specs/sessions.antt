@@ -3,7 +3,9 @@ pub mod Publications
 pub mod Creations
 pub mod Additions
 pub mod DraftSteps
+pub mod Charges
 pub mod Steps
+pub mod ChargeLaws
 pub mod Runs
 pub mod SessionLaws
 pub mod ParentRows

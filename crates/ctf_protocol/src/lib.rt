@@ -28,7 +28,7 @@ pub use rows::{
     words_are_written,
 };
 pub use session_laws::{
-    each_session_runs_alone, same_given_same_replies, steps_happen,
+    each_session_runs_alone, requests_stay_within_quota, same_given_same_replies, steps_happen,
     unreached_sessions_do_not_matter,
 };
 pub use slots::SlotNumber;

@@ -58,6 +58,10 @@ pub enum Change {
         d: SlotNumber,
         name: PublicationName,
     },
+    /// Takes back what the session has published under a name.
+    Withdraw {
+        name: PublicationName,
+    },
     /// Makes a slot of what a session has published.
     Take {
         owner: u32,

@@ -1,4 +1,5 @@
 //! Laws over the runs of many sessions. Each is the contract of a function that does nothing.
+ghost use Rattle.ctf_protocol.specs.sessions.ChargeLaws.{RequestsStayWithinQuota};
 ghost use Rattle.ctf_protocol.specs.sessions.SessionLaws.{EachRunsAlone, EachStepHappens, SameGiven, UnreachedDoNotMatter};
 
 /// What a session was given decides its replies and its library: its own requests, and what its
@@ -21,4 +22,9 @@ pub fn steps_happen()
 /// its library is the one that this run leaves.
 pub fn each_session_runs_alone()
     ensures { EachRunsAlone }
+{}
+
+/// No request takes a library over its quota.
+pub fn requests_stay_within_quota()
+    ensures { RequestsStayWithinQuota }
 {}

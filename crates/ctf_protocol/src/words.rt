@@ -15,6 +15,7 @@ pub enum Word {
     Close,
     Import,
     Publish,
+    Withdraw,
     Take,
     Create,
     Add,
@@ -38,7 +39,7 @@ pub enum Word {
 }
 
 /// Every word, as a line writes it. The definition reads this table too.
-pub const WORDS: [(&str, Word); 37] = [
+pub const WORDS: [(&str, Word); 38] = [
     ("part", Word::Part),
     ("check", Word::Check),
     ("open", Word::Open),
@@ -47,6 +48,7 @@ pub const WORDS: [(&str, Word); 37] = [
     ("close", Word::Close),
     ("import", Word::Import),
     ("publish", Word::Publish),
+    ("withdraw", Word::Withdraw),
     ("take", Word::Take),
     ("create", Word::Create),
     ("add", Word::Add),

@@ -111,6 +111,9 @@ publish_asked line =
     (λ d. option_map (λ name. Changes (change.Publish d name)) (publication_asked line))
     (slot_in line)
 
+abbrev pub withdraw_asked : Data → Option Request
+withdraw_asked line = option_map (λ name. Changes (change.Withdraw name)) (publication_asked line)
+
 -- any session may be taken from, the operator's among them
 abbrev pub owner_asked : Data → Option ℕ
 owner_asked line = number_in 0 4294967295 (codes "owner") line
@@ -181,6 +184,7 @@ asked_with line word.Reset = Some (Changes change.Reset)
 asked_with line word.Close = close_asked line
 asked_with line word.Import = import_asked line
 asked_with line word.Publish = publish_asked line
+asked_with line word.Withdraw = withdraw_asked line
 asked_with line word.Take = take_asked line
 asked_with line word.Create = create_asked line
 asked_with line word.Add = add_asked line

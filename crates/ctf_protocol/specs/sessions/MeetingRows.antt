@@ -9,7 +9,7 @@ use Rattle.ctf_protocol.specs.sessions.Runs.{Call, given, own_state}
 use Rattle.ctf_protocol.specs.sessions.SessionLaws.{calls_among}
 use Rattle.ctf_protocol.specs.sessions.State.{State, Slot, empty_state}
 use Rattle.ctf_protocol.specs.declared.requests.Change.{Change}
-use Rattle.ctf_protocol.specs.declared.requests.Change.TheVariants.{Clear, Publish, Reset, Take}
+use Rattle.ctf_protocol.specs.declared.requests.Change.TheVariants.{Clear, Publish, Reset, Take, Withdraw}
 use Rattle.ctf_protocol.specs.declared.requests.Request.TheVariants.{Changes}
 
 -- ---- inputs
@@ -46,6 +46,10 @@ taken = call 2 (Take 1 base) ∷ published
 abbrev pub then_reset : List Call
 then_reset = call 1 Reset ∷ taken
 
+-- session 1 withdraws what it published
+abbrev pub withdrawn : List Call
+withdrawn = call 1 (Withdraw base) ∷ taken
+
 -- what a session is replied then
 abbrev pub replied : List Call → ℕ → Change → List ℕ
 replied calls s change = reply_line (own_reply world calls s (Changes change))
@@ -68,6 +72,15 @@ pub record SessionsMeet : Type 0 where
   pub reset_stays : replied then_reset 4 (Take 1 base)
       ≡ codes "{\"ok\":{\"d\":1,\"types\":1},\"s\":4}\n"
   pub taker_keeps : own_state world then_reset 2 ≡ own_state world taken 2
+  pub withdraws : replied taken 1 (Withdraw base) ≡ codes "{\"ok\":{},\"s\":1}\n"
+  pub published_no_more : replied withdrawn 3 (Take 1 base)
+      ≡ codes "{\"fault\":{\"code\":54,\"name\":\"NotPublished\",\"place\":0},\"s\":3}\n"
+  pub once : replied withdrawn 1 (Withdraw base)
+      ≡ codes "{\"fault\":{\"code\":54,\"name\":\"NotPublished\",\"place\":0},\"s\":1}\n"
+  pub owners_alone : replied taken 2 (Withdraw base)
+      ≡ codes "{\"fault\":{\"code\":54,\"name\":\"NotPublished\",\"place\":0},\"s\":2}\n"
+  pub again : replied withdrawn 1 (Publish 1 base) ≡ codes "{\"ok\":{},\"s\":1}\n"
+  pub earlier_takers_keep : own_state world withdrawn 2 ≡ own_state world taken 2
   pub left_out :
       given world (calls_among (1 ∷ 2 ∷ []) (call 2 (Take 1 base) ∷ call 3 Clear ∷ published)) 2
       ≡ given world taken 2
@@ -79,6 +92,9 @@ pub record MeetingsAreAsked : Type 0 where
       ≡ Ok (1, Changes (Publish 2 (codes "Az09._-")))
   pub take : ask (codes "{\"s\":2,\"op\":\"take\",\"owner\":1,\"name\":\"base\"}")
       ≡ Ok (2, Changes (Take 1 base))
+  pub withdraw : ask (codes "{\"s\":1,\"op\":\"withdraw\",\"name\":\"base\"}")
+      ≡ Ok (1, Changes (Withdraw base))
+  pub nameless : ask (codes "{\"s\":1,\"op\":\"withdraw\"}") ≡ Err (1, fault 58 0)
   pub operators : ask (codes "{\"s\":2,\"op\":\"take\",\"owner\":0,\"name\":\"base\"}")
       ≡ Ok (2, Changes (Take 0 base))
   pub empty_name : ask (codes "{\"s\":1,\"op\":\"publish\",\"d\":2,\"name\":\"\"}")

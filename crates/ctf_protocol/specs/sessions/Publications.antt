@@ -1,5 +1,5 @@
 -- Dictionaries that a session has published, and their names. Source: ours.
-use Rattle.std.specs.Prelude.{ℕ, ◌==◌, ◌&&◌, ◌||◌, nat_eq, nat_le, List, [], ◌∷◌, length, Bool, Option, None, Some, if◌then◌else◌}
+use Rattle.std.specs.Prelude.{filter, not, ℕ, ◌==◌, ◌&&◌, ◌||◌, nat_eq, nat_le, List, [], ◌∷◌, length, Bool, Option, None, Some, if◌then◌else◌}
 use Rattle.std.specs.Cmp.Lexicographic.{pointwise}
 use Rattle.std.specs.List.{list_all}
 use Rattle.ctf_model.specs.spaces.Kept.{Kept}
@@ -26,6 +26,10 @@ abbrev pub is_publication_name : List ℕ → Bool
 is_publication_name name = is_between 1 longest_name (length name) && list_all is_name_byte name
 
 -- ---- what is published
+
+-- all but what is published under a name
+abbrev pub published_without : List ℕ → List Publication → List Publication
+published_without name publications = filter (λ p. not (pointwise nat_eq p.name name)) publications
 
 -- the dictionary under a name
 abbrev pub published_as : List ℕ → List Publication → Option Kept

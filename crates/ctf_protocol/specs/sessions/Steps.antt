@@ -2,6 +2,7 @@
 use Rattle.std.specs.Prelude.{◌≡◌, ◌⊎◌, ℕ, ◌+◌, ◌==◌, ◌&&◌, List, [], ◌∷◌, ◌++◌, length, Bool, true, false, Option, None, Some, Result, Ok, Err, is_some, unwrap_or, nat_lt, nat_le, codes, if◌then◌else◌}
 use Rattle.ctf_protocol.specs.answers.Answers.{Answer, Reply, says}
 use Rattle.ctf_protocol.specs.answers.Answers as answers
+use Rattle.ctf_protocol.specs.sessions.Charges.{charge}
 use Rattle.ctf_protocol.specs.sessions.Creations.{Created}
 use Rattle.ctf_model.specs.format.Dictionary.{said_by}
 use Rattle.ctf_protocol.specs.sessions.DraftSteps.{SlotOutcome, created_slot, slot_step, slots_with}
@@ -9,7 +10,7 @@ use Rattle.ctf_model.specs.rules.Faults.{first_fault}
 use Rattle.ctf_protocol.specs.answers.HeldAnswers.{held_said, pending_in}
 use Rattle.ctf_model.specs.format.Lists.{Lists}
 use Rattle.ctf_model.specs.spaces.Kept.{Kept, fault_over, kept_space}
-use Rattle.ctf_protocol.specs.sessions.Publications.{published_as}
+use Rattle.ctf_protocol.specs.sessions.Publications.{published_as, published_without}
 use Rattle.ctf_model.specs.rules.Refusals.{placeless, want_of_memory}
 use Rattle.ctf_protocol.specs.sessions.State.{State, Slot, empty_state, empty_stage}
 use Rattle.ctf_protocol.specs.answers.Questions.{type_said}
@@ -17,7 +18,7 @@ use Rattle.ctf_protocol.specs.answers.SlotAnswers.{whole_said}
 use Rattle.ctf_model.specs.spaces.Space.{Space}
 use Rattle.ctf_model.specs.declared.data_model.DataModel.{DataModel}
 use Rattle.ctf_model.specs.declared.faults.Fault.{Fault}
-use Rattle.ctf_model.specs.declared.faults.TheConstants.Fault.{NO_SLOT, SLOTS_FULL, STAGE_FULL, NAME_TAKEN, NOT_PUBLISHED, NOT_UPDATED, FIXED_PARENT}
+use Rattle.ctf_model.specs.declared.faults.TheConstants.Fault.{NO_SLOT, SLOTS_FULL, STAGE_FULL, NAME_TAKEN, NOT_PUBLISHED, NOT_UPDATED, FIXED_PARENT, QUOTA_FULL}
 use Rattle.ctf_protocol.specs.declared.requests.ListName.{ListName}
 use Rattle.ctf_protocol.specs.declared.requests.ListName.TheVariants.{Ctf, Sym, Str}
 use Rattle.ctf_protocol.specs.declared.requests.Request.{Request}
@@ -30,7 +31,7 @@ use Rattle.ctf_protocol.specs.declared.questions.Question.TheVariants.{OfType, O
 use Rattle.ctf_protocol.specs.declared.questions.SlotQuestion.{SlotQuestion}
 use Rattle.ctf_protocol.specs.declared.questions.SlotQuestion.TheVariants as whole
 use Rattle.ctf_protocol.specs.declared.requests.DraftStep.{DraftStep}
-use Rattle.ctf_protocol.specs.declared.requests.DraftStep.TheVariants.{Discard}
+use Rattle.ctf_protocol.specs.declared.requests.DraftStep.TheVariants.{Add, Update, Discard}
 use Rattle.ctf_protocol.specs.declared.requests.Change.{Change}
 use Rattle.ctf_protocol.specs.declared.requests.Change.TheVariants as change
 use Rattle.ctf_protocol.specs.declared.requests.Request.TheVariants.{Changes, Asks}
@@ -50,6 +51,17 @@ grants answer state = outcome_of (Ok answer) state
 abbrev pub refuses : ℕ → State → Outcome
 refuses code state = outcome_of (Err (placeless code)) state
 
+-- ---- the quota
+
+-- the greatest charge that a request may leave a library with, in bytes
+abbrev pub quota : ℕ
+quota = 268435456
+
+-- a step that would leave a greater one is refused
+abbrev pub within_quota : Outcome → State → Outcome
+within_quota outcome state =
+    if nat_lt quota (charge outcome.state) then refuses QUOTA_FULL state else outcome
+
 -- ---- part
 
 -- the greatest length of a staged list, in bytes
@@ -68,12 +80,13 @@ with_staged Ctf bytes stage = record stage { ctf = bytes }
 with_staged Sym bytes stage = record stage { sym = Some bytes }
 with_staged Str bytes stage = record stage { strs = Some bytes }
 
--- a list becomes this one, if it may be so long
+-- a list becomes this one, if it may be so long, and the library so large
 abbrev pub stages : ListName → List ℕ → State → Outcome
 stages list bytes state =
     if nat_lt longest_list (length bytes) then refuses STAGE_FULL state
-    else grants (says (codes "length") (answers.number (length bytes)) ∷ [])
-    (record state { stage = with_staged list bytes state.stage })
+    else within_quota
+    (grants (says (codes "length") (answers.number (length bytes)) ∷ [])
+    (record state { stage = with_staged list bytes state.stage })) state
 
 -- a piece goes to the end of a list, which is staged from then on
 abbrev pub parts : ListName → List ℕ → State → Outcome
@@ -217,7 +230,7 @@ slots_with_parent number parent (slot ∷ slots) =
 
 abbrev pub imports_unless : Option Fault → ℕ → Kept → State → Outcome
 imports_unless None d parent state =
-    grants [] (record state { slots = slots_with_parent d parent state.slots })
+    within_quota (grants [] (record state { slots = slots_with_parent d parent state.slots })) state
 imports_unless (Some fault) d parent state = outcome_of (Err fault) state
 
 -- the parent of a draft is that of its making
@@ -237,27 +250,43 @@ imports d p state =
 
 -- ---- publish and take
 
--- a name is given once
+abbrev pub adds_publication : List ℕ → Kept → State → Outcome
+adds_publication name kept state =
+    grants []
+    (record state { published = state.published ++ record { name = name; kept = kept } ∷ [] })
+
+-- a name is given once; the operator has no quota
 abbrev pub publishes_kept : List ℕ → Kept → State → Outcome
 publishes_kept name kept state =
     if is_some (published_as name state.published) then refuses NAME_TAKEN state
-    else grants []
-    (record state { published = state.published ++ record { name = name; kept = kept } ∷ [] })
+    else adds_publication name kept state
+
+abbrev pub publishes_within : List ℕ → Kept → State → Outcome
+publishes_within name kept state =
+    if is_some (published_as name state.published) then refuses NAME_TAKEN state
+    else within_quota (adds_publication name kept state) state
 
 -- the dictionary of a slot, as it stands, where that is all that its draft holds
 abbrev pub publishes_slot : List ℕ → Slot → State → Outcome
 publishes_slot name slot state =
     if nat_lt 0 (pending_in slot.draft) then refuses NOT_UPDATED state
-    else publishes_kept name slot.kept state
+    else publishes_within name slot.kept state
 
 abbrev pub publishes : ℕ → List ℕ → State → Outcome
 publishes d name state =
     with_slot (λ slot. publishes_slot name slot state) (slot_at d state.slots) state
 
+-- what the session has published under a name is published no more; who took it keeps it
+abbrev pub withdraws : List ℕ → State → Outcome
+withdraws name state =
+    if is_some (published_as name state.published)
+    then grants [] (record state { published = published_without name state.published })
+    else refuses NOT_PUBLISHED state
+
 -- a slot is made of what was found, without any parent
 abbrev pub takes_found : Option Kept → State → Outcome
 takes_found None state = refuses NOT_PUBLISHED state
-takes_found (Some kept) state = adds_slot kept state
+takes_found (Some kept) state = within_quota (adds_slot kept state) state
 
 abbrev pub takes : Option Kept → State → Outcome
 takes found state = if has_room state then takes_found found state else refuses SLOTS_FULL state
@@ -266,8 +295,9 @@ takes found state = if has_room state then takes_found found state else refuses 
 
 abbrev pub adds_created : Result Slot Fault → State → Outcome
 adds_created (Ok slot) state =
-    grants (says (codes "d") (answers.number state.next) ∷ [])
-    (record state { slots = state.slots ++ slot ∷ []; next = state.next + 1 })
+    within_quota
+    (grants (says (codes "d") (answers.number state.next) ∷ [])
+    (record state { slots = state.slots ++ slot ∷ []; next = state.next + 1 })) state
 adds_created (Err fault) state = outcome_of (Err fault) state
 
 abbrev pub creates_over : Option Kept → Created → State → Outcome
@@ -288,10 +318,21 @@ abbrev pub slot_becomes : ℕ → SlotOutcome → State → Outcome
 slot_becomes d outcome state =
     outcome_of outcome.said (record state { slots = slots_with d outcome.slot state.slots })
 
+-- what an update makes counts from then on
+abbrev pub updates_within : Result Answer Fault → Outcome → State → Outcome
+updates_within (Ok answer) outcome state = within_quota outcome state
+updates_within (Err fault) outcome state = outcome
+
+abbrev pub becomes_by : DraftStep → ℕ → SlotOutcome → State → Outcome
+becomes_by (Add addition) d outcome state = slot_becomes d outcome state
+becomes_by Update d outcome state =
+    updates_within outcome.said (slot_becomes d outcome state) state
+becomes_by Discard d outcome state = slot_becomes d outcome state
+
 -- the step of the draft in a slot
 abbrev pub steps_draft : ℕ → DraftStep → State → Outcome
 steps_draft d step state =
-    with_slot (λ slot. slot_becomes d (slot_step step slot) state) (slot_at d state.slots) state
+    with_slot (λ slot. becomes_by step d (slot_step step slot) state) (slot_at d state.slots) state
 
 -- ---- every request
 
@@ -305,6 +346,7 @@ change_step state change.Reset found = resets state
 change_step state (change.Close d) found = closes d state
 change_step state (change.Import d parent) found = imports d parent state
 change_step state (change.Publish d name) found = publishes d name state
+change_step state (change.Withdraw name) found = withdraws name state
 change_step state (change.Take owner name) found = takes found state
 change_step state (change.Create asked) found = creates asked state
 change_step state (change.Draft d step) found = steps_draft d step state
@@ -313,6 +355,7 @@ change_step state (change.Draft d step) found = steps_draft d step state
 abbrev pub is_quiet_change : Change → Bool
 is_quiet_change change.Clear = true
 is_quiet_change change.Reset = true
+is_quiet_change (change.Withdraw name) = true
 is_quiet_change (change.Close d) = true
 is_quiet_change (change.Draft d Discard) = true
 is_quiet_change _ = false

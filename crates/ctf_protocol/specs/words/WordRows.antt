@@ -22,6 +22,7 @@ written_words =
     ∷ (word.Close, codes "close")
     ∷ (word.Import, codes "import")
     ∷ (word.Publish, codes "publish")
+    ∷ (word.Withdraw, codes "withdraw")
     ∷ (word.Take, codes "take")
     ∷ (word.Create, codes "create")
     ∷ (word.Add, codes "add")

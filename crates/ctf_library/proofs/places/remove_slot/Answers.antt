@@ -1,4 +1,7 @@
-use Rattle.std.proofs.Common.{List, map, Some, ap, sym, ◌∙◌, arith}
+use Rattle.std.proofs.Common.{List, ◌+◌, map, sum_by, Some, ap, sym, ◌∙◌, arith}
+use Rattle.ctf_protocol.proofs.Charged.{without_bytes}
+use Rattle.ctf_protocol.specs.sessions.Charges.{slot_bytes}
+use Rattle.ctf_protocol.specs.sessions.State.{Slot}
 use Rattle.ctf_library.specs.SlotPlaces.{place_of}
 use Rattle.ctf_library.specs.SlotView.{slot_of}
 use Rattle.ctf_library.specs.declared.slots.Slot as own
@@ -37,3 +40,9 @@ returns-in-Some-clause-rise c =
     let placed = ap (λ (xs : List own.Slot). place_of c.args.number (map slot_of xs)) (sym c.deref.ensures.value) ∙ sym c.in-Some.ensures in
     let inside = (is_place c.args.number c.args.slots.now.items c.in-Some.place placed).inside in
     λ next h. rw c.remove.ensures.items (rise_removed 0 c.args.slots.now.items next c.in-Some.place inside h)
+
+pub returns-in-Some-clause-bytes : goal.returns-in-Some-clause-bytes
+returns-in-Some-clause-bytes c =
+    let gone = slot_of c.remove.result in
+    ap (λ (xs : List Slot). sum_by slot_bytes xs + slot_bytes gone) (returns-in-Some-clause-slots c)
+    ∙ without_bytes c.args.number gone (map slot_of c.args.slots.now.items) (sym (returns-in-Some-clause-slot c))

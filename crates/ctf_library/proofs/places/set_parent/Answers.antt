@@ -1,8 +1,11 @@
 use Rattle.std.specs.Prelude.{option_map}
 use Rattle.ctf_draft.specs.declared.draft.Draft.{Draft}
-use Rattle.std.proofs.Common.{◌≡◌, List, map, Some, None, Option, IfSome, ap, sym, subst, ◌∙◌, arith}
+use Rattle.std.proofs.Common.{◌≡◌, ◌+◌, ℕ, List, sum_by, refl, map, Some, None, Option, IfSome, ap, sym, subst, ◌∙◌, arith}
 use Rattle.ctf_protocol.specs.sessions.State.{Slot}
-use Rattle.ctf_model.specs.spaces.Kept.{fault_over}
+use Rattle.ctf_model.specs.spaces.Kept.{Kept, fault_over}
+use Rattle.ctf_protocol.proofs.Charged.{parent_more}
+use Rattle.ctf_protocol.specs.sessions.Charges.{kept_bytes, parent_bytes, slot_bytes}
+use Rattle.ctf_protocol.specs.sessions.Steps.{slot_at, slots_with_parent}
 use Rattle.ctf_library.specs.Fitting.{AreTablesOf}
 use Rattle.ctf_library.specs.SlotPlaces.{place_of}
 use Rattle.ctf_library.specs.SlotView.{slot_of}
@@ -49,3 +52,14 @@ returns-in_default-clause-slots c =
 
 pub returns-in-Some-clause-rise : goal.returns-in-Some-clause-rise
 returns-in-Some-clause-rise c = λ next h. rise_set 0 c.args.slots.now.items next c.in-Some.place c.index_mut-slot.result.now _ (ap (λ (s : own.Slot). s.number) c.index_mut-slot.ensures.value) h
+
+-- what its bytes are then
+counted_at : (n : ℕ) (p : Kept) (old new : List Slot) (o : Option Slot) → slot_at n old ≡ o → new ≡ slots_with_parent n p old → IfSome o (λ slot. sum_by slot_bytes new + parent_bytes slot.parent ≡ sum_by slot_bytes old + kept_bytes p)
+counted_at n p old new None at is = tt
+counted_at n p old new (Some slot) at is = ap (λ (xs : List Slot). sum_by slot_bytes xs + parent_bytes slot.parent) is ∙ parent_more n p slot old at
+
+pub returns-in-Some-clause-bytes : goal.returns-in-Some-clause-bytes
+returns-in-Some-clause-bytes c = counted_at c.args.number c.args.imported.parent (map slot_of c.args.slots.now.items) _ _ refl (returns-in-Some-clause-slots c)
+
+pub returns-in_default-clause-bytes : goal.returns-in_default-clause-bytes
+returns-in_default-clause-bytes c = counted_at c.args.number c.args.imported.parent (map slot_of c.args.slots.now.items) _ _ refl (returns-in_default-clause-slots c)

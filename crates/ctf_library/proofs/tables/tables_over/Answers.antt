@@ -9,8 +9,8 @@ use Rattle.ctf_names.specs.Fitting as names
 use Rattle.ctf_space.specs.SpaceView.{parent_lists, space_of}
 use Rattle.ctf_library.proofs.tables.tables_over.Goals as goal
 
-pub over-requires-in-Ok : goal.over-requires-in-Ok
-over-requires-in-Ok c =
+pub over-requires-2 : goal.over-requires-2
+over-requires-2 c =
     let fault : fault_over c.args.child.now c.args.parent.now ≡ None = rw (← c.view.ensures, ← c.model.ensures, ← c.view-2.ensures, ← c.model-2.ensures) c.in-Ok.ensures.exact_ok in
     let alike = same_models c.args.child.now c.args.parent.now fault in
     let model = ap (λ (s : spaces.Space). s.model) c.in-Ok.ensures.ok ∙ c.model.ensures ∙ sym alike in

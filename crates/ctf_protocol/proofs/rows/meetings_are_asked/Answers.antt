@@ -8,4 +8,4 @@ use Rattle.ctf_protocol.proofs.rows.meetings_are_asked.Goals as goal
 
 pub returns : goal.returns
 unfolding ask words is_utf8 chars hex_on_literals serde_json_on_literals
-returns c = record { publish = refl; take = refl; operators = refl; empty_name = refl; other_byte = refl; no_owner = refl }
+returns c = record { publish = refl; take = refl; withdraw = refl; nameless = refl; operators = refl; empty_name = refl; other_byte = refl; no_owner = refl }

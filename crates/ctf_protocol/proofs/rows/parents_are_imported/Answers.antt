@@ -9,6 +9,7 @@ use Rattle.ctf_model.specs.rules.Needs.{greatest_in_parent}
 use Rattle.ctf_model.specs.format.Spelling.{term_of}
 use Rattle.ctf_model.specs.symbols.Symbols.{symbols, symbols_in}
 use Rattle.ctf_model.specs.format.Section.{front_len, terms_in, walk}
+use Rattle.ctf_protocol.specs.sessions.Charges.{charge}
 use Rattle.ctf_protocol.specs.sessions.Steps.{change_step}
 use Rattle.std.specs.Fmt.{digits}
 use Rattle.ctf_model.specs.rules.FaultNames.{name_of_fault}
@@ -16,5 +17,5 @@ use Rattle.ctf_protocol.specs.lines.ReplyLines.{fitting_line}
 use Rattle.ctf_protocol.proofs.rows.parents_are_imported.Goals as goal
 
 pub returns : goal.returns
-unfolding number greatest_in_parent denoted said_by labels_in terms_in first_fault rules types first_nameless label_sites item_sites record_sites sites bad_name is_misnaming first_misnaming bad_reference first_deep edges_by edges within term_of front_len walk change_step digits name_of_fault fitting_line bad_funcs bad_symbol_type symbols symbols_in entries entries_of function_sites function_sites_of
+unfolding number greatest_in_parent denoted said_by labels_in terms_in first_fault rules types first_nameless label_sites item_sites record_sites sites bad_name is_misnaming first_misnaming bad_reference first_deep edges_by edges within term_of front_len walk change_step charge digits name_of_fault fitting_line bad_funcs bad_symbol_type symbols symbols_in entries entries_of function_sites function_sites_of
 returns c = record { alone_first = refl; own = refl; imported = refl; then_found = refl; past_parent = refl; no_child = refl; child_for_parent = refl; short = refl; no_child_slot = refl; no_parent_slot = refl; refused_stays = refl }

@@ -8,9 +8,10 @@ use Rattle.ctf_model.specs.rules.References.{is_misnaming}
 use Rattle.ctf_model.specs.format.Spelling.{term_of}
 use Rattle.ctf_model.specs.symbols.Symbols.{symbols, symbols_in}
 use Rattle.ctf_model.specs.format.Section.{front_len, terms_in, walk}
+use Rattle.ctf_protocol.specs.sessions.Charges.{charge}
 use Rattle.ctf_protocol.specs.sessions.Steps.{change_step}
 use Rattle.ctf_protocol.proofs.rows.session_runs.Goals as goal
 
 pub returns : goal.returns
-unfolding number denoted said_by labels_in terms_in first_fault rules types first_nameless label_sites item_sites record_sites sites bad_name is_misnaming first_misnaming bad_reference first_deep edges_by edges within term_of front_len walk change_step bad_funcs bad_symbol_type symbols symbols_in entries entries_of function_sites function_sites_of
+unfolding number denoted said_by labels_in terms_in first_fault rules types first_nameless label_sites item_sites record_sites sites bad_name is_misnaming first_misnaming bad_reference first_deep edges_by edges within term_of front_len walk change_step charge bad_funcs bad_symbol_type symbols symbols_in entries entries_of function_sites function_sites_of
 returns c = record { replies = refl; opened = refl; reset = refl; refused = refl }

@@ -8,6 +8,7 @@ use Rattle.ctf_model.specs.rules.References.{is_misnaming}
 use Rattle.ctf_model.specs.format.Spelling.{term_of}
 use Rattle.ctf_model.specs.symbols.Symbols.{symbols, symbols_in}
 use Rattle.ctf_model.specs.format.Section.{front_len, terms_in, walk}
+use Rattle.ctf_protocol.specs.sessions.Charges.{charge}
 use Rattle.ctf_protocol.specs.sessions.Steps.{change_step}
 use Rattle.std.specs.Fmt.{digits}
 use Rattle.ctf_model.specs.rules.FaultNames.{name_of_fault}
@@ -15,5 +16,5 @@ use Rattle.ctf_protocol.specs.lines.ReplyLines.{fitting_line}
 use Rattle.ctf_protocol.proofs.rows.sessions_meet.Goals as goal
 
 pub returns : goal.returns
-unfolding number denoted said_by labels_in terms_in first_fault rules types first_nameless label_sites item_sites record_sites sites bad_name is_misnaming first_misnaming bad_reference first_deep edges_by edges within term_of front_len walk change_step digits name_of_fault fitting_line bad_funcs bad_symbol_type symbols symbols_in entries entries_of function_sites function_sites_of
-returns c = record { done = refl; no_slot = refl; found = refl; same_dictionary = refl; other_name = refl; other_owner = refl; too_early = refl; twice = refl; reset_stays = refl; taker_keeps = refl; left_out = refl }
+unfolding number denoted said_by labels_in terms_in first_fault rules types first_nameless label_sites item_sites record_sites sites bad_name is_misnaming first_misnaming bad_reference first_deep edges_by edges within term_of front_len walk change_step charge digits name_of_fault fitting_line bad_funcs bad_symbol_type symbols symbols_in entries entries_of function_sites function_sites_of
+returns c = record { done = refl; no_slot = refl; found = refl; same_dictionary = refl; other_name = refl; other_owner = refl; too_early = refl; twice = refl; reset_stays = refl; taker_keeps = refl; withdraws = refl; published_no_more = refl; once = refl; owners_alone = refl; again = refl; earlier_takers_keep = refl; left_out = refl }

@@ -5,11 +5,11 @@ use Rattle.ctf_library.proofs.slots.Slot.create.Goals as goal
 
 pub returns-in-Err-clause-exact_err : goal.returns-in-Err-clause-exact_err
 returns-in-Err-clause-exact_err c =
-    either (created_unmade c.args.number (option_copied c.args.parent) c.args.creation.now c.in-Err.fault) c.in-Err.ensures.exact_err
+    either (created_unmade c.args.number c.args.others (option_copied c.args.parent) c.args.creation.now c.in-Err.fault) c.in-Err.ensures.exact_err
 
 pub returns-in-Err-updated_over-clause-exact_err : goal.returns-in-Err-updated_over-clause-exact_err
 returns-in-Err-updated_over-clause-exact_err c =
-    either (created_unwritten c.args.number (option_copied c.args.parent) c.args.creation.now c.in-Ok.draft.draft c.in-Err-updated_over.fault c.in-Ok.ensures.ok) c.in-Err-updated_over.ensures.exact_err
+    either (created_unwritten c.args.number c.args.others (option_copied c.args.parent) c.args.creation.now c.in-Ok.draft.draft c.in-Err-updated_over.fault c.in-Ok.ensures.ok) c.in-Err-updated_over.ensures.exact_err
 
 pub returns-clause-ok : goal.returns-clause-ok
 returns-clause-ok c =

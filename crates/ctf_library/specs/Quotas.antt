@@ -1,0 +1,59 @@
+-- What has no room in the quota. The words are ours.
+use Rattle.std.specs.Prelude.{◌≡◌, ◌<◌, ◌≤◌, ◌+◌, ◌++◌, ◌⊎◌, ℕ, Bool, false, List, length, Option, Some, None, Result, Ok, Err, nat_lt, if◌then◌else◌}
+use Rattle.ctf_protocol.specs.answers.Answers.{Answer}
+use Rattle.ctf_protocol.specs.sessions.DraftSteps.{SlotOutcome, slot_refused, slot_step}
+use Rattle.ctf_protocol.specs.sessions.State.{Slot}
+use Rattle.ctf_protocol.specs.declared.requests.DraftStep.{DraftStep}
+use Rattle.ctf_protocol.specs.declared.requests.DraftStep.TheVariants.{Add, Update, Discard}
+use Rattle.ctf_model.specs.rules.Refusals.{placeless}
+use Rattle.ctf_model.specs.declared.faults.Fault.{Fault}
+use Rattle.ctf_model.specs.declared.faults.TheConstants.Fault.{QUOTA_FULL, STAGE_FULL}
+use Rattle.ctf_protocol.specs.sessions.Charges.{slot_bytes}
+use Rattle.ctf_protocol.specs.sessions.Steps.{longest_list, quota, staged, with_staged}
+use Rattle.ctf_model.specs.format.Lists.{Lists}
+use Rattle.ctf_protocol.specs.declared.requests.ListName.{ListName}
+
+-- a list of this length is too long, or has no room elsewhere
+abbrev pub IsFull : Bool → ℕ → Fault → Type 0
+IsFull fits len f =
+    ((f ≡ placeless STAGE_FULL) × (longest_list < len))
+    ⊎ ((f ≡ placeless QUOTA_FULL) × (len ≤ longest_list) × (fits ≡ false))
+
+-- a piece was added to a list, which is so long then
+pub record IsStaged (list : ListName) (piece : List ℕ) (old new : Lists) (len : ℕ) : Type 0 where
+  pub lists : new ≡ with_staged list (staged list old ++ piece) old
+  pub long : len ≡ length (staged list old ++ piece)
+
+-- an import has a fault, or its parent has no room
+abbrev pub IsUnserved : Bool → Option Fault → Fault → Type 0
+IsUnserved fits fault f =
+    (fault ≡ Some f) ⊎ ((f ≡ placeless QUOTA_FULL) × (fault ≡ None) × (fits ≡ false))
+
+-- ---- drafts
+
+-- bytes are not written, or have no room over a parent, beside what all else comes to
+abbrev pub IsUnwritten : Result (List ℕ) Fault → ℕ → ℕ → Fault → Type 0
+IsUnwritten (Ok bytes) parent others f =
+    (f ≡ placeless QUOTA_FULL) × (quota < others + (length bytes + parent))
+IsUnwritten (Err fault) parent others f = f ≡ fault
+
+-- a slot is not made, or has no room
+abbrev pub IsUncreated : Result Slot Fault → ℕ → Fault → Type 0
+IsUncreated (Ok slot) others f = (f ≡ placeless QUOTA_FULL) × (quota < others + slot_bytes slot)
+IsUncreated (Err fault) others f = f ≡ fault
+
+-- what was granted may have no room
+abbrev pub granted_within : Result Answer Fault → ℕ → SlotOutcome → Slot → SlotOutcome
+granted_within (Ok answer) others outcome slot =
+    if nat_lt quota (others + slot_bytes outcome.slot) then slot_refused (placeless QUOTA_FULL) slot
+    else outcome
+granted_within (Err fault) others outcome slot = outcome
+
+abbrev pub within : ℕ → SlotOutcome → Slot → SlotOutcome
+within others outcome slot = granted_within outcome.said others outcome slot
+
+-- the step of a slot, beside what all else comes to: what an update makes has to have room
+abbrev pub step_beside : ℕ → DraftStep → Slot → SlotOutcome
+step_beside others (Add addition) slot = slot_step (Add addition) slot
+step_beside others Update slot = within others (slot_step Update slot) slot
+step_beside others Discard slot = slot_step Discard slot

@@ -1,0 +1,215 @@
+-- No request takes a library over its quota.
+use Rattle.std.proofs.Common.{◌≡◌, ◌≤◌, ℕ, ◌+◌, List, [], ◌∷◌, ◌++◌, length, Bool, true, false, Option, Some, None, Result, Ok, Err, eqb, ltb, sum_by, refl, ap, sym, ◌∙◌, arith}
+use Rattle.std.specs.Prelude.{is_some, nat_eq, nat_lt, not}
+use Rattle.std.specs.Cmp.Lexicographic.{pointwise}
+use Rattle.std.proofs.lemmas.Bool.{ltb-false}
+use Rattle.std.proofs.lemmas.List.Sums.{sum_by_push}
+use Rattle.ctf_model.specs.drafts.Drafts.{Draft, held}
+use Rattle.ctf_model.specs.rules.Faults.{first_fault}
+use Rattle.ctf_model.specs.spaces.Kept.{Kept, fault_over}
+use Rattle.ctf_model.specs.writing.Written.{written}
+use Rattle.ctf_model.specs.declared.data_model.DataModel.{DataModel}
+use Rattle.ctf_model.specs.declared.faults.Fault.{Fault}
+use Rattle.ctf_protocol.proofs.Charged.{charge_is, filter_bytes, with_bytes, without_bytes}
+use Rattle.ctf_protocol.specs.answers.Answers.{Answer}
+use Rattle.ctf_protocol.specs.answers.HeldAnswers.{pending_in}
+use Rattle.ctf_protocol.specs.sessions.Additions.{Enlarged, enlarged}
+use Rattle.ctf_protocol.specs.sessions.Charges.{charge, lists_bytes, publication_bytes, slot_bytes}
+use Rattle.ctf_protocol.specs.sessions.ChargeLaws.{RequestsStayWithinQuota}
+use Rattle.ctf_protocol.specs.sessions.Creations.{Created}
+use Rattle.ctf_protocol.specs.sessions.DraftSteps.{SlotOutcome, created_slot, draft_step, enlarges, slot_step, slots_with, step_if_draft, updates_to}
+use Rattle.ctf_protocol.specs.sessions.Publications.{published_as, published_without}
+use Rattle.ctf_protocol.specs.sessions.State.{Publication, Slot, State}
+use Rattle.ctf_protocol.specs.sessions.Steps.{Outcome, accepts_unless, adds_created, becomes_by, change_step, closes, creates_from, creates_over, grants, has_room, imports_into, imports_unless, longest_list, opens, opens_unless, publishes_slot, publishes_within, quota, slot_at, slot_becomes, slots_without, stages, takes, takes_found, updates_within, with_slot, withdraws, within_quota}
+use Rattle.ctf_protocol.specs.declared.requests.Change.TheVariants as change
+use Rattle.ctf_protocol.specs.declared.requests.DraftStep.{DraftStep}
+use Rattle.ctf_protocol.specs.declared.requests.DraftStep.TheVariants as steps
+use Rattle.ctf_protocol.specs.declared.requests.ListName.{ListName}
+use Rattle.ctf_protocol.specs.declared.requests.Request.TheVariants.{Changes, Asks}
+
+abbrev Stays : Outcome → Type 0
+Stays outcome = charge outcome.state ≤ quota
+
+quoted : (over : Bool) (outcome : Outcome) (state : State) → nat_lt quota (charge outcome.state) ≡ over → charge state ≤ quota → Stays (within_quota outcome state)
+quoted true outcome state e h = rw e h
+quoted false outcome state e h = rw e (ltb-false quota (charge outcome.state) e)
+
+within : (outcome : Outcome) (state : State) → charge state ≤ quota → Stays (within_quota outcome state)
+within outcome state h = quoted (nat_lt quota (charge outcome.state)) outcome state refl h
+
+-- ---- lists
+
+staging : (long : Bool) (list : ListName) (bytes : List ℕ) (state : State) → nat_lt longest_list (length bytes) ≡ long → charge state ≤ quota → Stays (stages list bytes state)
+staging true list bytes state e h = rw e h
+staging false list bytes state e h = rw e (within _ state h)
+
+accepting : (fault : Option Fault) (state : State) → charge state ≤ quota → Stays (accepts_unless fault state)
+accepting None state h = h
+accepting (Some fault) state h = h
+
+-- what is opened counted already
+opening : (fault : Option Fault) (model : DataModel) (state : State) → charge state ≤ quota → Stays (opens_unless fault (record { lists = state.stage; model = model }) state)
+opening (Some fault) model state h = h
+opening None model state h =
+    let kept : Kept = record { lists = state.stage; model = model } in
+    let slot : Slot = record { number = state.next; kept = kept; parent = None; draft = None } in
+    let before = charge_is state in
+    let after = charge_is (opens_unless None kept state).state in
+    let more = sum_by_push slot_bytes state.slots slot in
+    omega (arith, h, before, after, more)
+
+opens_stay : (room : Bool) (model : DataModel) (state : State) → has_room state ≡ room → charge state ≤ quota → Stays (opens model state)
+opens_stay true model state e h = rw e (opening (first_fault state.stage) model state h)
+opens_stay false model state e h = rw e h
+
+clearing : (state : State) → charge state ≤ quota → Stays (change_step state change.Clear None)
+unfolding change_step
+clearing state h =
+    let before = charge_is state in
+    let after = charge_is (change_step state change.Clear None).state in
+    omega (arith, h, before, after)
+
+resetting : (state : State) → charge state ≤ quota → Stays (change_step state change.Reset None)
+unfolding change_step
+resetting state h =
+    let before = charge_is state in
+    let after = charge_is (change_step state change.Reset None).state in
+    omega (arith, h, before, after)
+
+-- ---- slots
+
+closing : (d : ℕ) (slot : Option Slot) (state : State) → slot_at d state.slots ≡ slot → charge state ≤ quota → Stays (with_slot (λ s. grants [] (record state { slots = slots_without d state.slots })) slot state)
+closing d None state e h = h
+closing d (Some slot) state e h =
+    let before = charge_is state in
+    let after = charge_is (record state { slots = slots_without d state.slots }) in
+    let less = without_bytes d slot state.slots e in
+    omega (arith, h, before, after, less)
+
+imported : (fault : Option Fault) (d : ℕ) (parent : Kept) (state : State) → charge state ≤ quota → Stays (imports_unless fault d parent state)
+imported None d parent state h = within _ state h
+imported (Some fault) d parent state h = h
+
+import_of : (drafted : Bool) (child : Slot) (d : ℕ) (parent : Kept) (state : State) → is_some child.draft ≡ drafted → charge state ≤ quota → Stays (imports_into child d parent state)
+import_of true child d parent state e h = rw e h
+import_of false child d parent state e h = rw e (imported (fault_over child.kept parent) d parent state h)
+
+importing : (d : ℕ) (child parent : Option Slot) (state : State) → charge state ≤ quota → Stays (with_slot (λ c. with_slot (λ p. imports_into c d p.kept state) parent state) child state)
+importing d None parent state h = h
+importing d (Some c) None state h = h
+importing d (Some c) (Some p) state h = import_of _ c d p.kept state refl h
+
+-- ---- publications
+
+published : (taken : Bool) (name : List ℕ) (kept : Kept) (state : State) → is_some (published_as name state.published) ≡ taken → charge state ≤ quota → Stays (publishes_within name kept state)
+published true name kept state e h = rw e h
+published false name kept state e h = rw e (within _ state h)
+
+publish_of : (late : Bool) (name : List ℕ) (slot : Slot) (state : State) → nat_lt 0 (pending_in slot.draft) ≡ late → charge state ≤ quota → Stays (publishes_slot name slot state)
+publish_of true name slot state e h = rw e h
+publish_of false name slot state e h = rw e (published _ name slot.kept state refl h)
+
+publishing : (name : List ℕ) (slot : Option Slot) (state : State) → charge state ≤ quota → Stays (with_slot (λ s. publishes_slot name s state) slot state)
+publishing name None state h = h
+publishing name (Some slot) state h = publish_of _ name slot state refl h
+
+withdrawn : (there : Bool) (name : List ℕ) (state : State) → is_some (published_as name state.published) ≡ there → charge state ≤ quota → Stays (withdraws name state)
+withdrawn true name state e h =
+    let before = charge_is state in
+    let after = charge_is (record state { published = published_without name state.published }) in
+    let less = filter_bytes (λ (p : Publication). not (pointwise nat_eq p.name name)) state.published in
+    rw e (omega (arith, h, before, after, less))
+withdrawn false name state e h = rw e h
+
+taken : (found : Option Kept) (state : State) → charge state ≤ quota → Stays (takes_found found state)
+taken None state h = h
+taken (Some kept) state h = within _ state h
+
+taking : (room : Bool) (found : Option Kept) (state : State) → has_room state ≡ room → charge state ≤ quota → Stays (takes found state)
+taking true found state e h = rw e (taken found state h)
+taking false found state e h = rw e h
+
+-- ---- drafts
+
+created : (slot : Result Slot Fault) (state : State) → charge state ≤ quota → Stays (adds_created slot state)
+created (Ok slot) state h = within _ state h
+created (Err fault) state h = h
+
+created_over : (room : Bool) (parent : Option Kept) (asked : Created) (state : State) → has_room state ≡ room → charge state ≤ quota → Stays (creates_over parent asked state)
+created_over true parent asked state e h = rw e (created (created_slot state.next parent asked) state h)
+created_over false parent asked state e h = rw e h
+
+created_on : (slot : Option Slot) (asked : Created) (state : State) → charge state ≤ quota → Stays (with_slot (λ s. creates_over (Some s.kept) asked state) slot state)
+created_on None asked state h = h
+created_on (Some slot) asked state h = created_over _ (Some slot.kept) asked state refl h
+
+created_from : (parent : Option ℕ) (asked : Created) (state : State) → charge state ≤ quota → Stays (creates_from parent asked state)
+created_from None asked state h = created_over _ None asked state refl h
+created_from (Some p) asked state h = created_on (slot_at p state.slots) asked state h
+
+-- a step that leaves the slot's dictionary as it was
+abbrev SameBytes : Slot → SlotOutcome → Type 0
+SameBytes slot outcome = slot_bytes outcome.slot ≡ slot_bytes slot
+
+enlarging : (slot : Slot) (r : Result Enlarged Fault) → SameBytes slot (enlarges slot r)
+enlarging slot (Ok added) = refl
+enlarging slot (Err fault) = refl
+
+added : (x : DraftStep) (slot : Slot) (draft : Option Draft) → ((d : Draft) → SameBytes slot (draft_step x slot d)) → SameBytes slot (step_if_draft x slot draft)
+added x slot None h = refl
+added x slot (Some draft) h = h draft
+
+add_same : (slot : Slot) (x : _) → SameBytes slot (slot_step (steps.Add x) slot)
+unfolding draft_step
+add_same slot x = added (steps.Add x) slot slot.draft (λ d. enlarging slot (enlarged d x))
+
+discard_same : (slot : Slot) → SameBytes slot (slot_step steps.Discard slot)
+unfolding draft_step
+discard_same slot = added steps.Discard slot slot.draft (λ d. refl)
+
+same_slot : (d : ℕ) (slot : Slot) (outcome : SlotOutcome) (state : State) → slot_at d state.slots ≡ Some slot → SameBytes slot outcome → charge state ≤ quota → Stays (slot_becomes d outcome state)
+same_slot d slot outcome state at same h =
+    let before = charge_is state in
+    let after = charge_is (slot_becomes d outcome state).state in
+    let moved = with_bytes d slot outcome.slot state.slots at in
+    omega (arith, h, before, after, moved, same)
+
+refused_same : (slot : Slot) (draft : Draft) (bytes : Result (List ℕ) Fault) (f : Fault) → (updates_to slot draft bytes).said ≡ Err f → SameBytes slot (updates_to slot draft bytes)
+refused_same slot draft (Ok bytes) f e = absurd cc
+refused_same slot draft (Err fault) f e = refl
+
+refused_if : (slot : Slot) (draft : Option Draft) (f : Fault) → (step_if_draft steps.Update slot draft).said ≡ Err f → SameBytes slot (step_if_draft steps.Update slot draft)
+unfolding draft_step
+refused_if slot None f e = refl
+refused_if slot (Some draft) f e = refused_same slot draft (written (held draft)) f e
+
+updating : (said : Result Answer Fault) (d : ℕ) (slot : Slot) (state : State) → (slot_step steps.Update slot).said ≡ said → slot_at d state.slots ≡ Some slot → charge state ≤ quota → Stays (updates_within said (slot_becomes d (slot_step steps.Update slot) state) state)
+updating (Ok answer) d slot state e at h = within _ state h
+updating (Err fault) d slot state e at h = same_slot d slot (slot_step steps.Update slot) state at (refused_if slot slot.draft fault e) h
+
+becoming : (x : DraftStep) (d : ℕ) (slot : Slot) (state : State) → slot_at d state.slots ≡ Some slot → charge state ≤ quota → Stays (becomes_by x d (slot_step x slot) state)
+becoming (steps.Add addition) d slot state at h = same_slot d slot (slot_step (steps.Add addition) slot) state at (add_same slot addition) h
+becoming steps.Update d slot state at h = updating (slot_step steps.Update slot).said d slot state refl at h
+becoming steps.Discard d slot state at h = same_slot d slot (slot_step steps.Discard slot) state at (discard_same slot) h
+
+stepping : (x : DraftStep) (d : ℕ) (slot : Option Slot) (state : State) → slot_at d state.slots ≡ slot → charge state ≤ quota → Stays (with_slot (λ s. becomes_by x d (slot_step x s) state) slot state)
+stepping x d None state at h = h
+stepping x d (Some slot) state at h = becoming x d slot state at h
+
+-- ---- every request
+
+pub stays : RequestsStayWithinQuota
+unfolding change_step
+stays state (Asks d question) found h = h
+stays state (Changes (change.Part list piece)) found h = staging _ list _ state refl h
+stays state (Changes change.Check) found h = accepting (first_fault state.stage) state h
+stays state (Changes (change.Open model)) found h = opens_stay _ model state refl h
+stays state (Changes change.Clear) found h = clearing state h
+stays state (Changes change.Reset) found h = resetting state h
+stays state (Changes (change.Close d)) found h = closing d (slot_at d state.slots) state refl h
+stays state (Changes (change.Import d p)) found h = importing d (slot_at d state.slots) (slot_at p state.slots) state h
+stays state (Changes (change.Publish d name)) found h = publishing name (slot_at d state.slots) state h
+stays state (Changes (change.Withdraw name)) found h = withdrawn _ name state refl h
+stays state (Changes (change.Take owner name)) found h = taking _ found state refl h
+stays state (Changes (change.Create asked)) found h = created_from asked.parent asked state h
+stays state (Changes (change.Draft d x)) found h = stepping x d (slot_at d state.slots) state refl h

@@ -1,0 +1,5 @@
+use Rattle.ctf_protocol.proofs.WithinQuota.{stays}
+use Rattle.ctf_protocol.proofs.session_laws.requests_stay_within_quota.Goals as goal
+
+pub returns : goal.returns
+returns c = stays

@@ -1,0 +1,13 @@
+-- Laws of charges. Each is the contract of a function of src/session_laws.rt.
+use Rattle.std.specs.Prelude.{◌≤◌, Option}
+use Rattle.ctf_model.specs.spaces.Kept.{Kept}
+use Rattle.ctf_protocol.specs.sessions.Charges.{charge}
+use Rattle.ctf_protocol.specs.sessions.State.{State}
+use Rattle.ctf_protocol.specs.sessions.Steps.{quota, step}
+use Rattle.ctf_protocol.specs.declared.requests.Request.{Request}
+
+-- no request takes a library over its quota
+abbrev pub RequestsStayWithinQuota : Type 0
+RequestsStayWithinQuota =
+    (state : State) (request : Request) (found : Option Kept) → charge state ≤ quota
+    → charge (step state request found).state ≤ quota
