@@ -5,7 +5,7 @@
         print(ctfd.listing(types.find("struct lua_State")))
 """
 from .declare import declaration
-from .dictionary import Dictionary, open_file, open_source, taken
+from .dictionary import Dictionary, open_file, open_source, taken, withdraw
 from .faults import (BadDictionary, BadSymbols, Error, Gone, Incomplete, NoMemory, NoParent,
                      NotFound, Refused, Unreadable)
 from .layout import Layout, Place, layout
@@ -20,4 +20,5 @@ __all__ = [
     "Gone", "Incomplete", "Layout", "Member", "Model", "NoMemory", "NoParent", "NotFound", "Place",
     "PointerTo", "Refused", "Session", "Signature", "Source", "Type", "Unreadable", "declaration",
     "definition", "layout", "listing", "open_file", "open_source", "read", "taken",
+    "withdraw",
 ]

@@ -61,6 +61,11 @@ def taken(session: Session, owner: int, name: str) -> Dictionary:
     return Dictionary(session, session.ask("take", owner=owner, name=name)["d"])
 
 
+def withdraw(session: Session, name: str) -> None:
+    """Takes back what the session has published by a name. Who took it keeps it."""
+    session.ask("withdraw", name=name)
+
+
 class Dictionary:
     """Slot `slot` of a session.
 
@@ -96,6 +101,10 @@ class Dictionary:
     def address(self, number: int) -> int:
         """A number as an address of the program, which has no more bits than a pointer."""
         return number & (1 << 8 * self.pointer_size) - 1
+
+    def publish(self, name: str) -> None:
+        """Publishes the dictionary, without its parent, for every session to take."""
+        self.session.ask("publish", d=self.slot, name=name)
 
     def close(self) -> None:
         self.session.ask("close", d=self.slot)

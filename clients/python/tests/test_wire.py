@@ -65,9 +65,24 @@ class Pipelines(WithService):
 
     def test_a_dictionary_taken_from_another_session(self) -> None:
         slot = self.opened((EXAMPLES / "lua.ctf").read_bytes())
-        self.session.ask("publish", d=slot.slot, name="base")
+        slot.publish("base")
         other = ctfd.taken(self.client.session(), self.session.number, "base")
         self.assertEqual(other.find("struct lua_State").size, 200)
+
+    def test_what_is_withdrawn_stays_with_who_took_it(self) -> None:
+        slot = self.opened((EXAMPLES / "lua.ctf").read_bytes())
+        slot.publish("base")
+        early = ctfd.taken(self.client.session(), self.session.number, "base")
+        ctfd.withdraw(self.session, "base")
+        with self.assertRaises(ctfd.Refused) as caught:
+            ctfd.taken(self.client.session(), self.session.number, "base")
+        self.assertEqual(caught.exception.name, "NotPublished")
+        self.assertEqual(early.find("struct lua_State").size, 200)
+
+    def test_nothing_that_was_not_published_is_withdrawn(self) -> None:
+        with self.assertRaises(ctfd.Refused) as caught:
+            ctfd.withdraw(self.session, "base")
+        self.assertEqual(caught.exception.name, "NotPublished")
 
 
 class Faults(WithService):
