@@ -60,6 +60,10 @@ fn change_said(change: &Change) -> Said {
             (7, b"base") => plain("publish"),
             _ => plain("another publish"),
         },
+        Change::Withdraw { name } => match name.as_slice() {
+            b"base" => plain("withdraw"),
+            _ => plain("another withdraw"),
+        },
         Change::Take { owner, name } => match (owner, name.as_slice()) {
             (8, b"base") => plain("take"),
             _ => plain("another take"),
@@ -175,6 +179,10 @@ fn changes_are_read(rt: HostRuntime) {
         (
             "{\"s\":1,\"op\":\"publish\",\"d\":7,\"name\":\"base\"}",
             plain("publish"),
+        ),
+        (
+            "{\"s\":1,\"op\":\"withdraw\",\"name\":\"base\"}",
+            plain("withdraw"),
         ),
         (
             "{\"s\":1,\"op\":\"take\",\"owner\":8,\"name\":\"base\"}",
