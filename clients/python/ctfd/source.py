@@ -15,7 +15,7 @@ from .faults import Unreadable
 from .model import Model
 
 HEADER = 36
-LONGEST = 16_777_216
+LONGEST = 67_108_864
 SECTIONS = (".SUNW_ctf", ".ctf")
 ARCHIVE = struct.pack("<Q", 0x8B47F2A4D7623EEB)
 ADVICE = "make CTF of version 2 from the program's DWARF, as illumos' ctfconvert does"

@@ -102,7 +102,7 @@ class Faults(WithService):
 
     def test_a_list_that_is_too_long(self) -> None:
         with self.assertRaises(ctfd.Refused) as caught:
-            self.session.open((EXAMPLES / "lua.ctf").read_bytes(), None, bytes(16_777_217))
+            self.session.open((EXAMPLES / "lua.ctf").read_bytes(), None, bytes(67_108_865))
         self.assertEqual(caught.exception.name, "StageFull")
         self.assertEqual(self.opened((EXAMPLES / "lua.ctf").read_bytes()).own, 526)
         self.assertEqual(self.session.ask("kind", d=2, t=1), {"kind": "integer"})
