@@ -130,7 +130,7 @@ class Advice(unittest.TestCase):
         told = (EXAMPLES.parent / "docs" / "FAULTS.md").read_text()
         answered = told.split("## Codes that are not answered yet")[0]
         names = re.findall(r"^\| \d+ \| (\w+) \|", answered, re.M)
-        self.assertEqual(len(names), 62)
+        self.assertEqual(len(names), 63)
         self.assertEqual([name for name in names if not ADVICE.get(name)], [])
 
 
