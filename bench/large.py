@@ -4,9 +4,10 @@
 usage: large.py PROGRAM
 
 Each is a program's symbols, 15 MB and 60 MB with their strings and what is told of them. It is handed
-in and opened, and then handed in and dropped by a reset: the difference is what `open` costs (processor
-time, the least of five runs). Memory is the most that the program has had. Both are told for each MB,
-and how many times as much the larger one takes for each MB as the smaller.
+in and opened, and then handed in and dropped by a reset: the difference is what `open` costs, in
+processor time (the least of five runs) and in instructions, counted by valgrind. Memory is the most that
+the program has had. All are told for each MB, and how many times as much the larger one takes for each MB
+as the smaller.
 """
 import sys
 
@@ -17,19 +18,22 @@ COUNTS = 300_000, 1_200_000
 
 
 def costs(program, count):
-    """Its megabytes, and milliseconds and KiB for each of them."""
+    """Its megabytes, and milliseconds, millions of instructions and KiB for each of them."""
     lists = symbols(count)
     megabytes = sum(map(len, lists)) / 1_000_000
     opened, memory = opening.seconds(program, lists, "open")
     dropped, _ = opening.seconds(program, lists, "reset")
-    return megabytes, 1000 * (opened - dropped) / megabytes, memory / megabytes
+    counted = opening.instructions(program, lists, "open") - opening.instructions(program, lists, "reset")
+    return megabytes, 1000 * (opened - dropped) / megabytes, counted / 1_000_000 / megabytes, memory / megabytes
 
 
 def main(program):
     small, large = (costs(program, count) for count in COUNTS)
-    for count, (megabytes, milliseconds, memory) in zip(COUNTS, (small, large)):
-        print(f"{count:8} symbols {megabytes:6.2f} MB {milliseconds:6.2f} ms/MB for one open {memory:8.0f} KiB/MB")
-    print(f"growth for each MB: time {large[1] / small[1]:.2f}, memory {large[2] / small[2]:.2f}")
+    for count, (megabytes, milliseconds, counted, memory) in zip(COUNTS, (small, large)):
+        print(f"{count:8} symbols {megabytes:6.2f} MB: for one open {milliseconds:6.2f} ms/MB,"
+              f" {counted:5.2f} million instructions/MB, {memory:5.0f} KiB/MB")
+    time, count, memory = (large[i] / small[i] for i in (1, 2, 3))
+    print(f"growth for each MB: time {time:.2f}, instructions {count:.2f}, memory {memory:.2f}")
 
 
 if __name__ == "__main__":
