@@ -83,6 +83,13 @@ yes '{"s":7,"op":"reset"}' | head -n 200000 > "$work/many"
 { "$program" serve < "$work/many" 2> "$work/err"; echo $? > "$work/status"; } | head -n 1 > "$work/out"
 status=$(cat "$work/status");   expect "a reader that leaves" 3 '^{"ok":{},"s":7}$' '^ctfd: Write$'
 
+# A session that holds as much as it may.
+"$examples/../tests/full_session.py" requests > "$work/full"
+"$examples/../tests/full_session.py" replies > "$work/full.replies"
+ends "$work/full" serve
+cmp -s "$work/out" "$work/full.replies" || status="$status, other replies"
+                                expect "a session to its quota" 0 '^{"ok":{"d":1,"types":1},"s":2}$' ''
+
 # Dumps. A dictionary of an int; a child that names type 3 of its parent; one with two types.
 cd "$work" || exit 1
 section() { # PARNAME TYPES STRINGS LENGTH-OF-TYPES LENGTH-OF-STRINGS, each in printf's escapes
