@@ -6,8 +6,8 @@ usage: tests/damage.py PROGRAM
 PROGRAM is crates/ctfd/out/ctfd once `rt run` in crates/ctfd has built it; any other build does too.
 Eight small dictionaries are handed in, with their symbols and strings, cut at each shorter length,
 and with each byte replaced by each of its 255 other values. What `check` answers is compared with
-the first fault that tests/judge.py finds. What is accepted is opened, and every question is asked of
-it on the types 0 to 4 and 32,769 to 32,772, and asked again after a parent was imported, or refused.
+the first fault that tests/judge.py finds. What is accepted is opened, and every question is asked
+of it on the numbers 0 to 4 and 32,769 to 32,772, and again after a parent was imported, or refused.
 Each has one reply, by no fault but those of questions, and the same again where the import was
 refused. At last a value that holds 2^512 others is shown.
 
@@ -213,9 +213,10 @@ def try_batch(batch: Batch) -> Counts:
         wrong = [f"{batch.name}: status {ended.status}, {len(replies)} replies to {lines} lines"]
     else:
         left = iter(replies)
-        for subject, lines_of_it in zip(subjects, asked):
+        for subject, its_lines in zip(subjects, asked):
+            its_replies = list(islice(left, len(its_lines)))
             told = f"{batch.name}, {subject.lists.ctf.hex()}"
-            wrong += (f"{told}: {why}" for why in subject.wrong(list(islice(left, len(lines_of_it)))))
+            wrong += (f"{told}: {why}" for why in subject.wrong(its_replies))
     accepted = sum(subject.fault is None for subject in subjects)
     return Counts(len(subjects), accepted, lines, wrong)
 
@@ -236,7 +237,8 @@ def unions(count: int) -> Lists:
 
 def wrong_unions(program: str) -> Iterator[str]:
     """What is wrong with how a value that holds 2^512 others is shown."""
-    shown = [ask(SESSION, "show", d=1, t=513, bytes=memory, offset=0) for memory in ("01000000", "")]
+    shown = [ask(SESSION, "show", d=1, t=513, bytes=memory, offset=0)
+             for memory in ("01000000", "")]
     lines = [*hand_in(unions(512)), ask(SESSION, "open"), *shown]
     wanted = [b'{"ok":{"d":1,"types":513},"s":1}', refused(Fault(31, "TooLong", 0)),
               refused(Fault(48, "ShortMemory", 0))]

@@ -51,7 +51,7 @@ class Symbol(NamedTuple):
 
 @dataclass(frozen=True)
 class Record:
-    """A whole type record, and what it names: numbers of types, and where references to names stand."""
+    """A whole type record: where it ends, and the types and places of names in it."""
 
     end: int
     is_long_forward: bool
@@ -197,7 +197,7 @@ class Lists:
         return number - 1
 
     def is_missing(self, number: int) -> bool:
-        """Whether a type that is named is not there; 0 asks for none, and a child's parent may have it."""
+        """Whether a type is not there; 0 asks for none, and a parent's is judged by the import."""
         index = self.own_index(number)
         return number != 0 and index is not None and not 0 <= index < len(self.records)
 
@@ -210,7 +210,8 @@ class Lists:
 
     def symbol(self, number: int) -> Symbol | None:
         """The symbol of a number, if it is considered."""
-        name, info, _, section, value, _ = struct.unpack_from("<IBBHQQ", self.sym, SYMBOL_LEN * number)
+        at = SYMBOL_LEN * number
+        name, info, _, section, value, _ = struct.unpack_from("<IBBHQQ", self.sym or b"", at)
         sort, text = info & 15, text_at(self.strs, name) if name else None
         if sort not in (OBJECT, CODE) or section == NO_SECTION or not text or text in MARKS:
             return None
@@ -220,7 +221,7 @@ class Lists:
 
     @cached_property
     def function_entries(self) -> tuple[tuple[int, bytes], ...]:
-        """The considered functions, each with what is left of their section where its entry begins."""
+        """The considered functions, each with what is left of their section for its entry."""
         left, found = self.section(self.header.funcoff, self.header.typeoff), []
         for symbol in self.considered:
             if symbol.sort == CODE:
@@ -230,7 +231,7 @@ class Lists:
 
     @cached_property
     def told(self) -> tuple[tuple[int, tuple[int, ...]], ...]:
-        """The considered symbols, each with the types that are told of it: objects, then functions."""
+        """The considered objects, then the functions, each with the types that are told of it."""
         objects = self.section(self.header.objtoff, self.header.funcoff)
         numbers = [symbol.number for symbol in self.considered if symbol.sort == OBJECT]
         of_objects = zip(numbers, ((t,) for t in u16s(objects, 0, len(objects) // 2)))

@@ -2,18 +2,19 @@
 
 A run is the lines that go in. Those of `crates/ctf_transcripts/data` are written as
 `crates/ctf_transcripts` reads them: a title behind `# `, requests behind `> ` and replies behind
-`< `; what stands below `* 1..=255` is passed once for each of these numbers, up to the next `* `. In
-a line `«3 ab»` stands for `ababab`, and `«8n+1»` for eight times the number of the pass, and one.
+`< `; what stands below `* 1..=255` is passed once for each of these numbers, up to the next `* `.
+In a line `«3 ab»` stands for `ababab`, and `«8n+1»` for eight times the number of the pass, and
+one.
 """
 from __future__ import annotations
 
 import json
+import os
 import re
 import subprocess
-import tempfile
 from dataclasses import dataclass
 from pathlib import Path
-from typing import Iterable, Iterator
+from typing import BinaryIO, Iterable, Iterator
 
 TOP = Path(__file__).resolve().parents[1]
 MARK = re.compile("«(?:(?P<times>[0-9]+) (?P<text>[^»]*)|(?P<factor>[0-9]*)n(?P<plus>\\+[0-9]+)?)»")
@@ -49,12 +50,16 @@ def ask(session: int, word: str, **fields: object) -> bytes:
     return json.dumps({"s": session, "op": word, **fields}, separators=(",", ":")).encode()
 
 
+def file_in_memory() -> BinaryIO:
+    return os.fdopen(os.memfd_create("ctfd"), "w+b")
+
+
 def serve(program: str, given: bytes, words: dict[str, str] | None = None) -> Ended:
     """How `PROGRAM serve` ends over an input, with these words as its environment.
 
-    Files stand at both ends, so that no reply waits to be read.
+    Files in memory stand at both ends, so that nobody waits for the other.
     """
-    with tempfile.TemporaryFile() as source, tempfile.TemporaryFile() as sink:
+    with file_in_memory() as source, file_in_memory() as sink:
         source.write(given)
         source.seek(0)
         child = subprocess.run([program, "serve"], stdin=source, stdout=sink,

@@ -5,9 +5,9 @@
 # Python, and Linux.
 #
 # Runs get 7 bytes a read and give 5 a write, which changes nothing. Then each read fails in turn:
-# wanted are the replies to the lines that were read whole, `ctfd: Read` and status 3. Then each write
-# fails in turn, or takes no bytes: wanted are a front of the output, `ctfd: Write` and status 3. A
-# line of 2 GiB from a pipe is answered LongLine, in no more memory than one of 2 MiB.
+# wanted are the replies to the lines that were read whole, `ctfd: Read` and status 3. Then each
+# write fails in turn, or takes no bytes: wanted are a front of the output, `ctfd: Write` and status
+# 3. A line of 2 GiB from a pipe is answered LongLine, in no more memory than one of 2 MiB.
 #
 # Not reached are the bound on reads, which the program sets to 2^40, and a flush that fails, since
 # flushing standard output calls nothing. crates/ctf_session_rows has tests of both.

@@ -8,8 +8,8 @@ from typing import Iterator
 
 from runs import TOP, Run, ask
 
-TYPE_WORDS = ("kind record members enumerators args array encoding reference resolve size align name"
-              " pointer").split()
+TYPE_WORDS = ("kind record members enumerators args array encoding reference resolve size align"
+              " name pointer").split()
 SLOT_WORDS = ("labels", "info", "model")
 
 
@@ -112,7 +112,7 @@ def make_parent(session: int) -> Iterator[bytes]:
 
 
 def stand_over(session: int, owner: int) -> Iterator[bytes]:
-    """A session takes a parent, makes a child over it, and imports the one into a copy of the other."""
+    """A session takes a parent, makes a child over it, takes that too, and imports the one."""
     yield ask(session, "take", owner=owner, name="base")
     yield ask(session, "create", parent=1, parname="base", model="ilp32")
     yield from add_types(session, 2, 0x8000)

@@ -96,6 +96,13 @@ def questions_afterwards(lines: Lines, replies: Lines) -> Iterator[bytes]:
         yield ask(STRANGER, "take", owner=owner, name=name)
 
 
+def apart(reply: bytes, wanted: bytes) -> str:
+    """Where a reply differs from the one that is wanted."""
+    at = next((at for at, two in enumerate(zip(reply, wanted)) if two[0] != two[1]), 0)
+    here = slice(max(at - 20, 0), at + 60)
+    return f"{reply[here]!r}; without them {wanted[here]!r}, from byte {here.start} on"
+
+
 def is_memory(reply: bytes) -> bool:
     return reply.startswith(MEMORY)
 
@@ -127,7 +134,8 @@ class Trial:
     def without(self, gone: tuple[int, ...]) -> Served:
         """What is answered where some lines are left out and no memory is refused."""
         if gone not in self.known:
-            self.known[gone] = self.service.run([self.lines[number] for number in self.others(gone)])
+            kept = [self.lines[number] for number in self.others(gone)]
+            self.known[gone] = self.service.run(kept)
             if any(map(is_memory, self.known[gone].replies)):
                 raise Wrong("Memory, where none was refused")
         return self.known[gone]
@@ -142,8 +150,8 @@ class Trial:
             self.judge_memory(number, served.replies)
         for number, wanted in zip(self.others(gone), self.without(gone).replies):
             if served.replies[number] != wanted:
-                raise Wrong(f"{len(gone)} lines are answered Memory; {self.shortly(number)} is "
-                            f"answered {served.replies[number][:80]!r}, without them {wanted[:80]!r}")
+                raise Wrong(f"{len(gone)} lines are answered Memory, and {self.shortly(number)} "
+                            f"{apart(served.replies[number], wanted)}")
         return len(gone)
 
     def judge_memory(self, number: int, replies: Lines) -> None:
@@ -205,8 +213,9 @@ def try_numbered(number: int) -> Counts:
 
 def main() -> int:
     """Tries all runs, the longest first, in two processes."""
-    if SERVICE.run([b""]).asked == 0:
-        raise SystemExit(f"{SERVICE.program} asks the C library for no memory: see tests/growths.sh")
+    if SERVICE.run(RUNS[0].lines).asked == 0:
+        raise SystemExit(f"{SERVICE.program} asks the C library for no memory: was it built by "
+                         "`rt try`? See tests/growths.sh")
     longest_first = sorted(range(len(RUNS)), key=lambda number: -len(RUNS[number].lines))
     calls = points = memory = wrong = 0
     with multiprocessing.get_context("fork").Pool(2) as pool:

@@ -104,10 +104,11 @@ class Case:
         report.add(f"{self.name}, read {number} fails by {error}", well, told)
 
     def judge_write(self, number: int, report: Report, **breaks: int) -> None:
-        """What was written before a write is a front of the output, and nothing is written behind it."""
+        """What was written before a write is a front of the output, and no other write follows."""
         told = self.service.run(self.given, **breaks)
-        is_front = self.honest.startswith(told.out) and number - 1 <= len(told.out) < len(self.honest)
-        well = told.ended(3, "ctfd: Write\n") and is_front and told.writes == number
+        is_some = number - 1 <= len(told.out) < len(self.honest)
+        is_front = is_some and self.honest.startswith(told.out) and told.writes == number
+        well = told.ended(3, "ctfd: Write\n") and is_front
         report.add(f"{self.name}, {breaks}", well, told)
 
 
@@ -115,7 +116,8 @@ def cases(service: Service) -> Iterator[Case]:
     """What goes in: the first run, also without its last newline, and some of the transcripts."""
     first = (TOP / "examples" / "first.jsonl").read_bytes()
     inputs = {"first.jsonl": first, "first.jsonl without its last newline": first[:-1]}
-    inputs.update((run.title, joined(run.lines)) for run in transcripts() if run.title in TRANSCRIPTS)
+    chosen = (run for run in transcripts() if run.title in TRANSCRIPTS)
+    inputs.update((run.title, joined(run.lines)) for run in chosen)
     for name, given in inputs.items():
         yield Case(service, name, given, serve(service.program, given).out)
 
@@ -128,9 +130,9 @@ def high_water(pid: int) -> int:
 
 
 def answered_long_line(program: str, length: int) -> tuple[bytes, int]:
-    """What a line of blanks of a length and a reset behind it are answered, and in how much memory."""
-    piece = MEBIBYTE * b" "
-    with subprocess.Popen([program, "serve"], stdin=subprocess.PIPE, stdout=subprocess.PIPE) as child:
+    """What a line of blanks and a reset behind it are answered, and the memory for both in KiB."""
+    piece, pipe = MEBIBYTE * b" ", subprocess.PIPE
+    with subprocess.Popen([program, "serve"], stdin=pipe, stdout=pipe) as child:
         assert child.stdin and child.stdout
         for _ in range(length // MEBIBYTE):
             child.stdin.write(piece)
@@ -148,7 +150,7 @@ def judge_long_lines(program: str, report: Report) -> None:
     endless, much = answered_long_line(program, ENDLESS)
     report.add("a line of 2 MiB", long == REPLIES, long)
     report.add("a line of 2 GiB", endless == REPLIES, endless)
-    report.add("memory for lines of 2 MiB and 2 GiB", 0 < much <= little + SPARE_KIB, (little, much))
+    report.add("memory for both", 0 < much <= little + SPARE_KIB, (little, much))
     print(f"a line of 2 MiB took {little} KiB in all, one of 2 GiB {much} KiB")
 
 
