@@ -1,0 +1,236 @@
+"""Refuses memory to runs of requests, and judges what they are answered; see tests/growths.sh.
+
+usage: run.py PROGRAM LIBRARY [--all]
+
+LIBRARY is tests/growths/refuse.c, compiled.
+"""
+from __future__ import annotations
+
+import json
+import multiprocessing
+import re
+import sys
+from dataclasses import dataclass
+from typing import Any, Iterator, Sequence
+
+from longer import longer_runs
+from runs import Ended, Run, ask, examples, joined, serve, transcripts
+
+# How many calls are refused in a row, and at how many calls of a run at most, without --all.
+ROWS = (1, 40)
+SHARE = 150
+WHOLE = {"from": 0, "count": 1_048_576}
+STRANGER = 4_294_967_295
+MEMORY = b'{"fault":{"code":0,"name":"Memory","place":0},"s":'
+TOLD = re.compile(r"refuse: ([0-9]+) asked, ([0-9]+) refused\n")
+# Words that take no memory once their line is read, the latter in a session that holds something.
+QUIET = {"kind", "array", "encoding", "reference", "resolve", "size", "align", "pointer", "find"}
+GIVING_BACK = {"clear", "close", "reset", "discard"}
+GETTING = {"part", "open", "create", "take"}
+
+Lines = Sequence[bytes]
+
+
+class Wrong(Exception):
+    """What is wrong with the answers to a run."""
+
+
+@dataclass(frozen=True)
+class Served:
+    """What a run was answered, and how many calls for memory there were and were refused."""
+
+    replies: Lines
+    asked: int
+    refused: int
+
+
+@dataclass(frozen=True)
+class Service:
+    """The program, with the library that refuses it memory."""
+
+    program: str
+    library: str
+
+    def run(self, lines: Lines, first: int = 0, many: int = 0) -> Served:
+        """What lines are answered where so many calls are refused from the first on, or none."""
+        words = {"LD_PRELOAD": self.library, "REFUSE_FROM": str(first), "REFUSE_COUNT": str(many)}
+        return served(len(lines), serve(self.program, joined(lines), words))
+
+
+def served(lines: int, ended: Ended) -> Served:
+    """What stands in the output of a run over so many lines, if it ended well."""
+    told = TOLD.fullmatch(ended.err)
+    if ended.status != 0 or not told:
+        raise Wrong(f"status {ended.status}, and {ended.err!r} on standard error")
+    *replies, rest = ended.out.split(b"\n")
+    if len(replies) != lines or rest:
+        raise Wrong(f"{len(replies)} replies to {lines} lines, and then {rest!r}")
+    return Served(replies, int(told[1]), int(told[2]))
+
+
+def said(line: bytes) -> dict[str, Any]:
+    """What a line says, or nothing where it is no object."""
+    try:
+        value = json.loads(line)
+    except ValueError:
+        return {}
+    return value if isinstance(value, dict) else {}
+
+
+def questions_afterwards(lines: Lines, replies: Lines) -> Iterator[bytes]:
+    """What tells of the state that a run leaves: of each stage, slot, draft and publication."""
+    slots, published = set(), set()
+    for line, reply in zip(lines, replies):
+        request, answer = said(line), said(reply).get("ok")
+        if answer and "d" in answer:
+            slots.add((request["s"], answer["d"]))
+        if request.get("op") == "publish" and answer is not None:
+            published.add((request["s"], request["name"]))
+    for session in sorted({session for session, _ in slots}):
+        yield ask(session, "check")
+    for session, d in sorted(slots):
+        yield ask(session, "info", d=d)
+        yield ask(session, "update", d=d)
+        yield ask(session, "bytes", d=d, **WHOLE)
+    for owner, name in sorted(published):
+        yield ask(STRANGER, "take", owner=owner, name=name)
+
+
+def apart(reply: bytes, wanted: bytes) -> str:
+    """Where a reply differs from the one that is wanted."""
+    at = next((at for at, two in enumerate(zip(reply, wanted)) if two[0] != two[1]), 0)
+    here = slice(max(at - 20, 0), at + 60)
+    return f"{reply[here]!r}; without them {wanted[here]!r}, from byte {here.start} on"
+
+
+def is_memory(reply: bytes) -> bool:
+    return reply.startswith(MEMORY)
+
+
+def surely_holds(session: int, lines: Lines, replies: Lines) -> bool:
+    """Whether a session that was answered so has got something, and given back nothing since."""
+    for line, reply in zip(reversed(lines), reversed(replies)):
+        request = said(line)
+        word = request.get("op")
+        if request.get("s") == session and "ok" in said(reply) and word in GETTING | GIVING_BACK:
+            return word in GETTING
+    return False
+
+
+class Trial:
+    """A run with the questions behind it, and what it is answered where lines are left out."""
+
+    def __init__(self, service: Service, run: Run) -> None:
+        replies = service.run(run.lines).replies
+        self.service = service
+        self.lines = [*run.lines, *questions_afterwards(run.lines, replies)]
+        self.known: dict[tuple[int, ...], Served] = {}
+        self.calls = self.without(()).asked
+
+    def others(self, gone: tuple[int, ...]) -> list[int]:
+        """The numbers of the lines that are not left out."""
+        return sorted(set(range(len(self.lines))) - set(gone))
+
+    def without(self, gone: tuple[int, ...]) -> Served:
+        """What is answered where some lines are left out and no memory is refused."""
+        if gone not in self.known:
+            kept = [self.lines[number] for number in self.others(gone)]
+            self.known[gone] = self.service.run(kept)
+            if any(map(is_memory, self.known[gone].replies)):
+                raise Wrong("Memory, where none was refused")
+        return self.known[gone]
+
+    def refuse(self, first: int, many: int) -> int:
+        """Refuses some calls, and answers how many lines were answered Memory."""
+        served = self.service.run(self.lines, first, many)
+        if served.refused == 0:
+            raise Wrong(f"{served.asked} calls, and none refused")
+        gone = tuple(number for number, reply in enumerate(served.replies) if is_memory(reply))
+        for number in gone:
+            self.judge_memory(number, served.replies)
+        for number, wanted in zip(self.others(gone), self.without(gone).replies):
+            if served.replies[number] != wanted:
+                raise Wrong(f"{len(gone)} lines are answered Memory, and {self.shortly(number)} "
+                            f"{apart(served.replies[number], wanted)}")
+        return len(gone)
+
+    def judge_memory(self, number: int, replies: Lines) -> None:
+        """Refuses Memory in a session that is not the line's, or where none is taken."""
+        request, session = said(self.lines[number]), said(replies[number])["s"]
+        if session not in (0, request.get("s")):
+            raise Wrong(f"Memory in session {session}, for {self.shortly(number)}")
+        word, before = request.get("op"), (self.lines[:number], replies[:number])
+        if session and (word in QUIET or word in GIVING_BACK and surely_holds(session, *before)):
+            raise Wrong(f"Memory, where none is taken, for {self.shortly(number)}")
+
+    def shortly(self, number: int) -> str:
+        """A line as it stands in a message."""
+        return repr(self.lines[number][:80])
+
+
+def stride(calls: int, share: int) -> int:
+    """The least k, 1 or a prime, for which each k-th of so many calls is at most a share of them.
+
+    A prime falls on other calls of each line, where lines have as many.
+    """
+    k = 1
+    while calls > share * k or any(k % factor == 0 for factor in range(2, k)):
+        k += 1
+    return k
+
+
+@dataclass(frozen=True)
+class Counts:
+    """How much was tried, and what was wrong."""
+
+    calls: int
+    tried: int
+    memory: int
+    wrong: Sequence[str]
+
+
+def tried(service: Service, run: Run, share: int) -> Counts:
+    """Refuses the calls of a run in turn, as far as its share goes."""
+    try:
+        trial = Trial(service, run)
+    except Wrong as why:
+        return Counts(0, 0, 0, [f"{run.title}: {why}"])
+    firsts = range(1, trial.calls + 1, stride(trial.calls, share))
+    memory, wrong = 0, []
+    for first in firsts:
+        for many in ROWS:
+            try:
+                memory += trial.refuse(first, many)
+            except Wrong as why:
+                wrong.append(f"{run.title}, {many} refused from call {first} on: {why}")
+    return Counts(trial.calls, len(firsts) * len(ROWS), memory, wrong)
+
+
+def try_numbered(number: int) -> Counts:
+    """Tries the run of a number, in a process that was made when all of these stood."""
+    return tried(SERVICE, RUNS[number], EACH)
+
+
+def main() -> int:
+    """Tries all runs, the longest first, in two processes."""
+    if SERVICE.run(RUNS[0].lines).asked == 0:
+        raise SystemExit(f"{SERVICE.program} asks the C library for no memory: was it built by "
+                         "`rt try`? See tests/growths.sh")
+    longest_first = sorted(range(len(RUNS)), key=lambda number: -len(RUNS[number].lines))
+    calls = points = memory = wrong = 0
+    with multiprocessing.get_context("fork").Pool(2) as pool:
+        for counts in pool.imap_unordered(try_numbered, longest_first):
+            calls, points = calls + counts.calls, points + counts.tried
+            memory, wrong = memory + counts.memory, wrong + len(counts.wrong)
+            for line in counts.wrong[:3]:
+                print(line, flush=True)
+    print(f"growths: {len(RUNS)} runs with {calls} calls for memory, refused {points} times; "
+          f"{memory} lines answered Memory, {wrong} times wrong")
+    return 1 if wrong else 0
+
+
+if __name__ == "__main__":
+    SERVICE = Service(*sys.argv[1:3])
+    EACH = sys.maxsize if "--all" in sys.argv[3:] else SHARE
+    RUNS = [*transcripts(), *examples(), *longer_runs()]
+    sys.exit(main())

@@ -1,0 +1,107 @@
+"""Runs of requests that stand in this repository, and a service that is given them.
+
+A run is the lines that go in. Those of `crates/ctf_transcripts/data` are written as
+`crates/ctf_transcripts` reads them: a title behind `# `, requests behind `> ` and replies behind
+`< `; what stands below `* 1..=255` is passed once for each of these numbers, up to the next `* `.
+In a line `«3 ab»` stands for `ababab`, and `«8n+1»` for eight times the number of the pass, and
+one.
+"""
+from __future__ import annotations
+
+import json
+import os
+import re
+import subprocess
+from dataclasses import dataclass
+from pathlib import Path
+from typing import BinaryIO, Iterable, Iterator
+
+TOP = Path(__file__).resolve().parents[1]
+MARK = re.compile("«(?:(?P<times>[0-9]+) (?P<text>[^»]*)|(?P<factor>[0-9]*)n(?P<plus>\\+[0-9]+)?)»")
+PASSES = re.compile("([0-9]+)\\.\\.=([0-9]+)")
+# No run takes nearly so long, so a service that takes it goes on without end.
+LONGEST_SECONDS = 600
+
+
+@dataclass(frozen=True)
+class Run:
+    """Lines that go in, each without its newline."""
+
+    title: str
+    lines: tuple[bytes, ...]
+
+
+@dataclass(frozen=True)
+class Ended:
+    """How a service ended, and what it wrote."""
+
+    status: int
+    out: bytes
+    err: str
+
+
+def joined(lines: Iterable[bytes]) -> bytes:
+    """Lines as they stand in a stream, each with its newline."""
+    return b"".join(line + b"\n" for line in lines)
+
+
+def ask(session: int, word: str, **fields: object) -> bytes:
+    """A request, as a client writes it."""
+    return json.dumps({"s": session, "op": word, **fields}, separators=(",", ":")).encode()
+
+
+def file_in_memory() -> BinaryIO:
+    return os.fdopen(os.memfd_create("ctfd"), "w+b")
+
+
+def serve(program: str, given: bytes, words: dict[str, str] | None = None) -> Ended:
+    """How `PROGRAM serve` ends over an input, with these words as its environment.
+
+    Files in memory stand at both ends, so that nobody waits for the other.
+    """
+    with file_in_memory() as source, file_in_memory() as sink:
+        source.write(given)
+        source.seek(0)
+        child = subprocess.run([program, "serve"], stdin=source, stdout=sink,
+                               stderr=subprocess.PIPE, env=words, timeout=LONGEST_SECONDS,
+                               check=False)
+        sink.seek(0)
+        return Ended(child.returncode, sink.read(), child.stderr.decode())
+
+
+def without_marks(line: str, number: int) -> bytes:
+    """A line in the pass of a number, with what its marks stand for."""
+
+    def meant(mark: re.Match[str]) -> str:
+        if mark["times"]:
+            return mark["text"] * int(mark["times"])
+        return str(int(mark["factor"] or 1) * number + int(mark["plus"] or 0))
+
+    return MARK.sub(meant, line).encode()
+
+
+def requests_of(part: str) -> Iterator[bytes]:
+    """The requests of a part of a run, in all its passes."""
+    first, *lines = part.split("\n")
+    passes = PASSES.fullmatch(first)
+    low, high = (int(passes[1]), int(passes[2])) if passes else (0, 0)
+    for number in range(low, high + 1):
+        for line in lines:
+            if line.startswith("> "):
+                yield without_marks(line[2:], number)
+
+
+def transcripts() -> Iterator[Run]:
+    """All runs of the transcripts, in the order of their files."""
+    folder = TOP / "crates" / "ctf_transcripts" / "data"
+    for path in sorted(folder.glob("*.transcript")):
+        if path.name != "others.transcript":
+            for text in path.read_text(encoding="utf-8").split("\n# ")[1:]:
+                requests = (line for part in text.split("\n* ") for line in requests_of(part))
+                yield Run(text.split("\n")[0], tuple(requests))
+
+
+def examples() -> Iterator[Run]:
+    """The runs of the examples."""
+    for path in sorted((TOP / "examples").glob("*.jsonl")):
+        yield Run(path.name, tuple(path.read_bytes().splitlines()))
