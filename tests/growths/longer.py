@@ -89,6 +89,7 @@ def a_real_program() -> Iterator[bytes]:
     yield from ask_of_slot(1, 2, "struct point")
     yield ask(1, "publish", d=2, name="over")
     yield ask(1, "take", owner=1, name="over")
+    yield ask(1, "withdraw", name="over")
     yield ask(1, "import", d=3, parent=1)
     yield from ask_of_type(1, 3, 0x8003)
     yield ask(1, "part", section="ctf", bytes="f1cf")
@@ -138,6 +139,7 @@ def many_sessions() -> Iterator[bytes]:
     yield from hand_in(4, "zlib")
     yield from ask_of_slot(4, 2, "z_stream *", "inflate", data=12, code=16)
     yield ask(2, "close", d=1)
+    yield ask(1, "withdraw", name="base")
     yield ask(1, "reset")
     for session in (2, 3):
         yield from ask_of_type(session, 3, 10)

@@ -25,7 +25,7 @@ MEMORY = b'{"fault":{"code":0,"name":"Memory","place":0},"s":'
 TOLD = re.compile(r"refuse: ([0-9]+) asked, ([0-9]+) refused\n")
 # Words that take no memory once their line is read, the latter in a session that holds something.
 QUIET = {"kind", "array", "encoding", "reference", "resolve", "size", "align", "pointer", "find"}
-GIVING_BACK = {"clear", "close", "reset", "discard"}
+GIVING_BACK = {"clear", "close", "reset", "withdraw", "discard"}
 GETTING = {"part", "open", "create", "take"}
 
 Lines = Sequence[bytes]
@@ -86,6 +86,8 @@ def questions_afterwards(lines: Lines, replies: Lines) -> Iterator[bytes]:
             slots.add((request["s"], answer["d"]))
         if request.get("op") == "publish" and answer is not None:
             published.add((request["s"], request["name"]))
+        elif request.get("op") == "withdraw" and answer is not None:
+            published.discard((request["s"], request["name"]))
     for session in sorted({session for session, _ in slots}):
         yield ask(session, "check")
     for session, d in sorted(slots):
