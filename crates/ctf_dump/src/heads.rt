@@ -155,18 +155,21 @@ fn function_line<W: Write>(
     line.end(out)
 }
 
-/// A symbol of which nothing is told has no line.
+/// A symbol of which nothing is told has no line, and its name is not read.
 fn symbol_line<W: Write>(entry: Entry<'_>, line: &mut Line, out: &mut W) -> Result<(), DumpFault>
     requires { line.old ≡ [] }
     ensures written { OnOk result (Appends (W.contents out.old) (W.contents out.new)
         (line_of_symbol (entry_shown entry.entry))) }
     ensures empty { OnOk result (line.new ≡ []) }
 {
-    let number = entry.number;
-    let name = entry.symbol.name();
-    match entry.told {
-        Told::Object(Some(tnum)) => object_line(number, name, tnum, line, out),
-        Told::Function(Some(told)) => function_line(number, name, told, line, out),
+    let Entry {
+        number,
+        symbol,
+        told,
+    } = entry;
+    match told {
+        Told::Object(Some(tnum)) => object_line(number, symbol.name(), tnum, line, out),
+        Told::Function(Some(told)) => function_line(number, symbol.name(), told, line, out),
         _ => Ok(()),
     }
 }

@@ -21,18 +21,19 @@ pub use laws::{
     drafts_are_sound, faultless_exactly_where_denoted, first_fault_is_the_least,
     members_stand_next, no_record_begins_another, own_figures_are_their_rules,
     parents_figures_are_their_own, records_are_a_cut, section_spells_one_list,
-    sound_drafts_stay_under_their_parents, written_bytes_denote, written_records_spell,
+    sound_drafts_stay_under_their_parents, values_are_their_rules, written_bytes_denote,
+    written_records_spell,
 };
 pub use layers::{Layer, Qualifier};
 pub use lists::{Parts, no_parts};
 pub use numbers::{Place, TypeNum};
 pub use rows::{
-    bytes_denote, bytes_have_faults, dictionaries_are_written, drafts_live,
+    bytes_denote, bytes_have_faults, dictionaries_are_written, drafts_live, dumps_are,
     enumerators_and_labels_are_added, faults_have_codes, figures_are, figures_over_parents,
     imports_are_judged, kinds_denote, kinds_have_faults, lists_are_long, members_are_added,
     members_are_placed, names_are_found, names_are_spelled, names_are_written, names_over_parents,
     numbers_name, paths_lead, records_are_written, symbols_have_faults, symbols_tell,
-    types_are_added,
+    types_are_added, values_over_parents, values_show,
 };
 pub use sections::Section;
 pub use symbols::SymbolClass;

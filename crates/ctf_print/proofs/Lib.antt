@@ -4,5 +4,6 @@ pub mod Digits
 pub mod Names
 pub mod Raws
 pub mod Signs
+pub mod Standings
 pub mod Tellings
 pub mod Writes

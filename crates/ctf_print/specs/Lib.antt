@@ -1,4 +1,6 @@
 pub mod ImageView
+pub mod KnownView
+pub mod Standing
 pub mod Telling
 pub mod ToldView
 pub mod Written

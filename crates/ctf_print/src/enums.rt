@@ -1,5 +1,6 @@
 //! Enums.
-ghost use Rattle.std.specs.Prelude.{◌≡◌, ◌<◌, IfErr, OnOk, Ok};
+ghost use Rattle.std.specs.Prelude.{◌≡◌, ◌<◌, length, slice_get, IfErr, OnOk, Ok, Some};
+ghost use Rattle.std.specs.Option.{option_map};
 ghost use Rattle.std.specs.Ordering.{int_eq};
 ghost use Rattle.ctf_model.specs.values.Pieces.{piece};
 ghost use Rattle.ctf_model.specs.values.Values.{enum_shown, name_of_value};
@@ -10,24 +11,26 @@ use crate::integers::{put_signed, signed};
 use crate::numbers::{field, show_raw};
 use crate::text::Text;
 use ctf_model::Fault;
-use ctf_views::{Enumerator, Enumerators};
+use ctf_views::Enumerators;
 
-fn has_value(enumerator: Enumerator<'_>, value: i64) -> bool
-    ensures { result ≡ int_eq enumerator.entry.value value }
+/// Whether the enumerator with a number, from 0, has a value. No name is read for it.
+fn has_value(enumerators: &Enumerators<'_>, i: usize, value: i64) -> bool
+    requires { i < length enumerators.now }
+    ensures { Some result
+        ≡ option_map (λ e. int_eq e.value value) (slice_get enumerators.now i) }
 {
-    i64::from(enumerator.value) == value
+    i64::from(enumerators.value(i)) == value
 }
 
-/// Puts the name of the first enumerator with a value, or the value itself.
+/// Puts the name of the first enumerator with a value, or the value itself. Only that name is read.
 fn put_name(enumerators: &Enumerators<'_>, value: i64, out: &mut Text) -> Result<(), Fault>
     ensures ok { OnOk result
         (written out.old (piece (name_of_value enumerators.now value)) ≡ Ok out.new) }
     ensures err { IfErr result (Refused out.old (piece (name_of_value enumerators.now value))) }
 {
     for i in 0..enumerators.len() {
-        let enumerator = enumerators.get(i).unwrap();
-        if has_value(enumerator, value) {
-            return out.put(enumerator.name);
+        if has_value(enumerators, i, value) {
+            return out.put(enumerators.get(i).unwrap().name);
         }
     }
     put_signed(value, out)

@@ -4,6 +4,7 @@
 mod enums;
 mod image;
 mod integers;
+mod known;
 mod numbers;
 mod showing;
 mod telling;

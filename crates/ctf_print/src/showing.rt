@@ -7,6 +7,7 @@ ghost use Rattle.ctf_space.specs.SpaceView.{space_of};
 ghost use Rattle.ctf_print.specs.Written.{added};
 
 use crate::image::Image;
+use crate::known::Known;
 use crate::text::Text;
 use crate::values::show_value;
 use ctf_layout::Layout;
@@ -41,7 +42,8 @@ pub fn show(
         memory,
     };
     let mut text = Text::new(alloc);
-    show_value(&image, number, u128::from(offset), MOST_VALUES, &mut text)?;
+    let mut known = Known::new(alloc, *space);
+    show_value(&image, number, u128::from(offset), MOST_VALUES, &mut known, &mut text)?;
     match out.extend_from_slice(text.as_slice()) {
         Ok(()) => Ok(()),
         Err(_) => Err(placeless(Fault::MEMORY)),

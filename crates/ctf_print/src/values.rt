@@ -14,6 +14,7 @@ ghost use Rattle.ctf_print.specs.Written.{Refused, written};
 use crate::enums::show_enum;
 use crate::image::Image;
 use crate::integers::{show_float, show_integer};
+use crate::known::Known;
 use crate::numbers::show_raw;
 use crate::telling::{Told, told_by};
 use crate::text::Text;
@@ -37,14 +38,17 @@ fn show_elements(
     array: ArrayInfo,
     at: u128,
     nesting: u32,
+    known: &mut Known<'_>,
     out: &mut Text,
 ) -> Result<(), Fault>
+    requires known { known.old ≡ types_of image.now }
     ensures ok { OnOk result (written out.old
         (elements_shown (shows image.now nesting) at array.contents.0 array.count
         (size_of (types_of image.now) array.contents.0)) ≡ Ok out.new) }
     ensures err { IfErr result (Refused out.old
         (elements_shown (shows image.now nesting) at array.contents.0 array.count
         (size_of (types_of image.now) array.contents.0))) }
+    ensures kept { known.new ≡ known.old }
 {
     if array.count == 0 {
         return out.put_nothing();
@@ -56,7 +60,7 @@ fn show_elements(
     let mut place = at;
     for i in 0..array.count {
         out.put_comma(i as usize)?;
-        show_value(image, array.contents, place, nesting, out)?;
+        show_value(image, array.contents, place, nesting, known, out)?;
         place = place.saturating_add(u128::from(size) * 8);
     }
     out.put_nothing()
@@ -68,17 +72,20 @@ fn show_array(
     array: ArrayInfo,
     at: u128,
     nesting: u32,
+    known: &mut Known<'_>,
     out: &mut Text,
 ) -> Result<(), Fault>
+    requires known { known.old ≡ types_of image.now }
     ensures ok { OnOk result (written out.old
         (array_shown (shows image.now nesting) at array.contents.0 array.count
         (size_of (types_of image.now) array.contents.0)) ≡ Ok out.new) }
     ensures err { IfErr result (Refused out.old
         (array_shown (shows image.now nesting) at array.contents.0 array.count
         (size_of (types_of image.now) array.contents.0))) }
+    ensures kept { known.new ≡ known.old }
 {
     out.put(b"[")?;
-    show_elements(image, array, at, nesting, out)?;
+    show_elements(image, array, at, nesting, known, out)?;
     out.put(b"]")
 }
 
@@ -88,16 +95,19 @@ fn show_member(
     member: Member<'_>,
     at: u128,
     nesting: u32,
+    known: &mut Known<'_>,
     out: &mut Text,
 ) -> Result<(), Fault>
+    requires known { known.old ≡ types_of image.now }
     ensures ok { OnOk result (written out.old
         (member_shown (shows image.now nesting) at (member_seen member.entry)) ≡ Ok out.new) }
     ensures err { IfErr result (Refused out.old
         (member_shown (shows image.now nesting) at (member_seen member.entry))) }
+    ensures kept { known.new ≡ known.old }
 {
     out.put_label(member.name)?;
     let place = at.saturating_add(u128::from(member.offset));
-    show_value(image, member.tnum, place, nesting, out)
+    show_value(image, member.tnum, place, nesting, known, out)
 }
 
 /// Puts members, separated by commas.
@@ -107,16 +117,19 @@ fn show_each_member(
     members: &Members<'_>,
     at: u128,
     nesting: u32,
+    known: &mut Known<'_>,
     out: &mut Text,
 ) -> Result<(), Fault>
+    requires known { known.old ≡ types_of image.now }
     ensures ok { OnOk result (written out.old
         (separated (map (member_shown (shows image.now nesting) at) members.now)) ≡ Ok out.new) }
     ensures err { IfErr result (Refused out.old
         (separated (map (member_shown (shows image.now nesting) at) members.now))) }
+    ensures kept { known.new ≡ known.old }
 {
     for i in 0..members.len() {
         out.put_comma(i)?;
-        show_member(image, members.get(i).unwrap(), at, nesting, out)?;
+        show_member(image, members.get(i).unwrap(), at, nesting, known, out)?;
     }
     out.put_nothing()
 }
@@ -127,15 +140,18 @@ fn show_members(
     members: &Members<'_>,
     at: u128,
     nesting: u32,
+    known: &mut Known<'_>,
     out: &mut Text,
 ) -> Result<(), Fault>
+    requires known { known.old ≡ types_of image.now }
     ensures ok { OnOk result (written out.old
         (members_shown (shows image.now nesting) at members.now) ≡ Ok out.new) }
     ensures err { IfErr result (Refused out.old
         (members_shown (shows image.now nesting) at members.now)) }
+    ensures kept { known.new ≡ known.old }
 {
     out.put(b"{")?;
-    show_each_member(image, members, at, nesting, out)?;
+    show_each_member(image, members, at, nesting, known, out)?;
     out.put(b"}")
 }
 
@@ -146,45 +162,72 @@ fn show_told(
     how: Told<'_>,
     at: u128,
     nesting: u32,
+    known: &mut Known<'_>,
     out: &mut Text,
 ) -> Result<(), Fault>
+    requires known { known.old ≡ types_of image.now }
     ensures ok { OnOk result (written out.old
         (told_shown (types_of image.now) (memory_of image.now) (shows image.now nesting) at
         (told_seen how.entry)) ≡ Ok out.new) }
     ensures err { IfErr result (Refused out.old
         (told_shown (types_of image.now) (memory_of image.now) (shows image.now nesting) at
         (told_seen how.entry))) }
+    ensures kept { known.new ≡ known.old }
 {
     match how {
         Told::Integer(encoding) => show_integer(image.memory, at, encoding, out),
         Told::Float(encoding) => show_float(image.memory, at, encoding, out),
         Told::Pointer => show_raw(image.memory, at, pointer_bits(image.space.model()), out),
         Told::Enum(said, enumerators) => show_enum(image.memory, at, said, &enumerators, out),
-        Told::Members(members) => show_members(image, &members, at, nesting, out),
-        Told::Array(array) => show_array(image, array, at, nesting, out),
-        Told::As(number) => show_value(image, number, at, nesting, out),
+        Told::Members(members) => show_members(image, &members, at, nesting, known, out),
+        Told::Array(array) => show_array(image, array, at, nesting, known, out),
+        Told::As(number) => show_value(image, number, at, nesting, known, out),
         Told::Incomplete => out.end(placeless(Fault::INCOMPLETE)),
     }
 }
 
-/// Puts what the value of a number's type shows that begins at a bit.
+/// Puts what the value of a number's type shows, as its record says.
+#[cycle(values)]
+fn show_type(
+    image: &Image<'_>,
+    number: TypeNum,
+    at: u128,
+    nesting: u32,
+    known: &mut Known<'_>,
+    out: &mut Text,
+) -> Result<(), Fault>
+    requires known { known.old ≡ types_of image.now }
+    ensures ok { OnOk result
+        (written out.old (shows image.now nesting number.0 at) ≡ Ok out.new) }
+    ensures err { IfErr result (Refused out.old (shows image.now nesting number.0 at)) }
+    ensures kept { known.new ≡ known.old }
+{
+    if nesting == 0 || number.0 == 0 {
+        return out.end(placeless(Fault::INCOMPLETE));
+    }
+    match image.space.term(number) {
+        Ok(found) => show_told(image, told_by(found.shape()), at, nesting - 1, known, out),
+        Err(fault) => out.end(fault),
+    }
+}
+
+/// Puts what the value of a number's type shows that begins at a bit. Typedefs and qualifiers are
+/// followed once for each type.
 #[cycle(values)]
 pub fn show_value(
     image: &Image<'_>,
     number: TypeNum,
     at: u128,
     nesting: u32,
+    known: &mut Known<'_>,
     out: &mut Text,
 ) -> Result<(), Fault>
+    requires known { known.old ≡ types_of image.now }
     ensures ok { OnOk result
         (written out.old (shows image.now nesting number.0 at) ≡ Ok out.new) }
     ensures err { IfErr result (Refused out.old (shows image.now nesting number.0 at)) }
+    ensures kept { known.new ≡ known.old }
 {
-    if nesting == 0 || number.0 == 0 {
-        return out.end(placeless(Fault::INCOMPLETE));
-    }
-    match image.space.term(number) {
-        Ok(found) => show_told(image, told_by(found.shape()), at, nesting - 1, out),
-        Err(fault) => out.end(fault),
-    }
+    let reached = known.reach(number, nesting);
+    show_type(image, reached.number, at, reached.nesting, known, out)
 }

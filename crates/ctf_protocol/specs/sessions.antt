@@ -6,6 +6,7 @@ pub mod DraftSteps
 pub mod Charges
 pub mod Steps
 pub mod ChargeLaws
+pub mod RefusalLaws
 pub mod Runs
 pub mod SessionLaws
 pub mod ParentRows

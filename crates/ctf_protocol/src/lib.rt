@@ -17,19 +17,19 @@ mod words;
 pub use addables::Addable;
 pub use additions::{Addition, Declared, NewArray, NewKind, NewScalar, TypeNums};
 pub use creations::Creation;
-pub use laws::keys_rise;
+pub use laws::{keys_rise, texts_are_read_back};
 pub use names::Names;
 pub use publications::{LONGEST_NAME, PublicationName};
 pub use questions::{HeldQuestion, PlainQuestion, Question, SlotQuestion, TypeQuestion, Window};
 pub use requests::{Change, DraftStep, ListName, Request};
 pub use rows::{
-    lines_ask, lines_say, meetings_are_asked, output_is, parents_are_imported,
+    lines_ask, lines_say, meetings_are_asked, output_is, parents_are_imported, paths_are_lines,
     questions_are_answered, questions_are_lines, session_runs, sessions_meet, slots_are_closed,
-    words_are_written,
+    texts_spell, words_are_written,
 };
 pub use session_laws::{
-    each_session_runs_alone, requests_stay_within_quota, same_given_same_replies, steps_happen,
-    unreached_sessions_do_not_matter,
+    each_session_runs_alone, refusals_change_nothing, requests_stay_within_quota,
+    same_given_same_replies, steps_happen, unreached_sessions_do_not_matter,
 };
 pub use slots::SlotNumber;
 pub use words::Word;

@@ -1,5 +1,6 @@
 //! Laws over the runs of many sessions. Each is the contract of a function that does nothing.
 ghost use Rattle.ctf_protocol.specs.sessions.ChargeLaws.{RequestsStayWithinQuota};
+ghost use Rattle.ctf_protocol.specs.sessions.RefusalLaws.{RefusalsChangeNothing};
 ghost use Rattle.ctf_protocol.specs.sessions.SessionLaws.{EachRunsAlone, EachStepHappens, SameGiven, UnreachedDoNotMatter};
 
 /// What a session was given decides its replies and its library: its own requests, and what its
@@ -27,4 +28,10 @@ pub fn each_session_runs_alone()
 /// No request takes a library over its quota.
 pub fn requests_stay_within_quota()
     ensures { RequestsStayWithinQuota }
+{}
+
+/// A request that is refused leaves the library as it was, whatever it asks and whatever its take
+/// found.
+pub fn refusals_change_nothing()
+    ensures { RefusalsChangeNothing }
 {}

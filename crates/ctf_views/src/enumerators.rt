@@ -1,4 +1,6 @@
 //! The enumerators of an enum.
+ghost use Rattle.std.specs.Prelude.{◌≡◌, ◌≤◌, ◌<◌, length, IsSome, Some, slice_get};
+ghost use Rattle.std.specs.Option.{option_map};
 ghost use Rattle.ctf_model.specs.format.Spelling.{enumerator_of};
 ghost use Rattle.ctf_sections.specs.StringsView.{tables};
 ghost use Rattle.ctf_views.specs.ItemsView.{enumerator};
@@ -34,6 +36,19 @@ pub struct EnumeratorRow<'a> {
     pub(crate) strings: Strings<'a>,
 }
 
+impl<'a> EnumeratorRow<'a> {
+    /// The value of the enumerator that begins some bytes. No name is read for it.
+    fn value(&self, bytes: &[u8]) -> i32
+        requires inside { 8 ≤ length bytes.now }
+        requires good { IsSome (enumerator_of (tables self.now.strings) bytes.now) }
+        ensures { Some result
+            ≡ option_map (λ e. e.value) (enumerator_of (tables self.now.strings) bytes.now) }
+    {
+        let _ = self;
+        u32_at(bytes, 4).cast_signed()
+    }
+}
+
 impl<'a> Row for EnumeratorRow<'a> {
     type Item = Enumerator<'a>;
 
@@ -59,3 +74,14 @@ impl<'a> Row for EnumeratorRow<'a> {
 
 /// The enumerators of an enum that are left.
 pub type Enumerators<'a> = Rows<'a, EnumeratorRow<'a>>;
+
+impl<'a> Rows<'a, EnumeratorRow<'a>> {
+    /// The value of the enumerator with a number, from 0. No name is read for it.
+    pub fn value(&self, index: usize) -> i32
+        requires { index < length self.now }
+        ensures { Some result ≡ option_map (λ e. e.value) (slice_get self.now index) }
+    {
+        let (row, bytes) = self.row_at(index);
+        row.value(bytes)
+    }
+}

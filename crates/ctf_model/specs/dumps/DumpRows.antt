@@ -10,7 +10,7 @@ use Rattle.ctf_model.specs.names.NameRows.{called}
 use Rattle.ctf_model.specs.format.Term.{Term, Body}
 use Rattle.ctf_model.specs.format.Term as term
 use Rattle.ctf_model.specs.values.ValueRows.{enumerator}
-use Rattle.ctf_model.specs.declared.data_model.DataModel.TheVariants.{Lp64}
+use Rattle.ctf_model.specs.declared.data_model.DataModel.TheVariants.{Ilp32, Lp64}
 
 -- ---- inputs
 
@@ -107,6 +107,10 @@ pub record DumpsAre : Type 0 where
       dump (record { own = pointing; parent = Some (dictionary false functions); model = Lp64 })
       ≡ lines (codes "ctf types=1 child=yes parname=\"p\" parlabel=\"\"\n"
       ∷ codes "type 32769 pointer \"\" hidden to=3 : \"int *\" bytes=8 align=8\n" ∷ [])
+  -- the data model says how wide a pointer is
+  pub of_short_pointers : dump (record { own = pointing; parent = None; model = Ilp32 })
+      ≡ lines (codes "ctf types=1 child=yes parname=\"p\" parlabel=\"\"\n"
+      ∷ codes "type 32769 pointer \"\" hidden to=3 : NoParent bytes=4 align=4\n" ∷ [])
   pub of_symbols : dump (record { own = labelled; parent = None; model = Lp64 })
       ≡ lines (codes "ctf types=1 child=no parname=\"\" parlabel=\"\"\n" ∷ codes "label \"a\" 5\n"
       ∷ codes "object 4 \"b\" 1\n" ∷ codes "function 6 \"f\" return=1 args=0\n"

@@ -8,4 +8,4 @@ use Rattle.ctf_model.proofs.rows.dumps_are.Goals as goal
 
 pub returns : goal.returns
 unfolding types_from name_of_fault declaration_within declared comes_to most_numbers digits
-returns c = record { empty = refl; integer = refl; of_functions = refl; of_structs = refl; of_others = refl; of_a_child = refl; with_a_parent = refl; of_symbols = refl; of_names = refl }
+returns c = record { empty = refl; integer = refl; of_functions = refl; of_structs = refl; of_others = refl; of_a_child = refl; with_a_parent = refl; of_short_pointers = refl; of_symbols = refl; of_names = refl }

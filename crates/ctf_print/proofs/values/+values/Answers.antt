@@ -14,7 +14,7 @@ use Rattle.ctf_print.proofs.Names.{item_lent, some_lent}
 use Rattle.ctf_print.proofs.Tellings.{no_type_shown, none_shown, too_deep, type_shown}
 use Rattle.ctf_print.proofs.Writes.{at_element, first_refused, later_refused, member_refused, member_turn, next_ok, no_more, no_more_members, no_size, refused_first, second_refused, separated_is, some_member, two_ok}
 use Rattle.ctf_print.proofs.values.+values.Goals as goal
-use Rattle.ctf_print.proofs.values.+values.Goals.{show_value-then-nesting-eq0-via-then-nesting-eq0, show_value-then-nesting-eq0-via-else-nesting-eq0+then-number-eq0}
+use Rattle.ctf_print.proofs.values.+values.Goals.{show_type-then-nesting-eq0-via-then-nesting-eq0, show_type-then-nesting-eq0-via-else-nesting-eq0+then-number-eq0}
 
 -- ---- arrays
 
@@ -56,6 +56,7 @@ show_elements-loop-i-init t c =
     record {
       rest = rw some (ap (written c.args.out.now) (separated_is (elements (shows c.args.image.now c.args.nesting) c.args.at c.args.array.contents.0 c.args.array.count (size_of (types_of c.args.image.now) c.args.array.contents.0))));
       place = omega arith;
+      known = refl;
     }
 
 pub show_elements-returns-in_err-put_comma-clause-err : goal.show_elements-returns-in_err-put_comma-clause-err
@@ -78,6 +79,7 @@ show_elements-loop-i-preserved t c =
     record {
       rest = two_ok c.args.out.now c.loop-i.out _ _ _ _ (c.loop-i.invariant.rest ∙ ap (written c.loop-i.out) next) c.put_comma.new.self c.in_ok-put_comma.ensures.ok c.show_value.new.out (rw (← here) c.in_ok-show_value.ensures.ok);
       place = omega (arith, c.saturating_add-place.ensures, c.from.ensures, c.loop-i.invariant.place);
+      known = c.show_value.ensures.kept ∙ c.loop-i.invariant.known;
     }
 
 pub show_elements-returns-clause-ok : goal.show_elements-returns-clause-ok
@@ -110,7 +112,10 @@ show_member-returns-clause-err t c =
     later_refused c.show_value.result _ _ _ _ all (rw (← here) c.show_value.ensures.err)
 
 pub show_each_member-loop-i-init : goal.show_each_member-loop-i-init
-show_each_member-loop-i-init t c = ap (written c.args.out.now) (separated_is (map (member_shown (shows c.args.image.now c.args.nesting) c.args.at) c.args.members.now))
+show_each_member-loop-i-init t c = record {
+      rest = ap (written c.args.out.now) (separated_is (map (member_shown (shows c.args.image.now c.args.nesting) c.args.at) c.args.members.now));
+      known = refl;
+    }
 
 pub show_each_member-unwrap-requires : goal.show_each_member-unwrap-requires
 show_each_member-unwrap-requires t c = some_lent member_seen c.get.result c.args.members.now c.loop-i.i c.get.ensures (rw c.len-i-end.ensures.value at c.loop-i-test.true)
@@ -120,28 +125,31 @@ show_each_member-returns-in_err-put_comma-clause-err t c =
     let p = err_from_is_err_and c.from_residual.result c.from_residual.ensures.1 in
     let inside = rw c.len-i-end.ensures.value at c.loop-i-test.true in
     let next = some_member (member_shown (shows c.args.image.now c.args.nesting) c.args.at) c.args.members.now c.loop-i.i inside in
-    rw (p.1, p.2) (first_refused c.args.out.now c.loop-i.out _ _ _ _ (c.loop-i.invariant ∙ ap (written c.loop-i.out) next.1) c.in_err-put_comma.ensures.err)
+    rw (p.1, p.2) (first_refused c.args.out.now c.loop-i.out _ _ _ _ (c.loop-i.invariant.rest ∙ ap (written c.loop-i.out) next.1) c.in_err-put_comma.ensures.err)
 
 pub show_each_member-returns-in_err-show_member-clause-err : goal.show_each_member-returns-in_err-show_member-clause-err
 show_each_member-returns-in_err-show_member-clause-err t c =
     let p = err_from_is_err_and c.from_residual-in_err-show_member.result c.from_residual-in_err-show_member.ensures.1 in
     let item = item_lent member_seen c.get.result c.unwrap.result _ c.get.ensures c.unwrap.ensures in
-    rw (p.1, p.2) (member_refused (member_shown (shows c.args.image.now c.args.nesting) c.args.at) c.args.members.now c.loop-i.i (member_seen c.unwrap.result) c.args.out.now c.loop-i.out c.put_comma.new.self _ _ item c.loop-i.invariant c.in_ok-put_comma.ensures.ok c.in_err-show_member.ensures.err)
+    rw (p.1, p.2) (member_refused (member_shown (shows c.args.image.now c.args.nesting) c.args.at) c.args.members.now c.loop-i.i (member_seen c.unwrap.result) c.args.out.now c.loop-i.out c.put_comma.new.self _ _ item c.loop-i.invariant.rest c.in_ok-put_comma.ensures.ok c.in_err-show_member.ensures.err)
 
 pub show_each_member-loop-i-preserved : goal.show_each_member-loop-i-preserved
 show_each_member-loop-i-preserved t c =
     let item = item_lent member_seen c.get.result c.unwrap.result _ c.get.ensures c.unwrap.ensures in
-    member_turn (member_shown (shows c.args.image.now c.args.nesting) c.args.at) c.args.members.now c.loop-i.i (member_seen c.unwrap.result) c.args.out.now c.loop-i.out c.put_comma.new.self c.show_member.new.out _ item c.loop-i.invariant c.in_ok-put_comma.ensures.ok c.in_ok-show_member.ensures.ok
+    record {
+      rest = member_turn (member_shown (shows c.args.image.now c.args.nesting) c.args.at) c.args.members.now c.loop-i.i (member_seen c.unwrap.result) c.args.out.now c.loop-i.out c.put_comma.new.self c.show_member.new.out _ item c.loop-i.invariant.rest c.in_ok-put_comma.ensures.ok c.in_ok-show_member.ensures.ok;
+      known = c.show_member.ensures.kept ∙ c.loop-i.invariant.known;
+    }
 
 pub show_each_member-returns-clause-ok : goal.show_each_member-returns-clause-ok
 show_each_member-returns-clause-ok t c =
     let none = no_more_members (member_shown (shows c.args.image.now c.args.nesting) c.args.at) c.args.members.now c.loop-i.i (rw c.len-i-end.ensures.value at c.loop-i-test.false) in
-    rw (c.loop-i.invariant ∙ ap (written c.loop-i.out) none) c.put_nothing.ensures.ok
+    rw (c.loop-i.invariant.rest ∙ ap (written c.loop-i.out) none) c.put_nothing.ensures.ok
 
 pub show_each_member-returns-clause-err : goal.show_each_member-returns-clause-err
 show_each_member-returns-clause-err t c =
     let none = no_more_members (member_shown (shows c.args.image.now c.args.nesting) c.args.at) c.args.members.now c.loop-i.i (rw c.len-i-end.ensures.value at c.loop-i-test.false) in
-    later_refused c.put_nothing.result _ _ _ _ (c.loop-i.invariant ∙ ap (written c.loop-i.out) none) c.put_nothing.ensures.err
+    later_refused c.put_nothing.result _ _ _ _ (c.loop-i.invariant.rest ∙ ap (written c.loop-i.out) none) c.put_nothing.ensures.err
 
 pub show_members-returns-in_err-put-clause-err : goal.show_members-returns-in_err-put-clause-err
 show_members-returns-in_err-put-clause-err t c =
@@ -165,34 +173,34 @@ show_members-returns-clause-err t c =
 
 -- ---- values
 
-pub show_value-returns-then-nesting-eq0-clause-ok : goal.show_value-returns-then-nesting-eq0-clause-ok
-show_value-returns-then-nesting-eq0-clause-ok t c =
+pub show_type-returns-then-nesting-eq0-clause-ok : goal.show_type-returns-then-nesting-eq0-clause-ok
+show_type-returns-then-nesting-eq0-clause-ok t c =
     let is : shows c.args.image.now c.args.nesting c.args.number.0 c.args.at ≡ ends incomplete =
-    elim c.then-nesting-eq0.branch [ show_value-then-nesting-eq0-via-then-nesting-eq0 w ↦ too_deep (types_of c.args.image.now) (memory_of c.args.image.now) c.args.nesting c.args.number.0 c.args.at w.if-nesting-eq0.true | show_value-then-nesting-eq0-via-else-nesting-eq0+then-number-eq0 w ↦ none_shown (types_of c.args.image.now) (memory_of c.args.image.now) c.args.nesting c.args.number.0 c.args.at w.if-number-eq0.true ] in
+    elim c.then-nesting-eq0.branch [ show_type-then-nesting-eq0-via-then-nesting-eq0 w ↦ too_deep (types_of c.args.image.now) (memory_of c.args.image.now) c.args.nesting c.args.number.0 c.args.at w.if-nesting-eq0.true | show_type-then-nesting-eq0-via-else-nesting-eq0+then-number-eq0 w ↦ none_shown (types_of c.args.image.now) (memory_of c.args.image.now) c.args.nesting c.args.number.0 c.args.at w.if-number-eq0.true ] in
     rw is (rw c.placeless.ensures at c.end.ensures.ok)
 
-pub show_value-returns-then-nesting-eq0-clause-err : goal.show_value-returns-then-nesting-eq0-clause-err
-show_value-returns-then-nesting-eq0-clause-err t c =
+pub show_type-returns-then-nesting-eq0-clause-err : goal.show_type-returns-then-nesting-eq0-clause-err
+show_type-returns-then-nesting-eq0-clause-err t c =
     let is : shows c.args.image.now c.args.nesting c.args.number.0 c.args.at ≡ ends incomplete =
-    elim c.then-nesting-eq0.branch [ show_value-then-nesting-eq0-via-then-nesting-eq0 w ↦ too_deep (types_of c.args.image.now) (memory_of c.args.image.now) c.args.nesting c.args.number.0 c.args.at w.if-nesting-eq0.true | show_value-then-nesting-eq0-via-else-nesting-eq0+then-number-eq0 w ↦ none_shown (types_of c.args.image.now) (memory_of c.args.image.now) c.args.nesting c.args.number.0 c.args.at w.if-number-eq0.true ] in
+    elim c.then-nesting-eq0.branch [ show_type-then-nesting-eq0-via-then-nesting-eq0 w ↦ too_deep (types_of c.args.image.now) (memory_of c.args.image.now) c.args.nesting c.args.number.0 c.args.at w.if-nesting-eq0.true | show_type-then-nesting-eq0-via-else-nesting-eq0+then-number-eq0 w ↦ none_shown (types_of c.args.image.now) (memory_of c.args.image.now) c.args.nesting c.args.number.0 c.args.at w.if-number-eq0.true ] in
     rw is (rw c.placeless.ensures at c.end.ensures.err)
 
-pub show_value-returns-in-Ok-clause-ok : goal.show_value-returns-in-Ok-clause-ok
-show_value-returns-in-Ok-clause-ok t c =
+pub show_type-returns-in-Ok-clause-ok : goal.show_type-returns-in-Ok-clause-ok
+show_type-returns-in-Ok-clause-ok t c =
     let value = type_shown (types_of c.args.image.now) (memory_of c.args.image.now) c.args.nesting c.args.number.0 c.args.at (spelled c.in-Ok.found) (shape_seen c.shape.result) c.if-nesting-eq0.false c.if-number-eq0.false (rw c.in-Ok.is at c.term.ensures) c.shape.ensures in
     rw value (rw c.told_by.ensures at c.show_told.ensures.ok)
 
-pub show_value-returns-in-Ok-clause-err : goal.show_value-returns-in-Ok-clause-err
-show_value-returns-in-Ok-clause-err t c =
+pub show_type-returns-in-Ok-clause-err : goal.show_type-returns-in-Ok-clause-err
+show_type-returns-in-Ok-clause-err t c =
     let value = type_shown (types_of c.args.image.now) (memory_of c.args.image.now) c.args.nesting c.args.number.0 c.args.at (spelled c.in-Ok.found) (shape_seen c.shape.result) c.if-nesting-eq0.false c.if-number-eq0.false (rw c.in-Ok.is at c.term.ensures) c.shape.ensures in
     rw value (rw c.told_by.ensures at c.show_told.ensures.err)
 
-pub show_value-returns-in-Err-clause-ok : goal.show_value-returns-in-Err-clause-ok
-show_value-returns-in-Err-clause-ok t c =
+pub show_type-returns-in-Err-clause-ok : goal.show_type-returns-in-Err-clause-ok
+show_type-returns-in-Err-clause-ok t c =
     let value = no_type_shown (types_of c.args.image.now) (memory_of c.args.image.now) c.args.nesting c.args.number.0 c.args.at c.in-Err.fault c.if-nesting-eq0.false c.if-number-eq0.false (rw c.in-Err.is at c.term.ensures) in
     rw value c.end-in-Err.ensures.ok
 
-pub show_value-returns-in-Err-clause-err : goal.show_value-returns-in-Err-clause-err
-show_value-returns-in-Err-clause-err t c =
+pub show_type-returns-in-Err-clause-err : goal.show_type-returns-in-Err-clause-err
+show_type-returns-in-Err-clause-err t c =
     let value = no_type_shown (types_of c.args.image.now) (memory_of c.args.image.now) c.args.nesting c.args.number.0 c.args.at c.in-Err.fault c.if-nesting-eq0.false c.if-number-eq0.false (rw c.in-Err.is at c.term.ensures) in
     rw value c.end-in-Err.ensures.err

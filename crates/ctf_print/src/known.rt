@@ -1,0 +1,129 @@
+//! What was found of types while a value is shown, so that nothing is looked for again.
+ghost use Rattle.std.specs.Prelude.{◌≡◌, ◌≤◌, ℕ, List, IfSome};
+ghost use Rattle.ctf_model.specs.values.Values.{shown_within};
+ghost use Rattle.ctf_space.specs.SpaceView.{space_of};
+ghost use Rattle.ctf_print.specs.Standing.{StandsFor};
+
+use crate::telling::{Told, told_by};
+use ctf_model::TypeNum;
+use ctf_space::Space;
+use std::alloc::Global;
+use std::collections::BTreeMap;
+use std::marker::Model;
+
+/// The type behind so many typedefs and qualifiers.
+#[derive(Clone, Copy)]
+pub struct Behind {
+    pub number: TypeNum,
+    pub steps: u32,
+}
+
+/// A value's type behind typedefs and qualifiers, and how many values may still stand in each
+/// other from it on.
+#[derive(Clone, Copy)]
+pub struct Reached {
+    pub number: TypeNum,
+    pub nesting: u32,
+}
+
+/// What stands behind typedefs and qualifiers of a space, of those that were met.
+#[derive(Drop)]
+pub struct Known<'a> {
+    space: Space<'a>,
+    behind: BTreeMap<u16, Behind>,
+}
+
+impl<'a> Model for Known<'a> {
+    ghost use Rattle.ctf_model.specs.spaces.Space.{Space as Types};
+    ghost use Rattle.ctf_space.specs.SpaceView.{space_of};
+    ghost use Rattle.ctf_print.specs.KnownView.{AreRight};
+
+    ghost Value = { Types };
+
+    ghost view = { λ k. space_of k.space };
+
+    ghost invariant = { λ k. AreRight (space_of k.space) k.behind };
+}
+
+/// A type by itself.
+fn itself(number: TypeNum) -> Behind
+    ensures { result ≡ record { number = number; steps = 0 } }
+{
+    Behind { number, steps: 0 }
+}
+
+impl<'a> Known<'a> {
+    /// Nothing is known yet.
+    pub fn new(alloc: Global, space: Space<'a>) -> Known<'a>
+        ensures { result ≡ space_of space.entry }
+    {
+        Known {
+            space,
+            behind: BTreeMap::new(alloc),
+        }
+    }
+
+    /// The type that a typedef or a qualifier is shown as, one step on.
+    fn next(&self, number: TypeNum) -> Option<TypeNum>
+        ensures { IfSome result (λ t. StandsFor self.now number.0 1 t.0) }
+    {
+        if number.0 == 0 {
+            return None;
+        }
+        match self.space.term(number) {
+            Ok(found) => match told_by(found.shape()) {
+                Told::As(next) => Some(next),
+                _ => None,
+            },
+            Err(_) => None,
+        }
+    }
+
+    /// Keeps what stands behind a type. Without memory for it it is not kept.
+    fn keep(&mut self, number: TypeNum, behind: Behind)
+        requires { StandsFor self.old number.0 behind.steps behind.number.0 }
+        ensures { self.new ≡ self.old }
+    {
+        let _ = self.behind.insert(number.0, behind);
+    }
+
+    /// What stands behind a type. Each type is followed once.
+    fn find(&mut self, number: TypeNum, most: u32) -> Behind
+        ensures stands { StandsFor self.old number.0 result.steps result.number.0 }
+        ensures kept { self.new ≡ self.old }
+    {
+        if most == 0 {
+            return itself(number);
+        }
+        let Some(next) = self.next(number) else {
+            return itself(number);
+        };
+        if let Some(known) = self.behind.get(&number.0) {
+            return *known;
+        }
+        let found = self.find(next, most - 1);
+        if found.steps == u32::MAX {
+            return itself(number);
+        }
+        let behind = Behind {
+            number: found.number,
+            steps: found.steps + 1,
+        };
+        self.keep(number, behind);
+        behind
+    }
+
+    /// The type behind a value's typedefs and qualifiers.
+    pub fn reach(&mut self, number: TypeNum, nesting: u32) -> Reached
+        ensures same { (memory : List ℕ) (p : ℕ) → shown_within self.old memory nesting number.0 p
+            ≡ shown_within self.old memory result.nesting result.number.0 p }
+        ensures fewer { result.nesting ≤ nesting }
+        ensures kept { self.new ≡ self.old }
+    {
+        let behind = self.find(number, nesting);
+        Reached {
+            number: behind.number,
+            nesting: nesting.saturating_sub(behind.steps),
+        }
+    }
+}

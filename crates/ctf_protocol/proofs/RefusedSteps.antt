@@ -1,0 +1,189 @@
+-- A refused request leaves the library as it was.
+use Rattle.std.proofs.Common.{◌≡◌, ℕ, List, [], ◌∷◌, ◌++◌, length, Bool, true, false, Option, Some, None, Result, Ok, Err, eqb, refl, ap, sym, ◌∙◌}
+use Rattle.std.specs.Prelude.{is_some, nat_lt}
+use Rattle.ctf_model.specs.drafts.Drafts.{Draft, held}
+use Rattle.ctf_model.specs.rules.Faults.{first_fault}
+use Rattle.ctf_model.specs.spaces.Kept.{Kept, fault_over}
+use Rattle.ctf_model.specs.writing.Written.{written}
+use Rattle.ctf_model.specs.declared.data_model.DataModel.{DataModel}
+use Rattle.ctf_model.specs.declared.faults.Fault.{Fault}
+use Rattle.ctf_protocol.specs.answers.Answers.{Answer}
+use Rattle.ctf_protocol.specs.answers.HeldAnswers.{pending_in}
+use Rattle.ctf_protocol.specs.sessions.Additions.{Enlarged, enlarged}
+use Rattle.ctf_protocol.specs.sessions.Charges.{charge}
+use Rattle.ctf_protocol.specs.sessions.Creations.{Created}
+use Rattle.ctf_protocol.specs.sessions.DraftSteps.{SlotOutcome, created_slot, draft_step, enlarges, slot_step, slots_with, step_if_draft, updates_to}
+use Rattle.ctf_protocol.specs.sessions.Publications.{published_as}
+use Rattle.ctf_protocol.specs.sessions.RefusalLaws.{RefusalsChangeNothing}
+use Rattle.ctf_protocol.specs.sessions.State.{Slot, State}
+use Rattle.ctf_protocol.specs.sessions.Steps.{Outcome, accepts_unless, adds_created, becomes_by, change_step, creates_from, creates_over, grants, has_room, imports_into, imports_unless, longest_list, opens, opens_unless, publishes_slot, publishes_within, quota, slot_at, slot_becomes, slots_without, stages, takes, takes_found, updates_within, with_slot, withdraws, within_quota}
+use Rattle.ctf_protocol.specs.declared.requests.Change.TheVariants as change
+use Rattle.ctf_protocol.specs.declared.requests.DraftStep.{DraftStep}
+use Rattle.ctf_protocol.specs.declared.requests.DraftStep.TheVariants as steps
+use Rattle.ctf_protocol.specs.declared.requests.ListName.{ListName}
+use Rattle.ctf_protocol.specs.declared.requests.Request.TheVariants.{Changes, Asks}
+
+-- where it is a refusal, the library is this one
+abbrev Stays : Outcome → State → Type 0
+Stays outcome state = (f : Fault) → outcome.reply.outcome ≡ Err f → outcome.state ≡ state
+
+granted : (answer : Answer) (new state : State) → Stays (grants answer new) state
+granted answer new state f e = absurd cc
+
+quoted : (over : Bool) (answer : Answer) (new state : State) → nat_lt quota (charge new) ≡ over → Stays (within_quota (grants answer new) state) state
+quoted true answer new state e = rw e (λ f h. refl)
+quoted false answer new state e = rw e (granted answer new state)
+
+within : (answer : Answer) (new state : State) → Stays (within_quota (grants answer new) state) state
+within answer new state = quoted (nat_lt quota (charge new)) answer new state refl
+
+-- ---- lists
+
+staging : (long : Bool) (list : ListName) (bytes : List ℕ) (state : State) → nat_lt longest_list (length bytes) ≡ long → Stays (stages list bytes state) state
+staging true list bytes state e = rw e (λ f h. refl)
+staging false list bytes state e = rw e (within _ _ state)
+
+accepting : (fault : Option Fault) (state : State) → Stays (accepts_unless fault state) state
+accepting None state f h = refl
+accepting (Some fault) state f h = refl
+
+opening : (fault : Option Fault) (kept : Kept) (state : State) → Stays (opens_unless fault kept state) state
+opening None kept state f h = absurd cc
+opening (Some fault) kept state f h = refl
+
+opens_stay : (room : Bool) (model : DataModel) (state : State) → has_room state ≡ room → Stays (opens model state) state
+opens_stay true model state e = rw e (opening (first_fault state.stage) (record { lists = state.stage; model = model }) state)
+opens_stay false model state e = rw e (λ f h. refl)
+
+-- ---- slots
+
+closing : (d : ℕ) (slot : Option Slot) (state : State) → Stays (with_slot (λ s. grants [] (record state { slots = slots_without d state.slots })) slot state) state
+closing d None state f h = refl
+closing d (Some slot) state f h = absurd cc
+
+imported : (fault : Option Fault) (d : ℕ) (parent : Kept) (state : State) → Stays (imports_unless fault d parent state) state
+imported None d parent state = within _ _ state
+imported (Some fault) d parent state = λ f h. refl
+
+import_of : (drafted : Bool) (child : Slot) (d : ℕ) (parent : Kept) (state : State) → is_some child.draft ≡ drafted → Stays (imports_into child d parent state) state
+import_of true child d parent state e = rw e (λ f h. refl)
+import_of false child d parent state e = rw e (imported (fault_over child.kept parent) d parent state)
+
+importing : (d : ℕ) (child parent : Option Slot) (state : State) → Stays (with_slot (λ c. with_slot (λ p. imports_into c d p.kept state) parent state) child state) state
+importing d None parent state = λ f h. refl
+importing d (Some c) None state = λ f h. refl
+importing d (Some c) (Some p) state = import_of _ c d p.kept state refl
+
+-- ---- publications
+
+published : (taken : Bool) (name : List ℕ) (kept : Kept) (state : State) → is_some (published_as name state.published) ≡ taken → Stays (publishes_within name kept state) state
+published true name kept state e = rw e (λ f h. refl)
+published false name kept state e = rw e (within _ _ state)
+
+publish_of : (late : Bool) (name : List ℕ) (slot : Slot) (state : State) → nat_lt 0 (pending_in slot.draft) ≡ late → Stays (publishes_slot name slot state) state
+publish_of true name slot state e = rw e (λ f h. refl)
+publish_of false name slot state e = rw e (published _ name slot.kept state refl)
+
+publishing : (name : List ℕ) (slot : Option Slot) (state : State) → Stays (with_slot (λ s. publishes_slot name s state) slot state) state
+publishing name None state = λ f h. refl
+publishing name (Some slot) state = publish_of _ name slot state refl
+
+withdrawn : (there : Bool) (name : List ℕ) (state : State) → is_some (published_as name state.published) ≡ there → Stays (withdraws name state) state
+withdrawn true name state e = rw e (granted _ _ state)
+withdrawn false name state e = rw e (λ f h. refl)
+
+taken : (found : Option Kept) (state : State) → Stays (takes_found found state) state
+taken None state = λ f h. refl
+taken (Some kept) state = within _ _ state
+
+taking : (room : Bool) (found : Option Kept) (state : State) → has_room state ≡ room → Stays (takes found state) state
+taking true found state e = rw e (taken found state)
+taking false found state e = rw e (λ f h. refl)
+
+-- ---- drafts
+
+created : (slot : Result Slot Fault) (state : State) → Stays (adds_created slot state) state
+created (Ok slot) state = within _ _ state
+created (Err fault) state = λ f h. refl
+
+created_over : (room : Bool) (parent : Option Kept) (asked : Created) (state : State) → has_room state ≡ room → Stays (creates_over parent asked state) state
+created_over true parent asked state e = rw e (created (created_slot state.next parent asked) state)
+created_over false parent asked state e = rw e (λ f h. refl)
+
+created_on : (slot : Option Slot) (asked : Created) (state : State) → Stays (with_slot (λ s. creates_over (Some s.kept) asked state) slot state) state
+created_on None asked state = λ f h. refl
+created_on (Some slot) asked state = created_over _ (Some slot.kept) asked state refl
+
+created_from : (parent : Option ℕ) (asked : Created) (state : State) → Stays (creates_from parent asked state) state
+created_from None asked state = created_over _ None asked state refl
+created_from (Some p) asked state = created_on (slot_at p state.slots) asked state
+
+-- where it is a refusal, the slot is this one
+abbrev Same : Slot → SlotOutcome → Type 0
+Same slot outcome = (f : Fault) → outcome.said ≡ Err f → outcome.slot ≡ slot
+
+enlarging : (slot : Slot) (r : Result Enlarged Fault) → Same slot (enlarges slot r)
+enlarging slot (Ok added) f e = absurd cc
+enlarging slot (Err fault) f e = refl
+
+updating : (slot : Slot) (draft : Draft) (r : Result (List ℕ) Fault) → Same slot (updates_to slot draft r)
+updating slot draft (Ok bytes) f e = absurd cc
+updating slot draft (Err fault) f e = refl
+
+drafted : (x : DraftStep) (slot : Slot) (draft : Draft) → Same slot (draft_step x slot draft)
+unfolding draft_step
+drafted (steps.Add addition) slot draft = enlarging slot (enlarged draft addition)
+drafted steps.Update slot draft = updating slot draft (written (held draft))
+drafted steps.Discard slot draft = λ f e. absurd cc
+
+if_draft : (x : DraftStep) (slot : Slot) (draft : Option Draft) → Same slot (step_if_draft x slot draft)
+if_draft x slot None = λ f e. refl
+if_draft x slot (Some draft) = drafted x slot draft
+
+-- a slot that takes its own place changes nothing
+with_case : (d : ℕ) (slot first : Slot) (rest : List Slot) → (slot_at d rest ≡ Some slot → slots_with d slot rest ≡ rest) → (t : Bool) → eqb first.number d ≡ t → slot_at d (first ∷ rest) ≡ Some slot → slots_with d slot (first ∷ rest) ≡ first ∷ rest
+with_case d slot first rest later true t e =
+    let here : Some first ≡ Some slot = rw t at e in
+    let same : first ≡ slot = cc in
+    rw t (ap (λ s. s ∷ rest) (sym same))
+with_case d slot first rest later false t e =
+    let there : slot_at d rest ≡ Some slot = rw t at e in
+    rw t (ap (λ ss. first ∷ ss) (later there))
+
+with_itself : (d : ℕ) (slot : Slot) (slots : List Slot) → slot_at d slots ≡ Some slot → slots_with d slot slots ≡ slots
+with_itself d slot [] e = refl
+with_itself d slot (first ∷ rest) e = with_case d slot first rest (with_itself d slot rest) (eqb first.number d) refl e
+
+becomes : (d : ℕ) (slot : Slot) (outcome : SlotOutcome) (state : State) → slot_at d state.slots ≡ Some slot → Same slot outcome → Stays (slot_becomes d outcome state) state
+becomes d slot outcome state at same f e = ap (λ ss. record state { slots = ss }) (ap (λ s. slots_with d s state.slots) (same f e) ∙ with_itself d slot state.slots at)
+
+update_within : (said : Result Answer Fault) (d : ℕ) (slot : Slot) (outcome : SlotOutcome) (state : State) → outcome.said ≡ said → slot_at d state.slots ≡ Some slot → Same slot outcome → Stays (updates_within said (slot_becomes d outcome state) state) state
+update_within (Ok answer) d slot outcome state e at same = rw e (within answer _ state)
+update_within (Err fault) d slot outcome state e at same = becomes d slot outcome state at same
+
+becoming : (x : DraftStep) (d : ℕ) (slot : Slot) (state : State) → slot_at d state.slots ≡ Some slot → Stays (becomes_by x d (slot_step x slot) state) state
+becoming (steps.Add addition) d slot state at = becomes d slot _ state at (if_draft (steps.Add addition) slot slot.draft)
+becoming steps.Update d slot state at = update_within _ d slot _ state refl at (if_draft steps.Update slot slot.draft)
+becoming steps.Discard d slot state at = becomes d slot _ state at (if_draft steps.Discard slot slot.draft)
+
+stepping : (x : DraftStep) (d : ℕ) (slot : Option Slot) (state : State) → slot_at d state.slots ≡ slot → Stays (with_slot (λ s. becomes_by x d (slot_step x s) state) slot state) state
+stepping x d None state at = λ f h. refl
+stepping x d (Some slot) state at = becoming x d slot state at
+
+-- ---- every request
+
+pub stays : RefusalsChangeNothing
+unfolding change_step
+stays state (Asks d question) found = λ f h. refl
+stays state (Changes (change.Part list piece)) found = staging _ list _ state refl
+stays state (Changes change.Check) found = accepting (first_fault state.stage) state
+stays state (Changes (change.Open model)) found = opens_stay _ model state refl
+stays state (Changes change.Clear) found = granted _ _ state
+stays state (Changes change.Reset) found = granted _ _ state
+stays state (Changes (change.Close d)) found = closing d (slot_at d state.slots) state
+stays state (Changes (change.Import d p)) found = importing d (slot_at d state.slots) (slot_at p state.slots) state
+stays state (Changes (change.Publish d name)) found = publishing name (slot_at d state.slots) state
+stays state (Changes (change.Withdraw name)) found = withdrawn _ name state refl
+stays state (Changes (change.Take owner name)) found = taking _ found state refl
+stays state (Changes (change.Create asked)) found = created_from asked.parent asked state
+stays state (Changes (change.Draft d x)) found = stepping x d (slot_at d state.slots) state refl
