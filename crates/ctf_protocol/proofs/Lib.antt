@@ -1,6 +1,11 @@
 pub mod Charged
 pub mod KeyOrder
 pub mod RefusedSteps
+pub mod TableCodes
+pub mod TableDrafts
+pub mod TableFigures
+pub mod TableSteps
+pub mod TableTexts
 pub mod Asking
 pub mod SessionRuns
 pub mod TextReading

@@ -28,8 +28,8 @@ pub use rows::{
     texts_spell, words_are_written,
 };
 pub use session_laws::{
-    each_session_runs_alone, refusals_change_nothing, requests_stay_within_quota,
-    same_given_same_replies, steps_happen, unreached_sessions_do_not_matter,
+    each_session_runs_alone, refusals_are_in_the_table, refusals_change_nothing,
+    requests_stay_within_quota, same_given_same_replies, steps_happen, unreached_sessions_do_not_matter,
 };
 pub use slots::SlotNumber;
 pub use words::Word;

@@ -1,6 +1,10 @@
 //! Laws over the runs of many sessions. Each is the contract of a function that does nothing.
 ghost use Rattle.ctf_protocol.specs.sessions.ChargeLaws.{RequestsStayWithinQuota};
-ghost use Rattle.ctf_protocol.specs.sessions.RefusalLaws.{RefusalsChangeNothing};
+ghost use Rattle.ctf_protocol.specs.sessions.RefusalLaws.{
+  BadLinesAreInTheTable,
+  RefusalsAreInTheTable,
+  RefusalsChangeNothing,
+};
 ghost use Rattle.ctf_protocol.specs.sessions.SessionLaws.{EachRunsAlone, EachStepHappens, SameGiven, UnreachedDoNotMatter};
 
 /// What a session was given decides its replies and its library: its own requests, and what its
@@ -34,4 +38,10 @@ pub fn requests_stay_within_quota()
 /// found.
 pub fn refusals_change_nothing()
     ensures { RefusalsChangeNothing }
+{}
+
+/// Whatever a request or a line is refused with is a fault of the table.
+pub fn refusals_are_in_the_table()
+    ensures requests { RefusalsAreInTheTable }
+    ensures lines { BadLinesAreInTheTable }
 {}

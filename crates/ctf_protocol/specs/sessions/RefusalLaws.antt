@@ -1,7 +1,10 @@
 -- Laws of refusals. Each is the contract of a function of src/session_laws.rt.
-use Rattle.std.specs.Prelude.{◌≡◌, Option, Err}
+use Rattle.std.specs.Prelude.{◌≡◌, ◌==◌, ℕ, Bool, true, List, Option, Err}
+use Rattle.std.specs.List.{list_any}
+use Rattle.ctf_model.specs.rules.FaultNames.{fault_names}
 use Rattle.ctf_model.specs.spaces.Kept.{Kept}
 use Rattle.ctf_model.specs.declared.faults.Fault.{Fault}
+use Rattle.ctf_protocol.specs.lines.Ask.{ask}
 use Rattle.ctf_protocol.specs.sessions.State.{State}
 use Rattle.ctf_protocol.specs.sessions.Steps.{step}
 use Rattle.ctf_protocol.specs.declared.requests.Request.{Request}
@@ -12,3 +15,21 @@ RefusalsChangeNothing =
     (state : State) (request : Request) (found : Option Kept) (fault : Fault)
     → (step state request found).reply.outcome ≡ Err fault
     → (step state request found).state ≡ state
+
+-- a code has a row in the table of faults
+abbrev pub has_row : ℕ → Bool
+has_row code = list_any (λ row. row.0 == code) fault_names
+
+-- so whatever a request is refused with has a name
+abbrev pub RefusalsAreInTheTable : Type 0
+RefusalsAreInTheTable =
+    (state : State) (request : Request) (found : Option Kept) (fault : Fault)
+    → (step state request found).reply.outcome ≡ Err fault
+    → has_row fault.code ≡ true
+
+-- and so has what a line is refused with that asks nothing
+abbrev pub BadLinesAreInTheTable : Type 0
+BadLinesAreInTheTable =
+    (line : List ℕ) (session : ℕ) (fault : Fault)
+    → ask line ≡ Err (session, fault)
+    → has_row fault.code ≡ true

@@ -1,0 +1,292 @@
+-- What a request is refused with has a row in the table.
+use Rattle.std.proofs.Common.{◌≡◌, ℕ, List, [], ◌∷◌, length, Bool, true, false, Option, Some, None, Result, Ok, Err, refl}
+use Rattle.std.specs.Prelude.{is_none, is_some, nat_lt, if◌then◌else◌}
+use Rattle.std.specs.Option.{option_and_then, option_map}
+use Rattle.serde_json.specs.Data.{Data}
+use Rattle.ctf_model.specs.drafts.Adders.{Added, add_enumerator, add_label, add_member, add_type}
+use Rattle.ctf_model.specs.drafts.Drafts.{Draft, held, new_draft}
+use Rattle.ctf_model.specs.figures.Figures.{align, referred, resolved, size}
+use Rattle.ctf_model.specs.figures.Paths.{path}
+use Rattle.ctf_model.specs.format.Dictionary.{Dictionary}
+use Rattle.ctf_model.specs.format.Shown.{Facts, arguments_in, array_in, encoding_in, enumerators_in, facts, members_in}
+use Rattle.ctf_model.specs.format.Term.{Term}
+use Rattle.ctf_model.specs.names.Found.{found, pointer_to}
+use Rattle.ctf_model.specs.names.TypeNames.{spelled_name}
+use Rattle.ctf_model.specs.rules.Faults.{first_fault}
+use Rattle.ctf_model.specs.rules.Refusals.{placeless}
+use Rattle.ctf_model.specs.spaces.Kept.{Kept, fault_over, modelled_by}
+use Rattle.ctf_model.specs.spaces.Space.{Space, space_type}
+use Rattle.ctf_model.specs.symbols.SymbolQuestions.{entry_named, function_in, function_of, label_of, last_of_label, object_in, object_of, signature_told, symbol_found, told_of, type_told, or_refused}
+use Rattle.ctf_model.specs.symbols.Symbols.{Symbol, is_function, is_object}
+use Rattle.ctf_model.specs.values.Values.{value_text}
+use Rattle.ctf_model.specs.writing.Written.{written}
+use Rattle.ctf_model.specs.declared.data_model.DataModel.{DataModel}
+use Rattle.ctf_model.specs.declared.faults.Fault.{Fault}
+use Rattle.ctf_model.specs.declared.faults.TheConstants.Fault.{LONG_LINE, NO_INFO, NO_LABEL, NO_SYMBOL, NOT_DATA, NOT_FUNCTION}
+use Rattle.ctf_protocol.proofs.TableCodes.{either, good, good_fault, refused, told}
+use Rattle.ctf_protocol.proofs.TableDrafts.{dictionary_good, enumerator_added, import_good, label_added, member_added, new_good, type_added, written_good}
+use Rattle.ctf_protocol.proofs.TableFigures.{align_good, path_good, referred_good, resolved_good, size_good, type_good}
+use Rattle.ctf_protocol.proofs.TableTexts.{lookup_good, name_good, pointer_good, value_good}
+use Rattle.ctf_protocol.specs.answers.Answers.{Answer}
+use Rattle.ctf_protocol.specs.answers.HeldAnswers.{pending_in}
+use Rattle.ctf_protocol.specs.answers.Questions.{align_fields, argument_fields, array_fields, as_fields, encoding_fields, enumerator_fields, member_fields, name_fields, or_wrong_kind, plain_said, position_fields, said_of, said_on, size_fields, type_fields, type_said, value_fields}
+use Rattle.ctf_protocol.specs.answers.SlotAnswers.{last_fields, signature_fields, symbol_fields, whole_said}
+use Rattle.ctf_protocol.specs.lines.Ask.{ask, asked_by, json, or_bad_request, request_asked, value_asked}
+use Rattle.ctf_protocol.specs.sessions.Additions.{Enlarged, enlarged, numbered, silent}
+use Rattle.ctf_protocol.specs.sessions.Charges.{charge}
+use Rattle.ctf_protocol.specs.sessions.Creations.{Created}
+use Rattle.ctf_protocol.specs.sessions.DraftSteps.{SlotOutcome, created_slot, draft_step, enlarges, model_made, slot_of_draft, slot_step, step_if_draft, updated_slot, updates_to}
+use Rattle.ctf_protocol.specs.sessions.Publications.{published_as}
+use Rattle.ctf_protocol.specs.sessions.RefusalLaws.{BadLinesAreInTheTable, RefusalsAreInTheTable}
+use Rattle.ctf_protocol.specs.sessions.State.{Slot, State}
+use Rattle.ctf_protocol.specs.sessions.Steps.{Outcome, accepts_unless, adds_created, adds_slot, answer_to, becomes_by, change_step, creates_from, creates_over, grants, has_room, imports_into, imports_unless, longest_list, opens, opens_unless, publishes_slot, publishes_within, quota, said_by_slot, slot_at, slot_becomes, slot_said, slot_space, slots_without, stages, takes, takes_found, updates_within, with_slot, withdraws, within_quota}
+use Rattle.ctf_protocol.specs.declared.additions.Addition.{Addition}
+use Rattle.ctf_protocol.specs.declared.additions.Addition.TheVariants as add
+use Rattle.ctf_protocol.specs.declared.questions.PlainQuestion.{PlainQuestion}
+use Rattle.ctf_protocol.specs.declared.questions.PlainQuestion.TheVariants as plain
+use Rattle.ctf_protocol.specs.declared.questions.Question.{Question}
+use Rattle.ctf_protocol.specs.declared.questions.Question.TheVariants.{OfHeld, OfSlot, OfType}
+use Rattle.ctf_protocol.specs.declared.questions.SlotQuestion.{SlotQuestion}
+use Rattle.ctf_protocol.specs.declared.questions.SlotQuestion.TheVariants as whole
+use Rattle.ctf_protocol.specs.declared.questions.TypeQuestion.{TypeQuestion}
+use Rattle.ctf_protocol.specs.declared.questions.TypeQuestion.TheVariants as about
+use Rattle.ctf_protocol.specs.declared.requests.Change.TheVariants as change
+use Rattle.ctf_protocol.specs.declared.requests.DraftStep.{DraftStep}
+use Rattle.ctf_protocol.specs.declared.requests.DraftStep.TheVariants as steps
+use Rattle.ctf_protocol.specs.declared.requests.ListName.{ListName}
+use Rattle.ctf_protocol.specs.declared.requests.Request.{Request}
+use Rattle.ctf_protocol.specs.declared.requests.Request.TheVariants.{Changes, Asks}
+
+-- ---- questions
+
+fields_good : {A : Type 0} → (say : A → Answer) (r : Result A Fault) → good r ≡ true → good (as_fields say r) ≡ true
+fields_good say (Err f) g = g
+fields_good say (Ok a) g = refl
+
+kind_good : (answer : Option Answer) → good (or_wrong_kind answer) ≡ true
+kind_good None = refl
+kind_good (Some answer) = refl
+
+plain_good : (q : PlainQuestion) (s : Space) (t : ℕ) (x : Facts) → good (plain_said q s t x) ≡ true
+plain_good plain.Kind s t x = refl
+plain_good plain.Record s t x = refl
+plain_good plain.Args s t x = kind_good (option_and_then (λ ret. option_map (argument_fields ret) (arguments_in x.shape.behind)) x.shape.reference)
+plain_good plain.Array s t x = kind_good (option_map array_fields (array_in x.shape.behind))
+plain_good plain.Encoding s t x = kind_good (option_map encoding_fields (encoding_in x.shape.behind))
+plain_good plain.Reference s t x = fields_good type_fields (referred x.shape) (referred_good x.shape)
+plain_good plain.Resolve s t x = fields_good type_fields (resolved s t) (resolved_good s t)
+plain_good plain.Size s t x = fields_good size_fields (size s t) (size_good s t)
+plain_good plain.Align s t x = fields_good align_fields (align s t) (align_good s t)
+plain_good plain.Name s t x = fields_good name_fields (spelled_name s t) (name_good s t)
+plain_good plain.Pointer s t x = fields_good type_fields (pointer_to s t) (pointer_good s t)
+
+on_good : (q : TypeQuestion) (s : Space) (t : ℕ) (x : Facts) → good (said_on q s t x) ≡ true
+on_good (about.Plain q) s t x = plain_good q s t x
+on_good (about.Members window) s t x = kind_good (option_map (member_fields window) (members_in x.shape.behind))
+on_good (about.Enumerators window) s t x = kind_good (option_map (enumerator_fields window) (enumerators_in x.shape.behind))
+on_good (about.Path names) s t x = fields_good position_fields (path s t names) (path_good s t names)
+on_good (about.Show memory offset) s t x = fields_good value_fields (value_text s memory t offset) (value_good s memory t offset)
+
+of_good : (q : TypeQuestion) (s : Space) (t : ℕ) (r : Result Term Fault) → good r ≡ true → good (said_of q s t r) ≡ true
+of_good q s t (Ok x) g = on_good q s t (facts x)
+of_good q s t (Err f) g = g
+
+type_asked : (q : TypeQuestion) (s : Space) (t : ℕ) → good (type_said q s t) ≡ true
+type_asked q s t = of_good q s t (space_type s t) (type_good s t)
+
+object_good : (d : Dictionary) (n : ℕ) (x : Option Symbol) → good (object_in d n x) ≡ true
+object_good d n None = refl
+object_good d n (Some x) = either (is_object x) (or_refused NO_INFO (type_told (told_of d.entries n))) (Err (placeless NOT_DATA)) (refused NO_INFO (type_told (told_of d.entries n)) refl) refl
+
+function_good : (d : Dictionary) (n : ℕ) (x : Option Symbol) → good (function_in d n x) ≡ true
+function_good d n None = refl
+function_good d n (Some x) = either (is_function x) (or_refused NO_INFO (signature_told (told_of d.entries n))) (Err (placeless NOT_FUNCTION)) (refused NO_INFO (signature_told (told_of d.entries n)) refl) refl
+
+slot_asked : (q : SlotQuestion) (s : Space) → good (whole_said q s) ≡ true
+slot_asked (whole.Find text) s = fields_good type_fields (found s text) (lookup_good s text)
+slot_asked (whole.Symbol name) s = fields_good symbol_fields (symbol_found s.own name) (refused NO_SYMBOL _ refl)
+slot_asked (whole.Object n) s = fields_good type_fields (object_of s.own n) (object_good s.own n _)
+slot_asked (whole.Function n) s = fields_good signature_fields (function_of s.own n) (function_good s.own n _)
+slot_asked (whole.Labels window) s = refl
+slot_asked (whole.Label name) s = fields_good last_fields (label_of s.own name) (refused NO_LABEL (last_of_label s.own.labels name) refl)
+
+in_slot : (q : Question) (slot : Slot) → good (slot_said q slot) ≡ true
+in_slot (OfType t q) slot = type_asked q (slot_space slot) t.0
+in_slot (OfSlot q) slot = slot_asked q (slot_space slot)
+in_slot (OfHeld q) slot = refl
+
+by_slot : (q : Question) (slot : Option Slot) → good (said_by_slot q slot) ≡ true
+by_slot q None = refl
+by_slot q (Some slot) = in_slot q slot
+
+-- ---- changes
+
+abbrev right : Outcome → Bool
+right outcome = good outcome.reply.outcome
+
+either_right : (t : Bool) (a b : Outcome) → right a ≡ true → right b ≡ true → right (if t then a else b) ≡ true
+either_right true a b ga gb = ga
+either_right false a b ga gb = gb
+
+within : (outcome : Outcome) (state : State) → right outcome ≡ true → right (within_quota outcome state) ≡ true
+within outcome state g = either_right (nat_lt quota (charge outcome.state)) _ outcome refl g
+
+staged_right : (list : ListName) (bytes : List ℕ) (state : State) → right (stages list bytes state) ≡ true
+staged_right list bytes state = either_right (nat_lt longest_list (length bytes)) _ _ refl (within _ state refl)
+
+accepted : (fault : Option Fault) (state : State) → good_fault fault ≡ true → right (accepts_unless fault state) ≡ true
+accepted None state g = refl
+accepted (Some f) state g = g
+
+opened : (fault : Option Fault) (kept : Kept) (state : State) → good_fault fault ≡ true → right (opens_unless fault kept state) ≡ true
+opened None kept state g = refl
+opened (Some f) kept state g = g
+
+opens_right : (model : DataModel) (state : State) → right (opens model state) ≡ true
+opens_right model state = either_right (has_room state) (opens_unless (first_fault state.stage) (record { lists = state.stage; model = model }) state) _ (opened (first_fault state.stage) (record { lists = state.stage; model = model }) state (dictionary_good state.stage)) refl
+
+at_slot : (does : Slot → Outcome) (slot : Option Slot) (state : State) → ((s : Slot) → right (does s) ≡ true) → right (with_slot does slot state) ≡ true
+at_slot does None state h = refl
+at_slot does (Some slot) state h = h slot
+
+imported : (fault : Option Fault) (d : ℕ) (parent : Kept) (state : State) → good_fault fault ≡ true → right (imports_unless fault d parent state) ≡ true
+imported None d parent state g = within _ state refl
+imported (Some f) d parent state g = g
+
+import_right : (child : Slot) (d : ℕ) (parent : Kept) (state : State) → right (imports_into child d parent state) ≡ true
+import_right child d parent state = either_right (is_some child.draft) _ (imports_unless (fault_over child.kept parent) d parent state) refl (imported (fault_over child.kept parent) d parent state (import_good (record { child = modelled_by child.kept; parent = modelled_by parent })))
+
+publish_right : (name : List ℕ) (kept : Kept) (state : State) → right (publishes_within name kept state) ≡ true
+publish_right name kept state = either_right (is_some (published_as name state.published)) _ _ refl (within _ state refl)
+
+publish_slot : (name : List ℕ) (slot : Slot) (state : State) → right (publishes_slot name slot state) ≡ true
+publish_slot name slot state = either_right (nat_lt 0 (pending_in slot.draft)) _ (publishes_within name slot.kept state) refl (publish_right name slot.kept state)
+
+withdrawn : (name : List ℕ) (state : State) → right (withdraws name state) ≡ true
+withdrawn name state = either_right (is_some (published_as name state.published)) _ _ refl refl
+
+taken : (found : Option Kept) (state : State) → right (takes_found found state) ≡ true
+taken None state = refl
+taken (Some kept) state = within (adds_slot kept state) state refl
+
+takes_right : (found : Option Kept) (state : State) → right (takes found state) ≡ true
+takes_right found state = either_right (has_room state) (takes_found found state) _ (taken found state) refl
+
+-- ---- drafts
+
+updated_good : (number : ℕ) (parent : Option Kept) (draft : Draft) (r : Result (List ℕ) Fault) → good r ≡ true → good (updated_slot number parent draft r) ≡ true
+updated_good number parent draft (Ok bytes) g = refl
+updated_good number parent draft (Err f) g = g
+
+of_draft : (number : ℕ) (parent : Option Kept) (r : Result Draft Fault) → good r ≡ true → good (slot_of_draft number parent r) ≡ true
+of_draft number parent (Ok draft) g = updated_good number parent draft (written (held draft)) (written_good (held draft))
+of_draft number parent (Err f) g = g
+
+created_good : (number : ℕ) (parent : Option Kept) (asked : Created) → good (created_slot number parent asked) ≡ true
+unfolding created_slot
+created_good number parent asked = of_draft number parent (new_draft (option_map modelled_by parent) asked.parname asked.parlabel (model_made parent asked)) (new_good (option_map modelled_by parent) asked.parname asked.parlabel (model_made parent asked))
+
+adds_right : (r : Result Slot Fault) (state : State) → good r ≡ true → right (adds_created r state) ≡ true
+adds_right (Ok slot) state g = within _ state refl
+adds_right (Err f) state g = g
+
+over_right : (parent : Option Kept) (asked : Created) (state : State) → right (creates_over parent asked state) ≡ true
+over_right parent asked state = either_right (has_room state) (adds_created (created_slot state.next parent asked) state) _ (adds_right (created_slot state.next parent asked) state (created_good state.next parent asked)) refl
+
+from_right : (parent : Option ℕ) (asked : Created) (state : State) → right (creates_from parent asked state) ≡ true
+from_right None asked state = over_right None asked state
+from_right (Some p) asked state = at_slot (λ slot. creates_over (Some slot.kept) asked state) (slot_at p state.slots) state (λ slot. over_right (Some slot.kept) asked state)
+
+numbered_good : (key : List ℕ) (r : Result Added Fault) → good r ≡ true → good (numbered key r) ≡ true
+numbered_good key (Ok added) g = refl
+numbered_good key (Err f) g = g
+
+silent_good : (r : Result Draft Fault) → good r ≡ true → good (silent r) ≡ true
+silent_good (Ok draft) g = refl
+silent_good (Err f) g = g
+
+enlarged_good : (d : Draft) (x : Addition) → good (enlarged d x) ≡ true
+unfolding enlarged
+enlarged_good d (add.Type name root kind) = numbered_good _ (add_type d _) (type_added d _)
+enlarged_good d (add.Member t name tnum offset) = numbered_good _ (add_member d t.0 name tnum.0 offset) (member_added d t.0 name tnum.0 offset)
+enlarged_good d (add.Enumerator t name value) = silent_good (add_enumerator d t.0 _) (enumerator_added d t.0 _)
+enlarged_good d (add.Label name last) = silent_good (add_label d _) (label_added d _)
+
+enlarges_good : (slot : Slot) (r : Result Enlarged Fault) → good r ≡ true → good (enlarges slot r).said ≡ true
+enlarges_good slot (Ok added) g = refl
+enlarges_good slot (Err f) g = g
+
+updates_good : (slot : Slot) (draft : Draft) (r : Result (List ℕ) Fault) → good r ≡ true → good (updates_to slot draft r).said ≡ true
+updates_good slot draft (Ok bytes) g = refl
+updates_good slot draft (Err f) g = g
+
+draft_good : (x : DraftStep) (slot : Slot) (draft : Draft) → good (draft_step x slot draft).said ≡ true
+unfolding draft_step
+draft_good (steps.Add addition) slot draft = enlarges_good slot (enlarged draft addition) (enlarged_good draft addition)
+draft_good steps.Update slot draft = updates_good slot draft (written (held draft)) (written_good (held draft))
+draft_good steps.Discard slot draft = refl
+
+if_draft : (x : DraftStep) (slot : Slot) (draft : Option Draft) → good (step_if_draft x slot draft).said ≡ true
+if_draft x slot None = refl
+if_draft x slot (Some draft) = draft_good x slot draft
+
+updates_right : (said : Result Answer Fault) (outcome : Outcome) (state : State) → right outcome ≡ true → right (updates_within said outcome state) ≡ true
+updates_right (Ok answer) outcome state g = within outcome state g
+updates_right (Err f) outcome state g = g
+
+becomes_right : (x : DraftStep) (d : ℕ) (slot : Slot) (state : State) → right (becomes_by x d (slot_step x slot) state) ≡ true
+becomes_right (steps.Add addition) d slot state = if_draft (steps.Add addition) slot slot.draft
+becomes_right steps.Update d slot state = updates_right (slot_step steps.Update slot).said (slot_becomes d (slot_step steps.Update slot) state) state (if_draft steps.Update slot slot.draft)
+becomes_right steps.Discard d slot state = if_draft steps.Discard slot slot.draft
+
+-- ---- every request
+
+step_right : (state : State) (request : Request) (found : Option Kept) → right (step state request found) ≡ true
+unfolding change_step
+step_right state (Asks d question) found = by_slot question (slot_at d state.slots)
+step_right state (Changes (change.Part list piece)) found = staged_right list _ state
+step_right state (Changes change.Check) found = accepted (first_fault state.stage) state (dictionary_good state.stage)
+step_right state (Changes (change.Open model)) found = opens_right model state
+step_right state (Changes change.Clear) found = refl
+step_right state (Changes change.Reset) found = refl
+step_right state (Changes (change.Close d)) found = at_slot _ (slot_at d state.slots) state (λ slot. refl)
+step_right state (Changes (change.Import d p)) found = at_slot _ (slot_at d state.slots) state (λ child. at_slot _ (slot_at p state.slots) state (λ parent. import_right child d parent.kept state))
+step_right state (Changes (change.Publish d name)) found = at_slot _ (slot_at d state.slots) state (λ slot. publish_slot name slot state)
+step_right state (Changes (change.Withdraw name)) found = withdrawn name state
+step_right state (Changes (change.Take owner name)) found = takes_right found state
+step_right state (Changes (change.Create asked)) found = from_right asked.parent asked state
+step_right state (Changes (change.Draft d x)) found = at_slot _ (slot_at d state.slots) state (λ slot. becomes_right x d slot state)
+
+pub refusals : RefusalsAreInTheTable
+refusals state request found fault e = told (step state request found).reply.outcome fault (step_right state request found) e
+
+-- ---- lines
+
+abbrev read_right : Result (ℕ × Request) (ℕ × Fault) → Bool
+read_right (Ok asked) = true
+read_right (Err refusal) = good_fault (Some refusal.1)
+
+request_read : (s : ℕ) (request : Option Request) → read_right (or_bad_request s request) ≡ true
+request_read s None = refl
+request_read s (Some request) = refl
+
+session_read : (line : Data) (s : Option ℕ) → read_right (asked_by line s) ≡ true
+session_read line None = refl
+session_read line (Some s) = request_read s (request_asked line)
+
+value_read : (line : Option Data) → read_right (value_asked line) ≡ true
+value_read None = refl
+value_read (Some line) = session_read line _
+
+either_read : (t : Bool) (a b : Result (ℕ × Request) (ℕ × Fault)) → read_right a ≡ true → read_right b ≡ true → read_right (if t then a else b) ≡ true
+either_read true a b ga gb = ga
+either_read false a b ga gb = gb
+
+line_read : (line : List ℕ) → read_right (ask line) ≡ true
+unfolding ask
+line_read line = either_read _ (Err (0, placeless LONG_LINE)) (value_asked (json line)) refl (value_read (json line))
+
+pub bad_lines : BadLinesAreInTheTable
+bad_lines line session fault e =
+    let right_line = line_read line in
+    rw e at right_line
