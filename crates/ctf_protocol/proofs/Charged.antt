@@ -1,16 +1,14 @@
 -- What steps do to the charge of a library.
-use Rattle.std.proofs.Common.{◌≡◌, ◌≤◌, ◌<◌, ℕ, ◌+◌, List, [], ◌∷◌, ◌++◌, length, Bool, true, false, Option, Some, None, Result, Ok, Err, eqb, ltb, sum_by, refl, ap, sym, ◌∙◌, arith}
-use Rattle.std.specs.Prelude.{unwrap_or, filter, is_some, nat_lt, nat_le, ◌&&◌}
+use Rattle.std.proofs.Common.{◌≡◌, ◌≤◌, ◌<◌, ℕ, ◌+◌, List, [], ◌∷◌, ◌++◌, length, Bool, true, false, Some, eqb, sum_by, refl, ap, arith}
+use Rattle.std.specs.Prelude.{unwrap_or, filter}
 use Rattle.std.proofs.lemmas.Bool.{le-ltb, lt-ltb}
 use Rattle.std.proofs.lemmas.List.{length-append}
 use Rattle.std.proofs.lemmas.List.Sums.{sum_by-cons, sum_by_push}
 use Rattle.ctf_model.specs.format.Lists.{Lists}
 use Rattle.ctf_model.specs.spaces.Kept.{Kept}
-use Rattle.ctf_model.specs.declared.faults.Fault.{Fault}
 use Rattle.ctf_model.specs.declared.faults.TheConstants.Fault.{QUOTA_FULL}
 use Rattle.ctf_protocol.specs.sessions.Charges.{charge, kept_bytes, lists_bytes, parent_bytes, publication_bytes, slot_bytes}
 use Rattle.ctf_protocol.specs.sessions.DraftSteps.{slots_with}
-use Rattle.ctf_protocol.specs.sessions.Publications.{published_without}
 use Rattle.ctf_protocol.specs.sessions.State.{Publication, Slot, State}
 use Rattle.ctf_protocol.specs.sessions.Steps.{Outcome, quota, refuses, slot_at, slots_with_parent, slots_without, staged, with_staged, within_quota}
 use Rattle.ctf_protocol.specs.declared.requests.ListName.{ListName}

@@ -21,7 +21,6 @@ use Rattle.ctf_model.specs.names.Found.{found, pointer_to}
 use Rattle.ctf_model.specs.names.KindNames.{name_of_kind}
 use Rattle.ctf_model.specs.figures.Figures.{align, referred, resolved, size}
 use Rattle.ctf_protocol.specs.answers.KeyOrder.{item_in_order, in_order, IsInOrder, KeysRise}
-use Rattle.ctf_model.specs.format.Lists.{Lists}
 use Rattle.ctf_model.specs.spaces.Kept.{Kept, fault_over}
 use Rattle.ctf_model.specs.figures.Paths.{path}
 use Rattle.ctf_protocol.specs.sessions.Publications.{published_as}
@@ -31,7 +30,7 @@ use Rattle.ctf_model.specs.symbols.SymbolQuestions.{symbol_found, object_of, fun
 use Rattle.ctf_model.specs.format.Shown.{Facts, facts, members_in, enumerators_in, arguments_in, array_in, encoding_in, list_length}
 use Rattle.ctf_protocol.specs.sessions.Charges.{charge}
 use Rattle.ctf_protocol.specs.sessions.State.{State, Slot}
-use Rattle.ctf_protocol.specs.sessions.Steps.{change_step, with_slot, grants, slots_without, imports_unless, publishes_kept, publishes_within, publishes_slot, within_quota, quota, becomes_by, updates_within, outcome_of, Outcome, withdraws, imports_into, takes, takes_found, adds_created, creates_over, creates_from, slot_becomes, stages, opens, opens_unless, has_room, accepts_unless, longest_list, slot_at, slot_space, said_by_slot}
+use Rattle.ctf_protocol.specs.sessions.Steps.{change_step, with_slot, grants, slots_without, imports_unless, publishes_kept, publishes_within, publishes_slot, within_quota, quota, becomes_by, updates_within, Outcome, withdraws, imports_into, takes, takes_found, adds_created, creates_over, creates_from, stages, opens, opens_unless, has_room, accepts_unless, longest_list, slot_at, slot_space, said_by_slot}
 use Rattle.ctf_model.specs.spaces.Space.{Space, space_type}
 use Rattle.ctf_model.specs.format.Term.{Term}
 use Rattle.ctf_model.specs.names.TypeNames.{spelled_name}

@@ -1,5 +1,5 @@
 -- A refused request leaves the library as it was.
-use Rattle.std.proofs.Common.{◌≡◌, ℕ, List, [], ◌∷◌, ◌++◌, length, Bool, true, false, Option, Some, None, Result, Ok, Err, eqb, refl, ap, sym, ◌∙◌}
+use Rattle.std.proofs.Common.{◌≡◌, ℕ, List, [], ◌∷◌, length, Bool, true, false, Option, Some, None, Result, Ok, Err, eqb, refl, ap, sym, ◌∙◌}
 use Rattle.std.specs.Prelude.{is_some, nat_lt}
 use Rattle.ctf_model.specs.drafts.Drafts.{Draft, held}
 use Rattle.ctf_model.specs.rules.Faults.{first_fault}

@@ -1,7 +1,7 @@
 -- Results whose fault, if they have one, has a row in the table.
-use Rattle.std.proofs.Common.{◌≡◌, ℕ, suc, zero, ◌+◌, List, [], ◌∷◌, Bool, true, false, Option, Some, None, Result, Ok, Err, refl}
+use Rattle.std.proofs.Common.{◌≡◌, ℕ, List, [], ◌∷◌, Bool, true, false, Option, Some, None, Result, Ok, Err, refl}
 use Rattle.std.specs.Prelude.{if◌then◌else◌}
-use Rattle.ctf_model.specs.rules.Faults.{first_broken, or_later}
+use Rattle.ctf_model.specs.rules.Faults.{or_later}
 use Rattle.ctf_model.specs.rules.Judgements.{Row, first_met, unless, ◌then◌}
 use Rattle.ctf_model.specs.rules.Refusals.{placeless}
 use Rattle.ctf_model.specs.symbols.SymbolQuestions.{or_refused}

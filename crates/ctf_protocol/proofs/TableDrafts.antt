@@ -2,18 +2,18 @@
 -- table.
 use Rattle.std.proofs.Common.{◌≡◌, ℕ, ◌+◌, List, [], ◌∷◌, Bool, true, false, Option, Some, None, Result, Ok, Err, refl}
 use Rattle.std.specs.Prelude.{if◌then◌else◌}
-use Rattle.ctf_model.specs.drafts.Adders.{Added, add_enumerator, add_label, add_member, add_type, against_enumerator, against_label, against_member, against_place, against_type, body_at, place_member, put_member, replaced, size_with, with_enumerator, with_label, with_member, with_type}
+use Rattle.ctf_model.specs.drafts.Adders.{add_enumerator, add_label, add_member, add_type, against_enumerator, against_label, against_member, against_place, against_type, body_at, place_member, put_member, replaced, size_with, with_enumerator, with_label, with_member, with_type}
 use Rattle.ctf_model.specs.drafts.Drafts.{Draft, above, against_draft, empty_draft, new_draft, next_number, space_of}
 use Rattle.ctf_model.specs.drafts.NewTypes.{NewType, new_term}
-use Rattle.ctf_model.specs.drafts.Placement.{aligned_from, behind_last, bits_filled, bits_found, last_member, member_place, own_place}
+use Rattle.ctf_model.specs.drafts.Placement.{behind_last, bits_filled, bits_found, last_member, member_place, own_place}
 use Rattle.ctf_model.specs.figures.Figures.{align, resolved, size}
 use Rattle.ctf_model.specs.format.Dictionary.{Dictionary, Label}
 use Rattle.ctf_model.specs.format.Lists.{Lists}
 use Rattle.ctf_model.specs.format.Term.{Body, Enumerator, Member, Term}
 use Rattle.ctf_model.specs.format.Term as term
 use Rattle.ctf_model.specs.rules.Chains.{by_value, declarator}
-use Rattle.ctf_model.specs.rules.Faults.{first_broken, first_fault, or_later, rules}
-use Rattle.ctf_model.specs.rules.Judgements.{first_met, unless, ◌then◌}
+use Rattle.ctf_model.specs.rules.Faults.{first_broken, first_fault, rules}
+use Rattle.ctf_model.specs.rules.Judgements.{first_met, ◌then◌}
 use Rattle.ctf_model.specs.spaces.Imports.{Import, Modelled, first_against, import_fault, import_rules, Rule}
 use Rattle.ctf_model.specs.spaces.Space.{Space, space_type}
 use Rattle.ctf_model.specs.writing.Written.{bytes_of, bytes_unless, deep_by, too_big, unwritten, written}

@@ -1,10 +1,10 @@
 -- The faults of types, of what they come to and of paths have rows in the table.
-use Rattle.std.proofs.Common.{◌≡◌, ℕ, suc, zero, ◌+◌, ◌*◌, List, [], ◌∷◌, Bool, true, false, Option, Some, None, Result, Ok, Err, refl}
-use Rattle.std.specs.Prelude.{◌==◌, ◌^◌, is_none, nat_lt, slice_get, if◌then◌else◌}
-use Rattle.ctf_model.specs.figures.Figures.{Figure, align, align_body, aligning, array_size, at_place, comes_to, figure_in, first_of, greater, greatest, incomplete, most_numbers, of_found, or_not_reference, parents_figure, referred, referred_by, reference, resolved, resolved_body, resolving, size, size_body, sizing, times, too_big, unless_too_big}
+use Rattle.std.proofs.Common.{◌≡◌, ℕ, suc, zero, ◌+◌, ◌*◌, List, [], ◌∷◌, true, Option, Some, None, Result, Ok, Err, refl}
+use Rattle.std.specs.Prelude.{◌==◌, ◌^◌, is_none, nat_lt, slice_get}
+use Rattle.ctf_model.specs.figures.Figures.{Figure, align, align_body, aligning, array_size, at_place, comes_to, figure_in, first_of, greater, greatest, most_numbers, of_found, or_not_reference, parents_figure, referred, resolved, resolved_body, resolving, size, size_body, sizing, times, too_big}
 use Rattle.ctf_model.specs.figures.Paths.{Position, and_on, member_named, member_position, members_found, path, path_from, position_among, position_within, step_to}
 use Rattle.ctf_model.specs.format.Dictionary.{Dictionary}
-use Rattle.ctf_model.specs.format.Shown.{Shape, arguments_in, shape}
+use Rattle.ctf_model.specs.format.Shown.{Shape, arguments_in}
 use Rattle.ctf_model.specs.format.Term.{Body, Elements, Member, Term}
 use Rattle.ctf_model.specs.format.Term as term
 use Rattle.ctf_model.specs.rules.Refusals.{placeless}

@@ -1,6 +1,6 @@
 -- What a request is refused with has a row in the table.
-use Rattle.std.proofs.Common.{◌≡◌, ℕ, List, [], ◌∷◌, length, Bool, true, false, Option, Some, None, Result, Ok, Err, refl}
-use Rattle.std.specs.Prelude.{is_none, is_some, nat_lt, if◌then◌else◌}
+use Rattle.std.proofs.Common.{◌≡◌, ℕ, List, length, Bool, true, false, Option, Some, None, Result, Ok, Err, refl}
+use Rattle.std.specs.Prelude.{is_some, nat_lt, slice_get, if◌then◌else◌}
 use Rattle.std.specs.Option.{option_and_then, option_map}
 use Rattle.serde_json.specs.Data.{Data}
 use Rattle.ctf_model.specs.drafts.Adders.{Added, add_enumerator, add_label, add_member, add_type}
@@ -16,7 +16,7 @@ use Rattle.ctf_model.specs.rules.Faults.{first_fault}
 use Rattle.ctf_model.specs.rules.Refusals.{placeless}
 use Rattle.ctf_model.specs.spaces.Kept.{Kept, fault_over, modelled_by}
 use Rattle.ctf_model.specs.spaces.Space.{Space, space_type}
-use Rattle.ctf_model.specs.symbols.SymbolQuestions.{entry_named, function_in, function_of, label_of, last_of_label, object_in, object_of, signature_told, symbol_found, told_of, type_told, or_refused}
+use Rattle.ctf_model.specs.symbols.SymbolQuestions.{function_in, function_of, label_of, last_of_label, object_in, object_of, signature_told, symbol_found, told_of, type_told, or_refused}
 use Rattle.ctf_model.specs.symbols.Symbols.{Symbol, is_function, is_object}
 use Rattle.ctf_model.specs.values.Values.{value_text}
 use Rattle.ctf_model.specs.writing.Written.{written}
@@ -35,11 +35,11 @@ use Rattle.ctf_protocol.specs.lines.Ask.{ask, asked_by, json, or_bad_request, re
 use Rattle.ctf_protocol.specs.sessions.Additions.{Enlarged, enlarged, numbered, silent}
 use Rattle.ctf_protocol.specs.sessions.Charges.{charge}
 use Rattle.ctf_protocol.specs.sessions.Creations.{Created}
-use Rattle.ctf_protocol.specs.sessions.DraftSteps.{SlotOutcome, created_slot, draft_step, enlarges, model_made, slot_of_draft, slot_step, step_if_draft, updated_slot, updates_to}
+use Rattle.ctf_protocol.specs.sessions.DraftSteps.{created_slot, draft_step, enlarges, model_made, slot_of_draft, slot_step, step_if_draft, updated_slot, updates_to}
 use Rattle.ctf_protocol.specs.sessions.Publications.{published_as}
 use Rattle.ctf_protocol.specs.sessions.RefusalLaws.{BadLinesAreInTheTable, RefusalsAreInTheTable}
 use Rattle.ctf_protocol.specs.sessions.State.{Slot, State}
-use Rattle.ctf_protocol.specs.sessions.Steps.{Outcome, accepts_unless, adds_created, adds_slot, answer_to, becomes_by, change_step, creates_from, creates_over, grants, has_room, imports_into, imports_unless, longest_list, opens, opens_unless, publishes_slot, publishes_within, quota, said_by_slot, slot_at, slot_becomes, slot_said, slot_space, slots_without, stages, takes, takes_found, updates_within, with_slot, withdraws, within_quota}
+use Rattle.ctf_protocol.specs.sessions.Steps.{Outcome, accepts_unless, adds_created, adds_slot, becomes_by, change_step, creates_from, creates_over, has_room, imports_into, imports_unless, longest_list, opens, opens_unless, publishes_slot, publishes_within, quota, said_by_slot, slot_at, slot_becomes, slot_said, slot_space, stages, step, takes, takes_found, updates_within, with_slot, withdraws, within_quota}
 use Rattle.ctf_protocol.specs.declared.additions.Addition.{Addition}
 use Rattle.ctf_protocol.specs.declared.additions.Addition.TheVariants as add
 use Rattle.ctf_protocol.specs.declared.questions.PlainQuestion.{PlainQuestion}
@@ -105,8 +105,8 @@ function_good d n (Some x) = either (is_function x) (or_refused NO_INFO (signatu
 slot_asked : (q : SlotQuestion) (s : Space) → good (whole_said q s) ≡ true
 slot_asked (whole.Find text) s = fields_good type_fields (found s text) (lookup_good s text)
 slot_asked (whole.Symbol name) s = fields_good symbol_fields (symbol_found s.own name) (refused NO_SYMBOL _ refl)
-slot_asked (whole.Object n) s = fields_good type_fields (object_of s.own n) (object_good s.own n _)
-slot_asked (whole.Function n) s = fields_good signature_fields (function_of s.own n) (function_good s.own n _)
+slot_asked (whole.Object n) s = fields_good type_fields (object_of s.own n) (object_good s.own n (slice_get s.own.symbols n))
+slot_asked (whole.Function n) s = fields_good signature_fields (function_of s.own n) (function_good s.own n (slice_get s.own.symbols n))
 slot_asked (whole.Labels window) s = refl
 slot_asked (whole.Label name) s = fields_good last_fields (label_of s.own name) (refused NO_LABEL (last_of_label s.own.labels name) refl)
 

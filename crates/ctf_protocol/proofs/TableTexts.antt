@@ -1,6 +1,6 @@
 -- The faults of spelled names, of look-ups and of shown values have rows in the table.
 use Rattle.std.proofs.Common.{◌≡◌, ℕ, suc, zero, ◌+◌, ◌*◌, List, [], ◌∷◌, length, map, Bool, true, false, Option, Some, None, Result, Ok, Err, refl}
-use Rattle.std.specs.Prelude.{◌==◌, ◌++◌, ℤ, nat_lt, nat_le, codes, if◌then◌else◌}
+use Rattle.std.specs.Prelude.{◌==◌, nat_lt, nat_le, codes, if◌then◌else◌}
 use Rattle.std.specs.List.{range_with_len}
 use Rattle.ctf_model.specs.dumps.Texts.{signed_decimal}
 use Rattle.ctf_model.specs.figures.Figures.{enum_size, incomplete, resolved, size}
@@ -8,11 +8,11 @@ use Rattle.ctf_model.specs.format.Shown.{EncodingParts, encoding_parts}
 use Rattle.ctf_model.specs.format.Term.{Body, Enumerator, Member, Term}
 use Rattle.ctf_model.specs.format.Term as term
 use Rattle.ctf_model.specs.names.Found.{base, found, is_called, is_no_name, is_pointer_to, least, or_not_found, pointed, pointer_behind, pointer_or_behind, pointer_to, stars, written}
-use Rattle.ctf_model.specs.names.TypeNames.{Declaration, around, bare, declaration, declaration_by, declaration_of, declaration_within, declared, longest_text, spelled_name, text_of_declaration, too_long, unless_too_long}
+use Rattle.ctf_model.specs.names.TypeNames.{Declaration, around, bare, declaration, declaration_by, declaration_of, declaration_within, declared, longest_text, spelled_name, text_of_declaration, too_long}
 use Rattle.ctf_model.specs.rules.Refusals.{placeless}
 use Rattle.ctf_model.specs.spaces.Space.{Space, pointer_size, space_type}
 use Rattle.ctf_model.specs.values.MemoryBits.{bits_at, field, short_memory, signed_value}
-use Rattle.ctf_model.specs.values.Pieces.{Pieces, answered, between, each_behind_comma, ended_by, ends, followed_by, goes_on, nothing, piece, separated}
+use Rattle.ctf_model.specs.values.Pieces.{Pieces, between, each_behind_comma, ended_by, ends, followed_by, goes_on, nothing, piece, separated}
 use Rattle.ctf_model.specs.values.Values.{Shows, array_shown, body_shown, by_number, elements, elements_shown, enum_shown, float_shown, found_shown, integer_shown, integer_value, label, member_shown, members_shown, most_values, name_of_value, raw_shown, raw_text, shown_value, shown_within, value_text}
 use Rattle.ctf_model.specs.declared.faults.Fault.{Fault}
 use Rattle.ctf_model.specs.declared.faults.TheConstants.Fault.{BAD_SYNTAX}

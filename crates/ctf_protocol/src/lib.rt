@@ -29,7 +29,8 @@ pub use rows::{
 };
 pub use session_laws::{
     each_session_runs_alone, refusals_are_in_the_table, refusals_change_nothing,
-    requests_stay_within_quota, same_given_same_replies, steps_happen, unreached_sessions_do_not_matter,
+    requests_stay_within_quota, same_given_same_replies, steps_happen,
+    unreached_sessions_do_not_matter,
 };
 pub use slots::SlotNumber;
 pub use words::Word;
