@@ -1,7 +1,7 @@
 //! Want of memory.
 //!
-//! With `rt try --test --fail-alloc N` this test holds for every N: whatever was refused, what was
-//! there stays.
+//! With `rt try --test --fail-alloc N` these tests but the first hold for every N: whatever was
+//! refused, what was there stays. The first says that in ample memory nothing is refused.
 
 use crate::making::with_struct;
 use ctf_draft::Draft;
@@ -17,6 +17,19 @@ fn members_of(draft: &Draft) -> usize {
         },
         None => 0,
     }
+}
+
+#[test]
+fn wants_no_memory_where_it_is_ample(rt: HostRuntime) {
+    let alloc = rt.alloc();
+    let Some(mut draft) = with_struct(alloc) else {
+        assert!(rt; false);
+        return;
+    };
+    assert!(rt; draft.member(TypeNum(2), Bytes::new(alloc), TypeNum(1), None) == Ok(0));
+    assert!(rt; draft.label(Bytes::new(alloc), 1) == Ok(()));
+    assert!(rt; update(alloc, &mut draft) == Ok(()));
+    assert!(rt; draft.pending() == 0 && has_types(&draft, 2));
 }
 
 #[test]

@@ -60,3 +60,17 @@ fn a_settled_draft_has_its_dictionary(rt: HostRuntime) {
     draft.discard();
     assert!(rt; draft.types().len() == 1);
 }
+
+#[test]
+fn an_update_keeps_the_bytes_that_are_written(rt: HostRuntime) {
+    let alloc = rt.alloc();
+    let Some(mut draft) = fresh(alloc, DataModel::Lp64) else {
+        assert!(rt; false);
+        return;
+    };
+    assert!(rt; named(alloc, &mut draft, b"int", integer(4, 32)) == Ok(TypeNum(1)));
+    for _ in 0..2 {
+        assert!(rt; update(alloc, &mut draft) == Ok(()));
+        assert!(rt; draft.pending() == 0 && is_kept(&draft, INT.as_slice()));
+    }
+}
