@@ -72,14 +72,14 @@ record EndsLow (d : Dictionary) (k n : ℕ) : Type 0 where
   pub low : n < 0x8000
   pub short : EndsAt d k n
 
-low_in_child : (n : ℕ) → 0 < n → n < 0x8000 → place true n ≡ Parents (n - 1)
+pub low_in_child : (n : ℕ) → 0 < n → n < 0x8000 → place true n ≡ Parents (n - 1)
 low_in_child n some low = let positive = not_zero n some in let test = lt-ltb n 0x8000 low in rw (positive, test) refl
 
-low_in_parent : (n : ℕ) → 0 < n → place false n ≡ Own (n - 1)
+pub low_in_parent : (n : ℕ) → 0 < n → place false n ≡ Own (n - 1)
 low_in_parent n some = let positive = not_zero n some in rw positive refl
 
 -- a parent's type, by its number in a child
-found_low : (own parent : Dictionary) → parent.child ≡ false → (n : ℕ) (z : Term) → n < 0x8000 → type_in own (Some parent) (place true n) ≡ Ok z → Stands parent n (n - 1) z
+pub found_low : (own parent : Dictionary) → parent.child ≡ false → (n : ℕ) (z : Term) → n < 0x8000 → type_in own (Some parent) (place true n) ≡ Ok z → Stands parent n (n - 1) z
 found_low own parent plain zero z low e = absurd cc
 found_low own parent plain (suc m) z low e =
     let here = low_in_child (suc m) (omega arith) low in
