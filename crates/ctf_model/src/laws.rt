@@ -134,9 +134,9 @@ pub fn names_are_their_rules()
     ensures rules { NamesAreTheirRules }
 {}
 
-/// Where chains are so short, each step of a path is what its rule says, and so is each figure, such
-/// as the type that a type stands for: the bound on how many types follow on each other shows in
-/// none.
+/// Where chains are so short, each step of a path is what its rule says, and so is each figure, the
+/// type that a type stands for among them: the bound on how many types follow on each other shows
+/// in none.
 pub fn paths_are_their_rules()
     ensures figures { FiguresAreTheirRules }
     ensures steps { StepsAreTheirRules }
