@@ -1,13 +1,10 @@
--- The values of a dictionary that breaks no rule and is no child lead to its own types alone, and not far.
+-- A dictionary that breaks no rule and is no child names its own types alone.
 use Rattle.std.proofs.Common.{◌≡◌, ◌⊎◌, inl, ℕ, ◌+◌, ◌-◌, ◌≤◌, ◌<◌, false, List, [], ◌∷◌, length, None, refl, subst, arith, inr, zero, suc}
-use Rattle.std.specs.Prelude.{Any, slice_index_or}
+use Rattle.std.specs.Prelude.{Any}
 use Rattle.std.specs.List.{AllByRecursion}
 use Rattle.std.proofs.lemmas.Bool.{cases_lt}
-use Rattle.std.proofs.lemmas.Option.{slice_get-get_or}
 use Rattle.ctf_model.specs.rules.Chains.{by_value}
-use Rattle.ctf_model.specs.format.Dictionary.{said_by}
 use Rattle.ctf_model.specs.rules.Faults.{first_fault, types}
-use Rattle.ctf_model.specs.figures.FigureLaws.{nothing, own_body}
 use Rattle.ctf_model.specs.format.Header.{fields, is_child, section}
 use Rattle.ctf_model.specs.format.Laws.{pieces}
 use Rattle.ctf_model.specs.format.Lists.{Lists, tables}
@@ -18,11 +15,9 @@ use Rattle.ctf_model.specs.format.Section.{IsCut, terms_in}
 use Rattle.ctf_model.specs.format.Spelling.{HasStrayMark}
 use Rattle.ctf_model.specs.format.Term.{Term, Body}
 use Rattle.ctf_model.specs.format.Term as term
-use Rattle.ctf_model.specs.values.ValueLaws.{FaultlessParentsAreBounded}
 use Rattle.ctf_model.specs.declared.sections.Section.TheVariants.{STypes}
-use Rattle.ctf_model.proofs.Alls.{all_got}
 use Rattle.ctf_model.proofs.Anywhere.{all_map, any_here, any_there}
-use Rattle.ctf_model.proofs.BoundedValues.{keeps_all, values_bounded}
+use Rattle.ctf_model.proofs.BoundedValues.{keeps_all}
 use Rattle.ctf_model.proofs.OwnTypes.{not_zero}
 use Rattle.ctf_model.proofs.RecordRules.{kept_records, types_cut}
 use Rattle.ctf_model.proofs.Spelled.{Says}
@@ -102,12 +97,3 @@ all_low s e plain =
     let same = types_cut s.ctf r.0 r.1 r.2 in
     let good = rw plain at (no_misnaming s 15 (omega arith) keeps r.0 r.1 r.2) in
     rw same (terms_low (tables s) (length r.0) r.0 r.1 1 0 (few_records s 15 (omega arith) keeps r.0 r.1 r.2) r.3 (parts_said s 15 (omega arith) keeps r.0 r.1 r.2) (no_stray s 15 (omega arith) keeps r.0 r.1 r.2) good)
-
-each_low : (s : Lists) → first_fault s ≡ None → (said_by s).child ≡ false → (i : ℕ) → i < length (said_by s).terms → AllByRecursion (λ t. t < 0x8000) (by_value (own_body (said_by s) i))
-unfolding said_by
-each_low s e plain i lt =
-    values_named (λ t. t < 0x8000) (own_body (said_by s) i)
-    (all_got IsLow (terms_in (tables s) (types s.ctf)) i (slice_index_or (terms_in (tables s) (types s.ctf)) i nothing) (all_low s e plain) (slice_get-get_or (terms_in (tables s) (types s.ctf)) i nothing lt))
-
-pub parents_bounded : FaultlessParentsAreBounded
-parents_bounded s e plain = record { plain = plain; bounded = values_bounded s e; low = each_low s e plain }

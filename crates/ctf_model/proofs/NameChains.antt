@@ -1,5 +1,5 @@
 -- What declares a type does not hang on how many layers there may be, once these are enough.
-use Rattle.std.proofs.Common.{◌≡◌, ℕ, zero, suc, ◌≤◌, ◌<◌, cond, eqb, List, [], ◌∷◌, Result, Ok, Err, refl, sym, ap, ◌∙◌, arith}
+use Rattle.std.proofs.Common.{◌≡◌, ℕ, zero, suc, ◌≤◌, ◌<◌, cond, eqb, Result, Ok, Err, refl, sym, ap, ◌∙◌, arith}
 use Rattle.std.specs.Prelude.{codes}
 use Rattle.std.specs.List.{AllByRecursion}
 use Rattle.ctf_model.specs.rules.ChainLaws.{HasShortChainsIn}
@@ -59,25 +59,15 @@ settle s short x n y lt le = descend declarator s short (SameFrom s) (passes_on 
 
 -- ---- the law
 
-each : (P : ℕ → Type 0) → ((t : ℕ) → P t) → (ts : List ℕ) → AllByRecursion P ts
-each P h [] = tt
-each P h (t ∷ ts) = (h t, each P h ts)
-
-one_step : (s : Space) → HasShortChainsIn declarator s → (x m n : ℕ) → m ≡ suc x → 1026 < x → declaration_within s m n ≡ declaration_rule s (declaration_within s m) n
+one_more : (s : Space) (x n : ℕ) → declaration_within s (suc x) n ≡ declaration_rule s (declaration_within s x) n
 unfolding declaration_within
-one_step s short x m n is lt =
-    ap (λ (k : ℕ). declaration_within s k n) is
-    ∙ rule_same s (declaration_within s x) (declaration_within s m) n
-    (λ z e. each (λ t. declaration_within s x t ≡ declaration_within s m t) (λ t. settle s short x t m lt (omega (arith, is))) (declarator z.body))
-
-text_is : longest_text ≡ suc 65535
-text_is = refl
+one_more s x n = refl
 
 pub names_rule : NamesAreTheirRules
 names_rule s short = record { rule = rule; name = λ n. ap text_of_declaration (rule n); bound = bound }
   where
     rule : (n : ℕ) → declaration s n ≡ declaration_rule s (declaration s) n
-    rule n = one_step s short 65535 longest_text n text_is (omega arith)
+    rule n = settle s short longest_text n (suc longest_text) (omega arith) (omega arith) ∙ one_more s longest_text n
 
     bound : (k n : ℕ) → 1026 < k → declaration_within s k n ≡ declaration s n
     bound k n lt = sym (settle s short 1027 n k (omega arith) (omega arith)) ∙ settle s short 1027 n longest_text (omega arith) (omega arith)

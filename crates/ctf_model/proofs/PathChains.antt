@@ -22,8 +22,7 @@ use Rattle.ctf_model.proofs.Alls.{all_got}
 use Rattle.ctf_model.proofs.FigureAsks.{figures_ask}
 use Rattle.ctf_model.proofs.OwnTypes.{not_zero, own_positive, parents_place}
 use Rattle.ctf_model.proofs.Settled.{all_map, figure_of_none, figure_of_parents, most_is, parents_own, settle}
-use Rattle.ctf_model.proofs.ShortChains.{EndsBy, ends_short, one_fewer, parents_number}
-use Rattle.ctf_model.proofs.ValueChains.{low_in_child, low_in_parent}
+use Rattle.ctf_model.proofs.ShortChains.{EndsBy, ends_short, low_in_child, low_in_parent, one_fewer, parents_number}
 
 -- ---- own types
 

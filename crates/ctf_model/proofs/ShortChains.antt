@@ -2,7 +2,7 @@
 use Rattle.std.proofs.Common.{◌≡◌, ◌⊎◌, inl, inr, ⊎_elim, ℕ, zero, suc, ◌+◌, ◌-◌, ◌≤◌, ◌<◌, Bool, true, false, cond, eqb, ltb, List, [], ◌∷◌, length, Option, Some, None, Ok, refl, sym, ap, subst, ◌∙◌, arith}
 use Rattle.std.specs.Prelude.{Any, MatchOption, slice_get}
 use Rattle.std.specs.List.{AllByRecursion, count_by, filter_map}
-use Rattle.std.proofs.lemmas.Bool.{ltb-true}
+use Rattle.std.proofs.lemmas.Bool.{lt-ltb, ltb-true}
 use Rattle.std.proofs.lemmas.List.Sums.{sum_by-cons}
 use Rattle.ctf_model.specs.rules.ChainLaws.{ChainsAreShort, HasShortChains, HasShortChainsIn, IsChain, IsShortParent, is_own, is_parents}
 use Rattle.ctf_model.specs.rules.Chains.{IsWithin, edges, longest_chain, own_index}
@@ -16,9 +16,8 @@ use Rattle.ctf_model.specs.declared.numbers.Place.TheVariants.{Nowhere, Own, Par
 use Rattle.ctf_model.proofs.Alls.{all_got}
 use Rattle.ctf_model.proofs.Anywhere.{any_none, any_split}
 use Rattle.ctf_model.proofs.ChainSteps.{targets_of}
-use Rattle.ctf_model.proofs.OwnTypes.{each_own, own_inside, own_positive}
+use Rattle.ctf_model.proofs.OwnTypes.{each_own, not_zero, own_inside, own_positive}
 use Rattle.ctf_model.proofs.Settled.{Ends, Stands, all_map, stands_inside}
-use Rattle.ctf_model.proofs.ValueChains.{found_low, low_in_child}
 
 -- ---- where the type of a number stands
 
@@ -30,6 +29,24 @@ pub record StandsAbove (s : Space) (n : ℕ) (z : Term) : Type 0 where
   pub low : n < 0x8000
   pub index : ℕ
   pub stands : Stands parent n index z
+
+pub low_in_child : (n : ℕ) → 0 < n → n < 0x8000 → place true n ≡ Parents (n - 1)
+low_in_child n some low = let positive = not_zero n some in let test = lt-ltb n 0x8000 low in rw (positive, test) refl
+
+pub low_in_parent : (n : ℕ) → 0 < n → place false n ≡ Own (n - 1)
+low_in_parent n some = let positive = not_zero n some in rw positive refl
+
+-- a parent's type, by its number in a child
+pub found_low : (own parent : Dictionary) → parent.child ≡ false → (n : ℕ) (z : Term) → n < 0x8000 → type_in own (Some parent) (place true n) ≡ Ok z → Stands parent n (n - 1) z
+found_low own parent plain zero z low e = absurd cc
+found_low own parent plain (suc m) z low e =
+    let here = low_in_child (suc m) (omega arith) low in
+    let found : or_no_type (slice_get parent.terms (suc m - 1)) ≡ Ok z = rw here at e in
+    at (slice_get parent.terms (suc m - 1)) refl found
+  where
+    at : (o : Option Term) → slice_get parent.terms (suc m - 1) ≡ o → or_no_type o ≡ Ok z → Stands parent (suc m) (suc m - 1) z
+    at None is e = absurd cc
+    at (Some y) is e = let same : y ≡ z = cc in record { there = rw plain (low_in_parent (suc m) (omega arith)); got = is ∙ ap (λ (x : Term). Some x) same }
 
 -- only a child has a parent's numbers, and these are low
 pub parents_number : (child : Bool) (n i : ℕ) → place child n ≡ Parents i → (child ≡ true) × (n < 0x8000)

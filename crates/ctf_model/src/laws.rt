@@ -31,7 +31,7 @@ ghost use Rattle.ctf_model.specs.format.Laws.{
 };
 ghost use Rattle.ctf_model.specs.names.NameLaws.{NamesAreTheirRules, NamesAskByDeclarator};
 ghost use Rattle.ctf_model.specs.rules.ChainLaws.{ChainsAreShort, FaultlessChainsAreShort};
-ghost use Rattle.ctf_model.specs.values.ValueLaws.{FaultlessParentsAreBounded, ValuesAreTheirRules};
+ghost use Rattle.ctf_model.specs.values.ValueLaws.{ValuesAreTheirRules};
 ghost use Rattle.ctf_model.specs.writing.WritingLaws.{
   BytesAreJudgedAlike,
   NamesAreFoundAgain,
@@ -110,21 +110,19 @@ pub fn members_stand_next()
     ensures { PlacesAreNext }
 {}
 
-/// What a value shows is what its rule says of the values that it holds,
-/// in a dictionary that breaks
-/// no rule and over a parent that breaks none: the bound on how many types follow on each other
-/// shows in none, so a recursion of that depth shows them all.
-pub fn values_are_their_rules()
-    ensures parents { FaultlessParentsAreBounded }
-    ensures rules { ValuesAreTheirRules }
-{}
-
 /// In a dictionary that breaks no rule, alone or over a parent that breaks none, a chain of types
 /// visits at most 513 types of each: by the steps that values, figures and paths take, and by those
 /// of declarators.
 pub fn chains_are_short()
     ensures faultless { FaultlessChainsAreShort }
     ensures short { ChainsAreShort }
+{}
+
+/// Where chains are so short, what a value shows is what its rule says of the values that it holds:
+/// the bound on how many types follow on each other shows in none, so a recursion of that depth
+/// shows them all.
+pub fn values_are_their_rules()
+    ensures { ValuesAreTheirRules }
 {}
 
 /// Where chains are so short, the spelled name of each type is what its rule says of the types that
