@@ -1,13 +1,10 @@
--- The values of a dictionary that breaks no rule and is no child lead to its own types alone, and not far.
+-- A dictionary that breaks no rule and is no child names its own types alone.
 use Rattle.std.proofs.Common.{◌≡◌, ◌⊎◌, inl, ℕ, ◌+◌, ◌-◌, ◌≤◌, ◌<◌, false, List, [], ◌∷◌, length, None, refl, subst, arith, inr, zero, suc}
-use Rattle.std.specs.Prelude.{Any, slice_index_or}
+use Rattle.std.specs.Prelude.{Any}
 use Rattle.std.specs.List.{AllByRecursion}
 use Rattle.std.proofs.lemmas.Bool.{cases_lt}
-use Rattle.std.proofs.lemmas.Option.{slice_get-get_or}
 use Rattle.ctf_model.specs.rules.Chains.{by_value}
-use Rattle.ctf_model.specs.format.Dictionary.{said_by}
 use Rattle.ctf_model.specs.rules.Faults.{first_fault, types}
-use Rattle.ctf_model.specs.figures.FigureLaws.{nothing, own_body}
 use Rattle.ctf_model.specs.format.Header.{fields, is_child, section}
 use Rattle.ctf_model.specs.format.Laws.{pieces}
 use Rattle.ctf_model.specs.format.Lists.{Lists, tables}
@@ -18,11 +15,9 @@ use Rattle.ctf_model.specs.format.Section.{IsCut, terms_in}
 use Rattle.ctf_model.specs.format.Spelling.{HasStrayMark}
 use Rattle.ctf_model.specs.format.Term.{Term, Body}
 use Rattle.ctf_model.specs.format.Term as term
-use Rattle.ctf_model.specs.values.ValueLaws.{FaultlessParentsAreBounded}
 use Rattle.ctf_model.specs.declared.sections.Section.TheVariants.{STypes}
-use Rattle.ctf_model.proofs.Alls.{all_got}
 use Rattle.ctf_model.proofs.Anywhere.{all_map, any_here, any_there}
-use Rattle.ctf_model.proofs.BoundedValues.{keeps_all, values_bounded}
+use Rattle.ctf_model.proofs.BoundedValues.{keeps_all}
 use Rattle.ctf_model.proofs.OwnTypes.{not_zero}
 use Rattle.ctf_model.proofs.RecordRules.{kept_records, types_cut}
 use Rattle.ctf_model.proofs.Spelled.{Says}
@@ -47,7 +42,7 @@ none_of P [] h = tt
 none_of P (n ∷ ns) h = (λ p. h (any_here P n ns p), none_of P ns (λ a. h (any_there P n ns a)))
 
 -- the types that values lead to are among those that a type names
-values_named : (P : ℕ → Type 0) (body : Body) → AllByRecursion P (references body) → AllByRecursion P (by_value body)
+pub values_named : (P : ℕ → Type 0) (body : Body) → AllByRecursion P (references body) → AllByRecursion P (by_value body)
 values_named P (term.struct size ms) a = a
 values_named P (term.union size ms) a = a
 values_named P (term.array e) a = (a.0, tt)
@@ -72,14 +67,14 @@ no_misnaming s n lt keeps parts rest cut =
     (λ front part back e bad. keeps 14 lt (length front + 1)
     (record { front = front; part = part; back = back; rest = rest; cut = subst (λ (ps : List (List ℕ)). IsCut (section s.ctf STypes) ps rest) e cut }, refl, subst (λ (ps : List (List ℕ)). Misnames (tables s) (is_child (fields s.ctf)) (length ps) part) e bad))
 
--- all that the value of a type leads to has a low number
-abbrev IsLow : Term → Type 0
-IsLow x = AllByRecursion (λ t. t < 0x8000) (by_value x.body)
+-- all that a type names has a low number
+abbrev pub IsLow : Term → Type 0
+IsLow x = AllByRecursion (λ t. t < 0x8000) (references x.body)
 
 record_low : (t : Tables) (count : ℕ) (part : List ℕ) (x : Term) → count ≤ 32766 → Says t part x → (HasStrayMark part → ⊥) → (Misnames t false count part → ⊥) → IsLow x
 record_low t count part x few says form good =
     let named = none_of (IsMissing false count) (references x.body) (λ a. good (inr (x, record { whole = says.whole; form = form; says = says.says }, a))) in
-    values_named (λ n. n < 0x8000) x.body (all_map (λ n. IsMissing false count n → ⊥) (λ n. n < 0x8000) (λ n h. there_low count n few h) (references x.body) named)
+    all_map (λ n. IsMissing false count n → ⊥) (λ n. n < 0x8000) (λ n h. there_low count n few h) (references x.body) named
 
 terms_low : (t : Tables) (count : ℕ) (parts : List (List ℕ)) (rest : List ℕ) (index at : ℕ) → count ≤ 32766 → length rest ≡ 0
     → AllByRecursion (λ part. (x : Term) × Says t part x) parts → AllByRecursion (λ part. HasStrayMark part → ⊥) parts → AllByRecursion (λ part. Misnames t false count part → ⊥) parts
@@ -94,7 +89,7 @@ terms_low t count (part ∷ parts) rest index at few ends said form good =
 
 -- ---- the dictionary
 
-all_low : (s : Lists) → first_fault s ≡ None → is_child (fields s.ctf) ≡ false → AllByRecursion IsLow (terms_in (tables s) (types s.ctf))
+pub all_low : (s : Lists) → first_fault s ≡ None → is_child (fields s.ctf) ≡ false → AllByRecursion IsLow (terms_in (tables s) (types s.ctf))
 all_low s e plain =
     let every = keeps_all s e in
     let keeps : Keeps s 15 = λ n lt. every n in
@@ -102,11 +97,3 @@ all_low s e plain =
     let same = types_cut s.ctf r.0 r.1 r.2 in
     let good = rw plain at (no_misnaming s 15 (omega arith) keeps r.0 r.1 r.2) in
     rw same (terms_low (tables s) (length r.0) r.0 r.1 1 0 (few_records s 15 (omega arith) keeps r.0 r.1 r.2) r.3 (parts_said s 15 (omega arith) keeps r.0 r.1 r.2) (no_stray s 15 (omega arith) keeps r.0 r.1 r.2) good)
-
-each_low : (s : Lists) → first_fault s ≡ None → (said_by s).child ≡ false → (i : ℕ) → i < length (said_by s).terms → AllByRecursion (λ t. t < 0x8000) (by_value (own_body (said_by s) i))
-unfolding said_by
-each_low s e plain i lt =
-    all_got IsLow (terms_in (tables s) (types s.ctf)) i (slice_index_or (terms_in (tables s) (types s.ctf)) i nothing) (all_low s e plain) (slice_get-get_or (terms_in (tables s) (types s.ctf)) i nothing lt)
-
-pub parents_bounded : FaultlessParentsAreBounded
-parents_bounded s e plain = record { plain = plain; bounded = values_bounded s e; low = each_low s e plain }

@@ -1,13 +1,14 @@
 -- In a dictionary that breaks no rule, chains of steps by value are short.
-use Rattle.std.proofs.Common.{◌≡◌, ℕ, ◌+◌, Bool, true, false, Option, Some, None, refl, arith}
+use Rattle.std.proofs.Common.{◌≡◌, ℕ, ◌+◌, Bool, true, false, List, Option, Some, None, refl, arith}
 use Rattle.std.specs.Prelude.{MatchOption}
-use Rattle.ctf_model.specs.rules.Chains.{by_value, longest_chain, within, IsWithin}
+use Rattle.ctf_model.specs.rules.Chains.{by_value, edges, longest_chain, within, IsWithin}
 use Rattle.ctf_model.specs.format.Dictionary.{said_by}
 use Rattle.ctf_model.specs.rules.Faults.{first_fault}
-use Rattle.ctf_model.specs.figures.FigureLaws.{FaultlessValuesAreBounded, value_edges}
+use Rattle.ctf_model.specs.figures.FigureLaws.{FaultlessValuesAreBounded}
 use Rattle.ctf_model.specs.format.Laws.{KeepsEveryRule}
 use Rattle.ctf_model.specs.format.Lists.{Lists}
-use Rattle.ctf_model.specs.rules.Rules.{IsFirstFault}
+use Rattle.ctf_model.specs.rules.Rules.{IsDeepBy, IsFirstFault}
+use Rattle.ctf_model.specs.format.Term.{Body}
 use Rattle.ctf_model.specs.declared.faults.Fault.{Fault}
 use Rattle.ctf_model.proofs.ChainRules.{within_true}
 use Rattle.ctf_model.proofs.ChainSteps.{chain_begins}
@@ -22,15 +23,16 @@ keeps_all s e = at (first_fault s) e (least_fault s)
     at None e h = h
     at (Some f) e h = absurd cc
 
-bounded : (s : Lists) → KeepsEveryRule s → (i : ℕ) → IsWithin (value_edges (said_by s)) longest_chain i
+-- where no type begins a chain of too many such steps, each chain is within the bound
+pub bounded : (steps : Body → List ℕ) (s : Lists) → KeepsEveryRule s → ((p : ℕ) → IsDeepBy steps s p → ⊥) → (i : ℕ) → IsWithin (edges steps (said_by s).child (said_by s).terms) longest_chain i
 unfolding said_by
-bounded s keeps i = at (within (value_edges (said_by s)) longest_chain i) refl
+bounded steps s keeps none i = at (within (edges steps (said_by s).child (said_by s).terms) longest_chain i) refl
   where
-    at : (b : Bool) → within (value_edges (said_by s)) longest_chain i ≡ b → IsWithin (value_edges (said_by s)) longest_chain i
-    at true e = within_true (value_edges (said_by s)) longest_chain i e
+    at : (b : Bool) → within (edges steps (said_by s).child (said_by s).terms) longest_chain i ≡ b → IsWithin (edges steps (said_by s).child (said_by s).terms) longest_chain i
+    at true e = within_true (edges steps (said_by s).child (said_by s).terms) longest_chain i e
     at false e =
-        absurd (keeps 15 (i + 1)
-        ((said_by s).terms, (section_spelled s 15 (omega arith) (λ n lt. keeps n)).0, i, chain_begins by_value (said_by s).child (said_by s).terms longest_chain i e, refl))
+        absurd (none (i + 1)
+        ((said_by s).terms, (section_spelled s 15 (omega arith) (λ n lt. keeps n)).0, i, chain_begins steps (said_by s).child (said_by s).terms longest_chain i e, refl))
 
 pub values_bounded : FaultlessValuesAreBounded
-values_bounded s e = record { each = λ i lt. bounded s (keeps_all s e) i }
+values_bounded s e = record { each = λ i lt. bounded by_value s (keeps_all s e) (keeps_all s e 15) i }

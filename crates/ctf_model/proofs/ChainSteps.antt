@@ -56,7 +56,7 @@ one_fails child count test (n ∷ ns) e = at (own_index child count n) refl e (o
     at (Some j) is e rest = first j is (test j) refl e rest
 
 -- the own types that a type leads to are those that it names
-targets_of : (steps : Body → List ℕ) (child : Bool) (types : List Term) (i : ℕ) (x : Term) → slice_get types i ≡ Some x → targets (edges steps child types) i ≡ filter_map (own_index child (length types)) (steps x.body)
+pub targets_of : (steps : Body → List ℕ) (child : Bool) (types : List Term) (i : ℕ) (x : Term) → slice_get types i ≡ Some x → targets (edges steps child types) i ≡ filter_map (own_index child (length types)) (steps x.body)
 unfolding edges
 targets_of steps child types i x e =
     get_or-map (λ (y : Term). filter_map (own_index child (length types)) (steps y.body)) types i x [] (slice_get_within types i x e)

@@ -42,3 +42,7 @@ pub mod WrittenPieces
 pub mod WrittenParts
 pub mod WrittenBytes
 pub mod WrittenDrafts
+pub mod ShortChains
+pub mod FaultlessChains
+pub mod NameChains
+pub mod PathChains

@@ -1,4 +1,5 @@
 pub mod Figures
 pub mod Paths
 pub mod FigureLaws
+pub mod PathLaws
 pub mod FigureRows

@@ -2,6 +2,7 @@ pub mod Faults
 pub mod Rules
 pub mod References
 pub mod Chains
+pub mod ChainLaws
 pub mod Needs
 pub mod Refusals
 pub mod FaultRows

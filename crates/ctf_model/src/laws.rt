@@ -18,6 +18,7 @@ ghost use Rattle.ctf_model.specs.figures.FigureLaws.{
   OwnFiguresAreTheirRules,
   ParentsFiguresAreTheirOwn,
 };
+ghost use Rattle.ctf_model.specs.figures.PathLaws.{FiguresAreTheirRules, StepsAreTheirRules};
 ghost use Rattle.ctf_model.specs.format.Laws.{
   ComputesWhatIsDenoted,
   DenotesOne,
@@ -28,7 +29,9 @@ ghost use Rattle.ctf_model.specs.format.Laws.{
   RecordsAreACut,
   SectionSpellsOneList,
 };
-ghost use Rattle.ctf_model.specs.values.ValueLaws.{FaultlessParentsAreBounded, ValuesAreTheirRules};
+ghost use Rattle.ctf_model.specs.names.NameLaws.{NamesAreTheirRules, NamesAskByDeclarator};
+ghost use Rattle.ctf_model.specs.rules.ChainLaws.{ChainsAreShort, FaultlessChainsAreShort};
+ghost use Rattle.ctf_model.specs.values.ValueLaws.{ValuesAreTheirRules};
 ghost use Rattle.ctf_model.specs.writing.WritingLaws.{
   BytesAreJudgedAlike,
   NamesAreFoundAgain,
@@ -107,13 +110,34 @@ pub fn members_stand_next()
     ensures { PlacesAreNext }
 {}
 
-/// What a value shows is what its rule says of the values that it holds,
-/// in a dictionary that breaks
-/// no rule and over a parent that breaks none: the bound on how many types follow on each other
-/// shows in none, so a recursion of that depth shows them all.
+/// In a dictionary that breaks no rule, alone or over a parent that breaks none, a chain of types
+/// visits at most 513 types of each: by the steps that values, figures and paths take, and by those
+/// of declarators.
+pub fn chains_are_short()
+    ensures faultless { FaultlessChainsAreShort }
+    ensures short { ChainsAreShort }
+{}
+
+/// Where chains are so short, what a value shows is what its rule says of the values that it holds:
+/// the bound on how many types follow on each other shows in none, so a recursion of that depth
+/// shows them all.
 pub fn values_are_their_rules()
-    ensures parents { FaultlessParentsAreBounded }
-    ensures rules { ValuesAreTheirRules }
+    ensures { ValuesAreTheirRules }
+{}
+
+/// Where chains are so short, the spelled name of each type is what its rule says of the types that
+/// it refers to: the bound on layers shows in none.
+pub fn names_are_their_rules()
+    ensures asked { NamesAskByDeclarator }
+    ensures rules { NamesAreTheirRules }
+{}
+
+/// Where chains are so short, each step of a path is what its rule says, and so is each figure, the
+/// type that a type stands for among them: the bound on how many types follow on each other shows
+/// in none.
+pub fn paths_are_their_rules()
+    ensures figures { FiguresAreTheirRules }
+    ensures steps { StepsAreTheirRules }
 {}
 
 /// A name stands where its reference says, and a type is spelled by its record: in the short form

@@ -1,0 +1,33 @@
+-- Laws of names.
+use Rattle.std.specs.Prelude.{◌≡◌, ◌<◌, ℕ, ◌*◌, ◌+◌, ◌==◌, List, Result, codes, if◌then◌else◌}
+use Rattle.std.specs.List.{AllByRecursion}
+use Rattle.ctf_model.specs.rules.ChainLaws.{HasShortChainsIn}
+use Rattle.ctf_model.specs.rules.Chains.{declarator, longest_chain}
+use Rattle.ctf_model.specs.names.TypeNames.{Declaration, bare, declaration, declaration_by, declaration_of, declaration_within, spelled_name, text_of_declaration}
+use Rattle.ctf_model.specs.spaces.Space.{Space, space_type}
+use Rattle.ctf_model.specs.format.Term.{Body}
+use Rattle.ctf_model.specs.declared.faults.Fault.{Fault}
+
+-- the declaration of a type hangs on those of the types that its declarator goes on with,
+-- and on no other
+abbrev pub NamesAskByDeclarator : Type 0
+NamesAskByDeclarator =
+    (f g : ℕ → Result Declaration Fault) (name : List ℕ) (body : Body)
+    → AllByRecursion (λ t. f t ≡ g t) (declarator body)
+    → declaration_by f name body ≡ declaration_by g name body
+
+-- the rule of declarations: that of a number's type, where others have these
+abbrev pub declaration_rule : Space → (ℕ → Result Declaration Fault) → ℕ → Result Declaration Fault
+declaration_rule s others n =
+    if n == 0 then bare (codes "void") else declaration_of others (space_type s n)
+
+-- what is declared is what the rule says of what others declare, and the name is its text;
+-- any greater bound on layers gives the same, so that none is seen
+pub record NamesFollowRules (s : Space) : Type 0 where
+  pub rule : (n : ℕ) → declaration s n ≡ declaration_rule s (declaration s) n
+  pub name : (n : ℕ)
+      → spelled_name s n ≡ text_of_declaration (declaration_rule s (declaration s) n)
+  pub bound : (k n : ℕ) → 2 * (longest_chain + 1) < k → declaration_within s k n ≡ declaration s n
+
+abbrev pub NamesAreTheirRules : Type 0
+NamesAreTheirRules = (s : Space) → HasShortChainsIn declarator s → NamesFollowRules s
