@@ -1,6 +1,6 @@
 //! Reads what is added to a draft.
 ghost use Rattle.std.specs.Prelude.{◌≡◌, ◌≢◌, IfOk, codes, option_and_then};
-ghost use Rattle.serde_json.specs.View.{view, items_view};
+ghost use Rattle.ctf_json.specs.Told.{said as view, items_said as items_view};
 ghost use Rattle.ctf_protocol.specs.lines.LineFields.{text_in, type_under as type_asked_under};
 ghost use Rattle.ctf_protocol.specs.lines.AskAdditions.{addition_asked, addition_with as addition_asked_with, declared_named, kind_with, new_array_asked, new_enumerator_asked, new_function_asked, new_label_asked, new_member_asked, new_type_asked, offset_asked, root_asked, scalar_asked, size_or as size_or_asked, type_said as type_said_by, types_said as types_said_by, value_asked_for};
 ghost use Rattle.ctf_protocol.specs.declared.addables.Addable.TheVariants as adds;
@@ -8,11 +8,11 @@ ghost use Rattle.ctf_protocol.specs.declared.addables.Addable.TheVariants as add
 use crate::drafts::name_or_empty;
 use crate::reading::{items, number, number_said, text, type_number};
 use ctf_protocol::{Addable, Addition, Declared, NewArray, NewKind, NewScalar, TypeNum, TypeNums};
-use serde_json::Value;
+use json::Value;
 use std::alloc::{AllocError, Global};
 
 /// The number of a type under a key.
-fn type_under(value: &Value, key: &str) -> Option<TypeNum>
+fn type_under(value: &Value<'_>, key: &str) -> Option<TypeNum>
     ensures { result ≡ type_asked_under key.now (view value.now) }
 {
     let number = number(value, key, 0, u64::from(u16::MAX))?;
@@ -20,16 +20,16 @@ fn type_under(value: &Value, key: &str) -> Option<TypeNum>
 }
 
 /// A size in bytes, this one where that isn't said.
-fn size_or(value: &Value, size: u64) -> Option<u64>
+fn size_or(value: &Value<'_>, size: u64) -> Option<u64>
     ensures { result ≡ size_or_asked size (view value.now) }
 {
-    match value.get("size") {
+    match get(value, "size") {
         Some(size) => number_said(size, 0, u64::MAX),
         None => Some(size),
     }
 }
 
-fn scalar(value: &Value) -> Option<NewScalar>
+fn scalar(value: &Value<'_>) -> Option<NewScalar>
     ensures { result ≡ scalar_asked (view value.now) }
 {
     let size = number(value, "size", 0, u64::MAX)?;
@@ -44,7 +44,7 @@ fn scalar(value: &Value) -> Option<NewScalar>
     })
 }
 
-fn array(value: &Value) -> Option<NewArray>
+fn array(value: &Value<'_>) -> Option<NewArray>
     ensures { result ≡ new_array_asked (view value.now) }
 {
     let contents = type_under(value, "contents")?;
@@ -58,7 +58,7 @@ fn array(value: &Value) -> Option<NewArray>
 }
 
 /// The number that a value is, where it is that of a type.
-fn type_said(value: &Value) -> Option<TypeNum>
+fn type_said(value: &Value<'_>) -> Option<TypeNum>
     ensures { result ≡ type_said_by (view value.now) }
 {
     let number = number_said(value, 0, u64::from(u16::MAX))?;
@@ -66,7 +66,7 @@ fn type_said(value: &Value) -> Option<TypeNum>
 }
 
 /// The numbers that values are, if each is that of a type.
-fn types_said(alloc: Global, values: &[Value]) -> Result<Option<TypeNums>, AllocError>
+fn types_said(alloc: Global, values: &[Value<'_>]) -> Result<Option<TypeNums>, AllocError>
     ensures { IfOk result (λ types. types ≡ types_said_by (items_view values.now)) }
 {
     let mut types = Vec::with_capacity(alloc, values.len())?;
@@ -79,7 +79,7 @@ fn types_said(alloc: Global, values: &[Value]) -> Result<Option<TypeNums>, Alloc
     Ok(Some(TypeNums::new(types)))
 }
 
-fn function(alloc: Global, value: &Value) -> Result<Option<NewKind>, AllocError>
+fn function(alloc: Global, value: &Value<'_>) -> Result<Option<NewKind>, AllocError>
     ensures { IfOk result (λ x. x ≡ new_function_asked (view value.now)) }
 {
     let Some(returned) = type_under(value, "type") else {
@@ -95,7 +95,7 @@ fn function(alloc: Global, value: &Value) -> Result<Option<NewKind>, AllocError>
 }
 
 /// What a forward declares.
-fn declared(value: &Value) -> Option<Declared>
+fn declared(value: &Value<'_>) -> Option<Declared>
     ensures { result ≡ option_and_then declared_named (text_in (codes "tag") (view value.now)) }
 {
     match text(value, "tag")? {
@@ -107,11 +107,11 @@ fn declared(value: &Value) -> Option<Declared>
 }
 
 /// Whether look-ups see a type, which they do where that isn't said.
-fn root(value: &Value) -> Option<bool>
+fn root(value: &Value<'_>) -> Option<bool>
     ensures { result ≡ root_asked (view value.now) }
 {
-    match value.get("root") {
-        Some(root) => root.as_bool(),
+    match get(value, "root") {
+        Some(root) => as_bool(root),
         None => Some(true),
     }
 }
@@ -119,7 +119,7 @@ fn root(value: &Value) -> Option<bool>
 /// A new type of a kind, where its own fields are good.
 fn new_type(
     alloc: Global,
-    value: &Value,
+    value: &Value<'_>,
     kind: Option<NewKind>,
 ) -> Result<Option<Addition>, AllocError>
     ensures { IfOk result (λ addition. addition ≡ new_type_asked kind (view value.now)) }
@@ -137,16 +137,16 @@ fn new_type(
 }
 
 /// An offset in bits, if it is stated.
-fn offset(value: &Value) -> Option<Option<u64>>
+fn offset(value: &Value<'_>) -> Option<Option<u64>>
     ensures { result ≡ offset_asked (view value.now) }
 {
-    match value.get("offset") {
+    match get(value, "offset") {
         Some(offset) => Some(Some(number_said(offset, 0, u64::MAX)?)),
         None => Some(None),
     }
 }
 
-fn member(alloc: Global, value: &Value) -> Result<Option<Addition>, AllocError>
+fn member(alloc: Global, value: &Value<'_>) -> Result<Option<Addition>, AllocError>
     ensures { IfOk result (λ addition. addition ≡ new_member_asked (view value.now)) }
 {
     let Some(t) = type_number(value) else {
@@ -170,14 +170,14 @@ fn member(alloc: Global, value: &Value) -> Result<Option<Addition>, AllocError>
 }
 
 /// The value of an enumerator.
-fn signed(value: &Value) -> Option<i32>
+fn signed(value: &Value<'_>) -> Option<i32>
     ensures { result ≡ value_asked_for (view value.now) }
 {
-    let number = value.get("value")?.as_i64()?;
+    let number = as_i64(get(value, "value")?)?;
     i32::try_from(number).ok()
 }
 
-fn enumerator(alloc: Global, value: &Value) -> Result<Option<Addition>, AllocError>
+fn enumerator(alloc: Global, value: &Value<'_>) -> Result<Option<Addition>, AllocError>
     ensures { IfOk result (λ addition. addition ≡ new_enumerator_asked (view value.now)) }
 {
     let Some(t) = type_number(value) else {
@@ -192,7 +192,7 @@ fn enumerator(alloc: Global, value: &Value) -> Result<Option<Addition>, AllocErr
     }
 }
 
-fn label(alloc: Global, value: &Value) -> Result<Option<Addition>, AllocError>
+fn label(alloc: Global, value: &Value<'_>) -> Result<Option<Addition>, AllocError>
     ensures { IfOk result (λ addition. addition ≡ new_label_asked (view value.now)) }
 {
     let Some(name) = name_or_empty(alloc, value, "name")? else {
@@ -208,7 +208,7 @@ fn label(alloc: Global, value: &Value) -> Result<Option<Addition>, AllocError>
 }
 
 /// The kind of a new type that isn't a function, with its fields.
-fn kind(value: &Value, what: Addable) -> Option<NewKind>
+fn kind(value: &Value<'_>, what: Addable) -> Option<NewKind>
     ensures { what ≢ adds.Function → result ≡ kind_with (view value.now) what }
 {
     match what {
@@ -232,7 +232,7 @@ fn kind(value: &Value, what: Addable) -> Option<NewKind>
 /// What is added, with its fields.
 fn addition_with(
     alloc: Global,
-    value: &Value,
+    value: &Value<'_>,
     what: Addable,
 ) -> Result<Option<Addition>, AllocError>
     ensures { IfOk result (λ addition. addition ≡ addition_asked_with (view value.now) what) }
@@ -250,7 +250,7 @@ fn addition_with(
 }
 
 /// What a line adds to a draft.
-pub(crate) fn addition(alloc: Global, value: &Value) -> Result<Option<Addition>, AllocError>
+pub(crate) fn addition(alloc: Global, value: &Value<'_>) -> Result<Option<Addition>, AllocError>
     ensures { IfOk result (λ addition. addition ≡ addition_asked (view value.now)) }
 {
     let Some(word) = text(value, "what") else {

@@ -1,6 +1,6 @@
 //! Reads requests on drafts.
 ghost use Rattle.std.specs.Prelude.{◌≡◌, IfOk};
-ghost use Rattle.serde_json.specs.View.{view};
+ghost use Rattle.ctf_json.specs.Told.{said as view};
 ghost use Rattle.ctf_protocol.specs.lines.Ask.{add_asked, create_asked, discard_asked, parent_asked, update_asked};
 ghost use Rattle.ctf_protocol.specs.lines.LineFields.{name_or_empty as name_or_empty_asked};
 
@@ -9,34 +9,34 @@ use crate::models::model;
 use crate::reading::{slot, slot_said};
 use crate::spelled::name;
 use ctf_protocol::{Change, Creation, DraftStep, Piece, Request, SlotNumber};
-use serde_json::Value;
+use json::Value;
 use std::alloc::{AllocError, Global};
 
 /// A name that may be left out, and is empty then.
 pub(crate) fn name_or_empty(
     alloc: Global,
-    value: &Value,
+    value: &Value<'_>,
     key: &str,
 ) -> Result<Option<Piece>, AllocError>
     ensures { IfOk result (λ name. name ≡ name_or_empty_asked key.now (view value.now)) }
 {
-    match value.get(key) {
+    match get(value, key) {
         Some(spelled) => name(alloc, spelled),
         None => Ok(Some(Piece::new(Vec::new(alloc)))),
     }
 }
 
 /// The slot of the parent, if one is named.
-fn parent(value: &Value) -> Option<Option<SlotNumber>>
+fn parent(value: &Value<'_>) -> Option<Option<SlotNumber>>
     ensures { result ≡ parent_asked (view value.now) }
 {
-    match value.get("parent") {
+    match get(value, "parent") {
         Some(parent) => Some(Some(slot_said(parent)?)),
         None => Some(None),
     }
 }
 
-pub(crate) fn create(alloc: Global, value: &Value) -> Result<Option<Request>, AllocError>
+pub(crate) fn create(alloc: Global, value: &Value<'_>) -> Result<Option<Request>, AllocError>
     ensures { IfOk result (λ request. request ≡ create_asked (view value.now)) }
 {
     let Some(parent) = parent(value) else {
@@ -57,7 +57,7 @@ pub(crate) fn create(alloc: Global, value: &Value) -> Result<Option<Request>, Al
     }
 }
 
-pub(crate) fn add(alloc: Global, value: &Value) -> Result<Option<Request>, AllocError>
+pub(crate) fn add(alloc: Global, value: &Value<'_>) -> Result<Option<Request>, AllocError>
     ensures { IfOk result (λ request. request ≡ add_asked (view value.now)) }
 {
     let Some(d) = slot(value) else {
@@ -72,7 +72,7 @@ pub(crate) fn add(alloc: Global, value: &Value) -> Result<Option<Request>, Alloc
     }
 }
 
-pub(crate) fn update(value: &Value) -> Option<Request>
+pub(crate) fn update(value: &Value<'_>) -> Option<Request>
     ensures { result ≡ update_asked (view value.now) }
 {
     let d = slot(value)?;
@@ -82,7 +82,7 @@ pub(crate) fn update(value: &Value) -> Option<Request>
     }))
 }
 
-pub(crate) fn discard(value: &Value) -> Option<Request>
+pub(crate) fn discard(value: &Value<'_>) -> Option<Request>
     ensures { result ≡ discard_asked (view value.now) }
 {
     let d = slot(value)?;

@@ -1,19 +1,19 @@
 //! Reads the data model of a request.
 ghost use Rattle.std.specs.Prelude.{◌≡◌};
-ghost use Rattle.serde_json.specs.View.{view};
+ghost use Rattle.ctf_json.specs.Told.{said as view};
 ghost use Rattle.ctf_protocol.specs.lines.Ask.{model_asked as model_said};
 ghost use Rattle.ctf_protocol.specs.words.ModelNames.{model_named as model_of_word};
 
 use ctf_protocol::DataModel;
-use serde_json::Value;
+use json::Value;
 
 /// The data model, if one is said.
-pub(crate) fn model(value: &Value) -> Option<Option<DataModel>>
+pub(crate) fn model(value: &Value<'_>) -> Option<Option<DataModel>>
     ensures { result ≡ model_said (view value.now) }
 {
-    match value.get("model") {
+    match get(value, "model") {
         None => Some(None),
-        Some(said) => Some(Some(model_named(said.as_str()?)?)),
+        Some(said) => Some(Some(model_named(as_str(said)?)?)),
     }
 }
 

@@ -17,7 +17,7 @@ use ctf_protocol::{
     Change, DataModel, Fault, HeldQuestion, ListName, Names, Piece, PublicationName, Question,
     Request, SlotNumber, SlotQuestion, TypeNum, TypeQuestion, Window, Word, placeless,
 };
-use serde_json::Value;
+use json::{Scratch, Value};
 use std::alloc::{AllocError, Global};
 
 /// The longest line that is read, in bytes without its newline.
@@ -26,27 +26,26 @@ pub const LONGEST_LINE: usize = 1_048_576;
 impl FromLine for Request {
     ghost asked = { ask };
 
-    fn read(alloc: Global, line: &[u8]) -> Result<(u32, Request), (u32, Fault)> {
+    fn read(
+        alloc: Global,
+        scratch: &mut Scratch,
+        line: &[u8],
+    ) -> Result<(u32, Request), (u32, Fault)> {
         if line.len() > LONGEST_LINE {
             return Err((0, placeless(Fault::LONG_LINE)));
         }
         let Ok(text) = str::from_utf8(line) else {
             return Err((0, placeless(Fault::NOT_JSON)));
         };
-        match Value::from_str(alloc, text) {
+        match ctf_json::read(alloc, text, scratch) {
             Ok(value) => read_value(alloc, &value),
-            Err(e) => {
-                if e.is_memory() {
-                    Err((0, placeless(Fault::MEMORY)))
-                } else {
-                    Err((0, placeless(Fault::NOT_JSON)))
-                }
-            }
+            Err(NotRead::NotJson) => Err((0, placeless(Fault::NOT_JSON))),
+            Err(NotRead::Memory) => Err((0, placeless(Fault::MEMORY))),
         }
     }
 }
 
-fn read_value(alloc: Global, value: &Value) -> Result<(u32, Request), (u32, Fault)>
+fn read_value(alloc: Global, value: &Value<'_>) -> Result<(u32, Request), (u32, Fault)>
     ensures ok { IfOk result (λ said. value_asked (Some (view value.now)) ≡ Ok said) }
     ensures session { IfOk result (λ said. said.0 ≢ 0) }
     ensures refused { IfErr result (λ refusal. refusal.1.code ≢ MEMORY
@@ -65,12 +64,12 @@ fn read_value(alloc: Global, value: &Value) -> Result<(u32, Request), (u32, Faul
 }
 
 /// The number that a value is, where it is in a range.
-pub(crate) fn number_said(value: &Value, low: u64, high: u64) -> Option<u64>
+pub(crate) fn number_said(value: &Value<'_>, low: u64, high: u64) -> Option<u64>
     ensures number { result ≡ option_and_then (within low high)
         (option_and_then as_u64 (as_number (view value.now))) }
     ensures in_range { IfSome result (λ n. (low ≤ n) × (n ≤ high)) }
 {
-    let number = value.as_u64()?;
+    let number = as_u64(value)?;
     if low <= number && number <= high {
         Some(number)
     } else {
@@ -79,32 +78,32 @@ pub(crate) fn number_said(value: &Value, low: u64, high: u64) -> Option<u64>
 }
 
 /// The number of a field, where it is there and in its range.
-pub(crate) fn number(value: &Value, key: &str, low: u64, high: u64) -> Option<u64>
+pub(crate) fn number(value: &Value<'_>, key: &str, low: u64, high: u64) -> Option<u64>
     ensures number { result ≡ number_in low high key.now (view value.now) }
     ensures in_range { IfSome result (λ n. (low ≤ n) × (n ≤ high)) }
 {
-    number_said(value.get(key)?, low, high)
+    number_said(get(value, key)?, low, high)
 }
 
 /// The text of a field.
-pub(crate) fn text<'a>(value: &'a Value, key: &str) -> Option<&'a str>
+pub(crate) fn text<'a>(value: &Value<'a>, key: &str) -> Option<&'a str>
     ensures { option_map (λ s. s.now) result ≡ text_in key.now (view value.now) }
 {
-    value.get(key)?.as_str()
+    as_str(get(value, key)?)
 }
 
 /// The items of a field that is a list.
-pub(crate) fn items<'a>(value: &'a Value, key: &str) -> Option<&'a [Value]>
+pub(crate) fn items<'a>(value: &Value<'a>, key: &str) -> Option<&'a [Value<'_>]>
     ensures { option_map (λ items. items_view items.now) result
         ≡ option_and_then as_array (get key.now (view value.now)) }
 {
-    match value.get(key)?.as_array() {
+    match as_array(get(value, key)?) {
         Some(values) => Some(values.as_slice()),
         None => None,
     }
 }
 
-fn read_request(alloc: Global, value: &Value) -> Result<Option<Request>, AllocError>
+fn read_request(alloc: Global, value: &Value<'_>) -> Result<Option<Request>, AllocError>
     ensures { IfOk result (λ request. request ≡ request_asked (view value.now)) }
 {
     let Some(word) = word(value) else {
@@ -114,14 +113,14 @@ fn read_request(alloc: Global, value: &Value) -> Result<Option<Request>, AllocEr
 }
 
 /// The word of a line.
-fn word(value: &Value) -> Option<Word>
+fn word(value: &Value<'_>) -> Option<Word>
     ensures { result ≡ word_asked (view value.now) }
 {
     Word::named(text(value, "op")?)
 }
 
 /// What a word asks, with its fields.
-fn read_word(alloc: Global, value: &Value, word: Word) -> Result<Option<Request>, AllocError>
+fn read_word(alloc: Global, value: &Value<'_>, word: Word) -> Result<Option<Request>, AllocError>
     ensures { IfOk result (λ request. request ≡ asked_with (view value.now) word) }
 {
     match word {
@@ -156,7 +155,7 @@ fn read_word(alloc: Global, value: &Value, word: Word) -> Result<Option<Request>
 }
 
 /// The number of a slot that a value is.
-pub(crate) fn slot_said(value: &Value) -> Option<SlotNumber>
+pub(crate) fn slot_said(value: &Value<'_>) -> Option<SlotNumber>
     ensures { result ≡ option_and_then (within 1 4294967295)
         (option_and_then as_u64 (as_number (view value.now))) }
 {
@@ -165,19 +164,19 @@ pub(crate) fn slot_said(value: &Value) -> Option<SlotNumber>
 }
 
 /// The number of a slot in a field.
-fn slot_under(value: &Value, key: &str) -> Option<SlotNumber>
+fn slot_under(value: &Value<'_>, key: &str) -> Option<SlotNumber>
     ensures { result ≡ slot_named key.now (view value.now) }
 {
-    slot_said(value.get(key)?)
+    slot_said(get(value, key)?)
 }
 
-pub(crate) fn slot(value: &Value) -> Option<SlotNumber>
+pub(crate) fn slot(value: &Value<'_>) -> Option<SlotNumber>
     ensures { result ≡ slot_in (view value.now) }
 {
     slot_under(value, "d")
 }
 
-fn open(value: &Value) -> Option<Request>
+fn open(value: &Value<'_>) -> Option<Request>
     ensures { result ≡ open_asked (view value.now) }
 {
     let model = model(value)?;
@@ -186,14 +185,14 @@ fn open(value: &Value) -> Option<Request>
     }))
 }
 
-fn close(value: &Value) -> Option<Request>
+fn close(value: &Value<'_>) -> Option<Request>
     ensures { result ≡ close_asked (view value.now) }
 {
     let d = slot(value)?;
     Some(Request::Changes(Change::Close { d }))
 }
 
-fn import(value: &Value) -> Option<Request>
+fn import(value: &Value<'_>) -> Option<Request>
     ensures { result ≡ import_asked (view value.now) }
 {
     let d = slot(value)?;
@@ -202,7 +201,7 @@ fn import(value: &Value) -> Option<Request>
 }
 
 /// The name of a publication, which stands in a field as it is, without escapes.
-fn publication(alloc: Global, value: &Value) -> Result<Option<PublicationName>, AllocError>
+fn publication(alloc: Global, value: &Value<'_>) -> Result<Option<PublicationName>, AllocError>
     ensures { IfOk result (λ name. name ≡ publication_asked (view value.now)) }
 {
     let Some(name) = text(value, "name") else {
@@ -211,7 +210,7 @@ fn publication(alloc: Global, value: &Value) -> Result<Option<PublicationName>, 
     Ok(PublicationName::new(Vec::from_slice(alloc, name.as_bytes())?))
 }
 
-fn publish(alloc: Global, value: &Value) -> Result<Option<Request>, AllocError>
+fn publish(alloc: Global, value: &Value<'_>) -> Result<Option<Request>, AllocError>
     ensures { IfOk result (λ request. request ≡ publish_asked (view value.now)) }
 {
     let Some(d) = slot(value) else {
@@ -223,7 +222,7 @@ fn publish(alloc: Global, value: &Value) -> Result<Option<Request>, AllocError>
     }
 }
 
-fn withdraw(alloc: Global, value: &Value) -> Result<Option<Request>, AllocError>
+fn withdraw(alloc: Global, value: &Value<'_>) -> Result<Option<Request>, AllocError>
     ensures { IfOk result (λ request. request ≡ withdraw_asked (view value.now)) }
 {
     match publication(alloc, value)? {
@@ -232,7 +231,7 @@ fn withdraw(alloc: Global, value: &Value) -> Result<Option<Request>, AllocError>
     }
 }
 
-fn take(alloc: Global, value: &Value) -> Result<Option<Request>, AllocError>
+fn take(alloc: Global, value: &Value<'_>) -> Result<Option<Request>, AllocError>
     ensures { IfOk result (λ request. request ≡ take_asked (view value.now)) }
 {
     let Some(owner) = number(value, "owner", 0, u64::from(u32::MAX)) else {
@@ -247,7 +246,7 @@ fn take(alloc: Global, value: &Value) -> Result<Option<Request>, AllocError>
     }
 }
 
-pub(crate) fn type_number(value: &Value) -> Option<TypeNum>
+pub(crate) fn type_number(value: &Value<'_>) -> Option<TypeNum>
     ensures { result ≡ type_in (view value.now) }
 {
     let number = number(value, "t", 0, u64::from(u16::MAX))?;
@@ -255,26 +254,26 @@ pub(crate) fn type_number(value: &Value) -> Option<TypeNum>
 }
 
 /// The first item that is wanted, 0 where that isn't said.
-fn from(value: &Value) -> Option<u32>
+fn from(value: &Value<'_>) -> Option<u32>
     ensures { result ≡ from_asked (view value.now) }
 {
-    match value.get("from") {
+    match get(value, "from") {
         None => Some(0),
         Some(from) => Some(number_said(from, 0, u64::from(u32::MAX))? as u32),
     }
 }
 
 /// How many items are wanted; all where that isn't said.
-fn count(value: &Value) -> Option<Option<u32>>
+fn count(value: &Value<'_>) -> Option<Option<u32>>
     ensures { result ≡ count_asked (view value.now) }
 {
-    match value.get("count") {
+    match get(value, "count") {
         None => Some(None),
         Some(count) => Some(Some(number_said(count, 0, u64::from(u32::MAX))? as u32)),
     }
 }
 
-fn window(value: &Value) -> Option<Window>
+fn window(value: &Value<'_>) -> Option<Window>
     ensures { result ≡ window_asked (view value.now) }
 {
     let from = from(value)?;
@@ -282,20 +281,20 @@ fn window(value: &Value) -> Option<Window>
     Some(Window { from, count })
 }
 
-fn members(value: &Value) -> Option<TypeQuestion>
+fn members(value: &Value<'_>) -> Option<TypeQuestion>
     ensures { result ≡ option_map (λ window. about.Members window) (window_asked (view value.now)) }
 {
     Some(TypeQuestion::Members(window(value)?))
 }
 
-fn enumerators(value: &Value) -> Option<TypeQuestion>
+fn enumerators(value: &Value<'_>) -> Option<TypeQuestion>
     ensures { result
         ≡ option_map (λ window. about.Enumerators window) (window_asked (view value.now)) }
 {
     Some(TypeQuestion::Enumerators(window(value)?))
 }
 
-fn path(alloc: Global, value: &Value) -> Result<Option<TypeQuestion>, AllocError>
+fn path(alloc: Global, value: &Value<'_>) -> Result<Option<TypeQuestion>, AllocError>
     ensures { IfOk result (λ question. question
         ≡ option_map (λ names. about.Path names) (names_asked (view value.now))) }
 {
@@ -306,7 +305,7 @@ fn path(alloc: Global, value: &Value) -> Result<Option<TypeQuestion>, AllocError
 }
 
 /// The names of a field.
-fn names_under(alloc: Global, value: &Value) -> Result<Option<Names>, AllocError>
+fn names_under(alloc: Global, value: &Value<'_>) -> Result<Option<Names>, AllocError>
     ensures { IfOk result (λ names. names ≡ names_asked (view value.now)) }
 {
     match items(value, "names") {
@@ -316,7 +315,7 @@ fn names_under(alloc: Global, value: &Value) -> Result<Option<Names>, AllocError
 }
 
 /// The memory that a value stands in, and the bit that it begins at.
-fn show(alloc: Global, value: &Value) -> Result<Option<TypeQuestion>, AllocError>
+fn show(alloc: Global, value: &Value<'_>) -> Result<Option<TypeQuestion>, AllocError>
     ensures { IfOk result (λ question. question ≡ show_asked (view value.now)) }
 {
     let Some(offset) = number(value, "offset", 0, u64::MAX) else {
@@ -332,16 +331,16 @@ fn show(alloc: Global, value: &Value) -> Result<Option<TypeQuestion>, AllocError
 }
 
 /// The name that a field spells.
-fn name_under(alloc: Global, value: &Value, key: &str) -> Result<Option<Piece>, AllocError>
+fn name_under(alloc: Global, value: &Value<'_>, key: &str) -> Result<Option<Piece>, AllocError>
     ensures { IfOk result (λ name. name ≡ name_asked key.now (view value.now)) }
 {
-    match value.get(key) {
+    match get(value, key) {
         Some(spelled) => name(alloc, spelled),
         None => Ok(None),
     }
 }
 
-fn find(alloc: Global, value: &Value) -> Result<Option<SlotQuestion>, AllocError>
+fn find(alloc: Global, value: &Value<'_>) -> Result<Option<SlotQuestion>, AllocError>
     ensures { IfOk result (λ question. question
         ≡ option_map (λ written. whole.Find written)
         (name_asked (codes "text") (view value.now))) }
@@ -352,7 +351,7 @@ fn find(alloc: Global, value: &Value) -> Result<Option<SlotQuestion>, AllocError
     }
 }
 
-fn symbol(alloc: Global, value: &Value) -> Result<Option<SlotQuestion>, AllocError>
+fn symbol(alloc: Global, value: &Value<'_>) -> Result<Option<SlotQuestion>, AllocError>
     ensures { IfOk result (λ question. question
         ≡ option_map (λ name. whole.Symbol name) (name_asked (codes "name") (view value.now))) }
 {
@@ -362,7 +361,7 @@ fn symbol(alloc: Global, value: &Value) -> Result<Option<SlotQuestion>, AllocErr
     }
 }
 
-fn label(alloc: Global, value: &Value) -> Result<Option<SlotQuestion>, AllocError>
+fn label(alloc: Global, value: &Value<'_>) -> Result<Option<SlotQuestion>, AllocError>
     ensures { IfOk result (λ question. question
         ≡ option_map (λ name. whole.Label name) (name_asked (codes "name") (view value.now))) }
 {
@@ -373,33 +372,33 @@ fn label(alloc: Global, value: &Value) -> Result<Option<SlotQuestion>, AllocErro
 }
 
 /// The number of a symbol.
-fn symbol_number(value: &Value) -> Option<u32>
+fn symbol_number(value: &Value<'_>) -> Option<u32>
     ensures { result ≡ symbol_asked (view value.now) }
 {
     Some(number(value, "sym", 0, u64::from(u32::MAX))? as u32)
 }
 
-fn object(value: &Value) -> Option<SlotQuestion>
+fn object(value: &Value<'_>) -> Option<SlotQuestion>
     ensures { result ≡ option_map (λ number. whole.Object number) (symbol_asked (view value.now)) }
 {
     Some(SlotQuestion::Object(symbol_number(value)?))
 }
 
-fn function(value: &Value) -> Option<SlotQuestion>
+fn function(value: &Value<'_>) -> Option<SlotQuestion>
     ensures { result
         ≡ option_map (λ number. whole.Function number) (symbol_asked (view value.now)) }
 {
     Some(SlotQuestion::Function(symbol_number(value)?))
 }
 
-fn labels(value: &Value) -> Option<SlotQuestion>
+fn labels(value: &Value<'_>) -> Option<SlotQuestion>
     ensures { result ≡ option_map (λ window. whole.Labels window) (window_asked (view value.now)) }
 {
     Some(SlotQuestion::Labels(window(value)?))
 }
 
 /// A question on a slot as a whole, where its own fields are good.
-fn about_slot(value: &Value, question: Option<SlotQuestion>) -> Option<Request>
+fn about_slot(value: &Value<'_>, question: Option<SlotQuestion>) -> Option<Request>
     ensures { result ≡ slot_question_asked question (view value.now) }
 {
     let question = question?;
@@ -411,7 +410,7 @@ fn about_slot(value: &Value, question: Option<SlotQuestion>) -> Option<Request>
 }
 
 /// The bytes that are wanted of a dictionary: the first of them, and at most how many.
-fn bytes(value: &Value) -> Option<HeldQuestion>
+fn bytes(value: &Value<'_>) -> Option<HeldQuestion>
     ensures { result ≡ bytes_asked (view value.now) }
 {
     let from = number(value, "from", 0, u64::from(u32::MAX))?;
@@ -423,7 +422,7 @@ fn bytes(value: &Value) -> Option<HeldQuestion>
 }
 
 /// A question on what a slot holds, where its own fields are good.
-fn about_held(value: &Value, question: Option<HeldQuestion>) -> Option<Request>
+fn about_held(value: &Value<'_>, question: Option<HeldQuestion>) -> Option<Request>
     ensures { result ≡ held_question_asked question (view value.now) }
 {
     let question = question?;
@@ -435,7 +434,7 @@ fn about_held(value: &Value, question: Option<HeldQuestion>) -> Option<Request>
 }
 
 /// A question on a type of a slot, where its own fields are good.
-fn about_type(value: &Value, question: Option<TypeQuestion>) -> Option<Request>
+fn about_type(value: &Value<'_>, question: Option<TypeQuestion>) -> Option<Request>
     ensures { result ≡ type_question_asked question (view value.now) }
 {
     let question = question?;
@@ -458,7 +457,7 @@ fn list(name: &str) -> Option<ListName>
     }
 }
 
-fn read_part(alloc: Global, value: &Value) -> Result<Option<Request>, AllocError>
+fn read_part(alloc: Global, value: &Value<'_>) -> Result<Option<Request>, AllocError>
     ensures { IfOk result (λ request. request ≡ part_asked (view value.now)) }
 {
     let Some(name) = text(value, "section") else {

@@ -1,6 +1,6 @@
 //! Bytes that texts of a line spell: by hexadecimal digits, or as a name with its escapes.
 ghost use Rattle.std.specs.Prelude.{◌≡◌, ◌<◌, IfOk, IfSome, length, option_map, option_and_then};
-ghost use Rattle.serde_json.specs.View.{view, items_view};
+ghost use Rattle.ctf_json.specs.Told.{said as view, items_said as items_view};
 ghost use Rattle.ctf_protocol.specs.lines.LineFields.{bytes_spelled, not_too_many, not_too_many_names, name_spelled, names_spelled};
 ghost use Rattle.ctf_protocol.specs.lines.Text.{digit_value as digit_value_of, byte_value as byte_value_of, bytes_spelled_by};
 ghost use Rattle.ctf_lines.specs.Fronts.{IsFront, escape as escape_of};
@@ -8,7 +8,8 @@ ghost use Rattle.ctf_lines.specs.Fronts.{IsFront, escape as escape_of};
 use crate::names::is_plain;
 use ctf_protocol::{LONGEST_PIECE, Names, Piece};
 use hex::FromHexError;
-use serde_json::Value;
+use ctf_json::{as_str};
+use json::Value;
 use std::alloc::{AllocError, Global};
 
 /// The bytes that hexadecimal digits spell.
@@ -93,10 +94,10 @@ fn bytes_of(alloc: Global, text: &[u8]) -> Result<Option<Vec<u8>>, AllocError>
 }
 
 /// The name that a value spells.
-pub fn name(alloc: Global, value: &Value) -> Result<Option<Piece>, AllocError>
+pub fn name(alloc: Global, value: &Value<'_>) -> Result<Option<Piece>, AllocError>
     ensures { IfOk result (λ name. name ≡ name_spelled (view value.now)) }
 {
-    let Some(text) = value.as_str() else {
+    let Some(text) = as_str(value) else {
         return Ok(None);
     };
     match bytes_of(alloc, text.as_bytes())? {
@@ -117,7 +118,7 @@ fn short_list(names: Vec<Piece>) -> Option<Names>
 }
 
 /// The names that values spell, if each spells one and they are no more than a request may bring.
-pub fn names(alloc: Global, values: &[Value]) -> Result<Option<Names>, AllocError>
+pub fn names(alloc: Global, values: &[Value<'_>]) -> Result<Option<Names>, AllocError>
     ensures { IfOk result (λ names. names
         ≡ option_and_then not_too_many_names (names_spelled (items_view values.now))) }
 {

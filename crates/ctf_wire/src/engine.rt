@@ -10,6 +10,7 @@ use crate::run_faults::RunFault;
 use crate::sinks::Sink;
 use crate::sources::Source;
 use ctf_lines::SHORT_LINE;
+use json::Scratch;
 use std::alloc::{AllocError, Global};
 
 /// How many bytes one read asks for.
@@ -49,17 +50,18 @@ pub fn answer_bounded<M: Machine, S: Source, K: Sink>(
         return Err(RunFault::Memory);
     };
     let chunk = chunk.as_mut_slice();
+    let mut scratch = Scratch::new(alloc);
     for turn in 0..reads {
         let Some(count) = source.pull(chunk) else {
             return Err(RunFault::Read);
         };
         if count == 0 {
-            if !finish(machine, &pending, sink, &mut out) {
+            if !finish(machine, &mut scratch, &pending, sink, &mut out) {
                 return Err(RunFault::Write);
             }
             return Ok(());
         }
-        if !feed(machine, &mut pending, sink, &mut out, &chunk[..count]) {
+        if !feed(machine, &mut scratch, &mut pending, sink, &mut out, &chunk[..count]) {
             return Err(RunFault::Write);
         }
     }

@@ -9,10 +9,12 @@ use crate::pending::Pending;
 use crate::pieces::cut;
 use crate::sending::send;
 use crate::sinks::Sink;
+use json::Scratch;
 
 /// Answers the pending line.
 fn answer<M: Machine, K: Sink>(
     machine: &mut M,
+    scratch: &mut Scratch,
     pending: &Pending,
     sink: &mut K,
     out: &mut Vec<u8>,
@@ -26,7 +28,7 @@ fn answer<M: Machine, K: Sink>(
     if pending.is_too_long() {
         machine.step_too_long(out);
     } else {
-        machine.step(pending.bytes(), out);
+        machine.step(scratch, pending.bytes(), out);
     }
     send(sink, out)
 }
@@ -34,6 +36,7 @@ fn answer<M: Machine, K: Sink>(
 /// Answers the line that this piece ends.
 fn end_line<M: Machine, K: Sink>(
     machine: &mut M,
+    scratch: &mut Scratch,
     pending: &mut Pending,
     sink: &mut K,
     out: &mut Vec<u8>,
@@ -46,7 +49,7 @@ fn end_line<M: Machine, K: Sink>(
     ensures grows { vec_capacity out.old ≤ vec_capacity out.new }
 {
     pending.append(piece);
-    if !answer(machine, pending, sink, out) {
+    if !answer(machine, scratch, pending, sink, out) {
         return false;
     }
     pending.clear();
@@ -56,6 +59,7 @@ fn end_line<M: Machine, K: Sink>(
 /// Takes bytes in: answers each line that they end.
 pub fn feed<M: Machine, K: Sink>(
     machine: &mut M,
+    scratch: &mut Scratch,
     pending: &mut Pending,
     sink: &mut K,
     out: &mut Vec<u8>,
@@ -68,7 +72,7 @@ pub fn feed<M: Machine, K: Sink>(
 {
     let mut rest = bytes;
     while let Some((piece, after)) = cut(rest) {
-        if !end_line(machine, pending, sink, out, piece) {
+        if !end_line(machine, scratch, pending, sink, out, piece) {
             return false;
         }
         rest = after;
@@ -80,6 +84,7 @@ pub fn feed<M: Machine, K: Sink>(
 /// Answers the last piece, where it isn't empty.
 pub fn finish<M: Machine, K: Sink>(
     machine: &mut M,
+    scratch: &mut Scratch,
     pending: &Pending,
     sink: &mut K,
     out: &mut Vec<u8>,
@@ -91,7 +96,7 @@ pub fn finish<M: Machine, K: Sink>(
     if pending.is_empty() {
         return true;
     }
-    if !answer(machine, pending, sink, out) {
+    if !answer(machine, scratch, pending, sink, out) {
         return false;
     }
     true

@@ -18,6 +18,7 @@ use ctf_answers::{Counts, Reply};
 use ctf_broker::Broker;
 use ctf_lines::{FromLine, ToLine, write_change};
 use ctf_protocol::{Fault, Request, placeless};
+use json::Scratch;
 use std::alloc::Global;
 
 /// Appends the line of a short reply.
@@ -43,8 +44,8 @@ fn append_answer(out: &mut Vec<u8>, reply: &Reply<'_>)
 impl Machine for Broker {
     ghost Step = { BrokerStep };
 
-    fn step(&mut self, line: &[u8], out: &mut Vec<u8>) {
-        match Request::read(self.allocator(), line) {
+    fn step(&mut self, scratch: &mut Scratch, line: &[u8], out: &mut Vec<u8>) {
+        match Request::read(self.allocator(), scratch, line) {
             Ok((session, request)) => answer_request(self, session, &request, out),
             Err((session, fault)) => append_short(out, session, Err(fault)),
         }

@@ -1,0 +1,11 @@
+//! JSON of one line, lent from the line and from memory that is kept from line to line.
+#![tactic(auto)]
+
+mod looking;
+mod numbers;
+mod ranges;
+mod reading;
+
+pub use looking::{as_array, as_bool, as_i64, as_str, as_u64, get};
+pub use numbers::number;
+pub use reading::{NotRead, read};
