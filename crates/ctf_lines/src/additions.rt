@@ -7,8 +7,8 @@ ghost use Rattle.ctf_protocol.specs.declared.addables.Addable.TheVariants as add
 
 use crate::drafts::name_or_empty;
 use crate::reading::{items, number, number_said, text, type_number};
+use ctf_json::{Value, as_bool, as_i64, get};
 use ctf_protocol::{Addable, Addition, Declared, NewArray, NewKind, NewScalar, TypeNum, TypeNums};
-use json::Value;
 use std::alloc::{AllocError, Global};
 
 /// The number of a type under a key.

@@ -8,8 +8,8 @@ use crate::additions::addition;
 use crate::models::model;
 use crate::reading::{slot, slot_said};
 use crate::spelled::name;
+use ctf_json::{Value, get};
 use ctf_protocol::{Change, Creation, DraftStep, Piece, Request, SlotNumber};
-use json::Value;
 use std::alloc::{AllocError, Global};
 
 /// A name that may be left out, and is empty then.

@@ -17,6 +17,8 @@ mod spelled;
 mod texts;
 mod writing;
 
+/// Memory that is kept from line to line.
+pub use ctf_json::Scratch;
 pub use lines::{FromLine, ToLine};
 pub use no_memory::memory_line;
 pub use reading::LONGEST_LINE;

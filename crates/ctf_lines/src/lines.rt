@@ -3,7 +3,7 @@ ghost use Rattle.std.specs.Prelude.{◌≡◌, ◌≢◌, ◌<◌, length, ℕ, 
 ghost use Rattle.ctf_lines.specs.Appending.{Writes};
 
 use ctf_protocol::Fault;
-use json::Scratch;
+use ctf_json::Scratch;
 use std::alloc::{AllocError, Global};
 
 /// What a line may ask.

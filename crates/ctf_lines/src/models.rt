@@ -4,8 +4,8 @@ ghost use Rattle.ctf_json.specs.Told.{said as view};
 ghost use Rattle.ctf_protocol.specs.lines.Ask.{model_asked as model_said};
 ghost use Rattle.ctf_protocol.specs.words.ModelNames.{model_named as model_of_word};
 
+use ctf_json::{Value, as_str, get};
 use ctf_protocol::DataModel;
-use json::Value;
 
 /// The data model, if one is said.
 pub(crate) fn model(value: &Value<'_>) -> Option<Option<DataModel>>

@@ -1,10 +1,11 @@
 //! Reads the request of a line.
 ghost use Rattle.std.specs.Prelude.{◌≡◌, ◌≢◌, ◌≤◌, IfSome, Option, None, Some, IfOk, IfErr, Ok, Err, codes, option_map, option_and_then};
 ghost use Rattle.serde_json.specs.Find.{as_array, as_number, as_u64, get};
-ghost use Rattle.serde_json.specs.View.{view, items_view};
+ghost use Rattle.serde_json.specs.Read.{read as read_json};
+ghost use Rattle.ctf_json.specs.Told.{items_said as items_view, said as view};
 ghost use Rattle.ctf_protocol.specs.lines.Ask.{ask, open_asked, list_named, close_asked, import_asked, publication_asked, publish_asked, take_asked, withdraw_asked, about_type as type_question_asked, about_slot as slot_question_asked, about_held as held_question_asked, bytes_asked, symbol_asked, show_asked, names_asked, part_asked, word_asked, asked_with, request_asked, value_asked};
 ghost use Rattle.ctf_protocol.specs.lines.LineFields.{within, number_in, text_in, slot_under as slot_named, slot_in, type_in, name_under as name_asked, from_asked, count_asked, window_asked};
-ghost use Rattle.ctf_model.specs.rules.Refusals.{placeless};
+ghost use Rattle.ctf_model.specs.rules.Refusals.{placeless, want_of_memory};
 ghost use Rattle.ctf_model.specs.declared.faults.TheConstants.Fault.{MEMORY};
 ghost use Rattle.ctf_protocol.specs.declared.questions.SlotQuestion.TheVariants as whole;
 ghost use Rattle.ctf_protocol.specs.declared.questions.TypeQuestion.TheVariants as about;
@@ -13,15 +14,19 @@ use crate::drafts::{add, create, discard, update};
 use crate::lines::FromLine;
 use crate::models::model;
 use crate::spelled::{name, names, piece};
+use ctf_json::{NotRead, Scratch, Value, as_array, as_str, as_u64, get};
 use ctf_protocol::{
     Change, DataModel, Fault, HeldQuestion, ListName, Names, Piece, PublicationName, Question,
     Request, SlotNumber, SlotQuestion, TypeNum, TypeQuestion, Window, Word, placeless,
 };
-use json::{Scratch, Value};
 use std::alloc::{AllocError, Global};
 
 /// The longest line that is read, in bytes without its newline.
 pub const LONGEST_LINE: usize = 1_048_576;
+
+/// The longest line that is read with the memory that is kept from line to line, in bytes. A longer
+/// one takes memory of its own, so that no more is kept than such a line needs.
+const LONGEST_KEPT: usize = 8_192;
 
 impl FromLine for Request {
     ghost asked = { ask };
@@ -37,11 +42,31 @@ impl FromLine for Request {
         let Ok(text) = str::from_utf8(line) else {
             return Err((0, placeless(Fault::NOT_JSON)));
         };
-        match ctf_json::read(alloc, text, scratch) {
-            Ok(value) => read_value(alloc, &value),
-            Err(NotRead::NotJson) => Err((0, placeless(Fault::NOT_JSON))),
-            Err(NotRead::Memory) => Err((0, placeless(Fault::MEMORY))),
+        if line.len() <= LONGEST_KEPT {
+            read_text(alloc, scratch, text)
+        } else {
+            read_text(alloc, &mut Scratch::new(alloc), text)
         }
+    }
+}
+
+/// Reads a line that is a text.
+fn read_text(
+    alloc: Global,
+    scratch: &mut Scratch,
+    text: &str,
+) -> Result<(u32, Request), (u32, Fault)>
+    ensures ok { IfOk result (λ said. value_asked (read_json text.now) ≡ Ok said) }
+    ensures session { IfOk result (λ said. said.0 ≢ 0) }
+    ensures refused { IfErr result (λ refusal. refusal.1.code ≢ MEMORY
+        → value_asked (read_json text.now) ≡ Err refusal) }
+    ensures memory { IfErr result (λ refusal. refusal.1.code ≡ MEMORY
+        → refusal ≡ (0, want_of_memory)) }
+{
+    match ctf_json::read(alloc, text, scratch) {
+        Ok(value) => read_value(alloc, &value),
+        Err(NotRead::NotJson) => Err((0, placeless(Fault::NOT_JSON))),
+        Err(NotRead::Memory) => Err((0, placeless(Fault::MEMORY))),
     }
 }
 
@@ -93,14 +118,11 @@ pub(crate) fn text<'a>(value: &Value<'a>, key: &str) -> Option<&'a str>
 }
 
 /// The items of a field that is a list.
-pub(crate) fn items<'a>(value: &Value<'a>, key: &str) -> Option<&'a [Value<'_>]>
+pub(crate) fn items<'v, 'a>(value: &'v Value<'a>, key: &str) -> Option<&'v [Value<'a>]>
     ensures { option_map (λ items. items_view items.now) result
         ≡ option_and_then as_array (get key.now (view value.now)) }
 {
-    match as_array(get(value, key)?) {
-        Some(values) => Some(values.as_slice()),
-        None => None,
-    }
+    as_array(get(value, key)?)
 }
 
 fn read_request(alloc: Global, value: &Value<'_>) -> Result<Option<Request>, AllocError>

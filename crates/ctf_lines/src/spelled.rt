@@ -6,10 +6,9 @@ ghost use Rattle.ctf_protocol.specs.lines.Text.{digit_value as digit_value_of, b
 ghost use Rattle.ctf_lines.specs.Fronts.{IsFront, escape as escape_of};
 
 use crate::names::is_plain;
+use ctf_json::{Value, as_str};
 use ctf_protocol::{LONGEST_PIECE, Names, Piece};
 use hex::FromHexError;
-use ctf_json::{as_str};
-use json::Value;
 use std::alloc::{AllocError, Global};
 
 /// The bytes that hexadecimal digits spell.

@@ -1,7 +1,7 @@
 //! The calls below `serve`, each once, with memory enough.
 
 use ctf_answers::Reply;
-use ctf_lines::{FromLine, ToLine, memory_line, write_change};
+use ctf_lines::{FromLine, Scratch, ToLine, memory_line, write_change};
 use ctf_protocol::{Change, DataModel, Fault, Request, placeless};
 use ctf_wire::{Broker, Library, Pool};
 use std::alloc::{AllocError, Global};
@@ -33,7 +33,7 @@ fn ask_library(
     line: &str,
     out: &mut Vec<u8>,
 ) -> Result<(), AllocError> {
-    let Ok((session, request)) = Request::read(alloc, line.as_bytes()) else {
+    let Ok((session, request)) = Request::read(alloc, &mut Scratch::new(alloc), line.as_bytes()) else {
         return Ok(());
     };
     match request {
@@ -64,7 +64,7 @@ fn ask_broker(
     line: &str,
     out: &mut Vec<u8>,
 ) -> Result<(), AllocError> {
-    let Ok((session, request)) = Request::read(alloc, line.as_bytes()) else {
+    let Ok((session, request)) = Request::read(alloc, &mut Scratch::new(alloc), line.as_bytes()) else {
         return Ok(());
     };
     match request {

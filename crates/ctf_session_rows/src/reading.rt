@@ -1,6 +1,6 @@
 //! Lines that are read as requests, word by word.
 
-use ctf_lines::FromLine;
+use ctf_lines::{FromLine, Scratch};
 use ctf_protocol::{
     Change, DraftStep, HeldQuestion, ListName, Names, PlainQuestion, Question, Request,
     SlotQuestion, TypeQuestion, Window,
@@ -152,7 +152,7 @@ fn describe(request: &Request) -> Said {
 
 /// What a line says, by its session; or its session and the code of the refusal.
 fn read(alloc: Global, line: &str) -> Result<(u32, Said), (u32, u16)> {
-    match Request::read(alloc, line.as_bytes()) {
+    match Request::read(alloc, &mut Scratch::new(alloc), line.as_bytes()) {
         Ok((session, request)) => Ok((session, describe(&request))),
         Err((session, fault)) => Err((session, fault.code)),
     }
@@ -379,7 +379,7 @@ fn is_path(request: &Request, want: &[&[u8]]) -> bool {
 
 /// Whether a line of session 1 asks for it.
 fn asks_path(alloc: Global, line: &str, want: &[&[u8]]) -> bool {
-    match Request::read(alloc, line.as_bytes()) {
+    match Request::read(alloc, &mut Scratch::new(alloc), line.as_bytes()) {
         Ok((session, request)) => session == 1 && is_path(&request, want),
         Err(_) => false,
     }

@@ -9,8 +9,7 @@ use crate::pending::Pending;
 use crate::run_faults::RunFault;
 use crate::sinks::Sink;
 use crate::sources::Source;
-use ctf_lines::SHORT_LINE;
-use json::Scratch;
+use ctf_lines::{SHORT_LINE, Scratch};
 use std::alloc::{AllocError, Global};
 
 /// How many bytes one read asks for.

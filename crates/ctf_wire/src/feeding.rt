@@ -9,7 +9,7 @@ use crate::pending::Pending;
 use crate::pieces::cut;
 use crate::sending::send;
 use crate::sinks::Sink;
-use json::Scratch;
+use ctf_lines::Scratch;
 
 /// Answers the pending line.
 fn answer<M: Machine, K: Sink>(

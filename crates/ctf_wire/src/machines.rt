@@ -2,7 +2,7 @@
 ghost use Rattle.std.specs.Prelude.{ℕ, List, Option, Some, None};
 ghost use Rattle.ctf_wire.specs.Room.{HasShortRoom, Replies};
 
-use json::Scratch;
+use ctf_lines::Scratch;
 
 /// Answers one line at a time, each with one reply.
 pub trait Machine {
@@ -10,7 +10,8 @@ pub trait Machine {
     /// leave new.
     ghost Step: { Self → Option (List ℕ) → List ℕ → Self → Type 0 };
 
-    /// Answers a line, with memory that is lent to each. The reply stands in `out` after what was there.
+    /// Answers a line, with memory that is kept from line to line. The reply stands in `out` after
+    /// what was there.
     fn step(&mut self, scratch: &mut Scratch, line: &[u8], out: &mut Vec<u8>)
         requires { HasShortRoom out.old }
         ensures { (reply : List ℕ) × Step self.old (Some line.now) reply self.new

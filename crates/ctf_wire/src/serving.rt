@@ -16,9 +16,8 @@ use crate::sinks::Sink;
 use crate::sources::Source;
 use ctf_answers::{Counts, Reply};
 use ctf_broker::Broker;
-use ctf_lines::{FromLine, ToLine, write_change};
+use ctf_lines::{FromLine, Scratch, ToLine, write_change};
 use ctf_protocol::{Fault, Request, placeless};
-use json::Scratch;
 use std::alloc::Global;
 
 /// Appends the line of a short reply.
