@@ -1,39 +1,82 @@
 #!/usr/bin/env python3
-"""Counts what a request costs in a session of few slots and in one of many.
+"""Counts what requests cost in a session of few slots and in one of many.
 
 usage: charging.py PROGRAM
 
-A session opens one slot, or 1,000, of an empty dictionary each, and hands in 100,000 parts of one byte.
-The instructions of these (callgrind), less those of the same stream without them, are told for each
-part: what a session holds is counted as it changes, and not anew for each request.
+A session makes a few slots, and then one more, or 1,000, of an empty dictionary each. Then some lines are
+given many times. The instructions of these (callgrind), less those of the same stream without them, are
+told for each time: what a session holds is counted as it changes, and not anew for each request.
 """
 import re
 import subprocess
 import sys
 
 EMPTY = "f1cf0200" + 32 * "00"
-PARTS = 100_000
+# a child of "p" without types, and an integer that is its parent's only type
+CHILD = "f1cf0200" + "00000000" "01000000" + 20 * "00" + "03000000" + "007000"
+INT = "f1cf0200" + 24 * "00" + "0c00000005000000" + "01000000000c040020000001" + "00696e7400"
+FEW, MANY = 1, 1_000
 
 
-def lines(slots, parts):
+def line(word, **fields):
+    text = "".join(f',"{key}":' + (f'"{value}"' if isinstance(value, str) else str(value))
+                   for key, value in fields.items())
+    return f'{{"s":1,"op":"{word}"{text}}}\n'
+
+
+def opened(ctf):
+    yield line("part", section="ctf", bytes=ctf)
+    yield line("open")
+
+
+def first_slots():
+    """Slot 1 is a child, slot 2 an integer, slot 3 a draft; the integer is published as `base`."""
+    yield from opened(CHILD)
+    yield from opened(INT)
+    yield line("create")
+    yield line("publish", d=2, name="base")
+
+
+# the lines that are given many times, by the number of the slot that is made next
+REPEATED = {
+    "part": lambda d: line("part", section="str", bytes="00"),
+    "open, close": lambda d: "".join(opened(EMPTY)) + line("close", d=d),
+    "import": lambda d: line("import", d=1, parent=2),
+    "publish, withdraw": lambda d: line("publish", d=2, name="more") + line("withdraw", name="more"),
+    "take, close": lambda d: line("take", owner=1, name="base") + line("close", d=d),
+    "create, close": lambda d: line("create") + line("close", d=d),
+    "update": lambda d: line("update", d=3),
+    "kind": lambda d: line("kind", d=2, t=1),
+}
+
+
+def lines(slots, times, repeated):
+    yield from first_slots()
     for _ in range(slots):
-        yield '{"s":1,"op":"part","section":"ctf","bytes":"%s"}\n' % EMPTY
-        yield '{"s":1,"op":"open"}\n'
-    for _ in range(parts):
-        yield '{"s":1,"op":"part","section":"str","bytes":"00"}\n'
+        yield from opened(EMPTY)
+    for i in range(times):
+        yield repeated(4 + slots + i)
 
 
-def instructions(program, slots, parts):
+def instructions(program, slots, times, repeated):
     command = ["valgrind", "--tool=callgrind", "--callgrind-out-file=/dev/null", program, "serve"]
-    text = "".join(lines(slots, parts)).encode()
-    said = subprocess.run(command, input=text, stdout=subprocess.DEVNULL, stderr=subprocess.PIPE, check=True)
+    text = "".join(lines(slots, times, repeated)).encode()
+    said = subprocess.run(command, input=text, stdout=subprocess.PIPE, stderr=subprocess.PIPE, check=True)
+    if b"fault" in said.stdout:
+        sys.exit("a request was refused: " + said.stdout.decode().splitlines()[-1])
     return int(re.search(rb"Collected : (\d+)", said.stderr).group(1))
 
 
+def each(program, slots, repeated, times=2_000):
+    """The instructions of the lines, given once."""
+    counted = instructions(program, slots, times, repeated) - instructions(program, slots, 0, repeated)
+    return counted / times
+
+
 def main(program):
-    for slots in (1, 1_000):
-        cost = instructions(program, slots, PARTS) - instructions(program, slots, 0)
-        print(f"{slots:6} slots: {cost / PARTS:8.0f} instructions for each part")
+    for name, repeated in REPEATED.items():
+        few, many = (each(program, slots, repeated) for slots in (FEW, MANY))
+        print(f"{name:20} {few:8.0f} instructions with {FEW} slot more, {many:8.0f} with {MANY}: {many / few:.3f}")
 
 
 if __name__ == "__main__":

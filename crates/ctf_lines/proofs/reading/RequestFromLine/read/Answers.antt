@@ -1,4 +1,5 @@
-use Rattle.std.proofs.Common.{◌≡◌}
+use Rattle.std.proofs.Common.{refl}
+use Rattle.serde_json.specs.Read.{read}
 use Rattle.ctf_protocol.proofs.Asking.{ask-long, ask-text, ask-not_text}
 use Rattle.ctf_lines.proofs.reading.RequestFromLine.read.Goals as goal
 
@@ -10,3 +11,27 @@ returns-then-line-gt-LONGEST_LINE-clause-long c = λ late. rw c.placeless.ensure
 
 pub returns-in_default-clause-refused : goal.returns-in_default-clause-refused
 returns-in_default-clause-refused c = λ ne. rw c.placeless-in_default.ensures (ask-not_text c.args.line.now c.if-line-gt-LONGEST_LINE.false c.in_default.ensures.cases.0)
+
+pub returns-then-line-le-LONGEST_KEPT-clause-ok : goal.returns-then-line-le-LONGEST_KEPT-clause-ok
+returns-then-line-le-LONGEST_KEPT-clause-ok c =
+    let cases = c.in-Ok.ensures.cases in
+    let is = ask-text c.args.line.now c.in-Ok.text.now (read c.in-Ok.text.now) c.if-line-gt-LONGEST_LINE.false cases.0 cases.1 refl in
+    rw is c.read_text.ensures.ok
+
+pub returns-then-line-le-LONGEST_KEPT-clause-refused : goal.returns-then-line-le-LONGEST_KEPT-clause-refused
+returns-then-line-le-LONGEST_KEPT-clause-refused c =
+    let cases = c.in-Ok.ensures.cases in
+    let is = ask-text c.args.line.now c.in-Ok.text.now (read c.in-Ok.text.now) c.if-line-gt-LONGEST_LINE.false cases.0 cases.1 refl in
+    rw is c.read_text.ensures.refused
+
+pub returns-else-line-le-LONGEST_KEPT-clause-ok : goal.returns-else-line-le-LONGEST_KEPT-clause-ok
+returns-else-line-le-LONGEST_KEPT-clause-ok c =
+    let cases = c.in-Ok.ensures.cases in
+    let is = ask-text c.args.line.now c.in-Ok.text.now (read c.in-Ok.text.now) c.if-line-gt-LONGEST_LINE.false cases.0 cases.1 refl in
+    rw is c.read_text-else-line-le-LONGEST_KEPT.ensures.ok
+
+pub returns-else-line-le-LONGEST_KEPT-clause-refused : goal.returns-else-line-le-LONGEST_KEPT-clause-refused
+returns-else-line-le-LONGEST_KEPT-clause-refused c =
+    let cases = c.in-Ok.ensures.cases in
+    let is = ask-text c.args.line.now c.in-Ok.text.now (read c.in-Ok.text.now) c.if-line-gt-LONGEST_LINE.false cases.0 cases.1 refl in
+    rw is c.read_text-else-line-le-LONGEST_KEPT.ensures.refused
