@@ -3,7 +3,7 @@
 # usage: tests/program.sh PROGRAM
 # PROGRAM is crates/ctfd/out/ctfd once `rt run` in crates/ctfd has built it. Prints a row for each
 # case, which ends in "yes" or in what was wrong; the status is 1 where one was wrong.
-# Not part of the gate, which runs the stored run of crates/ctfd alone. Needs /dev/full and Python.
+# Needs /dev/full and Python.
 set -u
 program=$(realpath "$1")
 examples=$(realpath "$(dirname "$0")/../examples")

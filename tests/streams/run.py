@@ -10,6 +10,7 @@ import errno
 import re
 import subprocess
 import sys
+from concurrent.futures import ThreadPoolExecutor
 from dataclasses import dataclass
 from pathlib import Path
 from typing import Iterator
@@ -73,6 +74,9 @@ class Report:
             self.wrong += 1
             print(f"{name}: {str(seen)[:300]}", flush=True)
 
+    def take(self, other: Report) -> None:
+        self.tried, self.wrong = self.tried + other.tried, self.wrong + other.wrong
+
 
 @dataclass(frozen=True)
 class Case:
@@ -83,8 +87,9 @@ class Case:
     given: bytes
     honest: bytes
 
-    def judge(self, report: Report) -> None:
+    def judge(self) -> Report:
         """Few bytes a call change nothing; then each call fails in turn."""
+        report = Report()
         told = self.service.run(self.given)
         report.add(self.name, told.ended(0, "") and told.out == self.honest, told)
         for number in range(1, told.reads + 1):
@@ -94,6 +99,7 @@ class Case:
             for error in ERRORS:
                 self.judge_write(number, report, WRITE_FAILS=number, FAILS_BY=error)
             self.judge_write(number, report, WRITE_EMPTY=number)
+        return report
 
     def judge_read(self, number: int, error: int, report: Report) -> None:
         """The lines that were read whole before a read failed are answered, and nothing else."""
@@ -156,8 +162,9 @@ def judge_long_lines(program: str, report: Report) -> None:
 
 def main(program: str, library: str) -> int:
     report = Report()
-    for case in cases(Service(program, library)):
-        case.judge(report)
+    with ThreadPoolExecutor(2) as two:
+        for other in two.map(Case.judge, cases(Service(program, library))):
+            report.take(other)
     judge_long_lines(program, report)
     print(f"streams: {report.tried} tried, {report.wrong} wrong")
     return 1 if report.wrong else 0
