@@ -14,7 +14,7 @@ try:
 	cd crates/ctfd && rt try -- serve < ../../examples/first.jsonl
 
 help:
-	@echo 'make              proves every crate, JOBS=$(JOBS) side by side, and builds crates/ctfd/out/ctfd'
+	@echo 'make              proves every crate, JOBS=$(JOBS) at a time, and builds crates/ctfd/out/ctfd'
 	@echo 'make check        proves, and runs every test: the last line is "N passed, M failed"'
 	@echo 'make check CTFD=P runs the tests over the program P, and proves nothing'
 	@echo 'STRICT=1          makes check fail where the machine lacks what a test needs'

@@ -7,9 +7,9 @@ With PROGRAM the proofs are left out, and the tests run over that one. With name
 these run; `tests/all.py --program PROGRAM no_such_part` lists them.
 
 `rt ci` prints as it goes. What another part prints goes to a file, and is shown where it fails. A
-part that lacks something here (gdb, say) prints a line that begins with `skipped: `, which is shown;
-with STRICT=1 in the environment that counts as a failure. What no package brings, as a machine that
-lets no program be traced, is told by `not possible here: ` and never fails.
+part that lacks something here (gdb, say) prints a line that begins with `skipped: `, which is
+shown; with STRICT=1 in the environment that counts as a failure. What no package brings, as where
+no program may be traced, is told by `not possible here: ` and never fails.
 
 The last line is `N passed, M failed`: what `rt ci` counts, and each part as one. The status is 0
 where M is.
@@ -68,7 +68,8 @@ def parts(program: str) -> list[Part]:
     return [
         Part("links", ["tests/links.py"]),
         Part("examples", ["tests/examples.py", program]),
-        Part("written_bytes", ["bash", "-c", "tests/written_bytes.py | cmp - examples/written.ctf"]),
+        Part("written_bytes", ["bash", "-c",
+                               "tests/written_bytes.py | cmp - examples/written.ctf"]),
         Part("written_by_pahole", ["tests/written_by_pahole.sh"]),
         Part("written_by_libctf", ["tests/written_by_libctf.py"]),
         Part("program", ["tests/program.sh", program]),
@@ -88,7 +89,8 @@ def prove(tally: Tally) -> None:
     """Runs the gate of proofs, and takes over what it counts."""
     last = ""
     with subprocess.Popen(["rt", "ci"], cwd=TOP, stdout=subprocess.PIPE,
-                          stderr=subprocess.STDOUT, text=True, errors="replace") as gate:
+                          stderr=subprocess.STDOUT, text=True, errors="replace",
+                          env={**os.environ, "PYTHONUNBUFFERED": "1"}) as gate:
         assert gate.stdout
         for line in gate.stdout:
             print(line, end="", flush=True)

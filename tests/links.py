@@ -20,6 +20,7 @@ FENCE = re.compile(r"^\s*(```|~~~)")
 CODE = re.compile(r"(`+)(?:(?!\1).)*\1")
 HEADING = re.compile(r"^#{1,6}\s+(.*?)\s*#*\s*$")
 LINK = re.compile(r"\[(?:[^\][]|\[[^\][]*\])*\]\(\s*<?([^)\s>]*)>?(?:\s+\"[^\"]*\")?\s*\)")
+PASSED_OVER = {"out", ".git"}
 SCHEME = re.compile(r"[a-z][a-z0-9+.-]*:")
 
 
@@ -63,7 +64,8 @@ def wrong(page: Path, target: str) -> str:
 
 def main() -> int:
     """Follows all links of all pages, but for those in what was built."""
-    pages = sorted(page for page in TOP.rglob("*.md") if "out" not in page.parts)
+    pages = sorted(page for page in TOP.rglob("*.md")
+                   if not PASSED_OVER & {*page.relative_to(TOP).parts})
     links = dead = 0
     for page in pages:
         for number, line in prose(page):

@@ -73,7 +73,7 @@ mkfifo "$work/pipe"
 service=$!
 exec 3> "$work/pipe"
 head -n 1 "$first" >&3
-for _ in $(seq 100); do [ -s "$work/all" ] && break; sleep 0.1; done
+for _ in $(seq 600); do [ -s "$work/all" ] && break; sleep 0.1; done
 cp "$work/all" "$work/out"
 exec 3>&-
 wait $service

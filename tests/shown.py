@@ -4,11 +4,12 @@
 usage: tests/shown.py PROGRAM
 
 Run is each block that begins with `$ `, in a copy of the repository in which PROGRAM is the one
-that was built; each block begins at its top, and files in /tmp/recipe stand in a folder of this run.
-A line that ends in a backslash goes on in the next. What a command prints, on both outputs, has to
-be what stands below it up to the next `$ `; a line `...` there stands for any number of lines. Where
-nothing stands below a command, it has to end with status 0. In a block that runs gdb, numbers in
-hexadecimal and how many types and symbols there are hang on the compiler, and are not compared.
+that was built; each block begins at its top, and files in /tmp/recipe stand in a folder of this
+run. A line that ends in a backslash goes on in the next. What a command prints, on both outputs,
+has to be what stands below it up to the next `$ `; a line `...` there stands for any number of
+lines. Where nothing stands below a command, it has to end with status 0. In a block that runs gdb,
+numbers in hexadecimal and how many types and symbols there are hang on the compiler, and are not
+compared.
 
 Asked are the blocks that begin with `{"s":`, each line a request and the next its reply: all of a
 page in one service, which was given examples/lua.ctf as `lua`. `..` stands for the middle of long

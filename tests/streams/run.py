@@ -24,7 +24,8 @@ TRANSCRIPTS = ("each kind is added", "names of declared types", "no request",
 TOLD = re.compile(r"broken: ([0-9]+) reads, ([0-9]+) writes\n")
 MEBIBYTE = 1 << 20
 ENDLESS = 2048 * MEBIBYTE
-SPARE_KIB = 1024
+# A kernel counts the memory of a process by parts of each processor.
+SPARE_KIB = 32 * 1024
 REPLIES = (b'{"fault":{"code":59,"name":"LongLine","place":0},"s":0}\n'
            b'{"ok":{},"s":7}\n')
 
