@@ -117,10 +117,12 @@ def ended(part: Part, log: Path) -> int:
         try:
             return child.wait(LONGEST_SECONDS)
         except subprocess.TimeoutExpired:
-            os.killpg(child.pid, signal.SIGKILL)
-            child.wait()
             out.write(f"no end within {LONGEST_SECONDS} seconds\n".encode())
             return 124
+        finally:
+            if child.poll() is None:
+                os.killpg(child.pid, signal.SIGKILL)
+                child.wait()
 
 
 def run(part: Part, is_strict: bool, log: Path) -> bool:
@@ -153,6 +155,7 @@ def main() -> int:
         if set(given.part) - set(names):
             options.error(f"the parts are {' '.join(names)}")
         chosen = [part for part in chosen if part.name in given.part]
+    signal.signal(signal.SIGTERM, lambda *_: sys.exit("ended by a signal"))
     tally = Tally()
     if not given.program:
         prove(tally)
