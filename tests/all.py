@@ -67,6 +67,7 @@ def parts(program: str) -> list[Part]:
     over = {"CTFD": program}
     return [
         Part("links", ["tests/links.py"]),
+        Part("manual", ["tests/manual.sh"]),
         Part("examples", ["tests/examples.py", program]),
         Part("written_bytes", ["bash", "-c",
                                "tests/written_bytes.py | cmp - examples/written.ctf"]),
