@@ -13,7 +13,8 @@ compared.
 
 Asked are the blocks that begin with `{"s":`, each line a request and the next its reply: all of a
 page in one service, which was given examples/lua.ctf as `lua`. `..` stands for the middle of long
-bytes: in a request for those of a file or an example that are as long as the reply says.
+bytes: in a request for those of a file or an example that are as long as the reply says. Blocks of
+Python are run with the client, and have to end with status 0.
 
 Not run is a block below a line `<!-- not run: REASON -->`, and one that needs what is not here, or
 a file that another such block would have made: a line that begins with `skipped: ` says so. Prints
@@ -44,9 +45,10 @@ LONGEST_SECONDS = 900
 
 @dataclass(frozen=True)
 class Block:
-    """A block of a page, and whether it is run."""
+    """A block of a page, where it begins, and what language it says."""
 
     place: str
+    language: str
     lines: tuple[str, ...]
 
     @property
@@ -58,17 +60,16 @@ def blocks(page: str) -> Iterator[Block]:
     """The blocks of a page that are run or asked."""
     lines = (TOP / page).read_text(encoding="utf-8").splitlines()
     held: list[str] | None = None
-    before = began = 0
+    began, language = 0, ""
     for number, line in enumerate(lines, 1):
         if not line.startswith("```"):
             if held is not None:
                 held.append(line)
         elif held is None:
-            held, began = [], number
-            before = number - 2
+            held, began, language = [], number, line[3:]
         else:
-            if held and not lines[before].startswith("<!-- not run: "):
-                yield Block(f"{page}:{began}", tuple(held))
+            if held and not lines[began - 2].startswith("<!-- not run: "):
+                yield Block(f"{page}:{began}", language, tuple(held))
             held = None
 
 
@@ -141,6 +142,8 @@ class Page:
         for block in blocks(self.page):
             if block.lines[0].startswith("$ "):
                 self.run_shell(block)
+            elif block.language == "python":
+                self.run_python(block)
             elif block.lines[0].startswith('{"s":'):
                 asked += block.lines
         if asked:
@@ -167,6 +170,15 @@ class Page:
             self.compared += 1
             if not (matches(shown, seen) if shown else status == 0):
                 self.report(f"{block.place}: $ {command}", shown, [*seen, f"status {status}"])
+
+    def run_python(self, block: Block) -> None:
+        """Runs a block of Python with the client."""
+        words = {**self.environment, "PYTHONPATH": f"{self.top}/clients/python"}
+        ended = subprocess.run([sys.executable, "-c", block.text], cwd=self.top, env=words,
+                               capture_output=True, text=True, timeout=LONGEST_SECONDS, check=False)
+        self.compared += 1
+        if ended.returncode != 0:
+            self.report(block.place, [], ended.stderr.splitlines())
 
     def outputs(self, steps: list[tuple[str, list[str]]]) -> list[tuple[int, list[str]]]:
         """The status of each command, and the lines that it prints."""
