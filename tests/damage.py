@@ -1,15 +1,16 @@
 #!/usr/bin/env python3
 """Gives a built ctfd damaged dictionaries, and compares its judgement with a plain one.
 
-usage: tests/damage.py PROGRAM
+usage: tests/damage.py PROGRAM [--all]
 
 PROGRAM is crates/ctfd/out/ctfd once `rt run` in crates/ctfd has built it; any other build does too.
 Eight small dictionaries are handed in, with their symbols and strings, cut at each shorter length,
-and with each byte replaced by each of its 255 other values. What `check` answers is compared with
-the first fault that tests/judge.py finds. What is accepted is opened, and every question is asked
-of it on the numbers 0 to 4 and 32,769 to 32,772, and again after a parent was imported, or refused.
-Each has one reply, by no fault but those of questions, and the same again where the import was
-refused. At last a value that holds 2^512 others is shown.
+and with each byte replaced by others: by each that differs in one bit, and by some of the rest,
+which go by the byte's place; by all 255 with --all. What `check` answers is compared with the first
+fault that tests/judge.py finds. What is accepted is opened, and every question is asked of it on
+the numbers 0 to 4 and 32,769 to 32,772, and again after a parent was imported, or refused. Each has
+one reply, by no fault but those of questions, and the same again where the import was refused. At
+last a value that holds 2^512 others is shown.
 
 Prints what was wrong, and counts; the status is 1 where something was wrong.
 """
@@ -27,6 +28,8 @@ from judge import Fault, Lists, first_fault, needed
 from runs import ask, joined, serve
 
 BATCH = 400
+# Of the bytes that differ in more than one bit, each such one is tried without --all.
+SPARSE = 11
 SESSION = 1
 NUMBERS = (*range(5), *range(32_769, 32_773))
 TYPE_WORDS = ("kind record members enumerators args array encoding reference resolve size align"
@@ -106,16 +109,23 @@ QUESTIONS = list(questions(1))
 IMPORT = [*hand_in(PARENT), ask(SESSION, "open"), ask(SESSION, "import", d=1, parent=2)]
 
 
-def damaged(whole: Lists) -> Iterator[Lists]:
+def replacements(at: int, byte: int, is_all: bool) -> Iterator[int]:
+    """The other values that a byte at a place is given."""
+    for other in range(256):
+        is_near = bin(byte ^ other).count("1") == 1
+        if other != byte and (is_all or is_near or (other + at) % SPARSE == 0):
+            yield other
+
+
+def damaged(whole: Lists, is_all: bool) -> Iterator[Lists]:
     """A dictionary, and all that a cut or another byte makes of its CTF section."""
     ctf = whole.ctf
     yield whole
     for length in range(len(ctf)):
         yield whole.with_ctf(ctf[:length])
     for at, byte in enumerate(ctf):
-        for other in range(256):
-            if other != byte:
-                yield whole.with_ctf(ctf[:at] + bytes([other]) + ctf[at + 1 :])
+        for other in replacements(at, byte, is_all):
+            yield whole.with_ctf(ctf[:at] + bytes([other]) + ctf[at + 1 :])
 
 
 def refused(fault: Fault) -> bytes:
@@ -221,9 +231,9 @@ def try_batch(batch: Batch) -> Counts:
     return Counts(len(subjects), accepted, lines, wrong)
 
 
-def batches(program: str) -> Iterator[Batch]:
+def batches(program: str, is_all: bool) -> Iterator[Batch]:
     for name, whole in DICTIONARIES.items():
-        rest = damaged(whole)
+        rest = damaged(whole, is_all)
         while batch := list(islice(rest, BATCH)):
             yield Batch(program, name, batch)
 
@@ -247,11 +257,11 @@ def wrong_unions(program: str) -> Iterator[str]:
         yield f"unions of unions are answered {replies}"
 
 
-def main(program: str) -> int:
+def main(program: str, is_all: bool) -> int:
     lists = accepted = lines = 0
     wrong = list(wrong_unions(program))
     with multiprocessing.Pool(2) as pool:
-        for counts in pool.imap(try_batch, batches(program)):
+        for counts in pool.imap(try_batch, batches(program, is_all)):
             lists, accepted, lines = (
                 lists + counts.lists, accepted + counts.accepted, lines + counts.lines)
             wrong += counts.wrong
@@ -262,4 +272,5 @@ def main(program: str) -> int:
 
 
 if __name__ == "__main__":
-    sys.exit(main(*sys.argv[1:]) if len(sys.argv) == 2 else __doc__)
+    given = [word for word in sys.argv[1:] if word != "--all"]
+    sys.exit(main(given[0], "--all" in sys.argv[1:]) if len(given) == 1 else __doc__)

@@ -3,9 +3,9 @@
 # gdb itself prints on the same program with it, of 64 bits and of 32.
 # usage: tests/gdb.sh PROGRAM
 # PROGRAM is crates/ctfd/out/ctfd once `rt run` in crates/ctfd has built it. Needs gdb with Python,
-# gcc, objcopy and nm; says so and ends with status 0 where one is missing, or where gcc or the
-# machine has no programs of 32 bits. Prints each answer that differs, then how many are the same;
-# the status is 1 where one differs. Not part of the gate.
+# gcc, objcopy and nm; says so and ends with status 0 where one is missing, where gcc or the machine
+# has no programs of 32 bits, or where the machine lets gdb run none. Prints each answer that
+# differs, then how many are the same; the status is 1 where one differs.
 #
 # tests/gdb/values.c is compiled with debug information, and tests/gdb/with_ctf.sh makes a program
 # without, which has a CTF section that was written from what gdb reads of it. One gdb runs the
@@ -19,6 +19,8 @@ for tool in gdb gcc objcopy nm; do
 done
 gdb -batch -nx -ex 'python print(1)' > /dev/null 2>&1 ||
     { echo "skipped: gdb has no Python"; exit 0; }
+gdb -batch -nx -ex run --args true 2> /dev/null | grep -q 'exited normally' ||
+    { echo "not possible here: gdb runs no program"; exit 0; }
 work=$(mktemp -d)
 trap 'rm -r "$work"' EXIT
 cd "$work"
@@ -57,9 +59,12 @@ compared "64 bits"
 
 # Symbols of 32 bits are not read, so every.c gives the program a pointer to each object and
 # function, all in one object. stop() takes its arguments in registers, as it does in 64 bits.
-if ! built "$tests/gdb/values.c" -m32 -mregparm=3 2> said || ! ./twin; then
+if ! built "$tests/gdb/values.c" -m32 -mregparm=3 2> said; then
     cat said
-    echo "skipped in 32 bits: gcc -m32 makes no program here, or none that runs"
+    echo "skipped: gcc -m32 makes no program here (Debian: gcc-multilib)"
+    exit $failed
+elif ! ./twin; then
+    echo "not possible here: a program of 32 bits does not run"
     exit $failed
 fi
 asked | sed 's/\$rdi/$eax/g; s/\$rsi/$edx/g' > expressions

@@ -5,8 +5,7 @@
 # PROGRAM is crates/ctfd/out/ctfd once `rt run` in crates/ctfd has built it. FILE is an ELF file of
 # 32 bits in C, with debug information; where none is named it is made of tests/ilp32/types.c. Needs
 # gdb with Python, objcopy, readelf and Python, and for types.c gcc with what -m32 wants, which is
-# Debian's package gcc-multilib; says so and ends with status 0 where one is missing. Not part of
-# the gate.
+# Debian's package gcc-multilib; says so and ends with status 0 where one is missing.
 #
 # tests/gdb/with_ctf.sh makes a program whose CTF section was written from what gdb reads of FILE,
 # and the client takes it as a file of 32 bits. tests/ilp32/compare.py compares what is answered of

@@ -3,7 +3,7 @@
 # usage: tests/program.sh PROGRAM
 # PROGRAM is crates/ctfd/out/ctfd once `rt run` in crates/ctfd has built it. Prints a row for each
 # case, which ends in "yes" or in what was wrong; the status is 1 where one was wrong.
-# Not part of the gate, which runs the stored run of crates/ctfd alone. Needs /dev/full and Python.
+# Needs /dev/full and Python.
 set -u
 program=$(realpath "$1")
 examples=$(realpath "$(dirname "$0")/../examples")
@@ -73,7 +73,7 @@ mkfifo "$work/pipe"
 service=$!
 exec 3> "$work/pipe"
 head -n 1 "$first" >&3
-for _ in $(seq 100); do [ -s "$work/all" ] && break; sleep 0.1; done
+for _ in $(seq 600); do [ -s "$work/all" ] && break; sleep 0.1; done
 cp "$work/all" "$work/out"
 exec 3>&-
 wait $service

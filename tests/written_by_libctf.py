@@ -3,8 +3,8 @@
 
 usage: tests/written_by_libctf.py
 
-Prints `yes`, or the difference; the status is 1 then. Not part of the gate. Needs libctf, which comes with
-binutils (tried with 2.40 of Debian 12).
+Prints `yes`, or the difference; the status is 1 then. Needs libctf, which comes with binutils (tried with
+2.40 of Debian 12); says so and ends with status 0 where it is missing.
 
 libctf descends from the library that the format comes from, and still reads its types, but as a version 1 of
 its own: the magic is another, and the header has one word more, where variables begin. So the header of
@@ -67,7 +67,11 @@ class Read:
     """A dictionary as libctf has read it."""
 
     def __init__(self, dictionary):
-        self.libctf = ctypes.CDLL("libctf.so.0")
+        try:
+            self.libctf = ctypes.CDLL("libctf.so.0")
+        except OSError:
+            print("skipped: no libctf.so.0 here")
+            sys.exit(0)
         self.libctf.ctf_simple_open.restype = ctypes.c_void_p
         self.libctf.ctf_dump.restype = ctypes.c_char_p
         size, fault = ctypes.c_size_t(len(dictionary)), ctypes.c_int()

@@ -2,8 +2,8 @@
 # Gives a dictionary that this project writes to pahole, another reader of the format, and compares its listing.
 # usage: tests/written_by_pahole.sh
 # Prints a row for each comparison, which ends in "yes" or in "no" and the difference; the status is 1 where
-# one was no. Not part of the gate. Needs Debian's package dwarves (tried with 1.24 of Debian 12), gcc, objcopy
-# and Python.
+# one was no. Needs Debian's package dwarves (tried with 1.24 of Debian 12), gcc, objcopy and Python; says
+# so and ends with status 0 where one is missing.
 #
 # The dictionary is examples/written.ctf, one type of each kind, the bytes that a test of the writer expects.
 # pahole and pdwtags, which lists all types, read it from the section .SUNW_ctf of an object file. That file
@@ -23,6 +23,9 @@
 # labels are shown by tests/written_by_libctf.py.
 set -u
 tests=$(realpath "$(dirname "$0")")
+for tool in pahole pdwtags gcc objcopy python3; do
+    command -v "$tool" > /dev/null || { echo "skipped: no $tool here"; exit 0; }
+done
 dictionary=$tests/../examples/written.ctf
 work=$(mktemp -d)
 trap 'rm -r "$work"' EXIT

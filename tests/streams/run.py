@@ -10,6 +10,7 @@ import errno
 import re
 import subprocess
 import sys
+from concurrent.futures import ThreadPoolExecutor
 from dataclasses import dataclass
 from pathlib import Path
 from typing import Iterator
@@ -23,7 +24,8 @@ TRANSCRIPTS = ("each kind is added", "names of declared types", "no request",
 TOLD = re.compile(r"broken: ([0-9]+) reads, ([0-9]+) writes\n")
 MEBIBYTE = 1 << 20
 ENDLESS = 2048 * MEBIBYTE
-SPARE_KIB = 1024
+# A kernel counts the memory of a process by parts of each processor.
+SPARE_KIB = 32 * 1024
 REPLIES = (b'{"fault":{"code":59,"name":"LongLine","place":0},"s":0}\n'
            b'{"ok":{},"s":7}\n')
 
@@ -73,6 +75,9 @@ class Report:
             self.wrong += 1
             print(f"{name}: {str(seen)[:300]}", flush=True)
 
+    def take(self, other: Report) -> None:
+        self.tried, self.wrong = self.tried + other.tried, self.wrong + other.wrong
+
 
 @dataclass(frozen=True)
 class Case:
@@ -83,8 +88,9 @@ class Case:
     given: bytes
     honest: bytes
 
-    def judge(self, report: Report) -> None:
+    def judge(self) -> Report:
         """Few bytes a call change nothing; then each call fails in turn."""
+        report = Report()
         told = self.service.run(self.given)
         report.add(self.name, told.ended(0, "") and told.out == self.honest, told)
         for number in range(1, told.reads + 1):
@@ -94,6 +100,7 @@ class Case:
             for error in ERRORS:
                 self.judge_write(number, report, WRITE_FAILS=number, FAILS_BY=error)
             self.judge_write(number, report, WRITE_EMPTY=number)
+        return report
 
     def judge_read(self, number: int, error: int, report: Report) -> None:
         """The lines that were read whole before a read failed are answered, and nothing else."""
@@ -156,8 +163,9 @@ def judge_long_lines(program: str, report: Report) -> None:
 
 def main(program: str, library: str) -> int:
     report = Report()
-    for case in cases(Service(program, library)):
-        case.judge(report)
+    with ThreadPoolExecutor(2) as two:
+        for other in two.map(Case.judge, cases(Service(program, library))):
+            report.take(other)
     judge_long_lines(program, report)
     print(f"streams: {report.tried} tried, {report.wrong} wrong")
     return 1 if report.wrong else 0

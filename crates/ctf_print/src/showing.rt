@@ -43,7 +43,14 @@ pub fn show(
     };
     let mut text = Text::new(alloc);
     let mut known = Known::new(alloc, *space);
-    show_value(&image, number, u128::from(offset), MOST_VALUES, &mut known, &mut text)?;
+    show_value(
+        &image,
+        number,
+        u128::from(offset),
+        MOST_VALUES,
+        &mut known,
+        &mut text,
+    )?;
     match out.extend_from_slice(text.as_slice()) {
         Ok(()) => Ok(()),
         Err(_) => Err(placeless(Fault::MEMORY)),

@@ -113,9 +113,9 @@ show_member-returns-clause-err t c =
 
 pub show_each_member-loop-i-init : goal.show_each_member-loop-i-init
 show_each_member-loop-i-init t c = record {
-      rest = ap (written c.args.out.now) (separated_is (map (member_shown (shows c.args.image.now c.args.nesting) c.args.at) c.args.members.now));
-      known = refl;
-    }
+  rest = ap (written c.args.out.now) (separated_is (map (member_shown (shows c.args.image.now c.args.nesting) c.args.at) c.args.members.now));
+  known = refl;
+}
 
 pub show_each_member-unwrap-requires : goal.show_each_member-unwrap-requires
 show_each_member-unwrap-requires t c = some_lent member_seen c.get.result c.args.members.now c.loop-i.i c.get.ensures (rw c.len-i-end.ensures.value at c.loop-i-test.true)
