@@ -2,8 +2,8 @@
 ghost use Rattle.std.specs.Prelude.{◌≡◌, ◌≢◌, ◌<◌, length, ℕ, List, Result, Ok, Err, IfOk, IfErr};
 ghost use Rattle.ctf_lines.specs.Appending.{Writes};
 
-use ctf_protocol::Fault;
 use ctf_json::Scratch;
+use ctf_protocol::Fault;
 use std::alloc::{AllocError, Global};
 
 /// What a line may ask.
@@ -18,11 +18,7 @@ pub trait FromLine: Sized {
     ghost asked: { List ℕ → Result (ℕ × Self) (ℕ × Fault) };
 
     /// Reads a line, given without its newline.
-    fn read(
-        alloc: Global,
-        scratch: &mut Scratch,
-        line: &[u8],
-    ) -> Result<(u32, Self), (u32, Fault)>
+    fn read(alloc: Global, scratch: &mut Scratch, line: &[u8]) -> Result<(u32, Self), (u32, Fault)>
         ensures ok { IfOk result (λ said. asked line.now ≡ Ok said) }
         ensures session { IfOk result (λ said. said.0 ≢ 0) }
         ensures refused { IfErr result (λ refusal. refusal.1.code ≢ MEMORY

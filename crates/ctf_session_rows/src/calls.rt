@@ -33,7 +33,8 @@ fn ask_library(
     line: &str,
     out: &mut Vec<u8>,
 ) -> Result<(), AllocError> {
-    let Ok((session, request)) = Request::read(alloc, &mut Scratch::new(alloc), line.as_bytes()) else {
+    let Ok((session, request)) = Request::read(alloc, &mut Scratch::new(alloc), line.as_bytes())
+    else {
         return Ok(());
     };
     match request {
@@ -64,7 +65,8 @@ fn ask_broker(
     line: &str,
     out: &mut Vec<u8>,
 ) -> Result<(), AllocError> {
-    let Ok((session, request)) = Request::read(alloc, &mut Scratch::new(alloc), line.as_bytes()) else {
+    let Ok((session, request)) = Request::read(alloc, &mut Scratch::new(alloc), line.as_bytes())
+    else {
         return Ok(());
     };
     match request {

@@ -60,7 +60,8 @@ pub fn answer_bounded<M: Machine, S: Source, K: Sink>(
             }
             return Ok(());
         }
-        if !feed(machine, &mut scratch, &mut pending, sink, &mut out, &chunk[..count]) {
+        let bytes = &chunk[..count];
+        if !feed(machine, &mut scratch, &mut pending, sink, &mut out, bytes) {
             return Err(RunFault::Write);
         }
     }
