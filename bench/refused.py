@@ -4,15 +4,15 @@
 usage: refused.py PROGRAM
 
 Session 1 opens a dictionary of 67,108,864 bytes and publishes it three times, which is its quota. Session 2
-makes a draft of some thousand types and then takes dictionaries until nothing more fits. Then requests that
-are over the quota are given many times. What each costs (processor time, the least of three runs, less the
-same run without them) is told beside what its like costs where it is granted: nothing is built that is
-refused, and an update costs no more than its writing.
+makes a draft of 5,000 types, takes that dictionary three times, and hands in bytes until its quota is met but
+for a few. Then requests that are over the quota are given many times, and the processor time of the program
+is told for each: nothing is built that is refused, and an update costs no more than its writing. Beside that
+stands what an update of such a draft costs where it is granted.
 """
+import os
+import subprocess
 import sys
-import tempfile
-
-import run
+import threading
 
 INT = bytes.fromhex("f1cf0200" + 24 * "00" + "0c00000005000000" + "01000000000c040020000001" + "00696e7400")
 LONGEST, PIECE = 67_108_864, 262_144
@@ -57,36 +57,61 @@ def handed_in_but(session):
     yield line(session, "part", section="str", bytes=(b"\0" * (PIECE - 64)).hex())
 
 
+# how often each is given, and the request
 REFUSED = {
-    "publish": (1, 10_000, line(1, "publish", d=1, name="d")),
-    "part": (1, 10_000, line(1, "part", section="str", bytes="00")),
-    "take": (2, 10_000, line(2, "take", owner=1, name="a")),
-    "update": (2, 20, line(2, "update", d=1)),
+    "publish": (10_000, line(1, "publish", d=1, name="d")),
+    "part": (10_000, line(1, "part", section="str", bytes="00")),
+    "take": (10_000, line(2, "take", owner=1, name="a")),
+    "update": (20, line(2, "update", d=1)),
 }
 
 
-def granted():
-    """A session with room, where an update of such a draft is granted."""
-    yield from draft(2, TYPES)
+class Service:
+    """A service that is asked, and whose processor time is read in between."""
 
+    def __init__(self, program):
+        self.child = subprocess.Popen([program, "serve"], stdin=subprocess.PIPE, stdout=subprocess.PIPE)
 
-def seconds(program, lines):
-    with tempfile.NamedTemporaryFile("w", suffix=".jsonl") as file:
-        file.writelines(lines)
-        file.flush()
-        return min(run.run([program, "serve"], file.name)[0] for _ in range(3))
+    def used(self):
+        """Its processor time in seconds."""
+        with open(f"/proc/{self.child.pid}/stat") as stat:
+            fields = stat.read().rpartition(")")[2].split()
+        return (int(fields[11]) + int(fields[12])) / os.sysconf("SC_CLK_TCK")
+
+    def ask(self, lines):
+        """The replies to lines, and the processor time that these took."""
+        lines, before = list(lines), self.used()
+        writer = threading.Thread(target=self.write, args=(lines,))
+        writer.start()
+        replies = [self.child.stdout.readline() for _ in lines]
+        writer.join()
+        return replies, self.used() - before
+
+    def write(self, lines):
+        self.child.stdin.write("".join(lines).encode())
+        self.child.stdin.flush()
+
+    def end(self):
+        self.child.stdin.close()
+        self.child.wait()
 
 
 def main(program):
-    before = list(full())
-    base = seconds(program, before)
-    for name, (_, times, text) in REFUSED.items():
-        cost = (seconds(program, before + times * [text]) - base) / times
-        print(f"{name:8} refused: {1_000_000 * cost:10.1f} microseconds")
-    before = list(granted())
-    base = seconds(program, before)
-    cost = (seconds(program, before + [line(2, "update", d=1)]) - base)
-    print(f"update   granted: {1_000_000 * cost:10.1f} microseconds")
+    service = Service(program)
+    service.ask(full())
+    for name, (times, text) in REFUSED.items():
+        replies, seconds = service.ask(times * [text])
+        if not all(b"QuotaFull" in reply for reply in replies):
+            sys.exit(f"{name} was not refused: {replies[0]}")
+        print(f"{name:8} refused {1_000_000 * seconds / times:10.1f} microseconds")
+    service.end()
+    service = Service(program)
+    service.ask(draft(2, TYPES))
+    replies, seconds = service.ask(20 * [line(2, "update", d=1)])
+    if b"fault" in replies[0]:
+        sys.exit(f"update was refused: {replies[0]}")
+    print(f"update   granted {1_000_000 * seconds / 20:10.1f} microseconds")
+    service.end()
 
 
 if __name__ == "__main__":
