@@ -36,7 +36,7 @@ COUNTS = re.compile(r"([0-9]+) passed, ([0-9]+) failed")
 SKIPPED = re.compile(r"^skipped.*|^.*\.\.\. skipped .*", re.MULTILINE)
 IMPOSSIBLE = re.compile(r"^not possible here: .*", re.MULTILINE)
 # No part takes nearly so long, so one that does goes on without end.
-LONGEST_SECONDS = 1200
+LONGEST_SECONDS = 1800
 LINES_SHOWN = 200
 
 
