@@ -11,7 +11,7 @@ import os
 import sys
 from typing import List, Optional
 
-from . import declare
+from . import declare, service
 from .dictionary import Dictionary, open_file
 from .faults import Error, NotFound, Refused, Unreadable
 from .listing import definition, listing
@@ -25,7 +25,7 @@ def main(arguments: Optional[List[str]] = None) -> int:
     """The command; its exit status."""
     words = _parser().parse_args(arguments)
     try:
-        with Client(words.service) as client:
+        with Client(service.find(words.service)) as client:
             _run(client, words)
         sys.stdout.flush()
         return 0
@@ -52,8 +52,8 @@ def _parser() -> argparse.ArgumentParser:
                         " without it an ELF file says so itself, and a section is taken for lp64")
     parser.add_argument("--symbols", metavar="FILE", help="the bytes of the program's symbol table")
     parser.add_argument("--strings", metavar="FILE", help="the bytes of the strings of that table")
-    parser.add_argument("--service", metavar="CTFD", default=os.environ.get("CTFD", "ctfd"),
-                        help="the program to ask (CTFD in the environment, or ctfd on the path)")
+    parser.add_argument("--service", metavar="CTFD", help="the program to ask (CTFD in the"
+                        " environment, or ctfd on the path)")
     return parser
 
 

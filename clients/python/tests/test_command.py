@@ -93,7 +93,7 @@ class Command(unittest.TestCase):
         self.assertIn("nothing: neither a type nor a symbol", self.refused(LUA, "nothing"))
         self.assertIn("neither an ELF file nor a CTF section", self.refused(__file__))
         self.assertIn("No such file", self.refused("/nowhere"))
-        self.assertIn("can't be started", run(LUA, program="/nowhere").stderr)
+        self.assertIn("is no program", run(LUA, program="/nowhere").stderr)
         with tempfile.NamedTemporaryFile() as file:
             file.write(Path(LUA).read_bytes()[:9000])
             file.flush()
