@@ -101,6 +101,8 @@ class File:
         words = [f"{name}_{place}" for place in range(self.chance.randint(1, 6))]
         given = [f"{word} = {self.chance.randint(low, high - 1)}" if self.rarely(2) else word
                  for word in words]
+        far = [f"{name}_far = {1 << 40}"] if self.rarely(8) and not self.is_plain else []
+        given += far  # more than 32 bits: it is told, and left out
         packed = " __attribute__((packed))" if self.rarely(4) and not self.is_plain else ""
         self.texts.append(f"enum {name} {{ {', '.join(given)} }}{packed};")
         self.enums.append(f"enum {name}")

@@ -31,7 +31,10 @@ import random_c  # noqa: E402
 
 MODELS = {"lp64": "-m64", "ilp32": "-m32"}
 MOST = 40
-ACCEPTED = ("CTF has widths of integers alone", "_Float128: CTF has no word")
+WORDS = {"size": "sizes", "member": "members", "array": "arrays", "calls": "functions",
+         "enumerator": "enumerators"}
+FAR = "_far is 1099511627776, and CTF holds 32 bits"
+ACCEPTED = ("CTF has widths of integers alone", "_Float128: CTF has no word", FAR)
 
 
 class Run:
@@ -41,6 +44,7 @@ class Run:
         self.service = service
         self.folder = folder
         self.model: ctfd.Model = "lp64"
+        self.far = 0
         self.counts: Counter[str] = collections.Counter()
         self.wrong: List[str] = []
 
@@ -52,6 +56,9 @@ class Run:
         with ctfd.Client(self.service) as client:
             self.compare(f"{model} {seed} DWARF", self.converted(client, "program"), printed)
             made = build.declare(text.types, model)
+            told = self.far, sum(FAR in line for line in made.losses)
+            if told != (text.types.count("_far"),) * 2:
+                self.wrong.append(f"{model} {seed}: {told} enumerators past 32 bits were told")
             self.compare(f"{model} {seed} declare", made.dictionary(client.session()), printed)
             if gnu:  # of an object file: ld makes other sizes of packed structs
                 self.compiled(source, model, "types.o", "-gctf", "-c")
@@ -74,9 +81,10 @@ class Run:
         made = self.folder / "types.ctf"
         program = str(self.folder / name)
         words = convert._parser().parse_args(["--service", self.service, program, str(made)])
-        for line in convert.convert(words):
-            if not any(one in line for one in ACCEPTED):
-                self.wrong.append(f"lost: {line}")
+        losses = convert.convert(words)
+        self.wrong += [f"lost: {line}" for line in losses
+                       if not any(one in line for one in ACCEPTED)]
+        self.far = sum(FAR in line for line in losses)
         return ctfd.open_file(client.session(), str(made), model=self.model)
 
     def compare(self, what: str, types: ctfd.Dictionary, printed: str) -> None:
@@ -120,7 +128,7 @@ def main() -> int:
         print(line)
     ways = sorted({key.rsplit(" ", 1)[0] for key in run.counts})
     for way in ways:
-        told = [f"{run.counts[f'{way} {kind}']} {kind}s" for kind in facts.TELL]
+        told = [f"{run.counts[f'{way} {kind}']} {word}" for kind, word in WORDS.items()]
         print(f"{way}: {run.counts[f'{way} files']} files, {', '.join(told)}")
     print(f"{len(run.wrong)} wrong, in {time.monotonic() - began:.0f} s")
     return 1 if run.wrong else 0

@@ -241,6 +241,11 @@ class Types:
 
     # What becomes of them.
 
+    @property
+    def losses(self) -> List[str]:
+        """What of them CTF can't hold, a line each, with what stands in its place."""
+        return held(self.table).losses
+
     def dictionary(self, session: Session) -> Dictionary:
         """All types as a dictionary of the service, each offset and size stated to it."""
         return stated(session, held(self.table))

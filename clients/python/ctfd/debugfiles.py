@@ -39,7 +39,8 @@ def opened(path: str) -> Opened:
     except Exception as error:  # the library raises many things on a damaged file
         raise Unreadable(f"{path}: an ELF file that is damaged or cut off ({error})") from error
     if not file.little_endian:
-        raise Unreadable(f"{path}: a big-endian ELF file, which is not read")
+        raise Unreadable(f"{path}: a big-endian ELF file, which is not read: take a little-endian"
+                         " build of the program")
     return Opened(file, path)
 
 

@@ -148,6 +148,10 @@ def read(ctf: bytes, strings: bytes, table: Table) -> None:
             parent = parent or made
     except (struct.error, IndexError, ValueError, KeyError, RecursionError) as error:
         raise Unreadable("its GNU CTF is damaged or cut off") from error
+    if any(one.kind == "array" and one.type and table[one.type].kind == "array"
+           for one in table.records):
+        table.losses.append("an array of arrays: gcc before 14 writes the dimensions of such in the"
+                            " other order, and they are taken as they stand; DWARF tells them")
 
 
 def _dictionaries(ctf: bytes) -> List[bytes]:

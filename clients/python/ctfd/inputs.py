@@ -43,8 +43,7 @@ def read(path: str, options: Options) -> Input:
         return _named(path, lambda: _of_elf(path, data, options))
     form = _form(data)
     if form is None:
-        raise Unreadable(f"{path}: {source.foreign(data)}, BTF with 9feb01 and GNU's CTF with"
-                         " f2df04")
+        raise Unreadable(f"{path}: {source.foreign(data)}")
     table, reader = Table(options.model or "lp64"), _READERS[form]
     return _named(path, lambda: reader(data, None, table, [], options))
 
@@ -93,8 +92,9 @@ def _of_elf(path: str, data: bytes, options: Options) -> Input:
                 wanted = _wanted(path) if form == "btf" else []
                 return _READERS[form](held, strings, table, wanted, options)
     if options.form not in (None, "dwarf"):
-        raise Unreadable(f"it has no section {' or '.join(SECTIONS[options.form or 'ctf'])} that"
-                         f" is --from {options.form}")
+        names = " or ".join(SECTIONS[options.form or "ctf"])
+        raise Unreadable(f"it has no section {names} with what --from {options.form} asks for:"
+                         " leave that out, and what it has is read")
     return _of_dwarf(opened(path), table, options)
 
 

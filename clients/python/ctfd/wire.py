@@ -122,7 +122,8 @@ class Client:
             while mine and mine[-1].reply is None:
                 events = ready.select(self.patience)
                 if not events:
-                    self._end(f"the service has been silent for {self.patience} seconds")
+                    self._end(f"the service has been silent for {self.patience} seconds: start"
+                              " it again, with more patience for large questions")
                 for key, _ in events:
                     if key.fd == self._replies:
                         self._read()
@@ -189,7 +190,8 @@ class Client:
 
     def _how_it_ended(self) -> str:
         try:
-            return f"the service ended with status {self._process.wait(1)}"
+            return (f"the service ended with status {self._process.wait(1)}: what it says of that"
+                    " stands on standard error; start it again")
         except subprocess.TimeoutExpired:
             return "the service has closed its pipes"
 
