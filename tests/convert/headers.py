@@ -33,7 +33,7 @@ OPTIONS = ("-g", "-w", "-c", "-D_GNU_SOURCE", "-fno-eliminate-unused-debug-types
 _BEGINS = re.compile(r"(struct|union) (\w+) \{")
 _PLACED = re.compile(r"(?P<text>.*?);\s*/\*\s*(?P<byte>\d+)(?:: ?(?P<bit>\d+))?\s+(?P<size>\d+) \*/")
 _NAME = re.compile(r"\(\s*\*+\s*(?:const |volatile )*(\w+)|(\w+)\s*(?:\[[^]]*\]|:\d+)*\s*\Z")
-_ATTRIBUTE = re.compile(r"\s*__attribute__\(\(.*?\)\)")
+_ATTRIBUTE = re.compile(r"\s*__attribute__\(\(\w+(?:\(\d*\))?\)\)")
 _SIZE = re.compile(r"/\* size: (\d+)")
 
 

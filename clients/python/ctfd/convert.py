@@ -10,7 +10,7 @@ from __future__ import annotations
 import argparse
 import os
 import sys
-from typing import List, NoReturn, Optional, Sequence, Set
+from typing import List, NoReturn, Optional, Sequence, Set, Tuple
 
 from . import outputs, service
 from .choose import fitting, named, shared, told_left_out
@@ -18,9 +18,10 @@ from .faults import Error
 from .held import held
 from .inputs import FORMS, Input, Options, read
 from .merge import merged, named_once
-from .model import POINTER_SIZES
+from .model import Model, POINTER_SIZES
 from .outputs import Made
 from .records import Table
+from .source import Source
 from .text import printable
 from .wire import Client
 from .written import MOST_TYPES
@@ -96,6 +97,16 @@ def convert(words: argparse.Namespace) -> List[str]:
     if words.report:
         outputs.report(words.report, words.input, found, made)
     return made.table.losses
+
+
+def converted(path: str, model: Optional[Model] = None) -> Tuple[Source, List[str]]:
+    """What is handed in for a file whose types are not CTF of version 2: its dictionary, made here,
+    and its symbols; and what was lost. Raises Error."""
+    found = read(path, Options(model=model))
+    made = _alone(_selected(found, [])[0])
+    symbols, strings = outputs.symbols(path)
+    how = "linked" if symbols else "none"
+    return Source(made.ctf, symbols, strings, how, made.table.model), made.table.losses
 
 
 def _judge_words(words: argparse.Namespace) -> None:

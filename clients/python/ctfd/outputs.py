@@ -82,9 +82,9 @@ def _opened(session: Session, path: str, made: Made) -> "dict[str, int]":
     """The dictionary in a slot, with the symbols of the file where these are read."""
     if not (made.table.objects or made.table.functions) or made.plain:
         return session.open(made.ctf, model=made.table.model)
-    symbols, strings = _symbols(path)
+    table, strings = symbols(path)
     try:
-        return session.open(made.ctf, symbols, strings, made.table.model)
+        return session.open(made.ctf, table, strings, made.table.model)
     except BadSymbols:
         made.table.objects, made.table.functions = [], []
         made.table.losses.append(f"{path}: what is told of its symbols does not fit its symbol"
@@ -92,7 +92,7 @@ def _opened(session: Session, path: str, made: Made) -> "dict[str, int]":
         return session.open(made.ctf, model=made.table.model)
 
 
-def _symbols(path: str) -> "tuple[Optional[bytes], Optional[bytes]]":
+def symbols(path: str) -> "tuple[Optional[bytes], Optional[bytes]]":
     """The symbol table of a file of 64 bits, and its strings."""
     data = contents(path)
     if data[:4] != elf.MAGIC:
