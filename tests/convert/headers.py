@@ -97,7 +97,7 @@ def listed(service: str, path: Path, folder: Path) -> Listed:
     """What the client lists of the structs and unions that are found by name."""
     made = folder / "all.ctf"
     began = time.monotonic()
-    words = convert._parser().parse_args(["--service", service, str(path), str(made)])
+    words = convert.words(["--service", service, str(path), str(made)])
     for line in convert.convert(words):
         print(f"told: {line}")
     print(f"converted in {time.monotonic() - began:.1f} s")

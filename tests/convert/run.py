@@ -5,14 +5,15 @@ usage: run.py SERVICE COUNT [FIRST] [--gnu COUNT]
 
 SERVICE is a built ctfd. Each of COUNT files, from seed FIRST on, is compiled for both data models
 where gcc has them, and run; its types are taken from its debug information by ctfd.convert, and
-made of its text by ctfd.build.declare. Of the first files of --gnu, which have nothing that GNU's
-CTF does not say, an object file has that in place of debug information, and is compared as well.
+made of its text by ctfd.build.declare. The first files of --gnu have nothing that other forms don't
+say; of these GNU's CTF, in an object file, and BTF, as pahole writes it, are compared as well.
 Prints each fact that differs, then how many were compared; the status is 1 where one differs.
 """
 from __future__ import annotations
 
 import argparse
 import collections
+import shutil
 import subprocess
 import sys
 import tempfile
@@ -45,6 +46,7 @@ class Run:
         self.folder = folder
         self.model: ctfd.Model = "lp64"
         self.far = 0
+        self.has_pahole = shutil.which("pahole") is not None
         self.counts: Counter[str] = collections.Counter()
         self.wrong: List[str] = []
 
@@ -60,6 +62,11 @@ class Run:
             if told != (text.types.count("_far"),) * 2:
                 self.wrong.append(f"{model} {seed}: {told} enumerators past 32 bits were told")
             self.compare(f"{model} {seed} declare", made.dictionary(client.session()), printed)
+            if gnu and self.has_pahole:
+                subprocess.run(["pahole", "-J", str(self.folder / "program")], check=True,
+                               capture_output=True)
+                types = self.converted(client, "program", "--from", "btf")
+                self.compare(f"{model} {seed} BTF", types, printed)
             if gnu:  # of an object file: ld makes other sizes of packed structs
                 self.compiled(source, model, "types.o", "-gctf", "-c")
                 self.compare(f"{model} {seed} GNU", self.converted(client, "types.o"), printed)
@@ -76,12 +83,11 @@ class Run:
         subprocess.run(command, check=True, stderr=subprocess.DEVNULL)
         return made
 
-    def converted(self, client: ctfd.Client, name: str) -> ctfd.Dictionary:
+    def converted(self, client: ctfd.Client, name: str, *options: str) -> ctfd.Dictionary:
         """The dictionary of a program, by the command."""
         made = self.folder / "types.ctf"
-        program = str(self.folder / name)
-        words = convert._parser().parse_args(["--service", self.service, program, str(made)])
-        losses = convert.convert(words)
+        losses = convert.convert(convert.words(
+            ["--service", self.service, *options, str(self.folder / name), str(made)]))
         self.wrong += [f"lost: {line}" for line in losses
                        if not any(one in line for one in ACCEPTED)]
         self.far = sum(FAR in line for line in losses)

@@ -32,20 +32,26 @@ BY_ITSELF = "the service numbers"
 
 def main(arguments: Optional[Sequence[str]] = None) -> int:
     """The command; its exit status."""
-    words = _parser().parse_args(arguments)
+    said = words(arguments)
     try:
-        losses = convert(words)
+        losses = convert(said)
     except Error as error:
         print(f"ctfd-convert: {printable(str(error))}", file=sys.stderr)
         return FAILED
     except MemoryError:
-        print(f"ctfd-convert: {words.input}: memory ran out", file=sys.stderr)
+        print(f"ctfd-convert: {said.input}: memory ran out: --only takes fewer types",
+              file=sys.stderr)
         return FAILED
     except KeyboardInterrupt:
         return INTERRUPTED
     for line in losses:
         print(f"ctfd-convert: {printable(line)}", file=sys.stderr)
-    return LOSSY if losses and not words.lossy else FAITHFUL
+    return LOSSY if losses and not said.lossy else FAITHFUL
+
+
+def words(arguments: Optional[Sequence[str]] = None) -> argparse.Namespace:
+    """What the words of a command line say."""
+    return _parser().parse_args(arguments)
 
 
 def _parser() -> argparse.ArgumentParser:
