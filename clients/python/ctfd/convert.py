@@ -1,7 +1,7 @@
 """Writes a program's types as a dictionary of CTF version 2, which the service has judged.
 
 IN is an ELF file with debug information (DWARF, here or in a debug file of its own), with BTF,
-GNU's CTF or CTF, or the bytes of such a section; the first of CTF, BTF, GNU's CTF and DWARF that it
+GNU's CTF or CTF, or the bytes of such a section; the first of CTF, BTF, DWARF and GNU's CTF that it
 has is read. What CTF of version 2 can't hold is told, with what stands in its place: the status is
 then 1, and OUT is written all the same. It is 2 where nothing was written.
 """
@@ -41,6 +41,10 @@ def main(arguments: Optional[Sequence[str]] = None) -> int:
     except MemoryError:
         print(f"ctfd-convert: {said.input}: memory ran out: --only takes fewer types",
               file=sys.stderr)
+        return FAILED
+    except RecursionError:
+        print(f"ctfd-convert: {said.input}: its types lie too deep in each other: no C program has"
+              " such", file=sys.stderr)
         return FAILED
     except KeyboardInterrupt:
         return INTERRUPTED
@@ -142,7 +146,10 @@ def _made(words: argparse.Namespace, found: Input) -> Made:
     is_plain = not (names or words.parent or words.split)
     if found.form == "CTF version 2" and is_plain:
         return outputs.of_ctf(words.input, found, words.base, words.self_contained)
-    table, bases = _selected(found, [name for name in names if name])
+    try:
+        table, bases = _selected(found, [name for name in names if name])
+    except Error as error:
+        raise Error(f"{words.input}: {error}") from error
     if words.parent:
         return _child(words.parent, table)
     if words.split:
@@ -154,6 +161,9 @@ def _selected(found: Input, names: List[str]) -> "tuple[Table, Set[int]]":
     """What is wanted of a file, each type once and as CTF holds it; which of these are the base's.
     """
     table = found.table
+    if table.lacks_parent:
+        _refuse(f"it is a child of {table.parent_name or 'a parent without a name'}, whose types it"
+                " names: name the parent's file by --base")
     roots = named(table, names) if names else {*found.roots, *table.symbol_roots()}
     seen = table.reached(roots)
     order = [n for n in table.numbers() if seen[n]]

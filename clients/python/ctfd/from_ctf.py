@@ -39,9 +39,13 @@ class _Reader:
         return found
 
     def symbols(self, made: Table) -> None:
-        """What is told of symbols, and the labels."""
-        made.objects = [self.number(n) for n in _words(self.objects)]
-        made.functions = self._entries()
+        """What is told of symbols, and the labels. What names no type of the dictionary is none
+        of its entries: it is judged with the symbols alone."""
+        count = len(made)
+        objects = [self.number(n) for n in _words(self.objects)]
+        made.objects = [n if n <= count else 0 for n in objects]
+        made.functions = [one if one and max(one.references) <= count else None
+                          for one in self._entries()]
         labels = struct.iter_unpack("<II", self.labels[:len(self.labels) // 8 * 8])
         made.labels = [(self.name(name), self.number(last)) for name, last in labels]
         made.parent_name, made.parent_label = self.parent, self.parent_label
@@ -139,14 +143,15 @@ class _Reader:
 
 def table_of(ctf: bytes, strings: Optional[bytes] = None, model: Model = "lp64",
              parent: Optional[Table] = None) -> Table:
-    """The types of a section, behind those of its parent. Raises Unreadable."""
+    """The types of a section, behind those of its parent; behind as many that are unknown as a
+    parent may have, where a child's is not there. Raises Unreadable."""
     made = Table(model)
-    made.records = list(parent.records) if parent else []
     try:
-        reader = _Reader(ctf, strings, len(made.records))
-        if reader.is_child and parent is None:
-            raise Unreadable(f"it is a child of {reader.parent or 'a parent without a name'}, whose"
-                             " types it names: name the parent's file by --base")
+        reader = _Reader(ctf, strings, len(parent) if parent else CHILD - 1)
+        made.lacks_parent = reader.is_child and parent is None
+        if reader.is_child:
+            made.records = list(parent.records) if parent else [Record("unknown")] * (CHILD - 1)
+        made.bases = len(made.records)
         made.records += reader.records()
         reader.symbols(made)
         made.has_outer_names = reader.has_outer

@@ -2,7 +2,7 @@
 from __future__ import annotations
 
 import re
-from typing import Any, Dict, List, NamedTuple, Optional, Set, Tuple
+from typing import Any, Dict, Iterator, List, NamedTuple, Optional, Set, Tuple
 
 from .faults import Unreadable
 from .records import BOOLEAN, CHARACTER, Part, Record, SIGNED, Table
@@ -71,7 +71,7 @@ class Reader:
         """The types, functions and objects in a unit or function, and in the blocks of these."""
         todo = [scope]
         while todo:
-            for entry in todo.pop().iter_children():
+            for entry in _children(todo.pop()):
                 if entry.tag in NAMED and ("DW_AT_name" in entry.attributes
                                            or entry.tag == "DW_TAG_enumeration_type"):
                     self.roots.add(self.number(entry))
@@ -132,7 +132,7 @@ class Reader:
 
     def _members(self, entry: Any) -> Tuple[Part, ...]:
         parts = []
-        for one in entry.iter_children():
+        for one in _children(entry):
             if one.tag == "DW_TAG_member" and "DW_AT_external" not in one.attributes:
                 width = _value(one, "DW_AT_bit_size")
                 parts.append(Part(_name(one), self.type(one), self._offset(one, width), width))
@@ -162,7 +162,7 @@ class Reader:
         """An array, the outermost of several dimensions; the others get numbers here."""
         if "DW_AT_GNU_vector" in entry.attributes:
             self._lost("a vector: CTF has none; an array of its elements stands in its place")
-        ranges = [one for one in entry.iter_children() if one.tag == "DW_TAG_subrange_type"]
+        ranges = [one for one in _children(entry) if one.tag == "DW_TAG_subrange_type"]
         made = Record("array", type=self.type(entry), indexed_by=self._index(ranges, -1),
                       elements=self._count(ranges[-1]) if ranges else 0)
         for place in range(len(ranges) - 2, -1, -1):
@@ -197,7 +197,7 @@ class Reader:
         """What a function takes and returns."""
         arguments: List[int] = []
         varargs = False
-        for one in entry.iter_children():
+        for one in _children(entry):
             if one.tag == "DW_TAG_formal_parameter":
                 arguments.append(self._argument(one))
             varargs = varargs or one.tag == "DW_TAG_unspecified_parameters"
@@ -270,6 +270,22 @@ def read(info: Any, table: Table, wanted: List[Wanted], is_linked: bool) -> Tupl
     return table, reader.roots
 
 
+def _children(entry: Any) -> Iterator[Any]:
+    """The entries within another, in order. What damage makes lead back is refused: the library
+    would go round for ever, also where it looks by itself for the end of what is in one."""
+    last = entry.offset
+    for child in entry.iter_children():
+        sibling = child.attributes.get("DW_AT_sibling")
+        start = 0 if sibling is None or sibling.form == "DW_FORM_ref_addr" else child.cu.cu_offset
+        if child.offset <= last or sibling and start + sibling.value <= child.offset:
+            raise Unreadable("its debug information is damaged: its entries lead round")
+        last = child.offset
+        yield child
+        if child.has_children and sibling is None and child._terminator is None:
+            for _ in _children(child):
+                pass
+
+
 def _value(entry: Any, name: str) -> Any:
     said = entry.attributes.get(name)
     return None if said is None else said.value
@@ -306,7 +322,7 @@ def _base(entry: Any, name: str, size: int) -> Record:
 
 def _enumerators(entry: Any) -> Tuple[Enumerator, ...]:
     return tuple(Enumerator(_name(one), _value(one, "DW_AT_const_value") or 0)
-                 for one in entry.iter_children() if one.tag == "DW_TAG_enumerator")
+                 for one in _children(entry) if one.tag == "DW_TAG_enumerator")
 
 
 def _location(member: Any) -> int:

@@ -9,9 +9,10 @@ from .elf import Elf
 from .faults import Unreadable
 from .model import Model
 from .records import Record, Table
+from .sound import judge
 from .symbols import Wanted, considered
 
-FORMS = ("ctf", "btf", "gnu", "dwarf")
+FORMS = ("ctf", "btf", "dwarf", "gnu")
 SECTIONS = {"ctf": source.SECTIONS, "btf": (".BTF",), "gnu": (".ctf",)}
 
 
@@ -60,7 +61,9 @@ def contents(path: str) -> bytes:
 def _named(path: str, run: Callable[[], Input]) -> Input:
     """What a reader reads; its refusals are told with the file's name in front."""
     try:
-        return run()
+        found = run()
+        judge(found.table)
+        return found
     except Unreadable as error:
         said = str(error)
         raise Unreadable(said if said.startswith(f"{path}: ") else f"{path}: {said}") from error
@@ -76,13 +79,15 @@ def _form(data: bytes) -> Optional[str]:
 
 
 def _of_elf(path: str, data: bytes, options: Options) -> Input:
-    """The first of the forms that an ELF file has, DWARF if it has none; or the one asked for."""
+    """The first of the forms that an ELF file has, or the one asked for; DWARF may be elsewhere."""
     file = Elf(data, path)
     table = Table(options.model or file.model)
-    for form in FORMS[:-1]:
+    for form in FORMS:
         if options.form not in (None, form):
             continue
-        for name in SECTIONS[form]:
+        if form == "dwarf" and has_debug(file):
+            break
+        for name in SECTIONS.get(form, ()):
             section = file.named(name)
             if section is None or section.kind == elf.NOBITS:
                 continue
@@ -96,6 +101,12 @@ def _of_elf(path: str, data: bytes, options: Options) -> Input:
         raise Unreadable(f"it has no section {names} with what --from {options.form} asks for:"
                          " leave that out, and what it has is read")
     return _of_dwarf(opened(path), table, options)
+
+
+def has_debug(file: Elf) -> bool:
+    """Whether a file has DWARF in it."""
+    found = file.named(".debug_info") or file.named(".zdebug_info")
+    return found is not None and found.kind != elf.NOBITS and found.size > 0
 
 
 def _wanted(path: str) -> List[Wanted]:
@@ -138,7 +149,7 @@ def _of_ctf(data: bytes, strings: Optional[bytes], table: Table, _: List[Wanted]
     plain = source.inflate(data)
     parent = _parent(options, table.model)
     made = from_ctf.table_of(plain, strings, table.model, parent)
-    bases = len(parent) if parent else 0
+    bases = made.bases
     return Input(made, set(range(bases + 1, len(made) + 1)), bases, "CTF version 2")
 
 

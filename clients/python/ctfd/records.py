@@ -72,8 +72,9 @@ class Table:
 
     `objects` and `functions` are what is told of the symbols of which a dictionary can tell
     something, in their order: an object's type or 0, a function's record or None. `labels` are
-    those of a dictionary, each with the last number that it covers; it may have a parent, and
-    `has_outer_names` where some stand in the strings of its ELF file.
+    those of a dictionary, each with the last number that it covers. It may have a parent, whose
+    types are the first `bases`, and are unknown where it lacks that; `has_outer_names` says that
+    names of it stand in the strings of its ELF file.
     """
 
     def __init__(self, model: Model = "lp64") -> None:
@@ -83,8 +84,9 @@ class Table:
         self.functions: List[Optional[Record]] = []
         self.losses: List[str] = []
         self.labels: List[Tuple[str, int]] = []
+        self.bases = 0
         self.parent_name = self.parent_label = ""
-        self.has_outer_names = False
+        self.has_outer_names = self.lacks_parent = False
         self._known: Dict[Record, int] = {}
 
     def __getitem__(self, number: int) -> Record:

@@ -61,7 +61,7 @@ FILES = [
          r"luaL_reg: neither .* \(.*\); the nearest (is|are) .*luaL_Reg"),
     Case("a word left out", "ctfd-types {}/lua lua_TValue", 1, r"; the nearest (is|are) "),
     Case("a name not found", "ctfd-convert {}/lua {}/out --only luaL_reg", 2,
-         r"--only luaL_reg: it has no type of this name; the nearest .*luaL_Reg"),
+         r"/lua: --only luaL_reg: it has no type of this name; the nearest .*luaL_Reg"),
     Case("its own input", "ctfd-convert {}/lua {}/lua", 2, r"/lua: it is read, .*another file"),
     Case("a folder that is not there", "ctfd-convert {}/lua {}/no/out", 2, r"/no/out: it can't be"),
     Case("no service", "ctfd-types --service {}/nowhere {}/lua", 1,
