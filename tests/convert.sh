@@ -1,16 +1,18 @@
 #!/usr/bin/env bash
-# Compares the types that ctfd-convert and ctfd.build make with what compilers and pahole say of them.
+# Compares the types that ctfd-convert and ctfd.build make with what compilers and pahole say of
+# them.
 # usage: tests/convert.sh PROGRAM [all]
-# PROGRAM is crates/ctfd/out/ctfd once `rt run` in crates/ctfd has built it. Needs gcc, and a Python with
-# pyelftools and pycparser (Debian's python3-pyelftools and python3-pycparser); says so and ends with
-# status 0 where one is missing. Programs of 32 bits want gcc-multilib, BTF and headers want dwarves.
-# Not part of the gate.
+# PROGRAM is crates/ctfd/out/ctfd once `rt run` in crates/ctfd has built it. Needs gcc, and a Python
+# with pyelftools and pycparser (Debian's python3-pyelftools and python3-pycparser); says so and ends
+# with status 0 where one is missing. Programs of 32 bits want gcc-multilib, BTF and headers want
+# dwarves.
 #
-# Random C files are compiled and run, for each data model that gcc has, and say where their members lie:
-# so do, through the service, the dictionaries made of their debug information, of GNU's CTF, of BTF, and of
-# their declarations. All of what is compared stands in tests/convert/run.py. With `all` they are 500, and
-# the headers of the C library and the kernel are compared with pahole's view of them
-# (tests/convert/headers.py), and the BTF of this machine's kernel is converted, where it shows one.
+# Random C files are compiled and run, for each data model that gcc has, and say where their members
+# lie: so do, through the service, the dictionaries made of their debug information, of GNU's CTF,
+# of BTF, and of their declarations. All of what is compared stands in tests/convert/run.py. With
+# `all`, which the gate leaves out, they are 500, and the headers of the C library and the kernel
+# are compared with pahole's view of them (tests/convert/headers.py), and the BTF of this machine's
+# kernel is converted, where it shows one.
 set -eu
 program=$(realpath "$1")
 tests=$(realpath "$(dirname "$0")")

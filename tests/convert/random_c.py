@@ -174,7 +174,8 @@ class File:
         qualifier = self.chance.choice(("", "", "", "const ", "volatile "))
         before = ""
         if self.rarely(12) and "_Atomic" not in base:
-            before = f"_Alignas({self.chance.choice((16, 32, 64))}) "
+            least = 64 if base.startswith("t") else 16  # no less than a typedef has by itself
+            before = f"_Alignas({max(least, self.chance.choice((16, 32, 64)))}) "
         return Member(f"{before}{qualifier}{base} {name}{self.of_member()};",
                       [f"MEMBER({{}}, {name});"])
 

@@ -8,6 +8,7 @@ where gcc has them, and run; its types are taken from its debug information by c
 made of its text by ctfd.build.declare. The first files of --gnu have nothing that other forms don't
 say; of these GNU's CTF, in an object file, and BTF, as pahole writes it, are compared as well.
 Prints each fact that differs, then how many were compared; the status is 1 where one differs.
+Without pahole there is no BTF, and a data model may have no programs here: a line says so.
 """
 from __future__ import annotations
 
@@ -111,9 +112,20 @@ def models() -> List[str]:
         for model, option in MODELS.items():
             made = str(source.with_suffix(""))
             done = subprocess.run(["gcc", option, "-o", made, str(source)], capture_output=True)
-            if done.returncode == 0 and not subprocess.run([made], capture_output=True).returncode:
+            if done.returncode != 0:
+                print(f"skipped: gcc {option} makes no program here")
+            elif not runs(made):
+                print(f"not possible here: a program of gcc {option} does not run")
+            else:
                 found.append(model)
     return found
+
+
+def runs(program: str) -> bool:
+    try:
+        return subprocess.run([program], capture_output=True).returncode == 0
+    except OSError:
+        return False
 
 
 def main() -> int:
@@ -126,6 +138,8 @@ def main() -> int:
     began = time.monotonic()
     with tempfile.TemporaryDirectory() as folder:
         run = Run(words.service, Path(folder))
+        if words.gnu and not run.has_pahole:
+            print("skipped: no pahole here, so no BTF is compared")
         for model in models():
             run.model = model
             for number in range(words.count):

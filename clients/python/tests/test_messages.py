@@ -177,10 +177,13 @@ class Messages(unittest.TestCase):
         self.say(DEBUG)
 
     @unittest.skipUnless(TOOLS, "no gcc or objcopy here")
-    @unittest.skipIf(has_library("elftools"), "pyelftools is here")
     def test_no_pyelftools(self) -> None:
         self.objects()
-        self.say([Case("no pyelftools", "ctfd-convert {}/debug.o {}/out", 2,
+        hidden = Path(self.folder) / "hidden"
+        hidden.mkdir()
+        (hidden / "elftools.py").write_text("raise ImportError\n")
+        words = "PYTHONPATH={}/hidden ctfd-convert {}/debug.o {}/out"
+        self.say([Case("no pyelftools", words, 2,
                        r"/debug\.o: reading an ELF file needs pyelftools, .*python3-pyelftools")])
 
     def objects(self) -> None:
