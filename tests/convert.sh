@@ -3,9 +3,9 @@
 # them.
 # usage: tests/convert.sh PROGRAM [all]
 # PROGRAM is crates/ctfd/out/ctfd once `rt run` in crates/ctfd has built it. Needs gcc, and a Python
-# with pyelftools and pycparser (Debian's python3-pyelftools and python3-pycparser); says so and ends
-# with status 0 where one is missing. Programs of 32 bits want gcc-multilib, BTF and headers want
-# dwarves.
+# with pyelftools and pycparser (Debian's python3-pyelftools and python3-pycparser); says so and
+# ends with status 0 where one is missing. Programs of 32 bits want gcc-multilib, BTF and headers
+# want dwarves.
 #
 # Random C files are compiled and run, for each data model that gcc has, and say where their members
 # lie: so do, through the service, the dictionaries made of their debug information, of GNU's CTF,

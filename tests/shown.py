@@ -105,7 +105,7 @@ def commands(block: Block) -> list[tuple[str, list[str]]]:
 def lacking(text: str) -> str:
     """What a block needs that is not here, or nothing."""
     for tool in TOOLS:
-        named = re.search(rf"(?<![\w./-]){re.escape(tool)} ", text)
+        named = re.search(rf"(?<![\w./-]){re.escape(tool)} ", text) is not None
         named = named or tool in ("gdb", "objcopy") and "with_ctf.sh" in text
         named = named or tool == "objcopy" and "--section" in text
         if named and not shutil.which(tool):
