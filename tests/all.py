@@ -36,7 +36,7 @@ COUNTS = re.compile(r"([0-9]+) passed, ([0-9]+) failed")
 SKIPPED = re.compile(r"^skipped.*|^.*\.\.\. skipped .*", re.MULTILINE)
 IMPOSSIBLE = re.compile(r"^not possible here: .*", re.MULTILINE)
 # No part takes nearly so long, so one that does goes on without end.
-LONGEST_SECONDS = 1200
+LONGEST_SECONDS = 1800
 LINES_SHOWN = 200
 
 
@@ -62,9 +62,19 @@ class Tally:
         self.failed += not well
 
 
+def with_packages() -> str:
+    """A Python that has what the client reads ELF files and declarations with; else this one."""
+    for python in (sys.executable, "/usr/bin/python3"):
+        if Path(python).exists() and subprocess.run(
+                [python, "-c", "import elftools, pycparser"], capture_output=True).returncode == 0:
+            return python
+    return sys.executable
+
+
 def parts(program: str) -> list[Part]:
     """All but the proofs; those that take longest come last."""
     over = {"CTFD": program}
+    python = with_packages()
     return [
         Part("links", ["tests/links.py"]),
         Part("manual", ["tests/manual.sh"]),
@@ -74,11 +84,12 @@ def parts(program: str) -> list[Part]:
         Part("written_by_pahole", ["tests/written_by_pahole.sh"]),
         Part("written_by_libctf", ["tests/written_by_libctf.py"]),
         Part("program", ["tests/program.sh", program]),
-        Part("client", [sys.executable, "-m", "unittest", "discover", "-v", "-s", "tests", "-t",
-                        "."], CLIENT, over),
+        Part("client", [python, "-m", "unittest", "discover", "-v", "-s", "tests", "-t", "."],
+             CLIENT, over),
+        Part("convert", ["tests/convert.sh", program]),
         Part("ilp32", ["tests/ilp32.sh", program]),
         Part("gdb", ["tests/gdb.sh", program]),
-        Part("shown", ["tests/shown.py", program]),
+        Part("shown", [python, "tests/shown.py", program]),
         Part("lending", ["tests/lending.sh"]),
         Part("streams", ["tests/streams.sh", program]),
         Part("damage", ["tests/damage.py", program]),

@@ -5,11 +5,12 @@ usage: tests/shown.py PROGRAM
 
 Run is each block that begins with `$ `, in a copy of the repository in which PROGRAM is the one
 that was built; each block begins at its top, and files in /tmp/recipe stand in a folder of this
-run. A line that ends in a backslash goes on in the next. What a command prints, on both outputs,
-has to be what stands below it up to the next `$ `; a line `...` there stands for any number of
-lines. Where nothing stands below a command, it has to end with status 0. In a block that runs gdb,
-numbers in hexadecimal and how many types and symbols there are hang on the compiler, and are not
-compared.
+run. The program and the client's commands are on the path, and `python3` is the Python that runs
+this. A line that ends in a backslash goes on in the next, and one that ends in `<< 'WORD'` up to
+the line WORD. What a command prints, on both outputs, has to be what stands below it up to the next
+`$ `; a line `...` there stands for any number of lines. Where nothing stands below a command, it
+has to end with status 0. In a block that runs gdb, numbers in hexadecimal and how many types and
+symbols there are hang on the compiler, and are not compared.
 
 Asked are the blocks that begin with `{"s":`, each line a request and the next its reply: all of a
 page in one service, which was given examples/lua.ctf as `lua`. `..` stands for the middle of long
@@ -17,12 +18,14 @@ bytes: in a request for those of a file or an example that are as long as the re
 Python are run with the client, and have to end with status 0.
 
 Not run is a block below a line `<!-- not run: REASON -->`, and one that needs what is not here, or
-a file that another such block would have made: a line that begins with `skipped: ` says so. Prints
-each that comes out otherwise, and counts; the status is 1 where one does.
+a file that another such block below the same heading would have made: a line that begins with
+`skipped: ` says so, or with `not possible here: ` where no package would bring it. Prints each that
+comes out otherwise, and counts; the status is 1 where one does.
 """
 from __future__ import annotations
 
 import difflib
+import importlib.util
 import json
 import os
 import re
@@ -40,14 +43,17 @@ COPIED = ("README.md", "Makefile", "HANDLES", "crates.txt", "crates", "clients",
           "tests")
 RECIPE = "/tmp/recipe"
 TOOLS = ("gcc", "gdb", "objcopy", "llvm-objcopy", "jq", "man", "rt")
+# What of the client takes which package of Python.
+LIBRARIES = {"ctfd-convert": "elftools", "build.declare": "pycparser"}
 LONGEST_SECONDS = 900
 
 
 @dataclass(frozen=True)
 class Block:
-    """A block of a page, where it begins, and what language it says."""
+    """A block of a page, where it begins, below which heading, and what language it says."""
 
     place: str
+    heading: str
     language: str
     lines: tuple[str, ...]
 
@@ -60,23 +66,25 @@ def blocks(page: str) -> Iterator[Block]:
     """The blocks of a page that are run or asked."""
     lines = (TOP / page).read_text(encoding="utf-8").splitlines()
     held: list[str] | None = None
-    began, language = 0, ""
+    began, language, heading = 0, "", ""
     for number, line in enumerate(lines, 1):
         if not line.startswith("```"):
             if held is not None:
                 held.append(line)
+            elif line.startswith("## "):
+                heading = line
         elif held is None:
             held, began, language = [], number, line[3:]
         else:
             if held and not lines[began - 2].startswith("<!-- not run: "):
-                yield Block(f"{page}:{began}", language, tuple(held))
+                yield Block(f"{page}:{began}", heading, language, tuple(held))
             held = None
 
 
 def commands(block: Block) -> list[tuple[str, list[str]]]:
     """Each command of a block with the lines below it."""
     found: list[tuple[str, list[str]]] = []
-    goes_on = False
+    goes_on, last = False, ""
     for line in block.lines:
         if goes_on:
             found[-1] = (f"{found[-1][0]}\n{line}", [])
@@ -84,17 +92,27 @@ def commands(block: Block) -> list[tuple[str, list[str]]]:
             found.append((line[2:], []))
         else:
             found[-1][1].append(line)
-        goes_on = line.endswith("\\") and (goes_on or line.startswith("$ "))
+            continue
+        if not last:
+            given = re.search(r"<< '(\w+)'$", line)
+            last = given[1] if given else ""
+        elif line == last:
+            last = ""
+        goes_on = line.endswith("\\") or last != ""
     return found
 
 
 def lacking(text: str) -> str:
     """What a block needs that is not here, or nothing."""
     for tool in TOOLS:
-        named = re.search(rf"(?<![\w./-]){re.escape(tool)} ", text)
+        named = re.search(rf"(?<![\w./-]){re.escape(tool)} ", text) is not None
         named = named or tool in ("gdb", "objcopy") and "with_ctf.sh" in text
+        named = named or tool == "objcopy" and "--section" in text
         if named and not shutil.which(tool):
             return f"skipped: no {tool} here"
+    for word, library in LIBRARIES.items():
+        if word in text and not importlib.util.find_spec(library):
+            return f"skipped: {sys.executable} has no package {library}"
     if "-m32" in text and subprocess.run(["gcc", "-m32", "-c", "-x", "c", "/dev/null", "-o",
                                           "/dev/null"], capture_output=True).returncode:
         return "skipped: gcc -m32 makes no program here"
@@ -132,9 +150,9 @@ class Page:
     def __init__(self, page: str, top: Path, recipe: Path) -> None:
         self.page, self.top, self.recipe = page, top, recipe
         self.compared = self.wrong = 0
-        self.lacks = False
-        self.environment = {**os.environ, "LC_ALL": "C",
-                            "PATH": f"{top}/crates/ctfd/out:{os.environ['PATH']}",
+        self.lacks: dict[str, str] = {}  # by heading, how a block below it was told to be left out
+        path = f"{top}/crates/ctfd/out:{top}/clients/python:{os.environ['PATH']}"
+        self.environment = {**os.environ, "LC_ALL": "C", "PATH": path,
                             "CTFD": f"{top}/crates/ctfd/out/ctfd"}
 
     def run(self) -> None:
@@ -157,10 +175,10 @@ class Page:
     def run_shell(self, block: Block) -> None:
         """Runs a block, and compares what each of its commands prints."""
         why = lacking(block.text)
-        if not why and self.lacks and RECIPE in block.text:
-            why = "skipped: its files were not made"
+        if not why and block.heading in self.lacks and RECIPE in block.text:
+            why = f"{self.lacks[block.heading]}: its files were not made"
         if why:
-            self.lacks = True
+            self.lacks[block.heading] = why.split(":")[0]
             print(f"{why}, for {block.place}")
             return
         steps = commands(block)
@@ -252,6 +270,9 @@ def copied(program: str, top: Path) -> None:
     out = top / "crates" / "ctfd" / "out"
     out.mkdir()
     (out / "ctfd").symlink_to(Path(program).resolve())
+    python = out / "python3"  # no link: where it stands tells a Python its packages
+    python.write_text(f'#!/bin/sh\nexec "{sys.executable}" "$@"\n')
+    python.chmod(0o755)
 
 
 def main(program: str) -> int:

@@ -4,10 +4,9 @@ import sys
 
 # Not by __file__: where another script sources this one, that is the other's.
 FOLDER = pathlib.Path((lambda: None).__code__.co_filename).resolve().parent
-for folder in (FOLDER, FOLDER.parent / "python"):
-    if str(folder) not in sys.path:
-        sys.path.insert(0, str(folder))
+if str(FOLDER.parent / "python") not in sys.path:
+    sys.path.insert(0, str(FOLDER.parent / "python"))
 
-from ctf_commands import commands  # noqa: E402
+from ctfd.plugin import commands  # noqa: E402
 
 commands.register()

@@ -13,12 +13,13 @@ from .listing import definition, listing
 from .model import Model
 from .source import Source, read
 from .types import Encoding, Enumerator, Member, PointerTo, Signature, Type
+from .version import VERSION as __version__
 from .wire import Client, Session
 
 __all__ = [
     "BadDictionary", "BadSymbols", "Client", "Dictionary", "Encoding", "Enumerator", "Error",
     "Gone", "Incomplete", "Layout", "Member", "Model", "NoMemory", "NoParent", "NotFound", "Place",
-    "PointerTo", "Refused", "Session", "Signature", "Source", "Type", "Unreadable", "declaration",
-    "definition", "layout", "listing", "open_file", "open_source", "read", "taken",
+    "PointerTo", "Refused", "Session", "Signature", "Source", "Type", "Unreadable", "__version__",
+    "declaration", "definition", "layout", "listing", "open_file", "open_source", "read", "taken",
     "withdraw",
 ]

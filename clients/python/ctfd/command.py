@@ -7,15 +7,17 @@ status is 1 where something is refused or not found.
 from __future__ import annotations
 
 import argparse
+import contextlib
 import os
 import sys
-from typing import List, Optional
+from typing import Iterator, List, Optional
 
-from . import declare
+from . import declare, service
 from .dictionary import Dictionary, open_file
 from .faults import Error, NotFound, Refused, Unreadable
 from .listing import definition, listing
 from .model import POINTER_SIZES
+from .nearest import offered
 from .text import printable
 from .types import Signature, Type
 from .wire import Client
@@ -25,7 +27,7 @@ def main(arguments: Optional[List[str]] = None) -> int:
     """The command; its exit status."""
     words = _parser().parse_args(arguments)
     try:
-        with Client(words.service) as client:
+        with Client(service.find(words.service)) as client:
             _run(client, words)
         sys.stdout.flush()
         return 0
@@ -52,24 +54,41 @@ def _parser() -> argparse.ArgumentParser:
                         " without it an ELF file says so itself, and a section is taken for lp64")
     parser.add_argument("--symbols", metavar="FILE", help="the bytes of the program's symbol table")
     parser.add_argument("--strings", metavar="FILE", help="the bytes of the strings of that table")
-    parser.add_argument("--service", metavar="CTFD", default=os.environ.get("CTFD", "ctfd"),
-                        help="the program to ask (CTFD in the environment, or ctfd on the path)")
+    parser.add_argument("--service", metavar="CTFD", help="the program to ask (CTFD in the"
+                        " environment, or ctfd on the path)")
     return parser
 
 
 def _run(client: Client, words: argparse.Namespace) -> None:
     session = client.session()
     beside = _bytes(words.symbols), _bytes(words.strings)
-    types = open_file(session, words.file, *beside, model=words.model)
+    with _named(words.file):
+        types = open_file(session, words.file, *beside, model=words.model)
     if types.how == "refused":
         _warn(f"{words.file}: its symbol table is not the one that the types were written for:"
               " nothing is told of symbols")
     if words.parent:
-        types.import_parent(open_file(session, words.parent, model=words.model))
+        with _named(words.parent):
+            parent = open_file(session, words.parent, model=words.model)
+        with _named(f"{words.parent}, as the parent of {words.file}"):
+            types.import_parent(parent)
+    elif types.is_child:
+        _warn(f"{words.file} is a child of {types.parent_name or 'a parent without a name'}, whose"
+              " types it names: name the parent's file by --parent")
     if words.name is None:
         _print_all(types)
     else:
         _print_named(types, words)
+
+
+@contextlib.contextmanager
+def _named(what: str) -> Iterator[None]:
+    """Refusals of a file are told with its name, and without the request."""
+    try:
+        yield
+    except Refused as fault:
+        place = f" at {fault.place}" if fault.place else ""
+        raise Error(f"{what}: {fault.name}{place}: {fault.advice}") from fault
 
 
 def _print_all(types: Dictionary) -> None:
@@ -119,7 +138,7 @@ def _symbol(types: Dictionary, name: str) -> str:
     except (NotFound, Unreadable) as fault:
         why = fault.name if isinstance(fault, NotFound) else str(fault)
         raise Error(f"{name}: neither a type nor a symbol of which something is told"
-                    f" ({why})") from fault
+                    f" ({why}){offered(name, types.names())}") from fault
     if types.how == "guessed":
         _warn("the section names no symbol table: that of the file is taken, and if it is not the"
               " one that the types were written for, this is another symbol's")

@@ -203,6 +203,12 @@ class Dictionary:
         self.fetch([("record", t.number) for t in types])
         return [t for t in types if _called(t) in spellings(base)]
 
+    def names(self) -> List[str]:
+        """The names by which types are found, those of the parent too."""
+        own = self.types() + (self.parent.types() if self.parent else [])
+        self.fetch([("record", t.number) for t in own])
+        return list(dict.fromkeys(_called(t) for t in own if t.name and t.is_root))
+
     # Symbols.
 
     def symbol(self, name: Name) -> Union[Type, Signature]:

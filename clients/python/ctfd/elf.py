@@ -73,7 +73,8 @@ class Elf:
         if self.data[:4] != MAGIC:
             raise Unreadable(f"{self.path}: no ELF file")
         if self.data[5:6] == b"\x02":
-            raise Unreadable(f"{self.path}: a big-endian ELF file, which is not read")
+            raise Unreadable(f"{self.path}: a big-endian ELF file, which is not read: take a"
+                             " little-endian build of the program")
         form = FORMS.get(self.data[4:5])
         if form is None or self.data[5:6] != b"\x01":
             raise Unreadable(f"{self.path}: an ELF file whose header is damaged or cut off")
@@ -134,8 +135,8 @@ class Elf:
         if section.kind == NOBITS:
             return b""
         if section.flags & COMPRESSED:
-            raise Unreadable(f"{self.path}: {section.name} is compressed as ELF has it:"
-                             " objcopy --decompress-debug-sections undoes that")
+            raise Unreadable(f"{self.path}: {section.name} is compressed as ELF has it, which is"
+                             " not read: objcopy --decompress-debug-sections undoes that")
         return self._cut(section.offset, section.size)
 
 

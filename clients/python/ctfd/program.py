@@ -2,14 +2,15 @@
 from __future__ import annotations
 
 from dataclasses import dataclass, field
-from typing import Dict, List, Optional
+from typing import Callable, Dict, List, Optional
 
 from . import elf, source
 from .dictionary import Dictionary, open_source
 from .elf import Elf, Symbol
-from .faults import Error, NotFound
+from .faults import Error, NotFound, Unreadable
 from .model import Model
 from .operands import Code, Located, Operand
+from .source import Source
 from .wire import Session
 
 
@@ -49,14 +50,23 @@ class Program:
         raise refused
 
 
-def open_program(session: Session, path: str, model: Optional[Model] = None) -> Program:
-    """Opens the dictionary of a file; `model` is that of a section by itself."""
+def open_program(session: Session, path: str, model: Optional[Model] = None,
+                 convert: Optional[Callable[[str], Source]] = None) -> Program:
+    """Opens the dictionary of a file; `model` is that of a section by itself.
+
+    Where an ELF file has no section that is read, `convert` makes what is handed in for it.
+    """
     try:
         with open(path, "rb") as file:
             data = file.read()
     except OSError as error:
         raise Error(f"{path}: {error.strerror}") from error
-    found = source.of_bytes(data, path)
+    try:
+        found = source.of_bytes(data, path)
+    except Unreadable:
+        if convert is None or data[:4] != elf.MAGIC:
+            raise
+        found = convert(path)
     types = open_source(session, found._replace(model=found.model or model))
     program = Program(path, types, Elf(data, path) if data[:4] == elf.MAGIC else None)
     if found.sym and found.strings and types.how != "refused":

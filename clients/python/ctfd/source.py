@@ -18,7 +18,8 @@ HEADER = 36
 LONGEST = 67_108_864
 SECTIONS = (".SUNW_ctf", ".ctf")
 ARCHIVE = struct.pack("<Q", 0x8B47F2A4D7623EEB)
-ADVICE = "make CTF of version 2 from the program's DWARF, as illumos' ctfconvert does"
+ADVICE = "ctfd-convert makes CTF of version 2 from the program's debug information"
+DEBUG = (".debug_info", ".zdebug_info", ".gnu_debuglink", ".BTF")
 
 
 class Source(NamedTuple):
@@ -69,11 +70,16 @@ def foreign(ctf: bytes) -> str:
     if magic in (b"\xf2\xdf", b"\xdf\xf2"):
         order = "big-endian " if magic == b"\xdf\xf2" else ""
         return (f"{order}GNU CTF (of gcc -gctf), which has a magic of its own, here with format"
-                f" number {version}: it is not read; {ADVICE}")
+                f" number {version}: it is not read as it is; ctfd-convert makes CTF of version 2"
+                " of it")
     if ctf[:8] == ARCHIVE:
-        return f"an archive of GNU CTF (of gcc -gctf), which is not read; {ADVICE}"
+        return ("an archive of GNU CTF (of gcc -gctf), which is not read as it is; ctfd-convert"
+                " makes CTF of version 2 of it")
     if magic == b"\xcf\xf1":
-        return "CTF of a big-endian machine, which is not read"
+        return ("CTF of a big-endian machine, which is not read: take that of a little-endian build"
+                " of the program")
+    if magic in (b"\x9f\xeb", b"\xeb\x9f"):
+        return "BTF, which is not read as it is; ctfd-convert makes CTF of version 2 of it"
     if magic != b"\xf1\xcf":
         begins = ctf[:4].hex() or "nothing"
         return (f"neither an ELF file nor a CTF section: it begins with {begins}, and CTF with"
@@ -111,8 +117,10 @@ def inflate(ctf: bytes, path: str = "the file") -> bytes:
 def _of_elf(file: Elf) -> Source:
     section = next((s for s in map(file.named, SECTIONS) if s and s.kind != elf.NOBITS), None)
     if section is None:
-        raise Unreadable(f"{file.path}: an ELF file without {' or '.join(SECTIONS)}: compile it"
-                         " with debug information and let a tool such as ctfconvert add one")
+        has_debug = any(file.named(name) for name in DEBUG)
+        advice = (f"it has debug information: `ctfd-convert {file.path} OUT` makes CTF of it"
+                  if has_debug else "compile it with -g, and let ctfd-convert make CTF of that")
+        raise Unreadable(f"{file.path}: an ELF file without {' or '.join(SECTIONS)}; {advice}")
     ctf = plain(file.bytes(section), f"{file.path}, {section.name}")
     return Source(ctf, *_symbols(file, section), file.model)
 

@@ -80,7 +80,7 @@ class Type:
     @property
     def kind(self) -> str:
         """`void`, or the service's word: integer, struct, typedef, .."""
-        return self._ask("record")["kind"] if self.number else "void"
+        return str(self._ask("record")["kind"]) if self.number else "void"
 
     @property
     def name(self) -> str:
@@ -126,7 +126,7 @@ class Type:
     @property
     def tag(self) -> str:
         """What a forward declares: struct, union or enum."""
-        return self._ask("record")["tag"]
+        return str(self._ask("record")["tag"])
 
     @property
     def members(self) -> List[Member]:
@@ -151,7 +151,7 @@ class Type:
     @property
     def count(self) -> int:
         """How many elements an array has."""
-        return self._ask("array")["count"]
+        return int(self._ask("array")["count"])
 
     @property
     def encoding(self) -> Encoding:
@@ -208,8 +208,8 @@ class Type:
 class PointerTo(Type):
     """A pointer that the dictionary has no type for, made here."""
 
-    kind, name, tag = "pointer", "", ""  # type: ignore[assignment]
-    is_root = False  # type: ignore[assignment]
+    kind, name, tag = "pointer", "", ""
+    is_root = False
 
     def __init__(self, target: Type) -> None:
         super().__init__(target.dictionary, 0)
@@ -248,9 +248,9 @@ class PointerTo(Type):
 class FunctionOf(Type):
     """The type of a function by a symbol's signature, made here."""
 
-    kind, name, tag = "function", "", ""  # type: ignore[assignment]
-    size = 0  # type: ignore[assignment]
-    is_root = False  # type: ignore[assignment]
+    kind, name, tag = "function", "", ""
+    size = 0
+    is_root = False
 
     def __init__(self, signature: Signature) -> None:
         super().__init__(signature.returns.dictionary, 0)

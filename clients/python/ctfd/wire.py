@@ -15,7 +15,7 @@ from types import TracebackType
 from typing import (Any, Deque, Dict, Iterable, List, NoReturn, Optional, Sequence, Tuple, Type,
                     Union)
 
-from . import text
+from . import service, text
 from .faults import Error, Gone, Refused, refused
 from .model import Model
 from .text import Name
@@ -37,7 +37,7 @@ class Owed:
 
 
 class Client:
-    """One service, started here.
+    """One service, started here; the program is looked for where none is named.
 
     `patience` is how many seconds it may be silent before it counts as gone; None is for ever.
     An exception amid a call (Ctrl-C, say) leaves its replies owed, and the next call reads past
@@ -45,10 +45,10 @@ class Client:
     The service is in a process session of its own, so a terminal's Ctrl-C does not end it.
     """
 
-    def __init__(self, program: str = "ctfd", arguments: Sequence[str] = ("serve",),
+    def __init__(self, program: Optional[str] = None, arguments: Sequence[str] = ("serve",),
                  patience: Optional[float] = 60) -> None:
         self.patience = patience
-        self._process = _started([program, *arguments])
+        self._process = _started([program or service.find(), *arguments])
         assert self._process.stdin and self._process.stdout
         self._requests = self._process.stdin.fileno()
         self._replies = self._process.stdout.fileno()
@@ -122,7 +122,8 @@ class Client:
             while mine and mine[-1].reply is None:
                 events = ready.select(self.patience)
                 if not events:
-                    self._end(f"the service has been silent for {self.patience} seconds")
+                    self._end(f"the service has been silent for {self.patience} seconds: start"
+                              " it again, with more patience for large questions")
                 for key, _ in events:
                     if key.fd == self._replies:
                         self._read()
@@ -189,7 +190,8 @@ class Client:
 
     def _how_it_ended(self) -> str:
         try:
-            return f"the service ended with status {self._process.wait(1)}"
+            return (f"the service ended with status {self._process.wait(1)}: what it says of that"
+                    " stands on standard error; start it again")
         except subprocess.TimeoutExpired:
             return "the service has closed its pipes"
 

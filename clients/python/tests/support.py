@@ -1,6 +1,7 @@
 """What the tests share: the service to ask, the examples, and small dictionaries made here."""
 from __future__ import annotations
 
+import importlib.util
 import json
 import os
 import shutil
@@ -25,6 +26,11 @@ def compiles(*options: str) -> bool:
     """Whether gcc makes object files with some options."""
     command = ["gcc", *options, "-c", "-x", "c", "/dev/null", "-o", "/dev/null"]
     return TOOLS and subprocess.run(command, capture_output=True).returncode == 0
+
+
+def has_library(name: str) -> bool:
+    """Whether this Python has a package that is needed for a part of the client alone."""
+    return importlib.util.find_spec(name) is not None
 
 
 class WithService(unittest.TestCase):
@@ -69,6 +75,10 @@ def dictionary(records: List[bytes], names: bytes = b"\0") -> bytes:
 
 def integer(name: int, bits: int = 32, size: int = 4) -> bytes:
     return record(INTEGER, 0, size, name, struct.pack("<I", 1 << 24 | bits))
+
+
+def pointer(to: int) -> bytes:
+    return record(POINTER, 0, to)
 
 
 def array(contents: int, count: int, size: int = 0) -> bytes:

@@ -64,7 +64,10 @@ class Command(unittest.TestCase):
             self.assertEqual(told, " 32769        8  struct point *\n")
             told = self.told("--model", "ilp32", "--parent", parent, child)
             self.assertEqual(told, " 32769        4  struct point *\n")
-            self.assertEqual(self.told(child), " 32769        8  (NoParent)\n")
+            alone = run(child)
+            self.assertEqual((alone.returncode, alone.stdout),
+                             (0, " 32769        8  (NoParent)\n"))
+            self.assertIn("is a child of p, whose types it names", alone.stderr)
             self.assertIn("NotChild", self.refused("--parent", child, parent))
 
     @unittest.skipUnless(TOOLS, "no gcc or objcopy here")
@@ -93,11 +96,11 @@ class Command(unittest.TestCase):
         self.assertIn("nothing: neither a type nor a symbol", self.refused(LUA, "nothing"))
         self.assertIn("neither an ELF file nor a CTF section", self.refused(__file__))
         self.assertIn("No such file", self.refused("/nowhere"))
-        self.assertIn("can't be started", run(LUA, program="/nowhere").stderr)
+        self.assertIn("is no program", run(LUA, program="/nowhere").stderr)
         with tempfile.NamedTemporaryFile() as file:
             file.write(Path(LUA).read_bytes()[:9000])
             file.flush()
-            self.assertIn("PastEnd (open): the list is cut off", self.refused(file.name))
+            self.assertIn("PastEnd: the list is cut off", self.refused(file.name))
 
 
 if __name__ == "__main__":

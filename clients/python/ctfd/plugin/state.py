@@ -9,12 +9,16 @@ import gdb
 
 import ctfd
 from ctfd import formats, program, values
+from ctfd.convert import converted
 from ctfd.operands import BadExpression
 from ctfd.program import Program
+from ctfd.source import Source
+from ctfd.text import printable
 
-from .inferior import Inferior, model_of_program
+from .inferior import Inferior, NO_TYPES, model_of_program
 from .loaded import Loaded
 
+REMOTE = "target:"
 MOST = 65_536
 DEEPEST = 64
 
@@ -29,13 +33,18 @@ class State:
     def open(self, path: str) -> Program:
         """A file's dictionary; a section by itself is taken to be of gdb's program.
 
-        The service is the program that CTFD in the environment names.
+        The service is the program that CTFD in the environment names, else it is looked for. Of a
+        program without CTF it is made of its debug information.
         """
+        if path.startswith(REMOTE):
+            local = os.path.basename(path)
+            raise BadExpression(f"{path} is a file of the remote system.  Use \"remote get"
+                                f" {path[len(REMOTE):]} {local}\", then \"ctf load {local}\".")
         if self.service is None:
-            client = ctfd.Client(os.environ.get("CTFD", "ctfd"))
+            client = ctfd.Client()
             self.service = client, client.session()
         path = os.path.expanduser(path)
-        return program.open_program(self.service[1], path, model_of_program())
+        return program.open_program(self.service[1], path, model_of_program(), _converted)
 
     def close(self) -> None:
         """Ends the service, and with it all that was loaded."""
@@ -53,8 +62,19 @@ class State:
     def target(self) -> Inferior:
         """The program that gdb looks at, with the types that were loaded."""
         if not self.loaded:
-            raise BadExpression("no types are loaded: ctf load FILE")
+            raise BadExpression(NO_TYPES)
         return Inferior(self.loaded)
+
+
+def _converted(path: str) -> Source:
+    """What is made of a program's debug information, and said of that."""
+    print(f"Reading types from the debug information of {printable(path)}...")
+    gdb.flush()
+    found, losses = converted(path)
+    if losses:
+        print(f"(CTF can't hold all of them: \"ctfd-convert {printable(path)} OUT\" tells the"
+              f" {len(losses)} that it can't)")
+    return found
 
 
 STATE = State()

@@ -8,6 +8,7 @@ import gdb
 import ctfd
 from ctfd import expressions, formats, lists
 from ctfd.declare import declaration, declarator, function
+from ctfd.nearest import offered
 from ctfd.operands import BadExpression, Code, Located, Number, Operand, Steps, Untold
 from ctfd.text import printable
 
@@ -43,6 +44,18 @@ def untold(symbol: Untold) -> BadExpression:
     """What is said where a symbol's type is needed."""
     return BadExpression(f"{symbol.name}: {symbol.why}; cast its address, as"
                          f" *(TYPE *) &{symbol.name}")
+
+
+def missing(error: ctfd.NotFound) -> str:
+    """What gdb would say of a type that is not there, with the names that are near."""
+    name = str(error.fields.get("text", ""))
+    if not name:
+        return str(error)
+    word, _, rest = name.partition(" ")
+    said = (f"No {word} type named {rest}." if word in expressions.TAGS
+            else f"No symbol \"{name}\" in current context.")
+    known = [known for one in STATE.loaded for known in one.program.types.names()]
+    return said + offered(name, known).replace("; the", "  The") + ("." if known else "")
 
 
 def declared(found: Union[ctfd.Type, Operand]) -> str:
@@ -81,9 +94,11 @@ class Command(gdb.Command):
         try:
             self.run(arguments.strip())
         except ctfd.Gone as error:
-            advice = "load the files again" if STATE.service else "CTFD names the program to start"
+            advice = "; load the files again" if STATE.service else ""
             STATE.close()
-            raise gdb.GdbError(f"{printable(str(error))}; {advice}")
+            raise gdb.GdbError(printable(str(error)) + advice)
+        except ctfd.NotFound as error:
+            raise gdb.GdbError(printable(missing(error)))
         except ctfd.Error as error:
             raise gdb.GdbError(printable(str(error)))
         except RecursionError:
@@ -103,16 +118,18 @@ class Ctf(gdb.Command):
 class Load(Command):
     """ctf load [FILE [PARENT]]: takes the types of a file, that of the program if none is named.
 
-    FILE is an ELF file with a section .SUNW_ctf or .ctf, or the bytes of such a section; PARENT
-    is the file of the dictionary of which FILE's is a child. A file that is loaded already is read
-    anew."""
+    FILE is an ELF file with a section .SUNW_ctf or .ctf, or the bytes of such a section; of an ELF
+    file without one the types are made of its debug information, where that is in it or in a debug
+    file of its own. PARENT is the file of the dictionary of which FILE's is a child. A file that is
+    loaded already is read anew."""
 
     word = "load"
 
     def run(self, arguments: str) -> None:
         words = gdb.string_to_argv(arguments) or [gdb.current_progspace().filename or ""]
         if words == [""]:
-            raise BadExpression("gdb has no program: ctf load FILE")
+            raise BadExpression("No executable file specified.  Use the \"file\" command, or"
+                                " \"ctf load FILE\".")
         found = STATE.open(words[0])
         parent = STATE.open(words[1]) if len(words) > 1 else None
         one = Loaded(found, parent)
@@ -151,7 +168,7 @@ class Info(Command):
         for one in STATE.loaded:
             print(one.told())
         if STATE.service is None:
-            print("no types are loaded")
+            print("No types are loaded.")
             return
         client, _ = STATE.service
         print(f"the service is process {client.pid}: {client.requests} requests in"

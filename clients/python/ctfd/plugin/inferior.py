@@ -13,6 +13,7 @@ from ctfd.quoting import quoted
 
 from .loaded import Loaded
 
+NO_TYPES = "No types are loaded.  Use the \"ctf load\" command."
 PAGE = 4096
 STEP = 64
 
@@ -53,7 +54,7 @@ class Inferior:
         try:
             value = gdb.parse_and_eval(f"${name}")
             if value.type.code == gdb.TYPE_CODE_VOID:
-                raise BadExpression(f"there is no register or variable ${name}")
+                raise BadExpression(f"Invalid register or convenience variable \"${name}\".")
             return int(value) & (1 << 8 * pointer_size()) - 1
         except gdb.error as error:
             raise BadExpression(str(error)) from None
@@ -67,8 +68,8 @@ class Inferior:
         try:
             address = int(gdb.parse_and_eval(f"(unsigned long) &'{name}'"))
         except gdb.error:
-            raise BadExpression(f"no symbol {name} whose type the loaded files tell, and none in"
-                                " gdb") from None
+            raise BadExpression(f"No symbol \"{name}\" in current context, and none whose type the"
+                                " loaded files tell.") from None
         return Untold(name, address, self._why_untold())
 
     def _why_untold(self) -> str:
@@ -86,7 +87,7 @@ class Inferior:
                 return one.program.types.find(name)
             except ctfd.Refused as fault:
                 refused = refused or fault
-        raise refused or BadExpression("no types are loaded: ctf load FILE")
+        raise refused or BadExpression(NO_TYPES)
 
     def label(self, address: int, is_code: bool = False) -> str:
         """The symbol at an address as `<main+4>`, or ""; `print symbol` leaves out that of data."""

@@ -1,0 +1,66 @@
+"""Where the service is, and whether it speaks the protocol of this client.
+
+It is the program that the caller names, else the one that CTFD in the environment names, else
+`ctfd` on the path, else the one that the clone with this package in it has built.
+"""
+from __future__ import annotations
+
+import os
+import re
+import shutil
+import subprocess
+from pathlib import Path
+from typing import Optional
+
+from .faults import Error, Gone
+from .version import VERSION
+
+BUILT = Path("crates/ctfd/out/ctfd")
+PATIENCE = 10
+
+_SAYS = re.compile(r"ctfd (\d+)\.(\d+)\.(\d+)\s*\Z")
+
+
+def find(named: Optional[str] = None) -> str:
+    """The program to start, once it has told a version that this client speaks. Raises Error."""
+    program = named or os.environ.get("CTFD")
+    if program:
+        why = "named by --service" if named else "named by CTFD in the environment"
+        found = shutil.which(os.path.expanduser(program))
+        if found is None:
+            raise Gone(f"{program}, {why}, is no program: name the built ctfd")
+        return _judged(found)
+    found = shutil.which("ctfd") or _built()
+    if found is None:
+        raise Gone("the service ctfd is not found: name it by --service or by CTFD in the"
+                   " environment, put it on the PATH, or build it (`rt run` in crates/ctfd)")
+    return _judged(found)
+
+
+def _built() -> Optional[str]:
+    """The program of the clone that this file stands in, or None."""
+    for folder in Path(__file__).resolve().parents:
+        if os.access(folder / BUILT, os.X_OK):
+            return str(folder / BUILT)
+    return None
+
+
+def _judged(program: str) -> str:
+    """A program that is a service of this client's protocol."""
+    found = _SAYS.match(_version(program))
+    if found is None:
+        raise Gone(f"{program} is no ctfd: it does not tell a version as ctfd does")
+    if found[1] != VERSION.split(".")[0]:
+        raise Error(f"{program} is {found[0].strip()}, which speaks another protocol than this"
+                    f" client of {VERSION}: install the client of that version")
+    return program
+
+
+def _version(program: str) -> str:
+    try:
+        asked = subprocess.run([program, "--version"], stdin=subprocess.DEVNULL, text=True,
+                               capture_output=True, timeout=PATIENCE, errors="replace")
+    except (OSError, subprocess.TimeoutExpired) as error:
+        why = getattr(error, "strerror", None) or "it does not answer"
+        raise Gone(f"the service {program} can't be started: {why}") from error
+    return asked.stdout

@@ -1,0 +1,2 @@
+"""The version of this package, which is that of the program it was written for."""
+VERSION = "0.2.0"

@@ -1,0 +1,219 @@
+"""What the commands say of each thing that goes wrong: one line, what to, and what to do next."""
+from __future__ import annotations
+
+import os
+import re
+import shutil
+import struct
+import subprocess
+import sys
+import tempfile
+import unittest
+from pathlib import Path
+from typing import List, NamedTuple
+
+from .support import (EXAMPLES, PROGRAM, TOOLS, dictionary, has_library, integer, object_file,
+                      pointer, staged)
+
+FOLDER = Path(__file__).resolve().parents[1]
+LUA = EXAMPLES / "lua.ctf"
+
+
+class Case(NamedTuple):
+    """A command, and what it says: `{}` in its words is the folder of the files."""
+
+    cause: str
+    words: str
+    status: int
+    says: str
+
+
+FILES = [
+    Case("no such file", "ctfd-types {}/nowhere", 1, r"/nowhere: No such file"),
+    Case("no such file", "ctfd-convert {}/nowhere {}/out", 2, r"/nowhere: No such file"),
+    Case("an empty file", "ctfd-convert {}/empty {}/out", 2, r"/empty: it is empty"),
+    Case("no ELF file", "ctfd-types {}/text", 1,
+         r"/text: neither an ELF file nor a CTF section: it begins with 706c6169"),
+    Case("no ELF file", "ctfd-convert {}/text {}/out", 2, r"/text: neither an ELF file nor a CTF"),
+    Case("big-endian CTF", "ctfd-types {}/big", 1, r"/big: CTF of a big-endian machine.* take"),
+    Case("big-endian ELF", "ctfd-types {}/bigelf", 1, r"/bigelf: a big-endian ELF file.* take"),
+    Case("big-endian ELF", "ctfd-convert {}/bigelf {}/out", 2, r"/bigelf: a big-endian ELF file"),
+    Case("version 3", "ctfd-types {}/three", 1, r"/three: CTF version 3, .*; ctfd-convert makes"),
+    Case("version 3", "ctfd-convert {}/three {}/out", 2, r"/three: CTF version 3"),
+    Case("GNU's CTF", "ctfd-types {}/gnu", 1, r"/gnu: GNU CTF .*; ctfd-convert makes CTF"),
+    Case("damaged GNU CTF", "ctfd-convert {}/gnu {}/out", 2, r"/gnu: its GNU CTF is damaged"),
+    Case("damaged BTF", "ctfd-convert {}/btf {}/out", 2, r"/btf: its BTF is damaged or cut off"),
+    Case("a cut off dictionary", "ctfd-types {}/cut", 1, r"/cut: PastEnd.*: the list is cut off"),
+    Case("a damaged body", "ctfd-types {}/packed", 1, r"/packed: its body does not inflate"),
+    Case("a child without its parent", "ctfd-types {}/child", 0,
+         r"/child is a child of p, .*: name the parent's file by --parent"),
+    Case("a child without its parent", "ctfd-convert {}/child {}/out --only int", 2,
+         r"/child: it is a child of p, .*: name the parent's file by --base"),
+    Case("a parent that is too short", "ctfd-types --parent {}/short {}/child", 1,
+         r"/short, as the parent of .*/child: ParentShort at 3: the child names more types"),
+    Case("a parent that is none", "ctfd-types --parent {}/child {}/short", 1,
+         r"/child, as the parent of .*: NotChild: .*swapped"),
+    Case("no str", "ctfd-types {}/outer", 1, r"/outer: BadName at 36: .*\.strtab of the very file"),
+    Case("a wrong str", "ctfd-types --strings {}/empty {}/outer", 1, r"/outer: BadName at 36"),
+    Case("no str", "ctfd-convert {}/outer {}/out --only int", 2,
+         r"/outer: its names stand in the strings of the ELF file .*: name that file"),
+    Case("a name not found", "ctfd-types {}/lua luaL_reg", 1,
+         r"luaL_reg: neither .* \(.*\); the nearest (is|are) .*luaL_Reg"),
+    Case("a word left out", "ctfd-types {}/lua lua_TValue", 1, r"; the nearest (is|are) "),
+    Case("a name not found", "ctfd-convert {}/lua {}/out --only luaL_reg", 2,
+         r"/lua: --only luaL_reg: it has no type of this name; the nearest .*luaL_Reg"),
+    Case("its own input", "ctfd-convert {}/lua {}/lua", 2, r"/lua: it is read, .*another file"),
+    Case("a folder that is not there", "ctfd-convert {}/lua {}/no/out", 2, r"/no/out: it can't be"),
+    Case("no service", "ctfd-types --service {}/nowhere {}/lua", 1,
+         r"/nowhere, named by --service, is no program: name the built ctfd"),
+    Case("no service", "ctfd-convert --service {}/no {}/lua {}/out", 2, r"is no program: name the"),
+    Case("another program", "ctfd-types --service {}/other {}/lua", 1,
+         r"/other is no ctfd: it does not tell a version"),
+    Case("another protocol", "ctfd-types --service {}/newer {}/lua", 1,
+         r"/newer is ctfd 7\.0\.1, which speaks another protocol.*: install the client of that"),
+    Case("a service that ends", "ctfd-types --service {}/ends {}/lua", 1,
+         r"the service ended with status 3: .*start it again"),
+    Case("--section without ELF", "ctfd-convert --section {}/lua {}/out", 2,
+         r"/lua: --section needs an ELF file, and this is none: leave --section out"),
+    Case("two parents", "ctfd-convert {}/lua {}/out --parent {}/lua --split {}/x", 2,
+         r"--parent and --split: the parent is either there or written"),
+]
+
+OBJECTS = [
+    Case("an ELF file without CTF", "ctfd-types {}/bare.o", 1,
+         r"/bare\.o: an ELF file without \.SUNW_ctf or \.ctf; compile it with -g, and let ctfd-"),
+    Case("an ELF file with DWARF", "ctfd-types {}/debug.o", 1,
+         r"/debug\.o: an ELF file without .*: `ctfd-convert \S*/debug\.o OUT` makes CTF of it"),
+    Case("a compressed section", "ctfd-types {}/squeezed.o", 1,
+         r"SUNW_ctf is compressed as ELF has it, .*: objcopy --decompress-debug-sections"),
+    Case("CTF that is not there", "ctfd-convert --from gnu {}/debug.o {}/out", 2,
+         r"/debug\.o: it has no section \.ctf .*--from gnu .*leave that out"),
+    Case("names in the file's strings", "ctfd-convert {}/strings.o {}/out", 2,
+         r"/strings\.o: its names stand in the strings .*: --self-contained takes them"),
+]
+
+DEBUG = [
+    Case("no debug information", "ctfd-convert {}/bare.o {}/out", 2,
+         r"/bare\.o: it has no debug information: compile it with -g, or install"),
+    Case("a debug file that is missing", "ctfd-convert {}/linked.o {}/out", 2,
+         r"no debug file is at .*/gone\.debug or .*: compile it with -g, or install the debug"),
+    Case("damaged debug information", "ctfd-convert {}/cut.o {}/out", 2, r"/cut\.o: "),
+    Case("no objcopy", "PATH={}:/nowhere ctfd-convert --section {}/debug.o {}/out", 2,
+         r"--section needs objcopy, which is not on the PATH: install binutils"),
+]
+
+
+def script(path: Path, text: str) -> None:
+    path.write_text(f"#!/bin/sh\n{text}\n")
+    path.chmod(0o755)
+
+
+def damaged_elf(data: bytes) -> bytes:
+    """The file with zeros in place of the abbreviations of its debug information."""
+    from ctfd.elf import Elf
+
+    section = Elf(data).named(".debug_abbrev")
+    assert section is not None
+    start = section.offset
+    return data[:start] + bytes(section.size) + data[start + section.size:]
+
+
+@unittest.skipUnless(PROGRAM, "CTFD names no built service")
+class Messages(unittest.TestCase):
+    folder: str
+
+    @classmethod
+    def setUpClass(cls) -> None:
+        cls.folder = tempfile.mkdtemp()
+        cls.addClassCleanup(shutil.rmtree, cls.folder)
+        place = Path(cls.folder)
+        parent, child = staged("parent.jsonl")[:2]
+        lua = LUA.read_bytes()
+        files = {
+            "empty": b"", "text": b"plain text\n", "big": b"\xcf\xf1\x02\0" + bytes(60),
+            "bigelf": b"\x7fELF\x02\x02\x01" + bytes(60), "three": b"\xf1\xcf\x03\0" + bytes(60),
+            "gnu": b"\xf2\xdf\x04\0" + bytes(20), "btf": b"\x9f\xeb\x01\0" + bytes(4),
+            "cut": lua[:9000], "packed": lua[:3] + b"\x01" + lua[4:], "lua": lua, "child": child,
+            "parent": parent, "short": dictionary([integer(1)], b"\0int\0"),
+            "outer": dictionary([integer(0x8000_0001)]),
+        }
+        for name, data in files.items():
+            (place / name).write_bytes(data)
+        script(place / "other", "echo hello")
+        script(place / "newer", "echo ctfd 7.0.1")
+        script(place / "ends", '[ "$1" = --version ] && exec echo ctfd 0.2.0; exit 3')
+
+    def say(self, cases: List[Case]) -> None:
+        for case in cases:
+            with self.subTest(case.cause, words=case.words):
+                self.said(case)
+
+    def said(self, case: Case) -> None:
+        """The command says one line, which begins with its name."""
+        words = case.words.replace("{}", self.folder).split()
+        environment = {**os.environ, "CTFD": PROGRAM}
+        while "=" in words[0]:
+            name, _, value = words.pop(0).partition("=")
+            environment[name] = value
+        command = [sys.executable, str(FOLDER / words[0]), *words[1:]]
+        done = subprocess.run(command, capture_output=True, text=True, env=environment)
+        lines = done.stderr.splitlines()
+        self.assertEqual((done.returncode, len(lines)), (case.status, 1), done.stderr)
+        self.assertRegex(lines[0], f"^{words[0]}: ")
+        self.assertTrue(re.search(case.says, lines[0]), lines[0])
+        self.assertFalse((Path(self.folder) / "out").exists())
+
+    def test_files(self) -> None:
+        self.say(FILES)
+
+    @unittest.skipUnless(TOOLS, "no gcc or objcopy here")
+    def test_object_files(self) -> None:
+        self.objects()
+        self.say(OBJECTS)
+
+    @unittest.skipUnless(TOOLS and has_library("elftools"), "no gcc, objcopy or pyelftools here")
+    def test_debug_information(self) -> None:
+        self.objects()
+        self.say(DEBUG)
+
+    @unittest.skipUnless(TOOLS, "no gcc or objcopy here")
+    def test_no_pyelftools(self) -> None:
+        self.objects()
+        hidden = Path(self.folder) / "hidden"
+        hidden.mkdir()
+        (hidden / "elftools.py").write_text("raise ImportError\n")
+        words = "PYTHONPATH={}/hidden ctfd-convert {}/debug.o {}/out"
+        self.say([Case("no pyelftools", words, 2,
+                       r"/debug\.o: reading an ELF file needs pyelftools, .*python3-pyelftools")])
+
+    def objects(self) -> None:
+        """Object files without CTF, with and without debug information."""
+        place = Path(self.folder)
+        (place / "code.c").write_text("struct s { int a; } s;\n")
+        for name, option in (("bare.o", "-g0"), ("debug.o", "-g")):
+            subprocess.run(["gcc", option, "-c", str(place / "code.c"), "-o", str(place / name)],
+                           check=True)
+        outer = dictionary([integer(0x8000_0001), pointer(1)])
+        object_file(self.folder, outer, code="int first;").rename(place / "strings.o")
+        object_file(self.folder, LUA.read_bytes()).rename(place / "squeezed.o")
+        self.squeeze(place / "squeezed.o")
+        (place / "cut.o").write_bytes(damaged_elf((place / "debug.o").read_bytes()))
+        (place / "gone.debug").write_bytes(b"x")
+        subprocess.run(["objcopy", f"--add-gnu-debuglink={place / 'gone.debug'}",
+                        str(place / "bare.o"), str(place / "linked.o")], check=True)
+        (place / "gone.debug").unlink()
+
+    def squeeze(self, path: Path) -> None:
+        """Sets the flag of the section's header that says that it is compressed."""
+        from ctfd.elf import Elf
+
+        data = bytearray(path.read_bytes())
+        file = Elf(bytes(data))
+        number = [section.name for section in file.sections].index(".SUNW_ctf")
+        start = struct.unpack_from("<Q", data, 40)[0] + 64 * number + 8
+        struct.pack_into("<Q", data, start, file.sections[number].flags | 0x800)
+        path.write_bytes(data)
+
+
+if __name__ == "__main__":
+    unittest.main()
