@@ -173,7 +173,7 @@ class File:
         base = self.chance.choice(self.scalars)
         qualifier = self.chance.choice(("", "", "", "const ", "volatile "))
         before = ""
-        if self.rarely(12) and "_Atomic" not in base:
+        if self.rarely(12) and not base.startswith(("_Atomic", "t")):  # a typedef may say more
             before = f"_Alignas({self.chance.choice((16, 32, 64))}) "
         return Member(f"{before}{qualifier}{base} {name}{self.of_member()};",
                       [f"MEMBER({{}}, {name});"])
