@@ -34,7 +34,7 @@ _BEGINS = re.compile(r"(struct|union) (\w+) \{")
 _PLACED = re.compile(r"(?P<text>.*?);\s*/\*\s*(?P<byte>\d+)(?:: ?(?P<bit>\d+))?\s+(?P<size>\d+) \*/")
 _NAME = re.compile(r"\(\s*\*+\s*(?:const |volatile )*(\w+)|(\w+)\s*(?:\[[^]]*\]|:\d+)*\s*\Z")
 _ATTRIBUTE = re.compile(r"\s*__attribute__\(\(\w+(?:\(\d*\))?\)\)")
-_SIZE = re.compile(r"/\* size: (\d+)")
+_SIZE = re.compile(r"\t/\* size: (\d+)")
 
 
 class Place(NamedTuple):
@@ -88,7 +88,7 @@ def parsed(text: str) -> Listed:
                 places.append(Place((called[1] or called[2]) if called else "",
                                     int(placed["byte"]), int(placed["bit"] or 0),
                                     int(placed["size"])))
-            elif _SIZE.search(line):
+            elif _SIZE.match(line):  # not that of a struct within it
                 places.append(Place("size", int(_SIZE.findall(line)[0]), 0, 0))
     return found
 

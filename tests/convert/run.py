@@ -89,7 +89,7 @@ class Run:
         made = self.folder / "types.ctf"
         losses = convert.convert(convert.words(
             ["--service", self.service, *options, str(self.folder / name), str(made)]))
-        self.wrong += [f"lost: {line}" for line in losses
+        self.wrong += [f"{self.model} lost: {line}" for line in losses
                        if not any(one in line for one in ACCEPTED)]
         self.far = sum(FAR in line for line in losses)
         return ctfd.open_file(client.session(), str(made), model=self.model)
@@ -101,6 +101,14 @@ class Run:
             self.counts[f"{way} {kind}"] += number
         self.counts[f"{way} files"] += 1
         self.wrong += [f"{what}: {line}" for line in count.wrong]
+
+    def tell(self, model: str) -> None:
+        """Prints what was compared for a model, and what of it is wrong."""
+        for line in [line for line in self.wrong if line.startswith(model)][:MOST]:
+            print(line)
+        for way in sorted({key.rsplit(" ", 1)[0] for key in self.counts if key.startswith(model)}):
+            told = [f"{self.counts[f'{way} {kind}']} {word}" for kind, word in WORDS.items()]
+            print(f"{way}: {self.counts[f'{way} files']} files, {', '.join(told)}", flush=True)
 
 
 def models() -> List[str]:
@@ -144,12 +152,7 @@ def main() -> int:
             run.model = model
             for number in range(words.count):
                 run.file(words.first + number, model, number < words.gnu)
-    for line in run.wrong[:MOST]:
-        print(line)
-    ways = sorted({key.rsplit(" ", 1)[0] for key in run.counts})
-    for way in ways:
-        told = [f"{run.counts[f'{way} {kind}']} {word}" for kind, word in WORDS.items()]
-        print(f"{way}: {run.counts[f'{way} files']} files, {', '.join(told)}")
+            run.tell(model)
     print(f"{len(run.wrong)} wrong, in {time.monotonic() - began:.0f} s")
     return 1 if run.wrong else 0
 

@@ -77,7 +77,8 @@ class Listing:
         """A member whose struct or union has no name."""
         head = " ".join([*said.qualifiers, said.base.kind, "{"])
         self.lines.append("\t" * depth + head)
-        self._members(layout(said.base), depth + 1, start + place.member.offset // 8)
+        begins = 0 if "*" in said.left else start + place.member.offset // 8  # or it is elsewhere
+        self._members(layout(said.base), depth + 1, begins)
         name = said.left + printable(place.member.name) + said.right
         self._line(f"}} {name};" if name else "};", place, depth, start)
 
