@@ -148,11 +148,16 @@ class Catalog:
 
     def _span(self, part: Part) -> Span:
         """Where a member begins, how many bits it takes, and its width as a bit-field."""
-        known = self._spans.get(part.type)
-        if known is None:
-            known = self._spans[part.type] = self._span_of_type(part.type)
-        lies, bits, width = known
+        lies, bits, width = self.span(part.type)
         return part.offset + lies, bits, width
+
+    def span(self, number: int) -> Span:
+        """Where in its storage a value of a type begins, how wide it is, and its width if it is
+        that of a bit-field."""
+        known = self._spans.get(number)
+        if known is None:
+            known = self._spans[number] = self._span_of_type(number)
+        return known
 
     def _span_of_type(self, number: int) -> Span:
         record = self[self.resolved(number)]

@@ -4,6 +4,7 @@ from __future__ import annotations
 import os
 import shutil
 import subprocess
+import sys
 import tempfile
 from pathlib import Path
 from typing import Dict, Iterable, Optional
@@ -32,8 +33,8 @@ WHY_NOT = "no service, gcc or pyelftools here"
 def command(name: str, *words: str) -> "subprocess.CompletedProcess[str]":
     """A command of the client, run as a user would."""
     environment = {**os.environ, "CTFD": PROGRAM}
-    return subprocess.run([str(CLIENT / name), *words], capture_output=True, text=True,
-                          env=environment)
+    return subprocess.run([sys.executable, str(CLIENT / name), *words], capture_output=True,
+                          text=True, env=environment)
 
 
 def compiled(folder: str, name: str, code: str, *options: str) -> str:
