@@ -36,7 +36,7 @@ class Declarator(NamedTuple):
     base: Type
     left: str
     right: str
-    named: Callable[[Type], str] = base
+    named: Callable[[Type], str]
 
     @property
     def spelled(self) -> str:
