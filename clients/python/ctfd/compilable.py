@@ -56,7 +56,8 @@ class Compilable:
         self._named: Dict[int, str] = {}
         self._in_place: Dict[int, int] = {}
         self._written: Set[int] = set()
-        self.pointed: Dict[int, None] = {}  # structs that are named, in full or not
+        self._pointed: Dict[int, None] = {}  # structs that are named, in full or not
+        self._tagged: Set[int] = set()  # those without a name that need one
         self._order = self._ordered(wanted)
 
     def name(self, number: int) -> str:
@@ -137,7 +138,9 @@ class Compilable:
             elif record.kind in ("typedef", "enum", "integer", "float"):
                 found.append(number)
             elif record.kind in AGGREGATES or record.kind == "forward":
-                self.pointed[number] = None
+                self._pointed[number] = None
+                if number != held and not record.name:
+                    self._tagged.add(number)
         return found
 
     # Lines.
@@ -151,7 +154,7 @@ class Compilable:
             self._written.add(number)
 
     def _forwards(self) -> Iterator[str]:
-        listed = [n for n in (*self._order, *self.pointed)
+        listed = [n for n in (*self._order, *self._pointed)
                   if self.catalog[n].kind in AGGREGATES
                   or self.catalog[n].kind == "forward" and self.catalog[n].tag != "enum"]
         for name in dict.fromkeys(self.name(n) for n in listed if not self._is_in_place(n)):
@@ -159,8 +162,8 @@ class Compilable:
 
     def _is_in_place(self, number: int) -> bool:
         """Whether a struct or union is written where it is used: it has no name, and is short."""
-        return (not self.catalog[number].name and self._length(number) <= MOST_IN_PLACE
-                and number not in self._named)
+        return (not self.catalog[number].name and number not in self._tagged
+                and self._length(number) <= MOST_IN_PLACE)
 
     def _length(self, number: int) -> int:
         """How many members it has with those of unnamed parts, up to a bound.
