@@ -130,8 +130,12 @@ class Compilable:
             if not is_renamed or is_array or not self.catalog[held].name:
                 found.append(held)
         todo = [number]
+        seen: Set[int] = set()  # a function may take a pointer to itself
         while todo:
             number = todo.pop()
+            if number in seen:
+                continue
+            seen.add(number)
             record = self.catalog[number]
             if record.kind in ("pointer", "array", "function", *QUALIFIERS):
                 todo += [record.type, *record.arguments]

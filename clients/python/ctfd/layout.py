@@ -55,7 +55,12 @@ class Layout(NamedTuple):
 
 def layout(aggregate: Type) -> Layout:
     """The layout of a struct or union, typedefs and qualifiers followed."""
-    whole = aggregate.gather().resolved
+    return gathered(aggregate.gather())
+
+
+def gathered(aggregate: Type) -> Layout:
+    """The same of one that was gathered, or that is held by one that was."""
+    whole = aggregate.resolved
     return laid(whole.kind, whole.size or 0, [(m, _span(m)) for m in whole.members])
 
 

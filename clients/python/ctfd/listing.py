@@ -4,7 +4,7 @@ from __future__ import annotations
 from typing import List, Optional
 
 from .declare import Declarator, base, declaration, declarator
-from .layout import Layout, Place, layout
+from .layout import Layout, Place, gathered, layout
 from .text import printable
 from .types import Type
 
@@ -92,7 +92,7 @@ class Listing:
         renamed = [] if inner == said.base else [f"/* typedef {base(said.base)} */"]
         head = [*renamed, *said.qualifiers, base(inner) if inner.name else inner.kind, "{"]
         self.lines.append("\t" * depth + " ".join(head))
-        self._members(layout(inner), depth + 1, start + place.member.offset // 8)
+        self._members(gathered(inner), depth + 1, start + place.member.offset // 8)
         name = said.left + printable(place.member.name) + said.right
         self._line(f"}} {name};" if name else "};", place, depth, start)
 

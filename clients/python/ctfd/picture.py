@@ -41,14 +41,24 @@ class Box(NamedTuple):
         """The name without those of what it stands in."""
         return self.name.rsplit(".", 1)[-1]
 
+    def named(self, wide: float) -> str:
+        """The name in full where there is room for it."""
+        return self.name if drawing.cut(self.name, wide) == self.name else self.label
+
     @property
     def told(self) -> str:
         """All of it in words."""
         byte, bit = divmod(self.start, 8)
         at = f"{byte}:{bit}" if bit or self.bits % 8 else str(byte)
-        size = f"{self.bits} bits" if self.bits % 8 else f"{self.bits // 8} bytes"
+        size = amount(self.bits)
         return f"{self.name}: {self.type}, at {at}, {size}" if self.type else \
             f"{self.name} of {size}, at {at}"
+
+
+def amount(bits: int) -> str:
+    """So many bits, or bytes where these are whole."""
+    count, unit = (bits, "bit") if bits % 8 else (bits // 8, "byte")
+    return f"{count} {unit}" + ("" if count == 1 else "s")
 
 
 class Row(NamedTuple):
@@ -236,7 +246,7 @@ class Picture:
             goes_on = "" if first == box.start else ".. "
             yield drawing.box(box.sort, (x, y + box.top * high, wide, box.high * high),
                               ("", "") if box.strip * box.high * high < drawing.LOW else
-                              (goes_on + box.label, box.type), box.told,
+                              (goes_on + box.named(wide), box.type), box.told,
                               (box.name, first, last - first))
 
     def _narrow(self, row: Row) -> List[str]:
