@@ -17,6 +17,7 @@ from .dictionary import Dictionary
 from .faults import Error, NotFound, Refused, Unreadable
 from .listing import definition, listing
 from .naming import Unknown, is_pattern
+from .nearest import offered
 from .opening import Opener, Whole, whole
 from .text import printable
 from .types import Signature, Type
@@ -59,12 +60,16 @@ def _lines(opener: Opener, wanted: argparse.Namespace, path: str) -> Iterator[st
         _warn(f"{path}: its symbol table is not the one that the types were written for:"
               " nothing is told of symbols")
     if _asks_all(wanted):
-        is_whole = wanted.json or wanted.c
+        is_whole = wanted.json or wanted.c  # with arguments and enumerators too
         told = whole(types, path, ALL_LISTS if is_whole else LISTS)
         yield from _reported(told, wanted)
         for cut in told.cut:
             _warn(f"{path}: {cut}")
-    elif wanted.names:
+        return
+    if types.is_child and not wanted.parent:
+        _warn(f"{path} is a child of {types.parent_name or 'a parent without a name'}, whose types"
+              " it names: name the parent's file by --parent")
+    if wanted.names:
         for name in wanted.names:
             yield _named(types, name, wanted)
     else:
@@ -167,7 +172,7 @@ def _symbol(types: Dictionary, name: str) -> str:
     except (NotFound, Unreadable) as fault:
         why = fault.name if isinstance(fault, NotFound) else str(fault)
         raise Unknown(f"{name}: neither a type nor a symbol of which something is told"
-                      f" ({why})") from fault
+                      f" ({why}){offered(name, types.names())}") from fault
     if types.how == "guessed":
         _warn("the section names no symbol table: that of the file is taken, and if it is not the"
               " one that the types were written for, this is another symbol's")

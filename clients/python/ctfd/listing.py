@@ -92,7 +92,8 @@ class Listing:
         renamed = [] if inner == said.base else [f"/* typedef {base(said.base)} */"]
         head = [*renamed, *said.qualifiers, base(inner) if inner.name else inner.kind, "{"]
         self.lines.append("\t" * depth + " ".join(head))
-        self._members(gathered(inner), depth + 1, start + place.member.offset // 8)
+        begins = 0 if "*" in said.left else start + place.member.offset // 8  # or it is elsewhere
+        self._members(gathered(inner) if "*" not in said.left else layout(inner), depth + 1, begins)
         name = said.left + printable(place.member.name) + said.right
         self._line(f"}} {name};" if name else "};", place, depth, start)
 

@@ -1,11 +1,12 @@
 """The dictionaries that a command's words name, with their parents and all their types."""
 from __future__ import annotations
 
-from typing import Dict, Iterable, List, NamedTuple, Optional
+import contextlib
+from typing import Dict, Iterable, Iterator, List, NamedTuple, Optional
 
 from .catalog import Catalog, LISTS
 from .dictionary import Dictionary, open_file
-from .faults import Error
+from .faults import Error, Refused
 from .model import Model
 from .naming import Names
 from .progress import Progress
@@ -35,11 +36,14 @@ class Opener:
     def open(self, path: str, parent: Optional[str] = None, sym: Optional[bytes] = None,
              strings: Optional[bytes] = None) -> Dictionary:
         """The dictionary of a file, over its parent where one is named."""
-        types = open_file(self.session, path, sym, strings, model=self.model)
+        with told_of(path):
+            types = open_file(self.session, path, sym, strings, model=self.model)
         if parent is not None:
             if parent not in self._parents:
-                self._parents[parent] = open_file(self.session, parent, model=self.model)
-            types.import_parent(self._parents[parent])
+                with told_of(parent):
+                    self._parents[parent] = open_file(self.session, parent, model=self.model)
+            with told_of(f"{parent}, as the parent of {path}"):
+                types.import_parent(self._parents[parent])
         return types
 
     def whole(self, path: str, parent: Optional[str] = None,
@@ -48,11 +52,21 @@ class Opener:
         return whole(self.open(path, parent), path, lists)
 
 
+@contextlib.contextmanager
+def told_of(what: str) -> Iterator[None]:
+    """Refusals of a file are told with its name, and without the request."""
+    try:
+        yield
+    except Refused as fault:
+        place = f" at {fault.place}" if fault.place else ""
+        raise Error(f"{what}: {fault.name}{place}: {fault.advice}") from fault
+
+
 def whole(types: Dictionary, path: str, lists: Iterable[str] = LISTS) -> Whole:
     """All types of an open dictionary."""
     if types.is_child and types.parent is None:
-        name = f" {printable(types.parent_name)}" if types.parent_name else ""
-        raise Error(f"{path}: it is a child of another dictionary{name}: name that one's file by"
+        name = printable(types.parent_name) or "a parent without a name"
+        raise Error(f"{path} is a child of {name}, whose types it names: name the parent's file by"
                     " --parent")
     progress = Progress(f"reading {path}")
     try:

@@ -166,7 +166,7 @@ class Told(WithService):
         self.assertEqual(self.told("--sizes", "--parent", parent, child)[1:], [])
         done = run("--sizes", child)
         self.assertEqual((done.returncode, done.stderr.count("\n")), (1, 1))
-        self.assertIn("name that one's file by --parent", done.stderr)
+        self.assertIn("name the parent's file by --parent", done.stderr)
 
     def test_names_that_are_none(self) -> None:
         for words in (("--contains", "lua_Sate"), ("-C", "lua_Sate", "--sizes")):
