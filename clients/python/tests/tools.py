@@ -1,6 +1,8 @@
 """What the tests of the tools share: dictionaries of C files, and whole types of them."""
 from __future__ import annotations
 
+import contextlib
+import io
 import os
 import shutil
 import subprocess
@@ -9,11 +11,14 @@ import tempfile
 from pathlib import Path
 from typing import Dict, Iterable, Optional
 
+from ctfd import diff_command, explore
 from ctfd.catalog import ALL_LISTS
+from ctfd.command import main as types_main
 from ctfd.opening import Opener, Whole
 
 from .support import PROGRAM, WithService
 
+MAINS = {"ctfd-types": types_main, "ctfd-diff": diff_command.main, "ctfd-explore": explore.main}
 CLIENT = Path(__file__).resolve().parents[1]
 
 
@@ -35,6 +40,14 @@ def command(name: str, *words: str) -> "subprocess.CompletedProcess[str]":
     environment = {**os.environ, "CTFD": PROGRAM}
     return subprocess.run([sys.executable, str(CLIENT / name), *words], capture_output=True,
                           text=True, env=environment)
+
+
+def within(name: str, *words: str) -> "subprocess.CompletedProcess[str]":
+    """The same within this process, which is quicker."""
+    out, err = io.StringIO(), io.StringIO()
+    with contextlib.redirect_stdout(out), contextlib.redirect_stderr(err):
+        status = MAINS[name](["--service", PROGRAM, *words])
+    return subprocess.CompletedProcess([name, *words], status, out.getvalue(), err.getvalue())
 
 
 def compiled(folder: str, name: str, code: str, *options: str) -> str:
