@@ -220,16 +220,17 @@ class Compilable:
             return
         name, why = self._member_name(said.part, place, names)
         if said.width is not None:
-            yield f"{tabs}{self._bit_field(said.part)} {name}: {said.width};{why}".replace(" :", ":")
+            told = f"{self._bit_field(said.part)} {name}".rstrip()
+            yield f"{tabs}{told}: {said.width};{why}"
             return
-        told = declarator(self.catalog.type(said.part.type), self.called)
-        if "*" not in told.left and told.base.kind in AGGREGATES \
-                and self._is_in_place(told.base.number) and depth <= DEEPEST:
-            head = " ".join([*told.qualifiers, told.base.kind, "{"])
-            behind = f" {told.left}{name}{told.right};".replace(" ;", ";")
-            yield from self._aggregate(told.base.number, head, behind + why, depth)
+        said_so = declarator(self.catalog.type(said.part.type), self.called)
+        if "*" not in said_so.left and said_so.base.kind in AGGREGATES \
+                and self._is_in_place(said_so.base.number) and depth <= DEEPEST:
+            head = " ".join([*said_so.qualifiers, said_so.base.kind, "{"])
+            behind = f" {said_so.left}{name}{said_so.right}".rstrip() + ";"
+            yield from self._aggregate(said_so.base.number, head, behind + why, depth)
         else:
-            yield f"{tabs}{told.around(name or f'ctfd_member_{place}')};{why}"
+            yield f"{tabs}{said_so.around(name or f'ctfd_member_{place}')};{why}"
 
     def _member_name(self, part: Part, place: int, names: Set[str]) -> Tuple[str, str]:
         """A member's name in C, and a comment where that is not its own."""

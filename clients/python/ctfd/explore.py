@@ -1,4 +1,4 @@
-"""Writes one HTML page with all types of some files: search, declarations, pictures, who holds whom.
+"""Writes one HTML page with all types of some files: search, declarations, pictures, holders.
 
 The page needs no network and nothing beside it. FILE is an ELF file with a section .SUNW_ctf or
 .ctf, or the bytes of such a section.

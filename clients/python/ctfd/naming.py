@@ -22,7 +22,7 @@ class Unknown(Error):
 
 
 class Names:
-    """The names of a catalog's types: a tag, a typedef's name, or the typedef of what has no tag."""
+    """The names of a catalog's types: a tag, a name, or the typedef of what has no tag."""
 
     def __init__(self, catalog: Catalog) -> None:
         self.catalog = catalog

@@ -8,12 +8,13 @@ import unittest
 from typing import Dict, List, Set, Tuple
 
 import ctfd
+from ctfd import reports
 from ctfd.compilable import Compilable
 from ctfd.embeds import Embeds
 from ctfd.opening import Whole
 from ctfd.records import AGGREGATES
 
-from .support import EXAMPLES, PROGRAM, TOOLS, WithService, object_file, run, staged
+from .support import COMMAND, EXAMPLES, PROGRAM, TOOLS, WithService, object_file, run, staged
 from .test_listing import OTHERS
 from .tools import whole_of, written
 
@@ -126,7 +127,7 @@ class Told(WithService):
 
     def test_sizes(self) -> None:
         lines = self.told("--sizes", LUA, "lua_*")
-        self.assertEqual(lines[0].split(), "bytes members holes in holes padding saves type".split())
+        self.assertEqual(lines[0].split(), reports.COLUMNS.split())
         self.assertEqual([line.split()[-1] for line in lines[1:]],
                          ["lua_longjmp", "lua_State", "lua_Debug"])
         self.assertEqual(lines[2].split(), "200 24 1 2 4 0 struct lua_State".split())
@@ -175,7 +176,7 @@ class Told(WithService):
             self.assertIn("no type is called lua_Sate; the nearest", done.stderr)
 
     def test_a_pipe_that_closes(self) -> None:
-        done = subprocess.run(["bash", "-c", f"{run.__globals__['COMMAND']} --json {LUA} | head -1"],
+        done = subprocess.run(["bash", "-c", f"{COMMAND} --json {LUA} | head -1"],
                               capture_output=True, text=True)
         self.assertEqual((len(done.stdout.splitlines()), done.stderr), (1, ""))
 
