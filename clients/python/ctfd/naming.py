@@ -6,6 +6,7 @@ from fnmatch import fnmatchcase
 from typing import Dict, Iterable, List, Sequence, Set
 
 from .catalog import Catalog
+from .declare import declaration
 from .dictionary import normal, spellings
 from .faults import Error
 from .nearest import offered
@@ -27,6 +28,7 @@ class Names:
     def __init__(self, catalog: Catalog) -> None:
         self.catalog = catalog
         self._typedefs: Dict[int, List[str]] = {}
+        self._spelled: Dict[int, str] = {}
         for number in catalog.numbers:
             record = catalog[number]
             if record.kind == "typedef":
@@ -51,10 +53,10 @@ class Names:
         return printable(record.name) if record.name else printable(self.spelled(number))
 
     def spelled(self, number: int) -> str:
-        """As C spells it."""
-        from .declare import declaration
-
-        return declaration(self.catalog.type(number))
+        """As C spells it, worked out once."""
+        if number not in self._spelled:
+            self._spelled[number] = declaration(self.catalog.type(number))
+        return self._spelled[number]
 
     def called(self, number: int) -> List[str]:
         """All names that it is found by: tags alone and with their word, and its typedefs."""

@@ -7,7 +7,6 @@ from __future__ import annotations
 import json
 from typing import Any, Callable, Dict, List
 
-from .declare import declaration
 from .embeds import Held
 from .opening import Whole
 from .records import Record
@@ -38,7 +37,7 @@ def of_held(whole: Whole, held: Held) -> Object:
 
 
 def _spelled(whole: Whole, number: int) -> str:
-    return declaration(whole.catalog.type(number))
+    return whole.names.spelled(number)
 
 
 def _aggregate(whole: Whole, number: int, record: Record) -> Object:
@@ -48,12 +47,12 @@ def _aggregate(whole: Whole, number: int, record: Record) -> Object:
             "padding": figures.padding, "saved": figures.saved}
 
 
-def _members(whole: Whole, number: int) -> List[Object]:
+def _members(whole: Whole, aggregate: int) -> List[Object]:
     members: List[Object] = []
-    for place in whole.catalog.layout(number).places:
-        member: Object = {"name": place.member.name, "type": declaration(place.member.type),
-                          "number": place.member.type.number, "offset": place.start,
-                          "bits": place.bits}
+    for place in whole.catalog.layout(aggregate).places:
+        number = place.member.type.number
+        member: Object = {"name": place.member.name, "type": _spelled(whole, number),
+                          "number": number, "offset": place.start, "bits": place.bits}
         if place.width is not None:
             member["bit_field"] = True
         members.append(member)
