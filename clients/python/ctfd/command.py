@@ -1,4 +1,5 @@
-"""Prints the types of a program: one as pahole does, with places and holes, or a list of all.
+"""Prints the types of a program: one as pahole does, with places and holes, or a list of all;
+or tells their sizes and holes, who holds or points to one, and draws them.
 
 FILE is an ELF file with a section .SUNW_ctf or .ctf, or the bytes of such a section. NAME is a
 type as C names it ("struct lua_State", "TValue"), or a function or object of the program. The
@@ -7,96 +8,130 @@ status is 1 where something is refused or not found.
 from __future__ import annotations
 
 import argparse
-import contextlib
-import os
 import sys
-from typing import Iterator, List, Optional
+from typing import Iterator, List, Optional, Sequence
 
-from . import declare, service
-from .dictionary import Dictionary, open_file
+from . import commands, compilable, declare, picture, reports, treemap, words
+from .catalog import ALL_LISTS, LISTS
+from .dictionary import Dictionary
 from .faults import Error, NotFound, Refused, Unreadable
 from .listing import definition, listing
-from .model import POINTER_SIZES
+from .naming import Unknown, is_pattern
 from .nearest import offered
+from .opening import Opener, Whole, whole
 from .text import printable
 from .types import Signature, Type
-from .wire import Client
+from .wire import Session
+
+NAME = "ctfd-types"
+FAILED = 1
 
 
-def main(arguments: Optional[List[str]] = None) -> int:
+def main(arguments: Optional[Sequence[str]] = None) -> int:
     """The command; its exit status."""
-    words = _parser().parse_args(arguments)
-    try:
-        with Client(service.find(words.service)) as client:
-            _run(client, words)
-        sys.stdout.flush()
-        return 0
-    except BrokenPipeError:  # a reader such as head has left
-        os.dup2(os.open(os.devnull, os.O_WRONLY), sys.stdout.fileno())
-        return 0
-    except Error as error:
-        _warn(str(error))
-        return 1
+    wanted = words.parsed(sys.argv[1:] if arguments is None else arguments, __doc__)
+    return commands.run(NAME, wanted.service, lambda session: _run(session, wanted), FAILED)
 
 
-def _parser() -> argparse.ArgumentParser:
-    parser = argparse.ArgumentParser(
-        prog="ctfd-types", description=__doc__,
-        formatter_class=argparse.RawDescriptionHelpFormatter)
-    parser.add_argument("file", metavar="FILE", help="an ELF file or a CTF section")
-    parser.add_argument("name", metavar="NAME", nargs="?", help="a type or a symbol")
-    parser.add_argument("--all", action="store_true",
-                        help="all types of the name, hidden ones too, and not the first alone")
-    parser.add_argument("--plain", action="store_true", help="C alone, without places")
-    parser.add_argument("--parent", metavar="FILE", help="the dictionary of which FILE is a child")
-    parser.add_argument("--model", choices=list(POINTER_SIZES),
-                        help="whether pointers have 8 bytes or 4, in FILE and in its parent;"
-                        " without it an ELF file says so itself, and a section is taken for lp64")
-    parser.add_argument("--symbols", metavar="FILE", help="the bytes of the program's symbol table")
-    parser.add_argument("--strings", metavar="FILE", help="the bytes of the strings of that table")
-    parser.add_argument("--service", metavar="CTFD", help="the program to ask (CTFD in the"
-                        " environment, or ctfd on the path)")
-    return parser
+def _run(session: Session, wanted: argparse.Namespace) -> int:
+    """All files, one after the other; one without what is wanted is passed over if another has it.
+    """
+    opener = Opener(session, wanted.model)
+    missed: List[Unknown] = []
+    for path in wanted.files:
+        try:
+            lines = list(_lines(opener, wanted, path))
+        except Unknown as error:
+            missed.append(error)
+            continue
+        if len(wanted.files) > 1 and not wanted.json:
+            print(f"{printable(path)}:")
+        for line in lines:
+            print(line)
+    if len(missed) == len(wanted.files):
+        raise missed[0]
+    return 0
 
 
-def _run(client: Client, words: argparse.Namespace) -> None:
-    session = client.session()
-    beside = _bytes(words.symbols), _bytes(words.strings)
-    with _named(words.file):
-        types = open_file(session, words.file, *beside, model=words.model)
+def _lines(opener: Opener, wanted: argparse.Namespace, path: str) -> Iterator[str]:
+    """What is told of one file."""
+    types = opener.open(path, wanted.parent, _bytes(wanted.symbols), _bytes(wanted.strings))
     if types.how == "refused":
-        _warn(f"{words.file}: its symbol table is not the one that the types were written for:"
+        _warn(f"{path}: its symbol table is not the one that the types were written for:"
               " nothing is told of symbols")
-    if words.parent:
-        with _named(words.parent):
-            parent = open_file(session, words.parent, model=words.model)
-        with _named(f"{words.parent}, as the parent of {words.file}"):
-            types.import_parent(parent)
-    elif types.is_child:
-        _warn(f"{words.file} is a child of {types.parent_name or 'a parent without a name'}, whose"
-              " types it names: name the parent's file by --parent")
-    if words.name is None:
-        _print_all(types)
+    if _asks_all(wanted):
+        is_whole = wanted.json or wanted.c  # with arguments and enumerators too
+        told = whole(types, path, ALL_LISTS if is_whole else LISTS)
+        yield from _reported(told, wanted)
+        for cut in told.cut:
+            _warn(f"{path}: {cut}")
+        return
+    if types.is_child and not wanted.parent:
+        _warn(f"{path} is a child of {types.parent_name or 'a parent without a name'}, whose types"
+              " it names: name the parent's file by --parent")
+    if wanted.names:
+        for name in wanted.names:
+            yield _named(types, name, wanted)
     else:
-        _print_named(types, words)
+        yield from _all(types)
 
 
-@contextlib.contextmanager
-def _named(what: str) -> Iterator[None]:
-    """Refusals of a file are told with its name, and without the request."""
-    try:
-        yield
-    except Refused as fault:
-        place = f" at {fault.place}" if fault.place else ""
-        raise Error(f"{what}: {fault.name}{place}: {fault.advice}") from fault
+def _asks_all(wanted: argparse.Namespace) -> bool:
+    """Whether all types of a file are read for the answer."""
+    asked = (wanted.sizes, wanted.holes is not None, wanted.contains, wanted.uses, wanted.c,
+             wanted.svg, wanted.svg_sizes, wanted.json, *map(is_pattern, wanted.names))
+    return any(asked)
 
 
-def _print_all(types: Dictionary) -> None:
+def _reported(told: Whole, wanted: argparse.Namespace) -> Iterator[str]:
+    held = wanted.contains or wanted.uses
+    if held:
+        tell = reports.holders_as_json if wanted.json else reports.holders
+        yield from tell(told, held, bool(wanted.uses), wanted.recursive)
+    elif wanted.c:
+        yield from compilable.declared(told, wanted.names)
+    elif wanted.svg:
+        yield picture.svg(told, wanted.svg, wanted.cachelines)
+    elif wanted.svg_sizes:
+        yield treemap.svg(told, wanted.names)
+    elif wanted.sizes or wanted.holes is not None:
+        yield from _figures(told, wanted)
+    else:
+        numbers = told.names.matching(wanted.names, told.catalog.own) if wanted.names else None
+        if wanted.json:
+            yield from reports.types_as_json(told, numbers)
+        else:
+            yield from _listings(told, numbers or [], wanted)
+
+
+def _figures(told: Whole, wanted: argparse.Namespace) -> Iterator[str]:
+    order = wanted.sort or ("size" if wanted.holes is None else "holes")
+    found = reports.figures(told, wanted.names, wanted.holes or 0, order)
+    if wanted.json:
+        yield from reports.types_as_json(told, [one.number for one in found])
+    else:
+        yield from reports.table(found)
+
+
+def _listings(told: Whole, numbers: Sequence[int], wanted: argparse.Namespace) -> Iterator[str]:
+    """Types in full, each once, a blank line between them."""
+    types = dict.fromkeys(_worth_listing(told.catalog.type(number)) for number in numbers)
+    for place, one in enumerate(types):
+        yield ("\n" if place else "") + _listing(one, wanted)
+
+
+def _listing(told: Type, wanted: argparse.Namespace) -> str:
+    if wanted.plain:
+        return definition(told, wanted.expand)
+    return listing(told, wanted.cachelines, wanted.expand)
+
+
+def _all(types: Dictionary) -> Iterator[str]:
     """A line for each type: its number, its size in bytes ("-" where it has none), its name."""
     own = types.types()
     types.fetch([(op, t.number) for t in own for op in ("record", "size", "name")])
     for t in own:
-        print(f"{t.number:>6} {_size(t):>8}  {_spelled(t)}")
+        yield f"{t.number:>6} {_size(t):>8}  {_spelled(t)}"
 
 
 def _size(t: Type) -> str:
@@ -114,15 +149,14 @@ def _spelled(t: Type) -> str:
         return f"({fault.name})"
 
 
-def _print_named(types: Dictionary, words: argparse.Namespace) -> None:
-    found = types.find_all(words.name) if words.all else []
+def _named(types: Dictionary, name: str, wanted: argparse.Namespace) -> str:
+    """A type of a name, all of them, or a symbol."""
+    found = types.find_all(name) if wanted.all else []
     try:
-        found = found or [types.find(words.name)]
+        found = found or [types.find(name)]
     except NotFound:
-        print(_symbol(types, words.name))
-        return
-    for t in found:
-        print((definition if words.plain else listing)(_worth_listing(t)))
+        return _symbol(types, name)
+    return "\n".join(_listing(_worth_listing(t), wanted) for t in found)
 
 
 def _worth_listing(found: Type) -> Type:
@@ -132,13 +166,13 @@ def _worth_listing(found: Type) -> Type:
 
 
 def _symbol(types: Dictionary, name: str) -> str:
-    """How C declares a symbol. Raises Error where nothing is told of one, and says why."""
+    """How C declares a symbol. Raises Unknown where nothing is told of one, and says why."""
     try:
         said = types.symbol(name)
     except (NotFound, Unreadable) as fault:
         why = fault.name if isinstance(fault, NotFound) else str(fault)
-        raise Error(f"{name}: neither a type nor a symbol of which something is told"
-                    f" ({why}){offered(name, types.names())}") from fault
+        raise Unknown(f"{name}: neither a type nor a symbol of which something is told"
+                      f" ({why}){offered(name, types.names())}") from fault
     if types.how == "guessed":
         _warn("the section names no symbol table: that of the file is taken, and if it is not the"
               " one that the types were written for, this is another symbol's")
@@ -148,7 +182,7 @@ def _symbol(types: Dictionary, name: str) -> str:
 
 
 def _warn(said: str) -> None:
-    print(f"ctfd-types: {printable(said)}", file=sys.stderr)
+    commands.warn(NAME, said)
 
 
 def _bytes(path: Optional[str]) -> Optional[bytes]:

@@ -5,7 +5,7 @@ number of steps: a function may take a pointer to itself, and a hostile one may 
 """
 from __future__ import annotations
 
-from typing import List, NamedTuple
+from typing import Callable, List, NamedTuple
 
 from .text import printable
 from .types import QUALIFIERS, Signature, Type
@@ -15,18 +15,33 @@ STEPS = 4096
 CUT = "/* .. */"
 
 
+def base(named: Type) -> str:
+    """A type that is neither pointer, array, function nor qualifier, by its name."""
+    if named.kind == "void":
+        return "void"
+    word = named.tag if named.kind == "forward" else named.kind
+    name = printable(named.name)
+    if word in ("struct", "union", "enum"):
+        return f"{word} {name}" if name else f"{word} {{...}}"
+    return name or "(anon)"
+
+
 class Declarator(NamedTuple):
-    """A declaration in its parts: `qualifiers base left name right`: `const int (* f )(void)`."""
+    """A declaration in its parts: `qualifiers base left name right`: `const int (* f )(void)`.
+
+    `named` is how bases are called.
+    """
 
     qualifiers: List[str]
     base: Type
     left: str
     right: str
+    named: Callable[[Type], str]
 
     @property
     def spelled(self) -> str:
         """The base with its qualifiers."""
-        return " ".join([*self.qualifiers, base(self.base)])
+        return " ".join([*self.qualifiers, self.named(self.base)])
 
     def around(self, name: str) -> str:
         """The declaration of a name; with "" that of the type alone."""
@@ -46,12 +61,13 @@ def function(signature: Signature, name: str) -> str:
     return declarator(signature.returns).around(f"{printable(name)}({arguments})")
 
 
-def declarator(declared: Type) -> Declarator:
+def declarator(declared: Type, named: Callable[[Type], str] = base) -> Declarator:
     """The parts of a declaration."""
-    return _declarator(declared, 0, [STEPS])
+    return _declarator(declared, 0, [STEPS], named)
 
 
-def _declarator(declared: Type, depth: int, budget: List[int]) -> Declarator:
+def _declarator(declared: Type, depth: int, budget: List[int],
+                named: Callable[[Type], str] = base) -> Declarator:
     """`budget` holds the steps that are left, for all declarators of one declaration."""
     left, right = "", ""
     qualifiers: List[str] = []
@@ -68,7 +84,7 @@ def _declarator(declared: Type, depth: int, budget: List[int]) -> Declarator:
             declared = declared.contents
         elif kind == "function":
             signature = declared.signature
-            right += f"({_arguments(signature, depth, budget)})"
+            right += f"({_arguments(signature, depth, budget, named)})"
             declared = signature.returns
         elif kind in QUALIFIERS:
             declared = declared.reference
@@ -77,28 +93,18 @@ def _declarator(declared: Type, depth: int, budget: List[int]) -> Declarator:
             else:
                 qualifiers.append(kind)
         else:
-            return Declarator(qualifiers, declared, left, right)
+            return Declarator(qualifiers, declared, left, right, named)
 
 
-def _arguments(signature: Signature, depth: int, budget: List[int]) -> str:
+def _arguments(signature: Signature, depth: int, budget: List[int],
+               named: Callable[[Type], str] = base) -> str:
     if depth >= DEEPEST or budget[0] <= 0:
         return CUT
     listed: List[str] = []
     for argument in signature.arguments:
         if budget[0] <= 0:
             return ", ".join([*listed, CUT])
-        listed.append(_declarator(argument, depth + 1, budget).around(""))
+        listed.append(_declarator(argument, depth + 1, budget, named).around(""))
     if signature.varargs:
         listed.append("...")
     return ", ".join(listed) or "void"
-
-
-def base(named: Type) -> str:
-    """A type that is neither pointer, array, function nor qualifier, by its name."""
-    if named.kind == "void":
-        return "void"
-    word = named.tag if named.kind == "forward" else named.kind
-    name = printable(named.name)
-    if word in ("struct", "union", "enum"):
-        return f"{word} {name}" if name else f"{word} {{...}}"
-    return name or "(anon)"

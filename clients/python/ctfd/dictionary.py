@@ -135,7 +135,8 @@ class Dictionary:
     def answer(self, op: str, t: int) -> Answer:
         """What a word answers of a type, asked once; raises its refusal."""
         home = self._home(t)
-        self.fetch([(op, t)])
+        if (op, t) not in home._answers:
+            self.fetch([(op, t)])
         outcome = home._answers.get((op, t))
         if outcome is None:
             return self.session.ask(op, d=home.slot, t=t)

@@ -1,9 +1,12 @@
 """Where the members of a struct or union lie, and the holes between them."""
 from __future__ import annotations
 
-from typing import List, NamedTuple, Optional, Tuple
+from typing import Iterable, List, NamedTuple, Optional, Tuple
 
 from .types import Member, Type
+
+
+Span = Tuple[int, int, Optional[int]]
 
 
 class Place(NamedTuple):
@@ -52,20 +55,29 @@ class Layout(NamedTuple):
 
 def layout(aggregate: Type) -> Layout:
     """The layout of a struct or union, typedefs and qualifiers followed."""
-    whole = aggregate.gather().resolved
+    return gathered(aggregate.gather())
+
+
+def gathered(aggregate: Type) -> Layout:
+    """The same of one that was gathered, or that is held by one that was."""
+    whole = aggregate.resolved
+    return laid(whole.kind, whole.size or 0, [(m, _span(m)) for m in whole.members])
+
+
+def laid(kind: str, size: int, spans: Iterable[Tuple[Member, Span]]) -> Layout:
+    """The layout of a struct or union of some bytes, of which each member's span is told."""
     places: List[Place] = []
     end = 0
-    for member in whole.members:
-        start, bits, width = _span(member)
-        gap = max(0, start - end) if whole.kind == "struct" else 0
+    for member, (start, bits, width) in spans:
+        gap = start - end if kind == "struct" and start > end else 0
         places.append(Place(member, start, bits, gap, width))
-        end = max(end, start + bits)
-    size = whole.size or 0
-    padding = max(0, 8 * size - end) if whole.kind == "struct" and places else 0
+        if start + bits > end:
+            end = start + bits
+    padding = max(0, 8 * size - end) if kind == "struct" and places else 0
     return Layout(size, places, padding)
 
 
-def _span(member: Member) -> Tuple[int, int, Optional[int]]:
+def _span(member: Member) -> Span:
     """Where a member begins, how many bits it takes, and its width as a bit-field."""
     lies = member.type.bit_field
     if lies is not None:

@@ -1,10 +1,10 @@
 """Types as C writes them, with places, sizes and holes as pahole prints them."""
 from __future__ import annotations
 
-from typing import List
+from typing import List, Optional
 
 from .declare import Declarator, base, declaration, declarator
-from .layout import Layout, Place, layout
+from .layout import Layout, Place, gathered, layout
 from .text import printable
 from .types import Type
 
@@ -14,14 +14,17 @@ DEEPEST, LONGEST = 64, 20_000
 AGGREGATES = ("struct", "union")
 
 
-def definition(listed: Type) -> str:
+def definition(listed: Type, is_expanded: bool = False) -> str:
     """A type in full as C defines it, without places."""
-    return "\n".join(Listing(places=False).definition(listed))
+    return "\n".join(Listing(False, LINE, is_expanded).definition(listed))
 
 
-def listing(listed: Type) -> str:
-    """A type in full with the place and size of each member in bytes, as pahole prints it."""
-    return "\n".join(Listing(places=True).definition(listed))
+def listing(listed: Type, cache_line: int = LINE, is_expanded: bool = False) -> str:
+    """A type in full with the place and size of each member in bytes, as pahole prints it.
+
+    Expanded, the structs and unions that it holds by value are written in place.
+    """
+    return "\n".join(Listing(True, cache_line, is_expanded).definition(listed))
 
 
 class Listing:
@@ -31,8 +34,10 @@ class Listing:
     at a depth and at a number of lines: a hostile type doubles at each level.
     """
 
-    def __init__(self, places: bool) -> None:
+    def __init__(self, places: bool, cache_line: int = LINE, is_expanded: bool = False) -> None:
         self.places = places
+        self.cache_line = cache_line
+        self.is_expanded = is_expanded
         self.line = 0
         self.lines: List[str] = []
 
@@ -67,18 +72,28 @@ class Listing:
                 self._gap(place, depth)
                 self._boundary(start + place.start // 8, depth)
             said = declarator(place.member.type)
-            unnamed = said.base.kind in AGGREGATES and not said.base.name
-            if unnamed and depth < DEEPEST and len(self.lines) < LONGEST:
-                self._inner(place, said, depth, start)
+            inner = self._opened(said)
+            if inner is not None and depth < DEEPEST and len(self.lines) < LONGEST:
+                self._inner(place, said, inner, depth, start)
             else:
                 self._member(place, said, depth, start)
 
-    def _inner(self, place: Place, said: Declarator, depth: int, start: int) -> None:
-        """A member whose struct or union has no name."""
-        head = " ".join([*said.qualifiers, said.base.kind, "{"])
-        self.lines.append("\t" * depth + head)
+    def _opened(self, said: Declarator) -> Optional[Type]:
+        """The struct or union that is written in place: one without a name, or any that is held."""
+        if said.base.kind in AGGREGATES and not said.base.name:
+            return said.base
+        if self.is_expanded and "*" not in said.left:
+            held = said.base.resolved
+            return held if held.kind in AGGREGATES else None
+        return None
+
+    def _inner(self, place: Place, said: Declarator, inner: Type, depth: int, start: int) -> None:
+        """A member whose struct or union is written in place."""
+        renamed = [] if inner == said.base else [f"/* typedef {base(said.base)} */"]
+        head = [*renamed, *said.qualifiers, base(inner) if inner.name else inner.kind, "{"]
+        self.lines.append("\t" * depth + " ".join(head))
         begins = 0 if "*" in said.left else start + place.member.offset // 8  # or it is elsewhere
-        self._members(layout(said.base), depth + 1, begins)
+        self._members(gathered(inner) if "*" not in said.left else layout(inner), depth + 1, begins)
         name = said.left + printable(place.member.name) + said.right
         self._line(f"}} {name};" if name else "};", place, depth, start)
 
@@ -122,16 +137,16 @@ class Listing:
 
     def _boundary(self, byte: int, depth: int) -> None:
         """A word where a cache line begins at a member or began within the last."""
-        line, past = divmod(byte, LINE)
+        line, past = divmod(byte, self.cache_line)
         if line > self.line:
             ago = f" was {past} bytes ago" if past else ""
-            told = f"/* --- cacheline {line} boundary ({line * LINE} bytes){ago} --- */"
+            told = f"/* --- cacheline {line} boundary ({byte - past} bytes){ago} --- */"
             self.lines.append("\t" * depth + told)
             self.line = line
 
     def _summary(self, whole: Layout) -> None:
         self.lines.append("")
-        lines = (whole.size + LINE - 1) // LINE
+        lines = -(-whole.size // self.cache_line)
         self._note(f"size: {whole.size}, cachelines: {lines}, members: {len(whole.places)}")
         holes, bit_holes = whole.holes, whole.bit_holes
         if holes:
@@ -145,8 +160,8 @@ class Listing:
             self._note(f"padding: {whole.padding // 8}")
         if whole.padding % 8:
             self._note(f"bit_padding: {whole.padding % 8} bits")
-        if whole.size % LINE:
-            self._note(f"last cacheline: {whole.size % LINE} bytes")
+        if whole.size % self.cache_line:
+            self._note(f"last cacheline: {whole.size % self.cache_line} bytes")
 
     def _note(self, said: str) -> None:
         self.lines.append(f"\t/* {said} */")

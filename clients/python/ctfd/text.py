@@ -36,6 +36,8 @@ def _is_plain(byte: int) -> bool:
 
 def name(text: str) -> str:
     """The name in a reply as a `str`, none of its bytes lost."""
+    if "\\" not in text:
+        return text
     return unescape(text).decode("utf-8", "surrogateescape")
 
 

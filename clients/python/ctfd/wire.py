@@ -28,6 +28,8 @@ PIECE = 262_144
 READ = 262_144
 WRITE = 65_536
 
+_DECODED = json.JSONDecoder().decode
+
 
 class Owed:
     """A reply that is still to come. It stays owed where a call is interrupted."""
@@ -177,7 +179,7 @@ class Client:
         while self._lines:
             if not self._owed:
                 self._end("the service said more than was asked")
-            reply = json.loads(self._lines[0])
+            reply = _DECODED(self._lines[0].decode("utf-8"))
             self._torn = True
             self._owed[0].reply = reply
             del self._owed[0]
@@ -255,6 +257,9 @@ def _started(command: Sequence[str]) -> "subprocess.Popen[bytes]":
 
 
 def _line(session: int, op: str, fields: Answer) -> bytes:
+    if len(fields) == 2 and "d" in fields and "t" in fields:  # most of them: a question on a type
+        return b'{"s":%d,"op":"%b","d":%d,"t":%d}\n' % (session, op.encode("ascii"), fields["d"],
+                                                      fields["t"])
     request = {"s": session, "op": op, **fields}
     return json.dumps(request, separators=(",", ":")).encode("ascii") + b"\n"
 

@@ -1,0 +1,47 @@
+"""How the commands run and end: errors as one line, quietly where the reader has left."""
+from __future__ import annotations
+
+import gc
+import io
+import os
+import sys
+from typing import Callable, Optional
+
+from . import service
+from .faults import Error
+from .text import printable
+from .wire import Client, Session
+
+INTERRUPTED = 130
+
+
+def run(command: str, program: Optional[str], work: Callable[[Session], int], trouble: int) -> int:
+    """The status of what `work` does in a session of its own, or that of trouble.
+
+    What is read is kept to the end, so nothing is gained by looking for garbage in it.
+    """
+    gc.disable()
+    if isinstance(sys.stdout, io.TextIOWrapper):
+        sys.stdout.reconfigure(errors="backslashreplace")
+    try:
+        with Client(service.find(program)) as client:
+            status = work(client.session())
+        sys.stdout.flush()
+        return status
+    except BrokenPipeError:  # a reader such as head has left
+        os.dup2(os.open(os.devnull, os.O_WRONLY), sys.stdout.fileno())
+        return 0
+    except KeyboardInterrupt:
+        return INTERRUPTED
+    except MemoryError:
+        warn(command, "memory ran out")
+    except (Error, OSError) as error:
+        warn(command, str(error))
+    finally:
+        gc.enable()
+    return trouble
+
+
+def warn(command: str, said: str) -> None:
+    """A line on standard error."""
+    print(f"{command}: {printable(said)}", file=sys.stderr)

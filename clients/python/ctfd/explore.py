@@ -1,0 +1,153 @@
+"""Writes one HTML page with all types of some files: search, declarations, pictures, holders.
+
+The page needs no network and nothing beside it. FILE is an ELF file with a section .SUNW_ctf or
+.ctf, or the bytes of such a section.
+"""
+from __future__ import annotations
+
+import argparse
+import json
+import sys
+from pathlib import Path
+from typing import Any, Callable, Dict, List, Optional, Sequence
+
+from . import commands
+from .catalog import ALL_LISTS, Catalog
+from .faults import Error
+from .model import POINTER_SIZES
+from .opening import Opener, Whole
+from .records import Record
+from .text import printable
+from .wire import Session
+
+NAME = "ctfd-explore"
+TEMPLATE = Path(__file__).with_name("explore.html")
+PLACE = "\"{types}\""
+KINDS = ("void", "integer", "float", "pointer", "array", "function", "struct", "union", "enum",
+         "forward", "typedef", "volatile", "const", "restrict", "unknown")
+BIGGEST = 20_000_000
+FAILED = 1
+
+Row = List[Any]
+
+
+def main(arguments: Optional[Sequence[str]] = None) -> int:
+    """The command; its exit status."""
+    words = _parser().parse_args(arguments)
+    return commands.run(NAME, words.service, lambda session: _run(session, words), FAILED)
+
+
+def _parser() -> argparse.ArgumentParser:
+    parser = argparse.ArgumentParser(
+        prog=NAME, description=__doc__, formatter_class=argparse.RawDescriptionHelpFormatter)
+    parser.add_argument("files", metavar="FILE", nargs="+")
+    parser.add_argument("-o", "--output", metavar="PAGE", default="-",
+                        help="the page that is written; without it, or for -, standard output")
+    parser.add_argument("--parent", metavar="FILE", help="the dictionary of which each FILE is a"
+                        " child; it is on the page too")
+    parser.add_argument("--model", choices=list(POINTER_SIZES),
+                        help="whether pointers have 8 bytes or 4; an ELF file says so itself")
+    parser.add_argument("--service", metavar="CTFD", help="the program to ask (CTFD in the"
+                        " environment, or ctfd on the path)")
+    return parser
+
+
+def _run(session: Session, words: argparse.Namespace) -> int:
+    opener = Opener(session, words.model)
+    files = [opener.whole(path, words.parent, ALL_LISTS) for path in words.files]
+    made = page(files, words.parent)
+    if len(made) > BIGGEST:
+        commands.warn(NAME, f"the page has {len(made)} bytes; of fewer files it is smaller")
+    if words.output == "-":
+        sys.stdout.write(made)
+        return 0
+    try:
+        Path(words.output).write_text(made, encoding="ascii")
+    except OSError as error:
+        raise Error(f"{words.output}: {error.strerror}") from error
+    return 0
+
+
+def page(files: Sequence[Whole], parent: Optional[str] = None) -> str:
+    """The whole page, in ASCII."""
+    told = json.dumps(Rows(files, parent).told(), separators=(",", ":"))
+    kept = told.replace("<", "\\u003c")  # no name ends the script
+    return TEMPLATE.read_text(encoding="ascii").replace(PLACE, kept, 1)
+
+
+class Rows:
+    """All types as rows, which name each other by their places; row 0 is void.
+
+    A parent's types are there once, in front of those of its children.
+    """
+
+    def __init__(self, files: Sequence[Whole], parent: Optional[str]) -> None:
+        self.rows: List[Row] = [[0, ""]]
+        self.files: List[Row] = []
+        self._parents: Dict[int, int] = {}
+        for whole in files:
+            self._add(whole, parent)
+
+    def told(self) -> Dict[str, Any]:
+        return {"kinds": KINDS, "files": self.files, "types": self.rows}
+
+    def _add(self, whole: Whole, parent: Optional[str]) -> None:
+        catalog, own = whole.catalog, set(whole.catalog.own)
+        above = [n for n in catalog.numbers if n not in own]
+        if above and not self._parents:
+            self._parents = self._numbered(catalog, above, parent or "the parent")
+        places = {**self._parents, **self._numbered(catalog, catalog.own, whole.path)}
+        for number in catalog.numbers:
+            if number in own or self.rows[places[number]] == []:
+                self.rows[places[number]] = _row(catalog, number, places)
+
+    def _numbered(self, catalog: Catalog, numbers: Sequence[int], path: str) -> Dict[int, int]:
+        """Room for some types."""
+        first = len(self.rows)
+        self.files.append([printable(path), first, numbers[0] if numbers else 0,
+                           catalog.dictionary.pointer_size])
+        self.rows += [[] for _ in numbers]
+        return {0: 0, **{number: first + place for place, number in enumerate(numbers)}}
+
+
+def _row(catalog: Catalog, number: int, places: Dict[int, int]) -> Row:
+    """`kind, name, size`, and what the kind has behind that."""
+    record = catalog[number]
+    row: Row = [KINDS.index(record.kind), printable(record.name), catalog.size(number)]
+    return row + _BEHIND.get(record.kind, _reference)(record, places)
+
+
+def _members(record: Record, places: Dict[int, int]) -> Row:
+    return [[[printable(part.name), places.get(part.type, 0), part.offset]
+             for part in record.members]]
+
+
+def _enumerators(record: Record, places: Dict[int, int]) -> Row:
+    return [[[printable(one.name), one.value] for one in record.enumerators]]
+
+
+def _array(record: Record, places: Dict[int, int]) -> Row:
+    return [places.get(record.type, 0), record.elements]
+
+
+def _function(record: Record, places: Dict[int, int]) -> Row:
+    return [places.get(record.type, 0), [places.get(one, 0) for one in record.arguments],
+            int(record.varargs)]
+
+
+def _number(record: Record, places: Dict[int, int]) -> Row:
+    return [record.encoding.bits, record.encoding.offset, record.encoding.flags]
+
+
+def _forward(record: Record, places: Dict[int, int]) -> Row:
+    return [record.tag]
+
+
+def _reference(record: Record, places: Dict[int, int]) -> Row:
+    return [places.get(record.type, 0)]
+
+
+_BEHIND: Dict[str, Callable[[Record, Dict[int, int]], Row]] = {
+    "struct": _members, "union": _members, "enum": _enumerators, "array": _array,
+    "function": _function, "integer": _number, "float": _number, "forward": _forward,
+}

@@ -1,0 +1,95 @@
+"""`--c`: gcc takes the declarations, and its `sizeof` and `offsetof` are the dictionary's."""
+import shutil
+import struct
+import subprocess
+import unittest
+from typing import Iterator
+
+from ctfd.compilable import Compilable, is_identifier
+from ctfd.opening import Whole
+from ctfd.records import AGGREGATES
+
+from .support import (EXAMPLES, STRUCT, WithService, array, dictionary, integer, member, record,
+                      staged)
+from .tools import whole_of, written
+
+
+def asserted(whole: Whole, made: Compilable) -> Iterator[str]:
+    """What gcc is to find true: each size, and each offset that C can ask for."""
+    for number in whole.catalog.own:
+        name, kind = made.spelled(number), whole.catalog[number].kind
+        if name is None or kind not in (*AGGREGATES, "enum", "typedef"):
+            continue
+        size = whole.catalog.size(number)
+        if size and whole.catalog.span(number)[2] is None:
+            yield f"_Static_assert(sizeof({name}) == {size}, \"{name}\");"
+        if kind in AGGREGATES and not made.form(number).is_bytes:
+            for place in whole.catalog.layout(number).places:
+                if is_identifier(place.member.name) and place.width is None:
+                    yield (f"_Static_assert(__builtin_offsetof({name}, {place.member.name})"
+                           f" == {place.start // 8}, \"{name}.{place.member.name}\");")
+
+
+@unittest.skipUnless(shutil.which("gcc"), "no gcc here")
+class Gcc(WithService):
+    def judged(self, path: str) -> "tuple[str, int]":
+        """The declarations, and how many things were asserted of them."""
+        whole = whole_of(self, path)
+        made = Compilable(whole, whole.catalog.own)
+        code = "\n".join(made.lines()) + "\n"
+        facts = list(asserted(whole, made))
+        done = subprocess.run(["gcc", "-x", "c", "-fsyntax-only", "-Wno-attributes", "-"],
+                              input=code + "\n".join(facts) + "\n", capture_output=True,
+                              text=True)
+        self.assertEqual((done.returncode, done.stderr), (0, ""))
+        return code, len(facts)
+
+    def test_lua_and_zlib(self) -> None:
+        for name, least in (("lua.ctf", 500), ("zlib.ctf", 150)):
+            code, count = self.judged(str(EXAMPLES / name))
+            self.assertNotIn("can not say", code)
+            self.assertGreater(count, least)
+
+    def test_bit_fields(self) -> None:
+        code, _ = self.judged(written(self, staged("bits.jsonl")[0]))
+        self.assertIn("unsigned int mode: 3;", code)
+
+    def test_places_that_are_not_c_s_own(self) -> None:
+        """An int at 1, holes in front of it and behind, and a member that is aligned more."""
+        names = b"\0int\0odd\0a\0b\0wide\0"
+        odd = record(STRUCT, 2, 12, 5, member(9, 1, 8) + member(11, 1, 56))
+        wide = record(STRUCT, 2, 64, 13, member(9, 1, 0) + member(11, 2, 256))
+        code, count = self.judged(written(self, dictionary([integer(1), odd, wide], names)))
+        self.assertIn("packed", code)
+        self.assertEqual(count, 6)
+
+    def test_names_that_are_none_in_c(self) -> None:
+        names = b"\0int\0a b\0*/ x\0for\0s\0"
+        bad = record(STRUCT, 3, 12, 5, member(9, 1, 0) + member(14, 1, 32) + member(14, 1, 64))
+        twice = [record(STRUCT, 1, 4, 18, member(18, 1, 0)) for _ in range(2)]
+        code, _ = self.judged(written(self, dictionary([integer(1), bad, *twice], names)))
+        self.assertIn("struct ctfd_2 {", code)
+        self.assertIn("int ctfd_member_0; /* * / x */", code)
+        self.assertIn("struct s__4 {", code)
+
+    def test_members_that_overlap_are_told(self) -> None:
+        over = record(STRUCT, 2, 8, 5, member(5, 1, 0) + member(1, 1, 16))
+        code, _ = self.judged(written(self, dictionary([integer(1), over], b"\0int\0s\0")))
+        self.assertIn("C can not say its members", code)
+
+    def test_a_struct_that_doubles_at_each_level(self) -> None:
+        records = [integer(1)]
+        for level in range(2, 100):
+            two = struct.pack("<IHHIHH", 0, level - 1, 0, 0, level - 1, 0)
+            records.append(record(STRUCT, 2, 8, 5 if level == 99 else 0, two))
+        code, _ = self.judged(written(self, dictionary(records, b"\0int\0s\0")))
+        self.assertLess(len(code.splitlines()), 100_000)
+
+    def test_many_dimensions(self) -> None:
+        records = [integer(1), *(array(t, 2) for t in range(1, 9)),
+                   record(STRUCT, 1, 1024, 5, member(5, 9, 0))]
+        self.judged(written(self, dictionary(records, b"\0int\0s\0")))
+
+
+if __name__ == "__main__":
+    unittest.main()

@@ -1,0 +1,149 @@
+"""`ctfd-explore`: the page in a real browser, as a reader uses it."""
+import base64
+import json
+import os
+import re
+import shutil
+import tempfile
+import unittest
+from pathlib import Path
+from typing import Any, Dict
+
+from ctfd import explore
+
+from .browser import CHROMIUM, Browser
+from .support import EXAMPLES, PROGRAM, STRUCT, WithService, dictionary, integer, member, record
+from .tools import command, whole_of, written
+
+LUA = str(EXAMPLES / "lua.ctf")
+EVIL = b"<script>window.bad=1</script></script><img src=x onerror=bad=1>\"'&"
+
+
+class Page(WithService):
+    def test_what_stands_in_the_page_is_escaped(self) -> None:
+        path = written(self, evil())
+        made = explore.page([whole_of(self, path)])
+        self.assertEqual(made.count("<script"), 2)
+        self.assertEqual(made.count("</script>"), 2)
+        self.assertEqual(re.findall(r"(?:src|href)\s*=\s*[\"'](?!data:,)\w+:", made), [])
+        told = json.loads(re.findall(r"json\">(.*?)</script>", made)[0])
+        self.assertIn(EVIL.decode(), [row[1] for row in told["types"]])
+
+    def test_a_parent_is_there_once(self) -> None:
+        whole = whole_of(self, LUA)
+        rows = explore.Rows([whole, whole], None)
+        self.assertEqual(len(rows.rows), 2 * 526 + 1)
+        self.assertTrue(all(rows.rows))
+
+    def test_the_command(self) -> None:
+        with tempfile.TemporaryDirectory() as folder:
+            done = command("ctfd-explore", LUA, "-o", f"{folder}/page.html")
+            self.assertEqual((done.returncode, done.stdout, done.stderr), (0, "", ""))
+            self.assertGreater(os.path.getsize(f"{folder}/page.html"), 30_000)
+            done = command("ctfd-explore", LUA, "-o", f"{folder}/no/page.html")
+            self.assertEqual((done.returncode, done.stderr.count("\n")), (1, 1))
+
+
+def evil() -> bytes:
+    """A struct and a member whose names are markup, and a name of control bytes."""
+    names = b"\0int\0" + EVIL + b"\0\x1b[2J\x07\xff\0"
+    second = 5 + len(EVIL) + 1
+    return dictionary([integer(1), record(STRUCT, 1, 4, 5, member(5, 1, 0)),
+                       record(STRUCT, 1, 4, second, member(second, 1, 0))], names)
+
+
+@unittest.skipUnless(CHROMIUM and PROGRAM, "no chromium or no service here")
+class InBrowser(WithService):
+    browser: Browser
+    folder: str
+
+    @classmethod
+    def setUpClass(cls) -> None:
+        cls.folder = tempfile.mkdtemp()
+        cls.addClassCleanup(shutil.rmtree, cls.folder)
+        cls.browser = Browser()
+        cls.addClassCleanup(cls.browser.close)
+
+    def opened(self, path: str) -> Browser:  # type: ignore[override]
+        """The page of a file."""
+        page = Path(self.folder) / "page.html"
+        page.write_text(explore.page([whole_of(self, path)]))
+        self.browser.errors.clear()
+        self.browser.open(str(page))
+        return self.browser
+
+    def title(self) -> Any:
+        return self.browser.value("document.querySelector('h1').textContent")
+
+    def test_search_follow_and_go_back(self) -> None:
+        page = self.opened(LUA)
+        page.press("/")
+        self.assertEqual(page.value("document.activeElement.id"), "search")
+        page.write("callinfo")
+        page.until("document.querySelectorAll('#found a').length === 2")
+        page.press("Enter")
+        page.until("document.title === 'struct CallInfo' || document.title === 'CallInfo'")
+        page.value("location.hash = document.querySelectorAll('#found a')[0].hash")
+        page.until("document.querySelector('#picture') !== null")
+        page.value("[...document.querySelectorAll('#declaration a')].find("
+                   "a => a.textContent === 'lua_KFunction').click()")
+        page.until("document.title === 'lua_KFunction'")
+        page.value("history.back()")
+        page.until("document.title.endsWith('CallInfo')")
+        held = page.value("document.querySelector('#held').textContent")
+        self.assertIn("struct lua_State at 96 CallInfo base_ci".replace(" ", ""),
+                      held.replace(" ", ""))
+        self.assertIn("struct CallInfo *previous",
+                      page.value("document.querySelector('#pointed').textContent"))
+        self.assertEqual(page.errors, [])
+
+    def test_boxes_are_where_members_are(self) -> None:
+        page = self.opened(LUA)
+        whole = whole_of(self, LUA)
+        for name in ("struct lua_Debug", "struct CallInfo", "struct global_State"):
+            (number,) = whole.names.meant(name)
+            page.value(f"location.hash = '#t{number}'")
+            page.until(f"document.title === '{name}'")
+            drawn = page.value(BOXES)
+            told: Dict[str, int] = {}
+            for one, start, bits, x, wide in drawn:
+                told[one] = told.get(one, 0) + bits
+                self.assertAlmostEqual(x, start % 512 * 896 / 512, 3)
+                self.assertAlmostEqual(wide, bits * 896 / 512, 3)
+            for place in whole.catalog.layout(number).places:
+                if place.member.name != "strcache":  # lines that it fills alone are left out
+                    self.assertEqual(told[place.member.name], place.bits, place.member.name)
+        self.assertEqual(page.errors, [])
+
+    def test_names_are_no_markup(self) -> None:
+        page = self.opened(written(self, evil()))
+        page.value("location.hash = '#t2'")
+        page.until("document.title.includes('<script>')")
+        self.assertIsNone(page.value("window.bad"))
+        self.assertEqual(page.value("document.querySelectorAll('img').length"), 0)
+        page.value("location.hash = '#t3'")
+        page.until("document.title.includes('x1b')")
+        self.assertIn("\\x1b[2J\\x07\\xff", self.title())
+        self.assertEqual(page.errors, [])
+
+    def test_it_is_seen_in_two_widths_light_and_dark(self) -> None:
+        page = self.opened(LUA)
+        page.value("location.hash = '#t'")
+        seen = set()
+        for wide in (1280, 480):
+            for scheme in ("light", "dark"):
+                page.looks(wide, 800, scheme)
+                self.assertFalse(page.value("document.documentElement.scrollWidth > innerWidth"))
+                seen.add(page.value("getComputedStyle(document.body).backgroundColor"))
+                self.assertGreater(len(base64.b64decode(page.picture())), 5000)
+        self.assertEqual(len(seen), 2)
+
+
+BOXES = """[...document.querySelectorAll('#picture g')].map(g => [g.dataset.name,
+ Number(g.dataset.start), Number(g.dataset.bits),
+ Number(g.querySelector('rect').getAttribute('x')) - 56,
+ Number(g.querySelector('rect').getAttribute('width'))])"""
+
+
+if __name__ == "__main__":
+    unittest.main()

@@ -1,0 +1,185 @@
+"""`--sizes`, `--holes`, `--contains`, `--uses` and `--expand`, beside pahole and gcc."""
+import json
+import re
+import shutil
+import subprocess
+import tempfile
+import unittest
+from typing import Dict, List, Set, Tuple
+
+import ctfd
+from ctfd import reports
+from ctfd.compilable import Compilable
+from ctfd.embeds import Embeds
+from ctfd.opening import Whole
+from ctfd.records import AGGREGATES
+
+from .support import COMMAND, EXAMPLES, PROGRAM, TOOLS, WithService, object_file, run, staged
+from .test_listing import OTHERS
+from .tools import whole_of, written
+
+LUA, ZLIB = str(EXAMPLES / "lua.ctf"), str(EXAMPLES / "zlib.ctf")
+HELD = ("Table", "stringtable", "Value", "UpVal", "GCObject", "lua_State", "CallInfo", "TString")
+FIELD = re.compile(r"(\w+)(?:\[[^;]*|\)\([^;]*)?;\s*/\*\s+(\d+)\s+(\d+) \*/")
+
+
+@unittest.skipUnless(TOOLS and shutil.which("pahole"), "no gcc, objcopy or pahole here")
+class BesidePahole(WithService):
+    """What differs is pahole's: it takes the bytes of an enum for bits (`OTHERS`), and follows
+    neither typedefs nor arrays nor members without a name."""
+
+    def setUp(self) -> None:
+        super().setUp()
+        self.folder = tempfile.mkdtemp()
+        self.addCleanup(shutil.rmtree, self.folder)
+
+    def pahole(self, path: str, *words: str) -> List[str]:
+        with open(path, "rb") as file:
+            made = object_file(self.folder, file.read())
+        said = subprocess.run(["pahole", "-F", "ctf", *words, str(made)], capture_output=True,
+                              text=True)
+        return said.stdout.splitlines()
+
+    def figures(self, whole: Whole) -> Dict[str, "set[Tuple[int, int]]"]:
+        made: Dict[str, Set[Tuple[int, int]]] = {}
+        for number in whole.catalog.aggregates():
+            one = whole.sizes.figures(number)
+            for name in whole.names.called(number):
+                made.setdefault(name, set()).add((one.size, one.holes))
+        return made
+
+    def test_sizes_and_holes(self) -> None:
+        for path, least in ((LUA, 60), (ZLIB, 10)):
+            mine = self.figures(whole_of(self, path))
+            lines = [line.split("\t") for line in self.pahole(path, "--sizes")]
+            self.assertGreaterEqual(len(lines), least)
+            for name, size, holes in lines:
+                if name not in OTHERS:
+                    self.assertIn((int(size), int(holes)), mine[name], name)
+            listed = self.pahole(path, "--holes=1")
+            names = {line.split()[1] for line in listed if re.match(r"(struct|union) \w+ {", line)}
+            holed = {name for name, found in mine.items() if any(holes for _, holes in found)}
+            self.assertLessEqual(names - OTHERS, holed)
+
+    def test_who_holds_a_type(self) -> None:
+        whole = whole_of(self, LUA)
+        for name in HELD:
+            held = Embeds(whole.catalog, whole.names).containing(
+                whole.names.meant(name) & whole.names.meant(f"* {name}"))
+            direct = {whole.catalog[one.owner].name for one in held
+                      if len(one.path) == 1 and whole.catalog[one.type].kind in AGGREGATES}
+            self.assertEqual(set(self.pahole(LUA, f"--contains={name}")), direct, name)
+
+    def test_who_points_to_a_type(self) -> None:
+        whole = whole_of(self, LUA)
+        for name in ("lua_State", "GCObject", "TString", "CallInfo", "Table"):
+            told = set()
+            for one in Embeds(whole.catalog, whole.names).pointing(whole.names.meant(name)):
+                to = whole.catalog[whole.catalog[one.type].type]
+                if len(one.path) == 1 and to.kind in AGGREGATES and to.name == name:
+                    told.add(f"{whole.catalog[one.owner].name}: {one.name}")
+            pahole = {line for line in self.pahole(LUA, f"--find_pointers_to={name}")
+                      if ": " in line}
+            self.assertEqual(pahole, {line for line in told if not line.startswith(":")}, name)
+
+    def test_expanded(self) -> None:
+        """Each member that is no struct stands where pahole has it, with the size it has there."""
+        types = self.example("lua.ctf")
+        for name in ("CallInfo", "global_State", "lua_State", "Table", "LexState", "Proto"):
+            theirs = "\n".join(self.pahole(LUA, "-E", "-C", name))
+            mine = ctfd.listing(types.find(f"struct {name}"), is_expanded=True)
+            self.assertEqual(sorted(FIELD.findall(mine)), sorted(FIELD.findall(theirs)), name)
+
+
+@unittest.skipUnless(shutil.which("gcc"), "no gcc here")
+class Saved(WithService):
+    def test_an_order_by_alignment_has_the_size_that_is_told(self) -> None:
+        whole = whole_of(self, LUA)
+        made = Compilable(whole, whole.catalog.own)
+        lines, saved = list(made.lines()), 0
+        for number in whole.catalog.aggregates():
+            figures = whole.sizes.figures(number)
+            places = whole.catalog.layout(number).places
+            if made.spelled(number) and figures.holes and all(p.width is None for p in places):
+                order = sorted(places, key=lambda p: (-whole.sizes.alignment(p.member.type.number),
+                                                      p.bits == 0))
+                name = made.spelled(number)
+                lines.append(f"struct order_{number} {{")
+                lines += [f"__typeof__((({name} *) 0)->{p.member.name}) {p.member.name};"
+                          for p in order]
+                size = figures.size - figures.saved
+                lines.append(f"}}; _Static_assert(sizeof(struct order_{number}) == {size}, \"\");")
+                saved += figures.saved
+        self.assertGreater(saved, 0)
+        done = subprocess.run(["gcc", "-x", "c", "-fsyntax-only", "-"], input="\n".join(lines),
+                              capture_output=True, text=True)
+        self.assertEqual(done.stderr, "")
+
+
+@unittest.skipUnless(PROGRAM, "CTFD names no built service")
+class Told(WithService):
+    """What the command prints."""
+
+    def told(self, *words: str) -> List[str]:
+        done = run(*words)
+        self.assertEqual((done.returncode, done.stderr), (0, ""))
+        return done.stdout.splitlines()
+
+    def test_sizes(self) -> None:
+        lines = self.told("--sizes", LUA, "lua_*")
+        self.assertEqual(lines[0].split(), reports.COLUMNS.split())
+        self.assertEqual([line.split()[-1] for line in lines[1:]],
+                         ["lua_longjmp", "lua_State", "lua_Debug"])
+        self.assertEqual(lines[2].split(), "200 24 1 2 4 0 struct lua_State".split())
+
+    def test_order_and_least_holes(self) -> None:
+        lines = self.told("--holes", "6", "--sort", "name", LUA)[1:]
+        labels = [line.split("  ")[-1] for line in lines]
+        self.assertEqual(labels, sorted(labels))
+        self.assertTrue(all(int(line.split()[3]) >= 6 for line in lines))
+        self.assertEqual(self.told("--holes", LUA), self.told("--holes=1", LUA))
+
+    def test_holders(self) -> None:
+        self.assertEqual(self.told("--contains", "TString", LUA)[0].split(),
+                         "0 union GCUnion struct TString ts".split())
+        self.assertIn("       0  struct luaL_Stream  FILE *f", self.told("--uses", "FILE", LUA))
+        deep = self.told("--contains", "CallInfo", "--recursive", LUA)
+        self.assertIn("     104  struct LX  CallInfo l.base_ci", deep)
+
+    def test_json(self) -> None:
+        (told,) = map(json.loads, self.told("--json", LUA, "struct luaL_Reg"))
+        self.assertEqual(told["members"], [
+            {"name": "name", "type": "const char *", "number": 72, "offset": 0, "bits": 64},
+            {"name": "func", "type": "lua_CFunction", "number": 30, "offset": 64, "bits": 64}])
+        self.assertEqual(len(self.told("--json", LUA)), 526)
+        (held,) = map(json.loads, self.told("--contains", "stringtable", "--json", LUA))
+        self.assertEqual((held["label"], held["path"], held["offset"]),
+                         ("struct global_State", ["strt"], 384))
+
+    def test_several_files_and_cache_lines(self) -> None:
+        lines = self.told("--sizes", LUA, ZLIB, "*_state")
+        self.assertEqual(lines[0], f"{ZLIB}:")
+        self.assertIn("cacheline 1 boundary (32 bytes)",
+                      "\n".join(self.told("--cachelines", "32", LUA, "struct lua_Debug")))
+
+    def test_a_child(self) -> None:
+        parent, child = (written(self, ctf) for ctf in staged("parent.jsonl")[:2])
+        self.assertEqual(self.told("--sizes", "--parent", parent, child)[1:], [])
+        done = run("--sizes", child)
+        self.assertEqual((done.returncode, done.stderr.count("\n")), (1, 1))
+        self.assertIn("name the parent's file by --parent", done.stderr)
+
+    def test_names_that_are_none(self) -> None:
+        for words in (("--contains", "lua_Sate"), ("-C", "lua_Sate", "--sizes")):
+            done = run(*words, LUA)
+            self.assertEqual(done.returncode, 1)
+            self.assertIn("no type is called lua_Sate; the nearest", done.stderr)
+
+    def test_a_pipe_that_closes(self) -> None:
+        done = subprocess.run(["bash", "-c", f"{COMMAND} --json {LUA} | head -1"],
+                              capture_output=True, text=True)
+        self.assertEqual((len(done.stdout.splitlines()), done.stderr), (1, ""))
+
+
+if __name__ == "__main__":
+    unittest.main()

@@ -1,0 +1,85 @@
+"""What the tests of the tools share: dictionaries of C files, and whole types of them."""
+from __future__ import annotations
+
+import contextlib
+import io
+import os
+import shutil
+import subprocess
+import sys
+import tempfile
+from pathlib import Path
+from typing import Dict, Iterable, Optional
+
+from ctfd import diff_command, explore
+from ctfd.catalog import ALL_LISTS
+from ctfd.command import main as types_main
+from ctfd.opening import Opener, Whole
+
+from .support import PROGRAM, WithService
+
+MAINS = {"ctfd-types": types_main, "ctfd-diff": diff_command.main, "ctfd-explore": explore.main}
+CLIENT = Path(__file__).resolve().parents[1]
+
+
+def can_convert() -> bool:
+    """Whether a dictionary can be made of a C file here."""
+    try:
+        import elftools  # noqa: F401
+    except ImportError:
+        return False
+    return bool(PROGRAM and shutil.which("gcc"))
+
+
+CONVERTS = can_convert()
+WHY_NOT = "no service, gcc or pyelftools here"
+
+
+def command(name: str, *words: str) -> "subprocess.CompletedProcess[str]":
+    """A command of the client, run as a user would."""
+    environment = {**os.environ, "CTFD": PROGRAM}
+    return subprocess.run([sys.executable, str(CLIENT / name), *words], capture_output=True,
+                          text=True, env=environment)
+
+
+def within(name: str, *words: str) -> "subprocess.CompletedProcess[str]":
+    """The same within this process, which is quicker."""
+    out, err = io.StringIO(), io.StringIO()
+    with contextlib.redirect_stdout(out), contextlib.redirect_stderr(err):
+        status = MAINS[name](["--service", PROGRAM, *words])
+    return subprocess.CompletedProcess([name, *words], status, out.getvalue(), err.getvalue())
+
+
+def compiled(folder: str, name: str, code: str, *options: str) -> str:
+    """The path of an object file of C code, with debug information."""
+    source, made = Path(folder) / f"{name}.c", Path(folder) / f"{name}.o"
+    source.write_text(code)
+    subprocess.run(["gcc", "-g", "-c", *options, str(source), "-o", str(made)], check=True)
+    return str(made)
+
+
+def converted(folder: str, name: str, code: str, *options: str) -> str:
+    """The path of an object file with a dictionary of its debug information."""
+    made = compiled(folder, name, code, *options)
+    told = command("ctfd-convert", "--lossy", "--section", made, f"{made}.ctf.o")
+    assert told.returncode == 0, told.stderr
+    return f"{made}.ctf.o"
+
+
+def written(case: WithService, ctf: bytes, name: str = "types.ctf") -> str:
+    """The path of a file of a dictionary's bytes, as long as the test runs."""
+    folder = tempfile.mkdtemp()
+    case.addCleanup(shutil.rmtree, folder)
+    path = Path(folder) / name
+    path.write_bytes(ctf)
+    return str(path)
+
+
+def whole_of(case: WithService, path: str, lists: Optional[Iterable[str]] = None) -> Whole:
+    """All types of a file."""
+    return Opener(case.session).whole(path, lists=lists or ALL_LISTS)
+
+
+def by_label(whole: Whole) -> Dict[str, int]:
+    """The numbers of the types by what they are called."""
+    return {whole.names.label(number): number for number in reversed(whole.catalog.own)}
