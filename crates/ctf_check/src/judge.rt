@@ -69,7 +69,7 @@ fn judge_types(alloc: Global, types: &[u8], numbers: Numbers) -> Result<(), Faul
 /// program's symbol table and its strings.
 ///
 /// Reads each record, member, enumerator, argument and symbol a bounded number of times, and takes
-/// eight bytes for each record while it runs. Where that is refused, the fault is `Memory`: it may
+/// six bytes for each record while it runs. Where that is refused, the fault is `Memory`: it may
 /// stand for a fault of chains, and for no other before them. No name is searched for its end.
 pub fn check<'a>(
     alloc: Global,
