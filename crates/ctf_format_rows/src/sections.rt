@@ -167,6 +167,33 @@ fn finds_short_names(rt: HostRuntime) {
 }
 
 #[test]
+fn compares_names(rt: HostRuntime) {
+    let both = Strings::new(b"\0int\0inte\0tail", Some(b"\0elf\0"));
+    let rows: [(u32, &[u8], bool); 14] = [
+        (0, b"", true),
+        (0, b"\0", false),
+        (0, b"int", false),
+        (1, b"int", true),
+        (1, b"in", false),
+        (1, b"inte", false),
+        (1, b"int\0inte", false),
+        (2, b"nt", true),
+        (4, b"", true),
+        (5, b"inte", true),
+        (10, b"tail", false),
+        (0x8000_0000, b"", true),
+        (0x8000_0001, b"elf", true),
+        (0x8000_0009, b"", false),
+    ];
+    for (reference, text, same) in rows {
+        assert!(rt; both.is_name(reference, text) == same, "at {reference}");
+    }
+    let neither = Strings::new(b"", None);
+    assert!(rt; neither.is_name(0x8000_0000, b""));
+    assert!(rt; !neither.is_name(0x8000_0001, b""));
+}
+
+#[test]
 fn reads_numbers(rt: HostRuntime) {
     let bytes = b"\x01\x02\x03\x04\x05";
     assert!(rt; (u16_at(bytes, 1), u32_at(bytes, 1)) == (0x0302, 0x0504_0302));

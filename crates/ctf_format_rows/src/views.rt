@@ -7,7 +7,7 @@ ghost use Rattle.ctf_sections.specs.StringsView.{tables};
 use ctf_model::TypeNum;
 use ctf_records::{Tag, record_at};
 use ctf_sections::Strings;
-use ctf_views::{ArrayInfo, Encoding, Enumerator, Member, Variant, variant};
+use ctf_views::{ArrayInfo, Encoding, Enumerator, Member, Variant, is_variadic, variant};
 
 /// What the one record shows that some bytes are.
 fn shown<'a>(types: &'a [u8], strings: Strings<'a>) -> Option<Variant<'a>>
@@ -168,10 +168,13 @@ fn shows_arguments(rt: HostRuntime) {
     let (first, second, third) = (Some(TypeNum(7)), Some(TypeNum(0x8001)), Some(TypeNum(0)));
     assert!(rt; (args.size_hint(), args.len()) == ((3, Some(3)), 3));
     assert!(rt; (args.get(2), args.get(3)) == (third, None));
+    assert!(rt; is_variadic(&args));
     assert!(rt; (args.next_back(), args.len()) == (third, 2));
+    assert!(rt; !is_variadic(&args));
     assert!(rt; (args.next_back(), args.len()) == (second, 1));
     assert!(rt; (args.get(0), args.next(), args.len()) == (first, first, 0));
     assert!(rt; (args.next(), args.next_back()) == (None, None));
+    assert!(rt; !is_variadic(&args));
 }
 
 #[test]

@@ -2,8 +2,8 @@
 ghost use Rattle.std.specs.Prelude.{◌≡◌, ◌≤◌, [], ◌∷◌, codes, length, map, take, true, false, None, Some, Ok, Err, IfOk, IfSome, IfNone, IsNone, option_map, option_and_then};
 ghost use Rattle.ctf_protocol.specs.answers.Answers.{number, says, word};
 ghost use Rattle.ctf_model.specs.names.KindNames.{name_of_kind, name_of_tag};
-ghost use Rattle.ctf_protocol.specs.answers.Questions.{or_wrong_kind, list_fields, plain_said, said_on, type_said, record_fields, member_fields, enumerator_fields, argument_fields, array_fields, encoding_fields, as_fields, type_fields, name_fields, position_fields, value_fields, number_item, is_variadic as ends_open, named_arguments};
-ghost use Rattle.ctf_model.specs.format.Shown.{members_in, enumerators_in, arguments_in, array_in, encoding_in, list_length};
+ghost use Rattle.ctf_protocol.specs.answers.Questions.{or_wrong_kind, list_fields, plain_said, said_on, type_said, record_fields, member_fields, enumerator_fields, argument_fields, array_fields, encoding_fields, as_fields, type_fields, name_fields, position_fields, value_fields, number_item};
+ghost use Rattle.ctf_model.specs.format.Shown.{members_in, enumerators_in, arguments_in, array_in, encoding_in, list_length, named_arguments};
 ghost use Rattle.ctf_protocol.specs.sessions.Steps.{is_quiet, is_quiet_on, slot_said, slot_space, MayAnswer};
 ghost use Rattle.ctf_model.specs.names.TypeNames.{spelled_name};
 ghost use Rattle.ctf_model.specs.values.Values.{value_text};
@@ -33,7 +33,7 @@ use ctf_protocol::{
 };
 use ctf_records::Tag;
 use ctf_space::Space;
-use ctf_views::{Args, Variant};
+use ctf_views::{Args, Variant, is_variadic};
 use std::alloc::Global;
 
 /// What a list answers that a type may have.
@@ -66,20 +66,6 @@ fn enumerators<'a>(behind: Variant<'a>, window: Window) -> Result<Answer<'a>, Fa
             Ok(listed("enumerators", Items::Enumerators(enumerators), window))
         }
         _ => Err(placeless(Fault::WRONG_KIND)),
-    }
-}
-
-/// Whether a function may take more arguments than are named.
-fn is_variadic(args: &Args<'_>) -> bool
-    ensures { result ≡ ends_open args.now }
-{
-    let len = args.len();
-    if len == 0 {
-        return false;
-    }
-    match args.get(len - 1) {
-        Some(last) => last.0 == 0,
-        None => false,
     }
 }
 

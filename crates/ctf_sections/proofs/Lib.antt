@@ -1,3 +1,4 @@
 pub mod LastNames
 pub mod Numbers
+pub mod SameTexts
 pub mod Texts

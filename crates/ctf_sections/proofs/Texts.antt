@@ -37,7 +37,7 @@ text_is bytes (Some k) h = text_found bytes k h
 
 -- ---- texts that are not longer than is asked
 
-text_cons_case : (x : ℕ) (xs : List ℕ) (t : Bool) → is_zero x ≡ t → text (x ∷ xs) ≡ (if t then Some [] else option_map (λ b. x ∷ b) (text xs))
+pub text_cons_case : (x : ℕ) (xs : List ℕ) (t : Bool) → is_zero x ≡ t → text (x ∷ xs) ≡ (if t then Some [] else option_map (λ b. x ∷ b) (text xs))
 text_cons_case x xs true e = rw e refl
 text_cons_case x xs false e = let one : 1 + position_or_len is_zero xs ≡ suc (position_or_len is_zero xs) = omega arith in rw (e, one) (any (list_any is_zero xs) refl)
   where

@@ -4,8 +4,10 @@
 pub mod bytes;
 mod ends;
 mod header;
+mod matching;
 mod strings;
 
 pub use ends::{end_of_names, up_to_zero};
 pub use header::Header;
+pub use matching::is_text;
 pub use strings::{Strings, short_text, text};

@@ -1,8 +1,9 @@
 //! The two tables that names stand in, and the names that references name there.
 ghost use Rattle.std.specs.Prelude.{◌≡◌, ◌+◌, Some, option_copied, take};
 ghost use Rattle.ctf_model.specs.format.Name.{name as named, table as table_of, text_at};
-ghost use Rattle.ctf_sections.specs.ShortNames.{if_short};
+ghost use Rattle.ctf_sections.specs.ShortNames.{if_short, is_named};
 
+use crate::matching::is_text;
 use memchr::memchr;
 
 /// The tables of names: the string section, and the strings of a symbol table where they are there.
@@ -83,6 +84,20 @@ impl<'a> Strings<'a> {
         match (reference & 0x7fff_ffff) as usize {
             0 => Some(&[]),
             offset => short_text(self.table(reference)?, offset, most),
+        }
+    }
+
+    /// Whether a reference names a text. Of all names that overlap it reads no more than the length
+    /// of one, and a few bytes of each of the others.
+    pub fn is_name(&self, reference: u32, text: &[u8]) -> bool
+        ensures { result ≡ is_named text.now (named (tables self.now) reference) }
+    {
+        match (reference & 0x7fff_ffff) as usize {
+            0 => text.is_empty(),
+            offset => match self.table(reference) {
+                Some(table) => is_text(table, offset, text),
+                None => false,
+            },
         }
     }
 }

@@ -1,5 +1,6 @@
 //! The arguments of a function type.
 ghost use Rattle.std.specs.Prelude.{◌≡◌, ◌*◌, ◌≤◌, length, Some};
+ghost use Rattle.ctf_model.specs.format.Shown.{is_variadic as ends_open};
 ghost use Rattle.ctf_model.specs.format.Spelling.{items, argument_of};
 
 use crate::row::Row;
@@ -40,4 +41,19 @@ pub fn arguments(bytes: &[u8], count: usize) -> Args<'_>
     ensures { items argument_of 2 count bytes.now ≡ Some result }
 {
     Rows::new(bytes, count, ArgumentRow)
+}
+
+/// Whether more arguments may follow those that are named: the last type is 0 then, which is no
+/// argument itself (ctf(5), "Function Types").
+pub fn is_variadic(args: &Args<'_>) -> bool
+    ensures { result ≡ ends_open args.now }
+{
+    let len = args.len();
+    if len == 0 {
+        return false;
+    }
+    match args.get(len - 1) {
+        Some(last) => last.0 == 0,
+        None => false,
+    }
 }

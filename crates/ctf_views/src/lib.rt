@@ -11,7 +11,7 @@ mod row;
 mod rows;
 mod shown;
 
-pub use args::{Args, arguments};
+pub use args::{Args, arguments, is_variadic};
 pub use enumerators::{Enumerator, Enumerators};
 pub use labels::{Label, Labels, read_labels};
 pub use members::{Member, Members};

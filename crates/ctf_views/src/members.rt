@@ -44,15 +44,14 @@ pub struct MemberRow<'a> {
 }
 
 impl<'a> MemberRow<'a> {
-    /// Whether the member that begins some bytes has a name. Of the member's own name it reads no
-    /// more than one byte beyond that length.
+    /// Whether the member that begins some bytes has a name.
     fn is_named(&self, bytes: &[u8], name: &[u8]) -> bool
         requires inside { len_of_member self.now.size ≤ length bytes.now }
         requires good { IsSome (member_of self.now.size (tables self.now.strings) bytes.now) }
         ensures { Some result ≡ option_map (λ m. bytes_eq name.now m.name)
             (member_of self.now.size (tables self.now.strings) bytes.now) }
     {
-        self.strings.short_name(u32_at(bytes, 0), name.len()) == Some(name)
+        self.strings.is_name(u32_at(bytes, 0), name)
     }
 }
 
@@ -98,8 +97,9 @@ impl<'a> Rows<'a, MemberRow<'a>> {
         row.is_named(bytes, name)
     }
 
-    /// The first member with a name; the empty name is that of each unnamed one. Of the members'
-    /// names it reads no more than one byte beyond that length, however long they are.
+    /// The first member with a name; the empty name is that of each unnamed one. However long the
+    /// members' names are and wherever they overlap, those of different references are compared with
+    /// no more bytes than their tables have.
     #[tactic(auto, using(crate::proofs::Named::named_here, crate::proofs::Named::named_later, crate::proofs::Named::named_nowhere))]
     pub fn named(&self, name: &[u8]) -> Option<Member<'a>>
         ensures { option_map member result ≡ member_named name.now self.now }

@@ -1,6 +1,7 @@
 -- What of a type stands in the head of its record, and what behind it. Source: ctf(5), "The Type
--- Section": whether ctt_size or ctt_type is meant, and the variable-length data of each kind.
-use Rattle.std.specs.Prelude.{ℕ, Bool, List, length, Option, Some, None}
+-- Section": whether ctt_size or ctt_type is meant, the variable-length data of each kind, and the
+-- last argument 0 of a function that takes more.
+use Rattle.std.specs.Prelude.{ℕ, ◌-◌, ◌&&◌, ◌==◌, nat_lt, Bool, List, length, take, slice_index, Option, Some, None, if◌then◌else◌}
 use Rattle.ctf_model.specs.format.Term.{Body, Enumerator, Member, Scalar, Elements, Tag, Term}
 use Rattle.ctf_model.specs.format.Term as term
 use Rattle.ctf_model.specs.declared.kinds.Kind.{Kind}
@@ -122,6 +123,15 @@ list_length (members items) = length items
 list_length (enumerators items) = length items
 list_length (arguments items) = length items
 list_length _ = 0
+
+-- ---- of the arguments of a function
+
+-- a last argument 0 says that more arguments may follow, and isn't one itself
+abbrev pub is_variadic : List ℕ → Bool
+is_variadic args = nat_lt 0 (length args) && slice_index args (length args - 1) == 0
+
+abbrev pub named_arguments : List ℕ → List ℕ
+named_arguments args = if is_variadic args then take (length args - 1) args else args
 
 -- ---- all of it
 

@@ -1,7 +1,7 @@
 -- What a question is answered. Source: libctf(3LIB), ctf_type_kind, ctf_member_iter, ctf_enum_iter,
 -- ctf_func_args, ctf_array_info, ctf_type_encoding, ctf_type_reference, ctf_type_resolve,
 -- ctf_type_size, ctf_type_align, ctf_type_lname, ctf_type_pointer; the form of answers is ours.
-use Rattle.std.specs.Prelude.{ℕ, ◌-◌, ◌&&◌, ◌==◌, ◌++◌, nat_lt, Bool, List, [], ◌∷◌, length, map, take, drop, slice_index, option_and_then, Option, Some, None, Result, Ok, Err, codes, if◌then◌else◌}
+use Rattle.std.specs.Prelude.{ℕ, ◌++◌, Bool, List, [], ◌∷◌, length, map, take, drop, option_and_then, Option, Some, None, Result, Ok, Err, codes, if◌then◌else◌}
 use Rattle.std.specs.Option.{option_map}
 use Rattle.ctf_protocol.specs.answers.Answers.{Answer, Item, says, may_say, lists, entry, number, signed, truth, word, text, bare, object}
 use Rattle.ctf_model.specs.figures.Figures.{align, referred, resolved, size}
@@ -9,7 +9,7 @@ use Rattle.ctf_model.specs.names.Found.{pointer_to}
 use Rattle.ctf_model.specs.names.KindNames.{name_of_kind, name_of_tag}
 use Rattle.ctf_model.specs.figures.Paths.{Position, path}
 use Rattle.ctf_model.specs.rules.Refusals.{placeless}
-use Rattle.ctf_model.specs.format.Shown.{ArrayParts, EncodingParts, Facts, Shape, facts, members_in, enumerators_in, arguments_in, array_in, encoding_in, list_length}
+use Rattle.ctf_model.specs.format.Shown.{ArrayParts, EncodingParts, Facts, Shape, facts, members_in, enumerators_in, arguments_in, array_in, encoding_in, is_variadic, list_length, named_arguments}
 use Rattle.ctf_model.specs.spaces.Space.{Space, space_type}
 use Rattle.ctf_model.specs.format.Term.{Member, Enumerator, Term}
 use Rattle.ctf_model.specs.names.TypeNames.{spelled_name}
@@ -67,13 +67,6 @@ enumerator_item e =
 abbrev pub enumerator_fields : Window → List Enumerator → Answer
 enumerator_fields window items =
     list_fields (codes "enumerators") window (map enumerator_item items)
-
--- a last argument 0 says that more arguments may follow, and isn't one itself
-abbrev pub is_variadic : List ℕ → Bool
-is_variadic args = nat_lt 0 (length args) && slice_index args (length args - 1) == 0
-
-abbrev pub named_arguments : List ℕ → List ℕ
-named_arguments args = if is_variadic args then take (length args - 1) args else args
 
 abbrev pub number_item : ℕ → Item
 number_item n = bare (number n)
