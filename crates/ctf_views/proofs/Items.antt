@@ -135,6 +135,13 @@ item_is item len n i b r x h lt e f = gets item len n i b (Some x) h lt (ap item
 reads : {A : Type 0} (item : List ℕ → Option A) (len n i : ℕ) (b : List ℕ) (x : A) → AreGood item len n b → i < n → Some x ≡ slice_get (items_in item len n b) i → item (drop (len * i) b) ≡ Some x
 reads item len n i b x h lt e = items_at item len n i b (items_in item len n b) (items_in_is item len n b h) lt ∙ sym e
 
+-- what its row says is the item
+pub row_says : {A : Type 0} (item : List ℕ → Option A) (len n i : ℕ) (b r : List ℕ) → AreGood item len n b → i < n → r ≡ drop (len * i) b → item r ≡ slice_get (items_in item len n b) i
+row_says item len n i b r h lt e = rw e (items_at item len n i b (items_in item len n b) (items_in_is item len n b h) lt)
+
+pub row_some : {A : Type 0} (item : List ℕ → Option A) (len n i : ℕ) (b r : List ℕ) → AreGood item len n b → i < n → item r ≡ slice_get (items_in item len n b) i → IsSome (item r)
+row_some item len n i b r h lt e = some_at (item r) (items_in item len n b) i (rw (items_in_length item len n b h) lt) e
+
 -- there is none past the last
 pub none_past : {A : Type 0} (item : List ℕ → Option A) (len n i : ℕ) (b : List ℕ) (s : List A) → items_in item len n b ≡ s → AreGood item len n b → n ≤ i → None ≡ slice_get s i
 none_past {A = A} item len n i b s seen h le = gets_none item len n i b h le ∙ ap (λ (l : List A). slice_get l i) seen

@@ -5,6 +5,7 @@ mod args;
 mod enumerators;
 mod labels;
 mod members;
+mod missed;
 mod parts;
 mod reading;
 mod row;

@@ -1,19 +1,25 @@
 //! The members of a struct or union.
-ghost use Rattle.std.specs.Prelude.{◌≡◌, ◌≤◌, ◌<◌, length, IsSome, Some, bytes_eq, slice_get};
+ghost use Rattle.std.specs.Prelude.{◌≡◌, ◌≤◌, length, IsSome, Some, bytes_eq, option_and_then, slice_get};
 ghost use Rattle.std.specs.Option.{option_map};
 ghost use Rattle.ctf_model.specs.figures.Paths.{member_named};
 ghost use Rattle.ctf_model.specs.format.Record.{member_len as len_of_member};
 ghost use Rattle.ctf_model.specs.format.Spelling.{member_of};
 ghost use Rattle.ctf_sections.specs.StringsView.{tables};
 ghost use Rattle.ctf_views.specs.ItemsView.{member};
+ghost use Rattle.ctf_views.specs.Lists.{AreGood, items_in};
+ghost use Rattle.ctf_views.specs.Missing.{AreMissed};
 
+use crate::missed::Missed;
 use crate::row::Row;
-use crate::rows::Rows;
+use crate::rows::{Rows, bytes_at};
 use ctf_model::TypeNum;
 use ctf_records::{WIDE_MEMBERS, member_len};
 use ctf_sections::Strings;
 use ctf_sections::bytes::{u16_at, u32_at};
 use std::marker::Model;
+
+/// From how many bytes on a name is long.
+const LONG: usize = 256;
 
 /// A member: its name, its type, and where it begins in its struct or union, in bits.
 #[derive(Clone, Copy, Debug, PartialEq, Eq)]
@@ -44,14 +50,28 @@ pub struct MemberRow<'a> {
 }
 
 impl<'a> MemberRow<'a> {
-    /// Whether the member that begins some bytes has a name.
-    fn is_named(&self, bytes: &[u8], name: &[u8]) -> bool
+    /// Whether the member that begins some bytes has a name. Where the name is long, what its
+    /// reference was found not to name is not compared again.
+    fn is_named(&self, bytes: &[u8], name: &[u8], missed: &mut Missed) -> bool
         requires inside { len_of_member self.now.size ≤ length bytes.now }
         requires good { IsSome (member_of self.now.size (tables self.now.strings) bytes.now) }
-        ensures { Some result ≡ option_map (λ m. bytes_eq name.now m.name)
+        requires missed { AreMissed name.now (tables self.now.strings) missed.old }
+        ensures value { Some result ≡ option_map (λ m. bytes_eq name.now m.name)
             (member_of self.now.size (tables self.now.strings) bytes.now) }
+        ensures missed { AreMissed name.now (tables self.now.strings) missed.new }
     {
-        self.strings.is_name(u32_at(bytes, 0), name)
+        let reference = u32_at(bytes, 0);
+        if name.len() < LONG {
+            return self.strings.is_name(reference, name);
+        }
+        if missed.has(reference) {
+            return false;
+        }
+        if self.strings.is_name(reference, name) {
+            return true;
+        }
+        missed.keep(reference);
+        false
     }
 }
 
@@ -86,29 +106,32 @@ impl<'a> Row for MemberRow<'a> {
 /// The members of a struct or union that are left.
 pub type Members<'a> = Rows<'a, MemberRow<'a>>;
 
-impl<'a> Rows<'a, MemberRow<'a>> {
-    /// Whether the member with a number, from 0, has a name.
-    fn is_named(&self, index: usize, name: &[u8]) -> bool
-        requires { index < length self.now }
-        ensures { Some result
-            ≡ option_map (λ m. bytes_eq name.now m.name) (slice_get self.now index) }
-    {
-        let (row, bytes) = self.row_at(index);
-        row.is_named(bytes, name)
+/// The number of the first member with a name, of `count` members that stand in bytes.
+#[tactic(auto, using(crate::proofs::Named::named_here, crate::proofs::Named::named_later, crate::proofs::Named::named_nowhere))]
+fn first_named(row: MemberRow<'_>, bytes: &[u8], count: usize, name: &[u8]) -> Option<usize>
+    requires { AreGood (member_of row.size (tables row.strings)) (len_of_member row.size) count
+        bytes.now }
+    ensures { let members = items_in (member_of row.entry.size (tables row.entry.strings))
+        (len_of_member row.entry.size) count bytes.now in
+        option_and_then (slice_get members) result ≡ member_named name.now members }
+{
+    let mut missed = Missed::new();
+    for index in 0..count {
+        if row.is_named(bytes_at(row, bytes, count, index), name, &mut missed) {
+            return Some(index);
+        }
     }
+    None
+}
 
+impl<'a> Rows<'a, MemberRow<'a>> {
     /// The first member with a name; the empty name is that of each unnamed one. However long the
-    /// members' names are and wherever they overlap, those of different references are compared with
-    /// no more bytes than their tables have.
-    #[tactic(auto, using(crate::proofs::Named::named_here, crate::proofs::Named::named_later, crate::proofs::Named::named_nowhere))]
+    /// members' names are and wherever they overlap, no more bytes are compared than a few times
+    /// those of the tables.
     pub fn named(&self, name: &[u8]) -> Option<Member<'a>>
         ensures { option_map member result ≡ member_named name.now self.now }
     {
-        for index in 0..self.len() {
-            if self.is_named(index, name) {
-                return self.get(index);
-            }
-        }
-        None
+        let (row, bytes, count) = self.parts();
+        self.get(first_named(row, bytes, count, name)?)
     }
 }

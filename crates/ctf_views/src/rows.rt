@@ -37,6 +37,17 @@ fn from_row(bytes: &[u8], len: usize, row: usize) -> &[u8]
     &bytes[len * row..]
 }
 
+/// The bytes that one of `count` items begins.
+pub(crate) fn bytes_at<'a, R: Row>(row: R, bytes: &'a [u8], count: usize, index: usize) -> &'a [u8]
+    requires good { AreGood (R.item_of row) (R.row_len row) count bytes.now }
+    requires inside { index < count }
+    ensures inside { R.row_len row ≤ length result.now }
+    ensures item { R.item_of row result.now
+        ≡ slice_get (items_in (R.item_of row) (R.row_len row) count bytes.now) index }
+{
+    from_row(bytes, row.len(), index)
+}
+
 /// One of `count` items that stand in bytes.
 fn item_at<R: Row>(row: R, bytes: &[u8], count: usize, index: usize) -> R::Item
     requires good { AreGood (R.item_of row) (R.row_len row) count bytes.now }
@@ -53,6 +64,15 @@ impl<'a, R: Row> Rows<'a, R> {
         ensures { items (R.item_of row) (R.row_len row) count bytes.now ≡ Some result }
     {
         Rows { bytes, count, row }
+    }
+
+    /// How the items are read, their bytes, and how many they are.
+    pub(crate) fn parts(&self) -> (R, &'a [u8], usize)
+        ensures good { AreGood (R.item_of result.0) (R.row_len result.0) result.2 result.1.now }
+        ensures items { items_in (R.item_of result.0) (R.row_len result.0) result.2 result.1.now
+            ≡ self.now }
+    {
+        (self.row, self.bytes, self.count)
     }
 
     /// How the item with a number is read, and the bytes that it begins.

@@ -1,0 +1,201 @@
+#!/usr/bin/env python3
+"""Times requests on dictionaries that are made to be slow, and how their cost grows.
+
+usage: hostile.py PROGRAM [--growth] [--limit FACTOR] [WORD]..
+
+Each case is a dictionary and one request (or a dump). Told are the megabytes that were read and written, the
+milliseconds of processor time that the request took, the least of three runs, and those for each megabyte.
+Wanted are at most 10 ms for each MB; what takes no more than 5 ms in all is within that. With --limit, the
+status is 1 where a case takes more than FACTOR times as long. With --growth, instructions are counted by
+valgrind for each case and for one of half its size: twice as many are linear. WORDs pick cases by their names.
+"""
+import argparse
+import os
+import random
+import re
+import subprocess
+import sys
+import tempfile
+from dataclasses import dataclass
+from typing import Callable
+
+import hostile_dictionaries as made
+from dictionaries import all_parts
+
+WANTED, LEAST = 10.0, 5.0
+
+
+@dataclass(frozen=True)
+class Case:
+    """What is asked of a dictionary of a size. `make` gives its lists and a type's number; `ask` gives the fields
+    of a request on it, or None for a dump."""
+
+    name: str
+    size: int
+    make: Callable
+    ask: Callable | None
+
+
+def show(memory):
+    return lambda t: '"op":"show","d":1,"t":%d,"bytes":"%s","offset":0' % (t, memory.hex())
+
+
+def word(op, rest=""):
+    return lambda t: '"op":"%s","d":1,"t":%d%s' % (op, t, rest)
+
+
+def path(length, last=b"a"):
+    name = (b"a" * (length - 1) + last).decode()
+    return lambda t: '"op":"path","d":1,"t":%d,"names":["%s"]' % (t, name)
+
+
+def opened(t):
+    return None
+
+
+def shuffled(count):
+    numbers = list(range(count))
+    random.Random(1).shuffle(numbers)
+    return numbers
+
+
+MEGABYTE = 1_000_000
+WINDOW = ',"from":0,"count":1023'
+
+CASES = [
+    Case("show: an array of enums, names of 10 bytes that overlap", 32768, lambda n: made.enums(n, 10), show(bytes(32768))),
+    Case("show: the same, names of 10,000 bytes", 32768, lambda n: made.enums(n, 10_000), show(bytes(32768))),
+    Case("show: 300 such enums, names of 1 MB", 32400, lambda n: made.enums(n, MEGABYTE, 300), show(bytes(32768))),
+    Case("show: an enum of 15 MB names", 32768, lambda n: made.enums(n, 15 * MEGABYTE), show(bytes(32768))),
+    Case("show: enums of two bytes, 1,023 values", 16384, made.many_values,
+         show(b"".join((i * 7919 % 1023).to_bytes(2, "little") for i in range(16384)))),
+    Case("show: an array behind 511 typedefs", 32768, made.typedefs, show(bytes(32768))),
+    Case("show: integers of 64 bits without a size", 21845, made.integers, show(bytes(8))),
+    Case("show: the same, from bit 3 on", 21845, lambda n: made.integers(n, 3), show(bytes(9))),
+    Case("show: arrays of nothing, nested 499 deep", 499, made.nested_nothing, show(bytes(8))),
+    Case("show: structs of 1,023 empty structs", 32, made.empty_members, show(bytes(8))),
+    Case("path: 1,023 names of 1 MB that overlap", MEGABYTE, made.overlapping_members, path(MEGABYTE - 1022)),
+    Case("path: 1,023 members of one name of 1 MB", MEGABYTE, made.same_members, path(MEGABYTE, b"b")),
+    Case("path: 1,023 names that end elsewhere", MEGABYTE // 2, made.ends_far_off, path(MEGABYTE // 2 + 900)),
+    Case("name: of 15 MB", 15 * MEGABYTE, made.long_names, word("name")),
+    Case("record: a name of 15 MB", 15 * MEGABYTE, made.long_names, word("record")),
+    Case("members: 1,023 of a name of 15 MB", 15 * MEGABYTE, made.long_names, word("members", WINDOW)),
+    Case("find: among 16,000 names alike in front", 16000, made.alike,
+         lambda t: '"op":"find","d":1,"text":"%s"' % ("%d" % 15999).rjust(79, "n")),
+    Case("open: 699,048 symbols in order", 699_048, lambda n: made.named_symbols(n, range), opened),
+    Case("open: the same, shuffled", 699_048, lambda n: made.named_symbols(n, shuffled), opened),
+    Case("open: 1,900 unions of 1,023 members", 1900, made.unions, opened),
+    Case("dump: 20,000 symbols of a 15 MB name, untold", 20_000, lambda n: made.untold(n, 15 * MEGABYTE), None),
+    Case("dump: 32,765 pointers to a name of 1 MB", 32765, lambda n: made.pointers(n, MEGABYTE), None),
+    Case("dump: 32,256 pointers, 511 deep, to 65,537 bytes", 32256, lambda n: made.deep_pointers(n, 65537), None),
+]
+
+
+def stream(lists, fields, word):
+    """The lines that hand in a dictionary, open it and ask, or stop where `word` says."""
+    yield from all_parts(1, lists)
+    if word == "parts":
+        return
+    yield '{"s":1,"op":"open"}\n'
+    if word == "asked" and fields:
+        yield '{"s":1,%s}\n' % fields
+
+
+class Run:
+    """A case of a size, in files of a folder."""
+
+    def __init__(self, program, case, size, folder):
+        lists, number = case.make(size)
+        self.program, self.is_dump, self.folder = program, case.ask is None, folder
+        self.lists = lists
+        self.fields = None if self.is_dump else case.ask(number)
+        self.files = [os.path.join(folder, name) for name in ("ctf", "sym", "str")]
+        for file, data in zip(self.files, lists):
+            with open(file, "wb") as out:
+                out.write(data)
+
+    def commands(self):
+        """The command with what is asked and the one without it, each with its input."""
+        if self.is_dump:
+            extra = ["--sym", self.files[1], "--str", self.files[2]] if self.lists[1] or self.lists[2] else []
+            return ([self.program, "dump", self.files[0], *extra], os.devnull), None
+        asked, before = "asked" if self.fields else "opened", "opened" if self.fields else "parts"
+        return tuple(([self.program, "serve"], self.lines(word)) for word in (asked, before))
+
+    def lines(self, word):
+        file = os.path.join(self.folder, word)
+        with open(file, "w") as out:
+            out.writelines(stream(self.lists, self.fields, word))
+        return file
+
+    def megabytes(self, written):
+        asked = len(self.fields or "")
+        return (sum(map(len, self.lists)) + asked + written) / 1_000_000
+
+
+def timed(command, file):
+    """The seconds of processor time, and how many bytes the last line or the dump has."""
+    with open(file, "rb") as stdin, tempfile.TemporaryFile() as out:
+        child = subprocess.Popen(command, stdin=stdin, stdout=out)
+        _, status, usage = os.wait4(child.pid, 0)
+        if status:
+            sys.exit(f"{' '.join(command)} ended with status {status}")
+        out.seek(0)
+        said = out.read()
+    return usage.ru_utime + usage.ru_stime, said
+
+
+def measure(run):
+    """The megabytes and the milliseconds of what is asked."""
+    with_it, without = run.commands()
+    best, said = min(timed(*with_it) for _ in range(3))
+    if without:
+        best -= min(timed(*without) for _ in range(3))[0]
+        said = said.rsplit(b"\n", 2)[-2]
+        if not said.startswith(b'{"ok"') and b"TooLong" not in said and b"NoMember" not in said:
+            sys.exit(f"refused: {said[:200]}")
+    return run.megabytes(len(said)), 1000 * best
+
+
+def instructions(command, file):
+    words = ["valgrind", "--tool=callgrind", "--callgrind-out-file=/dev/null", *command]
+    with open(file, "rb") as stdin:
+        done = subprocess.run(words, stdin=stdin, stdout=subprocess.DEVNULL, stderr=subprocess.PIPE, check=True)
+    return int(re.search(rb"Collected : (\d+)", done.stderr).group(1))
+
+
+def counted(run):
+    with_it, without = run.commands()
+    return instructions(*with_it) - (instructions(*without) if without else 0)
+
+
+def growth(program, case):
+    """How many times as many instructions a case takes as one of half its size."""
+    with tempfile.TemporaryDirectory() as small, tempfile.TemporaryDirectory() as large:
+        return counted(Run(program, case, case.size, large)) / counted(Run(program, case, case.size // 2, small))
+
+
+def main():
+    parser = argparse.ArgumentParser(description=__doc__, formatter_class=argparse.RawDescriptionHelpFormatter)
+    parser.add_argument("program")
+    parser.add_argument("words", nargs="*")
+    parser.add_argument("--growth", action="store_true")
+    parser.add_argument("--limit", type=float)
+    options = parser.parse_args()
+    program = os.path.abspath(options.program)
+    slow = 0
+    for case in CASES:
+        if options.words and not any(word in case.name for word in options.words):
+            continue
+        with tempfile.TemporaryDirectory() as folder:
+            megabytes, milliseconds = measure(Run(program, case, case.size, folder))
+        rate = milliseconds / megabytes
+        over = options.limit and milliseconds > options.limit * max(LEAST, WANTED * megabytes)
+        slow += bool(over)
+        grown = f"  x{growth(program, case):.2f}" if options.growth else ""
+        print(f"{case.name:52}{megabytes:8.2f} MB{milliseconds:9.1f} ms{rate:9.1f} ms/MB{grown}{'  TOO SLOW' if over else ''}", flush=True)
+    return 1 if slow else 0
+
+
+if __name__ == "__main__":
+    sys.exit(main())
