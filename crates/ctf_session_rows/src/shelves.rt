@@ -3,13 +3,10 @@ ghost use Rattle.std.specs.Prelude.{◌≡◌, Some, None, map};
 ghost use Rattle.ctf_wire.specs.Flushes.{Flushes};
 ghost use Rattle.ctf_wire.specs.Streams.{Pushed};
 
-use crate::noted::THREE;
+use crate::noted::{BATCHED, THREE};
 use ctf_wire::{Broker, FromReader, Sink, serve};
 use std::alloc::{AllocError, Global};
 use std::test::Fail;
-
-/// What the three lines are answered, where the first two come in one read, and a bar for each flush.
-const SHELVED: &str = "{\"ok\":{},\"s\":1}\n{\"ok\":{},\"s\":2}\n|{\"ok\":{},\"s\":3}\n|";
 
 /// Keeps each flushed piece.
 #[derive(Drop)]
@@ -79,7 +76,7 @@ fn shelved(alloc: Global, before: &[u8]) -> Result<Vec<u8>, AllocError> {
 #[test]
 fn the_replies_of_a_read_are_flushed_at_once(rt: HostRuntime) -> Result<(), Fail> {
     let written = shelved(rt.alloc(), b"")?;
-    assert!(rt; written.as_slice() == SHELVED.as_bytes());
+    assert!(rt; written.as_slice() == BATCHED.as_bytes());
     Ok(())
 }
 
@@ -87,6 +84,6 @@ fn the_replies_of_a_read_are_flushed_at_once(rt: HostRuntime) -> Result<(), Fail
 fn what_waits_goes_with_the_first_replies(rt: HostRuntime) -> Result<(), Fail> {
     let written = shelved(rt.alloc(), b"before ")?;
     assert!(rt; written.starts_with(b"before {\"ok\":{},\"s\":1}\n{"));
-    assert!(rt; written.ends_with(SHELVED.as_bytes()));
+    assert!(rt; written.ends_with(BATCHED.as_bytes()));
     Ok(())
 }
