@@ -24,9 +24,9 @@ fn front(len: usize) -> &'static [u8] {
 #[test]
 fn each_read_has_one_flush(rt: HostRuntime) {
     let rows = [
-        (1, Err(RunFault::ReadBound), 35),
-        (2, Err(RunFault::ReadBound), 35),
-        (3, Ok(()), 53),
+        (1, Err(RunFault::ReadBound), 33),
+        (2, Err(RunFault::ReadBound), 33),
+        (3, Ok(()), 50),
     ];
     for (reads, want, len) in rows {
         let (end, written) = batched(rt.alloc(), reads, NONE);
@@ -37,7 +37,7 @@ fn each_read_has_one_flush(rt: HostRuntime) {
 
 #[test]
 fn a_failed_read_leaves_the_replies_before_it(rt: HostRuntime) {
-    for (read, len) in [(1, 0), (2, 35), (3, 35)] {
+    for (read, len) in [(1, 0), (2, 33), (3, 33)] {
         let (end, written) = batched(rt.alloc(), 99, Failing { read, ..NONE });
         assert!(rt; end == Err(RunFault::Read), "read {read}");
         assert!(rt; written.as_slice() == front(len), "read {read}");
@@ -45,7 +45,7 @@ fn a_failed_read_leaves_the_replies_before_it(rt: HostRuntime) {
 }
 
 /// What is noted before the first write, the second and so on: seven to the first two replies.
-const BEFORE_WRITES: [usize; 11] = [0, 5, 10, 15, 20, 25, 30, 35, 40, 45, 50];
+const BEFORE_WRITES: [usize; 11] = [0, 5, 10, 15, 20, 25, 30, 33, 38, 43, 48];
 
 #[test]
 fn a_failed_write_cuts_a_batch(rt: HostRuntime) {
@@ -60,7 +60,7 @@ fn a_failed_write_cuts_a_batch(rt: HostRuntime) {
 
 #[test]
 fn a_failed_flush_ends_a_run_of_batches(rt: HostRuntime) {
-    for (flush, len) in [(1, 34), (2, 52)] {
+    for (flush, len) in [(1, 32), (2, 49)] {
         let (end, written) = batched(rt.alloc(), 99, Failing { flush, ..NONE });
         assert!(rt; end == Err(RunFault::Write), "flush {flush}");
         assert!(rt; written.as_slice() == front(len), "flush {flush}");
@@ -82,5 +82,5 @@ fn after_a_failed_write_the_read_is_answered(rt: HostRuntime) {
     let ask = b"{\"s\":7,\"op\":\"kind\",\"d\":1,\"t\":1}\n";
     let (end, written) = served_by(rt.alloc(), &mut broker, ask, 65_536);
     assert!(rt; end == Ok(()));
-    assert!(rt; written.as_slice() == b"{\"ok\":{\"kind\":\"integer\"},\"s\":7}\n");
+    assert!(rt; written.as_slice() == b"{\"ok\":{\"kind\":\"integer\"},\"s\":7}\n".as_slice());
 }
