@@ -34,17 +34,23 @@ LINES_A_ROUND = 100_000
 SESSIONS = 12
 NUMBER = re.compile(rb"-?[0-9]+")
 STRING = re.compile(rb'"[^"\\]*"')
-NUMBERS = (b"0", b"1", b"2", b"3", b"7", b"15", b"255", b"256", b"1023", b"1024", b"32766", b"32767",
-           b"65535", b"65536", b"2147483647", b"2147483648", b"4294967295", b"4294967296",
-           b"9223372036854775807", b"9223372036854775808", b"18446744073709551615",
-           b"18446744073709551616", b"99999999999999999999", b"-1", b"-0", b"0.0", b"1.0", b"1e0",
-           b"1e1", b"1e400", b"-1e400", b"1e-400", b"00", b"01", b"+1", b".5", b"1.", b"0x1", b"null",
-           b"true", b'"1"', b"[]", b"{}", b"-9223372036854775808", b"-9223372036854775809")
-TEXTS = (b'""', b'"ctf"', b'"sym"', b'"str"', b'"struct"', b'"a\\u0000b"', b'"\\\\x00"', b'"\\\\x0g"',
-         b'"\\ud800"', b'"\\ud83d\\ude00"', b'"\xc3\xa9"', b'"\xff"', b'"\\"', b'"int"', b'"00"', b'"0"',
-         b'"F1cf"', b'"zz"', b"7", b"null", b"false")
-PIECES_OF_JSON = (b"{", b"}", b"[", b"]", b",", b":", b'"', b"\\", b" ", b"\t", b"\r", b"\x00", b"\x7f",
-                  b"\x80", b"\xff", b"0", b"-", b"e", b"null", b'"s":1,', b'"d":1,')
+NUMBERS = (
+    b"0", b"1", b"2", b"3", b"7", b"15", b"255", b"256", b"1023", b"1024", b"32766", b"32767",
+    b"65535", b"65536", b"2147483647", b"2147483648", b"4294967295", b"4294967296",
+    b"9223372036854775807", b"9223372036854775808", b"18446744073709551615",
+    b"18446744073709551616", b"99999999999999999999", b"-1", b"-0", b"0.0", b"1.0", b"1e0",
+    b"1e1", b"1e400", b"-1e400", b"1e-400", b"00", b"01", b"+1", b".5", b"1.", b"0x1", b"null",
+    b"true", b'"1"', b"[]", b"{}", b"-9223372036854775808", b"-9223372036854775809",
+)
+TEXTS = (
+    b'""', b'"ctf"', b'"sym"', b'"str"', b'"struct"', b'"a\\u0000b"', b'"\\\\x00"', b'"\\\\x0g"',
+    b'"\\ud800"', b'"\\ud83d\\ude00"', b'"\xc3\xa9"', b'"\xff"', b'"\\"', b'"int"', b'"00"',
+    b'"0"', b'"F1cf"', b'"zz"', b"7", b"null", b"false",
+)
+PIECES_OF_JSON = (
+    b"{", b"}", b"[", b"]", b",", b":", b'"', b"\\", b" ", b"\t", b"\r", b"\x00", b"\x7f",
+    b"\x80", b"\xff", b"0", b"-", b"e", b"null", b'"s":1,', b'"d":1,',
+)
 
 
 class Mismatch(Exception):
@@ -81,7 +87,8 @@ class Maker:
         other = self.luck.choice(self.single).strip()
         if not (line.startswith(b"{") and line.endswith(b"}") and other.startswith(b"{")):
             return line
-        return line[:-1] + b"," + other[1:] if self.luck.random() < 0.5 else other[:-1] + b"," + line[1:]
+        first, second = (line, other) if self.luck.random() < 0.5 else (other, line)
+        return first[:-1] + b"," + second[1:]
 
     def addressed(self, line: bytes, likely: int) -> bytes:
         """A line for one of a few sessions."""
@@ -123,7 +130,8 @@ class Maker:
 def feed(end: socket.socket, given: bytes, luck: random.Random) -> None:
     """Sends bytes in pieces, each of which one read takes."""
     at = 0
-    longest = luck.choice((1, 7, 80, 1_000, LONGEST_READ)) if len(given) < 1_000_000 else LONGEST_READ
+    small = (1, 7, 80, 1_000) if len(given) < 1_000_000 else ()
+    longest = luck.choice((*small, LONGEST_READ))
     while at < len(given):
         size = min(luck.randint(1, longest), luck.randint(1, longest))
         end.send(given[at:at + size])
