@@ -7,8 +7,8 @@ use Rattle.ctf_answers.specs.declared.fields.Field.{Field}
 
 abbrev pub value_of : Value → answers.Value
 value_of (One value) = answers.one (single_of value)
-value_of (Many items) = answers.many items
-value_of (Made bytes) = answers.one (answers.text bytes)
+value_of (Many items) = answers.many items.now
+value_of (Made bytes) = answers.one (answers.text bytes.now)
 
 abbrev pub field_of : Field → answers.Field
 field_of f = record { key = f.key.now; value = value_of f.value }

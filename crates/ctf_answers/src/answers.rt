@@ -1,32 +1,38 @@
 //! What a granted request is answered.
-ghost use Rattle.std.specs.Prelude.{◌≡◌, ◌++◌, ◌<◌, ◌≤◌, ◌+◌, [], ◌∷◌, length, Some, slice_get, option_map};
-ghost use Rattle.ctf_protocol.specs.answers.Answers.{says, may_say, lists, text as said_text};
+ghost use Rattle.std.specs.Prelude.{◌≡◌, ◌<◌, [], ◌∷◌, codes, length, Some, slice_get};
+ghost use Rattle.ctf_protocol.specs.answers.Answers.{says, lists, number, truth, text as said_text};
 ghost use Rattle.ctf_answers.specs.Singles.{single_of};
 ghost use Rattle.ctf_answers.specs.Fields.{field_of};
+ghost use Rattle.ctf_answers.specs.Said.{entry_said, fields_said};
+ghost use Rattle.ctf_answers.specs.Told.{record_told, info_told};
 
 use crate::fields::{Field, Value};
 use crate::listed::Listed;
-use crate::singles::Single;
-use arrayvec::ArrayVec;
+use crate::said::Said;
+use crate::singles::{Entry, Single};
+use crate::told::{InfoTold, RecordTold, field};
 use ctf_protocol::Bytes;
 use std::marker::Model;
 
 /// What a granted request is answered: at most eight fields, their keys in byte order.
 #[derive(Drop)]
 pub struct Answer<'a> {
-    fields: ArrayVec<Field<'a>, 8>,
+    said: Said<'a>,
 }
 
 impl<'a> Model for Answer<'a> {
-    ghost use Rattle.std.specs.Prelude.{map, ◌≤◌, length};
     ghost use Rattle.ctf_protocol.specs.answers.Answers.{Answer as SaidAnswer};
-    ghost use Rattle.ctf_answers.specs.Fields.{field_of};
+    ghost use Rattle.ctf_answers.specs.Said.{fields_said};
 
     ghost Value = { SaidAnswer };
 
-    ghost view = { λ a. map field_of a.fields.items };
+    ghost view = { λ a. fields_said a.said };
+}
 
-    ghost invariant = { λ a. length a.fields.items ≤ 8 };
+fn entry<'a>(key: &'static str, value: Single<'a>) -> Entry<'a>
+    ensures { entry_said result ≡ says key.now (single_of value.entry) }
+{
+    Entry { key, value }
 }
 
 impl<'a> Answer<'a> {
@@ -34,79 +40,206 @@ impl<'a> Answer<'a> {
     pub fn done() -> Answer<'a>
         ensures { result ≡ [] }
     {
+        Answer { said: Said::Done }
+    }
+
+    /// A single value.
+    pub fn one(key: &'static str, value: Single<'a>) -> Answer<'a>
+        ensures { result ≡ says key.now (single_of value.entry) ∷ [] }
+    {
         Answer {
-            fields: ArrayVec::new(),
+            said: Said::One(entry(key, value)),
         }
     }
 
-    fn and(mut self, field: Field<'a>) -> Answer<'a>
-        requires { length self < 8 }
-        ensures { result ≡ self.entry ++ field_of field.entry ∷ [] }
+    /// Two single values.
+    pub fn two(
+        key: &'static str,
+        value: Single<'a>,
+        key2: &'static str,
+        value2: Single<'a>,
+    ) -> Answer<'a>
+        ensures { result ≡ says key.now (single_of value.entry)
+            ∷ says key2.now (single_of value2.entry) ∷ [] }
     {
-        self.fields.push(field);
-        self
-    }
-
-    /// With a field of a single value.
-    pub fn with(self, key: &'static str, value: Single<'a>) -> Answer<'a>
-        requires { length self < 8 }
-        ensures fields { result ≡ self.entry ++ says key.now (single_of value.entry) ∷ [] }
-        ensures len { length result ≡ length self.entry + 1 }
-    {
-        self.and(Field {
-            key,
-            value: Value::One(value),
-        })
-    }
-
-    /// With a field of a single value, if there is one.
-    pub fn with_some(self, key: &'static str, value: Option<Single<'a>>) -> Answer<'a>
-        requires { length self < 8 }
-        ensures fields { result ≡ self.entry ++ may_say key.now (option_map single_of value.entry) }
-        ensures len { length result ≤ length self.entry + 1 }
-    {
-        match value {
-            Some(value) => self.with(key, value),
-            None => self,
+        Answer {
+            said: Said::Two(entry(key, value), entry(key2, value2)),
         }
     }
 
-    /// With a field of a list.
-    pub fn with_list(self, key: &'static str, items: Listed<'a>) -> Answer<'a>
-        requires { length self < 8 }
-        ensures fields { result ≡ self.entry ++ lists key.now items.entry ∷ [] }
-        ensures len { length result ≡ length self.entry + 1 }
+    /// Three single values.
+    pub fn three(
+        key: &'static str,
+        value: Single<'a>,
+        key2: &'static str,
+        value2: Single<'a>,
+        key3: &'static str,
+        value3: Single<'a>,
+    ) -> Answer<'a>
+        ensures { result ≡ says key.now (single_of value.entry)
+            ∷ says key2.now (single_of value2.entry) ∷ says key3.now (single_of value3.entry) ∷ [] }
     {
-        self.and(Field {
-            key,
-            value: Value::Many(items),
-        })
+        Answer {
+            said: Said::Three(entry(key, value), entry(key2, value2), entry(key3, value3)),
+        }
     }
 
-    /// With a field of a text that was made for it.
-    pub fn with_text(self, key: &'static str, text: Bytes) -> Answer<'a>
-        requires { length self < 8 }
-        ensures fields { result ≡ self.entry ++ says key.now (said_text text) ∷ [] }
-        ensures len { length result ≡ length self.entry + 1 }
+    /// Some items of a list, and how many it has.
+    pub fn window(key: &'static str, items: Listed<'a>, total: u64) -> Answer<'a>
+        ensures { result ≡ lists key.now items.entry ∷ says (codes "total") (number total) ∷ [] }
     {
-        self.and(Field {
-            key,
-            value: Value::Made(text),
-        })
+        Answer {
+            said: Said::Window { key, items, total },
+        }
+    }
+
+    /// What a function takes and returns.
+    pub fn signature(args: Listed<'a>, ret: u64, varargs: bool) -> Answer<'a>
+        ensures { result ≡ lists (codes "args") args.entry ∷ says (codes "return") (number ret)
+            ∷ says (codes "varargs") (truth varargs) ∷ [] }
+    {
+        Answer {
+            said: Said::Signature { args, ret, varargs },
+        }
+    }
+
+    /// A type without its list.
+    pub fn record_of(told: RecordTold<'a>) -> Answer<'a>
+        ensures { result ≡ record_told told.entry }
+    {
+        Answer {
+            said: Said::Record(told),
+        }
+    }
+
+    /// A dictionary as a whole.
+    pub fn info(told: InfoTold<'a>) -> Answer<'a>
+        ensures { result ≡ info_told told.entry }
+    {
+        Answer {
+            said: Said::Info(told),
+        }
+    }
+
+    /// A text that was made for it.
+    pub fn made(key: &'static str, text: Bytes) -> Answer<'a>
+        ensures { result ≡ says key.now (said_text text) ∷ [] }
+    {
+        Answer {
+            said: Said::Made { key, text },
+        }
     }
 
     /// How many fields it has.
     pub fn len(&self) -> usize
         ensures { result ≡ length self.now }
     {
-        self.fields.len()
+        match &self.said {
+            Said::Done => 0,
+            Said::One(_) => 1,
+            Said::Made { .. } => 1,
+            Said::Two(_, _) => 2,
+            Said::Window { .. } => 2,
+            Said::Three(_, _, _) => 3,
+            Said::Signature { .. } => 3,
+            Said::Record(told) => told.len(),
+            Said::Info(_) => 8,
+        }
     }
 
     /// The field with a number, from 0.
-    pub fn get(&self, index: usize) -> &Field<'a>
+    pub fn get<'b>(&'b self, index: usize) -> Field<'a, 'b>
         requires { index < length self.now }
-        ensures { Some (field_of result.now) ≡ slice_get self.now index }
+        ensures { Some (field_of result) ≡ slice_get self.now index }
     {
-        &self.fields.as_slice()[index]
+        match &self.said {
+            Said::Done => return field("", Single::Number(0)),
+            Said::One(a) => return field(a.key, a.value),
+            Said::Two(a, b) => return pick_two(*a, *b, index),
+            Said::Three(a, b, c) => return pick_three(*a, *b, *c, index),
+            Said::Window { key, items, total } => return pick_window(*key, items, *total, index),
+            Said::Signature { args, ret, varargs } => {
+                return pick_signature(args, *ret, *varargs, index);
+            }
+            Said::Record(told) => return told.get(index),
+            Said::Info(told) => return told.get(index),
+            Said::Made { key, text } => return made_field(*key, text),
+        }
     }
+}
+
+fn list_field<'a, 'b>(key: &'static str, items: &'b Listed<'a>) -> Field<'a, 'b>
+    ensures { field_of result ≡ lists key.now items.now }
+{
+    Field {
+        key,
+        value: Value::Many(items),
+    }
+}
+
+fn made_field<'a, 'b>(key: &'static str, text: &'b Bytes) -> Field<'a, 'b>
+    ensures { field_of result ≡ says key.now (said_text text.now) }
+{
+    Field {
+        key,
+        value: Value::Made(text.as_slice()),
+    }
+}
+
+fn pick_two<'a, 'b>(a: Entry<'a>, b: Entry<'a>, index: usize) -> Field<'a, 'b>
+    requires { index < 2 }
+    ensures { Some (field_of result)
+        ≡ slice_get (entry_said a.entry ∷ entry_said b.entry ∷ []) index }
+{
+    match index {
+        0 => field(a.key, a.value),
+        _ => field(b.key, b.value),
+    }
+}
+
+fn pick_three<'a, 'b>(a: Entry<'a>, b: Entry<'a>, c: Entry<'a>, index: usize) -> Field<'a, 'b>
+    requires { index < 3 }
+    ensures { Some (field_of result)
+        ≡ slice_get (entry_said a.entry ∷ entry_said b.entry ∷ entry_said c.entry ∷ []) index }
+{
+    match index {
+        0 => field(a.key, a.value),
+        1 => field(b.key, b.value),
+        _ => field(c.key, c.value),
+    }
+}
+
+fn pick_window<'a, 'b>(
+    key: &'static str,
+    items: &'b Listed<'a>,
+    total: u64,
+    index: usize,
+) -> Field<'a, 'b>
+    requires { index < 2 }
+    ensures { Some (field_of result) ≡ slice_get
+        (lists key.now items.now ∷ says (codes "total") (number total) ∷ []) index }
+{
+    if index == 0 {
+        return list_field(key, items);
+    }
+    field("total", Single::Number(total))
+}
+
+fn pick_signature<'a, 'b>(
+    args: &'b Listed<'a>,
+    ret: u64,
+    varargs: bool,
+    index: usize,
+) -> Field<'a, 'b>
+    requires { index < 3 }
+    ensures { Some (field_of result) ≡ slice_get (lists (codes "args") args.now
+        ∷ says (codes "return") (number ret) ∷ says (codes "varargs") (truth varargs) ∷ []) index }
+{
+    if index == 0 {
+        return list_field("args", args);
+    }
+    if index == 1 {
+        return field("return", Single::Number(ret));
+    }
+    field("varargs", Single::Truth(varargs))
 }

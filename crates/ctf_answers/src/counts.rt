@@ -53,13 +53,16 @@ impl Counts {
     pub fn answer<'a>(self) -> Answer<'a>
         ensures { result ≡ counts_said self }
     {
-        let mut answer = Answer::done();
-        if let Some(count) = self.first {
-            answer = answer.with(count.key, Single::Number(count.number));
+        match (self.first, self.second) {
+            (None, None) => Answer::done(),
+            (Some(a), None) => Answer::one(a.key, Single::Number(a.number)),
+            (None, Some(a)) => Answer::one(a.key, Single::Number(a.number)),
+            (Some(a), Some(b)) => Answer::two(
+                a.key,
+                Single::Number(a.number),
+                b.key,
+                Single::Number(b.number),
+            ),
         }
-        if let Some(count) = self.second {
-            answer = answer.with(count.key, Single::Number(count.number));
-        }
-        answer
     }
 }

@@ -2,29 +2,19 @@
 
 use crate::listed::Listed;
 use crate::singles::Single;
-use ctf_protocol::Bytes;
 
-/// The value of a field.
-#[derive(Drop)]
-pub enum Value<'a> {
+/// The value of a field, lent from its answer.
+#[derive(Clone, Copy)]
+pub enum Value<'a, 'b> {
     One(Single<'a>),
-    Many(Listed<'a>),
+    Many(&'b Listed<'a>),
     /// A text that was made for the answer, which owns it.
-    Made(Bytes),
+    Made(&'b [u8]),
 }
 
 /// A key and its value.
-#[derive(Drop)]
-pub struct Field<'a> {
+#[derive(Clone, Copy)]
+pub struct Field<'a, 'b> {
     pub key: &'static str,
-    pub value: Value<'a>,
-}
-
-impl<'a> Default for Field<'a> {
-    fn default() -> Field<'a> {
-        Field {
-            key: "",
-            value: Value::One(Single::Number(0)),
-        }
-    }
+    pub value: Value<'a, 'b>,
 }

@@ -9,7 +9,9 @@ mod items;
 mod listed;
 mod names;
 mod replies;
+mod said;
 mod singles;
+mod told;
 
 pub use answers::Answer;
 pub use count::Count;
@@ -20,3 +22,4 @@ pub use listed::Listed;
 pub use names::{class_name, kind_name, model_name, tag_name};
 pub use replies::Reply;
 pub use singles::{Entry, Single};
+pub use told::{InfoTold, RecordTold};

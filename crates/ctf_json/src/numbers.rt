@@ -1,9 +1,11 @@
 //! The value of a number's text, as serde_json has it.
-ghost use Rattle.std.specs.Prelude.{◌≡◌, ◌==◌, ◌<◌, IsTrue, length, option_map, slice_index, true, false};
+ghost use Rattle.std.specs.Prelude.{◌≡◌, ◌==◌, ◌<◌, IfSome, IsTrue, Some, length, option_map, slice_index, true, false};
+ghost use Rattle.fast_float.specs.Text.{scan};
+ghost use Rattle.serde_json.specs.Data.{unsigned as unsigned_number};
 ghost use Rattle.serde_json.specs.Read.{float_of, number_from, number_of};
 ghost use Rattle.serde_json.specs.View.{number_view};
 
-use fast_float::Numeral;
+use fast_float::{Numeral, parse_u64};
 use serde_json::Number;
 
 /// Whether a text begins with a minus.
@@ -21,7 +23,29 @@ fn nearest(negative: bool, numeral: &Numeral<'_>) -> Option<Number>
     Number::from_f64(numeral.to_float::<f64>(negative))
 }
 
-fn unsigned(numeral: &Numeral<'_>) -> Option<Number>
+/// The value of digits alone, as almost all numbers are.
+fn digits_alone(bytes: &[u8]) -> Option<u64>
+    ensures { IfSome result (λ n. number_from false (scan bytes.now) ≡ Some (unsigned_number n)) }
+{
+    if bytes.is_empty() || bytes[0] == b'+' {
+        return None;
+    }
+    match parse_u64(bytes) {
+        Ok(n) => Some(n),
+        Err(_) => None,
+    }
+}
+
+fn unsigned(bytes: &[u8]) -> Option<Number>
+    ensures { option_map number_view result ≡ number_from false (scan bytes.now) }
+{
+    match digits_alone(bytes) {
+        Some(n) => Some(Number::from(n)),
+        None => scanned(&Numeral::scan(bytes)),
+    }
+}
+
+fn scanned(numeral: &Numeral<'_>) -> Option<Number>
     ensures { option_map number_view result ≡ number_from false numeral.now }
 {
     match numeral.to_u64() {
@@ -47,6 +71,6 @@ pub fn number(text: &str) -> Option<Number>
     if has_minus(bytes) {
         negative(&Numeral::scan(&bytes[1..]))
     } else {
-        unsigned(&Numeral::scan(bytes))
+        unsigned(bytes)
     }
 }

@@ -23,7 +23,7 @@ ghost use Rattle.ctf_protocol.specs.declared.questions.PlainQuestion.TheVariants
 use crate::slots::Slot;
 use crate::tables::Tables;
 use crate::whole::whole_answer;
-use ctf_answers::{Answer, Items, Listed, Single, kind_name, tag_name};
+use ctf_answers::{Answer, Items, Listed, RecordTold, Single, kind_name};
 use ctf_check::Facts;
 use ctf_layout::{Layout, path, referred, resolve};
 use ctf_names::{pointer_to, spell};
@@ -31,7 +31,6 @@ use ctf_print::show;
 use ctf_protocol::{
     Bytes, Fault, Kind, PlainQuestion, Question, TypeNum, TypeQuestion, Window, placeless,
 };
-use ctf_records::Tag;
 use ctf_space::Space;
 use ctf_views::{Args, Variant, is_variadic};
 use std::alloc::Global;
@@ -41,9 +40,7 @@ pub(crate) fn listed<'a>(key: &'static str, items: Items<'a>, window: Window) ->
     ensures { result ≡ list_fields key.now window (items_of items.entry) }
 {
     let total = items.len() as u64;
-    Answer::done()
-        .with_list(key, Listed::new(items, window))
-        .with("total", Single::Number(total))
+    Answer::window(key, Listed::new(items, window), total)
 }
 
 fn members<'a>(behind: Variant<'a>, window: Window) -> Result<Answer<'a>, Fault>
@@ -89,10 +86,11 @@ pub(crate) fn signed<'a>(args: Args<'a>, ret: TypeNum) -> Answer<'a>
 {
     let varargs = is_variadic(&args);
     let count = named_count(&args);
-    Answer::done()
-        .with_list("args", Listed::front(Items::Arguments(args), count))
-        .with("return", Single::Number(u64::from(ret.0)))
-        .with("varargs", Single::Truth(varargs))
+    Answer::signature(
+        Listed::front(Items::Arguments(args), count),
+        u64::from(ret.0),
+        varargs,
+    )
 }
 
 fn arguments<'a>(behind: Variant<'a>, returned: Option<TypeNum>) -> Result<Answer<'a>, Fault>
@@ -106,40 +104,12 @@ fn arguments<'a>(behind: Variant<'a>, returned: Option<TypeNum>) -> Result<Answe
     }
 }
 
-fn a_number<'a>(n: Option<u64>) -> Option<Single<'a>>
-    ensures { option_map single_of result ≡ option_map number n }
-{
-    match n {
-        Some(n) => Some(Single::Number(n)),
-        None => None,
-    }
-}
-
-fn a_type<'a>(t: Option<TypeNum>) -> Option<Single<'a>>
-    ensures { option_map single_of result ≡ option_map number (option_map (λ t. t.0) t) }
-{
-    match t {
-        Some(t) => Some(Single::Number(u64::from(t.0))),
-        None => None,
-    }
-}
-
-fn a_tag<'a>(tag: Option<Tag>) -> Option<Single<'a>>
-    ensures { option_map single_of result
-        ≡ option_map (λ tag. word (name_of_tag tag)) (option_map tag_of tag) }
-{
-    match tag {
-        Some(tag) => Some(Single::Word(tag_name(tag))),
-        None => None,
-    }
-}
-
 /// What the number of a type is answered as.
 pub(crate) fn type_answer<'a>(number: Result<TypeNum, Fault>) -> Result<Answer<'a>, Fault>
     ensures { result ≡ as_fields type_fields (result_map_both (λ t. t.0) (λ f. f) number) }
 {
     match number {
-        Ok(t) => Ok(Answer::done().with("t", Single::Number(u64::from(t.0)))),
+        Ok(t) => Ok(Answer::one("t", Single::Number(u64::from(t.0)))),
         Err(fault) => Err(fault),
     }
 }
@@ -149,7 +119,7 @@ fn number_answer<'a>(key: &'static str, n: Result<u64, Fault>) -> Result<Answer<
     ensures { result ≡ as_fields (λ n. says key.now (number n) ∷ []) n }
 {
     match n {
-        Ok(n) => Ok(Answer::done().with(key, Single::Number(n))),
+        Ok(n) => Ok(Answer::one(key, Single::Number(n))),
         Err(fault) => Err(fault),
     }
 }
@@ -158,11 +128,12 @@ fn position_answer<'a>(at: Result<(u64, TypeNum), Fault>) -> Result<Answer<'a>, 
     ensures { result ≡ as_fields position_fields (result_map_both position_of (λ f. f) at) }
 {
     match at {
-        Ok((offset, t)) => Ok(
-            Answer::done()
-                .with("offset", Single::Number(offset))
-                .with("t", Single::Number(u64::from(t.0))),
-        ),
+        Ok((offset, t)) => Ok(Answer::two(
+            "offset",
+            Single::Number(offset),
+            "t",
+            Single::Number(u64::from(t.0)),
+        )),
         Err(fault) => Err(fault),
     }
 }
@@ -183,12 +154,14 @@ fn array<'a>(behind: Variant<'a>) -> Result<Answer<'a>, Fault>
     ensures { result ≡ or_wrong_kind (option_map array_fields (array_in (seen behind.entry))) }
 {
     match behind {
-        Variant::Array(info) => Ok(
-            Answer::done()
-                .with("contents", Single::Number(u64::from(info.contents.0)))
-                .with("count", Single::Number(u64::from(info.count)))
-                .with("index", Single::Number(u64::from(info.index.0))),
-        ),
+        Variant::Array(info) => Ok(Answer::three(
+            "contents",
+            Single::Number(u64::from(info.contents.0)),
+            "count",
+            Single::Number(u64::from(info.count)),
+            "index",
+            Single::Number(u64::from(info.index.0)),
+        )),
         _ => Err(placeless(Fault::WRONG_KIND)),
     }
 }
@@ -198,12 +171,14 @@ fn encoding<'a>(behind: Variant<'a>) -> Result<Answer<'a>, Fault>
         ≡ or_wrong_kind (option_map encoding_fields (encoding_in (seen behind.entry))) }
 {
     match behind {
-        Variant::Encoding(info) => Ok(
-            Answer::done()
-                .with("bits", Single::Number(u64::from(info.bits)))
-                .with("encoding", Single::Number(u64::from(info.encoding)))
-                .with("offset", Single::Number(u64::from(info.offset))),
-        ),
+        Variant::Encoding(info) => Ok(Answer::three(
+            "bits",
+            Single::Number(u64::from(info.bits)),
+            "encoding",
+            Single::Number(u64::from(info.encoding)),
+            "offset",
+            Single::Number(u64::from(info.offset)),
+        )),
         _ => Err(placeless(Fault::WRONG_KIND)),
     }
 }
@@ -212,20 +187,21 @@ fn encoding<'a>(behind: Variant<'a>) -> Result<Answer<'a>, Fault>
 fn record_of<'a>(x: Facts<'a>) -> Answer<'a>
     ensures { result ≡ record_fields (facts_seen x.entry) }
 {
-    Answer::done()
-        .with("kind", Single::Word(kind_name(x.shape.kind)))
-        .with("name", Single::Text(x.name))
-        .with("root", Single::Truth(x.root))
-        .with_some("size", a_number(x.shape.size))
-        .with_some("tag", a_tag(x.shape.declares))
-        .with_some("type", a_type(x.shape.reference))
-        .with("vlen", Single::Number(list_len(&x.shape.behind) as u64))
+    Answer::record_of(RecordTold {
+        kind: x.shape.kind,
+        name: x.name,
+        root: x.root,
+        size: x.shape.size,
+        tag: x.shape.declares,
+        reference: x.shape.reference,
+        vlen: list_len(&x.shape.behind) as u64,
+    })
 }
 
 fn kind<'a>(kind: Kind) -> Answer<'a>
     ensures { result ≡ says (codes "kind") (word (name_of_kind kind)) ∷ [] }
 {
-    Answer::done().with("kind", Single::Word(kind_name(kind)))
+    Answer::one("kind", Single::Word(kind_name(kind)))
 }
 
 /// The name of a type, as C spells it.
@@ -234,7 +210,7 @@ fn name<'a>(alloc: Global, space: &Space<'_>, t: TypeNum) -> Result<Answer<'a>, 
 {
     let mut text = Vec::new(alloc);
     match spell(alloc, space, t, &mut text) {
-        Ok(()) => Ok(Answer::done().with_text("name", Bytes::from(text))),
+        Ok(()) => Ok(Answer::made("name", Bytes::from(text))),
         Err(fault) => Err(fault),
     }
 }
@@ -254,7 +230,7 @@ fn value<'a>(
 {
     let mut text = Vec::new(alloc);
     match show(alloc, space, layout, t, memory, offset, &mut text) {
-        Ok(()) => Ok(Answer::done().with_text("text", Bytes::from(text))),
+        Ok(()) => Ok(Answer::made("text", Bytes::from(text))),
         Err(fault) => Err(fault),
     }
 }

@@ -5,7 +5,7 @@ ghost use Rattle.ctf_library.specs.SlotView.{slot_of};
 ghost use Rattle.ctf_protocol.specs.answers.HeldAnswers.{bytes_fields, held_said, info_fields, pending_in};
 
 use crate::slots::Slot;
-use ctf_answers::{Answer, Single, model_name};
+use ctf_answers::{Answer, InfoTold, Single, model_name};
 use ctf_check::Checked;
 use ctf_draft::Draft;
 use ctf_protocol::HeldQuestion;
@@ -14,15 +14,16 @@ use ctf_protocol::HeldQuestion;
 fn info<'a>(dictionary: &Checked<'a>, draft: bool, imported: bool, pending: usize) -> Answer<'a>
     ensures { result ≡ info_fields (dictionary_of dictionary.now) draft imported pending }
 {
-    Answer::done()
-        .with("child", Single::Truth(dictionary.child()))
-        .with("draft", Single::Truth(draft))
-        .with("imported", Single::Truth(imported))
-        .with("labels", Single::Number(dictionary.labels().len() as u64))
-        .with("parlabel", Single::Text(dictionary.parlabel()))
-        .with("parname", Single::Text(dictionary.parname()))
-        .with("pending", Single::Number(pending as u64))
-        .with("types", Single::Number(dictionary.count() as u64))
+    Answer::info(InfoTold {
+        child: dictionary.child(),
+        draft,
+        imported,
+        labels: dictionary.labels().len() as u64,
+        parlabel: dictionary.parlabel(),
+        parname: dictionary.parname(),
+        pending: pending as u64,
+        types: dictionary.count() as u64,
+    })
 }
 
 /// At most `count` bytes, from one on.
@@ -37,9 +38,12 @@ fn window(bytes: &[u8], from: u32, count: u32) -> &[u8]
 fn bytes<'a>(ctf: &'a [u8], from: u32, count: u32) -> Answer<'a>
     ensures { result ≡ bytes_fields from count ctf.now }
 {
-    Answer::done()
-        .with("bytes", Single::Bytes(window(ctf, from, count)))
-        .with("length", Single::Number(ctf.len() as u64))
+    Answer::two(
+        "bytes",
+        Single::Bytes(window(ctf, from, count)),
+        "length",
+        Single::Number(ctf.len() as u64),
+    )
 }
 
 /// How many types and labels a draft has pending, if there is a draft.
@@ -64,7 +68,7 @@ impl Slot {
                 info(&own, self.draft.is_some(), imported, pending(&self.draft))
             }
             HeldQuestion::Model => {
-                Answer::done().with("model", Single::Word(model_name(self.own.model())))
+                Answer::one("model", Single::Word(model_name(self.own.model())))
             }
             HeldQuestion::Bytes { from, count } => bytes(own.lists().ctf, from, count),
         }

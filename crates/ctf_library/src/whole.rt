@@ -27,11 +27,12 @@ fn symbol_answer<'a>(found: Option<NamedSymbol>) -> Result<Answer<'a>, Fault>
         (or_refused NO_SYMBOL (option_map (owner_named name) found)) }
 {
     match found {
-        Some(symbol) => Ok(
-            Answer::done()
-                .with("class", Single::Word(class_name(symbol.class)))
-                .with("sym", Single::Number(u64::from(symbol.number))),
-        ),
+        Some(symbol) => Ok(Answer::two(
+            "class",
+            Single::Word(class_name(symbol.class)),
+            "sym",
+            Single::Number(u64::from(symbol.number)),
+        )),
         None => Err(placeless(Fault::NO_SYMBOL)),
     }
 }
@@ -49,7 +50,7 @@ fn last_answer<'a>(last: Result<u32, Fault>) -> Result<Answer<'a>, Fault>
     ensures { result ≡ as_fields last_fields last }
 {
     match last {
-        Ok(last) => Ok(Answer::done().with("last", Single::Number(u64::from(last)))),
+        Ok(last) => Ok(Answer::one("last", Single::Number(u64::from(last)))),
         Err(fault) => Err(fault),
     }
 }

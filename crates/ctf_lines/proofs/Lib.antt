@@ -4,5 +4,6 @@ pub mod Separated
 pub mod Short
 pub mod MemoryLine
 pub mod Fronts
+pub mod HexDigits
 pub mod HexText
 pub mod SaidItems

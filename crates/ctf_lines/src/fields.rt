@@ -77,22 +77,22 @@ fn put_list<P: Paper>(paper: &mut P, items: &Listed<'_>)
 }
 
 /// Puts a field's value on.
-fn put_value<P: Paper>(paper: &mut P, value: &Value<'_>)
-    ensures { P.Took paper.old (value_text (value_of value.now)) paper.new }
+fn put_value<P: Paper>(paper: &mut P, value: Value<'_, '_>)
+    ensures { P.Took paper.old (value_text (value_of value.entry)) paper.new }
 {
     match value {
-        Value::One(value) => put_single(paper, *value),
+        Value::One(value) => put_single(paper, value),
         Value::Many(items) => put_list(paper, items),
-        Value::Made(text) => put_single(paper, Single::Text(text.as_slice())),
+        Value::Made(text) => put_single(paper, Single::Text(text)),
     }
 }
 
 /// Puts a field on.
-fn put_field<P: Paper>(paper: &mut P, field: &Field<'_>)
-    ensures { P.Took paper.old (field_text (field_of field.now)) paper.new }
+fn put_field<P: Paper>(paper: &mut P, field: Field<'_, '_>)
+    ensures { P.Took paper.old (field_text (field_of field.entry)) paper.new }
 {
     put_key(paper, field.key);
-    put_value(paper, &field.value);
+    put_value(paper, field.value);
 }
 
 impl<'a> Series for Answer<'a> {

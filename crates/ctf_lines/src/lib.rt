@@ -2,6 +2,7 @@
 #![tactic(auto)]
 
 mod additions;
+mod digits;
 mod drafts;
 mod fields;
 mod lines;

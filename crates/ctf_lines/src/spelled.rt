@@ -5,20 +5,19 @@ ghost use Rattle.ctf_protocol.specs.lines.LineFields.{bytes_spelled, not_too_man
 ghost use Rattle.ctf_protocol.specs.lines.Text.{digit_value as digit_value_of, byte_value as byte_value_of, bytes_spelled_by};
 ghost use Rattle.ctf_lines.specs.Fronts.{IsFront, escape as escape_of};
 
+use crate::digits::decode;
 use crate::names::is_plain;
 use ctf_json::{Value, as_str};
 use ctf_protocol::{LONGEST_PIECE, Names, Piece};
-use hex::FromHexError;
 use std::alloc::{AllocError, Global};
 
 /// The bytes that hexadecimal digits spell.
 pub fn piece(alloc: Global, digits: &str) -> Result<Option<Piece>, AllocError>
     ensures { IfOk result (λ piece. piece ≡ bytes_spelled digits.now) }
 {
-    match hex::decode(alloc, digits) {
-        Ok(bytes) => Ok(short_piece(bytes)),
-        Err(FromHexError::OutOfMemory) => Err(AllocError),
-        Err(_) => Ok(None),
+    match decode(alloc, digits.as_bytes())? {
+        Some(bytes) => Ok(short_piece(bytes)),
+        None => Ok(None),
     }
 }
 

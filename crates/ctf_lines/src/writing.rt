@@ -60,10 +60,14 @@ fn write_object(
 fn fault_answer<'a>(fault: Fault) -> Answer<'a>
     ensures { result ≡ fault_fields fault }
 {
-    Answer::done()
-        .with("code", Single::Number(u64::from(fault.code)))
-        .with("name", Single::Word(fault_name(fault.code)))
-        .with("place", Single::Number(fault.place))
+    Answer::three(
+        "code",
+        Single::Number(u64::from(fault.code)),
+        "name",
+        Single::Word(fault_name(fault.code)),
+        "place",
+        Single::Number(fault.place),
+    )
 }
 
 /// Appends a refusal.

@@ -1,4 +1,4 @@
-//! Runs of three lines over a reader of 7 bytes a call and a writer of 5, which notes its flushes.
+//! Runs over a writer of 5 bytes a call, which notes its flushes; of three lines, by reads of 7 bytes.
 
 use ctf_runs::Pieces;
 use ctf_wire::{Broker, FromReader, RunFault, ToWriter, serve_bounded};
@@ -12,6 +12,9 @@ pub const THREE: &str =
 
 /// What they are answered, and a bar for each flush: 17 bytes for each line.
 pub const NOTED: &str = "{\"ok\":{},\"s\":1}\n|{\"ok\":{},\"s\":2}\n|{\"ok\":{},\"s\":3}\n|";
+
+/// The same where the first two lines come in one read.
+pub const BATCHED: &str = "{\"ok\":{},\"s\":1}\n{\"ok\":{},\"s\":2}\n|{\"ok\":{},\"s\":3}\n|";
 
 /// The numbers of the calls that fail, counted from 1.
 #[derive(Clone, Copy, Drop)]
@@ -67,11 +70,24 @@ impl Write for Notes {
     }
 }
 
-/// How the three lines' run ends, where so many reads are allowed, and what is noted.
-pub fn noted(alloc: Global, reads: u32, failing: Failing) -> (Result<(), RunFault>, Vec<u8>) {
+/// What a reader gives: its bytes, in pieces of a size, for so many reads.
+#[derive(Clone, Copy, Drop)]
+pub struct Given<'a> {
+    pub input: &'a str,
+    pub size: usize,
+    pub reads: u32,
+}
+
+/// How a broker's run ends, and what is noted.
+pub fn noted_of(
+    alloc: Global,
+    broker: &mut Broker,
+    given: Given<'_>,
+    failing: Failing,
+) -> (Result<(), RunFault>, Vec<u8>) {
     let mut source = FromReader::new(Pieces {
-        rest: THREE.as_bytes(),
-        size: 7,
+        rest: given.input.as_bytes(),
+        size: given.size,
         reads: 0,
         failing: failing.read,
     });
@@ -82,9 +98,20 @@ pub fn noted(alloc: Global, reads: u32, failing: Failing) -> (Result<(), RunFaul
         failing,
     };
     let mut sink = ToWriter::new(&mut notes);
-    let mut broker = Broker::new(alloc);
-    let end = serve_bounded(alloc, &mut broker, &mut source, &mut sink, u64::from(reads));
+    let reads = u64::from(given.reads);
+    let end = serve_bounded(alloc, broker, &mut source, &mut sink, reads);
     (end, notes.bytes)
+}
+
+/// How the three lines' run ends, where a read gives 7 bytes and so many reads are allowed, and
+/// what is noted.
+pub fn noted(alloc: Global, reads: u32, failing: Failing) -> (Result<(), RunFault>, Vec<u8>) {
+    let given = Given {
+        input: THREE,
+        size: 7,
+        reads,
+    };
+    noted_of(alloc, &mut Broker::new(alloc), given, failing)
 }
 
 /// So many bytes of what is noted of a whole run.

@@ -3,7 +3,7 @@ ghost use Rattle.std.specs.Prelude.{◌≡◌, Some, None, map};
 ghost use Rattle.ctf_wire.specs.Flushes.{Flushes};
 ghost use Rattle.ctf_wire.specs.Streams.{Pushed};
 
-use crate::noted::{NOTED, THREE};
+use crate::noted::{BATCHED, THREE};
 use ctf_wire::{Broker, FromReader, Sink, serve};
 use std::alloc::{AllocError, Global};
 use std::test::Fail;
@@ -74,16 +74,16 @@ fn shelved(alloc: Global, before: &[u8]) -> Result<Vec<u8>, AllocError> {
 }
 
 #[test]
-fn each_reply_is_flushed(rt: HostRuntime) -> Result<(), Fail> {
+fn the_replies_of_a_read_are_flushed_at_once(rt: HostRuntime) -> Result<(), Fail> {
     let written = shelved(rt.alloc(), b"")?;
-    assert!(rt; written.as_slice() == NOTED.as_bytes());
+    assert!(rt; written.as_slice() == BATCHED.as_bytes());
     Ok(())
 }
 
 #[test]
-fn what_waits_goes_with_the_first_reply(rt: HostRuntime) -> Result<(), Fail> {
+fn what_waits_goes_with_the_first_replies(rt: HostRuntime) -> Result<(), Fail> {
     let written = shelved(rt.alloc(), b"before ")?;
-    assert!(rt; written.starts_with(b"before {\"ok\":{},\"s\":1}\n|{"));
-    assert!(rt; written.ends_with(NOTED.as_bytes()));
+    assert!(rt; written.starts_with(b"before {\"ok\":{},\"s\":1}\n{"));
+    assert!(rt; written.ends_with(BATCHED.as_bytes()));
     Ok(())
 }

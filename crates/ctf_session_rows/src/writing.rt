@@ -11,7 +11,7 @@ fn line(alloc: Global, value: Single<'_>) -> Result<Vec<u8>, AllocError> {
     let mut out = Vec::new(alloc);
     let reply = Reply {
         session: 1,
-        outcome: Ok(Answer::done().with("x", value)),
+        outcome: Ok(Answer::one("x", value)),
     };
     reply.write(&mut out)?;
     Ok(out)
@@ -45,10 +45,12 @@ fn values_of_each_sort_are_written(rt: HostRuntime) -> Result<(), Fail> {
 #[test]
 fn fields_are_written_where_they_are_there(rt: HostRuntime) -> Result<(), Fail> {
     let mut out = Vec::new(rt.alloc());
-    let answer = Answer::done()
-        .with("kind", Single::Word("forward"))
-        .with_some("size", None)
-        .with_some("tag", Some(Single::Word("union")));
+    let answer = Answer::two(
+        "kind",
+        Single::Word("forward"),
+        "tag",
+        Single::Word("union"),
+    );
     let reply = Reply {
         session: 4_294_967_295,
         outcome: Ok(answer),

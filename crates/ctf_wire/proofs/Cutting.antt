@@ -1,5 +1,5 @@
 -- How lines come about as pieces of the input come.
-use Rattle.std.proofs.Common.{◌≡◌, ℕ, zero, suc, ◌+◌, ◌-◌, ◌<◌, List, [], ◌∷◌, ◌++◌, length, take, drop, true, false, eqb, refl, ◌∙◌, ap, sym, arith, append_assoc, add-one, drop-cons}
+use Rattle.std.proofs.Common.{◌≡◌, ℕ, zero, suc, ◌+◌, ◌-◌, ◌<◌, ◌≤◌, List, [], ◌∷◌, ◌++◌, length, take, drop, true, false, eqb, refl, ◌∙◌, ap, sym, arith, append_assoc, add-one, drop-cons}
 use Rattle.std.proofs.lemmas.List.{take_rest, take-append-drop}
 use Rattle.std.proofs.Math.Seq.{take-add}
 use Rattle.std.specs.Prelude.{if◌then◌else◌, slice_index}
@@ -21,6 +21,19 @@ pub take-next : (at n : ℕ) (bs : List ℕ) → take (at + n) bs ≡ take at bs
 take-next at n bs =
     let rest : take (length bs - at) (drop at bs) ≡ drop at bs = take_rest bs at in
     rw rest (take-add at n bs)
+
+take-seam : (xs ys : List ℕ) → take (length xs) (xs ++ ys) ≡ xs
+take-seam [] ys = refl
+take-seam (x ∷ xs) ys = ap (λ zs. x ∷ zs) (take-seam xs ys)
+
+-- the front of what was written over the front
+pub take-written : (n len : ℕ) (xs ys : List ℕ) → length xs ≡ len → take n (take len (xs ++ ys)) ≡ take n xs
+take-written n len xs ys e = ap (take n) (ap (λ m. take m (xs ++ ys)) (sym e) ∙ take-seam xs ys)
+
+pub length-front : (n : ℕ) (xs : List ℕ) → length (take n xs) ≤ length xs
+length-front zero xs = omega arith
+length-front (suc n) [] = omega arith
+length-front (suc n) (x ∷ xs) = let h = length-front n xs in omega (arith, h)
 
 -- bytes about their item k
 pub bytes-about : (bs : List ℕ) (k : ℕ) → k < length bs → slice_index bs k ≡ 10 → bs ≡ take k bs ++ 10 ∷ take (length bs - (k + 1)) (drop (k + 1) bs)

@@ -2,5 +2,6 @@ pub mod QuestionSteps
 pub mod Cutting
 pub mod Passing
 pub mod Replying
+pub mod Turning
 pub mod Alone
 pub mod WrittenOut

@@ -1,15 +1,18 @@
 -- What one more line adds to what was served.
-use Rattle.std.proofs.Common.{◌≡◌, ◌≢◌, ℕ, leb, length, List, [], ◌∷◌, ◌++◌, Bool, true, false, Option, Some, None, refl, ◌∙◌, ap, sym, subst, append_assoc, append-nil}
+use Rattle.std.proofs.Common.{◌≡◌, ◌≢◌, ℕ, ◌+◌, ◌≤◌, leb, length, List, [], ◌∷◌, ◌++◌, map, Bool, true, false, Option, Some, None, refl, ◌∙◌, ap, sym, subst, arith, append_assoc, append-nil, ◌⊎◌, inl, inr}
 use Rattle.std.specs.Prelude.{if◌then◌else◌}
 use Rattle.std.specs.List.{concat}
 use Rattle.std.specs.Io.KnownBytes.{Appends}
 use Rattle.std.proofs.KnownBytes.{Appends-trans}
+use Rattle.std.proofs.lemmas.List.{map-append, length-append}
 use Rattle.std.proofs.lemmas.List.Folds.{concat-append}
 use Rattle.ctf_protocol.specs.lines.Lines.{whole_lines, last_piece, all_lines, if_not_empty, stored}
 use Rattle.ctf_wire.specs.Flushes.{after_pieces}
-use Rattle.ctf_wire.specs.Served.{Answers, BeginsWith, Sent, SentFront, Sends, Serves, BrokenOff}
-use Rattle.ctf_wire.specs.Standing.{Stands, Feeds, Finishes}
+use Rattle.ctf_wire.specs.Served.{Answers, BeginsWith, SentPiece, SentPart, all_of, AreFilled, Sent, SentFront, Sends, Serves, BrokenOff}
+use Rattle.ctf_wire.specs.Gathering.{Gathered, Gathers, Feeds, MakesRoom, Settles}
+use Rattle.ctf_wire.specs.Standing.{Stands, TakesIn, Finishes}
 use Rattle.ctf_wire.specs.Streams.{Pushed}
+use Rattle.ctf_wire.specs.declared.batch.Batch.{Batch}
 use Rattle.ctf_wire.proofs.Cutting.{whole_lines-piece, last_piece-piece, whole_lines-line, last_piece-line, whole_lines-front}
 use Rattle.ctf_wire.proofs.Passing.{after_pieces-more}
 
@@ -24,119 +27,260 @@ Answers-push {S} Step old mid new (l ∷ lines) [] line reply a s = absurd a
 Answers-push {S} Step old mid new (l ∷ lines) (r ∷ replies) line reply a s =
     (a.0, a.1, Answers-push Step a.0 mid new lines replies line reply a.2 s)
 
+-- each line has one reply
+Answers-length : {S : Type 0} (Step : S → Option (List ℕ) → List ℕ → S → Type 0) (old new : S) (lines replies : List (List ℕ)) → Answers Step old lines replies new → length replies ≡ length lines
+Answers-length {S} Step old new [] [] a = refl
+Answers-length {S} Step old new [] (r ∷ replies) a = absurd a
+Answers-length {S} Step old new (l ∷ lines) [] a = absurd a
+Answers-length {S} Step old new (l ∷ lines) (r ∷ replies) a = let same = Answers-length Step a.0 new lines replies a.2 in omega (arith, same)
+
 -- ---- what is sent
 
--- replies were sent, and then more
-Sent-more : (a b c : Pushed) (replies more : List (List ℕ)) → Sent a replies b → Sent b more c → Sent a (replies ++ more) c
-Sent-more a b c replies more p q =
+-- one more group
+all_of-push : (groups : List (List (List ℕ))) (group : List (List ℕ)) → all_of (groups ++ group ∷ []) ≡ all_of groups ++ group
+all_of-push [] group = append-nil group
+all_of-push (g ∷ groups) group = ap (λ rs. g ++ rs) (all_of-push groups group) ∙ sym (append_assoc g (all_of groups) group)
+
+AreFilled-push : (groups : List (List (List ℕ))) (group : List (List ℕ)) → AreFilled groups → group ≢ [] → AreFilled (groups ++ group ∷ [])
+AreFilled-push [] [] all some = absurd (some refl)
+AreFilled-push [] (r ∷ group) all some = tt
+AreFilled-push ([] ∷ groups) group all some = absurd all
+AreFilled-push ((r ∷ g) ∷ groups) group all some = AreFilled-push groups group all some
+
+-- replies were sent, and then those that waited
+Sent-more : (a b c : Pushed) (replies waiting : List (List ℕ)) (bytes : List ℕ) → Sent a replies b → waiting ≢ [] → bytes ≡ concat waiting → SentPiece b bytes c → Sent a (replies ++ waiting) c
+Sent-more a b c replies waiting bytes p some e q =
     let P : List ℕ → Type 0 = λ bs. Appends a.contents c.contents bs in
+    let Q : List ℕ → Type 0 = λ bs. Appends b.contents c.contents bs in
     record {
-      written = subst P (sym (concat-append replies more)) (Appends-trans a.contents b.contents c.contents (concat replies) (concat more) p.written q.written);
-      flushed = q.flushed ∙ ap (λ known. after_pieces known more []) p.flushed ∙ after_pieces-more a.flushes replies more [];
+      groups = p.groups ++ waiting ∷ [];
+      grouped = all_of-push p.groups waiting ∙ ap (λ rs. rs ++ waiting) p.grouped;
+      filled = AreFilled-push p.groups waiting p.filled some;
+      written = subst P (sym (concat-append replies waiting)) (Appends-trans a.contents b.contents c.contents (concat replies) (concat waiting) p.written (subst Q e q.written));
+      flushed = q.flushed ∙ ap (λ known. after_pieces known (bytes ∷ []) []) p.flushed ∙ after_pieces-more a.flushes (map concat p.groups) (bytes ∷ []) []
+          ∙ ap (λ ps. after_pieces a.flushes ps []) (ap (λ bs. map concat p.groups ++ bs ∷ []) e ∙ sym (map-append concat p.groups (waiting ∷ [])));
       well = q.well ∙ p.well;
     }
 
--- replies were sent, and then a front
-Sent-front : (a b c : Pushed) (replies : List (List ℕ)) (last : List ℕ) → Sent a replies b → SentFront b [] last c → SentFront a replies last c
-Sent-front a b c replies last p q =
+-- replies were sent, and then a front of those that waited
+Sent-front : (a b c : Pushed) (replies waiting : List (List ℕ)) (bytes : List ℕ) → Sent a replies b → bytes ≡ concat waiting → SentPart b bytes c → SentFront a replies waiting c
+Sent-front a b c replies waiting bytes p e q =
     record {
+      groups = p.groups;
+      grouped = p.grouped;
+      filled = p.filled;
       front = q.front;
-      begins = q.begins;
+      begins = (q.begins.0, sym e ∙ q.begins.1);
       written = Appends-trans a.contents b.contents c.contents (concat replies) q.front p.written q.written;
-      flushed = q.flushed ∙ ap (λ known. after_pieces known [] q.front) p.flushed ∙ after_pieces-more a.flushes replies [] q.front ∙ ap (λ ps. after_pieces a.flushes ps q.front) (append-nil replies);
+      flushed = q.flushed ∙ ap (λ known. after_pieces known [] q.front) p.flushed ∙ after_pieces-more a.flushes (map concat p.groups) [] q.front
+          ∙ ap (λ ps. after_pieces a.flushes ps q.front) (append-nil (map concat p.groups));
       broke = q.broke;
     }
 
--- ---- one more line
+-- ---- lines whose replies wait
 
--- its reply is sent
-Serves-push : {S : Type 0} (Step : S → Option (List ℕ) → List ℕ → S → Type 0) (start mid new : S) (lines : List (List ℕ)) (line reply : List ℕ) (a b c : Pushed)
-    → Serves Step start lines mid a b → Step mid (stored line) reply new → Sent b (reply ∷ []) c → Serves Step start (lines ++ line ∷ []) new a c
-Serves-push {S} Step start mid new lines line reply a b c s step sent = record {
-  replies = s.replies ++ reply ∷ [];
-  answers = Answers-push Step start mid new lines s.replies line reply s.answers step;
-  sent = Sent-more a b c s.replies (reply ∷ []) s.sent sent;
+-- none waits
+Gathered-of : {S : Type 0} (Step : S → Option (List ℕ) → List ℕ → S → Type 0) (start machine : S) (lines : List (List ℕ)) (batch : Batch) (a b : Pushed)
+    → batch.bytes.items ≡ [] → batch.waits ≡ false → Serves Step start lines machine a b → Gathered Step start (length lines) lines machine batch a b
+Gathered-of {S} Step start machine lines batch a b empty quiet s =
+    let P : List (List ℕ) → Type 0 = λ rs. Answers Step start lines rs machine in
+    record {
+      replies = s.replies;
+      waiting = [];
+      answers = subst P (sym (append-nil s.replies)) s.answers;
+      enough = let same = Answers-length Step start machine lines s.replies s.answers in omega (arith, same);
+      sent = s.sent;
+      gathered = empty;
+      none = λ e. refl;
+      some = λ e. let clash : false ≡ true = sym quiet ∙ e in absurd cc;
+    }
+
+not_nil : (waiting : List (List ℕ)) (reply : List ℕ) → waiting ++ reply ∷ [] ≢ []
+not_nil [] reply = λ e. cc
+not_nil (w ∷ waiting) reply = λ e. cc
+
+-- one more waits
+Gathered-push : {S : Type 0} (Step : S → Option (List ℕ) → List ℕ → S → Type 0) (start mid new : S) (sure : ℕ) (lines : List (List ℕ)) (line reply : List ℕ) (batch batch_new : Batch) (a b : Pushed)
+    → Gathered Step start sure lines mid batch a b → Step mid (stored line) reply new → batch_new.bytes.items ≡ batch.bytes.items ++ reply → batch_new.waits ≡ true
+    → Gathered Step start sure (lines ++ line ∷ []) new batch_new a b
+Gathered-push {S} Step start mid new sure lines line reply batch batch_new a b g step grown waits =
+    let P : List (List ℕ) → Type 0 = λ rs. Answers Step start (lines ++ line ∷ []) rs new in
+    record {
+      replies = g.replies;
+      waiting = g.waiting ++ reply ∷ [];
+      answers = subst P (append_assoc g.replies g.waiting (reply ∷ [])) (Answers-push Step start mid new lines (g.replies ++ g.waiting) line reply g.answers step);
+      enough = g.enough;
+      sent = g.sent;
+      gathered = grown ∙ ap (λ bs. bs ++ reply) g.gathered ∙ sym (concat-append g.waiting (reply ∷ []) ∙ ap (λ bs. concat g.waiting ++ bs) (append-nil reply));
+      none = λ e. let clash : true ≡ false = sym waits ∙ e in absurd cc;
+      some = λ e. not_nil g.waiting reply;
+    }
+
+-- those that wait are sent
+Gathered-sent : {S : Type 0} (Step : S → Option (List ℕ) → List ℕ → S → Type 0) (start machine : S) (sure : ℕ) (lines : List (List ℕ)) (batch : Batch) (a b c : Pushed)
+    → Gathered Step start sure lines machine batch a b → batch.waits ≡ true → SentPiece b batch.bytes.items c → Serves Step start lines machine a c
+Gathered-sent {S} Step start machine sure lines batch a b c g waits sent = record {
+  replies = g.replies ++ g.waiting;
+  answers = g.answers;
+  sent = Sent-more a b c g.replies g.waiting batch.bytes.items g.sent (g.some waits) g.gathered sent;
 }
 
--- only a front of its reply is sent
-Serves-cut : {S : Type 0} (Step : S → Option (List ℕ) → List ℕ → S → Type 0) (start mid new : S) (lines : List (List ℕ)) (line reply : List ℕ) (a b c : Pushed)
-    → Serves Step start lines mid a b → Step mid (stored line) reply new → SentFront b [] reply c → BrokenOff Step start (lines ++ line ∷ []) new a c
-Serves-cut {S} Step start mid new lines line reply a b c s step sent = record {
-  answered = lines ++ line ∷ [];
-  first = ([], sym (append-nil (lines ++ line ∷ [])));
-  replies = s.replies;
-  last = reply;
-  answers = Answers-push Step start mid new lines s.replies line reply s.answers step;
-  sent = Sent-front a b c s.replies reply s.sent sent;
+-- only a front of them is sent
+Gathered-cut : {S : Type 0} (Step : S → Option (List ℕ) → List ℕ → S → Type 0) (start machine : S) (sure : ℕ) (lines : List (List ℕ)) (batch : Batch) (a b c : Pushed)
+    → Gathered Step start sure lines machine batch a b → SentPart b batch.bytes.items c → BrokenOff Step start sure lines machine a c
+Gathered-cut {S} Step start machine sure lines batch a b c g sent = record {
+  answered = lines;
+  first = ([], sym (append-nil lines));
+  replies = g.replies;
+  waiting = g.waiting;
+  answers = g.answers;
+  enough = g.enough;
+  sent = Sent-front a b c g.replies g.waiting batch.bytes.items g.sent g.gathered sent;
 }
+
+-- what has bytes has replies
+has_some : (waiting : List (List ℕ)) (bytes : List ℕ) → bytes ≡ concat waiting → 65536 ≤ length bytes → waiting ≢ []
+has_some waiting bytes e long none =
+    let short : length bytes ≡ 0 = ap length (e ∙ ap concat none) in
+    omega (arith, short, long)
+
+-- there is room again
+Gathered-room : {S : Type 0} (Step : S → Option (List ℕ) → List ℕ → S → Type 0) (start machine : S) (sure : ℕ) (lines : List (List ℕ)) (batch batch_new : Batch) (a b c : Pushed)
+    → Gathered Step start sure lines machine batch a b → MakesRoom batch b true batch_new c → Gathered Step start sure lines machine batch_new a c
+Gathered-room {S} Step start machine sure lines batch batch_new a b c g (inl same) =
+    let P : Batch → Type 0 = λ x. Gathered Step start sure lines machine x a c in
+    let Q : Pushed → Type 0 = λ x. Gathered Step start sure lines machine batch a x in
+    subst P (sym same.0) (subst Q (sym same.1) g)
+Gathered-room {S} Step start machine sure lines batch batch_new a b c g (inr sent) =
+    let P : List (List ℕ) → Type 0 = λ rs. Answers Step start lines rs machine in
+    record {
+      replies = g.replies ++ g.waiting;
+      waiting = [];
+      answers = subst P (sym (append-nil (g.replies ++ g.waiting))) g.answers;
+      enough = let long = length-append g.replies g.waiting in let enough = g.enough in omega (arith, long, enough);
+      sent = Sent-more a b c g.replies g.waiting batch.bytes.items g.sent (has_some g.waiting batch.bytes.items g.gathered sent.2) g.gathered sent.3;
+      gathered = sent.0;
+      none = λ e. refl;
+      some = λ e. let clash : false ≡ true = sym sent.1 ∙ e in absurd cc;
+    }
+
+-- nothing waits any more
+Gathered-settled : {S : Type 0} (Step : S → Option (List ℕ) → List ℕ → S → Type 0) (start machine : S) (sure : ℕ) (lines : List (List ℕ)) (batch : Batch) (a b c : Pushed)
+    → Gathered Step start sure lines machine batch a b → Settles batch b true c → Serves Step start lines machine a c
+Gathered-settled {S} Step start machine sure lines batch a b c g (inr sent) = Gathered-sent Step start machine sure lines batch a b c g sent.0 sent.1
+Gathered-settled {S} Step start machine sure lines batch a b c g (inl same) =
+    let P : List (List ℕ) → Type 0 = λ rs. Answers Step start lines rs machine in
+    let Q : Pushed → Type 0 = λ x. Sent a g.replies x in
+    record {
+      replies = g.replies;
+      answers = subst P (ap (λ rs. g.replies ++ rs) (g.none same.0) ∙ append-nil g.replies) g.answers;
+      sent = subst Q (sym same.1) g.sent;
+    }
 
 -- a line before the end is a line of all
-BrokenOff-more : {S : Type 0} (Step : S → Option (List ℕ) → List ℕ → S → Type 0) (start new : S) (lines all : List (List ℕ)) (a c : Pushed)
-    → BeginsWith all lines → BrokenOff Step start lines new a c → BrokenOff Step start all new a c
-BrokenOff-more {S} Step start new lines all a c more b = record {
+BrokenOff-more : {S : Type 0} (Step : S → Option (List ℕ) → List ℕ → S → Type 0) (start new : S) (sure : ℕ) (lines all : List (List ℕ)) (a c : Pushed)
+    → BeginsWith all lines → BrokenOff Step start sure lines new a c → BrokenOff Step start sure all new a c
+BrokenOff-more {S} Step start new sure lines all a c more b = record {
   answered = b.answered;
   first = (b.first.0 ++ more.0, more.1 ∙ ap (λ ls. ls ++ more.0) b.first.1 ∙ append_assoc b.answered b.first.0 more.0);
   replies = b.replies;
-  last = b.last;
+  waiting = b.waiting;
   answers = b.answers;
+  enough = b.enough;
   sent = b.sent;
 }
 
 -- ---- pieces
 
 -- no bytes came
-pub Feeds-none : {S : Type 0} (Step : S → Option (List ℕ) → List ℕ → S → Type 0) (machine : S) (held : Option (List ℕ)) (sink : Pushed) → Feeds Step machine held sink [] true machine held sink
-Feeds-none {S} Step machine held sink = λ start a read s.
-    let P : List ℕ → Type 0 = λ bs. Stands Step start a bs machine held sink in
+pub Feeds-none : {S : Type 0} (Step : S → Option (List ℕ) → List ℕ → S → Type 0) (machine : S) (held : Option (List ℕ)) (batch : Batch) (sink : Pushed) → Feeds Step machine held batch sink [] true machine held batch sink
+Feeds-none {S} Step machine held batch sink = λ start a sure read s.
+    let P : List ℕ → Type 0 = λ bs. Gathers Step start a sure bs machine held batch sink in
     subst P (sym (append-nil read)) s
 
 -- a piece without newline came
-pub Feeds-piece : {S : Type 0} (Step : S → Option (List ℕ) → List ℕ → S → Type 0) (machine : S) (held now : Option (List ℕ)) (sink : Pushed) (piece : List ℕ)
-    → whole_lines piece ≡ [] → ((bs : List ℕ) → held ≡ stored bs → now ≡ stored (bs ++ piece)) → Feeds Step machine held sink piece true machine now sink
-Feeds-piece {S} Step machine held now sink piece none joined = λ start a read s.
-    let P : List (List ℕ) → Type 0 = λ lines. Serves Step start lines machine a sink in
+pub Feeds-piece : {S : Type 0} (Step : S → Option (List ℕ) → List ℕ → S → Type 0) (machine : S) (held now : Option (List ℕ)) (batch : Batch) (sink : Pushed) (piece : List ℕ)
+    → whole_lines piece ≡ [] → ((bs : List ℕ) → held ≡ stored bs → now ≡ stored (bs ++ piece)) → Feeds Step machine held batch sink piece true machine now batch sink
+Feeds-piece {S} Step machine held now batch sink piece none joined = λ start a sure read s.
+    let P : List (List ℕ) → Type 0 = λ lines. Gathered Step start sure lines machine batch a sink in
     record {
-      served = subst P (sym (whole_lines-piece read piece none)) s.served;
+      lines = subst P (sym (whole_lines-piece read piece none)) s.lines;
       holds = joined (last_piece read) s.holds ∙ ap stored (sym (last_piece-piece read piece none));
     }
 
 -- a piece and a newline came, and the line that they end is answered
-pub Feeds-line : {S : Type 0} (Step : S → Option (List ℕ) → List ℕ → S → Type 0) (old new : S) (held joined now : Option (List ℕ)) (b c : Pushed) (piece reply : List ℕ)
-    → whole_lines piece ≡ [] → ((bs : List ℕ) → held ≡ stored bs → joined ≡ stored (bs ++ piece)) → Step old joined reply new → Sends b reply true c → now ≡ Some []
-    → Feeds Step old held b (piece ++ 10 ∷ []) true new now c
-Feeds-line {S} Step old new held joined now b c piece reply none joins step sent cleared = λ start a read s.
-    let P : List (List ℕ) → Type 0 = λ lines. Serves Step start lines new a c in
+pub Feeds-line : {S : Type 0} (Step : S → Option (List ℕ) → List ℕ → S → Type 0) (old new : S) (held joined now : Option (List ℕ)) (batch roomy batch_new : Batch) (b c : Pushed) (piece reply : List ℕ)
+    → whole_lines piece ≡ [] → ((bs : List ℕ) → held ≡ stored bs → joined ≡ stored (bs ++ piece)) → MakesRoom batch b true roomy c
+    → Step old joined reply new → batch_new.bytes.items ≡ roomy.bytes.items ++ reply → batch_new.waits ≡ true → now ≡ Some []
+    → Feeds Step old held batch b (piece ++ 10 ∷ []) true new now batch_new c
+Feeds-line {S} Step old new held joined now batch roomy batch_new b c piece reply none joins room step grown waits cleared = λ start a sure read s.
+    let P : List (List ℕ) → Type 0 = λ lines. Gathered Step start sure lines new batch_new a c in
     let Q : Option (List ℕ) → Type 0 = λ o. Step old o reply new in
+    let g = Gathered-room Step start old sure (whole_lines read) batch roomy a b c s.lines room in
     record {
-      served = subst P (sym (whole_lines-line read piece none)) (Serves-push Step start old new (whole_lines read) (last_piece read ++ piece) reply a b c s.served (subst Q (joins (last_piece read) s.holds) step) sent);
+      lines = subst P (sym (whole_lines-line read piece none)) (Gathered-push Step start old new sure (whole_lines read) (last_piece read ++ piece) reply roomy batch_new a c g (subst Q (joins (last_piece read) s.holds) step) grown waits);
       holds = cleared ∙ ap stored (sym (last_piece-line read piece));
     }
 
--- a piece and a newline came, and the reply to the line that they end is cut
-pub Feeds-cut : {S : Type 0} (Step : S → Option (List ℕ) → List ℕ → S → Type 0) (old new : S) (held joined now : Option (List ℕ)) (b c : Pushed) (piece reply : List ℕ)
-    → whole_lines piece ≡ [] → ((bs : List ℕ) → held ≡ stored bs → joined ≡ stored (bs ++ piece)) → Step old joined reply new → Sends b reply false c
-    → Feeds Step old held b (piece ++ 10 ∷ []) false new now c
-Feeds-cut {S} Step old new held joined now b c piece reply none joins step sent = λ start a read s.
-    let P : List (List ℕ) → Type 0 = λ lines. BrokenOff Step start lines new a c in
-    let Q : Option (List ℕ) → Type 0 = λ o. Step old o reply new in
-    subst P (sym (whole_lines-line read piece none)) (Serves-cut Step start old new (whole_lines read) (last_piece read ++ piece) reply a b c s.served (subst Q (joins (last_piece read) s.holds) step) sent)
+-- what waited before they came could not be sent
+pub Feeds-cut : {S : Type 0} (Step : S → Option (List ℕ) → List ℕ → S → Type 0) (old : S) (held now : Option (List ℕ)) (batch batch_new : Batch) (b c : Pushed) (bytes : List ℕ)
+    → SentPart b batch.bytes.items c → Feeds Step old held batch b bytes false old now batch_new c
+Feeds-cut {S} Step old held now batch batch_new b c bytes sent = λ start a sure read s.
+    BrokenOff-more Step start old sure (whole_lines read) (whole_lines (read ++ bytes)) a c (whole_lines-front read bytes) (Gathered-cut Step start old sure (whole_lines read) batch a b c s.lines sent)
 
 -- more came behind what came
-pub Feeds-more : {S : Type 0} (Step : S → Option (List ℕ) → List ℕ → S → Type 0) (old mid new : S) (held between now : Option (List ℕ)) (b c d : Pushed) (bytes more : List ℕ) (done : Bool)
-    → Feeds Step old held b bytes true mid between c → Feeds Step mid between c more done new now d → Feeds Step old held b (bytes ++ more) done new now d
-Feeds-more {S} Step old mid new held between now b c d bytes more true p q = λ start a read s.
-    let P : List ℕ → Type 0 = λ bs. Stands Step start a bs new now d in
-    subst P (append_assoc read bytes more) (q start a (read ++ bytes) (p start a read s))
-Feeds-more {S} Step old mid new held between now b c d bytes more false p q = λ start a read s.
-    let P : List ℕ → Type 0 = λ bs. BrokenOff Step start (whole_lines bs) new a d in
-    subst P (append_assoc read bytes more) (q start a (read ++ bytes) (p start a read s))
+pub Feeds-more : {S : Type 0} (Step : S → Option (List ℕ) → List ℕ → S → Type 0) (old mid new : S) (held between now : Option (List ℕ)) (x y z : Batch) (b c d : Pushed) (bytes more : List ℕ) (done : Bool)
+    → Feeds Step old held x b bytes true mid between y c → Feeds Step mid between y c more done new now z d → Feeds Step old held x b (bytes ++ more) done new now z d
+Feeds-more {S} Step old mid new held between now x y z b c d bytes more true p q = λ start a sure read s.
+    let P : List ℕ → Type 0 = λ bs. Gathers Step start a sure bs new now z d in
+    subst P (append_assoc read bytes more) (q start a sure (read ++ bytes) (p start a sure read s))
+Feeds-more {S} Step old mid new held between now x y z b c d bytes more false p q = λ start a sure read s.
+    let P : List ℕ → Type 0 = λ bs. BrokenOff Step start sure (whole_lines bs) new a d in
+    subst P (append_assoc read bytes more) (q start a sure (read ++ bytes) (p start a sure read s))
 
 -- what broke off stays so, whatever would have come
-pub Feeds-broken : {S : Type 0} (Step : S → Option (List ℕ) → List ℕ → S → Type 0) (old new : S) (held now later : Option (List ℕ)) (b c : Pushed) (bytes more : List ℕ)
-    → Feeds Step old held b bytes false new now c → Feeds Step old held b (bytes ++ more) false new later c
-Feeds-broken {S} Step old new held now later b c bytes more p = λ start a read s.
+pub Feeds-broken : {S : Type 0} (Step : S → Option (List ℕ) → List ℕ → S → Type 0) (old new : S) (held now later : Option (List ℕ)) (x y z : Batch) (b c : Pushed) (bytes more : List ℕ)
+    → Feeds Step old held x b bytes false new now y c → Feeds Step old held x b (bytes ++ more) false new later z c
+Feeds-broken {S} Step old new held now later x y z b c bytes more p = λ start a sure read s.
     let P : List ℕ → Type 0 = λ bs. BeginsWith (whole_lines bs) (whole_lines (read ++ bytes)) in
-    BrokenOff-more Step start new (whole_lines (read ++ bytes)) (whole_lines (read ++ (bytes ++ more))) a c (subst P (append_assoc read bytes more) (whole_lines-front (read ++ bytes) more)) (p start a read s)
+    BrokenOff-more Step start new sure (whole_lines (read ++ bytes)) (whole_lines (read ++ (bytes ++ more))) a c (subst P (append_assoc read bytes more) (whole_lines-front (read ++ bytes) more)) (p start a sure read s)
+
+-- ---- a read
+
+Gathers-of : {S : Type 0} (Step : S → Option (List ℕ) → List ℕ → S → Type 0) (start machine : S) (a b : Pushed) (read : List ℕ) (held : Option (List ℕ)) (batch : Batch)
+    → batch.bytes.items ≡ [] → batch.waits ≡ false → Stands Step start a read machine held b → Gathers Step start a (length (whole_lines read)) read machine held batch b
+Gathers-of {S} Step start machine a b read held batch empty quiet s = record {
+  lines = Gathered-of Step start machine (whole_lines read) batch a b empty quiet s.served;
+  holds = s.holds;
+}
+
+-- all of it was fed, and nothing waits any more
+TakesIn-settled : {S : Type 0} (Step : S → Option (List ℕ) → List ℕ → S → Type 0) (old new : S) (held now : Option (List ℕ)) (x y : Batch) (b c d : Pushed) (bytes : List ℕ)
+    → x.bytes.items ≡ [] → x.waits ≡ false → Feeds Step old held x b bytes true new now y c → Settles y c true d → TakesIn Step old held b bytes true new now d
+TakesIn-settled {S} Step old new held now x y b c d bytes empty quiet fed settled = λ start a read s.
+    let g = fed start a (length (whole_lines read)) read (Gathers-of Step start old a b read held x empty quiet s) in
+    record {
+      served = Gathered-settled Step start new (length (whole_lines read)) (whole_lines (read ++ bytes)) y a c d g.lines settled;
+      holds = g.holds;
+    }
+
+-- all of it was fed, and then the sink failed
+TakesIn-cut : {S : Type 0} (Step : S → Option (List ℕ) → List ℕ → S → Type 0) (old new : S) (held now : Option (List ℕ)) (x y : Batch) (b c d : Pushed) (bytes : List ℕ)
+    → x.bytes.items ≡ [] → x.waits ≡ false → Feeds Step old held x b bytes true new now y c → Settles y c false d → TakesIn Step old held b bytes false new now d
+TakesIn-cut {S} Step old new held now x y b c d bytes empty quiet fed cut = λ start a read s.
+    let g = fed start a (length (whole_lines read)) read (Gathers-of Step start old a b read held x empty quiet s) in
+    Gathered-cut Step start new (length (whole_lines read)) (whole_lines (read ++ bytes)) y a c d g.lines cut
+
+pub TakesIn-done : {S : Type 0} (Step : S → Option (List ℕ) → List ℕ → S → Type 0) (old new : S) (held now : Option (List ℕ)) (x y : Batch) (b c d : Pushed) (bytes : List ℕ) (done : Bool)
+    → x.bytes.items ≡ [] → x.waits ≡ false → Feeds Step old held x b bytes true new now y c → Settles y c done d → TakesIn Step old held b bytes done new now d
+TakesIn-done {S} Step old new held now x y b c d bytes true empty quiet fed settled = TakesIn-settled Step old new held now x y b c d bytes empty quiet fed settled
+TakesIn-done {S} Step old new held now x y b c d bytes false empty quiet fed cut = TakesIn-cut Step old new held now x y b c d bytes empty quiet fed cut
+
+-- the sink failed before all was fed
+pub TakesIn-broken : {S : Type 0} (Step : S → Option (List ℕ) → List ℕ → S → Type 0) (old new : S) (held now : Option (List ℕ)) (x y : Batch) (b c : Pushed) (bytes : List ℕ)
+    → x.bytes.items ≡ [] → x.waits ≡ false → Feeds Step old held x b bytes false new now y c → TakesIn Step old held b bytes false new now c
+TakesIn-broken {S} Step old new held now x y b c bytes empty quiet fed = λ start a read s.
+    fed start a (length (whole_lines read)) read (Gathers-of Step start old a b read held x empty quiet s)
 
 -- ---- the end
 
@@ -148,21 +292,23 @@ some-held (b ∷ bs) h = refl
 all_lines-last : (read : List ℕ) → stored (last_piece read) ≢ Some [] → whole_lines read ++ last_piece read ∷ [] ≡ all_lines read
 all_lines-last read h = ap (λ lines. whole_lines read ++ lines) (some-held (last_piece read) h)
 
--- the last piece is answered
-pub Finishes-line : {S : Type 0} (Step : S → Option (List ℕ) → List ℕ → S → Type 0) (old new : S) (held : Option (List ℕ)) (b c : Pushed) (reply : List ℕ)
-    → held ≢ Some [] → Step old held reply new → Sends b reply true c → Finishes Step old held b true new c
-Finishes-line {S} Step old new held b c reply some step sent = λ start a read s.
+-- the last piece is answered, and the reply waits
+Finishes-gathered : {S : Type 0} (Step : S → Option (List ℕ) → List ℕ → S → Type 0) (start old new : S) (held : Option (List ℕ)) (x y : Batch) (a b : Pushed) (read reply : List ℕ)
+    → held ≢ Some [] → x.bytes.items ≡ [] → x.waits ≡ false → Step old held reply new → y.bytes.items ≡ x.bytes.items ++ reply → y.waits ≡ true → Stands Step start a read old held b
+    → Gathered Step start (length (whole_lines read)) (all_lines read) new y a b
+Finishes-gathered {S} Step start old new held x y a b read reply some empty quiet step grown waits s =
     let P : Option (List ℕ) → Type 0 = λ o. Step old o reply new in
-    let Q : List (List ℕ) → Type 0 = λ lines. Serves Step start lines new a c in
-    subst Q (all_lines-last read (λ e. some (s.holds ∙ e))) (Serves-push Step start old new (whole_lines read) (last_piece read) reply a b c s.served (subst P s.holds step) sent)
+    let Q : List (List ℕ) → Type 0 = λ lines. Gathered Step start (length (whole_lines read)) lines new y a b in
+    subst Q (all_lines-last read (λ e. some (s.holds ∙ e)))
+    (Gathered-push Step start old new (length (whole_lines read)) (whole_lines read) (last_piece read) reply x y a b (Gathered-of Step start old (whole_lines read) x a b empty quiet s.served) (subst P s.holds step) grown waits)
 
--- the reply to the last piece is cut
-pub Finishes-cut : {S : Type 0} (Step : S → Option (List ℕ) → List ℕ → S → Type 0) (old new : S) (held : Option (List ℕ)) (b c : Pushed) (reply : List ℕ)
-    → held ≢ Some [] → Step old held reply new → Sends b reply false c → Finishes Step old held b false new c
-Finishes-cut {S} Step old new held b c reply some step sent = λ start a read s.
-    let P : Option (List ℕ) → Type 0 = λ o. Step old o reply new in
-    let Q : List (List ℕ) → Type 0 = λ lines. BrokenOff Step start lines new a c in
-    subst Q (all_lines-last read (λ e. some (s.holds ∙ e))) (Serves-cut Step start old new (whole_lines read) (last_piece read) reply a b c s.served (subst P s.holds step) sent)
+-- the reply is sent, or a front of it
+pub Finishes-line : {S : Type 0} (Step : S → Option (List ℕ) → List ℕ → S → Type 0) (old new : S) (held : Option (List ℕ)) (x y : Batch) (b c : Pushed) (reply : List ℕ) (done : Bool)
+    → held ≢ Some [] → x.bytes.items ≡ [] → x.waits ≡ false → Step old held reply new → y.bytes.items ≡ x.bytes.items ++ reply → y.waits ≡ true → Settles y b done c → Finishes Step old held b done new c
+Finishes-line {S} Step old new held x y b c reply true some empty quiet step grown waits settled = λ start a read s.
+    Gathered-settled Step start new (length (whole_lines read)) (all_lines read) y a b c (Finishes-gathered Step start old new held x y a b read reply some empty quiet step grown waits s) settled
+Finishes-line {S} Step old new held x y b c reply false some empty quiet step grown waits cut = λ start a read s.
+    Gathered-cut Step start new (length (whole_lines read)) (all_lines read) y a b c (Finishes-gathered Step start old new held x y a b read reply some empty quiet step grown waits s) cut
 
 nothing_held : (piece : List ℕ) (t : Bool) → (if t then Some piece else None) ≡ Some [] → piece ≡ []
 nothing_held piece true h = cc

@@ -16,13 +16,14 @@ writes_out old new before after lines s = record {
   sent = s.sent;
 }
 
-breaks_off : (old new : Libraries) (before after : Pushed) (lines : List (List ℕ)) → BrokenOff BrokerStep old lines new before after → BreaksOff old lines new before after
-breaks_off old new before after lines b = record {
+breaks_off : (old new : Libraries) (before after : Pushed) (sure : ℕ) (lines : List (List ℕ)) → BrokenOff BrokerStep old sure lines new before after → BreaksOff old sure lines new before after
+breaks_off old new before after sure lines b = record {
   answered = b.answered;
   first = b.first;
   replies = b.replies;
-  last = b.last;
+  waiting = b.waiting;
   runs = serves_alone old new b.answered _ b.answers;
+  enough = b.enough;
   sent = b.sent;
 }
 
@@ -34,11 +35,11 @@ all_by P Q f old new sink r = record { read = r.read; consumed = r.consumed; at_
 some_by : (P Q : List (List ℕ) → Type 0) → ((lines : List (List ℕ)) → P lines → Q lines) → (failed : Bool) (old new : Pulled) (sink : Pushed) → ReadsSome P failed old new sink → ReadsSome Q failed old new sink
 some_by P Q f failed old new sink r = record { read = r.read; consumed = r.consumed; served = f _ r.served; unended = r.unended; failing = r.failing; well = r.well }
 
-breaks_by : (P Q : List (List ℕ) → Type 0) → ((lines : List (List ℕ)) → P lines → Q lines) → (old new : Pulled) (sink : Pushed) → Breaks P old new sink → Breaks Q old new sink
-breaks_by P Q f old new sink r = record { read = r.read; consumed = r.consumed; broken = f _ r.broken; sound = r.sound; broke = r.broke }
+breaks_by : (P Q : ℕ → List (List ℕ) → Type 0) → ((sure : ℕ) (lines : List (List ℕ)) → P sure lines → Q sure lines) → (old new : Pulled) (sink : Pushed) → Breaks P old new sink → Breaks Q old new sink
+breaks_by P Q f old new sink r = record { earlier = r.earlier; last = r.last; one_read = r.one_read; consumed = r.consumed; broken = f _ _ r.broken; sound = r.sound; broke = r.broke }
 
 pub serves_to : (reads : ℕ) (old new : Libraries) (source_old source_new : Pulled) (sink_old sink_new : Pushed) (result : Result (Unit {0}) RunFault)
-    → EndsBy (λ lines. Serves BrokerStep old lines new sink_old sink_new) (λ lines. BrokenOff BrokerStep old lines new sink_old sink_new) reads source_old source_new sink_new result
+    → EndsBy (λ lines. Serves BrokerStep old lines new sink_old sink_new) (λ sure lines. BrokenOff BrokerStep old sure lines new sink_old sink_new) reads source_old source_new sink_new result
     → ServesTo reads old new source_old source_new sink_old sink_new result
 serves_to reads old new a b c d (Ok done) r = all_by _ _ (writes_out old new c d) a b d r
 serves_to reads old new a b c d (Err fault.Read) r = some_by _ _ (writes_out old new c d) true a b d r

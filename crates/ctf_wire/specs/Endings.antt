@@ -1,5 +1,5 @@
 -- How a run over a source and a sink begins and ends. Source: ours.
-use Rattle.std.specs.Prelude.{◌≡◌, ℕ, ◌+◌, ◌<◌, ◌≤◌, ◌^◌, List, Bool, true, false, Result, Ok, Err, if◌then◌else◌}
+use Rattle.std.specs.Prelude.{◌≡◌, ℕ, ◌+◌, ◌<◌, ◌≤◌, ◌^◌, ◌++◌, List, length, Bool, true, false, Result, Ok, Err, if◌then◌else◌}
 use Rattle.std.specs.Io.KnownBytes.{Consumes, IsAtEnd}
 use Rattle.ctf_protocol.specs.lines.Lines.{all_lines, whole_lines}
 use Rattle.ctf_wire.specs.Streams.{Pulled, Pushed}
@@ -43,18 +43,21 @@ pub record ReadsSome (Served : List (List ℕ) → Type 0) (failed : Bool) (old 
   pub failing : new.failed ≡ failed
   pub well : sink.failed ≡ false
 
--- the replies to the lines that were read broke off
-pub record Breaks (Broken : List (List ℕ) → Type 0) (old new : Pulled)
+-- the replies to the lines that were read broke off, but not those to whole lines of the earlier
+-- reads: what is missing answers lines of the last read
+pub record Breaks (Broken : ℕ → List (List ℕ) → Type 0) (old new : Pulled)
     (sink : Pushed) : Type 0 where
-  pub read : List ℕ
-  pub consumed : Consumes old.remaining new.remaining read
-  pub broken : Broken (lines_read new.ended read)
+  pub earlier : List ℕ
+  pub last : List ℕ
+  pub one_read : length last ≤ 65536
+  pub consumed : Consumes old.remaining new.remaining (earlier ++ last)
+  pub broken : Broken (length (whole_lines earlier)) (lines_read new.ended (earlier ++ last))
   pub sound : new.failed ≡ false
   pub broke : sink.failed ≡ true
 
 -- how a run of at most so many reads ends, where lines may be served or broken off;
 -- want of memory is told elsewhere
-abbrev pub EndsBy : (List (List ℕ) → Type 0) → (List (List ℕ) → Type 0) → ℕ → Pulled → Pulled
+abbrev pub EndsBy : (List (List ℕ) → Type 0) → (ℕ → List (List ℕ) → Type 0) → ℕ → Pulled → Pulled
     → Pushed → Result (Unit {0}) RunFault → Type 0
 EndsBy Served Broken reads old new sink (Ok done) = ReadsAll Served old new sink
 EndsBy Served Broken reads old new sink (Err fault.Read) = ReadsSome Served true old new sink

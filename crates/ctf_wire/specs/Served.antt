@@ -1,5 +1,5 @@
 -- What a machine that answers lines was asked, and what of its replies came out. Source: ours.
-use Rattle.std.specs.Prelude.{◌≡◌, ℕ, List, [], ◌∷◌, ◌++◌, Bool, true, false, Option}
+use Rattle.std.specs.Prelude.{◌≡◌, ℕ, ◌≤◌, List, [], ◌∷◌, ◌++◌, length, map, Bool, true, false, Option}
 use Rattle.std.specs.List.{concat}
 use Rattle.std.specs.Io.KnownBytes.{Appends}
 use Rattle.ctf_protocol.specs.lines.Lines.{stored}
@@ -19,26 +19,57 @@ Answers {S} Step old (line ∷ lines) (reply ∷ replies) new =
 abbrev pub BeginsWith : {X : Type 0} → List X → List X → Type 0
 BeginsWith {X} xs front = (more : List X) × (xs ≡ front ++ more)
 
--- these replies were pushed, each flushed by itself, and nothing failed
-pub record Sent (before : Pushed) (replies : List (List ℕ)) (after : Pushed) : Type 0 where
-  pub written : Appends before.contents after.contents (concat replies)
-  pub flushed : after.flushes ≡ after_pieces before.flushes replies []
+-- these bytes were pushed and then flushed, and nothing failed
+pub record SentPiece (before : Pushed) (bytes : List ℕ) (after : Pushed) : Type 0 where
+  pub written : Appends before.contents after.contents bytes
+  pub flushed : after.flushes ≡ after_pieces before.flushes (bytes ∷ []) []
   pub well : after.failed ≡ before.failed
 
--- these replies were pushed, each flushed by itself, and then a front of one more,
--- and the sink failed
-pub record SentFront (before : Pushed) (replies : List (List ℕ)) (last : List ℕ)
-    (after : Pushed) : Type 0 where
+-- a front of these bytes was pushed, and the sink failed
+pub record SentPart (before : Pushed) (bytes : List ℕ) (after : Pushed) : Type 0 where
   pub front : List ℕ
-  pub begins : BeginsWith last front
-  pub written : Appends before.contents after.contents (concat replies ++ front)
-  pub flushed : after.flushes ≡ after_pieces before.flushes replies front
+  pub begins : BeginsWith bytes front
+  pub written : Appends before.contents after.contents front
+  pub flushed : after.flushes ≡ after_pieces before.flushes [] front
   pub broke : after.failed ≡ true
 
--- a reply was sent, or the sink failed after a front of it
+-- these bytes were sent, or the sink failed after a front of them
 abbrev pub Sends : Pushed → List ℕ → Bool → Pushed → Type 0
-Sends before reply true after = Sent before (reply ∷ []) after
-Sends before reply false after = SentFront before [] reply after
+Sends before bytes true after = SentPiece before bytes after
+Sends before bytes false after = SentPart before bytes after
+
+-- groups of replies, one behind the other
+abbrev pub all_of : List (List (List ℕ)) → List (List ℕ)
+all_of [] = []
+all_of (group ∷ groups) = group ++ all_of groups
+
+-- no group is empty
+abbrev pub AreFilled : List (List (List ℕ)) → Type 0
+AreFilled [] = Unit {0}
+AreFilled ([] ∷ groups) = ⊥
+AreFilled ((reply ∷ group) ∷ groups) = AreFilled groups
+
+-- these replies were pushed, flushed in groups of whole ones, and nothing failed
+pub record Sent (before : Pushed) (replies : List (List ℕ)) (after : Pushed) : Type 0 where
+  pub groups : List (List (List ℕ))
+  pub grouped : all_of groups ≡ replies
+  pub filled : AreFilled groups
+  pub written : Appends before.contents after.contents (concat replies)
+  pub flushed : after.flushes ≡ after_pieces before.flushes (map concat groups) []
+  pub well : after.failed ≡ before.failed
+
+-- these replies were pushed, flushed in groups of whole ones, and then a front of those
+-- that waited, and the sink failed
+pub record SentFront (before : Pushed) (replies waiting : List (List ℕ))
+    (after : Pushed) : Type 0 where
+  pub groups : List (List (List ℕ))
+  pub grouped : all_of groups ≡ replies
+  pub filled : AreFilled groups
+  pub front : List ℕ
+  pub begins : BeginsWith (concat waiting) front
+  pub written : Appends before.contents after.contents (concat replies ++ front)
+  pub flushed : after.flushes ≡ after_pieces before.flushes (map concat groups) front
+  pub broke : after.failed ≡ true
 
 -- these lines have their replies, and the replies are sent
 pub record Serves {S : Type 0} (Step : S → Option (List ℕ) → List ℕ → S → Type 0) (old : S)
@@ -47,12 +78,14 @@ pub record Serves {S : Type 0} (Step : S → Option (List ℕ) → List ℕ → 
   pub answers : Answers Step old lines replies new
   pub sent : Sent before replies after
 
--- of the replies to the first of these lines all but the last are sent, and of the last a front
+-- the first of these lines are answered; their replies are sent, at least so many of them,
+-- and of the last few, which waited, a front
 pub record BrokenOff {S : Type 0} (Step : S → Option (List ℕ) → List ℕ → S → Type 0) (old : S)
-    (lines : List (List ℕ)) (new : S) (before after : Pushed) : Type 0 where
+    (sure : ℕ) (lines : List (List ℕ)) (new : S) (before after : Pushed) : Type 0 where
   pub answered : List (List ℕ)
   pub first : BeginsWith lines answered
   pub replies : List (List ℕ)
-  pub last : List ℕ
-  pub answers : Answers Step old answered (replies ++ last ∷ []) new
-  pub sent : SentFront before replies last after
+  pub waiting : List (List ℕ)
+  pub answers : Answers Step old answered (replies ++ waiting) new
+  pub enough : sure ≤ length replies
+  pub sent : SentFront before replies waiting after

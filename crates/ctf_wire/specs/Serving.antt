@@ -1,5 +1,5 @@
 -- What serving the lines of all sessions does to a broker and a sink. Source: ours.
-use Rattle.std.specs.Prelude.{◌≡◌, ◌≢◌, ℕ, List, [], ◌∷◌, ◌++◌, Option, None, Some, Result, Ok, Err, ◌⊎◌}
+use Rattle.std.specs.Prelude.{◌≡◌, ◌≢◌, ℕ, ◌≤◌, List, [], ◌∷◌, ◌++◌, length, Option, None, Some, Result, Ok, Err, ◌⊎◌}
 use Rattle.ctf_protocol.specs.lines.Ask.{ask}
 use Rattle.ctf_protocol.specs.lines.Output.{Mark, out, calls_made}
 use Rattle.ctf_model.specs.rules.Refusals.{placeless}
@@ -58,23 +58,24 @@ ServesAlone =
     (old new : Libraries) (lines replies : List (List ℕ)) → Answers BrokerStep old lines replies new
     → RunsAlone old lines replies new
 
--- these lines are served, and the replies are sent, each flushed by itself
+-- these lines are served, and the replies are sent
 pub record WritesOut (old : Libraries) (lines : List (List ℕ)) (new : Libraries)
     (before after : Pushed) : Type 0 where
   pub replies : List (List ℕ)
   pub runs : RunsAlone old lines replies new
   pub sent : Sent before replies after
 
--- the first of these lines are served; the replies to all of them but the last are sent,
--- and of the last reply a front
-pub record BreaksOff (old : Libraries) (lines : List (List ℕ)) (new : Libraries)
+-- the first of these lines are served; their replies are sent, at least so many of them,
+-- and of the last few, which waited, a front
+pub record BreaksOff (old : Libraries) (sure : ℕ) (lines : List (List ℕ)) (new : Libraries)
     (before after : Pushed) : Type 0 where
   pub answered : List (List ℕ)
   pub first : BeginsWith lines answered
   pub replies : List (List ℕ)
-  pub last : List ℕ
-  pub runs : RunsAlone old answered (replies ++ last ∷ []) new
-  pub sent : SentFront before replies last after
+  pub waiting : List (List ℕ)
+  pub runs : RunsAlone old answered (replies ++ waiting) new
+  pub enough : sure ≤ length replies
+  pub sent : SentFront before replies waiting after
 
 -- what a run of at most so many reads does to the libraries of all sessions,
 -- to its source and to its sink
@@ -82,5 +83,5 @@ abbrev pub ServesTo : ℕ → Libraries → Libraries → Pulled → Pulled → 
     → Result (Unit {0}) RunFault → Type 0
 ServesTo reads old new source_old source_new sink_old sink_new result =
     EndsBy (λ lines. WritesOut old lines new sink_old sink_new)
-    (λ lines. BreaksOff old lines new sink_old sink_new)
+    (λ sure lines. BreaksOff old sure lines new sink_old sink_new)
     reads source_old source_new sink_new result

@@ -1,25 +1,27 @@
--- How things stand between two pieces of the input. Source: ours.
-use Rattle.std.specs.Prelude.{◌≡◌, ℕ, ◌++◌, List, Bool, true, false, Option}
+-- How things stand between two reads. Source: ours.
+use Rattle.std.specs.Prelude.{◌≡◌, ℕ, ◌++◌, List, length, Bool, true, false, Option}
 use Rattle.ctf_protocol.specs.lines.Lines.{whole_lines, all_lines, last_piece, stored}
 use Rattle.ctf_wire.specs.Served.{Serves, BrokenOff}
 use Rattle.ctf_wire.specs.Streams.{Pushed}
 
--- all whole lines that were read are served, and the piece after them is held
+-- all whole lines that were read are served, no reply waits, and the piece after them is held
 pub record Stands {S : Type 0} (Step : S → Option (List ℕ) → List ℕ → S → Type 0) (start : S)
     (before : Pushed) (read : List ℕ) (machine : S) (held : Option (List ℕ))
     (after : Pushed) : Type 0 where
   pub served : Serves Step start (whole_lines read) machine before after
   pub holds : held ≡ stored (last_piece read)
 
--- more bytes were read: things stand as they are to, or the sink failed; wherever the run began
-abbrev pub Feeds : {S : Type 0} → (S → Option (List ℕ) → List ℕ → S → Type 0) → S → Option (List ℕ)
-    → Pushed → List ℕ → Bool → S → Option (List ℕ) → Pushed → Type 0
-Feeds {S} Step old held sink bytes true new held_new sink_new =
+-- one read took these bytes: things stand as they are to, or the sink failed;
+-- wherever the run began
+abbrev pub TakesIn : {S : Type 0} → (S → Option (List ℕ) → List ℕ → S → Type 0) → S
+    → Option (List ℕ) → Pushed → List ℕ → Bool → S → Option (List ℕ) → Pushed → Type 0
+TakesIn {S} Step old held sink bytes true new held_new sink_new =
     (start : S) (before : Pushed) (read : List ℕ) → Stands Step start before read old held sink
     → Stands Step start before (read ++ bytes) new held_new sink_new
-Feeds {S} Step old held sink bytes false new held_new sink_new =
+TakesIn {S} Step old held sink bytes false new held_new sink_new =
     (start : S) (before : Pushed) (read : List ℕ) → Stands Step start before read old held sink
-    → BrokenOff Step start (whole_lines (read ++ bytes)) new before sink_new
+    → BrokenOff Step start (length (whole_lines read)) (whole_lines (read ++ bytes)) new
+    before sink_new
 
 -- nothing comes any more: the piece that is held is a line too, where it isn't empty
 abbrev pub Finishes : {S : Type 0} → (S → Option (List ℕ) → List ℕ → S → Type 0) → S
@@ -29,4 +31,4 @@ Finishes {S} Step old held sink true new sink_new =
     → Serves Step start (all_lines read) new before sink_new
 Finishes {S} Step old held sink false new sink_new =
     (start : S) (before : Pushed) (read : List ℕ) → Stands Step start before read old held sink
-    → BrokenOff Step start (all_lines read) new before sink_new
+    → BrokenOff Step start (length (whole_lines read)) (all_lines read) new before sink_new

@@ -1,36 +1,31 @@
-//! Pieces of the input in: lines to a machine, replies to a sink.
-ghost use Rattle.std.specs.Prelude.{◌≡◌, ℕ, ◌≤◌, ◌++◌, ◌∷◌, [], List, vec_capacity};
+//! What one read took in: lines to a machine, replies into a batch, and the batch to a sink.
+ghost use Rattle.std.specs.Prelude.{◌≡◌, ℕ, ◌≤◌, ◌+◌, ◌++◌, ◌∷◌, [], List, true, false, vec_capacity};
 ghost use Rattle.ctf_protocol.specs.lines.Lines.{whole_lines};
-ghost use Rattle.ctf_wire.specs.Served.{Sends};
-ghost use Rattle.ctf_wire.specs.Standing.{Feeds, Finishes};
+ghost use Rattle.ctf_wire.specs.Room.{HasShortRoom, Replies};
+ghost use Rattle.ctf_wire.specs.Gathering.{Feeds};
+ghost use Rattle.ctf_wire.specs.Standing.{Finishes, TakesIn};
 
+use crate::batch::Batch;
 use crate::machines::Machine;
 use crate::pending::Pending;
 use crate::pieces::cut;
-use crate::sending::send;
+use crate::sending::{make_room, settle};
 use crate::sinks::Sink;
 use ctf_lines::Scratch;
 
-/// Answers the pending line.
-fn answer<M: Machine, K: Sink>(
-    machine: &mut M,
-    scratch: &mut Scratch,
-    pending: &Pending,
-    sink: &mut K,
-    out: &mut Vec<u8>,
-) -> bool
-    requires { 96 ≤ vec_capacity out.old }
-    ensures sends { (reply : List ℕ) × M.Step machine.old pending.now reply machine.new
-        × Sends (K.pushed sink.old) reply result (K.pushed sink.new) }
-    ensures grows { vec_capacity out.old ≤ vec_capacity out.new }
+/// Answers the pending line. The reply waits.
+fn answer<M: Machine>(machine: &mut M, scratch: &mut Scratch, pending: &Pending, batch: &mut Batch)
+    requires { HasShortRoom batch.old.bytes }
+    ensures answers { (reply : List ℕ) × M.Step machine.old pending.now reply machine.new
+        × Replies batch.old.bytes reply batch.new.bytes }
+    ensures waits { batch.new.waits ≡ true }
 {
-    out.clear();
     if pending.is_too_long() {
-        machine.step_too_long(out);
+        machine.step_too_long(&mut batch.bytes);
     } else {
-        machine.step(scratch, pending.bytes(), out);
+        machine.step(scratch, pending.bytes(), &mut batch.bytes);
     }
-    send(sink, out)
+    batch.waits = true;
 }
 
 /// Answers the line that this piece ends.
@@ -39,40 +34,45 @@ fn end_line<M: Machine, K: Sink>(
     scratch: &mut Scratch,
     pending: &mut Pending,
     sink: &mut K,
-    out: &mut Vec<u8>,
+    batch: &mut Batch,
     piece: &[u8],
 ) -> bool
-    requires room { 96 ≤ vec_capacity out.old }
+    requires room { 65536 + 96 ≤ vec_capacity batch.old.bytes }
     requires piece { whole_lines piece.now ≡ [] }
-    ensures feeds { Feeds M.Step machine.old pending.old (K.pushed sink.old)
-        (piece.now ++ 10 ∷ []) result machine.new pending.new (K.pushed sink.new) }
-    ensures grows { vec_capacity out.old ≤ vec_capacity out.new }
+    ensures feeds { Feeds M.Step machine.old pending.old batch.old (K.pushed sink.old)
+        (piece.now ++ 10 ∷ []) result machine.new pending.new batch.new (K.pushed sink.new) }
+    ensures empty { result ≡ false → batch.new.bytes.items ≡ [] }
+    ensures none { result ≡ false → batch.new.waits ≡ false }
+    ensures grows { vec_capacity batch.old.bytes ≤ vec_capacity batch.new.bytes }
 {
     pending.append(piece);
-    if !answer(machine, scratch, pending, sink, out) {
+    if !make_room(sink, batch) {
         return false;
     }
+    answer(machine, scratch, pending, batch);
     pending.clear();
     true
 }
 
 /// Takes bytes in: answers each line that they end.
-pub fn feed<M: Machine, K: Sink>(
+fn feed<M: Machine, K: Sink>(
     machine: &mut M,
     scratch: &mut Scratch,
     pending: &mut Pending,
     sink: &mut K,
-    out: &mut Vec<u8>,
+    batch: &mut Batch,
     bytes: &[u8],
 ) -> bool
-    requires { 96 ≤ vec_capacity out.old }
-    ensures feeds { Feeds M.Step machine.old pending.old (K.pushed sink.old)
-        bytes.now result machine.new pending.new (K.pushed sink.new) }
-    ensures grows { vec_capacity out.old ≤ vec_capacity out.new }
+    requires { 65536 + 96 ≤ vec_capacity batch.old.bytes }
+    ensures feeds { Feeds M.Step machine.old pending.old batch.old (K.pushed sink.old)
+        bytes.now result machine.new pending.new batch.new (K.pushed sink.new) }
+    ensures empty { result ≡ false → batch.new.bytes.items ≡ [] }
+    ensures none { result ≡ false → batch.new.waits ≡ false }
+    ensures grows { vec_capacity batch.old.bytes ≤ vec_capacity batch.new.bytes }
 {
     let mut rest = bytes;
     while let Some((piece, after)) = cut(rest) {
-        if !end_line(machine, scratch, pending, sink, out, piece) {
+        if !end_line(machine, scratch, pending, sink, batch, piece) {
             return false;
         }
         rest = after;
@@ -81,23 +81,50 @@ pub fn feed<M: Machine, K: Sink>(
     true
 }
 
-/// Answers the last piece, where it isn't empty.
+/// Takes in what one read took: answers each line that it ends, and sends all replies.
+pub fn take_in<M: Machine, K: Sink>(
+    machine: &mut M,
+    scratch: &mut Scratch,
+    pending: &mut Pending,
+    sink: &mut K,
+    batch: &mut Batch,
+    bytes: &[u8],
+) -> bool
+    requires room { 65536 + 96 ≤ vec_capacity batch.old.bytes }
+    requires empty { batch.old.bytes.items ≡ [] }
+    requires none { batch.old.waits ≡ false }
+    ensures takes { TakesIn M.Step machine.old pending.old (K.pushed sink.old)
+        bytes.now result machine.new pending.new (K.pushed sink.new) }
+    ensures empty { batch.new.bytes.items ≡ [] }
+    ensures none { batch.new.waits ≡ false }
+    ensures grows { vec_capacity batch.old.bytes ≤ vec_capacity batch.new.bytes }
+{
+    if !feed(machine, scratch, pending, sink, batch, bytes) {
+        return false;
+    }
+    settle(sink, batch)
+}
+
+/// Answers the last piece, where it isn't empty, and sends the reply.
 pub fn finish<M: Machine, K: Sink>(
     machine: &mut M,
     scratch: &mut Scratch,
     pending: &Pending,
     sink: &mut K,
-    out: &mut Vec<u8>,
+    batch: &mut Batch,
 ) -> bool
-    requires { 96 ≤ vec_capacity out.old }
-    ensures { Finishes M.Step machine.old pending.now (K.pushed sink.old)
+    requires room { 65536 + 96 ≤ vec_capacity batch.old.bytes }
+    requires empty { batch.old.bytes.items ≡ [] }
+    requires none { batch.old.waits ≡ false }
+    ensures finishes { Finishes M.Step machine.old pending.now (K.pushed sink.old)
         result machine.new (K.pushed sink.new) }
+    ensures empty { batch.new.bytes.items ≡ [] }
+    ensures none { batch.new.waits ≡ false }
+    ensures grows { vec_capacity batch.old.bytes ≤ vec_capacity batch.new.bytes }
 {
     if pending.is_empty() {
         return true;
     }
-    if !answer(machine, scratch, pending, sink, out) {
-        return false;
-    }
-    true
+    answer(machine, scratch, pending, batch);
+    settle(sink, batch)
 }

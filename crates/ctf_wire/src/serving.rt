@@ -81,7 +81,7 @@ pub fn serves_each_session_alone()
 {}
 
 /// Reads lines from the source and writes their replies to the sink, to the source's end or for
-/// `reads` reads. Each reply is pushed and flushed by itself.
+/// `reads` reads. Before each read all replies are pushed and flushed.
 pub fn serve_bounded<S: Source, K: Sink>(
     alloc: Global,
     broker: &mut Broker,
@@ -103,7 +103,7 @@ pub fn serve_bounded<S: Source, K: Sink>(
 pub const MOST_READS: u64 = 1 << 40;
 
 /// Reads lines from the source and writes their replies to the sink, to the source's end or for
-/// `MOST_READS` reads. Each reply is pushed and flushed by itself.
+/// `MOST_READS` reads. Before each read all replies are pushed and flushed.
 pub fn serve<S: Source, K: Sink>(
     alloc: Global,
     broker: &mut Broker,

@@ -4,4 +4,4 @@ use Rattle.ctf_library.proofs.answering.name.Goals as goal
 
 pub returns-in-Ok : goal.returns-in-Ok
 returns-in-Ok c =
-    inl (named _ _ _ _ c.new-text.ensures.items c.in-Ok.ensures.exact_ok (rw (c.with_text.ensures.fields, c.done.ensures, c.from.ensures) refl))
+    inl (named _ _ _ _ c.new-text.ensures.items c.in-Ok.ensures.exact_ok (rw (c.made.ensures, c.from.ensures) refl))

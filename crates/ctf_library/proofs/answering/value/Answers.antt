@@ -4,4 +4,4 @@ use Rattle.ctf_library.proofs.answering.value.Goals as goal
 
 pub returns-in-Ok : goal.returns-in-Ok
 returns-in-Ok c =
-    inl (shown _ _ _ _ c.new-text.ensures.items c.in-Ok.ensures.exact_ok (rw (c.with_text.ensures.fields, c.done.ensures, c.from.ensures) refl))
+    inl (shown _ _ _ _ c.new-text.ensures.items c.in-Ok.ensures.exact_ok (rw (c.made.ensures, c.from.ensures) refl))

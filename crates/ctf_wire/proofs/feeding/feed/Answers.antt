@@ -1,5 +1,5 @@
 use Rattle.std.proofs.Common.{arith, ◌≡◌, ◌∙◌, ap, sym, subst, List, ℕ, ◌++◌, ◌∷◌, [], true, false, append_assoc}
-use Rattle.ctf_wire.specs.Standing.{Feeds}
+use Rattle.ctf_wire.specs.Gathering.{Feeds}
 use Rattle.ctf_wire.proofs.Cutting.{regrouped}
 use Rattle.ctf_wire.proofs.Replying.{Feeds-more, Feeds-broken, Feeds-piece}
 use Rattle.ctf_wire.proofs.feeding.feed.Goals as goal
@@ -13,7 +13,7 @@ loop-piece-preserved g c =
       fed = (
         fed.0 ++ line,
         regrouped _ fed.0 _ piece _ fed.1 c.in-Some.ensures.1,
-        Feeds-more g.M.Machine.Step _ _ _ _ _ _ _ _ _ fed.0 line true fed.2 c.if-not-end_line.ensures.feeds,
+        Feeds-more g.M.Machine.Step _ _ _ _ _ _ _ _ _ _ _ _ fed.0 line true fed.2 c.if-not-end_line.ensures.feeds,
       );
       grows = let a = c.if-not-end_line.ensures.grows in let b = c.loop-piece.invariant.grows in omega (arith, a, b);
     }
@@ -25,14 +25,14 @@ returns-then-not-end_line-clause-feeds g c =
     let line = piece ++ 10 ∷ [] in
     let after = c.in-Some.after.now in
     let whole = regrouped _ fed.0 _ piece after fed.1 c.in-Some.ensures.1 in
-    let cut = Feeds-more g.M.Machine.Step _ _ _ _ _ c.end_line.new.pending _ _ _ fed.0 line false fed.2 c.if-not-end_line.ensures.feeds in
-    let P : List ℕ → Type 0 = λ bs. Feeds g.M.Machine.Step c.args.machine.now c.args.pending.now (g.K.Sink.pushed c.args.sink.now) bs false c.end_line.new.machine c.end_line.new.pending (g.K.Sink.pushed c.end_line.new.sink) in
-    subst P (sym whole) (Feeds-broken g.M.Machine.Step _ _ _ c.end_line.new.pending c.end_line.new.pending _ _ (fed.0 ++ line) after cut)
+    let cut = Feeds-more g.M.Machine.Step _ _ _ _ _ c.end_line.new.pending _ _ c.end_line.new.batch _ _ _ fed.0 line false fed.2 c.if-not-end_line.ensures.feeds in
+    let P : List ℕ → Type 0 = λ bs. Feeds g.M.Machine.Step c.args.machine.now c.args.pending.now c.args.batch.now (g.K.Sink.pushed c.args.sink.now) bs false c.end_line.new.machine c.end_line.new.pending c.end_line.new.batch (g.K.Sink.pushed c.end_line.new.sink) in
+    subst P (sym whole) (Feeds-broken g.M.Machine.Step _ _ _ c.end_line.new.pending c.end_line.new.pending _ c.end_line.new.batch c.end_line.new.batch _ _ (fed.0 ++ line) after cut)
 
 pub returns-clause-feeds : goal.returns-clause-feeds
 returns-clause-feeds g c =
     let fed = c.loop-piece.invariant.fed in
     let rest = c.loop-piece.rest.now in
-    let last = Feeds-piece g.M.Machine.Step c.loop-piece.machine c.loop-piece.pending c.append.new.self (g.K.Sink.pushed c.loop-piece.sink) rest c.in_default.ensures c.append.ensures in
-    let P : List ℕ → Type 0 = λ bs. Feeds g.M.Machine.Step c.args.machine.now c.args.pending.now (g.K.Sink.pushed c.args.sink.now) bs true c.loop-piece.machine c.append.new.self (g.K.Sink.pushed c.loop-piece.sink) in
-    subst P (sym fed.1) (Feeds-more g.M.Machine.Step _ _ _ _ _ _ _ _ _ fed.0 rest true fed.2 last)
+    let last = Feeds-piece g.M.Machine.Step c.loop-piece.machine c.loop-piece.pending c.append.new.self c.loop-piece.batch (g.K.Sink.pushed c.loop-piece.sink) rest c.in_default.ensures c.append.ensures in
+    let P : List ℕ → Type 0 = λ bs. Feeds g.M.Machine.Step c.args.machine.now c.args.pending.now c.args.batch.now (g.K.Sink.pushed c.args.sink.now) bs true c.loop-piece.machine c.append.new.self c.loop-piece.batch (g.K.Sink.pushed c.loop-piece.sink) in
+    subst P (sym fed.1) (Feeds-more g.M.Machine.Step _ _ _ _ _ _ _ _ _ _ _ _ fed.0 rest true fed.2 last)

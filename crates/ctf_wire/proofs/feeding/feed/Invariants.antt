@@ -1,11 +1,11 @@
 use Rattle.std.proofs.Common.{◌≡◌, ℕ, ◌≤◌, ◌++◌, List, length, true, vec_capacity}
-use Rattle.ctf_wire.specs.Standing.{Feeds}
+use Rattle.ctf_wire.specs.Gathering.{Feeds}
 use Rattle.ctf_wire.proofs.feeding.feed.Given as goal
 
 abbrev pub invariant-loop-piece : goal.invariant-loop-piece
 invariant-loop-piece g l = record {
-  fed : (done : List ℕ) × (l.bytes ≡ done ++ l.rest) × Feeds g.M.Machine.Step l.fn.machine l.fn.pending (g.K.Sink.pushed l.fn.sink) done true l.machine l.pending (g.K.Sink.pushed l.sink);
-  grows : vec_capacity l.fn.out ≤ vec_capacity l.out;
+  fed : (done : List ℕ) × (l.bytes ≡ done ++ l.rest) × Feeds g.M.Machine.Step l.fn.machine l.fn.pending l.fn.batch (g.K.Sink.pushed l.fn.sink) done true l.machine l.pending l.batch (g.K.Sink.pushed l.sink);
+  grows : vec_capacity l.fn.batch.bytes ≤ vec_capacity l.batch.bytes;
 }
 
 abbrev pub decreases-loop-piece : goal.decreases-loop-piece

@@ -5,13 +5,13 @@ use Rattle.ctf_wire.proofs.sending.send.Goals as goal
 
 pub returns-then-not-flush : goal.returns-then-not-flush
 returns-then-not-flush g c =
-    let reply = c.args.reply.now in
+    let bytes = c.args.bytes.now in
     let taken = c.if-not-push_all.ensures in
     let passed = c.if-not-flush.ensures in
     record {
-      front = reply;
-      begins = ([], sym (append-nil reply));
+      front = bytes;
+      begins = ([], sym (append-nil bytes));
       written = Appends-kept _ _ _ _ taken.written passed.kept;
-      flushed = passed.passed ∙ taken.waits ∙ front_waits _ reply;
+      flushed = passed.passed ∙ taken.waits ∙ front_waits _ bytes;
       broke = passed.failed;
     }

@@ -1,0 +1,192 @@
+#!/usr/bin/env python3
+"""Gives two programs the same random lines, and compares byte by byte what they answer.
+
+usage: random_lines.py PROGRAM OTHER [LINES [SEED]]
+
+The lines are requests of the repository's own runs, of all words, for a few sessions that hold
+what the lines before left; two in five are broken or turned: bytes lost, doubled or replaced,
+numbers past their ranges, keys that come twice, other sessions, words and fields. Each program
+gets them in pieces of its own, of 1 to 65,536 bytes, each of which is one read. LINES is
+1,000,000 where it isn't said. Prints how many were compared; where the answers differ, the lines
+up to there stand in random_lines.jsonl, and the status is 1. Needs Linux.
+"""
+from __future__ import annotations
+
+import random
+import re
+import socket
+import subprocess
+import sys
+import threading
+from collections.abc import Iterator
+from dataclasses import dataclass
+from itertools import zip_longest
+from pathlib import Path
+
+TOP = Path(__file__).resolve().parents[1]
+sys.path.insert(0, str(TOP / "tests"))
+from runs import examples, transcripts  # noqa: E402
+
+LONGEST_READ = 65_536
+# A run of the repository with a longer line takes more time than it is worth here.
+LONGEST_LINE = 20_000
+LINES_A_ROUND = 100_000
+SESSIONS = 12
+NUMBER = re.compile(rb"-?[0-9]+")
+STRING = re.compile(rb'"[^"\\]*"')
+NUMBERS = (
+    b"0", b"1", b"2", b"3", b"7", b"15", b"255", b"256", b"1023", b"1024", b"32766", b"32767",
+    b"65535", b"65536", b"2147483647", b"2147483648", b"4294967295", b"4294967296",
+    b"9223372036854775807", b"9223372036854775808", b"18446744073709551615",
+    b"18446744073709551616", b"99999999999999999999", b"-1", b"-0", b"0.0", b"1.0", b"1e0",
+    b"1e1", b"1e400", b"-1e400", b"1e-400", b"00", b"01", b"+1", b".5", b"1.", b"0x1", b"null",
+    b"true", b'"1"', b"[]", b"{}", b"-9223372036854775808", b"-9223372036854775809",
+)
+TEXTS = (
+    b'""', b'"ctf"', b'"sym"', b'"str"', b'"struct"', b'"a\\u0000b"', b'"\\\\x00"', b'"\\\\x0g"',
+    b'"\\ud800"', b'"\\ud83d\\ude00"', b'"\xc3\xa9"', b'"\xff"', b'"\\"', b'"int"', b'"00"',
+    b'"0"', b'"F1cf"', b'"zz"', b"7", b"null", b"false",
+)
+PIECES_OF_JSON = (
+    b"{", b"}", b"[", b"]", b",", b":", b'"', b"\\", b" ", b"\t", b"\r", b"\x00", b"\x7f",
+    b"\x80", b"\xff", b"0", b"-", b"e", b"null", b'"s":1,', b'"d":1,',
+)
+
+
+class Mismatch(Exception):
+    """The programs answered differently."""
+
+
+@dataclass
+class Maker:
+    """Makes lines, in turn from runs of requests as they stand and from single ones turned."""
+
+    luck: random.Random
+    runs: list[tuple[bytes, ...]]
+    single: list[bytes]
+
+    def spoiled(self, line: bytes) -> bytes:
+        """A line with some of its bytes lost, doubled or replaced."""
+        luck = self.luck
+        start = luck.randrange(len(line) + 1)
+        end = min(len(line), start + luck.choice((0, 1, 1, 2, 5)))
+        middle = luck.choice((b"", line[start:end] * 2, luck.choice(PIECES_OF_JSON),
+                              bytes((luck.randrange(256),))))
+        return line[:start] + middle + line[end:]
+
+    def replaced(self, line: bytes, what: re.Pattern[bytes], by: tuple[bytes, ...]) -> bytes:
+        """A line with one of its numbers or texts replaced."""
+        places = list(what.finditer(line))
+        if not places:
+            return line
+        place = self.luck.choice(places)
+        return line[:place.start()] + self.luck.choice(by) + line[place.end():]
+
+    def doubled(self, line: bytes) -> bytes:
+        """A line with the members of another before or behind its own."""
+        other = self.luck.choice(self.single).strip()
+        if not (line.startswith(b"{") and line.endswith(b"}") and other.startswith(b"{")):
+            return line
+        first, second = (line, other) if self.luck.random() < 0.5 else (other, line)
+        return first[:-1] + b"," + second[1:]
+
+    def addressed(self, line: bytes, likely: int) -> bytes:
+        """A line for one of a few sessions."""
+        session = likely if self.luck.random() < 0.6 else self.luck.randint(1, SESSIONS)
+        return re.sub(rb'"s":[0-9]+', b'"s":%d' % session, line, count=1)
+
+    def turned(self, line: bytes) -> bytes:
+        luck = self.luck
+        for _ in range(luck.choice((1, 1, 1, 2, 3))):
+            turn = luck.randrange(5)
+            if turn == 0:
+                line = self.spoiled(line)
+            elif turn == 1:
+                line = self.replaced(line, NUMBER, NUMBERS)
+            elif turn == 2:
+                line = self.replaced(line, STRING, TEXTS)
+            elif turn == 3:
+                line = self.doubled(line)
+            else:
+                line = b" " * luck.choice((1, 100, 8_200)) + line
+        return line.replace(b"\n", b" ")
+
+    def lines(self) -> Iterator[bytes]:
+        """Lines without end."""
+        luck = self.luck
+        while True:
+            run = luck.choice(self.runs)
+            # What a run hands in goes to one session, and whatever else comes finds it there.
+            session = luck.randint(1, SESSIONS)
+            for line in run:
+                yield re.sub(rb'"s":[0-9]+', b'"s":%d' % session, line, count=1)
+                while luck.random() < 0.7:
+                    other = self.addressed(luck.choice(self.single), session)
+                    yield other if luck.random() < 0.4 else self.turned(other)
+            if luck.random() < 0.3:
+                yield b'{"s":%d,"op":"reset"}' % session
+
+
+def feed(end: socket.socket, given: bytes, luck: random.Random) -> None:
+    """Sends bytes in pieces, each of which one read takes."""
+    at = 0
+    small = (1, 7, 80, 1_000) if len(given) < 1_000_000 else ()
+    longest = luck.choice((*small, LONGEST_READ))
+    while at < len(given):
+        size = min(luck.randint(1, longest), luck.randint(1, longest))
+        end.send(given[at:at + size])
+        at += size
+    end.close()
+
+
+def answered(program: str, given: bytes, luck: random.Random) -> bytes:
+    """What a program answers to bytes that come in pieces."""
+    ours, theirs = socket.socketpair(socket.AF_UNIX, socket.SOCK_SEQPACKET)
+    child = subprocess.Popen([program, "serve"], stdin=theirs, stdout=subprocess.PIPE)
+    theirs.close()
+    feeder = threading.Thread(target=feed, args=(ours, given, luck))
+    feeder.start()
+    assert child.stdout is not None
+    out = child.stdout.read()
+    feeder.join()
+    if child.wait():
+        raise Mismatch(f"{program} ended with status {child.returncode}")
+    return out
+
+
+def compare(programs: tuple[str, str], lines: list[bytes], luck: random.Random) -> None:
+    """Answers lines by both programs, or says where these differ."""
+    given = b"".join(line + b"\n" for line in lines)
+    if luck.random() < 0.2:
+        given = given[:-1]
+    first, second = (answered(program, given, luck) for program in programs)
+    if first != second:
+        pairs = zip_longest(first.split(b"\n"), second.split(b"\n"))
+        at = next(number for number, (a, b) in enumerate(pairs) if a != b)
+        Path("random_lines.jsonl").write_bytes(b"".join(line + b"\n" for line in lines[:at + 1]))
+        raise Mismatch(f"line {at + 1} of a round is answered otherwise")
+
+
+def main() -> int:
+    programs = (sys.argv[1], sys.argv[2])
+    wanted = int(sys.argv[3]) if len(sys.argv) > 3 else 1_000_000
+    luck = random.Random(int(sys.argv[4]) if len(sys.argv) > 4 else 1)
+    runs = [run.lines for run in (*transcripts(), *examples())
+            if max(map(len, run.lines)) <= LONGEST_LINE and len(run.lines) <= 2_000]
+    maker = Maker(luck, runs, sorted({line for run in runs for line in run}))
+    lines, done = maker.lines(), 0
+    while done < wanted:
+        # Small rounds come in small pieces too.
+        count = min(luck.choice((1_000, LINES_A_ROUND)), wanted - done)
+        try:
+            compare(programs, [next(lines) for _ in range(count)], luck)
+        except Mismatch as told:
+            print(told)
+            return 1
+        done += count
+    print(f"{done} lines compared, the same answers")
+    return 0
+
+
+if __name__ == "__main__":
+    sys.exit(main())

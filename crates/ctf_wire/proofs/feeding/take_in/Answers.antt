@@ -1,0 +1,10 @@
+use Rattle.ctf_wire.proofs.Replying.{TakesIn-done, TakesIn-broken}
+use Rattle.ctf_wire.proofs.feeding.take_in.Goals as goal
+
+pub returns-then-not-feed-clause-takes : goal.returns-then-not-feed-clause-takes
+returns-then-not-feed-clause-takes g c =
+    TakesIn-broken g.M.Machine.Step _ _ _ c.feed.new.pending c.args.batch.now c.feed.new.batch _ _ c.args.bytes.now c.requires.empty c.requires.none c.if-not-feed.ensures.feeds
+
+pub returns-clause-takes : goal.returns-clause-takes
+returns-clause-takes g c =
+    TakesIn-done g.M.Machine.Step _ _ _ _ c.args.batch.now c.feed.new.batch _ _ _ c.args.bytes.now c.settle.result c.requires.empty c.requires.none c.if-not-feed.ensures.feeds c.settle.ensures.settles

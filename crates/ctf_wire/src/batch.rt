@@ -1,0 +1,39 @@
+//! Replies that wait.
+ghost use Rattle.std.specs.Prelude.{◌≡◌, ◌+◌, ◌≤◌, [], true, false, IfOk, vec_capacity};
+
+use ctf_lines::SHORT_LINE;
+use std::alloc::{AllocError, Global};
+
+/// Where so many bytes wait, they are sent before another line is answered.
+pub const BATCH: usize = 65_536;
+
+/// The replies that were gathered and not sent yet, one behind the other.
+#[derive(Drop)]
+pub struct Batch {
+    pub bytes: Vec<u8>,
+    pub waits: bool,
+}
+
+impl Batch {
+    /// Nothing waits, and there is room for a short reply behind any batch.
+    pub fn new(alloc: Global) -> Result<Self, AllocError>
+        ensures empty { IfOk result (λ b. b.bytes.items ≡ []) }
+        ensures none { IfOk result (λ b. b.waits ≡ false) }
+        ensures room { IfOk result (λ b. 65536 + 96 ≤ vec_capacity b.bytes) }
+    {
+        Ok(Batch {
+            bytes: Vec::with_capacity(alloc, BATCH + SHORT_LINE)?,
+            waits: false,
+        })
+    }
+
+    /// Nothing waits any more.
+    pub fn clear(&mut self)
+        ensures empty { self.new.bytes.items ≡ [] }
+        ensures none { self.new.waits ≡ false }
+        ensures room { vec_capacity self.new.bytes ≡ vec_capacity self.old.bytes }
+    {
+        self.bytes.clear();
+        self.waits = false;
+    }
+}
