@@ -86,11 +86,12 @@ class Front:
                 await self._until(lambda: self._is_ended or self._is_stopping)
             if self._is_stopping:
                 return await self._finish()
-            status = await self._ended()
-            if not self._options.restart or not has_served:
+            is_last = not self._options.restart or not has_served
+            status = await self._ended(is_last)
+            if is_last:
                 return status
             lived = self._loop.time() - began >= LIVED
-            pause = 0.0 if lived else min(LONGEST_PAUSE, pause * 2 or (0.5 if pause else 0.1))
+            pause = 0.0 if lived else min(LONGEST_PAUSE, pause * 2 or 0.1)
             say(f"a new service is started in {pause:g} seconds")
             await self._until(lambda: self._is_stopping, pause)
 
@@ -114,7 +115,7 @@ class Front:
             except asyncio.TimeoutError:
                 return
 
-    async def _ended(self) -> int:
+    async def _ended(self, is_last: bool) -> int:
         """Tells everybody that the service has ended, by closed sockets; its status."""
         self._listen(False)
         self._turns.forget()
@@ -123,9 +124,9 @@ class Front:
             connection.lose("service ended")
         assert self._process
         status = await self._process.status(self._limits.grace)
-        say(f"the service ended {cause(status)}, and {count} connections with it: what it says of"
-            " that stands above" + ("" if self._options.restart else "; start ctfd-front again,"
-                                    " or give it --restart"))
+        what = f", and {count} connections with it" if self._is_ready else " before it answered"
+        advice = "; start ctfd-front again, or give it --restart" if is_last else ""
+        say(f"the service ended {cause(status)}{what}: what it says of that stands above{advice}")
         return status or ENDED_UNASKED
 
     async def _finish(self) -> int:
