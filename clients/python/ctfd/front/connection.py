@@ -11,7 +11,7 @@ from .outgoing import Outgoing
 from .published import Published, naming
 from .statistics import Statistics
 from .tagging import Asked, Tag
-from .turns import Flight, Turns
+from .turns import Turns
 
 READ = 65_536
 OK = b'{"ok"'
@@ -44,6 +44,7 @@ class Connection:
         self.moved = asyncio.get_running_loop().time()
         self._loop = asyncio.get_running_loop()
         self._channel, self._shared, self._limits = channel, shared, shared.limits
+        self._seen = shared.seen
         self._tag = Tag(session, self._limits.line)
         self._incoming, self._outgoing = Incoming(self._limits.line), Outgoing()
         self._flying = self._flying_bytes = 0
@@ -58,25 +59,27 @@ class Connection:
         return (self.is_open and self._incoming.whole > 0
                 and self._outgoing.size <= self._limits.unread)
 
-    def next(self) -> Asked:
-        """Its next line, as the service is given it."""
+    def next(self) -> Optional[Asked]:
+        """Its next line, as the service is given it; None where it may not ask."""
+        if not self.may_ask:
+            return None
         asked = self._tag.asked(self._incoming.next())
         self._flying += 1
-        self._flying_bytes += len(asked.line)
+        self._flying_bytes += len(asked[0])
         self.has_asked = True
         return asked
 
-    def replied(self, reply: bytes, flight: Flight) -> None:
+    def replied(self, reply: bytes, line: bytes, back: Optional[bytes]) -> None:
         """Takes a reply. It goes to the client when all replies of a round are taken."""
         self._flying -= 1
-        self._flying_bytes -= len(flight.line)
-        self._shared.seen.replied(reply)
+        self._flying_bytes -= len(line)
+        self._seen.replied(reply)
         if self.published is not None and reply.startswith(OK):
-            named = naming(flight.line)
+            named = naming(line)
             if named:
                 self.published.granted(named)
         if self.is_open:
-            self._replies.append(self._tag.restored(reply, flight.back))
+            self._replies.append(self._tag.restored(reply, back))
 
     def settle(self) -> None:
         """Sends what there is to send, and goes on with what that makes possible."""
@@ -115,7 +118,7 @@ class Connection:
         if not self.is_open:
             return
         self.is_open = False
-        self._shared.seen.ended[why] += 1
+        self._seen.ended[why] += 1
         self._loop.remove_reader(self._channel)
         self._loop.remove_writer(self._channel)
         self._channel.close()
@@ -178,7 +181,7 @@ class Connection:
             return
         was_empty = not self._incoming.size
         if data:
-            self._shared.seen.bytes_in += len(data)
+            self._seen.bytes_in += len(data)
             ended = self._incoming.feed(data)
         else:
             self._has_ended, ended = True, 0
@@ -201,7 +204,7 @@ class Connection:
             return
         if sent:
             self.moved = self._loop.time()
-            self._shared.seen.bytes_out += sent
+            self._seen.bytes_out += sent
             self._outgoing.sent(sent)
         if bool(self._outgoing.size) != self._is_waiting:
             self._is_waiting = not self._is_waiting

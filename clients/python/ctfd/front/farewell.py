@@ -2,10 +2,9 @@
 from __future__ import annotations
 
 import json
-from typing import Iterable, List
+from typing import Iterable, List, Optional
 
 from .tagging import Asked
-from .turns import Flight
 
 
 class Farewell:
@@ -23,11 +22,11 @@ class Farewell:
         """Whether it has a line left."""
         return bool(self._lines)
 
-    def next(self) -> Asked:
+    def next(self) -> Optional[Asked]:
         """The names first, and the reset last."""
-        return Asked(self._lines.pop(), None)
+        return (self._lines.pop(), None) if self._lines else None
 
-    def replied(self, reply: bytes, flight: Flight) -> None:
+    def replied(self, reply: bytes, line: bytes, back: Optional[bytes]) -> None:
         """Nobody waits for a reply."""
 
     def settle(self) -> None:

@@ -219,18 +219,18 @@ class Front:
         if flights:
             self._time(flights[0], now)
         touched = {}
-        for flight, reply in zip(flights, replies):
-            flight.asker.replied(reply, flight)
-            touched[flight.asker] = None
+        for (asker, line, back, _), reply in zip(flights, replies):
+            asker.replied(reply, line, back)
+            touched[asker] = None
         for asker in touched:
             asker.settle()
         self._ask()
 
     def _time(self, flight: Flight, now: float) -> None:
         """How long the service took for a line: since the reply before it, or since it has it."""
-        if isinstance(flight.asker, Connection):
-            took = now - max(flight.began, self._last_reply)
-            self._seen.took(took, flight.asker.session, flight.line)
+        asker, line, _, began = flight
+        if isinstance(asker, Connection):
+            self._seen.took(now - max(began, self._last_reply), asker.session, line)
         self._last_reply = now
 
     def _service_ended(self) -> None:

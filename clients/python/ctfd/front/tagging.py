@@ -13,7 +13,7 @@ from __future__ import annotations
 
 import json
 import re
-from typing import Any, NamedTuple, Optional
+from typing import Any, Optional, Tuple
 
 LINE = 1_048_576  # what the service takes, newline not counted
 LONGEST = LINE - len(b',"s":4294967295')  # what is left of that for a client
@@ -25,14 +25,9 @@ _BLANKS = b" \t\r"
 _USUAL = re.compile(rb'\{"s":([1-9][0-9]{0,8})[,}]')
 
 
-class Asked(NamedTuple):
-    """A line as the service is given it, and what its reply ends in for the client.
-
-    `back` is None where the reply goes on as it is.
-    """
-
-    line: bytes
-    back: Optional[bytes]
+# A line as the service is given it, and what its reply ends in for the client: None where the reply
+# goes on as it is.
+Asked = Tuple[bytes, Optional[bytes]]
 
 
 class Tag:
@@ -42,15 +37,21 @@ class Tag:
         self._member = b'"s":%d' % number
         self._end = b',"s":%d}' % number
         self._longest = longest
+        self._begins, self._back = b'{"s":1,', b',"s":1}'  # as the client wrote it last
 
     def asked(self, line: bytes) -> Asked:
         """A client's line with the session in it. A line that is too long stays that."""
         if len(line) > self._longest:
-            return Asked(line[:LINE + 1].ljust(LINE + 1), None)
+            return line[:LINE + 1].ljust(LINE + 1), None
+        if line.startswith(self._begins) and line.endswith(b"}") and _is_plain(line):
+            return line[:-1] + self._end, self._back
         own = own_session(line)
         if own == NOBODY:
-            return Asked(_with(line, b'"s":0'), None)
-        return Asked(_with(line, self._member), own and b',"s":%b}' % own)
+            return _with(line, b'"s":0'), None
+        if own is None:
+            return _with(line, self._member), None
+        self._begins, self._back = b'{"s":%b,' % own, b',"s":%b}' % own
+        return _with(line, self._member), self._back
 
     def restored(self, reply: bytes, back: Optional[bytes]) -> bytes:
         """A reply with the client's own number; one of no session has none to be replaced."""
@@ -65,7 +66,7 @@ def own_session(line: bytes) -> Optional[bytes]:
     None where the line has no `s` or is no object, NOBODY where its `s` is no session.
     """
     usual = _USUAL.match(line)
-    if usual and b"\\" not in line and line.count(b'"s"') == 1:
+    if usual and _is_plain(line):
         return usual[1]
     try:
         found = _DECODED(line.decode("utf-8"))
@@ -77,6 +78,11 @@ def own_session(line: bytes) -> Optional[bytes]:
     if type(own) is int and 1 <= own <= LAST_SESSION:
         return b"%d" % own
     return NOBODY
+
+
+def _is_plain(line: bytes) -> bool:
+    """Whether a line that begins with its `s` has no other one."""
+    return b"\\" not in line and line.count(b'"s"') == 1
 
 
 def _with(line: bytes, member: bytes) -> bytes:

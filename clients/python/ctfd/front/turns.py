@@ -3,7 +3,7 @@ from __future__ import annotations
 
 import time
 from collections import deque
-from typing import Callable, Deque, List, NamedTuple, Optional, Protocol
+from typing import Callable, Deque, List, Optional, Protocol, Tuple
 
 from .tagging import Asked
 
@@ -19,20 +19,15 @@ class Asker(Protocol):
     @property
     def may_ask(self) -> bool: ...
 
-    def next(self) -> Asked: ...
+    def next(self) -> Optional[Asked]: ...
 
-    def replied(self, reply: bytes, flight: Flight) -> None: ...
+    def replied(self, reply: bytes, line: bytes, back: Optional[bytes]) -> None: ...
 
     def settle(self) -> None: ...
 
 
-class Flight(NamedTuple):
-    """A line that the service has, and who waits for its reply."""
-
-    asker: Asker
-    line: bytes
-    back: Optional[bytes]
-    began: float
+# Who waits for a reply, to which line, what the reply ends in for it, and since when.
+Flight = Tuple[Asker, bytes, Optional[bytes], float]
 
 
 class Turns:
@@ -65,16 +60,17 @@ class Turns:
         now, size = time.monotonic(), 0
         while ready and size < AT_ONCE and len(flying) < ahead:
             asker = ready.popleft()
-            if asker.may_ask:
-                line, back = asker.next()
-                given += (line, b"\n")
-                size += len(line)
-                flying.append(Flight(asker, line, back, now))
-            if asker.may_ask:
-                ready.append(asker)
-            else:
+            asked = asker.next()
+            if asked is None:
                 asker.in_turn = False
-        return b"".join(given)
+                continue
+            line, back = asked
+            given.append(line)
+            size += len(line)
+            flying.append((asker, line, back, now))
+            ready.append(asker)
+        given.append(b"")
+        return b"\n".join(given)
 
     def answered(self, count: int) -> List[Flight]:
         """Those who wait for the next replies, so many of them."""
