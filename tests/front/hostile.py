@@ -14,7 +14,6 @@ from dataclasses import dataclass
 from typing import Any, Callable, Dict, List, Optional, Sequence
 
 LONGEST = 1_048_561  # as docs/SERVING.md tells
-LONG_LINE = b'{"fault":{"code":59,"name":"LongLine","place":0},"s":0}'
 Fields = Dict[str, Any]
 
 NO_SESSIONS = ("null", "0", "-1", "-0", '"5"', "5.0", "5e0", "4294967296", "[]", "{}", "true",

@@ -1,4 +1,4 @@
-"""Isolation, seen from outside: each client of a front is replied what a service of its own replies.
+"""Isolation from outside: each client of a front is replied what a service of its own replies.
 
 usage: isolation.py [CLIENTS LINES [SEED]]
 
@@ -19,7 +19,7 @@ import tempfile
 from collections import Counter
 from typing import Counter as Counts, Iterator, List, Sequence
 
-from hostile import Fields, LONG_LINE, Sender, Sent, handed_in, written
+from hostile import Fields, Sender, Sent, handed_in, written
 from support import LUA, Front, Talker, serve
 
 NAMES = ("base", "more", "x")

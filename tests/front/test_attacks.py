@@ -38,7 +38,8 @@ class Numbers(WithFront):
         self.assertEqual(self.attack('{"s":VICTIM,"op":"close","d":1}'), NO_SLOT % self.number)
 
     def test_number_twice(self) -> None:
-        for line in ('{"s":9,"op":"close","d":1,"s":VICTIM}', '{"s":9,"s":VICTIM,"op":"close","d":1}'):
+        for line in ('{"s":9,"op":"close","d":1,"s":VICTIM}',
+                     '{"s":9,"s":VICTIM,"op":"close","d":1}'):
             self.assertEqual(self.attack(line), NO_SLOT % self.number)
         self.assertEqual(self.attack('{"s":VICTIM,"op":"close","d":1,"s":9}'), NO_SLOT % 9)
 
@@ -133,7 +134,8 @@ class Patience(WithFront):
         waited = [slowest(other) for _ in range(5)]
         self.assertLess(min(waited), 0.1, waited)
         self.assertLess(memory(front.process.pid)["VmHWM"], 128 * 1024)
-        deaf.close()
+        deaf.socket.shutdown(socket.SHUT_RDWR)  # it wakes the writer
+        writer.join()
         until(lambda: "connections 1 of 2" in front.tell())
 
     def test_client_that_never_reads_is_ended(self) -> None:

@@ -1,4 +1,4 @@
-"""The Python client over a socket: a front's, and one behind which each connection has a service."""
+"""The Python client over a socket: of a front, and where each connection has its own service."""
 from __future__ import annotations
 
 import os

@@ -15,7 +15,8 @@ from typing import Iterator
 
 from support import TOP
 
-UNIT = re.compile(r"^`/etc/systemd/system/([\w@.-]+)`:\n\n```\n(.*?)^```$", re.MULTILINE | re.DOTALL)
+UNIT = re.compile(r"^`/etc/systemd/system/([\w@.-]+)`:\n\n```\n(.*?)^```$",
+                  re.MULTILINE | re.DOTALL)
 WANTED = {"ctfd.socket", "ctfd@.service", "ctfd-front.socket", "ctfd-front.service"}
 
 

@@ -57,8 +57,11 @@ class Client:
         if program is None and socket is None and arguments == SERVE:
             socket = service.socket()
         self._socket = socket
-        self._channel: Channel = (Pipes([program or service.find(), *arguments])
-                                  if socket is None else Socket(socket, patience))
+        self._channel: Channel
+        if socket is None:
+            self._channel = Pipes([program or service.find(), *arguments])
+        else:
+            self._channel = Socket(socket, patience)
         self._requests, self._replies = self._channel.requests, self._channel.replies
         self._others: List[Client] = []
         self._unsent = bytearray()

@@ -25,7 +25,8 @@ SPARE_FILES = 32
 STATUSES = """\
 The status is 0 when it was told to end by SIGTERM or SIGINT; that of the service when that has
 ended (1 a file was refused, 3 a read or write failed, 4 memory, 128 and more by a signal; 6 where
-it ended without a reason); 2 for wrong words; 5 where the socket or the service can't be had.
+it ended without a reason); 2 for wrong words; 5 where the socket or the service can't be had; 7
+when all numbers of sessions were given.
 SIGUSR1 writes what was seen to standard error."""
 
 

@@ -14,6 +14,7 @@ from .tagging import Asked, Tag
 from .turns import Turns
 
 READ = 65_536
+NAME_BYTES = 160  # what the front keeps for a publication that it is to withdraw
 OK = b'{"ok"'
 
 
@@ -124,7 +125,8 @@ class Connection:
         self._channel.close()
         self._incoming, self._outgoing = Incoming(0), Outgoing()
         self._replies.clear()
-        self._count()
+        self._shared.room.change(-self.held)
+        self.held = 0
         self._tell_gone()
 
     def lose(self, why: str) -> None:
@@ -141,6 +143,8 @@ class Connection:
     def _count(self) -> None:
         """Counts what is held for it."""
         held = self._incoming.size + self._outgoing.size
+        if self.published is not None:
+            held += NAME_BYTES * len(self.published.names)
         before, self.held = self.held, held
         self._shared.room.change(held - before)
 

@@ -2,29 +2,33 @@
 from __future__ import annotations
 
 import json
-from typing import Iterable, List, Optional
+from typing import Optional, Set
 
 from .tagging import Asked
 
 
 class Farewell:
-    """Takes back what a session has published by some names, and what it holds."""
+    """Takes back what a session has published by some names, and then what it holds."""
 
-    def __init__(self, session: int, names: Iterable[str]) -> None:
+    def __init__(self, session: int, names: Set[str]) -> None:
         self.in_turn = False
-        self._lines: List[bytes] = [b'{"op":"reset","s":%d}' % session]
-        for name in sorted(names):
-            named = json.dumps(name).encode("ascii")
-            self._lines.append(b'{"name":%b,"op":"withdraw","s":%d}' % (named, session))
+        self._session, self._names = session, names
+        self._is_reset = False
 
     @property
     def may_ask(self) -> bool:
         """Whether it has a line left."""
-        return bool(self._lines)
+        return not self._is_reset
 
     def next(self) -> Optional[Asked]:
         """The names first, and the reset last."""
-        return (self._lines.pop(), None) if self._lines else None
+        if self._names:
+            named = json.dumps(self._names.pop()).encode("ascii")
+            return b'{"name":%b,"op":"withdraw","s":%d}' % (named, self._session), None
+        if self._is_reset:
+            return None
+        self._is_reset = True
+        return b'{"op":"reset","s":%d}' % self._session, None
 
     def replied(self, reply: bytes, line: bytes, back: Optional[bytes]) -> None:
         """Nobody waits for a reply."""

@@ -5,6 +5,7 @@ import asyncio
 import itertools
 import os
 import signal
+import socket
 import sys
 from dataclasses import dataclass
 from typing import Callable, Dict, List, Optional, Sequence
@@ -18,14 +19,14 @@ from .process import PROBE, Process, cause
 from .published import Published
 from .statistics import Statistics
 from .tagging import LAST_SESSION
-from .turns import Flight, Turns
+from .turns import Asker, Flight, Turns
 
 NAME = "ctfd-front"
 ACCEPTED_AT_ONCE = 64
 LEAST_TICK, LONGEST_TICK = 0.02, 1.0
 LIVED = 10.0  # seconds after which a service counts as one that can be started
 LONGEST_PAUSE = 60.0
-ENDED_UNASKED = 6
+ENDED_UNASKED, NUMBERS_ENDED = 6, 7
 
 
 @dataclass(frozen=True)
@@ -54,6 +55,7 @@ class Front:
         self._process: Optional[Process] = None
         self._is_ready = self._is_ended = self._is_stopping = self._is_listening = False
         self._is_awake = self._is_shedding = False
+        self._status = 0
         self._news = asyncio.Event()
         self._last_reply = self._last_told = self._loop.time()
 
@@ -144,7 +146,7 @@ class Front:
         assert self._process
         self._process.finish()
         await self._process.status(self._limits.grace)
-        return 0
+        return self._status
 
     def _stop(self) -> None:
         self._is_stopping = True
@@ -175,17 +177,24 @@ class Front:
                 self._listen(False)
                 self._loop.call_later(1, lambda: self._listen(not self._is_stopping))
                 return
-            session = next(self._sessions)
-            if session > LAST_SESSION:
-                say("all numbers of sessions were given: start ctfd-front again")
-                self._stop()
-            if len(self._open) >= self._limits.connections or session > LAST_SESSION:
+            if len(self._open) < self._limits.connections:
+                self._take(channel)
+            else:
                 self._seen.ended["too many"] += 1
                 channel.close()
-                continue
-            self._seen.connections += 1
-            published = Published() if self._options.withdraw else None
-            self._open[Connection(channel, session, self._shared, published)] = None
+
+    def _take(self, channel: socket.socket) -> None:
+        """Gives a connection its session; when none is left, the front ends."""
+        session = next(self._sessions)
+        if session > LAST_SESSION:
+            channel.close()
+            say("all numbers of sessions were given: start ctfd-front again")
+            self._status = NUMBERS_ENDED
+            self._stop()
+            return
+        self._seen.connections += 1
+        published = Published() if self._options.withdraw else None
+        self._open[Connection(channel, session, self._shared, published)] = None
 
     def _left(self, connection: Connection) -> None:
         """A client has gone: its session is given back."""
@@ -193,7 +202,7 @@ class Front:
         if not self._open:
             self._news.set()
         if connection.has_asked and self._is_ready and not self._is_ended:
-            names = connection.published.names if connection.published else ()
+            names = connection.published.names if connection.published else set()
             self._turns.offer(Farewell(connection.session, names))
 
     def _wake(self) -> None:
@@ -218,7 +227,7 @@ class Front:
         now = self._loop.time()
         if flights:
             self._time(flights[0], now)
-        touched = {}
+        touched: Dict[Asker, None] = {}
         for (asker, line, back, _), reply in zip(flights, replies):
             asker.replied(reply, line, back)
             touched[asker] = None
