@@ -9,6 +9,7 @@ same way. The clock counts, and the best of three runs, since three processes ar
 the front and the service. Printed are lines a second, and the processor time of the front, and of
 the service, for a line.
 """
+import contextlib
 import os
 import selectors
 import socket
@@ -61,6 +62,15 @@ def used(pid):
     return (int(fields[11]) + int(fields[12])) / os.sysconf("SC_CLK_TCK")
 
 
+def started_by(parent):
+    """The process that another has started."""
+    for stat in Path("/proc").glob("[0-9]*/stat"):
+        with contextlib.suppress(OSError):
+            if int(stat.read_text().rsplit(")", 1)[1].split()[1]) == parent:
+                return int(stat.parent.name)
+    sys.exit("the front has no service")
+
+
 def by_pipe(program, lines):
     child = subprocess.Popen([program, "serve"], stdin=subprocess.PIPE, stdout=subprocess.PIPE)
     ends = child.stdin.fileno(), child.stdout.fileno()
@@ -79,7 +89,7 @@ def by_front(program, lines, clients):
         child = subprocess.Popen([sys.executable, COMMAND, "--service", program, "--socket", path],
                                  stderr=subprocess.PIPE)
         child.stderr.readline()  # it listens
-        service = int(subprocess.check_output(["ps", "-o", "pid=", "--ppid", str(child.pid)]))
+        service = started_by(child.pid)
         sockets, ends = [], []
         for _ in range(clients):
             sockets.append(socket.socket(socket.AF_UNIX))

@@ -108,10 +108,10 @@ class Front:
 
     def service(self) -> int:
         """The process of its service."""
-        found = subprocess.run(["ps", "-o", "pid=", "--ppid", str(self.process.pid)],
-                               capture_output=True, text=True, check=True).stdout.split()
+        found = [pid for pid in map(int, filter(str.isdigit, os.listdir("/proc")))
+                 if parent(pid) == self.process.pid]
         assert len(found) == 1, found
-        return int(found[0])
+        return found[0]
 
     def end(self, how: signal.Signals = signal.SIGTERM) -> int:
         """Ends it; the status."""
@@ -137,6 +137,14 @@ class WithFront(unittest.TestCase):
         talker = Talker(front.path)
         self.addCleanup(talker.close)
         return talker
+
+
+def parent(pid: int) -> int:
+    """The process that started another; 0 where that has gone."""
+    try:
+        return int(Path(f"/proc/{pid}/stat").read_text().rsplit(")", 1)[1].split()[1])
+    except OSError:
+        return 0
 
 
 def until(holds: Callable[[], bool], patience: float = PATIENCE) -> None:
