@@ -7,9 +7,10 @@
 # Isolation seen from outside (tests/front/isolation.py): 200 clients send 100,000 lines, valid and
 # hostile, and each is replied what a service of its own replies. Attacks on a session's number and
 # on the others' patience and memory (test_attacks.py). Beginnings, ends, and processes killed in
-# the middle of a load (test_ends.py). The client over a socket (test_client.py). The units of
-# docs/SERVING.md, where systemd-analyze is there (units.py). With --all, isolation is tried with
-# other seeds, and a million lines. Two run at a time.
+# the middle of a load (test_ends.py). Random lines with a number in them (test_tagging.py). The
+# client over a socket (test_client.py). The units of docs/SERVING.md, where systemd-analyze is
+# there (units.py). With --all, isolation is tried with other seeds, and a million lines. Two run at
+# a time.
 # Prints what was wrong; the status is 1 where something was wrong.
 set -eu
 CTFD=$(realpath "$1")
@@ -27,7 +28,7 @@ told() {
 }
 
 (told isolation python3 isolation.py; told client python3 -W ignore -m unittest test_client;
- told units python3 units.py) &
+ told tagging python3 -m unittest test_tagging; told units python3 units.py) &
 told ends python3 -W ignore -m unittest test_ends
 told attacks python3 -W ignore -m unittest test_attacks
 wait
