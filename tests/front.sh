@@ -33,8 +33,7 @@ told ends python3 -W ignore -m unittest test_ends
 told attacks python3 -W ignore -m unittest test_attacks
 wait
 if [ "${2:-}" = --all ]; then
-    for seed in 2 3 4; do told "isolation_$seed" python3 isolation.py 50 20000 "$seed"; done
-    told isolation_long python3 isolation.py 200 1000000 5
+    for seed in 2 3 4 5 6; do told "isolation_$seed" python3 isolation.py 200 200000 "$seed"; done
 fi
 for log in "$work"/*; do cat "$log"; done
 [ ! -e "$work/failed" ] || failed=1
