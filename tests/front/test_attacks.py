@@ -117,7 +117,7 @@ class Patience(WithFront):
                 time.sleep(0.05)
 
     def test_idle(self) -> None:
-        front = self.front("--idle", "0.5").started()
+        front = self.front("--idle", "3").started()
         talker = self.talker(front)
         talker.number()
         self.assertTrue(talker.is_closed())
