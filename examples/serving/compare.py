@@ -68,7 +68,7 @@ def gathered(redis, count):
     return replies
 
 
-def by_queue(program, requests, kill):
+def by_queue(program, files, requests, kill):
     """The replies of each session, by a queue and a consumer for each partition."""
     with contextlib.ExitStack() as stack:
         folder, port = stack.enter_context(tempfile.TemporaryDirectory()), free_port()
@@ -77,7 +77,7 @@ def by_queue(program, requests, kill):
         redis = connected(port)
 
         def start(partition):
-            return stack.enter_context(running(CONSUMER, port, partition, program, *mix.FILES))
+            return stack.enter_context(running(CONSUMER, port, partition, program, *files))
 
         def put(requests):
             for session, request in requests:
@@ -97,10 +97,10 @@ def by_queue(program, requests, kill):
         return gathered(redis, len(requests))
 
 
-def by_one(program, requests):
+def by_one(program, files, requests):
     """The replies of each session, by one process that is given all requests."""
     lines = "".join(streams.line(session, request) + "\n" for session, request in requests)
-    command = [program, "serve", *mix.FILES]
+    command = [program, "serve", *files]
     told = subprocess.run(command, input=lines, stdout=subprocess.PIPE, text=True, check=True).stdout
     replies = {session: [] for session in SESSIONS}
     for line in told.splitlines():
@@ -115,12 +115,21 @@ def granted(requests, replies, chosen):
     return sum(chosen(session, request) and line.startswith('{"ok"') for session, request, line in told)
 
 
+def refused(replies, name):
+    """How many replies are a refusal of a name."""
+    return sum(f'"name":"{name}"' in line for lines in replies.values() for line in lines)
+
+
 def takes_loaded(session, request):
     return request["op"] == "take" and request["owner"] == 0
 
 
 def takes_published(session, request):
     return request["op"] == "take" and request["owner"] not in (0, session)
+
+
+def withdraws(session, request):
+    return request["op"] == "withdraw"
 
 
 def main():
@@ -134,13 +143,19 @@ def main():
         return [s for s in SESSIONS if words.across or (s - session) % PARTITIONS == 0]
 
     requests = list(mix.mix(SESSIONS, owners, REQUESTS))
-    one, queue = by_one(words.program, requests), by_queue(words.program, requests, words.kill)
+    with tempfile.TemporaryDirectory() as folder:
+        files = mix.files(folder)
+        one = by_one(words.program, files, requests)
+        queue = by_queue(words.program, files, requests, words.kill)
     other = [session for session in SESSIONS if one[session] != queue[session]]
     print("different" if other else "same")
     print(f"{len(requests)} requests of {len(SESSIONS)} sessions in {PARTITIONS} partitions, granted", end=" ")
     print(granted(requests, one, lambda *_: True), end=", of these")
+    print(f" {granted(requests, one, withdraws)} withdrawals", end=",")
     print(f" {granted(requests, one, takes_loaded)} takes of what was loaded", end=" and")
     print(f" {granted(requests, one, takes_published)} of what another session published")
+    names = ("NotPublished", "ModelDiffers", "QuotaFull")
+    print("refused among the others:", ", ".join(f"{refused(one, name)} {name}" for name in names))
     if other:
         print("sessions that were replied otherwise:", *other)
     return 1 if other else 0

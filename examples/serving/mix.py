@@ -1,11 +1,22 @@
-"""Requests of some sessions that publish for each other and take; the same at each run."""
+"""Requests of some sessions that publish for each other, withdraw and take; the same at each run."""
 import json
 import pathlib
 import random
+import struct
 
 EXAMPLES = pathlib.Path(__file__).parent.parent
-FILES = [f"{name}={EXAMPLES / name}.ctf" for name in ("lua", "zlib")]
 NAMES = ["base", "more"]
+MODELS = [{}, {"model": "lp64"}, {"model": "ilp32"}]
+LARGE = 60_000_000  # bytes: a session's quota has room for four
+
+
+def files(folder):
+    """What the operator publishes: two examples, and a dictionary without types that is large."""
+    large = pathlib.Path(folder) / "large.ctf"
+    with open(large, "wb") as file:
+        file.write(b"\xf1\xcf\x02\0" + struct.pack("<8I", 0, 0, 0, 0, 0, 0, 0, LARGE - 36))
+        file.truncate(LARGE)
+    return [*(f"{name}={EXAMPLES / name}.ctf" for name in ("lua", "zlib")), f"large={large}"]
 
 
 def sections():
@@ -20,7 +31,7 @@ def sections():
 def begun(session, chance, dictionaries):
     """What a session begins with: two slots, the first one published."""
     yield session, {"op": "part", "section": "ctf", "bytes": chance.choice(dictionaries)}
-    yield session, {"op": "open"}
+    yield session, {"op": "open", **chance.choice(MODELS)}
     yield session, {"op": "publish", "d": 1, "name": "base"}
     yield session, {"op": "take", "owner": 0, "name": "lua"}
 
@@ -33,7 +44,9 @@ def request(owners, chance):
     return chance.choice(
         [{"op": op} | asked for op in ("kind", "members", "size", "name", "record")]
         + [published, published, {"op": "take", "owner": 0, "name": "zlib"}]
-        + [{"op": "publish", "name": chance.choice(NAMES)} | slot]
+        + [{"op": "take", "owner": 0, "name": "large"}, {"op": "model"} | slot]
+        + [{"op": op, "name": chance.choice(NAMES)} | slot for op in ("publish", "withdraw")]
+        + [{"op": "create", **more} | chance.choice(MODELS) for more in ({}, {"parent": slot["d"], "parname": "p"})]
         + [{"op": "import", "parent": chance.randint(1, 4)} | slot]
         + [chance.choice([{"op": "reset"}, {"op": "close"} | slot, {"op": "info"} | slot])]
     )

@@ -7,10 +7,9 @@ import os
 import sys
 from typing import Callable, Optional
 
-from . import service
 from .faults import Error
 from .text import printable
-from .wire import Client, Session
+from .wire import Session, connected
 
 INTERRUPTED = 130
 
@@ -24,7 +23,7 @@ def run(command: str, program: Optional[str], work: Callable[[Session], int], tr
     if isinstance(sys.stdout, io.TextIOWrapper):
         sys.stdout.reconfigure(errors="backslashreplace")
     try:
-        with Client(service.find(program)) as client:
+        with connected(program) as client:
             status = work(client.session())
         sys.stdout.flush()
         return status

@@ -12,7 +12,7 @@ import os
 import sys
 from typing import List, NoReturn, Optional, Sequence, Set, Tuple
 
-from . import outputs, service
+from . import outputs
 from .choose import fitting, named, shared, told_left_out
 from .faults import Error
 from .held import held
@@ -23,7 +23,7 @@ from .outputs import Made
 from .records import Table
 from .source import Source
 from .text import printable
-from .wire import Client
+from .wire import connected
 from .written import MOST_TYPES
 
 FAITHFUL, LOSSY, FAILED, INTERRUPTED = 0, 1, 2, 130
@@ -96,7 +96,7 @@ def convert(words: argparse.Namespace) -> List[str]:
     options = Options(words.model, words.form, words.base, words.debug_folder)
     found = read(words.input, options)
     made = _made(words, found)
-    with Client(service.find(words.service)) as client:
+    with connected(words.service) as client:
         outputs.judge(client, words.input, made, words.output)
     if made.parent_of_its_own is not None:
         outputs.write(words.split, made.parent_of_its_own)

@@ -1,7 +1,8 @@
 """Where the service is, and whether it speaks the protocol of this client.
 
 It is the program that the caller names, else the one that CTFD in the environment names, else
-`ctfd` on the path, else the one that the clone with this package in it has built.
+`ctfd` on the path, else the one that the clone with this package in it has built. CTFD_SOCKET in
+the environment names a socket in place of a program, where none is named by the caller.
 """
 from __future__ import annotations
 
@@ -35,6 +36,11 @@ def find(named: Optional[str] = None) -> str:
         raise Gone("the service ctfd is not found: name it by --service or by CTFD in the"
                    " environment, put it on the PATH, or build it (`rt run` in crates/ctfd)")
     return _judged(found)
+
+
+def socket() -> Optional[str]:
+    """The socket that CTFD_SOCKET in the environment names, where a service is that others use."""
+    return os.environ.get("CTFD_SOCKET") or None
 
 
 def _built() -> Optional[str]:

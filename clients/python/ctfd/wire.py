@@ -1,6 +1,6 @@
-"""The service as a process, and the sessions in it.
+"""A service, and the sessions in it.
 
-Requests are written and replies read in one loop over pipes that do not block: a client that
+Requests are written and replies read in one loop over files that do not block: a client that
 writes all before it reads stops both sides for good once the pipes are full. No threads are used,
 so this runs inside a debugger too.
 """
@@ -10,12 +10,12 @@ import collections
 import json
 import os
 import selectors
-import subprocess
 from types import TracebackType
 from typing import (Any, Deque, Dict, Iterable, List, NoReturn, Optional, Sequence, Tuple, Type,
                     Union)
 
 from . import service, text
+from .channel import Channel, Pipes, Socket
 from .faults import Error, Gone, Refused, refused
 from .model import Model
 from .text import Name
@@ -27,6 +27,7 @@ Outcome = Union[Answer, Refused]
 PIECE = 262_144
 READ = 262_144
 WRITE = 65_536
+SERVE = ("serve",)
 
 _DECODED = json.JSONDecoder().decode
 
@@ -39,23 +40,30 @@ class Owed:
 
 
 class Client:
-    """One service, started here; the program is looked for where none is named.
+    """One service. It is started here, and the program looked for where none is named.
 
+    With `socket` it is one that others use too: the path of a socket where ctfd-front listens, in
+    which each session is a connection. Where neither is named, CTFD_SOCKET in the environment may
+    name such a path.
     `patience` is how many seconds it may be silent before it counts as gone; None is for ever.
     An exception amid a call (Ctrl-C, say) leaves its replies owed, and the next call reads past
     them; where it came amid one of the few steps that belong together, the next call says Gone.
     The service is in a process session of its own, so a terminal's Ctrl-C does not end it.
     """
 
-    def __init__(self, program: Optional[str] = None, arguments: Sequence[str] = ("serve",),
-                 patience: Optional[float] = 60) -> None:
+    def __init__(self, program: Optional[str] = None, arguments: Sequence[str] = SERVE,
+                 patience: Optional[float] = 60, socket: Optional[str] = None) -> None:
         self.patience = patience
-        self._process = _started([program or service.find(), *arguments])
-        assert self._process.stdin and self._process.stdout
-        self._requests = self._process.stdin.fileno()
-        self._replies = self._process.stdout.fileno()
-        os.set_blocking(self._requests, False)
-        os.set_blocking(self._replies, False)
+        if program is None and socket is None and arguments == SERVE:
+            socket = service.socket()
+        self._socket = socket
+        self._channel: Channel
+        if socket is None:
+            self._channel = Pipes([program or service.find(), *arguments])
+        else:
+            self._channel = Socket(socket, patience)
+        self._requests, self._replies = self._channel.requests, self._channel.replies
+        self._others: List[Client] = []
         self._unsent = bytearray()
         self._unread = bytearray()
         self._lines: Deque[bytearray] = collections.deque()
@@ -64,7 +72,8 @@ class Client:
         self._owed: Deque[Owed] = collections.deque()
         self._gone: Optional[str] = None
         self._torn = False  # amid the few steps that an interrupt must not part
-        self._last_session = 0
+        self._last_session = self._channel.number - 1 if self._channel.number else 0
+        self._has_session = self._is_closed = False
         self.requests = self.rounds = 0
 
     def __enter__(self) -> Client:
@@ -75,12 +84,21 @@ class Client:
         self.close()
 
     @property
-    def pid(self) -> int:
-        """The service's process."""
-        return self._process.pid
+    def pid(self) -> Optional[int]:
+        """The service's process; None where it was not started here."""
+        return self._channel.pid
+
+    @property
+    def where(self) -> str:
+        """Where the service is, in words."""
+        return self._channel.where
 
     def session(self) -> Session:
-        """A session that this client has not used yet."""
+        """A session that this client has not used yet. Behind a front it is a connection more."""
+        if self._channel.number and self._has_session:
+            self._others.append(Client(patience=self.patience, socket=self._socket))
+            return self._others[-1].session()
+        self._has_session = True
         self._last_session += 1
         return Session(self, self._last_session)
 
@@ -103,16 +121,13 @@ class Client:
         return [owed.reply for owed in mine if owed.reply is not None]
 
     def close(self) -> None:
-        """Ends the service: it ends by itself where its input does."""
+        """Ends the service that was started here, or the connections to one."""
         self._gone = self._gone or "the client was closed"
-        for pipe in (self._process.stdin, self._process.stdout):
-            if pipe:
-                pipe.close()
-        try:
-            self._process.wait(5)
-        except subprocess.TimeoutExpired:
-            self._process.kill()
-            self._process.wait()
+        if not self._is_closed:
+            self._is_closed = True
+            for other in self._others:
+                other.close()
+            self._channel.close()
 
     def _run(self, mine: List[Owed]) -> None:
         self._forget()  # what an interrupted call has written and read already
@@ -141,8 +156,8 @@ class Client:
             self._written.extend(map(os.write, [self._requests], [self._unsent[:WRITE]]))
         except BlockingIOError:
             return True
-        except BrokenPipeError:
-            self._end(self._how_it_ended())
+        except (BrokenPipeError, ConnectionResetError):
+            self._end(self._channel.how_it_ended())
         self._forget()
         return bool(self._unsent)
 
@@ -159,13 +174,15 @@ class Client:
             self._pieces.extend(map(os.read, [self._replies], [READ]))
         except BlockingIOError:
             return
+        except ConnectionResetError:
+            self._end(self._channel.how_it_ended())
         self._answer()
 
     def _answer(self) -> None:
         """Gives the lines that were read to those whom they are owed."""
         while self._pieces:
             if not self._pieces[0]:
-                self._end(self._how_it_ended())
+                self._end(self._channel.how_it_ended())
             self._torn = True
             self._unread += self._pieces[0]
             del self._pieces[0]
@@ -189,13 +206,6 @@ class Client:
     def _end(self, why: str) -> NoReturn:
         self._gone = why
         raise Gone(why)
-
-    def _how_it_ended(self) -> str:
-        try:
-            return (f"the service ended with status {self._process.wait(1)}: what it says of that"
-                    " stands on standard error; start it again")
-        except subprocess.TimeoutExpired:
-            return "the service has closed its pipes"
 
 
 class Session:
@@ -248,12 +258,12 @@ class Session:
         return self.ask("create", **named, **_given(parent=parent, model=model))
 
 
-def _started(command: Sequence[str]) -> "subprocess.Popen[bytes]":
-    try:
-        return subprocess.Popen(command, stdin=subprocess.PIPE, stdout=subprocess.PIPE,
-                                bufsize=0, start_new_session=True)
-    except OSError as error:
-        raise Gone(f"the service {command[0]} can't be started: {error.strerror}") from error
+def connected(program: Optional[str]) -> Client:
+    """The client of a command: of the program that is named, else of the socket that CTFD_SOCKET
+    names, else of the program that is found. Raises Error."""
+    if program is None and service.socket() is not None:
+        return Client()
+    return Client(service.find(program))
 
 
 def _line(session: int, op: str, fields: Answer) -> bytes:

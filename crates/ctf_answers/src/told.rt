@@ -53,7 +53,11 @@ impl<'a> RecordTold<'a> {
     {
         let size = if self.size.is_some() { 5 } else { 4 };
         let tag = if self.tag.is_some() { size + 1 } else { size };
-        if self.reference.is_some() { tag + 1 } else { tag }
+        if self.reference.is_some() {
+            tag + 1
+        } else {
+            tag
+        }
     }
 
     /// The field with a number, from 0.

@@ -171,7 +171,7 @@ class Info(Command):
             print("No types are loaded.")
             return
         client, _ = STATE.service
-        print(f"the service is process {client.pid}: {client.requests} requests in"
+        print(f"the service is {client.where}: {client.requests} requests in"
               f" {client.rounds} rounds")
 
 

@@ -1,0 +1,127 @@
+"""The way to a service: the pipes of a process that is started here, or a socket of a front."""
+from __future__ import annotations
+
+import json
+import os
+import socket
+import subprocess
+from typing import Optional, Protocol, Sequence
+
+from .faults import Gone
+
+READ = 65_536
+
+
+class Channel(Protocol):
+    """Two files that do not block. `number` is the session that the other end has given, or 0."""
+
+    requests: int
+    replies: int
+    number: int
+    pid: Optional[int]
+
+    @property
+    def where(self) -> str: ...
+
+    def how_it_ended(self) -> str: ...
+
+    def close(self) -> None: ...
+
+
+class Pipes:
+    """A service, started here. It ends by itself where its input does."""
+
+    number = 0
+
+    def __init__(self, command: Sequence[str]) -> None:
+        try:
+            self._process = subprocess.Popen(command, stdin=subprocess.PIPE, bufsize=0,
+                                             stdout=subprocess.PIPE, start_new_session=True)
+        except OSError as error:
+            raise Gone(f"the service {command[0]} can't be started: {error.strerror}") from error
+        assert self._process.stdin and self._process.stdout
+        self.pid: Optional[int] = self._process.pid
+        self.requests = self._process.stdin.fileno()
+        self.replies = self._process.stdout.fileno()
+        os.set_blocking(self.requests, False)
+        os.set_blocking(self.replies, False)
+
+    @property
+    def where(self) -> str:
+        return f"process {self.pid}"
+
+    def how_it_ended(self) -> str:
+        try:
+            return (f"the service ended with status {self._process.wait(1)}: what it says of that"
+                    " stands on standard error; start it again")
+        except subprocess.TimeoutExpired:
+            return "the service has closed its pipes"
+
+    def close(self) -> None:
+        for pipe in (self._process.stdin, self._process.stdout):
+            if pipe:
+                pipe.close()
+        try:
+            self._process.wait(5)
+        except subprocess.TimeoutExpired:
+            self._process.kill()
+            self._process.wait()
+
+
+class Socket:
+    """A connection to a front, or to a service that systemd has started for it."""
+
+    pid: Optional[int] = None
+
+    def __init__(self, path: str, patience: Optional[float]) -> None:
+        self.path = path
+        self._channel = socket.socket(socket.AF_UNIX, socket.SOCK_STREAM)
+        self._channel.settimeout(patience)
+        try:
+            self._channel.connect(path)
+            self.number = self._asked()
+        except (BrokenPipeError, ConnectionResetError) as error:
+            raise self._closed_at_once() from error
+        except OSError as error:
+            self._channel.close()
+            why = error.strerror or "it does not answer"
+            raise Gone(f"the socket {path}: {why}; start ctfd-front there, or name another by"
+                       " CTFD_SOCKET") from error
+        self._channel.setblocking(False)
+        self.replies = self._channel.fileno()
+        self.requests = os.dup(self.replies)  # a selector takes a file once
+
+    def _asked(self) -> int:
+        """The session of this connection: that of a line that names none."""
+        self._channel.sendall(b"{}\n")
+        said = b""
+        while not said.endswith(b"\n"):
+            data = self._channel.recv(READ)
+            if not data:
+                raise self._closed_at_once()
+            said += data
+        try:
+            number = json.loads(said)["s"]
+        except (ValueError, KeyError, TypeError):
+            number = None
+        if not isinstance(number, int):
+            self._channel.close()
+            raise Gone(f"the socket {self.path}: what answers there is no ctfd")
+        return number
+
+    def _closed_at_once(self) -> Gone:
+        self._channel.close()
+        return Gone(f"the socket {self.path} was closed at once: there are too many connections,"
+                    " or its service has ended; try again later")
+
+    @property
+    def where(self) -> str:
+        return f"at the socket {self.path}"
+
+    def how_it_ended(self) -> str:
+        return (f"the socket {self.path} was closed: its service has ended, or this connection was"
+                " idle for too long; begin anew")
+
+    def close(self) -> None:
+        os.close(self.requests)
+        self._channel.close()

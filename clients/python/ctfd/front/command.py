@@ -1,0 +1,156 @@
+"""Lets many clients use one `ctfd serve`, over a socket.
+
+Each connection is a session of its own: its number is written into each of its lines, whatever the
+client writes. A line without `s` is answered with that number; others take what it publishes by it.
+Each NAME=FILE is published by the service, so that every client can take it from owner 0.
+"""
+from __future__ import annotations
+
+import argparse
+import asyncio
+import resource
+import signal
+import sys
+from typing import Callable, Optional, Sequence
+
+from .. import service
+from ..faults import Error
+from . import listening
+from .front import NAME, Front, Options, say
+from .limits import Limits
+from .tagging import LONGEST
+
+USAGE, TROUBLE = 2, 5
+SPARE_FILES = 32
+STATUSES = """\
+The status is 0 when it was told to end by SIGTERM or SIGINT; that of the service when that has
+ended (1 a file was refused, 3 a read or write failed, 4 memory, 128 and more by a signal; 6 where
+it ended without a reason); 2 for wrong words; 5 where the socket or the service can't be had; 7
+when all numbers of sessions were given.
+SIGUSR1 writes what was seen to standard error."""
+
+
+def main(arguments: Optional[Sequence[str]] = None) -> int:
+    """The command; its exit status."""
+    signal.signal(signal.SIGUSR1, signal.SIG_IGN)  # till there is something to tell
+    words = _parser().parse_args(arguments)
+    try:
+        return asyncio.run(_run(words))
+    except Error as error:
+        say(str(error))
+        return TROUBLE
+    except KeyboardInterrupt:
+        return 0
+
+
+async def _run(words: argparse.Namespace) -> int:
+    command = [service.find(words.service), "serve", "--", *words.files]
+    limits = Limits(words.connections, words.line, words.lines, words.bytes, words.unread,
+                    words.memory, words.idle, words.stalled, words.grace, words.ahead)
+    _allow_files(words.connections + SPARE_FILES)
+    listener = _listener(words)
+    options = Options(words.withdraw, words.restart, words.stats)
+    return await Front(command, listener, limits, options).run()
+
+
+def _listener(words: argparse.Namespace) -> listening.Listener:
+    """The socket of systemd, or the one at the path."""
+    given = listening.handed_over()
+    if given and words.socket:
+        raise Error("systemd hands over a socket: leave --socket out")
+    if given:
+        return given
+    if not words.socket:
+        raise Error("there is no socket: name one by --socket PATH, or let systemd hand one over")
+    return listening.at_path(words.socket, words.mode, words.group)
+
+
+def _allow_files(wanted: int) -> None:
+    """Raises the soft limit of open files, as far as is needed and allowed."""
+    soft, hard = resource.getrlimit(resource.RLIMIT_NOFILE)
+    if soft != resource.RLIM_INFINITY and soft < wanted:
+        most = wanted if hard == resource.RLIM_INFINITY else min(wanted, hard)
+        resource.setrlimit(resource.RLIMIT_NOFILE, (most, hard))
+        if most < wanted:
+            say(f"no more than {most} files may be open, which is less than --connections wants:"
+                " raise `ulimit -Hn` or LimitNOFILE=")
+
+
+def _parser() -> argparse.ArgumentParser:
+    parser = argparse.ArgumentParser(prog=NAME, description=__doc__, epilog=STATUSES,
+                                     formatter_class=argparse.RawDescriptionHelpFormatter)
+    parser.add_argument("files", metavar="NAME=FILE", nargs="*", help="as for `ctfd serve`")
+    parser.add_argument("--service", metavar="CTFD", help="the program that serves (CTFD in the"
+                        " environment, or ctfd on the path)")
+    _add_socket(parser)
+    _add_limits(parser)
+    parser.add_argument("--withdraw", action="store_true", help="withdraw what a client has"
+                        " published when its connection ends")
+    parser.add_argument("--restart", action="store_true", help="start a new service when it ends,"
+                        " with the same files")
+    parser.add_argument("--stats", type=_seconds, default=0, metavar="SECONDS", help="write what"
+                        " was seen to standard error, so often; without it, at SIGUSR1 alone")
+    return parser
+
+
+def _add_socket(parser: argparse.ArgumentParser) -> None:
+    group = parser.add_argument_group("the socket")
+    group.add_argument("--socket", metavar="PATH", help="where clients find it; a file that is"
+                       " there is replaced where nobody listens. Without it, the socket that"
+                       " systemd hands over (LISTEN_FDS)")
+    group.add_argument("--mode", type=_mode, default=0o660, metavar="MODE",
+                       help="who may connect, as for chmod (0660)")
+    group.add_argument("--group", metavar="GROUP", help="whose group the socket is")
+
+
+def _add_limits(parser: argparse.ArgumentParser) -> None:
+    limits, group = Limits(), parser.add_argument_group("limits")
+
+    def add(name: str, said: str, most: Optional[int] = None) -> None:
+        default = getattr(limits, name)
+        is_time = name in ("idle", "stalled", "grace")
+        group.add_argument(f"--{name}", type=_seconds if is_time else _count(most),
+                           default=default, metavar="SECONDS" if is_time else "N",
+                           help=f"{said} ({default})")
+
+    add("connections", "how many there are at most; one more is closed at once")
+    add("line", f"bytes of a line, no more than {LONGEST}; a longer one is refused as LongLine",
+        LONGEST)
+    add("lines", "lines of a connection that are unanswered; then it is not read from")
+    add("bytes", "bytes of a connection that are unanswered; then it is not read from")
+    add("unread", "bytes of replies that a client has not read; then its next line waits")
+    add("memory", "bytes held for all connections; then the one that has most is closed")
+    add("ahead", "lines that the service has at a time, of all connections")
+    add("idle", "a connection that sends nothing for so long is closed")
+    add("stalled", "so is one with half a line, or with replies that it does not read")
+    add("grace", "how long clients have to read their last replies when the front ends")
+
+
+def _count(most: Optional[int]) -> Callable[[str], int]:
+    """A reader of numbers from 1 on."""
+
+    def number(text: str) -> int:
+        found = int(text)
+        if found < 1 or (most is not None and found > most):
+            raise ValueError
+        return found
+
+    return number
+
+
+def _seconds(text: str) -> float:
+    found = float(text)
+    if not 0 < found < 1e9:
+        raise ValueError
+    return found
+
+
+def _mode(text: str) -> int:
+    found = int(text, 8)
+    if found & ~0o777:
+        raise ValueError
+    return found
+
+
+if __name__ == "__main__":
+    sys.exit(main())
