@@ -27,7 +27,7 @@ use Rattle.ctf_protocol.specs.sessions.Publications.{published_as}
 use Rattle.ctf_protocol.specs.answers.Questions.{at_most, windowed, or_wrong_kind, as_fields, member_fields, member_item, enumerator_fields, enumerator_item, number_item, argument_fields, array_fields, encoding_fields, type_fields, size_fields, align_fields, name_fields, position_fields, value_fields, plain_said, said_on, said_of}
 use Rattle.ctf_protocol.specs.answers.SlotAnswers.{symbol_fields, signature_fields, label_item, last_fields, whole_said}
 use Rattle.ctf_model.specs.symbols.SymbolQuestions.{symbol_found, object_of, function_of, label_of}
-use Rattle.ctf_model.specs.format.Shown.{Facts, facts, members_in, enumerators_in, arguments_in, array_in, encoding_in, list_length}
+use Rattle.ctf_model.specs.format.Shown.{Facts, facts, members_in, enumerators_in, arguments_in, array_in, encoding_in, list_length, named_arguments}
 use Rattle.ctf_protocol.specs.sessions.Charges.{charge}
 use Rattle.ctf_protocol.specs.sessions.State.{State, Slot}
 use Rattle.ctf_protocol.specs.sessions.Steps.{change_step, with_slot, grants, slots_without, imports_unless, publishes_kept, publishes_within, publishes_slot, within_quota, quota, becomes_by, updates_within, Outcome, withdraws, imports_into, takes, takes_found, adds_created, creates_over, creates_from, stages, opens, opens_unless, has_room, accepts_unless, longest_list, slot_at, slot_space, said_by_slot}
