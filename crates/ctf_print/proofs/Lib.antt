@@ -2,6 +2,7 @@ pub mod Alike
 pub mod Bits
 pub mod Digits
 pub mod Names
+pub mod Placings
 pub mod Raws
 pub mod Signs
 pub mod Standings

@@ -1,14 +1,15 @@
 -- Types that stand for others.
-use Rattle.std.proofs.Common.{◌≡◌, ℕ, zero, suc, ◌+◌, ◌-◌, ◌∙◌, List, Option, Some, Bool, true, false, cond, refl, sym, ap, arith}
-use Rattle.std.specs.BTreeMap.{BTreeMap, get, is_at}
-use Rattle.std.specs.Ordering.{nat_cmp}
+use Rattle.std.proofs.Common.{◌≡◌, ℕ, zero, suc, ◌+◌, ◌-◌, ◌∙◌, Option, Some, None, refl, ap, arith}
+use Rattle.std.specs.BTreeMap.{BTreeMap, IsEmpty}
 use Rattle.std.specs.Option.{option_map}
 use Rattle.ctf_model.specs.format.Shown.{Shape, shape}
 use Rattle.ctf_model.specs.spaces.Space.{Space, space_type}
 use Rattle.ctf_model.specs.format.Term.{Term}
 use Rattle.ctf_model.specs.spaces.TypeNumbers.{or_no_type}
 use Rattle.ctf_model.specs.values.Values.{shown_within}
+use Rattle.ctf_print.specs.KnownView.{AreRight}
 use Rattle.ctf_print.specs.Standing.{StandsFor}
+use Rattle.ctf_print.specs.declared.known.Behind.{Behind}
 use Rattle.ctf_print.specs.Telling.{like, told_in, told_shown}
 use Rattle.ctf_print.proofs.Tellings.{type_shown}
 
@@ -25,3 +26,9 @@ pub more_steps : (s : Space) (n t m steps : ℕ) → StandsFor s n 1 t → Stand
 more_steps s n t m steps first rest memory k p =
     let e : k - 1 - steps ≡ k - (steps + 1) = omega arith in
     first memory k p ∙ rest memory (k - 1) p ∙ ap (λ (j : ℕ). shown_within s memory j m p) e
+
+pub none_known : (s : Space) (m : BTreeMap ℕ Behind) → IsEmpty m → AreRight s m
+none_known s m e q b is = absurd (nothing b (rw e at is))
+  where
+    nothing : (x : Behind) → None ≡ Some x → ⊥
+    nothing x h = absurd cc

@@ -1,5 +1,6 @@
 pub mod ImageView
 pub mod KnownView
+pub mod Placing
 pub mod Standing
 pub mod Telling
 pub mod ToldView

@@ -1,12 +1,17 @@
 //! What was found of types while a value is shown, so that nothing is looked for again.
-ghost use Rattle.std.specs.Prelude.{◌≡◌, ◌≤◌, ℕ, List, IfSome};
+ghost use Rattle.std.specs.Prelude.{◌≡◌, ◌≤◌, ℕ, List, IfSome, Some};
 ghost use Rattle.ctf_model.specs.values.Values.{shown_within};
 ghost use Rattle.ctf_space.specs.SpaceView.{space_of};
+ghost use Rattle.ctf_model.specs.format.Term.{Enumerator};
+ghost use Rattle.ctf_print.specs.Placing.{ArePlaces, enumerators_of, first_with, told_of};
 ghost use Rattle.ctf_print.specs.Standing.{StandsFor};
+ghost use Rattle.ctf_print.specs.declared.places.Places.{Places};
 
+use crate::places::{Places, first_of};
 use crate::telling::{Told, told_by};
 use ctf_model::TypeNum;
 use ctf_space::Space;
+use ctf_views::Enumerators;
 use std::alloc::Global;
 use std::collections::BTreeMap;
 use std::marker::Model;
@@ -26,23 +31,26 @@ pub struct Reached {
     pub nesting: u32,
 }
 
-/// What stands behind typedefs and qualifiers of a space, of those that were met.
+/// What stands behind typedefs and qualifiers of a space, of those that were met, and where the
+/// values of enums stand, of those of which a value was looked for more than once.
 #[derive(Drop)]
 pub struct Known<'a> {
     space: Space<'a>,
+    alloc: Global,
     behind: BTreeMap<u16, Behind>,
+    places: BTreeMap<u16, Option<Places>>,
 }
 
 impl<'a> Model for Known<'a> {
     ghost use Rattle.ctf_model.specs.spaces.Space.{Space as Types};
     ghost use Rattle.ctf_space.specs.SpaceView.{space_of};
-    ghost use Rattle.ctf_print.specs.KnownView.{AreRight};
+    ghost use Rattle.ctf_print.specs.KnownView.{IsRight};
 
     ghost Value = { Types };
 
     ghost view = { λ k. space_of k.space };
 
-    ghost invariant = { λ k. AreRight (space_of k.space) k.behind };
+    ghost invariant = { λ k. IsRight (space_of k.space) k.behind k.places };
 }
 
 /// A type by itself.
@@ -59,7 +67,9 @@ impl<'a> Known<'a> {
     {
         Known {
             space,
+            alloc,
             behind: BTreeMap::new(alloc),
+            places: BTreeMap::new(alloc),
         }
     }
 
@@ -125,5 +135,41 @@ impl<'a> Known<'a> {
             number: behind.number,
             nesting: nesting.saturating_sub(behind.steps),
         }
+    }
+
+    /// Keeps where the values of an enum stand, or that one was looked for. Without memory for it
+    /// nothing is kept.
+    fn place(&mut self, number: TypeNum, places: Option<Places>)
+        requires { (p : Places) → places ≡ Some p → (es : List Enumerator)
+            → enumerators_of (told_of self.old number.0) ≡ Some es → ArePlaces es p }
+        ensures { self.new ≡ self.old }
+    {
+        let _ = self.places.insert(number.0, places);
+    }
+
+    /// The number of the first enumerator with a value. Of an enum that is asked for again each
+    /// enumerator is read once.
+    pub fn first_place(
+        &mut self,
+        number: TypeNum,
+        enumerators: &Enumerators<'_>,
+        value: i64,
+    ) -> Option<usize>
+        requires { enumerators_of (told_of self.old number.0) ≡ Some enumerators.now }
+        ensures first { result ≡ first_with value 0 enumerators.now }
+        ensures kept { self.new ≡ self.old }
+    {
+        match self.places.get(&number.0) {
+            Some(Some(places)) => return places.first(value),
+            Some(None) => {}
+            None => {
+                self.place(number, None);
+                return first_of(enumerators, value);
+            }
+        }
+        let found = first_of(enumerators, value);
+        let places = Places::of(self.alloc, enumerators);
+        self.place(number, places);
+        found
     }
 }

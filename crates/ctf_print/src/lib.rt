@@ -6,6 +6,7 @@ mod image;
 mod integers;
 mod known;
 mod numbers;
+mod places;
 mod showing;
 mod telling;
 mod text;

@@ -7,6 +7,7 @@ ghost use Rattle.ctf_model.specs.spaces.Space.{pointer_size};
 ghost use Rattle.ctf_model.specs.values.Values.{array_shown, elements_shown, member_shown, members_shown};
 ghost use Rattle.ctf_views.specs.ItemsView.{member as member_seen};
 ghost use Rattle.ctf_print.specs.ImageView.{memory_of, shows, types_of};
+ghost use Rattle.ctf_print.specs.Placing.{told_of};
 ghost use Rattle.ctf_print.specs.Telling.{told_shown};
 ghost use Rattle.ctf_print.specs.ToldView.{told_seen};
 ghost use Rattle.ctf_print.specs.Written.{Refused, written};
@@ -155,10 +156,11 @@ fn show_members(
     out.put(b"}")
 }
 
-/// Puts the value of a type that is shown so.
+/// Puts the value of a type that is shown so, by the type's number.
 #[cycle(values)]
 fn show_told(
     image: &Image<'_>,
+    number: TypeNum,
     how: Told<'_>,
     at: u128,
     nesting: u32,
@@ -166,6 +168,7 @@ fn show_told(
     out: &mut Text,
 ) -> Result<(), Fault>
     requires known { known.old ≡ types_of image.now }
+    requires how { told_of (types_of image.now) number.0 ≡ told_seen how }
     ensures ok { OnOk result (written out.old
         (told_shown (types_of image.now) (memory_of image.now) (shows image.now nesting) at
         (told_seen how.entry)) ≡ Ok out.new) }
@@ -178,10 +181,12 @@ fn show_told(
         Told::Integer(encoding) => show_integer(image.memory, at, encoding, out),
         Told::Float(encoding) => show_float(image.memory, at, encoding, out),
         Told::Pointer => show_raw(image.memory, at, pointer_bits(image.space.model()), out),
-        Told::Enum(said, enumerators) => show_enum(image.memory, at, said, &enumerators, out),
+        Told::Enum(said, enumerators) => {
+            show_enum(image.memory, at, number, said, &enumerators, known, out)
+        }
         Told::Members(members) => show_members(image, &members, at, nesting, known, out),
         Told::Array(array) => show_array(image, array, at, nesting, known, out),
-        Told::As(number) => show_value(image, number, at, nesting, known, out),
+        Told::As(next) => show_value(image, next, at, nesting, known, out),
         Told::Incomplete => out.end(placeless(Fault::INCOMPLETE)),
     }
 }
@@ -206,7 +211,10 @@ fn show_type(
         return out.end(placeless(Fault::INCOMPLETE));
     }
     match image.space.term(number) {
-        Ok(found) => show_told(image, told_by(found.shape()), at, nesting - 1, known, out),
+        Ok(found) => {
+            let how = told_by(found.shape());
+            show_told(image, number, how, at, nesting - 1, known, out)
+        }
         Err(fault) => out.end(fault),
     }
 }

@@ -1,39 +1,38 @@
 use Rattle.std.proofs.Common.{◌∙◌, sym, w64}
 use Rattle.std.proofs.Math.Facts.{to_z-of_z}
 use Rattle.ctf_views.specs.ItemsView.{enumerator}
-use Rattle.ctf_print.proofs.Names.{item_lent, named_here, named_later, named_nowhere}
+use Rattle.ctf_print.proofs.Names.{item_lent, some_lent}
+use Rattle.ctf_print.proofs.Placings.{is_place, no_place}
 use Rattle.ctf_print.proofs.enums.put_name.Goals as goal
 
-pub returns-then-has_value-clause-ok : goal.returns-then-has_value-clause-ok
-returns-then-has_value-clause-ok c =
+pub unwrap-requires : goal.unwrap-requires
+unwrap-requires c =
     let same = to_z-of_z {w = w64} {z = c.args.value} c.ranges.value in
-    let item = item_lent enumerator c.get.result c.unwrap.result _ c.get.ensures c.unwrap.ensures in
-    let name = (rw same at c.loop-i.invariant.rest) ∙ named_here c.args.enumerators.now c.loop-i.i (enumerator c.unwrap.result) c.args.value item (rw (same, c.if-has_value.true) at c.has_value.ensures) in
-    rw name (rw c.loop-i.invariant.kept at c.put.ensures.ok)
+    let place = is_place c.args.enumerators.now c.args.value c.in-Some.i (sym c.in-Some.is ∙ c.requires) in
+    some_lent enumerator c.get.result c.args.enumerators.now c.in-Some.i c.get.ensures place.inside
 
-pub returns-then-has_value-clause-err : goal.returns-then-has_value-clause-err
-returns-then-has_value-clause-err c =
+pub returns-in-Some-clause-ok : goal.returns-in-Some-clause-ok
+returns-in-Some-clause-ok c =
     let same = to_z-of_z {w = w64} {z = c.args.value} c.ranges.value in
-    let item = item_lent enumerator c.get.result c.unwrap.result _ c.get.ensures c.unwrap.ensures in
-    let name = (rw same at c.loop-i.invariant.rest) ∙ named_here c.args.enumerators.now c.loop-i.i (enumerator c.unwrap.result) c.args.value item (rw (same, c.if-has_value.true) at c.has_value.ensures) in
-    rw name (rw c.loop-i.invariant.kept at c.put.ensures.err)
+    let place = is_place c.args.enumerators.now c.args.value c.in-Some.i (sym c.in-Some.is ∙ c.requires) in
+    let name = place.named (enumerator c.unwrap.result) (item_lent enumerator c.get.result c.unwrap.result _ c.get.ensures c.unwrap.ensures) in
+    rw name c.put.ensures.ok
 
-pub loop-i-preserved : goal.loop-i-preserved
-loop-i-preserved c =
+pub returns-in-Some-clause-err : goal.returns-in-Some-clause-err
+returns-in-Some-clause-err c =
     let same = to_z-of_z {w = w64} {z = c.args.value} c.ranges.value in
-    record {
-      rest = rw same ((rw same at c.loop-i.invariant.rest) ∙ named_later c.args.enumerators.now c.loop-i.i c.args.value (rw (same, c.if-has_value.false) at c.has_value.ensures));
-      kept = c.loop-i.invariant.kept;
-    }
+    let place = is_place c.args.enumerators.now c.args.value c.in-Some.i (sym c.in-Some.is ∙ c.requires) in
+    let name = place.named (enumerator c.unwrap.result) (item_lent enumerator c.get.result c.unwrap.result _ c.get.ensures c.unwrap.ensures) in
+    rw name c.put.ensures.err
 
-pub returns-clause-ok : goal.returns-clause-ok
-returns-clause-ok c =
+pub returns-in-None-clause-ok : goal.returns-in-None-clause-ok
+returns-in-None-clause-ok c =
     let same = to_z-of_z {w = w64} {z = c.args.value} c.ranges.value in
-    let name = (rw same at c.loop-i.invariant.rest) ∙ named_nowhere c.args.enumerators.now c.loop-i.i c.args.value (rw c.len-i-end.ensures.value at c.loop-i-test.false) in
-    rw name (rw (same, c.loop-i.invariant.kept) at c.put_signed.ensures.ok)
+    let none = no_place c.args.enumerators.now c.args.value (sym c.in-None.is ∙ c.requires) in
+    rw none (rw same at c.put_signed.ensures.ok)
 
-pub returns-clause-err : goal.returns-clause-err
-returns-clause-err c =
+pub returns-in-None-clause-err : goal.returns-in-None-clause-err
+returns-in-None-clause-err c =
     let same = to_z-of_z {w = w64} {z = c.args.value} c.ranges.value in
-    let name = (rw same at c.loop-i.invariant.rest) ∙ named_nowhere c.args.enumerators.now c.loop-i.i c.args.value (rw c.len-i-end.ensures.value at c.loop-i-test.false) in
-    rw name (rw (same, c.loop-i.invariant.kept) at c.put_signed.ensures.err)
+    let none = no_place c.args.enumerators.now c.args.value (sym c.in-None.is ∙ c.requires) in
+    rw none (rw same at c.put_signed.ensures.err)

@@ -11,6 +11,7 @@ use Rattle.ctf_print.specs.ImageView.{memory_of, shows, types_of}
 use Rattle.ctf_print.specs.Written.{written}
 use Rattle.ctf_print.proofs.Alike.{counted}
 use Rattle.ctf_print.proofs.Names.{item_lent, some_lent}
+use Rattle.ctf_print.proofs.Placings.{told_is}
 use Rattle.ctf_print.proofs.Tellings.{no_type_shown, none_shown, too_deep, type_shown}
 use Rattle.ctf_print.proofs.Writes.{at_element, first_refused, later_refused, member_refused, member_turn, next_ok, no_more, no_more_members, no_size, refused_first, second_refused, separated_is, some_member, two_ok}
 use Rattle.ctf_print.proofs.values.+values.Goals as goal
@@ -185,15 +186,20 @@ show_type-returns-then-nesting-eq0-clause-err t c =
     elim c.then-nesting-eq0.branch [ show_type-then-nesting-eq0-via-then-nesting-eq0 w ↦ too_deep (types_of c.args.image.now) (memory_of c.args.image.now) c.args.nesting c.args.number.0 c.args.at w.if-nesting-eq0.true | show_type-then-nesting-eq0-via-else-nesting-eq0+then-number-eq0 w ↦ none_shown (types_of c.args.image.now) (memory_of c.args.image.now) c.args.nesting c.args.number.0 c.args.at w.if-number-eq0.true ] in
     rw is (rw c.placeless.ensures at c.end.ensures.err)
 
+pub show_type-show_told-requires : goal.show_type-show_told-requires
+show_type-show_told-requires t c =
+    let told = told_is (types_of c.args.image.now) c.args.number.0 (spelled c.in-Ok.found) (shape_seen c.shape.result) (rw c.in-Ok.is at c.term.ensures) c.shape.ensures in
+    (omega (arith, c.decreases, c.if-nesting-eq0.false), (c.requires.known, told ∙ sym c.told_by-how.ensures))
+
 pub show_type-returns-in-Ok-clause-ok : goal.show_type-returns-in-Ok-clause-ok
 show_type-returns-in-Ok-clause-ok t c =
     let value = type_shown (types_of c.args.image.now) (memory_of c.args.image.now) c.args.nesting c.args.number.0 c.args.at (spelled c.in-Ok.found) (shape_seen c.shape.result) c.if-nesting-eq0.false c.if-number-eq0.false (rw c.in-Ok.is at c.term.ensures) c.shape.ensures in
-    rw value (rw c.told_by.ensures at c.show_told.ensures.ok)
+    rw value (rw c.told_by-how.ensures at c.show_told.ensures.ok)
 
 pub show_type-returns-in-Ok-clause-err : goal.show_type-returns-in-Ok-clause-err
 show_type-returns-in-Ok-clause-err t c =
     let value = type_shown (types_of c.args.image.now) (memory_of c.args.image.now) c.args.nesting c.args.number.0 c.args.at (spelled c.in-Ok.found) (shape_seen c.shape.result) c.if-nesting-eq0.false c.if-number-eq0.false (rw c.in-Ok.is at c.term.ensures) c.shape.ensures in
-    rw value (rw c.told_by.ensures at c.show_told.ensures.err)
+    rw value (rw c.told_by-how.ensures at c.show_told.ensures.err)
 
 pub show_type-returns-in-Err-clause-ok : goal.show_type-returns-in-Err-clause-ok
 show_type-returns-in-Err-clause-ok t c =
