@@ -92,6 +92,7 @@ def parts(program: str) -> list[Part]:
         Part("shown", [python, "tests/shown.py", program]),
         Part("lending", ["tests/lending.sh"]),
         Part("streams", ["tests/streams.sh", program]),
+        Part("hostile", ["bench/hostile.py", program, "--limit", "5"]),
         Part("front", ["tests/front.sh", program]),
         Part("damage", ["tests/damage.py", program]),
         Part("growths", ["tests/growths.sh", program]),
