@@ -127,6 +127,7 @@ class _Layout:
         self.is_union = is_union
         self.packed = packed
         self.align = 8 * (aligned or 1)
+        self.known = max(self.align, 8 * BIGGEST)
         self.by_user = aligned is not None
         self.at = 0
         self.end = 0
@@ -141,7 +142,7 @@ class _Layout:
         if is_bits and not packed and field.width:
             unit = self._eased(field.shape, field.shape.by_user)
             if _spans(self.at, field.width, unit) > 8 * field.shape.size // unit:
-                self._round(unit)
+                self._round_within(unit)
         placed = self.at
         self.at += 8 * field.shape.size if field.width is None else field.width
         self.end = max(self.end, self.at)
@@ -150,6 +151,12 @@ class _Layout:
 
     def _round(self, align: int) -> None:
         self.at = (self.at + align - 1) // align * align
+
+    def _round_within(self, align: int) -> None:
+        """Goes on to the next unit of a bit-field. gcc counts units from the last multiple of the
+        greatest alignment that it knows for offsets, which differs where a type says more."""
+        begins = self.at - self.at % self.known
+        self.at = begins + (self.at - begins + align - 1) // align * align
 
     def _alignment(self, field: Field, packed: bool) -> Tuple[int, bool, bool]:
         """What a member is aligned to, whether an attribute said so, and whether it is placed as

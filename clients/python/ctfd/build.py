@@ -204,8 +204,9 @@ class Types:
         width = member.width
         if width is not None and not (shape.is_integer and 0 <= width <= 8 * shape.size):
             raise Error(f"{what} is no bit-field of an integer of that width")
-        return abi.Field(member.name, shape, width, member.packed and shape.align > 1,
-                         member.aligned, member.type.is_block)
+        # gcc packs bit-fields of any type, and of other members those that are aligned at all
+        packed = member.packed and (shape.align > 1 or width is not None)
+        return abi.Field(member.name, shape, width, packed, member.aligned, member.type.is_block)
 
     def shape(self, of: CType, what: str) -> Shape:
         """The shape of a type. Raises Error where it has no size."""

@@ -76,6 +76,7 @@ class Side:
         self.catalog = whole.catalog
         self.embeds = Embeds(whole.catalog, whole.names)
         self._texts: Dict[int, str] = {}
+        self._types: Dict[int, Tuple[int, int, str, Tuple[Any, ...]]] = {}
         self.own = self._by_key(self.catalog.own)
         self.all = self._by_key(self.catalog.numbers)
 
@@ -139,10 +140,18 @@ class Side:
         """The members of a struct or union, those of unnamed parts too."""
         made = []
         for held in self.embeds.walked(number):
-            lies, bits, _ = self.catalog.span(held.type)
-            made.append(Place(printable(held.name), held.offset + lies, bits,
-                              self.text(held.type), self.value(held.type)))
+            lies, bits, text, value = self._told(held.type)
+            made.append(Place(printable(held.name), held.offset + lies, bits, text, value))
         return made
+
+    def _told(self, number: int) -> Tuple[int, int, str, Tuple[Any, ...]]:
+        """What is told of a member by its type alone: where in its storage it lies, its bits, how C
+        writes it, and what its value is."""
+        known = self._types.get(number)
+        if known is None:
+            lies, bits, _ = self.catalog.span(number)
+            known = self._types[number] = lies, bits, self.text(number), self.value(number)
+        return known
 
 
 def compared(old: Whole, new: Whole) -> Iterator[Change]:

@@ -144,6 +144,8 @@ class Reader:
         if bits is not None:
             return int(bits)
         begins = 8 * _location(member)
+        if member.get_parent().tag == "DW_TAG_union_type":
+            return begins  # gcc says a wrong DW_AT_bit_offset here where the type is less aligned
         from_the_left = _value(member, "DW_AT_bit_offset")  # as DWARF 2 and 3 have it
         if from_the_left is None or width is None:
             return begins
