@@ -96,6 +96,18 @@ class Declarations(WithService):
             printed = subprocess.run([program], capture_output=True, text=True, check=True).stdout
         self.assertEqual(told, printed.split())
 
+    def test_bit_fields_lie_where_gcc_has_them(self) -> None:
+        # as gcc 12 says, by programs that fill each: packed ones of characters are bits too, and
+        # units of a type that says more alignment are counted from the last 16 bytes
+        cases = [
+            ("signed char b : 7 __attribute__((packed)), c : 8 __attribute__((packed))", [3, 10]),
+            ("void *p, *q; wide c : 39", [64, 128, 640]), ("void *p; wide c : 39", [64, 128])]
+        for text, places in cases:
+            types = build.declare("typedef long long wide __attribute__((aligned(64)));"
+                                  f"struct s {{ unsigned a : 3; {text}; }};")
+            found = types.dictionary(self.session).find("struct s")
+            self.assertEqual([m.offset for m in found.members], [0, *places], text)
+
     def test_names_go_on_into_other_declarations(self) -> None:
         types = build.declare("typedef struct a { int x; } a_t; enum { N = 3 };")
         build.declare("struct b { a_t all[N]; };", into=types)

@@ -99,6 +99,13 @@ class Dwarf(WithFiles):
         self.assertEqual((bits.is_root, bits.bit_field and bits.bit_field.bits), (False, 3))
         self.assertEqual(types.find("u32").bit_field, None)
 
+    def test_bit_fields_of_a_union_begin_with_it(self) -> None:
+        code = ("typedef unsigned long long loose __attribute__((aligned(1)));"
+                "union u { loose a : 18; loose b : 1; unsigned c : 9; } u;")
+        out, _ = self.converted(self.compiled("union", code))
+        members = self.types(out).find("union u").members
+        self.assertEqual([(m.name, m.offset) for m in members], [("a", 0), ("b", 0), ("c", 0)])
+
     def test_symbols(self) -> None:
         file = self.compiled("code", CODE)
         out, _ = self.converted(file, "--section")
