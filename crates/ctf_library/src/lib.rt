@@ -19,3 +19,4 @@ mod whole;
 pub use library::Library;
 pub use loaded::{Loaded, MODEL_UNSAID};
 pub use pool::Pool;
+pub use tables::{Tables, tables_over};

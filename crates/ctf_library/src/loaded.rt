@@ -128,14 +128,14 @@ impl Loaded {
     }
 
     /// The map of its symbols.
-    pub(crate) fn symbols(&self) -> &SymbolMap
+    pub fn symbols(&self) -> &SymbolMap
         ensures { Fits self.now.lists result.now }
     {
         &self.beside.symbols
     }
 
     /// Its tables without a parent.
-    pub(crate) fn tables(&self) -> &Tables
+    pub fn tables(&self) -> &Tables
         ensures { AreTablesOf self.now None result.now }
     {
         &self.beside.tables

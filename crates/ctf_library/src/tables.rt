@@ -16,8 +16,8 @@ use std::alloc::{AllocError, Global};
 /// What the types of a dictionary come to, and its names, with those of its parent if it has one.
 #[derive(Drop)]
 pub struct Tables {
-    pub(crate) layout: Layout,
-    pub(crate) index: NameIndex,
+    pub layout: Layout,
+    pub index: NameIndex,
 }
 
 impl Tables {
@@ -46,7 +46,7 @@ impl Tables {
 
 /// The tables of a dictionary over another as its parent, or the fault of such an import. Whether
 /// the session has room for the parent is said; where it has not, none are built.
-pub(crate) fn tables_over(
+pub fn tables_over(
     alloc: Global,
     child: &Loaded,
     parent: &Loaded,

@@ -1,0 +1,180 @@
+-- What calls from C are given. The words are ours; the answers are those of libctf(3LIB).
+use Rattle.std.specs.Prelude.{◌≡◌, ◌⊎◌, ◌+◌, ◌++◌, ℕ, ℤ, Bool, true, false, List, take, drop, length, Option, None, Some, Result, Ok, Err, slice_get, option_map, option_and_then, if◌then◌else◌}
+use Rattle.ctf_model.specs.declared.data_model.DataModel.{DataModel}
+use Rattle.ctf_model.specs.declared.data_model.DataModel.TheVariants.{Lp64, Ilp32}
+use Rattle.ctf_model.specs.declared.faults.Fault.{Fault}
+use Rattle.ctf_model.specs.declared.faults.TheConstants.Fault.{NO_SLOT, NO_MEMBER, NO_PARENT, WRONG_KIND}
+use Rattle.ctf_model.specs.declared.kinds.Kind.{Kind}
+use Rattle.ctf_model.specs.declared.kinds.Kind.TheVariants.{KUnknown, KInteger, KFloat, KPointer, KArray, KFunction, KStruct, KUnion, KEnum, KForward, KTypedef, KVolatile, KConst, KRestrict}
+use Rattle.ctf_model.specs.format.Lists.{Lists}
+use Rattle.ctf_model.specs.format.Shown.{ArrayParts, EncodingParts, Shape, arguments_in, array_in, encoding_in, enumerators_in, list_length, members_in, shape}
+use Rattle.ctf_model.specs.format.Term.{Enumerator, Member, Term}
+use Rattle.ctf_model.specs.rules.Faults.{first_fault}
+use Rattle.ctf_model.specs.rules.Refusals.{placeless, want_of_memory}
+use Rattle.ctf_model.specs.spaces.Kept.{Kept, fault_over, kept_dictionary}
+use Rattle.ctf_model.specs.symbols.SymbolQuestions.{or_refused}
+use Rattle.ctf_c.specs.Served.{Served}
+
+-- ---- statuses
+
+-- the status of a refusal: 0 says that there was none
+abbrev pub status_of : Fault → ℕ
+status_of fault = fault.code + 1
+
+-- what is asked of what is open, if anything is
+abbrev pub asked : {A : Type 0} → Option Served → (Served → Result A Fault) → Result A Fault
+asked None answer = Err (placeless NO_SLOT)
+asked (Some s) answer = answer s
+
+-- a value is given with status 0, or the status of the refusal, and what was there stays
+abbrev pub Gives : {A : Type 0} → Result A Fault → ℕ → A → A → Type 0
+Gives (Ok n) status old new = (status ≡ 0) × (new ≡ n)
+Gives (Err fault) status old new = (status ≡ status_of fault) × (new ≡ old)
+
+-- ---- what is asked
+
+-- the number of a kind in sys/ctf.h
+abbrev pub number_of_kind : Kind → ℕ
+number_of_kind KUnknown = 0
+number_of_kind KInteger = 1
+number_of_kind KFloat = 2
+number_of_kind KPointer = 3
+number_of_kind KArray = 4
+number_of_kind KFunction = 5
+number_of_kind KStruct = 6
+number_of_kind KUnion = 7
+number_of_kind KEnum = 8
+number_of_kind KForward = 9
+number_of_kind KTypedef = 10
+number_of_kind KVolatile = 11
+number_of_kind KConst = 12
+number_of_kind KRestrict = 13
+
+-- 1 for what holds, else 0
+abbrev pub flag : Bool → ℕ
+flag true = 1
+flag false = 0
+
+-- what a type is, if it is there
+abbrev pub shape_of : Result Term Fault → Result Shape Fault
+shape_of (Ok x) = Ok (shape x.body)
+shape_of (Err fault) = Err fault
+
+-- what is said of it
+abbrev pub said_of : {A : Type 0} → (Shape → Result A Fault) → Result Shape Fault → Result A Fault
+said_of says (Ok x) = says x
+said_of says (Err fault) = Err fault
+
+abbrev pub kind_said : Shape → Result ℕ Fault
+kind_said x = Ok (number_of_kind x.kind)
+
+-- how many members, enumerators or arguments it has
+abbrev pub length_said : Shape → Result ℕ Fault
+length_said x = Ok (list_length x.behind)
+
+abbrev pub encoding_said : Shape → Result EncodingParts Fault
+encoding_said x = or_refused WRONG_KIND (encoding_in x.behind)
+
+abbrev pub array_said : Shape → Result ArrayParts Fault
+array_said x = or_refused WRONG_KIND (array_in x.behind)
+
+-- what a function returns
+abbrev pub return_said : Shape → Result ℕ Fault
+return_said x = or_refused WRONG_KIND
+    (option_and_then (λ ret. option_map (λ args. ret) (arguments_in x.behind)) x.reference)
+
+-- an item of a list by its number, from 0, if there is such a list
+abbrev pub item_of : {A : Type 0} → ℕ → Option (List A) → Result A Fault
+item_of index None = Err (placeless WRONG_KIND)
+item_of index (Some items) = or_refused NO_MEMBER (slice_get items index)
+
+abbrev pub member_said : ℕ → Shape → Result Member Fault
+member_said index x = item_of index (members_in x.behind)
+
+abbrev pub enumerator_said : ℕ → Shape → Result Enumerator Fault
+enumerator_said index x = item_of index (enumerators_in x.behind)
+
+abbrev pub argument_said : ℕ → Shape → Result ℕ Fault
+argument_said index x = item_of index (arguments_in x.behind)
+
+-- how many types the parent has
+abbrev pub parent_types : Served → Result ℕ Fault
+parent_types s = or_refused NO_PARENT (option_map (λ p. length (kept_dictionary p).terms) s.parent)
+
+-- ---- texts
+
+-- some bytes over the front of others, as much as fits
+abbrev pub written_over : List ℕ → List ℕ → List ℕ
+written_over from to = take (length to) from ++ drop (length from) to
+
+-- a text and its length
+pub record Told : Type 0 where
+  pub text : List ℕ
+  pub len : ℕ
+
+-- as much of a text as fits, and its whole length
+abbrev pub told : List ℕ → Told → Told
+told text old = record { text = written_over text old.text; len = length text }
+
+-- a text is given as far as it fits, with its length, or what was there stays
+abbrev pub GivesText : Result (List ℕ) Fault → ℕ → Told → Told → Type 0
+GivesText (Ok text) status old new = (status ≡ 0) × (new ≡ told text old)
+GivesText (Err fault) status old new = (status ≡ status_of fault) × (new ≡ old)
+
+-- the same where memory may be refused
+abbrev pub MayGiveText : Result (List ℕ) Fault → ℕ → Told → Told → Type 0
+MayGiveText text status old new =
+    GivesText text status old new ⊎ GivesText (Err want_of_memory) status old new
+
+-- a member apart from its name, whose length it has
+pub record MemberTold : Type 0 where
+  pub offset : ℕ
+  pub name_len : ℕ
+  pub tnum : ℕ
+
+abbrev pub GivesMember : Result Member Fault → ℕ → List ℕ → List ℕ → MemberTold → MemberTold → Type 0
+GivesMember (Ok m) status old new was is =
+    (status ≡ 0) × (new ≡ written_over m.name old)
+    × (is ≡ record { offset = m.offset; name_len = length m.name; tnum = m.tnum })
+GivesMember (Err fault) status old new was is =
+    (status ≡ status_of fault) × (new ≡ old) × (is ≡ was)
+
+abbrev pub GivesEnumerator : Result Enumerator Fault → ℕ → Told → Told → ℤ → ℤ → Type 0
+GivesEnumerator (Ok e) status old new was is = (status ≡ 0) × (new ≡ told e.name old) × (is ≡ e.value)
+GivesEnumerator (Err fault) status old new was is =
+    (status ≡ status_of fault) × (new ≡ old) × (is ≡ was)
+
+-- ---- what is opened and imported
+
+-- a list, if it is there
+abbrev pub list_if : Bool → List ℕ → Option (List ℕ)
+list_if true list = Some list
+list_if false list = None
+
+abbrev pub model_if : Bool → DataModel
+model_if true = Ilp32
+model_if false = Lp64
+
+-- why lists were not opened: memory was refused, or it is their first fault
+abbrev pub Refuses : Option Fault → Fault → Type 0
+Refuses fault f = (f ≡ want_of_memory) ⊎ (fault ≡ Some f)
+
+-- a change was made, or why it was not is told, and what was open stays
+abbrev pub Changes : Option Fault → ℕ → ℕ → Option Served → Option Served → Option Served → Type 0
+Changes fault status place old changed new =
+    ((status ≡ 0) × (fault ≡ None) × (new ≡ changed))
+    ⊎ ((f : Fault) × (Refuses fault f × (status ≡ status_of f) × (place ≡ f.place) × (new ≡ old)))
+
+-- a dictionary was opened in place of what was open
+abbrev pub Opens : Kept → ℕ → ℕ → Option Served → Option Served → Type 0
+Opens kept status place old new =
+    Changes (first_fault kept.lists) status place old (Some (record { own = kept; parent = None })) new
+
+-- a parent was imported
+abbrev pub Imports : Option Served → Option Served → ℕ → ℕ → Option Served → Type 0
+Imports None parent status place new = (status ≡ status_of (placeless NO_SLOT)) × (new ≡ None)
+Imports (Some child) None status place new =
+    (status ≡ status_of (placeless NO_SLOT)) × (new ≡ Some child)
+Imports (Some child) (Some parent) status place new =
+    Changes (fault_over child.own parent.own) status place (Some child)
+    (Some (record { own = child.own; parent = Some parent.own })) new

@@ -1,0 +1,350 @@
+//! What is answered of what is open.
+ghost use Rattle.std.specs.Prelude.{◌≡◌, ◌⊎◌, [], ◌∷◌, Ok, Err, IfOk, IfErr, length};
+ghost use Rattle.std.specs.Result.{result_map_both};
+ghost use Rattle.ctf_c.specs.Given.{argument_said, array_said, encoding_said, enumerator_said, kind_said, length_said, member_said, parent_types, return_said, said_of, shape_of};
+ghost use Rattle.ctf_c.specs.Served.{own_in, space_in};
+ghost use Rattle.ctf_check.specs.FactsView.{shape_seen};
+ghost use Rattle.ctf_layout.specs.Reached.{position_of};
+ghost use Rattle.ctf_model.specs.figures.Figures.{align as align_of, reference as reference_of, resolved, size as size_of};
+ghost use Rattle.ctf_model.specs.figures.Paths.{path as path_to};
+ghost use Rattle.ctf_model.specs.names.Found.{found, pointer_to as pointer_of};
+ghost use Rattle.ctf_model.specs.names.TypeNames.{spelled_name};
+ghost use Rattle.ctf_model.specs.rules.Refusals.{want_of_memory};
+ghost use Rattle.ctf_model.specs.spaces.Space.{space_type};
+ghost use Rattle.ctf_model.specs.symbols.SymbolQuestions.{by_name, label_of, object_of};
+ghost use Rattle.ctf_model.specs.values.Values.{value_text};
+ghost use Rattle.ctf_space.specs.TypeView.{name_in};
+ghost use Rattle.ctf_views.specs.ItemsView.{enumerator as enumerator_seen, member as member_seen};
+ghost use Rattle.ctf_views.specs.PartsView.{array_info, encoding_info};
+
+use crate::given::kind_number;
+use crate::session::Session;
+use ctf_check::Shape;
+use ctf_layout::{path, reference, resolve};
+use ctf_model::{Bytes, Fault, TypeNum, placeless};
+use ctf_names::{find, pointer_to, spell};
+use ctf_print::show;
+use ctf_views::{ArrayInfo, Encoding, Enumerator, Member, Variant};
+use std::alloc::Global;
+
+/// The number of a kind, as a shape has it.
+fn kind_of(x: Shape<'_>) -> Result<u32, Fault>
+    ensures { result ≡ kind_said (shape_seen x.entry) }
+{
+    Ok(kind_number(x.kind))
+}
+
+/// How many members, enumerators or arguments there are.
+fn length_of(x: Shape<'_>) -> Result<u64, Fault>
+    ensures { result ≡ length_said (shape_seen x.entry) }
+{
+    Ok(match x.behind {
+        Variant::Members(members) => members.len() as u64,
+        Variant::Enumerators(enumerators) => enumerators.len() as u64,
+        Variant::Args(args) => args.len() as u64,
+        _ => 0,
+    })
+}
+
+fn encoding_of(x: Shape<'_>) -> Result<Encoding, Fault>
+    ensures { result_map_both encoding_info (λ f. f) result ≡ encoding_said (shape_seen x.entry) }
+{
+    match x.behind {
+        Variant::Encoding(info) => Ok(info),
+        _ => Err(placeless(Fault::WRONG_KIND)),
+    }
+}
+
+fn array_of(x: Shape<'_>) -> Result<ArrayInfo, Fault>
+    ensures { result_map_both array_info (λ f. f) result ≡ array_said (shape_seen x.entry) }
+{
+    match x.behind {
+        Variant::Array(info) => Ok(info),
+        _ => Err(placeless(Fault::WRONG_KIND)),
+    }
+}
+
+fn return_of(x: Shape<'_>) -> Result<TypeNum, Fault>
+    ensures { result_map_both (λ t. t.0) (λ f. f) result ≡ return_said (shape_seen x.entry) }
+{
+    match (x.behind, x.reference) {
+        (Variant::Args(_), Some(to)) => Ok(to),
+        _ => Err(placeless(Fault::WRONG_KIND)),
+    }
+}
+
+fn member_of(x: Shape<'_>, index: usize) -> Result<Member<'_>, Fault>
+    ensures { result_map_both member_seen (λ f. f) result
+        ≡ member_said index (shape_seen x.entry) }
+{
+    match x.behind {
+        Variant::Members(members) => match members.get(index) {
+            Some(member) => Ok(member),
+            None => Err(placeless(Fault::NO_MEMBER)),
+        },
+        _ => Err(placeless(Fault::WRONG_KIND)),
+    }
+}
+
+fn enumerator_of(x: Shape<'_>, index: usize) -> Result<Enumerator<'_>, Fault>
+    ensures { result_map_both enumerator_seen (λ f. f) result
+        ≡ enumerator_said index (shape_seen x.entry) }
+{
+    match x.behind {
+        Variant::Enumerators(enumerators) => match enumerators.get(index) {
+            Some(enumerator) => Ok(enumerator),
+            None => Err(placeless(Fault::NO_MEMBER)),
+        },
+        _ => Err(placeless(Fault::WRONG_KIND)),
+    }
+}
+
+fn argument_of(x: Shape<'_>, index: usize) -> Result<TypeNum, Fault>
+    ensures { result_map_both (λ t. t.0) (λ f. f) result
+        ≡ argument_said index (shape_seen x.entry) }
+{
+    match x.behind {
+        Variant::Args(args) => match args.get(index) {
+            Some(argument) => Ok(argument),
+            None => Err(placeless(Fault::NO_MEMBER)),
+        },
+        _ => Err(placeless(Fault::WRONG_KIND)),
+    }
+}
+
+impl Session {
+    /// The number of the dictionary's own types.
+    pub fn count(&self) -> u64
+        ensures { result ≡ length (own_in self.now).terms }
+    {
+        self.dictionary().count() as u64
+    }
+
+    /// Whether its low type numbers are those of a parent.
+    pub fn child(&self) -> bool
+        ensures { result ≡ (own_in self.now).child }
+    {
+        self.dictionary().child()
+    }
+
+    /// How many types its parent has.
+    pub fn parent_count(&self) -> Result<u64, Fault>
+        ensures { result ≡ parent_types self.now }
+    {
+        match self.space().parent_count() {
+            Some(count) => Ok(count as u64),
+            None => Err(placeless(Fault::NO_PARENT)),
+        }
+    }
+
+    /// What a type is, apart from its name.
+    fn shape(&self, t: TypeNum) -> Result<Shape<'_>, Fault>
+        ensures { result_map_both shape_seen (λ f. f) result
+            ≡ shape_of (space_type (space_in self.now) t.0) }
+    {
+        match self.space().term(t) {
+            Ok(found) => Ok(found.shape()),
+            Err(fault) => Err(fault),
+        }
+    }
+
+    /// The number of a type's kind in sys/ctf.h.
+    pub fn kind(&self, t: TypeNum) -> Result<u32, Fault>
+        ensures { result
+            ≡ said_of kind_said (shape_of (space_type (space_in self.now) t.0)) }
+    {
+        match self.shape(t) {
+            Ok(x) => kind_of(x),
+            Err(fault) => Err(fault),
+        }
+    }
+
+    /// How many members, enumerators or arguments a type has.
+    pub fn length(&self, t: TypeNum) -> Result<u64, Fault>
+        ensures { result
+            ≡ said_of length_said (shape_of (space_type (space_in self.now) t.0)) }
+    {
+        match self.shape(t) {
+            Ok(x) => length_of(x),
+            Err(fault) => Err(fault),
+        }
+    }
+
+    /// How an integer or a float is encoded.
+    pub fn encoding(&self, t: TypeNum) -> Result<Encoding, Fault>
+        ensures { result_map_both encoding_info (λ f. f) result
+            ≡ said_of encoding_said (shape_of (space_type (space_in self.now) t.0)) }
+    {
+        match self.shape(t) {
+            Ok(x) => encoding_of(x),
+            Err(fault) => Err(fault),
+        }
+    }
+
+    /// What an array holds.
+    pub fn array(&self, t: TypeNum) -> Result<ArrayInfo, Fault>
+        ensures { result_map_both array_info (λ f. f) result
+            ≡ said_of array_said (shape_of (space_type (space_in self.now) t.0)) }
+    {
+        match self.shape(t) {
+            Ok(x) => array_of(x),
+            Err(fault) => Err(fault),
+        }
+    }
+
+    /// What a function type returns.
+    pub fn returned(&self, t: TypeNum) -> Result<TypeNum, Fault>
+        ensures { result_map_both (λ t. t.0) (λ f. f) result
+            ≡ said_of return_said (shape_of (space_type (space_in self.now) t.0)) }
+    {
+        match self.shape(t) {
+            Ok(x) => return_of(x),
+            Err(fault) => Err(fault),
+        }
+    }
+
+    /// A member of a struct or union, from 0. Its name is lent.
+    pub fn member(&self, t: TypeNum, index: usize) -> Result<Member<'_>, Fault>
+        ensures { result_map_both member_seen (λ f. f) result
+            ≡ said_of (member_said index) (shape_of (space_type (space_in self.now) t.0)) }
+    {
+        match self.shape(t) {
+            Ok(x) => member_of(x, index),
+            Err(fault) => Err(fault),
+        }
+    }
+
+    /// An enumerator of an enum, from 0. Its name is lent.
+    pub fn enumerator(&self, t: TypeNum, index: usize) -> Result<Enumerator<'_>, Fault>
+        ensures { result_map_both enumerator_seen (λ f. f) result
+            ≡ said_of (enumerator_said index) (shape_of (space_type (space_in self.now) t.0)) }
+    {
+        match self.shape(t) {
+            Ok(x) => enumerator_of(x, index),
+            Err(fault) => Err(fault),
+        }
+    }
+
+    /// An argument of a function type, from 0, as it is stored.
+    pub fn argument(&self, t: TypeNum, index: usize) -> Result<TypeNum, Fault>
+        ensures { result_map_both (λ t. t.0) (λ f. f) result
+            ≡ said_of (argument_said index) (shape_of (space_type (space_in self.now) t.0)) }
+    {
+        match self.shape(t) {
+            Ok(x) => argument_of(x, index),
+            Err(fault) => Err(fault),
+        }
+    }
+
+    /// The name that a type's record has.
+    pub fn declared_name(&self, t: TypeNum) -> Result<&[u8], Fault>
+        ensures { result_map_both (λ n. n.now) (λ f. f) result
+            ≡ name_in (space_type (space_in self.now) t.0) }
+    {
+        self.space().name(t)
+    }
+
+    pub fn size(&self, t: TypeNum) -> Result<u64, Fault>
+        ensures { result ≡ size_of (space_in self.now) t.0 }
+    {
+        self.tables().layout.size(t)
+    }
+
+    pub fn align(&self, t: TypeNum) -> Result<u64, Fault>
+        ensures { result ≡ align_of (space_in self.now) t.0 }
+    {
+        self.tables().layout.align(t)
+    }
+
+    /// The type that a type stands for, along typedefs and qualifiers.
+    pub fn resolve(&self, t: TypeNum) -> Result<TypeNum, Fault>
+        ensures { result_map_both (λ t. t.0) (λ f. f) result ≡ resolved (space_in self.now) t.0 }
+    {
+        resolve(&self.space(), t)
+    }
+
+    /// The type that a type points to, renames or qualifies.
+    pub fn reference(&self, t: TypeNum) -> Result<TypeNum, Fault>
+        ensures { result_map_both (λ t. t.0) (λ f. f) result
+            ≡ reference_of (space_in self.now) t.0 }
+    {
+        reference(&self.space(), t)
+    }
+
+    /// The least pointer to a type.
+    pub fn pointer(&self, t: TypeNum) -> Result<TypeNum, Fault>
+        ensures { result_map_both (λ t. t.0) (λ f. f) result ≡ pointer_of (space_in self.now) t.0 }
+    {
+        pointer_to(&self.space(), &self.tables().index, t)
+    }
+
+    /// The type that a written name finds.
+    pub fn find(&self, text: &[u8]) -> Result<TypeNum, Fault>
+        ensures { result_map_both (λ t. t.0) (λ f. f) result ≡ found (space_in self.now) text.now }
+    {
+        find(&self.space(), &self.tables().index, text)
+    }
+
+    /// Where the first member of a name lies, and its type.
+    pub fn field(&self, t: TypeNum, name: &[u8]) -> Result<(u64, TypeNum), Fault>
+        ensures { result_map_both position_of (λ f. f) result
+            ≡ path_to (space_in self.now) t.0 (name.now ∷ []) }
+    {
+        path(&self.space(), t, &[name])
+    }
+
+    /// The type of an object of the program, by the number of its symbol.
+    pub fn object(&self, number: u32) -> Result<TypeNum, Fault>
+        ensures { result_map_both (λ t. t.0) (λ f. f) result ≡ object_of (own_in self.now) number }
+    {
+        self.symbols().object(&self.dictionary(), number)
+    }
+
+    /// The number of the first symbol of a name.
+    pub fn symbol(&self, name: &[u8]) -> Result<u32, Fault>
+        ensures { result ≡ by_name (own_in self.now) name.now }
+    {
+        self.symbols().by_name(&self.dictionary(), name)
+    }
+
+    /// The last type of the first label of a name.
+    pub fn label(&self, name: &[u8]) -> Result<u32, Fault>
+        ensures { result ≡ label_of (own_in self.now) name.now }
+    {
+        self.symbols().label(&self.dictionary(), name)
+    }
+
+    /// The name of a type, as C spells it.
+    pub fn name(&self, alloc: Global, t: TypeNum) -> Result<Bytes, Fault>
+        ensures ok { IfOk result (λ text. spelled_name (space_in self.now) t.0 ≡ Ok text) }
+        ensures exact_err { IfErr result (λ f. (f ≡ want_of_memory)
+            ⊎ (spelled_name (space_in self.now) t.0 ≡ Err f)) }
+    {
+        let mut text = Vec::new(alloc);
+        match spell(alloc, &self.space(), t, &mut text) {
+            Ok(()) => Ok(Bytes::from(text)),
+            Err(fault) => Err(fault),
+        }
+    }
+
+    /// What a value of a type shows, in memory and from a bit on.
+    pub fn show(
+        &self,
+        alloc: Global,
+        t: TypeNum,
+        memory: &[u8],
+        offset: u64,
+    ) -> Result<Bytes, Fault>
+        ensures ok { IfOk result (λ text.
+            value_text (space_in self.now) memory.now t.0 offset ≡ Ok text) }
+        ensures exact_err { IfErr result (λ f. (f ≡ want_of_memory)
+            ⊎ (value_text (space_in self.now) memory.now t.0 offset ≡ Err f)) }
+    {
+        let mut text = Vec::new(alloc);
+        let layout = &self.tables().layout;
+        match show(alloc, &self.space(), layout, t, memory, offset, &mut text) {
+            Ok(()) => Ok(Bytes::from(text)),
+            Err(fault) => Err(fault),
+        }
+    }
+}

@@ -1,0 +1,124 @@
+//! Exports that answer several numbers of a type.
+ghost use Rattle.std.specs.Prelude.{◌≡◌, [], ◌∷◌};
+ghost use Rattle.ctf_c.specs.Given.{Gives, array_said, asked, encoding_said, said_of, shape_of};
+ghost use Rattle.ctf_c.specs.Served.{space_in};
+ghost use Rattle.ctf_model.specs.figures.Paths.{path as path_to};
+ghost use Rattle.ctf_model.specs.spaces.Space.{space_type};
+
+use crate::given::{NOT_OPEN, status};
+use crate::handle::Handle;
+use ctf_model::TypeNum;
+use std::alloc::Global;
+
+/// How an integer or a float is encoded: `struct ctfd_encoding`.
+#[repr(C)]
+#[derive(Drop)]
+pub struct GivenEncoding {
+    pub encoding: u32,
+    pub offset: u32,
+    pub bits: u32,
+}
+
+/// What an array holds: `struct ctfd_array`.
+#[repr(C)]
+#[derive(Drop)]
+pub struct GivenArray {
+    pub count: u32,
+    pub contents: u16,
+    pub index: u16,
+}
+
+/// How an integer or a float is encoded.
+#[unsafe(no_mangle)]
+pub extern "C" fn ctfd_encoding(
+    alloc: Global,
+    handle: &mut Handle,
+    t: u16,
+    out: &mut GivenEncoding,
+) -> u32
+    ensures same { handle.new.held.session ≡ handle.old.held.session }
+    ensures answer { Gives (asked handle.old.held.session (λ s.
+        said_of encoding_said (shape_of (space_type (space_in s) t)))) result
+        (record { encoding = out.old.encoding; offset = out.old.offset; bits = out.old.bits })
+        (record { encoding = out.new.encoding; offset = out.new.offset; bits = out.new.bits }) }
+{
+    let Some(session) = handle.take(alloc) else {
+        return NOT_OPEN;
+    };
+    let given = match session.encoding(TypeNum(t)) {
+        Ok(info) => {
+            *out = GivenEncoding {
+                encoding: u32::from(info.encoding),
+                offset: u32::from(info.offset),
+                bits: u32::from(info.bits),
+            };
+            0
+        }
+        Err(fault) => status(fault),
+    };
+    *handle = Handle::of(session);
+    given
+}
+
+/// What an array holds.
+#[unsafe(no_mangle)]
+pub extern "C" fn ctfd_array(
+    alloc: Global,
+    handle: &mut Handle,
+    t: u16,
+    out: &mut GivenArray,
+) -> u32
+    ensures same { handle.new.held.session ≡ handle.old.held.session }
+    ensures answer { Gives (asked handle.old.held.session (λ s.
+        said_of array_said (shape_of (space_type (space_in s) t)))) result
+        (record { contents = out.old.contents; index = out.old.index; count = out.old.count })
+        (record { contents = out.new.contents; index = out.new.index; count = out.new.count }) }
+{
+    let Some(session) = handle.take(alloc) else {
+        return NOT_OPEN;
+    };
+    let given = match session.array(TypeNum(t)) {
+        Ok(info) => {
+            *out = GivenArray {
+                count: info.count,
+                contents: info.contents.0,
+                index: info.index.0,
+            };
+            0
+        }
+        Err(fault) => status(fault),
+    };
+    *handle = Handle::of(session);
+    given
+}
+
+/// Where the first member of a name lies in a struct or union, in bits, and its type.
+#[unsafe(no_mangle)]
+pub extern "C" fn ctfd_field(
+    alloc: Global,
+    handle: &mut Handle,
+    t: u16,
+    name: &[u8],
+    offset: &mut u64,
+    to: &mut u16,
+) -> u32
+    ensures same { handle.new.held.session ≡ handle.old.held.session }
+    ensures answer { Gives (asked handle.old.held.session (λ s.
+        path_to (space_in s) t (name.now ∷ []))) result
+        (record { offset = offset.old; tnum = to.old })
+        (record { offset = offset.new; tnum = to.new }) }
+{
+    let Some(session) = handle.take(alloc) else {
+        return NOT_OPEN;
+    };
+    let given = match session.field(TypeNum(t), name) {
+        Ok((at, found)) => {
+            *offset = at;
+            *to = found.0;
+            0
+        }
+        Err(fault) => status(fault),
+    };
+    *handle = Handle::of(session);
+    given
+}

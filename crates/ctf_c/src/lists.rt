@@ -1,0 +1,87 @@
+//! Exports that answer an item of a list.
+ghost use Rattle.std.specs.Prelude.{◌≡◌};
+ghost use Rattle.ctf_c.specs.Given.{GivesEnumerator, GivesMember, asked, enumerator_said, member_said, said_of, shape_of};
+ghost use Rattle.ctf_c.specs.Served.{space_in};
+ghost use Rattle.ctf_model.specs.spaces.Space.{space_type};
+
+use crate::given::{NOT_OPEN, status, write_front};
+use crate::handle::Handle;
+use ctf_model::TypeNum;
+use std::alloc::Global;
+
+/// A member, apart from its name: `struct ctfd_member`. The offset is in bits.
+#[repr(C)]
+#[derive(Drop)]
+pub struct GivenMember {
+    pub offset: u64,
+    pub name_len: u64,
+    pub tnum: u16,
+}
+
+/// A member of a struct or union, from 0. As much of its name is written as fits.
+#[unsafe(no_mangle)]
+pub extern "C" fn ctfd_member(
+    alloc: Global,
+    handle: &mut Handle,
+    t: u16,
+    index: usize,
+    name: &mut [u8],
+    out: &mut GivenMember,
+) -> u32
+    ensures same { handle.new.held.session ≡ handle.old.held.session }
+    ensures answer { GivesMember (asked handle.old.held.session (λ s.
+        said_of (member_said index) (shape_of (space_type (space_in s) t)))) result name.old name.new
+        (record { offset = out.old.offset; name_len = out.old.name_len; tnum = out.old.tnum })
+        (record { offset = out.new.offset; name_len = out.new.name_len; tnum = out.new.tnum }) }
+{
+    let Some(session) = handle.take(alloc) else {
+        return NOT_OPEN;
+    };
+    let given = match session.member(TypeNum(t), index) {
+        Ok(member) => {
+            write_front(member.name, name);
+            *out = GivenMember {
+                offset: member.offset,
+                name_len: member.name.len() as u64,
+                tnum: member.tnum.0,
+            };
+            0
+        }
+        Err(fault) => status(fault),
+    };
+    *handle = Handle::of(session);
+    given
+}
+
+/// An enumerator of an enum, from 0. As much of its name is written as fits.
+#[unsafe(no_mangle)]
+pub extern "C" fn ctfd_enumerator(
+    alloc: Global,
+    handle: &mut Handle,
+    t: u16,
+    index: usize,
+    name: &mut [u8],
+    value: &mut i32,
+    len: &mut u64,
+) -> u32
+    ensures same { handle.new.held.session ≡ handle.old.held.session }
+    ensures answer { GivesEnumerator (asked handle.old.held.session (λ s.
+        said_of (enumerator_said index) (shape_of (space_type (space_in s) t)))) result
+        (record { text = name.old; len = len.old }) (record { text = name.new; len = len.new })
+        value.old value.new }
+{
+    let Some(session) = handle.take(alloc) else {
+        return NOT_OPEN;
+    };
+    let given = match session.enumerator(TypeNum(t), index) {
+        Ok(enumerator) => {
+            write_front(enumerator.name, name);
+            *value = enumerator.value;
+            *len = enumerator.name.len() as u64;
+            0
+        }
+        Err(fault) => status(fault),
+    };
+    *handle = Handle::of(session);
+    given
+}

@@ -1,0 +1,131 @@
+//! Exports that open, close and import.
+ghost use Rattle.std.specs.Prelude.{◌≡◌, None, IfOk, IfErr, OnOk, option_copied};
+ghost use Rattle.ctf_c.specs.Given.{Imports, Opens, Refuses, list_if as list_there, model_if};
+ghost use Rattle.ctf_model.specs.rules.Faults.{first_fault};
+
+use crate::given::{NOT_OPEN, list_if, model_of, status};
+use crate::handle::Handle;
+use crate::session::Session;
+use ctf_model::{DataModel, Fault, placeless};
+use std::alloc::Global;
+
+/// A session on the heap.
+fn opened(
+    alloc: Global,
+    ctf: &[u8],
+    sym: Option<&[u8]>,
+    strs: Option<&[u8]>,
+    model: DataModel,
+) -> Result<Box<Session>, Fault>
+    ensures ok { IfOk result (λ s. s.value ≡ record {
+      own = record {
+        lists = record {
+          ctf = ctf.now;
+          sym = option_copied sym.entry;
+          strs = option_copied strs.entry;
+        };
+        model = model;
+      };
+      parent = None;
+    }) }
+    ensures exact_ok { OnOk result (first_fault (record {
+      ctf = ctf.now;
+      sym = option_copied sym.entry;
+      strs = option_copied strs.entry;
+    }) ≡ None) }
+    ensures exact_err { IfErr result (λ f. Refuses (first_fault (record {
+      ctf = ctf.now;
+      sym = option_copied sym.entry;
+      strs = option_copied strs.entry;
+    })) f) }
+{
+    match Session::open(alloc, ctf, sym, strs, model) {
+        Ok(session) => match Box::new(alloc, session) {
+            Ok(session) => Ok(session),
+            Err(_) => Err(placeless(Fault::MEMORY)),
+        },
+        Err(fault) => Err(fault),
+    }
+}
+
+/// Opens a dictionary from copies of its lists, in place of what was open. Where it is refused,
+/// `place` says where its fault is, and what was open stays.
+#[unsafe(no_mangle)]
+pub extern "C" fn ctfd_open(
+    alloc: Global,
+    handle: &mut Handle,
+    ctf: &[u8],
+    sym: &[u8],
+    strs: &[u8],
+    has_sym: bool,
+    has_strs: bool,
+    ilp32: bool,
+    place: &mut u64,
+) -> u32
+    ensures { Opens (record {
+      lists = record {
+        ctf = ctf.now;
+        sym = list_there has_sym sym.now;
+        strs = list_there has_strs strs.now;
+      };
+      model = model_if ilp32;
+    }) result place.new handle.old.held.session handle.new.held.session }
+{
+    let model = model_of(ilp32);
+    match opened(
+        alloc,
+        ctf,
+        list_if(has_sym, sym),
+        list_if(has_strs, strs),
+        model,
+    ) {
+        Ok(session) => {
+            drop(handle.take(alloc));
+            *handle = Handle::of(session);
+            0
+        }
+        Err(fault) => {
+            *place = fault.place;
+            status(fault)
+        }
+    }
+}
+
+/// Closes what is open.
+#[unsafe(no_mangle)]
+pub extern "C" fn ctfd_close(alloc: Global, handle: &mut Handle)
+    ensures { handle.new.held.session ≡ None }
+{
+    drop(handle.take(alloc));
+}
+
+/// Imports what is open in another handle as the parent. They share it. A refusal changes nothing.
+#[unsafe(no_mangle)]
+pub extern "C" fn ctfd_import(
+    alloc: Global,
+    handle: &mut Handle,
+    parent: &mut Handle,
+    place: &mut u64,
+) -> u32
+    ensures parent { parent.new.held.session ≡ parent.old.held.session }
+    ensures answer { Imports handle.old.held.session parent.old.held.session result place.new
+        handle.new.held.session }
+{
+    let Some(mut child) = handle.take(alloc) else {
+        return NOT_OPEN;
+    };
+    let Some(source) = parent.take(alloc) else {
+        *handle = Handle::of(child);
+        return NOT_OPEN;
+    };
+    let outcome = child.import(alloc, &source);
+    *handle = Handle::of(child);
+    *parent = Handle::of(source);
+    match outcome {
+        Ok(()) => 0,
+        Err(fault) => {
+            *place = fault.place;
+            status(fault)
+        }
+    }
+}

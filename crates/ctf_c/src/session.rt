@@ -1,0 +1,182 @@
+//! What is open behind a handle: a dictionary, and the parent that it imported.
+ghost use Rattle.std.specs.Prelude.{◌≡◌, ◌⊎◌, None, Some, IfOk, IfErr, OnOk, option_copied, option_map};
+ghost use Rattle.std.specs.Option.{ForSome};
+ghost use Rattle.ctf_c.specs.Given.{Refuses};
+ghost use Rattle.ctf_c.specs.Served.{Served, own_in, space_in};
+ghost use Rattle.ctf_check.specs.CheckedView.{dictionary_of, lists_of};
+ghost use Rattle.ctf_library.specs.Fitting.{AreTablesOf};
+ghost use Rattle.ctf_model.specs.format.OwnedLists.{lists_owned};
+ghost use Rattle.ctf_model.specs.rules.Faults.{first_fault};
+ghost use Rattle.ctf_model.specs.rules.Refusals.{want_of_memory};
+ghost use Rattle.ctf_model.specs.spaces.Kept.{fault_over};
+ghost use Rattle.ctf_space.specs.SpaceView.{own_lists, parent_lists, space_of};
+ghost use Rattle.ctf_symbols.specs.Fitting.{Fits};
+
+use ctf_check::Checked;
+use ctf_library::{Loaded, Tables, tables_over};
+use ctf_model::{Bytes, DataModel, Fault, Parts, placeless};
+use ctf_space::Space;
+use ctf_symbols::SymbolMap;
+use std::alloc::{AllocError, Global};
+use std::marker::Model;
+
+/// The parent that was imported, and the tables of the dictionary over it.
+#[derive(Drop)]
+pub struct Imported {
+    parent: Loaded,
+    tables: Tables,
+}
+
+/// A dictionary that was opened, and its parent if it imported one. They may be shared with other
+/// sessions.
+#[derive(Drop)]
+pub struct Session {
+    own: Loaded,
+    imported: Option<Imported>,
+}
+
+impl Model for Session {
+    ghost use Rattle.std.specs.Prelude.{◌≡◌, None, Some, option_map};
+    ghost use Rattle.std.specs.Option.{ForSome};
+    ghost use Rattle.ctf_c.specs.Served.{Served};
+    ghost use Rattle.ctf_library.specs.Fitting.{AreTablesOf};
+    ghost use Rattle.ctf_model.specs.spaces.Kept.{fault_over};
+
+    ghost Value = { Served };
+
+    ghost view = { λ s. record { own = s.own; parent = option_map (λ i. i.parent) s.imported } };
+
+    ghost invariant = { λ s. ForSome s.imported (λ i. fault_over s.own i.parent ≡ None)
+        × ForSome s.imported (λ i. AreTablesOf s.own (Some i.parent) i.tables) };
+}
+
+/// A copy of a list, if it is there.
+fn copied(alloc: Global, list: Option<&[u8]>) -> Result<Option<Bytes>, AllocError>
+    ensures { IfOk result (λ copy. copy ≡ option_copied list.entry) }
+{
+    match list {
+        Some(bytes) => Ok(Some(Bytes::from_slice(alloc, bytes)?)),
+        None => Ok(None),
+    }
+}
+
+/// Copies of the lists.
+fn parts_of(
+    alloc: Global,
+    ctf: &[u8],
+    sym: Option<&[u8]>,
+    strs: Option<&[u8]>,
+) -> Result<Parts, AllocError>
+    ensures { IfOk result (λ p. lists_owned p
+        ≡ record { ctf = ctf.now; sym = option_copied sym.entry; strs = option_copied strs.entry }) }
+{
+    Ok(Parts {
+        ctf: Bytes::from_slice(alloc, ctf)?,
+        sym: copied(alloc, sym)?,
+        strs: copied(alloc, strs)?,
+    })
+}
+
+impl Session {
+    /// Judges copies of the lists, and keeps them, or tells their first fault.
+    pub fn open(
+        alloc: Global,
+        ctf: &[u8],
+        sym: Option<&[u8]>,
+        strs: Option<&[u8]>,
+        model: DataModel,
+    ) -> Result<Session, Fault>
+        ensures ok { IfOk result (λ s. s ≡ record {
+          own = record {
+            lists = record {
+              ctf = ctf.now;
+              sym = option_copied sym.entry;
+              strs = option_copied strs.entry;
+            };
+            model = model;
+          };
+          parent = None;
+        }) }
+        ensures exact_ok { OnOk result (first_fault (record {
+          ctf = ctf.now;
+          sym = option_copied sym.entry;
+          strs = option_copied strs.entry;
+        }) ≡ None) }
+        ensures exact_err { IfErr result (λ f. Refuses (first_fault (record {
+          ctf = ctf.now;
+          sym = option_copied sym.entry;
+          strs = option_copied strs.entry;
+        })) f) }
+    {
+        let Ok(parts) = parts_of(alloc, ctf, sym, strs) else {
+            return Err(placeless(Fault::MEMORY));
+        };
+        match Loaded::build(alloc, parts, model) {
+            Ok(own) => Ok(Session {
+                own,
+                imported: None,
+            }),
+            Err((fault, _)) => Err(fault),
+        }
+    }
+
+    /// Imports the dictionary of another session as its parent, which they share. A refusal changes
+    /// nothing.
+    pub fn import(&mut self, alloc: Global, parent: &Session) -> Result<(), Fault>
+        ensures ok { OnOk result (self.new
+            ≡ record { own = self.old.own; parent = Some parent.now.own }) }
+        ensures exact_ok { OnOk result (fault_over self.old.own parent.now.own ≡ None) }
+        ensures exact_err { IfErr result (λ f.
+            Refuses (fault_over self.old.own parent.now.own) f) }
+        ensures kept { IfErr result (λ f. self.new ≡ self.old) }
+    {
+        let tables = match tables_over(alloc, &self.own, &parent.own, true) {
+            Ok(tables) => tables,
+            Err(fault) => return Err(fault),
+        };
+        let Ok(parent) = parent.own.share() else {
+            return Err(placeless(Fault::MEMORY));
+        };
+        self.imported = Some(Imported { parent, tables });
+        Ok(())
+    }
+
+    /// What its questions see.
+    pub fn space(&self) -> Space<'_>
+        ensures space { space_of result ≡ space_in self.now }
+        ensures lists { own_lists result ≡ self.now.own.lists }
+        ensures parent { parent_lists result ≡ option_map (λ p. p.lists) self.now.parent }
+    {
+        let own = self.own.view();
+        let model = self.own.model();
+        match &self.imported {
+            Some(imported) => Space::again(own, imported.parent.view(), model),
+            None => Space::own(own, model),
+        }
+    }
+
+    /// The tables of what its questions see.
+    pub fn tables(&self) -> &Tables
+        ensures { AreTablesOf self.now.own self.now.parent result.now }
+    {
+        match &self.imported {
+            Some(imported) => &imported.tables,
+            None => self.own.tables(),
+        }
+    }
+
+    /// The dictionary itself.
+    pub fn dictionary(&self) -> Checked<'_>
+        ensures lists { lists_of result ≡ self.now.own.lists }
+        ensures own { dictionary_of result ≡ own_in self.now }
+    {
+        self.own.view()
+    }
+
+    /// The map of its symbols and labels.
+    pub fn symbols(&self) -> &SymbolMap
+        ensures { Fits self.now.own.lists result.now }
+    {
+        self.own.symbols()
+    }
+}

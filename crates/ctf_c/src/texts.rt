@@ -1,0 +1,96 @@
+//! Exports that answer a text.
+ghost use Rattle.std.specs.Prelude.{◌≡◌};
+ghost use Rattle.ctf_c.specs.Given.{GivesText, MayGiveText, asked};
+ghost use Rattle.ctf_c.specs.Served.{space_in};
+ghost use Rattle.ctf_model.specs.names.TypeNames.{spelled_name};
+ghost use Rattle.ctf_model.specs.spaces.Space.{space_type};
+ghost use Rattle.ctf_model.specs.values.Values.{value_text};
+ghost use Rattle.ctf_space.specs.TypeView.{name_in};
+
+use crate::given::{NOT_OPEN, give_text, status, write_front};
+use crate::handle::Handle;
+use ctf_model::TypeNum;
+use std::alloc::Global;
+
+/// The name that a type's record has. As much of it is written as fits.
+#[unsafe(no_mangle)]
+pub extern "C" fn ctfd_declared_name(
+    alloc: Global,
+    handle: &mut Handle,
+    t: u16,
+    text: &mut [u8],
+    len: &mut u64,
+) -> u32
+    ensures same { handle.new.held.session ≡ handle.old.held.session }
+    ensures answer { GivesText (asked handle.old.held.session (λ s. name_in (space_type (space_in s) t))) result
+        (record { text = text.old; len = len.old })
+        (record { text = text.new; len = len.new }) }
+{
+    let Some(session) = handle.take(alloc) else {
+        return NOT_OPEN;
+    };
+    let given = give_text(session.declared_name(TypeNum(t)), text, len);
+    *handle = Handle::of(session);
+    given
+}
+
+/// The name of a type, as C spells it. As much of it is written as fits.
+#[unsafe(no_mangle)]
+pub extern "C" fn ctfd_name(
+    alloc: Global,
+    handle: &mut Handle,
+    t: u16,
+    text: &mut [u8],
+    len: &mut u64,
+) -> u32
+    ensures same { handle.new.held.session ≡ handle.old.held.session }
+    ensures answer { MayGiveText (asked handle.old.held.session (λ s. spelled_name (space_in s) t)) result
+        (record { text = text.old; len = len.old })
+        (record { text = text.new; len = len.new }) }
+{
+    let Some(session) = handle.take(alloc) else {
+        return NOT_OPEN;
+    };
+    let given = match session.name(alloc, TypeNum(t)) {
+        Ok(said) => {
+            write_front(said.as_slice(), text);
+            *len = said.len() as u64;
+            0
+        }
+        Err(fault) => status(fault),
+    };
+    *handle = Handle::of(session);
+    given
+}
+
+/// What a value of a type shows, in memory and from a bit on. As much of it is written as fits.
+#[unsafe(no_mangle)]
+pub extern "C" fn ctfd_show(
+    alloc: Global,
+    handle: &mut Handle,
+    t: u16,
+    memory: &[u8],
+    offset: u64,
+    text: &mut [u8],
+    len: &mut u64,
+) -> u32
+    ensures same { handle.new.held.session ≡ handle.old.held.session }
+    ensures answer { MayGiveText (asked handle.old.held.session (λ s.
+        value_text (space_in s) memory.now t offset)) result
+        (record { text = text.old; len = len.old })
+        (record { text = text.new; len = len.new }) }
+{
+    let Some(session) = handle.take(alloc) else {
+        return NOT_OPEN;
+    };
+    let given = match session.show(alloc, TypeNum(t), memory, offset) {
+        Ok(said) => {
+            write_front(said.as_slice(), text);
+            *len = said.len() as u64;
+            0
+        }
+        Err(fault) => status(fault),
+    };
+    *handle = Handle::of(session);
+    given
+}

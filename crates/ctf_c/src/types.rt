@@ -1,0 +1,157 @@
+//! Exports that answer a number of a type.
+ghost use Rattle.std.specs.Prelude.{◌≡◌};
+ghost use Rattle.ctf_c.specs.Given.{Gives, argument_said, asked, kind_said, length_said, return_said, said_of, shape_of};
+ghost use Rattle.ctf_c.specs.Served.{space_in};
+ghost use Rattle.ctf_model.specs.figures.Figures.{align as align_of, reference as reference_of, resolved, size as size_of};
+ghost use Rattle.ctf_model.specs.names.Found.{pointer_to as pointer_of};
+ghost use Rattle.ctf_model.specs.spaces.Space.{space_type};
+
+use crate::given::{NOT_OPEN, give, give_short, give_type};
+use crate::handle::Handle;
+use ctf_model::TypeNum;
+use std::alloc::Global;
+
+/// The number of a type's kind in sys/ctf.h.
+#[unsafe(no_mangle)]
+pub extern "C" fn ctfd_kind(alloc: Global, handle: &mut Handle, t: u16, out: &mut u32) -> u32
+    ensures same { handle.new.held.session ≡ handle.old.held.session }
+    ensures answer { Gives (asked handle.old.held.session (λ s.
+        said_of kind_said (shape_of (space_type (space_in s) t))))
+        result out.old out.new }
+{
+    let Some(session) = handle.take(alloc) else {
+        return NOT_OPEN;
+    };
+    let given = give_short(session.kind(TypeNum(t)), out);
+    *handle = Handle::of(session);
+    given
+}
+
+/// How many members, enumerators or arguments a type has: 0 for kinds without a list.
+#[unsafe(no_mangle)]
+pub extern "C" fn ctfd_length(alloc: Global, handle: &mut Handle, t: u16, out: &mut u64) -> u32
+    ensures same { handle.new.held.session ≡ handle.old.held.session }
+    ensures answer { Gives (asked handle.old.held.session (λ s.
+        said_of length_said (shape_of (space_type (space_in s) t))))
+        result out.old out.new }
+{
+    let Some(session) = handle.take(alloc) else {
+        return NOT_OPEN;
+    };
+    let given = give(session.length(TypeNum(t)), out);
+    *handle = Handle::of(session);
+    given
+}
+
+/// The size of a type, in bytes.
+#[unsafe(no_mangle)]
+pub extern "C" fn ctfd_size(alloc: Global, handle: &mut Handle, t: u16, out: &mut u64) -> u32
+    ensures same { handle.new.held.session ≡ handle.old.held.session }
+    ensures answer { Gives (asked handle.old.held.session (λ s. size_of (space_in s) t))
+        result out.old out.new }
+{
+    let Some(session) = handle.take(alloc) else {
+        return NOT_OPEN;
+    };
+    let given = give(session.size(TypeNum(t)), out);
+    *handle = Handle::of(session);
+    given
+}
+
+/// The alignment of a type, in bytes.
+#[unsafe(no_mangle)]
+pub extern "C" fn ctfd_align(alloc: Global, handle: &mut Handle, t: u16, out: &mut u64) -> u32
+    ensures same { handle.new.held.session ≡ handle.old.held.session }
+    ensures answer { Gives (asked handle.old.held.session (λ s. align_of (space_in s) t))
+        result out.old out.new }
+{
+    let Some(session) = handle.take(alloc) else {
+        return NOT_OPEN;
+    };
+    let given = give(session.align(TypeNum(t)), out);
+    *handle = Handle::of(session);
+    given
+}
+
+/// The type that a type stands for, along typedefs and qualifiers. 0 is no type.
+#[unsafe(no_mangle)]
+pub extern "C" fn ctfd_resolve(alloc: Global, handle: &mut Handle, t: u16, out: &mut u16) -> u32
+    ensures same { handle.new.held.session ≡ handle.old.held.session }
+    ensures answer { Gives (asked handle.old.held.session (λ s. resolved (space_in s) t))
+        result out.old out.new }
+{
+    let Some(session) = handle.take(alloc) else {
+        return NOT_OPEN;
+    };
+    let given = give_type(session.resolve(TypeNum(t)), out);
+    *handle = Handle::of(session);
+    given
+}
+
+/// The type that a type points to, renames or qualifies.
+#[unsafe(no_mangle)]
+pub extern "C" fn ctfd_reference(alloc: Global, handle: &mut Handle, t: u16, out: &mut u16) -> u32
+    ensures same { handle.new.held.session ≡ handle.old.held.session }
+    ensures answer { Gives (asked handle.old.held.session (λ s. reference_of (space_in s) t))
+        result out.old out.new }
+{
+    let Some(session) = handle.take(alloc) else {
+        return NOT_OPEN;
+    };
+    let given = give_type(session.reference(TypeNum(t)), out);
+    *handle = Handle::of(session);
+    given
+}
+
+/// The least pointer to a type, or to what it stands for.
+#[unsafe(no_mangle)]
+pub extern "C" fn ctfd_pointer(alloc: Global, handle: &mut Handle, t: u16, out: &mut u16) -> u32
+    ensures same { handle.new.held.session ≡ handle.old.held.session }
+    ensures answer { Gives (asked handle.old.held.session (λ s. pointer_of (space_in s) t))
+        result out.old out.new }
+{
+    let Some(session) = handle.take(alloc) else {
+        return NOT_OPEN;
+    };
+    let given = give_type(session.pointer(TypeNum(t)), out);
+    *handle = Handle::of(session);
+    given
+}
+
+/// What a function type returns.
+#[unsafe(no_mangle)]
+pub extern "C" fn ctfd_return(alloc: Global, handle: &mut Handle, t: u16, out: &mut u16) -> u32
+    ensures same { handle.new.held.session ≡ handle.old.held.session }
+    ensures answer { Gives (asked handle.old.held.session (λ s.
+        said_of return_said (shape_of (space_type (space_in s) t))))
+        result out.old out.new }
+{
+    let Some(session) = handle.take(alloc) else {
+        return NOT_OPEN;
+    };
+    let given = give_type(session.returned(TypeNum(t)), out);
+    *handle = Handle::of(session);
+    given
+}
+
+/// An argument of a function type, from 0, as it is stored: a last 0 says that more may follow.
+#[unsafe(no_mangle)]
+pub extern "C" fn ctfd_argument(
+    alloc: Global,
+    handle: &mut Handle,
+    t: u16,
+    index: usize,
+    out: &mut u16,
+) -> u32
+    ensures same { handle.new.held.session ≡ handle.old.held.session }
+    ensures answer { Gives (asked handle.old.held.session (λ s.
+        said_of (argument_said index) (shape_of (space_type (space_in s) t))))
+        result out.old out.new }
+{
+    let Some(session) = handle.take(alloc) else {
+        return NOT_OPEN;
+    };
+    let given = give_type(session.argument(TypeNum(t), index), out);
+    *handle = Handle::of(session);
+    given
+}
