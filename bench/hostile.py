@@ -28,13 +28,12 @@ WANTED, LEAST = 10.0, 5.0
 @dataclass(frozen=True)
 class Case:
     """What is asked of a dictionary of a size. `make` gives its lists and a type's number; `ask` gives the fields
-    of a request on it, or None for a dump. One that is not limited is known to take longer than is wanted."""
+    of a request on it, or None for a dump."""
 
     name: str
     size: int
     make: Callable
     ask: Callable | None
-    is_limited: bool = True
 
 
 def show(memory):
@@ -89,9 +88,8 @@ CASES = [
     Case("open: the same, shuffled", 699_048, lambda n: made.named_symbols(n, shuffled), opened),
     Case("open: 1,900 unions of 1,023 members", 1900, made.unions, opened),
     Case("dump: 20,000 symbols of a 15 MB name, untold", 20_000, lambda n: made.untold(n, 15 * MEGABYTE), None),
-    Case("dump: 32,765 pointers to a name of 1 MB", 32765, lambda n: made.pointers(n, MEGABYTE), None, False),
-    Case("dump: 32,255 pointers, 511 deep, to 65,537 bytes", 32255, lambda n: made.deep_pointers(n, 65537), None,
-         False),
+    Case("dump: 32,765 pointers to a name of 1 MB", 32765, lambda n: made.pointers(n, MEGABYTE), None),
+    Case("dump: 32,255 pointers, 511 deep, to 65,537 bytes", 32255, lambda n: made.deep_pointers(n, 65537), None),
 ]
 
 
@@ -194,7 +192,7 @@ def main():
         with tempfile.TemporaryDirectory() as folder:
             megabytes, milliseconds = measure(Run(program, case, case.size, folder))
         rate = milliseconds / megabytes
-        over = options.limit and case.is_limited and milliseconds > options.limit * max(LEAST, WANTED * megabytes)
+        over = options.limit and milliseconds > options.limit * max(LEAST, WANTED * megabytes)
         slow += bool(over)
         grown = f"  x{growth(program, case):.2f}" if options.growth else ""
         print(f"{case.name:52}{megabytes:8.2f} MB{milliseconds:9.1f} ms{rate:9.1f} ms/MB{grown}{'  TOO SLOW' if over else ''}", flush=True)

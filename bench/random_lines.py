@@ -5,10 +5,12 @@ usage: random_lines.py PROGRAM OTHER [LINES [SEED]]
 
 The lines are requests of the repository's own runs, of all words, for a few sessions that hold
 what the lines before left; two in five are broken or turned: bytes lost, doubled or replaced,
-numbers past their ranges, keys that come twice, other sessions, words and fields. Each program
-gets them in pieces of its own, of 1 to 65,536 bytes, each of which is one read. LINES is
-1,000,000 where it isn't said. Prints how many were compared; where the answers differ, the lines
-up to there stand in random_lines.jsonl, and the status is 1. Needs Linux.
+numbers past their ranges, keys that come twice, other sessions, words and fields. They come in
+blocks, each a run and what comes between its lines. Of ten lines one is new; the others are of
+blocks made before, in another order and so on other states. Each program gets them in pieces of
+its own, of 1 to 65,536 bytes, each of which is one read. LINES is 1,000,000 where it isn't said.
+Prints how many were compared; where the answers differ, the lines up to there stand in
+random_lines.jsonl, and the status is 1. Needs Linux.
 """
 from __future__ import annotations
 
@@ -19,6 +21,7 @@ import subprocess
 import sys
 import threading
 from collections.abc import Iterator
+from concurrent.futures import ThreadPoolExecutor
 from dataclasses import dataclass
 from itertools import zip_longest
 from pathlib import Path
@@ -30,7 +33,11 @@ from runs import examples, transcripts  # noqa: E402
 LONGEST_READ = 65_536
 # A run of the repository with a longer line takes more time than it is worth here.
 LONGEST_LINE = 20_000
-LINES_A_ROUND = 100_000
+LINES_A_ROUND = 200_000
+# Of so many lines of a round one is new.
+ONE_NEW_IN = 10
+# So many blocks are kept, of which the rounds draw.
+MOST_BLOCKS = 20_000
 SESSIONS = 12
 NUMBER = re.compile(rb"-?[0-9]+")
 STRING = re.compile(rb'"[^"\\]*"')
@@ -55,6 +62,14 @@ PIECES_OF_JSON = (
 
 class Mismatch(Exception):
     """The programs answered differently."""
+
+
+@dataclass(frozen=True)
+class Block:
+    """Lines that stay together, each with its newline."""
+
+    text: bytes
+    lines: int
 
 
 @dataclass
@@ -111,20 +126,54 @@ class Maker:
                 line = b" " * luck.choice((1, 100, 8_200)) + line
         return line.replace(b"\n", b" ")
 
-    def lines(self) -> Iterator[bytes]:
-        """Lines without end."""
+    def blocks(self) -> Iterator[Block]:
+        """Blocks of lines without end."""
         luck = self.luck
         while True:
-            run = luck.choice(self.runs)
             # What a run hands in goes to one session, and whatever else comes finds it there.
             session = luck.randint(1, SESSIONS)
-            for line in run:
-                yield re.sub(rb'"s":[0-9]+', b'"s":%d' % session, line, count=1)
+            lines = []
+            for line in luck.choice(self.runs):
+                lines.append(re.sub(rb'"s":[0-9]+', b'"s":%d' % session, line, count=1))
                 while luck.random() < 0.7:
                     other = self.addressed(luck.choice(self.single), session)
-                    yield other if luck.random() < 0.4 else self.turned(other)
+                    lines.append(other if luck.random() < 0.4 else self.turned(other))
             if luck.random() < 0.3:
-                yield b'{"s":%d,"op":"reset"}' % session
+                lines.append(b'{"s":%d,"op":"reset"}' % session)
+            yield Block(b"".join(line + b"\n" for line in lines), len(lines))
+
+
+@dataclass
+class Rounds:
+    """Draws rounds of lines out of blocks that are kept, and renews these."""
+
+    luck: random.Random
+    new: Iterator[Block]
+    kept: list[Block]
+
+    def renewed(self, lines: int) -> list[Block]:
+        """New blocks of so many lines, which are kept in place of others."""
+        made, count = [], 0
+        while count < lines:
+            block = next(self.new)
+            made.append(block)
+            count += block.lines
+            if len(self.kept) < MOST_BLOCKS:
+                self.kept.append(block)
+            else:
+                self.kept[self.luck.randrange(MOST_BLOCKS)] = block
+        return made
+
+    def drawn(self, lines: int) -> tuple[bytes, int]:
+        """At least so many lines, and how many they are."""
+        blocks = self.renewed(lines // ONE_NEW_IN)
+        count = sum(block.lines for block in blocks)
+        while count < lines:
+            more = self.luck.choices(self.kept, k=50)
+            blocks += more
+            count += sum(block.lines for block in more)
+        self.luck.shuffle(blocks)
+        return b"".join(block.text for block in blocks), count
 
 
 def feed(end: socket.socket, given: bytes, luck: random.Random) -> None:
@@ -154,16 +203,19 @@ def answered(program: str, given: bytes, luck: random.Random) -> bytes:
     return out
 
 
-def compare(programs: tuple[str, str], lines: list[bytes], luck: random.Random) -> None:
+def compare(programs: tuple[str, str], given: bytes, luck: random.Random) -> None:
     """Answers lines by both programs, or says where these differ."""
-    given = b"".join(line + b"\n" for line in lines)
     if luck.random() < 0.2:
         given = given[:-1]
-    first, second = (answered(program, given, luck) for program in programs)
+    with ThreadPoolExecutor(2) as both:
+        asked = [both.submit(answered, program, given, random.Random(luck.random()))
+                 for program in programs]
+        first, second = (it.result() for it in asked)
     if first != second:
         pairs = zip_longest(first.split(b"\n"), second.split(b"\n"))
         at = next(number for number, (a, b) in enumerate(pairs) if a != b)
-        Path("random_lines.jsonl").write_bytes(b"".join(line + b"\n" for line in lines[:at + 1]))
+        lines = given.split(b"\n")[:at + 1]
+        Path("random_lines.jsonl").write_bytes(b"".join(line + b"\n" for line in lines))
         raise Mismatch(f"line {at + 1} of a round is answered otherwise")
 
 
@@ -174,12 +226,13 @@ def main() -> int:
     runs = [run.lines for run in (*transcripts(), *examples())
             if max(map(len, run.lines)) <= LONGEST_LINE and len(run.lines) <= 2_000]
     maker = Maker(luck, runs, sorted({line for run in runs for line in run}))
-    lines, done = maker.lines(), 0
+    rounds, done = Rounds(luck, maker.blocks(), []), 0
     while done < wanted:
         # Small rounds come in small pieces too.
-        count = min(luck.choice((1_000, LINES_A_ROUND)), wanted - done)
+        few = luck.choice((1_000, LINES_A_ROUND, LINES_A_ROUND, LINES_A_ROUND))
+        given, count = rounds.drawn(min(few, wanted - done))
         try:
-            compare(programs, [next(lines) for _ in range(count)], luck)
+            compare(programs, given, luck)
         except Mismatch as told:
             print(told)
             return 1

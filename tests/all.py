@@ -71,8 +71,8 @@ def with_packages() -> str:
     return sys.executable
 
 
-def parts(program: str) -> list[Part]:
-    """All but the proofs; those that take longest come last."""
+def parts(program: str, builds: bool) -> list[Part]:
+    """All but the proofs; those that take longest come last. The library for C is made, or kept."""
     over = {"CTFD": program}
     python = with_packages()
     return [
@@ -86,6 +86,10 @@ def parts(program: str) -> list[Part]:
         Part("program", ["tests/program.sh", program]),
         Part("client", [python, "-m", "unittest", "discover", "-v", "-s", "tests", "-t", "."],
              CLIENT, over),
+        Part("archive", ["tests/archive.py", *([] if builds else ["--kept"])]),
+        Part("c_library", ["tests/c_library.sh", program]),
+        Part("rust", ["tests/rust.sh"]),
+        Part("install", ["tests/install.sh", program]),
         Part("convert", ["tests/convert.sh", program]),
         Part("ilp32", ["tests/ilp32.sh", program]),
         Part("gdb", ["tests/gdb.sh", program]),
@@ -163,7 +167,7 @@ def main() -> int:
     options.add_argument("part", nargs="*")
     given = options.parse_args()
     program = Path(given.program).resolve() if given.program else PROGRAM
-    chosen = parts(str(program))
+    chosen = parts(str(program), not given.program)
     if given.part:
         names = [part.name for part in chosen]
         if set(given.part) - set(names):

@@ -4,7 +4,7 @@
 usage: tests/shown.py PROGRAM
 
 Run is each block that begins with `$ `, in a copy of the repository in which PROGRAM is the one
-that was built; each block begins at its top, and files in /tmp/recipe stand in a folder of this
+that was built, and the library the one that tests/archive.py knows; each block begins at its top, and files in /tmp/recipe stand in a folder of this
 run. The program and the client's commands are on the path, and `python3` is the Python that runs
 this. A line that ends in a backslash goes on in the next, and one that ends in `<< 'WORD'` up to
 the line WORD. What a command prints, on both outputs, has to be what stands below it up to the next
@@ -42,7 +42,8 @@ PAGES = ("README.md", "docs/COOKBOOK.md")
 COPIED = ("README.md", "Makefile", "HANDLES", "crates.txt", "crates", "clients", "docs", "examples",
           "tests")
 RECIPE = "/tmp/recipe"
-TOOLS = ("gcc", "gdb", "objcopy", "llvm-objcopy", "jq", "man", "rt")
+ARCHIVE = "crates/ctf_c/out/libctfd.a"
+TOOLS = ("cc", "gcc", "gdb", "objcopy", "llvm-objcopy", "jq", "man", "rt")
 # What of the client takes which package of Python.
 LIBRARIES = {"ctfd-convert": "elftools", "build.declare": "pycparser"}
 LONGEST_SECONDS = 900
@@ -113,12 +114,20 @@ def lacking(text: str) -> str:
     for word, library in LIBRARIES.items():
         if word in text and not importlib.util.find_spec(library):
             return f"skipped: {sys.executable} has no package {library}"
+    if ARCHIVE in text and not Path(archive()).exists():
+        return archive()
     if "-m32" in text and subprocess.run(["gcc", "-m32", "-c", "-x", "c", "/dev/null", "-o",
                                           "/dev/null"], capture_output=True).returncode:
         return "skipped: gcc -m32 makes no program here"
     if re.search(r"(?<![\w./-])gdb ", text) and not gdb_runs():
         return "not possible here: gdb runs no program"
     return ""
+
+
+def archive() -> str:
+    """The library for C that was built, or a line which says that there is none."""
+    return subprocess.run([TOP / "tests" / "archive.py", "--kept"], check=True, text=True,
+                          stdout=subprocess.PIPE).stdout.strip()
 
 
 def gdb_runs() -> bool:
@@ -260,7 +269,7 @@ class Page:
 
 
 def copied(program: str, top: Path) -> None:
-    """A copy of the repository, without what was built but the program."""
+    """A copy of the repository, without what was built but the program and the archive."""
     for name in COPIED:
         if (TOP / name).is_dir():
             shutil.copytree(TOP / name, top / name, symlinks=True,
@@ -270,6 +279,9 @@ def copied(program: str, top: Path) -> None:
     out = top / "crates" / "ctfd" / "out"
     out.mkdir()
     (out / "ctfd").symlink_to(Path(program).resolve())
+    if Path(archive()).exists():
+        (top / ARCHIVE).parent.mkdir()
+        (top / ARCHIVE).symlink_to(archive())
     python = out / "python3"  # no link: where it stands tells a Python its packages
     python.write_text(f'#!/bin/sh\nexec "{sys.executable}" "$@"\n')
     python.chmod(0o755)

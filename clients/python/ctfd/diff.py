@@ -9,11 +9,11 @@ from __future__ import annotations
 from typing import Any, Callable, Dict, Iterator, List, NamedTuple, Optional, Tuple
 
 from .catalog import RENAMES
-from .declare import declaration
 from .embeds import Embeds
 from .opening import Whole
 from .records import AGGREGATES, Record
 from .text import printable
+from .texts import Texts
 
 RUN = 4
 NAMED = (*AGGREGATES, "enum", "typedef", "integer", "float", "forward")
@@ -75,10 +75,11 @@ class Side:
         self.whole = whole
         self.catalog = whole.catalog
         self.embeds = Embeds(whole.catalog, whole.names)
-        self._texts: Dict[int, str] = {}
+        self._texts = Texts(whole.catalog)
         self._types: Dict[int, Tuple[int, int, str, Tuple[Any, ...]]] = {}
         self.own = self._by_key(self.catalog.own)
-        self.all = self._by_key(self.catalog.numbers)
+        self.all = self.own if self.catalog.own == self.catalog.numbers else \
+            self._by_key(self.catalog.numbers)
 
     def _by_key(self, numbers: List[int]) -> Dict[Key, List[int]]:
         made: Dict[Key, List[int]] = {}
@@ -115,10 +116,7 @@ class Side:
 
     def text(self, number: int) -> str:
         """How C writes a type."""
-        known = self._texts.get(number)
-        if known is None:
-            known = self._texts[number] = declaration(self.catalog.type(number))
-        return known
+        return self._texts.text(number)
 
     def value(self, number: int) -> Tuple[Any, ...]:
         """What a value of it is to a program: its kind, size and encoding."""
@@ -138,11 +136,15 @@ class Side:
 
     def places(self, number: int) -> List[Place]:
         """The members of a struct or union, those of unnamed parts too."""
-        made = []
-        for held in self.embeds.walked(number):
-            lies, bits, text, value = self._told(held.type)
-            made.append(Place(printable(held.name), held.offset + lies, bits, text, value))
-        return made
+        parts = self.catalog[number].members
+        if not any(self.embeds.is_walked_through(part.type) for part in parts):
+            return [self._place(part.name, part.type, part.offset) for part in parts]
+        return [self._place(held.name, held.type, held.offset)
+                for held in self.embeds.walked(number)]
+
+    def _place(self, name: str, number: int, offset: int) -> Place:
+        lies, bits, text, value = self._told(number)
+        return Place(printable(name), offset + lies, bits, text, value)
 
     def _told(self, number: int) -> Tuple[int, int, str, Tuple[Any, ...]]:
         """What is told of a member by its type alone: where in its storage it lies, its bits, how C

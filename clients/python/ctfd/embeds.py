@@ -1,7 +1,7 @@
 """Which structs and unions hold a type by value, and which point to it."""
 from __future__ import annotations
 
-from typing import Callable, Iterator, List, NamedTuple, Set, Tuple
+from typing import Callable, Dict, Iterator, List, NamedTuple, Set, Tuple
 
 from .catalog import Catalog, RENAMES
 from .naming import Names
@@ -40,6 +40,7 @@ class Embeds:
         self.names = names
         self.is_deep = is_deep
         self.cut: List[int] = []
+        self._through: Dict[int, bool] = {}
 
     def containing(self, targets: Set[int]) -> Iterator[Held]:
         """Where these stand by value."""
@@ -71,13 +72,22 @@ class Embeds:
             todo += reversed(self._inside(here))
         self.cut.append(owner)
 
+    def is_walked_through(self, number: int) -> bool:
+        """Whether the members of a member of this type are walked too."""
+        known = self._through.get(number)
+        if known is None:
+            end = self.catalog.reached(number).number
+            known = self._through[number] = self.catalog[end].kind in AGGREGATES and (
+                self.is_deep or not self.names.has_name(end))
+        return known
+
     def _inside(self, held: Held) -> List[Held]:
         """The members of a member, where it is walked through."""
         number, elements, _ = self.catalog.reached(held.type)
         record = self.catalog[number]
         if record.kind not in AGGREGATES or len(held.path) >= DEEPEST:
             return []
-        if held.path and not self.is_deep and self.names.has_name(number):
+        if held.path and not self.is_walked_through(held.type):
             return []
         return [Held(held.owner, (*held.path, part.name), part.type, held.offset + part.offset,
                      held.elements * elements) for part in record.members]

@@ -1,17 +1,18 @@
 -- What calls from C are given. The words are ours; the answers are those of libctf(3LIB).
-use Rattle.std.specs.Prelude.{◌≡◌, ◌⊎◌, ◌+◌, ◌++◌, ℕ, ℤ, Bool, true, false, List, take, drop, length, Option, None, Some, Result, Ok, Err, slice_get, option_map, option_and_then, if◌then◌else◌}
+use Rattle.std.specs.Prelude.{◌≡◌, ◌⊎◌, ◌+◌, ◌++◌, ℕ, ℤ, Bool, true, false, List, take, drop, length, Option, None, Some, Result, Ok, Err, slice_get, is_some, option_map, option_and_then, if◌then◌else◌}
 use Rattle.ctf_model.specs.declared.data_model.DataModel.{DataModel}
 use Rattle.ctf_model.specs.declared.data_model.DataModel.TheVariants.{Lp64, Ilp32}
 use Rattle.ctf_model.specs.declared.faults.Fault.{Fault}
-use Rattle.ctf_model.specs.declared.faults.TheConstants.Fault.{NO_SLOT, NO_MEMBER, NO_PARENT, WRONG_KIND}
+use Rattle.ctf_model.specs.declared.faults.TheConstants.Fault.{FIXED_PARENT, NO_LABEL, NO_SLOT, NO_MEMBER, NO_PARENT, WRONG_KIND}
 use Rattle.ctf_model.specs.declared.kinds.Kind.{Kind}
 use Rattle.ctf_model.specs.declared.kinds.Kind.TheVariants.{KUnknown, KInteger, KFloat, KPointer, KArray, KFunction, KStruct, KUnion, KEnum, KForward, KTypedef, KVolatile, KConst, KRestrict}
-use Rattle.ctf_model.specs.format.Lists.{Lists}
-use Rattle.ctf_model.specs.format.Shown.{ArrayParts, EncodingParts, Shape, arguments_in, array_in, encoding_in, enumerators_in, list_length, members_in, shape}
-use Rattle.ctf_model.specs.format.Term.{Enumerator, Member, Term}
+use Rattle.ctf_model.specs.format.Shown.{ArrayParts, EncodingParts, Shape, arguments_in, array_in, encoding_in, enumerators_in, is_variadic, list_length, members_in, named_arguments, shape}
+use Rattle.ctf_model.specs.format.Dictionary.{Label}
+use Rattle.ctf_model.specs.format.Term.{Enumerator, Member, Tag, Term, struct_tag, union_tag, enum_tag}
 use Rattle.ctf_model.specs.rules.Faults.{first_fault}
 use Rattle.ctf_model.specs.rules.Refusals.{placeless, want_of_memory}
 use Rattle.ctf_model.specs.spaces.Kept.{Kept, fault_over, kept_dictionary}
+use Rattle.ctf_model.specs.symbols.Entries.{Signature}
 use Rattle.ctf_model.specs.symbols.SymbolQuestions.{or_refused}
 use Rattle.ctf_c.specs.Served.{Served}
 
@@ -30,6 +31,11 @@ asked (Some s) answer = answer s
 abbrev pub Gives : {A : Type 0} → Result A Fault → ℕ → A → A → Type 0
 Gives (Ok n) status old new = (status ≡ 0) × (new ≡ n)
 Gives (Err fault) status old new = (status ≡ status_of fault) × (new ≡ old)
+
+-- the same where memory may be refused
+abbrev pub MayGive : {A : Type 0} → Result A Fault → ℕ → A → A → Type 0
+MayGive answer status old new =
+    Gives answer status old new ⊎ Gives (Err want_of_memory) status old new
 
 -- ---- what is asked
 
@@ -55,6 +61,22 @@ abbrev pub flag : Bool → ℕ
 flag true = 1
 flag false = 0
 
+-- 1 for programs whose pointers have 4 bytes, else 0
+abbrev pub model_number : DataModel → ℕ
+model_number Lp64 = 0
+model_number Ilp32 = 1
+
+-- what a forward declares, as the number of that kind
+abbrev pub number_of_tag : Tag → ℕ
+number_of_tag struct_tag = 6
+number_of_tag union_tag = 7
+number_of_tag enum_tag = 8
+
+-- whether look-ups see a type, if it is there
+abbrev pub root_said : Result Term Fault → Result ℕ Fault
+root_said (Ok x) = Ok (flag x.root)
+root_said (Err fault) = Err fault
+
 -- what a type is, if it is there
 abbrev pub shape_of : Result Term Fault → Result Shape Fault
 shape_of (Ok x) = Ok (shape x.body)
@@ -67,6 +89,10 @@ said_of says (Err fault) = Err fault
 
 abbrev pub kind_said : Shape → Result ℕ Fault
 kind_said x = Ok (number_of_kind x.kind)
+
+-- what it declares, if it is a forward
+abbrev pub tag_said : Shape → Result ℕ Fault
+tag_said x = or_refused WRONG_KIND (option_map number_of_tag x.declares)
 
 -- how many members, enumerators or arguments it has
 abbrev pub length_said : Shape → Result ℕ Fault
@@ -101,6 +127,34 @@ argument_said index x = item_of index (arguments_in x.behind)
 abbrev pub parent_types : Served → Result ℕ Fault
 parent_types s = or_refused NO_PARENT (option_map (λ p. length (kept_dictionary p).terms) s.parent)
 
+-- ---- functions of a program
+
+-- how many arguments a function names, whether more may follow, and what it returns
+pub record FunctionTold : Type 0 where
+  pub arguments : ℕ
+  pub varargs : ℕ
+  pub ret : ℕ
+
+abbrev pub function_said : Result Signature Fault → Result FunctionTold Fault
+function_said (Ok f) =
+    Ok (record {
+      arguments = length (named_arguments f.args);
+      varargs = flag (is_variadic f.args);
+      ret = f.ret;
+    })
+function_said (Err fault) = Err fault
+
+-- one of the arguments that it names, from 0
+abbrev pub named_said : ℕ → Result Signature Fault → Result ℕ Fault
+named_said index (Ok f) = or_refused NO_MEMBER (slice_get (named_arguments f.args) index)
+named_said index (Err fault) = Err fault
+
+-- ---- labels
+
+-- a label by its number, from 0
+abbrev pub label_at : ℕ → List Label → Result Label Fault
+label_at index labels = or_refused NO_LABEL (slice_get labels index)
+
 -- ---- texts
 
 -- some bytes over the front of others, as much as fits
@@ -126,6 +180,13 @@ abbrev pub MayGiveText : Result (List ℕ) Fault → ℕ → Told → Told → T
 MayGiveText text status old new =
     GivesText text status old new ⊎ GivesText (Err want_of_memory) status old new
 
+-- the same of some bytes from a place on, with how many there are in all
+abbrev pub GivesBytes : Result (List ℕ) Fault → ℕ → ℕ → Told → Told → Type 0
+GivesBytes (Ok bytes) from status old new =
+    (status ≡ 0)
+    × (new ≡ record { text = written_over (drop from bytes) old.text; len = length bytes })
+GivesBytes (Err fault) from status old new = (status ≡ status_of fault) × (new ≡ old)
+
 -- a member apart from its name, whose length it has
 pub record MemberTold : Type 0 where
   pub offset : ℕ
@@ -142,6 +203,18 @@ GivesMember (Err fault) status old new was is =
 abbrev pub GivesEnumerator : Result Enumerator Fault → ℕ → Told → Told → ℤ → ℤ → Type 0
 GivesEnumerator (Ok e) status old new was is = (status ≡ 0) × (new ≡ told e.name old) × (is ≡ e.value)
 GivesEnumerator (Err fault) status old new was is =
+    (status ≡ status_of fault) × (new ≡ old) × (is ≡ was)
+
+-- a label apart from its name, whose length it has
+pub record LabelTold : Type 0 where
+  pub name_len : ℕ
+  pub last : ℕ
+
+abbrev pub GivesLabel : Result Label Fault → ℕ → List ℕ → List ℕ → LabelTold → LabelTold → Type 0
+GivesLabel (Ok x) status old new was is =
+    (status ≡ 0) × (new ≡ written_over x.name old)
+    × (is ≡ record { name_len = length x.name; last = x.last })
+GivesLabel (Err fault) status old new was is =
     (status ≡ status_of fault) × (new ≡ old) × (is ≡ was)
 
 -- ---- what is opened and imported
@@ -168,7 +241,13 @@ Changes fault status place old changed new =
 -- a dictionary was opened in place of what was open
 abbrev pub Opens : Kept → ℕ → ℕ → Option Served → Option Served → Type 0
 Opens kept status place old new =
-    Changes (first_fault kept.lists) status place old (Some (record { own = kept; parent = None })) new
+    Changes (first_fault kept.lists) status place old
+    (Some (record { own = kept; parent = None; draft = None })) new
+
+-- the parent of a draft is that of its making; else the fault is that of the import
+abbrev pub import_refusal : Served → Served → Option Fault
+import_refusal child parent =
+    if is_some child.draft then Some (placeless FIXED_PARENT) else fault_over child.own parent.own
 
 -- a parent was imported
 abbrev pub Imports : Option Served → Option Served → ℕ → ℕ → Option Served → Type 0
@@ -176,5 +255,5 @@ Imports None parent status place new = (status ≡ status_of (placeless NO_SLOT)
 Imports (Some child) None status place new =
     (status ≡ status_of (placeless NO_SLOT)) × (new ≡ Some child)
 Imports (Some child) (Some parent) status place new =
-    Changes (fault_over child.own parent.own) status place (Some child)
-    (Some (record { own = child.own; parent = Some parent.own })) new
+    Changes (import_refusal child parent) status place (Some child)
+    (Some (record { own = child.own; parent = Some parent.own; draft = None })) new

@@ -1,3 +1,6 @@
+pub mod Drafting
 pub mod Given
+pub mod Naming
 pub mod Owned
+pub mod PartView
 pub mod Served

@@ -1,13 +1,15 @@
 -- What is open behind a handle, and what its questions see. The words are ours.
 use Rattle.std.specs.Prelude.{Option}
+use Rattle.ctf_model.specs.drafts.Drafts.{Draft}
 use Rattle.ctf_model.specs.format.Dictionary.{Dictionary}
 use Rattle.ctf_model.specs.spaces.Kept.{Kept, kept_dictionary, kept_space}
 use Rattle.ctf_model.specs.spaces.Space.{Space}
 
--- a dictionary, and the parent that it imported
+-- a dictionary, the parent that it imported, and the draft whose last update made it, if one did
 pub record Served : Type 0 where
   pub own : Kept
   pub parent : Option Kept
+  pub draft : Option Draft
 
 -- what its questions see
 abbrev pub space_in : Served → Space

@@ -1,7 +1,7 @@
 //! What is answered of what is open.
 ghost use Rattle.std.specs.Prelude.{◌≡◌, ◌⊎◌, [], ◌∷◌, Ok, Err, IfOk, IfErr, length};
 ghost use Rattle.std.specs.Result.{result_map_both};
-ghost use Rattle.ctf_c.specs.Given.{argument_said, array_said, encoding_said, enumerator_said, kind_said, length_said, member_said, parent_types, return_said, said_of, shape_of};
+ghost use Rattle.ctf_c.specs.Given.{argument_said, array_said, encoding_said, enumerator_said, kind_said, length_said, member_said, number_of_tag, parent_types, return_said, root_said, said_of, shape_of, tag_said};
 ghost use Rattle.ctf_c.specs.Served.{own_in, space_in};
 ghost use Rattle.ctf_check.specs.FactsView.{shape_seen};
 ghost use Rattle.ctf_layout.specs.Reached.{position_of};
@@ -13,17 +13,19 @@ ghost use Rattle.ctf_model.specs.rules.Refusals.{want_of_memory};
 ghost use Rattle.ctf_model.specs.spaces.Space.{space_type};
 ghost use Rattle.ctf_model.specs.symbols.SymbolQuestions.{by_name, label_of, object_of};
 ghost use Rattle.ctf_model.specs.values.Values.{value_text};
+ghost use Rattle.ctf_records.specs.RecordView.{tag_of as tag_shown};
 ghost use Rattle.ctf_space.specs.TypeView.{name_in};
 ghost use Rattle.ctf_views.specs.ItemsView.{enumerator as enumerator_seen, member as member_seen};
 ghost use Rattle.ctf_views.specs.PartsView.{array_info, encoding_info};
 
-use crate::given::kind_number;
+use crate::given::{flag, kind_number};
 use crate::session::Session;
 use ctf_check::Shape;
 use ctf_layout::{path, reference, resolve};
 use ctf_model::{Bytes, Fault, TypeNum, placeless};
 use ctf_names::{find, pointer_to, spell};
 use ctf_print::show;
+use ctf_records::Tag;
 use ctf_views::{ArrayInfo, Encoding, Enumerator, Member, Variant};
 use std::alloc::Global;
 
@@ -32,6 +34,27 @@ fn kind_of(x: Shape<'_>) -> Result<u32, Fault>
     ensures { result ≡ kind_said (shape_seen x.entry) }
 {
     Ok(kind_number(x.kind))
+}
+
+/// The number of what a forward declares.
+fn tag_number(tag: Tag) -> u32
+    ensures { result ≡ number_of_tag (tag_shown tag) }
+{
+    match tag {
+        Tag::Struct => 6,
+        Tag::Union => 7,
+        Tag::Enum => 8,
+    }
+}
+
+/// The number of what a type declares, as a shape has it.
+fn tag_of(x: Shape<'_>) -> Result<u32, Fault>
+    ensures { result ≡ tag_said (shape_seen x.entry) }
+{
+    match x.declares {
+        Some(tag) => Ok(tag_number(tag)),
+        None => Err(placeless(Fault::WRONG_KIND)),
+    }
 }
 
 /// How many members, enumerators or arguments there are.
@@ -155,6 +178,27 @@ impl Session {
     {
         match self.shape(t) {
             Ok(x) => kind_of(x),
+            Err(fault) => Err(fault),
+        }
+    }
+
+    /// 1 where look-ups by name see a type, else 0.
+    pub fn root(&self, t: TypeNum) -> Result<u32, Fault>
+        ensures { result ≡ root_said (space_type (space_in self.now) t.0) }
+    {
+        match self.space().term(t) {
+            Ok(found) => Ok(flag(found.root())),
+            Err(fault) => Err(fault),
+        }
+    }
+
+    /// The number of the kind that a forward declares.
+    pub fn tag(&self, t: TypeNum) -> Result<u32, Fault>
+        ensures { result
+            ≡ said_of tag_said (shape_of (space_type (space_in self.now) t.0)) }
+    {
+        match self.shape(t) {
+            Ok(x) => tag_of(x),
             Err(fault) => Err(fault),
         }
     }

@@ -1,7 +1,11 @@
 //! What C asks of dictionaries in process. The header is clients/c/ctfd.h.
 #![tactic(auto)]
 
+mod adding;
+mod additions;
 mod answers;
+mod drafting;
+mod drafts;
 mod figures;
 mod given;
 mod handle;
@@ -9,7 +13,10 @@ mod held;
 mod lists;
 mod opening;
 mod parts;
+mod paths;
+mod programs;
 mod session;
+mod symbols;
 mod texts;
 mod types;
 mod whole;

@@ -27,6 +27,7 @@ fn opened(
         model = model;
       };
       parent = None;
+      draft = None;
     }) }
     ensures exact_ok { OnOk result (first_fault (record {
       ctf = ctf.now;

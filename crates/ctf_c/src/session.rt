@@ -1,9 +1,10 @@
-//! What is open behind a handle: a dictionary, and the parent that it imported.
+//! What is open behind a handle: a dictionary, the parent that it imported, and its draft.
 ghost use Rattle.std.specs.Prelude.{◌≡◌, ◌⊎◌, None, Some, IfOk, IfErr, OnOk, option_copied, option_map};
 ghost use Rattle.std.specs.Option.{ForSome};
-ghost use Rattle.ctf_c.specs.Given.{Refuses};
+ghost use Rattle.ctf_c.specs.Given.{Refuses, import_refusal};
 ghost use Rattle.ctf_c.specs.Served.{Served, own_in, space_in};
 ghost use Rattle.ctf_check.specs.CheckedView.{dictionary_of, lists_of};
+ghost use Rattle.ctf_library.specs.Drafting.{IsUnder};
 ghost use Rattle.ctf_library.specs.Fitting.{AreTablesOf};
 ghost use Rattle.ctf_model.specs.format.OwnedLists.{lists_owned};
 ghost use Rattle.ctf_model.specs.rules.Faults.{first_fault};
@@ -13,6 +14,7 @@ ghost use Rattle.ctf_space.specs.SpaceView.{own_lists, parent_lists, space_of};
 ghost use Rattle.ctf_symbols.specs.Fitting.{Fits};
 
 use ctf_check::Checked;
+use ctf_draft::Draft;
 use ctf_library::{Loaded, Tables, tables_over};
 use ctf_model::{Bytes, DataModel, Fault, Parts, placeless};
 use ctf_space::Space;
@@ -23,31 +25,39 @@ use std::marker::Model;
 /// The parent that was imported, and the tables of the dictionary over it.
 #[derive(Drop)]
 pub struct Imported {
-    parent: Loaded,
-    tables: Tables,
+    pub(crate) parent: Loaded,
+    pub(crate) tables: Tables,
 }
 
-/// A dictionary that was opened, and its parent if it imported one. They may be shared with other
-/// sessions.
+/// A dictionary, and its parent if it imported one. They may be shared with other sessions. Where
+/// there is a draft, the dictionary is what the draft's last update made, and the parent is the
+/// draft's.
 #[derive(Drop)]
 pub struct Session {
-    own: Loaded,
-    imported: Option<Imported>,
+    pub(crate) own: Loaded,
+    pub(crate) imported: Option<Imported>,
+    pub(crate) draft: Option<Draft>,
 }
 
 impl Model for Session {
     ghost use Rattle.std.specs.Prelude.{◌≡◌, None, Some, option_map};
     ghost use Rattle.std.specs.Option.{ForSome};
     ghost use Rattle.ctf_c.specs.Served.{Served};
+    ghost use Rattle.ctf_library.specs.Drafting.{IsUnder};
     ghost use Rattle.ctf_library.specs.Fitting.{AreTablesOf};
     ghost use Rattle.ctf_model.specs.spaces.Kept.{fault_over};
 
     ghost Value = { Served };
 
-    ghost view = { λ s. record { own = s.own; parent = option_map (λ i. i.parent) s.imported } };
+    ghost view = { λ s. record {
+      own = s.own;
+      parent = option_map (λ i. i.parent) s.imported;
+      draft = option_map (λ d. d.draft) s.draft;
+    } };
 
     ghost invariant = { λ s. ForSome s.imported (λ i. fault_over s.own i.parent ≡ None)
-        × ForSome s.imported (λ i. AreTablesOf s.own (Some i.parent) i.tables) };
+        × ForSome s.imported (λ i. AreTablesOf s.own (Some i.parent) i.tables)
+        × ForSome s.draft (λ d. IsUnder d.draft (option_map (λ i. i.parent) s.imported)) };
 }
 
 /// A copy of a list, if it is there.
@@ -61,7 +71,7 @@ fn copied(alloc: Global, list: Option<&[u8]>) -> Result<Option<Bytes>, AllocErro
 }
 
 /// Copies of the lists.
-fn parts_of(
+pub(crate) fn parts_of(
     alloc: Global,
     ctf: &[u8],
     sym: Option<&[u8]>,
@@ -96,6 +106,7 @@ impl Session {
             model = model;
           };
           parent = None;
+          draft = None;
         }) }
         ensures exact_ok { OnOk result (first_fault (record {
           ctf = ctf.now;
@@ -115,21 +126,25 @@ impl Session {
             Ok(own) => Ok(Session {
                 own,
                 imported: None,
+                draft: None,
             }),
             Err((fault, _)) => Err(fault),
         }
     }
 
-    /// Imports the dictionary of another session as its parent, which they share. A refusal changes
-    /// nothing.
+    /// Imports the dictionary of another session as its parent, which they share. The parent of a
+    /// draft is that of its making. A refusal changes nothing.
     pub fn import(&mut self, alloc: Global, parent: &Session) -> Result<(), Fault>
         ensures ok { OnOk result (self.new
-            ≡ record { own = self.old.own; parent = Some parent.now.own }) }
-        ensures exact_ok { OnOk result (fault_over self.old.own parent.now.own ≡ None) }
+            ≡ record { own = self.old.own; parent = Some parent.now.own; draft = None }) }
+        ensures exact_ok { OnOk result (import_refusal self.old parent.now ≡ None) }
         ensures exact_err { IfErr result (λ f.
-            Refuses (fault_over self.old.own parent.now.own) f) }
+            Refuses (import_refusal self.old parent.now) f) }
         ensures kept { IfErr result (λ f. self.new ≡ self.old) }
     {
+        if self.draft.is_some() {
+            return Err(placeless(Fault::FIXED_PARENT));
+        }
         let tables = match tables_over(alloc, &self.own, &parent.own, true) {
             Ok(tables) => tables,
             Err(fault) => return Err(fault),
@@ -178,5 +193,12 @@ impl Session {
         ensures { Fits self.now.own.lists result.now }
     {
         self.own.symbols()
+    }
+
+    /// The bytes of the dictionary.
+    pub fn ctf(&self) -> &[u8]
+        ensures { result.now ≡ self.now.own.lists.ctf }
+    {
+        self.own.view().lists().ctf
     }
 }

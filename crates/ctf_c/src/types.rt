@@ -1,6 +1,6 @@
 //! Exports that answer a number of a type.
 ghost use Rattle.std.specs.Prelude.{◌≡◌};
-ghost use Rattle.ctf_c.specs.Given.{Gives, argument_said, asked, kind_said, length_said, return_said, said_of, shape_of};
+ghost use Rattle.ctf_c.specs.Given.{Gives, argument_said, asked, kind_said, length_said, return_said, root_said, said_of, shape_of, tag_said};
 ghost use Rattle.ctf_c.specs.Served.{space_in};
 ghost use Rattle.ctf_model.specs.figures.Figures.{align as align_of, reference as reference_of, resolved, size as size_of};
 ghost use Rattle.ctf_model.specs.names.Found.{pointer_to as pointer_of};
@@ -23,6 +23,37 @@ pub extern "C" fn ctfd_kind(alloc: Global, handle: &mut Handle, t: u16, out: &mu
         return NOT_OPEN;
     };
     let given = give_short(session.kind(TypeNum(t)), out);
+    *handle = Handle::of(session);
+    given
+}
+
+/// 1 where look-ups by name see a type, else 0.
+#[unsafe(no_mangle)]
+pub extern "C" fn ctfd_root(alloc: Global, handle: &mut Handle, t: u16, out: &mut u32) -> u32
+    ensures same { handle.new.held.session ≡ handle.old.held.session }
+    ensures answer { Gives (asked handle.old.held.session (λ s. root_said (space_type (space_in s) t)))
+        result out.old out.new }
+{
+    let Some(session) = handle.take(alloc) else {
+        return NOT_OPEN;
+    };
+    let given = give_short(session.root(TypeNum(t)), out);
+    *handle = Handle::of(session);
+    given
+}
+
+/// The number of the kind that a forward declares: 6 for a struct, 7 for a union, 8 for an enum.
+#[unsafe(no_mangle)]
+pub extern "C" fn ctfd_tag(alloc: Global, handle: &mut Handle, t: u16, out: &mut u32) -> u32
+    ensures same { handle.new.held.session ≡ handle.old.held.session }
+    ensures answer { Gives (asked handle.old.held.session (λ s.
+        said_of tag_said (shape_of (space_type (space_in s) t))))
+        result out.old out.new }
+{
+    let Some(session) = handle.take(alloc) else {
+        return NOT_OPEN;
+    };
+    let given = give_short(session.tag(TypeNum(t)), out);
     *handle = Handle::of(session);
     given
 }

@@ -1,11 +1,11 @@
 //! Exports that answer of a dictionary as a whole, and find by names.
 ghost use Rattle.std.specs.Prelude.{◌≡◌, Ok, length};
-ghost use Rattle.ctf_c.specs.Given.{Gives, asked, flag as flag_of, parent_types};
+ghost use Rattle.ctf_c.specs.Given.{Gives, GivesText, asked, flag as flag_of, model_number, parent_types};
 ghost use Rattle.ctf_c.specs.Served.{own_in, space_in};
 ghost use Rattle.ctf_model.specs.names.Found.{found};
 ghost use Rattle.ctf_model.specs.symbols.SymbolQuestions.{by_name, label_of, object_of};
 
-use crate::given::{NOT_OPEN, flag, give, give_short, give_type};
+use crate::given::{NOT_OPEN, flag, give, give_short, give_text, give_type};
 use crate::handle::Handle;
 use std::alloc::Global;
 
@@ -115,6 +115,63 @@ pub extern "C" fn ctfd_parent_count(alloc: Global, handle: &mut Handle, out: &mu
         return NOT_OPEN;
     };
     let given = give(session.parent_count(), out);
+    *handle = Handle::of(session);
+    given
+}
+
+/// The name of the parent, as the dictionary says it. As much of it is written as fits.
+#[unsafe(no_mangle)]
+pub extern "C" fn ctfd_parent_name(
+    alloc: Global,
+    handle: &mut Handle,
+    text: &mut [u8],
+    len: &mut u64,
+) -> u32
+    ensures same { handle.new.held.session ≡ handle.old.held.session }
+    ensures answer { GivesText (asked handle.old.held.session (λ s. Ok (own_in s).parname)) result
+        (record { text = text.old; len = len.old })
+        (record { text = text.new; len = len.new }) }
+{
+    let Some(session) = handle.take(alloc) else {
+        return NOT_OPEN;
+    };
+    let given = give_text(Ok(session.parname()), text, len);
+    *handle = Handle::of(session);
+    given
+}
+
+/// The label of the parent, as the dictionary says it. As much of it is written as fits.
+#[unsafe(no_mangle)]
+pub extern "C" fn ctfd_parent_label(
+    alloc: Global,
+    handle: &mut Handle,
+    text: &mut [u8],
+    len: &mut u64,
+) -> u32
+    ensures same { handle.new.held.session ≡ handle.old.held.session }
+    ensures answer { GivesText (asked handle.old.held.session (λ s. Ok (own_in s).parlabel)) result
+        (record { text = text.old; len = len.old })
+        (record { text = text.new; len = len.new }) }
+{
+    let Some(session) = handle.take(alloc) else {
+        return NOT_OPEN;
+    };
+    let given = give_text(Ok(session.parlabel()), text, len);
+    *handle = Handle::of(session);
+    given
+}
+
+/// 1 where the pointers of its program have 4 bytes, else 0.
+#[unsafe(no_mangle)]
+pub extern "C" fn ctfd_model(alloc: Global, handle: &mut Handle, out: &mut u32) -> u32
+    ensures same { handle.new.held.session ≡ handle.old.held.session }
+    ensures answer { Gives (asked handle.old.held.session (λ s. Ok (model_number s.own.model)))
+        result out.old out.new }
+{
+    let Some(session) = handle.take(alloc) else {
+        return NOT_OPEN;
+    };
+    let given = give_short(Ok(session.model_number()), out);
     *handle = Handle::of(session);
     given
 }

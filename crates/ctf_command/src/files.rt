@@ -19,6 +19,7 @@ pub fn read_whole<R: Read + Drop>(
     reader: R,
     longest: u32,
 ) -> Result<Vec<u8>, DumpEnd<'_>>
+    ensures whole { IfOk result (λ v. IfSome (R.remaining reader) (λ bytes. v.items ≡ bytes)) }
     ensures short { IfOk result (λ v. vec_len v ≤ longest) }
     ensures refused { IfErr result (λ e. status_after e ≡ 1
         → IfSome (R.remaining reader) (λ bytes. longest < length bytes)) }

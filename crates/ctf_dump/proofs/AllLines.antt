@@ -13,9 +13,9 @@ use Rattle.ctf_model.specs.format.Term as term
 use Rattle.ctf_model.specs.spaces.TypeNumbers.{or_no_type, type_in}
 use Rattle.ctf_model.specs.spaces.TypePlaces.{own_number}
 use Rattle.ctf_model.proofs.OwnTypes.{place_of_own}
-use Rattle.ctf_dump.specs.Progress.{HasWritten}
+use Rattle.ctf_dump.specs.Progress.{HasBegun, HasWritten}
 use Rattle.ctf_dump.specs.Words.{lines_of_type}
-use Rattle.ctf_dump.proofs.Progress.{all_done, one_more}
+use Rattle.ctf_dump.proofs.Progress.{all_done, begun_behind, begun_front, begun_next, one_more}
 
 -- where there is no type
 abbrev nothing : Term
@@ -53,3 +53,29 @@ dump_is s d a b c e f own head labels symbols types =
     Appends-trans a b f (head_line s.own) (flat_map label_line s.own.labels ++ (flat_map symbol_line s.own.entries ++ types_from s 0 s.own.terms)) (subst (λ (x : Dictionary). Appends a b (head_line x)) own head)
     (Appends-trans b c f (flat_map label_line s.own.labels) (flat_map symbol_line s.own.entries ++ types_from s 0 s.own.terms) (subst (λ (x : Dictionary). Appends b c (flat_map label_line x.labels)) own labels)
     (Appends-trans c e f (flat_map symbol_line s.own.entries) (types_from s 0 s.own.terms) (subst (λ (x : Dictionary). Appends c e (flat_map symbol_line x.entries)) own symbols) types))
+
+-- those of some types are written, and then a front of the next one's
+pub types_begun : (s : Space) (i : ℕ) (a b c : Option (List ℕ)) (all : List ℕ) → i < length s.own.terms → HasWritten a b all (types_from s i (drop i s.own.terms)) → HasBegun b c (lines_of_type s (own_number s.own.child i) (own_at s i)) → HasBegun a c all
+types_begun s i a b c all below so_far begun =
+    let terms = s.own.terms in
+    let next = ap (types_from s i) (drop_more terms i nothing below) ∙ lines_next s i (own_at s i) (drop (i + 1) terms) in
+    begun_next a b c all (lines_of_type s (own_number s.own.child i) (own_at s i)) (types_from s (i + 1) (drop (i + 1) terms)) (subst (HasWritten a b all) next so_far) begun
+
+-- ---- where a dump breaks off
+
+pub at_labels : (s : Space) (d : Dictionary) (a b c : Option (List ℕ)) → d ≡ s.own → Appends a b (head_line d) → HasBegun b c (flat_map label_line d.labels) → HasBegun a c (dump s)
+at_labels s d a b c own head labels =
+    begun_behind a b c (head_line s.own) (flat_map label_line s.own.labels ++ (flat_map symbol_line s.own.entries ++ types_from s 0 s.own.terms)) (subst (λ (x : Dictionary). Appends a b (head_line x)) own head)
+    (begun_front b c (flat_map label_line s.own.labels) (flat_map symbol_line s.own.entries ++ types_from s 0 s.own.terms) (subst (λ (x : Dictionary). HasBegun b c (flat_map label_line x.labels)) own labels))
+
+pub at_symbols : (s : Space) (d : Dictionary) (a b c e : Option (List ℕ)) → d ≡ s.own → Appends a b (head_line d) → Appends b c (flat_map label_line d.labels) → HasBegun c e (flat_map symbol_line d.entries) → HasBegun a e (dump s)
+at_symbols s d a b c e own head labels symbols =
+    begun_behind a b e (head_line s.own) (flat_map label_line s.own.labels ++ (flat_map symbol_line s.own.entries ++ types_from s 0 s.own.terms)) (subst (λ (x : Dictionary). Appends a b (head_line x)) own head)
+    (begun_behind b c e (flat_map label_line s.own.labels) (flat_map symbol_line s.own.entries ++ types_from s 0 s.own.terms) (subst (λ (x : Dictionary). Appends b c (flat_map label_line x.labels)) own labels)
+    (begun_front c e (flat_map symbol_line s.own.entries) (types_from s 0 s.own.terms) (subst (λ (x : Dictionary). HasBegun c e (flat_map symbol_line x.entries)) own symbols)))
+
+pub at_types : (s : Space) (d : Dictionary) (a b c e f : Option (List ℕ)) → d ≡ s.own → Appends a b (head_line d) → Appends b c (flat_map label_line d.labels) → Appends c e (flat_map symbol_line d.entries) → HasBegun e f (types_from s 0 s.own.terms) → HasBegun a f (dump s)
+at_types s d a b c e f own head labels symbols types =
+    begun_behind a b f (head_line s.own) (flat_map label_line s.own.labels ++ (flat_map symbol_line s.own.entries ++ types_from s 0 s.own.terms)) (subst (λ (x : Dictionary). Appends a b (head_line x)) own head)
+    (begun_behind b c f (flat_map label_line s.own.labels) (flat_map symbol_line s.own.entries ++ types_from s 0 s.own.terms) (subst (λ (x : Dictionary). Appends b c (flat_map label_line x.labels)) own labels)
+    (begun_behind c e f (flat_map symbol_line s.own.entries) (types_from s 0 s.own.terms) (subst (λ (x : Dictionary). Appends c e (flat_map symbol_line x.entries)) own symbols) types))

@@ -1,9 +1,9 @@
 -- A text that is written piece by piece.
-use Rattle.std.proofs.Common.{ℕ, List, [], ◌++◌, refl, sym, subst, ◌∙◌, append_assoc, append-nil}
+use Rattle.std.proofs.Common.{ℕ, List, [], ◌++◌, Some, None, refl, sym, ap, subst, ◌∙◌, append_assoc, append-nil}
 use Rattle.std.specs.Prelude.{Option}
-use Rattle.std.specs.Io.KnownBytes.{Appends}
+use Rattle.std.specs.Io.KnownBytes.{Appends, Keeps}
 use Rattle.std.proofs.KnownBytes.{Appends-nil, Appends-trans}
-use Rattle.ctf_dump.specs.Progress.{HasWritten}
+use Rattle.ctf_dump.specs.Progress.{HasBegun, HasWritten}
 
 -- nothing was written yet
 pub nothing_yet : (a : Option (List ℕ)) (all : List ℕ) → HasWritten a a all all
@@ -21,3 +21,44 @@ one_more a b c all piece rest w p =
 -- nothing is left
 pub all_done : (a b : Option (List ℕ)) (all : List ℕ) → HasWritten a b all [] → Appends a b all
 all_done a b all w = subst (Appends a b) (sym (append-nil w.done) ∙ w.joined) w.written
+
+-- nothing of it was written
+pub not_begun : (a b : Option (List ℕ)) (all : List ℕ) → Keeps a b → HasBegun a b all
+not_begun None b all keeps = record { rest = all; front = record { done = []; written = keeps; joined = refl } }
+not_begun (Some xs) None all keeps = absurd keeps
+not_begun (Some xs) (Some ys) all keeps = record { rest = all; front = record { done = []; written = keeps ∙ sym (append-nil xs); joined = refl } }
+
+-- nothing was written, and nothing changed
+pub begun_nothing : (a : Option (List ℕ)) (all : List ℕ) → HasBegun a a all
+begun_nothing a all = record { rest = all; front = nothing_yet a all }
+
+-- pieces were written, and then a front of the next
+pub begun_next : (a b c : Option (List ℕ)) (all piece rest : List ℕ) → HasWritten a b all (piece ++ rest) → HasBegun b c piece → HasBegun a c all
+begun_next a b c all piece rest w begun =
+    let front = begun.front in
+    record {
+      rest = begun.rest ++ rest;
+      front = one_more a b c all front.done (begun.rest ++ rest) (subst (HasWritten a b all) (ap (λ (xs : List ℕ). xs ++ rest) (sym front.joined) ∙ append_assoc front.done begun.rest rest) w) front.written;
+    }
+
+-- a front of what stands in front is one of the whole
+pub begun_front : (a b : Option (List ℕ)) (first second : List ℕ) → HasBegun a b first → HasBegun a b (first ++ second)
+begun_front a b first second begun =
+    let front = begun.front in
+    record {
+      rest = begun.rest ++ second;
+      front = record { done = front.done; written = front.written; joined = sym (append_assoc front.done begun.rest second) ∙ ap (λ (xs : List ℕ). xs ++ second) front.joined };
+    }
+
+-- and so is what stands in front with a front of what stands behind
+pub begun_behind : (a b c : Option (List ℕ)) (first second : List ℕ) → Appends a b first → HasBegun b c second → HasBegun a c (first ++ second)
+begun_behind a b c first second written begun =
+    let front = begun.front in
+    record {
+      rest = begun.rest;
+      front = record {
+        done = first ++ front.done;
+        written = Appends-trans a b c first front.done written front.written;
+        joined = append_assoc first front.done begun.rest ∙ ap (λ (xs : List ℕ). first ++ xs) front.joined;
+      };
+    }

@@ -14,6 +14,8 @@ use Rattle.ctf_model.specs.spaces.Space.{Space}
 use Rattle.ctf_model.specs.format.Term.{Body, Term}
 use Rattle.ctf_model.specs.format.Term as term
 use Rattle.ctf_model.specs.names.TypeNames.{spelled_name}
+use Rattle.ctf_dump.specs.Progress.{HasBegun}
+use Rattle.ctf_dump.proofs.Progress.{begun_behind}
 use Rattle.ctf_dump.specs.Words.{figures_text, lines_behind, lines_of_type, root_text, shape_text, typed_text}
 use Rattle.ctf_model.specs.spaces.TypeNumbers.{or_no_type}
 use Rattle.ctf_model.specs.declared.faults.Fault.{Fault}
@@ -100,3 +102,14 @@ type_lines_are a b c s n found f v x e told behind_it first second =
     Appends-trans a b c (type_line s n x) (list_lines x.body)
     (subst (Appends a b) (ap (typed_text s n) (sym same) ∙ type_line_is s n x) first)
     (subst (Appends b c) (ap lines_behind (sym seen) ∙ sym (lists_are x.body)) second)
+
+-- its line is written, and then a front of its list
+pub type_begun : (a b c : Option (List ℕ)) (s : Space) (n : ℕ) (found : Option Term) (f : Facts) (v : Shown) (x : Term) → or_no_type found ≡ Ok x → option_map facts found ≡ Some f → option_map (λ y. shown y.body) found ≡ Some v
+    → Appends a b (typed_text s n f) → HasBegun b c (lines_behind v) → HasBegun a c (lines_of_type s n x)
+type_begun a b c s n found f v x e told behind_it first second =
+    let is = found_back found ∙ ap found_in e in
+    let same : facts x ≡ f = same_Some (facts x) f (sym (ap (option_map facts) is) ∙ told) in
+    let seen : shown x.body ≡ v = same_Some (shown x.body) v (sym (ap (option_map (λ (y : Term). shown y.body)) is) ∙ behind_it) in
+    begun_behind a b c (type_line s n x) (list_lines x.body)
+    (subst (Appends a b) (ap (typed_text s n) (sym same) ∙ type_line_is s n x) first)
+    (subst (HasBegun b c) (ap lines_behind (sym seen) ∙ sym (lists_are x.body)) second)

@@ -7,3 +7,8 @@ pub record HasWritten (before after : Option (List ℕ)) (all rest : List ℕ) :
   pub done : List ℕ
   pub written : Appends before after done
   pub joined : done ++ rest ≡ all
+
+-- known bytes grew by a front of a text, which may be none of it or all
+pub record HasBegun (before after : Option (List ℕ)) (all : List ℕ) : Type 0 where
+  pub rest : List ℕ
+  pub front : HasWritten before after all rest

@@ -1,6 +1,7 @@
 //! All lines of a dictionary.
-ghost use Rattle.std.specs.Prelude.{◌≡◌, ◌<◌, [], OnOk};
+ghost use Rattle.std.specs.Prelude.{◌≡◌, ◌<◌, [], IfErr, OnOk};
 ghost use Rattle.std.specs.Io.KnownBytes.{Appends};
+ghost use Rattle.ctf_dump.specs.Progress.{HasBegun};
 ghost use Rattle.ctf_layout.specs.Fitting.{Fits};
 ghost use Rattle.ctf_model.specs.dumps.Dump.{dump as text_of, types_from};
 ghost use Rattle.ctf_model.specs.spaces.TypePlaces.{own_number};
@@ -11,6 +12,7 @@ use crate::line::{DumpFault, Line};
 use crate::types::type_lines;
 use ctf_layout::Layout;
 use ctf_model::TypeNum;
+use ctf_names::KnownNames;
 use ctf_space::Space;
 use std::alloc::Global;
 use std::io::Write;
@@ -29,19 +31,24 @@ fn numbered(child: bool, place: usize) -> TypeNum
 fn all_type_lines<W: Write>(
     alloc: Global,
     space: &Space<'_>,
+    names: &mut KnownNames<'_>,
     layout: &Layout,
     line: &mut Line,
     out: &mut W,
 ) -> Result<(), DumpFault>
-    requires { line.old ≡ [] }
-    ensures { Fits (space_of space.now) layout.now → OnOk result
+    requires known { names.old ≡ space_of space.now }
+    requires line { line.old ≡ [] }
+    ensures written { Fits (space_of space.now) layout.now → OnOk result
         (Appends (W.contents out.old) (W.contents out.new)
+        (types_from (space_of space.now) 0 (space_of space.now).own.terms)) }
+    ensures begun { Fits (space_of space.now) layout.now → IfErr result
+        (λ f. f ≡ DumpFault.Memory → HasBegun (W.contents out.old) (W.contents out.new)
         (types_from (space_of space.now) 0 (space_of space.now).own.terms)) }
 {
     let dictionary = space.dictionary();
     for place in 0..dictionary.count() {
         let number = numbered(dictionary.child(), place);
-        type_lines(alloc, space, layout, number, line, out)?;
+        type_lines(alloc, space, names, layout, number, line, out)?;
     }
     Ok(())
 }
@@ -54,13 +61,17 @@ pub fn dump<W: Write>(
     layout: &Layout,
     out: &mut W,
 ) -> Result<(), DumpFault>
-    ensures { Fits (space_of space.now) layout.now → OnOk result
+    ensures written { Fits (space_of space.now) layout.now → OnOk result
         (Appends (W.contents out.old) (W.contents out.new) (text_of (space_of space.now))) }
+    ensures begun { Fits (space_of space.now) layout.now → IfErr result
+        (λ f. f ≡ DumpFault.Memory → HasBegun (W.contents out.old) (W.contents out.new)
+        (text_of (space_of space.now))) }
 {
     let mut line = Line::new(alloc);
     let dictionary = space.dictionary();
     head_line(&dictionary, &mut line, out)?;
     label_lines(&dictionary, &mut line, out)?;
     symbol_lines(&dictionary, &mut line, out)?;
-    all_type_lines(alloc, space, layout, &mut line, out)
+    let mut names = KnownNames::new(alloc, *space);
+    all_type_lines(alloc, space, &mut names, layout, &mut line, out)
 }

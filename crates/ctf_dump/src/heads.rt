@@ -1,8 +1,9 @@
 //! The lines in front: the dictionary itself, its labels, and what it tells of symbols.
-ghost use Rattle.std.specs.Prelude.{◌≡◌, ◌++◌, [], codes, decimal, map, OnOk};
+ghost use Rattle.std.specs.Prelude.{◌≡◌, ◌++◌, [], codes, decimal, map, IfErr, OnOk};
 ghost use Rattle.std.specs.List.{flat_map};
-ghost use Rattle.std.specs.Io.KnownBytes.{Appends};
+ghost use Rattle.std.specs.Io.KnownBytes.{Appends, Keeps};
 ghost use Rattle.ctf_check.specs.CheckedView.{dictionary_of};
+ghost use Rattle.ctf_dump.specs.Progress.{HasBegun};
 ghost use Rattle.ctf_dump.specs.Words.{function_text, object_text, parent_text, signature_text};
 ghost use Rattle.ctf_entries.specs.EntriesView.{entry as entry_shown};
 ghost use Rattle.ctf_entries.specs.FunctionView.{signature};
@@ -43,6 +44,8 @@ pub fn head_line<W: Write>(
     ensures written { OnOk result (Appends (W.contents out.old) (W.contents out.new)
         (line_of_head (dictionary_of dictionary.now))) }
     ensures empty { OnOk result (line.new ≡ []) }
+    ensures quiet { IfErr result (λ f. f ≡ DumpFault.Memory
+        → Keeps (W.contents out.old) (W.contents out.new)) }
 {
     line.word("ctf types=", dictionary.count() as u64)?;
     line.text(child_word(dictionary.child()))?;
@@ -55,6 +58,8 @@ fn label_line<W: Write>(label: Label<'_>, line: &mut Line, out: &mut W) -> Resul
     ensures written { OnOk result (Appends (W.contents out.old) (W.contents out.new)
         (line_of_label (label_shown label.entry))) }
     ensures empty { OnOk result (line.new ≡ []) }
+    ensures quiet { IfErr result (λ f. f ≡ DumpFault.Memory
+        → Keeps (W.contents out.old) (W.contents out.new)) }
 {
     line.text("label ")?;
     line.quoted(label.name)?;
@@ -62,7 +67,7 @@ fn label_line<W: Write>(label: Label<'_>, line: &mut Line, out: &mut W) -> Resul
     line.end(out)
 }
 
-#[tactic(auto, using(crate::proofs::Progress::all_done, crate::proofs::Progress::nothing_yet, crate::proofs::Progress::one_more))]
+#[tactic(auto, using(crate::proofs::Progress::all_done, crate::proofs::Progress::nothing_yet, crate::proofs::Progress::one_more, crate::proofs::Progress::not_begun, crate::proofs::Progress::begun_next))]
 pub fn label_lines<W: Write>(
     dictionary: &Checked<'_>,
     line: &mut Line,
@@ -72,6 +77,9 @@ pub fn label_lines<W: Write>(
     ensures written { OnOk result (Appends (W.contents out.old) (W.contents out.new)
         (flat_map line_of_label (dictionary_of dictionary.now).labels)) }
     ensures empty { OnOk result (line.new ≡ []) }
+    ensures begun { IfErr result (λ f. f ≡ DumpFault.Memory
+        → HasBegun (W.contents out.old) (W.contents out.new)
+        (flat_map line_of_label (dictionary_of dictionary.now).labels)) }
 {
     for label in dictionary.labels() {
         label_line(label, line, out)?;
@@ -132,6 +140,8 @@ fn object_line<W: Write>(
     ensures written { OnOk result (Appends (W.contents out.old) (W.contents out.new)
         (object_text number name.now tnum.0)) }
     ensures empty { OnOk result (line.new ≡ []) }
+    ensures quiet { IfErr result (λ f. f ≡ DumpFault.Memory
+        → Keeps (W.contents out.old) (W.contents out.new)) }
 {
     put_symbol(line, "object ", number, name)?;
     line.word(" ", u64::from(tnum.0))?;
@@ -149,6 +159,8 @@ fn function_line<W: Write>(
     ensures written { OnOk result (Appends (W.contents out.old) (W.contents out.new)
         (function_text number name.now (signature told.entry))) }
     ensures empty { OnOk result (line.new ≡ []) }
+    ensures quiet { IfErr result (λ f. f ≡ DumpFault.Memory
+        → Keeps (W.contents out.old) (W.contents out.new)) }
 {
     put_symbol(line, "function ", number, name)?;
     put_signature(line, told.ret, told.args)?;
@@ -161,6 +173,8 @@ fn symbol_line<W: Write>(entry: Entry<'_>, line: &mut Line, out: &mut W) -> Resu
     ensures written { OnOk result (Appends (W.contents out.old) (W.contents out.new)
         (line_of_symbol (entry_shown entry.entry))) }
     ensures empty { OnOk result (line.new ≡ []) }
+    ensures quiet { IfErr result (λ f. f ≡ DumpFault.Memory
+        → Keeps (W.contents out.old) (W.contents out.new)) }
 {
     let Entry {
         number,
@@ -174,7 +188,7 @@ fn symbol_line<W: Write>(entry: Entry<'_>, line: &mut Line, out: &mut W) -> Resu
     }
 }
 
-#[tactic(auto, using(crate::proofs::Progress::all_done, crate::proofs::Progress::nothing_yet, crate::proofs::Progress::one_more))]
+#[tactic(auto, using(crate::proofs::Progress::all_done, crate::proofs::Progress::nothing_yet, crate::proofs::Progress::one_more, crate::proofs::Progress::not_begun, crate::proofs::Progress::begun_next))]
 pub fn symbol_lines<W: Write>(
     dictionary: &Checked<'_>,
     line: &mut Line,
@@ -184,6 +198,9 @@ pub fn symbol_lines<W: Write>(
     ensures written { OnOk result (Appends (W.contents out.old) (W.contents out.new)
         (flat_map line_of_symbol (dictionary_of dictionary.now).entries)) }
     ensures empty { OnOk result (line.new ≡ []) }
+    ensures begun { IfErr result (λ f. f ≡ DumpFault.Memory
+        → HasBegun (W.contents out.old) (W.contents out.new)
+        (flat_map line_of_symbol (dictionary_of dictionary.now).entries)) }
 {
     for entry in dictionary.entries() {
         symbol_line(entry, line, out)?;

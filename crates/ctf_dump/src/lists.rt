@@ -4,6 +4,7 @@ ghost use Rattle.std.specs.Io.KnownBytes.{Appends, Keeps};
 ghost use Rattle.ctf_chains.specs.Starts.{starts_in};
 ghost use Rattle.ctf_check.specs.CheckedView.{lists_of};
 ghost use Rattle.ctf_check.specs.ListsView.{lists_in};
+ghost use Rattle.ctf_dump.specs.Progress.{HasBegun};
 ghost use Rattle.ctf_dump.specs.Refused.{EndsBy, MayAnswer, RefusedBy};
 ghost use Rattle.ctf_dump.specs.Refused.{in_file, over, own_lists, parent_lists, refusal, space_in, status_after};
 ghost use Rattle.ctf_model.specs.dumps.Dump.{dump as text_of};
@@ -60,6 +61,8 @@ fn dump_space<'a, W: Write>(
     ensures end { IfErr result (λ e. EndsBy None e) }
     ensures written { OnOk result (Appends (W.contents out.old) (W.contents out.new)
         (text_of (space_of space.now))) }
+    ensures begun { IfErr result (λ e. e ≡ DumpEnd.Memory
+        → HasBegun (W.contents out.old) (W.contents out.new) (text_of (space_of space.now))) }
 {
     let layout = Layout::build(alloc, space)?;
     dump(alloc, space, &layout, out)?;
@@ -85,6 +88,8 @@ fn dump_over<'a, W: Write>(
     ensures exact_err { IfErr result (λ e. EndsBy (over inputs.now (Some parent.entry)) e) }
     ensures quiet { IfErr result (λ e. status_after e ≡ 1
         → Keeps (W.contents out.old) (W.contents out.new)) }
+    ensures begun { IfErr result (λ e. e ≡ DumpEnd.Memory
+        → HasBegun (W.contents out.old) (W.contents out.new) (text_of (space_in inputs.now))) }
 {
     let starts = judged(alloc, parent, parent.lists())?;
     let dictionary = Checked::indexed(parent.lists(), starts.as_slice());
@@ -106,6 +111,8 @@ fn dump_inputs<'a, W: Write>(
     ensures exact_err { IfErr result (λ e. EndsBy (refusal inputs.now) e) }
     ensures quiet { IfErr result (λ e. status_after e ≡ 1
         → Keeps (W.contents out.old) (W.contents out.new)) }
+    ensures begun { IfErr result (λ e. e ≡ DumpEnd.Memory
+        → HasBegun (W.contents out.old) (W.contents out.new) (text_of (space_in inputs.now))) }
 {
     let lists = inputs.lists();
     let starts = judged(alloc, inputs.ctf, lists)?;
@@ -129,6 +136,9 @@ pub fn dump_lists<W: Write, E: Write>(
         (text_of (space_in inputs.now)) }
     // A file that is refused is not dumped.
     ensures quiet { result ≡ 1 → Keeps (W.contents out.old) (W.contents out.new) }
+    // Without memory the text breaks off.
+    ensures begun { result ≡ 4 → HasBegun (W.contents out.old) (W.contents out.new)
+        (text_of (space_in inputs.now)) }
 {
     match dump_inputs(alloc, inputs, out) {
         Ok(()) => DONE,

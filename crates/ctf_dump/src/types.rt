@@ -1,8 +1,9 @@
 //! The lines of types, with their members or enumerators.
-ghost use Rattle.std.specs.Prelude.{◌≡◌, ◌++◌, [], codes, decimal, option_map, OnOk, Ok};
+ghost use Rattle.std.specs.Prelude.{◌≡◌, ◌++◌, [], codes, decimal, option_map, IfErr, OnOk, Ok};
 ghost use Rattle.std.specs.List.{flat_map};
-ghost use Rattle.std.specs.Io.KnownBytes.{Appends};
+ghost use Rattle.std.specs.Io.KnownBytes.{Appends, Keeps};
 ghost use Rattle.ctf_check.specs.FactsView.{facts_seen, shape_seen};
+ghost use Rattle.ctf_dump.specs.Progress.{HasBegun};
 ghost use Rattle.ctf_dump.specs.Words.{array_text, encoding_text, facts_text, figures_text, lines_behind, lines_of_type, returned_text, root_text, shape_text, size_text, to_text, typed_text};
 ghost use Rattle.ctf_layout.specs.Fitting.{Fits};
 ghost use Rattle.ctf_model.specs.dumps.Dump.{in_quotes, member_line as line_of_member, or_fault, value_line as line_of_value};
@@ -21,7 +22,7 @@ use crate::line::{DumpFault, Line};
 use ctf_check::{Facts, Shape};
 use ctf_layout::Layout;
 use ctf_model::{Fault, Kind, TypeNum, fault_name};
-use ctf_names::spell;
+use ctf_names::KnownNames;
 use ctf_records::Tag;
 use ctf_space::Space;
 use ctf_views::{Args, ArrayInfo, Encoding, Enumerator, Enumerators, Member, Members, Variant};
@@ -132,15 +133,16 @@ fn put_detail(line: &mut Line, x: Shape<'_>) -> Result<(), AllocError>
 /// The name of the type with a number, or that of the fault in its place.
 fn put_spelled(
     alloc: Global,
-    space: &Space<'_>,
+    names: &mut KnownNames<'_>,
     number: TypeNum,
     line: &mut Line,
 ) -> Result<(), AllocError>
-    ensures { OnOk result (line.new ≡ line.old
-        ++ or_fault in_quotes (spelled_name (space_of space.now) number.0)) }
+    ensures text { OnOk result (line.new ≡ line.old
+        ++ or_fault in_quotes (spelled_name names.old number.0)) }
+    ensures kept { names.new ≡ names.old }
 {
     let mut name = Vec::new(alloc);
-    match spell(alloc, space, number, &mut name) {
+    match names.spell(number, &mut name) {
         Ok(()) => line.quoted(&name),
         Err(fault) if fault.code == Fault::MEMORY => Err(AllocError),
         Err(fault) => line.text(fault_name(fault.code)),
@@ -178,16 +180,17 @@ fn put_facts(line: &mut Line, number: TypeNum, x: Facts<'_>) -> Result<(), Alloc
 /// How a type is spelled, and what it comes to.
 fn put_figures(
     alloc: Global,
-    space: &Space<'_>,
+    names: &mut KnownNames<'_>,
     layout: &Layout,
     number: TypeNum,
     line: &mut Line,
 ) -> Result<(), AllocError>
-    ensures { Fits (space_of space.now) layout.now → OnOk result (line.new ≡ line.old
-        ++ figures_text (space_of space.now) number.0) }
+    ensures text { Fits names.old layout.now → OnOk result (line.new ≡ line.old
+        ++ figures_text names.old number.0) }
+    ensures kept { names.new ≡ names.old }
 {
     line.text(" : ")?;
-    put_spelled(alloc, space, number, line)?;
+    put_spelled(alloc, names, number, line)?;
     line.text(" bytes=")?;
     put_figure(line, layout.size(number))?;
     line.text(" align=")?;
@@ -199,6 +202,8 @@ fn member_line<W: Write>(member: Member<'_>, line: &mut Line, out: &mut W) -> Re
     ensures written { OnOk result (Appends (W.contents out.old) (W.contents out.new)
         (line_of_member (member_shown member.entry))) }
     ensures empty { OnOk result (line.new ≡ []) }
+    ensures quiet { IfErr result (λ f. f ≡ DumpFault.Memory
+        → Keeps (W.contents out.old) (W.contents out.new)) }
 {
     line.text("  member ")?;
     line.quoted(member.name)?;
@@ -207,7 +212,7 @@ fn member_line<W: Write>(member: Member<'_>, line: &mut Line, out: &mut W) -> Re
     line.end(out)
 }
 
-#[tactic(auto, using(crate::proofs::Progress::all_done, crate::proofs::Progress::nothing_yet, crate::proofs::Progress::one_more))]
+#[tactic(auto, using(crate::proofs::Progress::all_done, crate::proofs::Progress::nothing_yet, crate::proofs::Progress::one_more, crate::proofs::Progress::not_begun, crate::proofs::Progress::begun_next))]
 fn member_lines<W: Write>(
     members: Members<'_>,
     line: &mut Line,
@@ -217,6 +222,9 @@ fn member_lines<W: Write>(
     ensures written { OnOk result (Appends (W.contents out.old) (W.contents out.new)
         (flat_map line_of_member members.entry)) }
     ensures empty { OnOk result (line.new ≡ []) }
+    ensures begun { IfErr result (λ f. f ≡ DumpFault.Memory
+        → HasBegun (W.contents out.old) (W.contents out.new)
+        (flat_map line_of_member members.entry)) }
 {
     for member in members {
         member_line(member, line, out)?;
@@ -233,6 +241,8 @@ fn value_line<W: Write>(
     ensures written { OnOk result (Appends (W.contents out.old) (W.contents out.new)
         (line_of_value (enumerator_shown enumerator.entry))) }
     ensures empty { OnOk result (line.new ≡ []) }
+    ensures quiet { IfErr result (λ f. f ≡ DumpFault.Memory
+        → Keeps (W.contents out.old) (W.contents out.new)) }
 {
     line.text("  value ")?;
     line.quoted(enumerator.name)?;
@@ -241,7 +251,7 @@ fn value_line<W: Write>(
     line.end(out)
 }
 
-#[tactic(auto, using(crate::proofs::Progress::all_done, crate::proofs::Progress::nothing_yet, crate::proofs::Progress::one_more))]
+#[tactic(auto, using(crate::proofs::Progress::all_done, crate::proofs::Progress::nothing_yet, crate::proofs::Progress::one_more, crate::proofs::Progress::not_begun, crate::proofs::Progress::begun_next))]
 fn value_lines<W: Write>(
     enumerators: Enumerators<'_>,
     line: &mut Line,
@@ -251,6 +261,9 @@ fn value_lines<W: Write>(
     ensures written { OnOk result (Appends (W.contents out.old) (W.contents out.new)
         (flat_map line_of_value enumerators.entry)) }
     ensures empty { OnOk result (line.new ≡ []) }
+    ensures begun { IfErr result (λ f. f ≡ DumpFault.Memory
+        → HasBegun (W.contents out.old) (W.contents out.new)
+        (flat_map line_of_value enumerators.entry)) }
 {
     for enumerator in enumerators {
         value_line(enumerator, line, out)?;
@@ -268,6 +281,9 @@ fn list_of_lines<W: Write>(
     ensures written { OnOk result (Appends (W.contents out.old) (W.contents out.new)
         (lines_behind (seen behind.entry))) }
     ensures empty { OnOk result (line.new ≡ []) }
+    ensures begun { IfErr result (λ f. f ≡ DumpFault.Memory
+        → HasBegun (W.contents out.old) (W.contents out.new)
+        (lines_behind (seen behind.entry))) }
 {
     match behind {
         Variant::Members(members) => member_lines(members, line, out),
@@ -279,7 +295,7 @@ fn list_of_lines<W: Write>(
 /// The line of a type with a number.
 fn type_line<W: Write>(
     alloc: Global,
-    space: &Space<'_>,
+    names: &mut KnownNames<'_>,
     layout: &Layout,
     number: TypeNum,
     facts: Facts<'_>,
@@ -287,13 +303,16 @@ fn type_line<W: Write>(
     out: &mut W,
 ) -> Result<(), DumpFault>
     requires { line.old ≡ [] }
-    ensures written { Fits (space_of space.now) layout.now → OnOk result
+    ensures written { Fits names.old layout.now → OnOk result
         (Appends (W.contents out.old) (W.contents out.new)
-        (typed_text (space_of space.now) number.0 (facts_seen facts.entry))) }
+        (typed_text names.old number.0 (facts_seen facts.entry))) }
     ensures empty { OnOk result (line.new ≡ []) }
+    ensures kept { names.new ≡ names.old }
+    ensures quiet { IfErr result (λ f. f ≡ DumpFault.Memory
+        → Keeps (W.contents out.old) (W.contents out.new)) }
 {
     put_facts(line, number, facts)?;
-    put_figures(alloc, space, layout, number, line)?;
+    put_figures(alloc, names, layout, number, line)?;
     line.end(out)
 }
 
@@ -301,21 +320,28 @@ fn type_line<W: Write>(
 pub fn type_lines<W: Write>(
     alloc: Global,
     space: &Space<'_>,
+    names: &mut KnownNames<'_>,
     layout: &Layout,
     number: TypeNum,
     line: &mut Line,
     out: &mut W,
 ) -> Result<(), DumpFault>
-    requires { line.old ≡ [] }
+    requires known { names.old ≡ space_of space.now }
+    requires line { line.old ≡ [] }
     ensures written { Fits (space_of space.now) layout.now → (x : Term)
         → space_type (space_of space.now) number.0 ≡ Ok x → OnOk result
         (Appends (W.contents out.old) (W.contents out.new)
         (lines_of_type (space_of space.now) number.0 x)) }
     ensures empty { OnOk result (line.new ≡ []) }
+    ensures kept { names.new ≡ names.old }
+    ensures begun { Fits (space_of space.now) layout.now → (x : Term)
+        → space_type (space_of space.now) number.0 ≡ Ok x → IfErr result
+        (λ f. f ≡ DumpFault.Memory → HasBegun (W.contents out.old) (W.contents out.new)
+        (lines_of_type (space_of space.now) number.0 x)) }
 {
     let Ok(found) = space.term(number) else {
         return Ok(());
     };
-    type_line(alloc, space, layout, number, found.facts(), line, out)?;
+    type_line(alloc, names, layout, number, found.facts(), line, out)?;
     list_of_lines(found.variant(), line, out)
 }

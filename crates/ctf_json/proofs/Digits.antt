@@ -1,12 +1,14 @@
 -- The value of a text that is digits alone.
-use Rattle.std.proofs.Common.{◌≡◌, ◌≢◌, ◌==◌, ℕ, ◌<◌, ◌^◌, List, [], ◌++◌, length, drop, slice_index, cond, Bool, true, false, Option, Some, refl, sym, ap, subst, ◌∙◌, arith, append-nil}
+use Rattle.std.proofs.Common.{is_some, lit<, ◌≤◌, ◌≡◌, ◌≢◌, ◌==◌, ℕ, ◌<◌, ◌^◌, List, [], length, slice_index, true, false, Some, refl, sym, ap, ◌∙◌, arith, append-nil}
 use Rattle.std.specs.Prelude.{nat_lt}
 use Rattle.std.proofs.lemmas.Bool.Decides.{nat_tests}
-use Rattle.std.specs.Str.Parse.{AllDigits, digits_value, without_leading_plus, IsNumeral}
-use Rattle.fast_float.specs.Text.{Parts, scan, text_of, IsWellFormed}
+use Rattle.std.specs.Str.Parse.{AllDigits, digits_value}
+use Rattle.std.proofs.lemmas.Str.Parse.{IsNumeralModel, numerals_by_value, tells_digits, digits_value_short, not_in_digits}
+use Rattle.fast_float.specs.Text.{Parts, scan, IsWellFormed}
 use Rattle.fast_float.proofs.Writing.{scan-text_of}
-use Rattle.serde_json.specs.Data.{Num, unsigned}
-use Rattle.serde_json.specs.Read.{number_from}
+use Rattle.serde_json.specs.Data.{unsigned}
+use Rattle.serde_json.specs.Read.{number_from, number_of}
+use Rattle.ctf_json.proofs.Telling.{by_sign}
 
 abbrev alone : List ℕ → Parts
 alone ds = record { whole = ds; point = false; fraction = []; exponent_negative = false; exponent = []; len = length ds }
@@ -34,14 +36,16 @@ pub number_alone : (ds : List ℕ) (n : ℕ) → 0 < length ds → AllDigits 10 
 number_alone ds n some all fits same =
     ap (number_from false) (scan-alone ds all) ∙ by_tests ds (below _ _ some) (below _ _ fits) ∙ ap (λ m. Some (unsigned m)) (sym same)
 
-not_plus : (n : ℕ) → n ≢ 43 → (n == 43) ≡ false
-not_plus n h = grind (arith, nat_tests)
+not_minus : (n : ℕ) → n ≢ 45 → (n == 45) ≡ false
+not_minus n h = grind (arith, nat_tests)
 
-no_plus : (bs : List ℕ) → slice_index bs 0 ≢ 43 → without_leading_plus bs ≡ bs
-no_plus bs h = ap (λ t. drop (cond t 1 0) bs) (not_plus (slice_index bs 0) h)
+own : IsNumeralModel (AllDigits 10) (digits_value 10)
+own = numerals_by_value (AllDigits 10) tells_digits
 
--- what is parsed, and begins with no plus, is the number
-pub number_parsed : (bs : List ℕ) (n : ℕ) → slice_index bs 0 ≢ 43 → (IsNumeral 10 (without_leading_plus bs) × (digits_value 10 (without_leading_plus bs) < 2 ^ 64)) × (n ≡ digits_value 10 (without_leading_plus bs)) → number_from false (scan bs) ≡ Some (unsigned n)
-number_parsed bs n h parsed =
-    let P : List ℕ → Type 0 = λ ds. number_from false (scan ds) ≡ Some (unsigned n) in
-    subst P (no_plus bs h) (number_alone (without_leading_plus bs) n parsed.0.0.0 parsed.0.0.1 parsed.0.1 parsed.1)
+-- a few digits have a value
+pub few_valued : (ds : List ℕ) → 0 < length ds → length ds ≤ 19 → AllDigits 10 ds → is_some (number_of ds) ≡ true
+few_valued ds some few all =
+    let short : digits_value 10 ds < 10 ^ 19 = digits_value_short own ds 19 all few in
+    let limit : 10 ^ 19 < 2 ^ 64 = lit< tt in
+    let first : slice_index ds 0 ≢ 45 = not_in_digits own ds 45 all (λ r. omega (arith, r)) 0 some in
+    ap is_some (by_sign ds false (sym (not_minus (slice_index ds 0) first)) ∙ number_alone ds (digits_value 10 ds) some all (omega (arith, short, limit)) refl)

@@ -1,5 +1,5 @@
 -- What the tree of a text says, in the words of serde_json, and whether each of its numbers has a value there.
-use Rattle.std.specs.Prelude.{ℕ, ◌&&◌, List, Bool, true, is_some, Option, Some, None}
+use Rattle.std.specs.Prelude.{◌&&◌, List, Bool, true, is_some, Option, Some, None}
 use Rattle.json.specs.Json as json
 use Rattle.json.specs.Value as tree
 use Rattle.json.specs.declared.value.Value.{Value}

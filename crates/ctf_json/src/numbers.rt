@@ -1,11 +1,13 @@
 //! The value of a number's text, as serde_json has it.
-ghost use Rattle.std.specs.Prelude.{◌≡◌, ◌==◌, ◌<◌, IfSome, IsTrue, Some, length, option_map, slice_index, true, false};
+ghost use Rattle.std.specs.Prelude.{◌≡◌, ◌==◌, ◌<◌, ◌≤◌, IfSome, IsTrue, Some, is_some, length, option_map, slice_index, true, false};
+ghost use Rattle.std.specs.Char.{digit_value};
+ghost use Rattle.std.specs.Str.Parse.{AllDigits};
 ghost use Rattle.fast_float.specs.Text.{scan};
 ghost use Rattle.serde_json.specs.Data.{unsigned as unsigned_number};
 ghost use Rattle.serde_json.specs.Read.{float_of, number_from, number_of};
 ghost use Rattle.serde_json.specs.View.{number_view};
 
-use fast_float::{Numeral, parse_u64};
+use fast_float::Numeral;
 use serde_json::Number;
 
 /// Whether a text begins with a minus.
@@ -23,17 +25,33 @@ fn nearest(negative: bool, numeral: &Numeral<'_>) -> Option<Number>
     Number::from_f64(numeral.to_float::<f64>(negative))
 }
 
-/// The value of digits alone, as almost all numbers are.
+fn digit(byte: u8) -> Option<u64>
+    ensures { IfSome result (λ d. (digit_value byte < 10) × (d ≡ digit_value byte)) }
+{
+    match byte {
+        b'0'..=b'9' => Some(u64::from(byte - b'0')),
+        _ => None,
+    }
+}
+
+/// The value of digits alone, as almost all numbers are. A value that may not fit is left out.
 fn digits_alone(bytes: &[u8]) -> Option<u64>
     ensures { IfSome result (λ n. number_from false (scan bytes.now) ≡ Some (unsigned_number n)) }
 {
-    if bytes.is_empty() || bytes[0] == b'+' {
+    if bytes.is_empty() {
         return None;
     }
-    match parse_u64(bytes) {
-        Ok(n) => Some(n),
-        Err(_) => None,
+    let mut value = 0;
+    for byte in bytes {
+        let Some(digit) = digit(*byte) else {
+            return None;
+        };
+        if value >= 1_000_000_000_000_000_000 {
+            return None;
+        }
+        value = 10 * value + digit;
     }
+    Some(value)
 }
 
 fn unsigned(bytes: &[u8]) -> Option<Number>
@@ -73,4 +91,33 @@ pub fn number(text: &str) -> Option<Number>
     } else {
         unsigned(bytes)
     }
+}
+
+/// Whether a text is digits alone, and so few that the value fits.
+fn are_few_digits(bytes: &[u8]) -> bool
+    ensures { IsTrue result
+        → (0 < length bytes.now) × (length bytes.now ≤ 19) × AllDigits 10 bytes.now }
+{
+    if bytes.is_empty() {
+        return false;
+    }
+    if bytes.len() > 19 {
+        return false;
+    }
+    for byte in bytes {
+        let Some(_) = digit(*byte) else {
+            return false;
+        };
+    }
+    true
+}
+
+/// Whether a number's text has a value. That of few digits isn't looked for.
+pub(crate) fn has_value(text: &str) -> bool
+    ensures { result ≡ is_some (number_of text.now) }
+{
+    if are_few_digits(text.as_bytes()) {
+        return true;
+    }
+    number(text).is_some()
 }

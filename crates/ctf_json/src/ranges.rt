@@ -3,7 +3,7 @@ ghost use Rattle.std.specs.Prelude.{◌≡◌, List};
 ghost use Rattle.json.specs.Value.{value_view, items_view, members_view};
 ghost use Rattle.ctf_json.specs.Told.{in_range as all_in_range, items_in_range as all_items_in_range, members_in_range as all_members_in_range};
 
-use crate::numbers::number;
+use crate::numbers::has_value;
 use json::Value;
 
 #[cycle(in_range)]
@@ -13,7 +13,7 @@ pub(crate) fn in_range(value: &Value<'_>) -> bool
     match value {
         Value::Null => true,
         Value::Bool(_) => true,
-        Value::Number(text) => number(text).is_some(),
+        Value::Number(text) => has_value(text),
         Value::String(_) => true,
         Value::Array(items) => items_in_range(items),
         Value::Object(members) => members_in_range(members),

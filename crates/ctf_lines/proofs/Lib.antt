@@ -1,4 +1,3 @@
-pub mod EntryAt
 pub mod Walks
 pub mod Separated
 pub mod Short
@@ -7,3 +6,7 @@ pub mod Fronts
 pub mod HexDigits
 pub mod HexText
 pub mod SaidItems
+pub mod Plain
+pub mod Objects
+pub mod Passes
+pub mod Decimals

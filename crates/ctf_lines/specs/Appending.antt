@@ -17,6 +17,12 @@ pub record Appended (old new : Vec ℕ Global) (text : List ℕ) : Type 0 where
   pub len : vec_len new ≡ vec_len old + length text
   pub capacity : vec_capacity new ≡ vec_capacity old
 
+-- nothing was appended
+pub record IsAsBefore (old new : Vec ℕ Global) : Type 0 where
+  pub items : new.items ≡ old.items
+  pub len : vec_len new ≡ vec_len old
+  pub capacity : vec_capacity new ≡ vec_capacity old
+
 -- a text was appended, or memory was refused and all is as before;
 -- where there is room, no memory is taken
 pub record Writes {E : Type 0} (old : Vec ℕ Global) (text : List ℕ) (result : Result (Unit {0}) E)

@@ -1,5 +1,5 @@
 //! Items of lists, and fields.
-ghost use Rattle.std.specs.Prelude.{◌≡◌, ◌++◌, map};
+ghost use Rattle.std.specs.Prelude.{◌≡◌, ◌++◌, [], ◌∷◌, map};
 ghost use Rattle.ctf_protocol.specs.lines.ReplyLines.{item_text, list_text, object_text, field_text, value_text};
 ghost use Rattle.ctf_answers.specs.Singles.{entry_of};
 ghost use Rattle.ctf_answers.specs.Items.{item_of};
@@ -7,48 +7,42 @@ ghost use Rattle.ctf_answers.specs.Fields.{field_of, value_of};
 
 use crate::papers::Paper;
 use crate::series::{Series, put_series};
-use crate::singles::{put_entry, put_key, put_single};
-use ctf_answers::{Answer, Entry, Field, Item, Listed, Single, Value};
+use crate::singles::{put_entry, put_key, put_quoted, put_single};
+use ctf_answers::{Answer, Entry, Field, Item, Listed, Value};
 
-/// The parts of an object.
-#[derive(Clone, Copy)]
-struct Entries<'a> {
-    entries: &'a [Entry<'a>],
-}
-
-impl<'a> Series for Entries<'a> {
-    ghost use Rattle.std.specs.Prelude.{map};
-    ghost use Rattle.ctf_protocol.specs.lines.ReplyLines.{entry_text};
-    ghost use Rattle.ctf_answers.specs.Singles.{entry_of};
-
-    ghost texts = { λ object. map entry_text (map entry_of object.entries.now) };
-
-    fn count(&self) -> usize {
-        self.entries.len()
-    }
-
-    fn put_text<P: Paper>(&self, paper: &mut P, index: usize) {
-        put_entry(paper, &self.entries[index]);
-    }
-}
-
-/// Puts an object on.
-fn put_object<P: Paper>(paper: &mut P, entries: &[Entry<'_>])
-    ensures { P.Took paper.old (object_text (map entry_of entries.now)) paper.new }
+/// Puts an object of two parts on.
+fn put_two<P: Paper>(paper: &mut P, a: &Entry<'_>, b: &Entry<'_>)
+    ensures { P.Took paper.old (object_text (entry_of a.now ∷ entry_of b.now ∷ [])) paper.new }
 {
-    paper.put(b"{");
-    put_series(paper, &Entries { entries });
-    paper.put(b"}");
+    paper.put_one(b'{');
+    put_entry(paper, a);
+    paper.put_one(b',');
+    put_entry(paper, b);
+    paper.put_one(b'}');
+}
+
+/// Puts an object of three parts on.
+fn put_three<P: Paper>(paper: &mut P, a: &Entry<'_>, b: &Entry<'_>, c: &Entry<'_>)
+    ensures { P.Took paper.old
+        (object_text (entry_of a.now ∷ entry_of b.now ∷ entry_of c.now ∷ [])) paper.new }
+{
+    paper.put_one(b'{');
+    put_entry(paper, a);
+    paper.put_one(b',');
+    put_entry(paper, b);
+    paper.put_one(b',');
+    put_entry(paper, c);
+    paper.put_one(b'}');
 }
 
 /// Puts an item on.
-fn put_item<P: Paper>(paper: &mut P, item: Item<'_>)
-    ensures { P.Took paper.old (item_text (item_of item.entry)) paper.new }
+fn put_item<P: Paper>(paper: &mut P, item: &Item<'_>)
+    ensures { P.Took paper.old (item_text (item_of item.now)) paper.new }
 {
     match item {
         Item::Bare(value) => put_single(paper, value),
-        Item::Two(a, b) => put_object(paper, &[a, b]),
-        Item::Three(a, b, c) => put_object(paper, &[a, b, c]),
+        Item::Two(a, b) => put_two(paper, a, b),
+        Item::Three(a, b, c) => put_three(paper, a, b, c),
     }
 }
 
@@ -63,7 +57,7 @@ impl<'a> Series for Listed<'a> {
     }
 
     fn put_text<P: Paper>(&self, paper: &mut P, index: usize) {
-        put_item(paper, self.get(index));
+        put_item(paper, &self.get(index));
     }
 }
 
@@ -71,9 +65,9 @@ impl<'a> Series for Listed<'a> {
 fn put_list<P: Paper>(paper: &mut P, items: &Listed<'_>)
     ensures { P.Took paper.old (list_text items.now) paper.new }
 {
-    paper.put(b"[");
+    paper.put_one(b'[');
     put_series(paper, items);
-    paper.put(b"]");
+    paper.put_one(b']');
 }
 
 /// Puts a field's value on.
@@ -81,9 +75,9 @@ fn put_value<P: Paper>(paper: &mut P, value: Value<'_, '_>)
     ensures { P.Took paper.old (value_text (value_of value.entry)) paper.new }
 {
     match value {
-        Value::One(value) => put_single(paper, value),
+        Value::One(value) => put_single(paper, &value),
         Value::Many(items) => put_list(paper, items),
-        Value::Made(text) => put_single(paper, Single::Text(text)),
+        Value::Made(text) => put_quoted(paper, text),
     }
 }
 

@@ -13,6 +13,7 @@ mod no_memory;
 mod papers;
 mod reading;
 mod series;
+mod sheets;
 mod singles;
 mod spelled;
 mod texts;

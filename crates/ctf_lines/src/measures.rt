@@ -52,6 +52,18 @@ impl Paper for Measure {
         };
     }
 
+    fn put_one(&mut self, _byte: u8) {
+        *self = Measure {
+            len: plus(self.len, 1),
+        };
+    }
+
+    fn put_between(&mut self, front: &[u8], text: &[u8], back: &[u8]) {
+        *self = Measure {
+            len: plus(plus(self.len, front.len() + back.len()), text.len()),
+        };
+    }
+
     #[tactic(auto, using(crate::proofs::HexText::hex_of_twice))]
     fn put_hex(&mut self, bytes: &[u8]) {
         *self = Measure {

@@ -1,5 +1,5 @@
 //! Names in a line: their bytes are escaped where they aren't plain.
-ghost use Rattle.std.specs.Prelude.{◌≡◌, ◌<◌, ◌+◌, ◌≤◌, ◌++◌, length, vec_len, vec_capacity};
+ghost use Rattle.std.specs.Prelude.{IsTrue, ◌≡◌, ◌<◌, ◌+◌, ◌≤◌, ◌++◌, length, vec_len, vec_capacity};
 ghost use Rattle.ctf_lines.specs.Appending.{HasRoom, Appended};
 ghost use Rattle.ctf_model.specs.dumps.Texts.{is_plain as is_plain_byte, hex_digit as digit_of, hex_of_byte};
 ghost use Rattle.ctf_protocol.specs.lines.Text.{text_of_byte, text_of, hex_of};
@@ -28,12 +28,28 @@ fn put_byte<P: Paper>(paper: &mut P, byte: u8)
     ensures { P.Took paper.old (text_of_byte byte) paper.new }
 {
     if is_plain(byte) {
-        paper.put(&[byte]);
+        paper.put_one(byte);
     } else {
         let high = hex_digit(byte / 16);
         let low = hex_digit(byte % 16);
         paper.put(&[b'\\', b'\\', b'x', high, low]);
     }
+}
+
+/// Whether all bytes of a text stand as themselves. A text that is longer than most names isn't
+/// looked at.
+pub fn are_plain(text: &[u8]) -> bool
+    ensures { IsTrue result → text_of text.now ≡ text.now }
+{
+    if text.len() > 4096 {
+        return false;
+    }
+    for byte in text {
+        if !is_plain(*byte) {
+            return false;
+        }
+    }
+    true
 }
 
 /// Puts a name on. What stands behind a limit isn't looked at.

@@ -1,5 +1,5 @@
 //! What texts are put on: the end of a line, or a measure of how long they are.
-ghost use Rattle.std.specs.Prelude.{◌≡◌, ◌++◌, [], true, ℕ, List};
+ghost use Rattle.std.specs.Prelude.{◌≡◌, ◌≤◌, ◌++◌, [], ◌∷◌, true, ℕ, List, length};
 ghost use Rattle.ctf_protocol.specs.lines.Text.{hex_of};
 
 /// What texts are put on, one behind the other.
@@ -14,6 +14,15 @@ pub trait Paper {
     /// Puts a text on.
     fn put(&mut self, text: &[u8])
         ensures { Took self.old text.now self.new };
+
+    /// Puts a byte on.
+    fn put_one(&mut self, byte: u8)
+        ensures { Took self.old (byte ∷ []) self.new };
+
+    /// Puts a text on between two short ones.
+    fn put_between(&mut self, front: &[u8], text: &[u8], back: &[u8])
+        requires { (length front.now ≤ 4) × (length back.now ≤ 4) }
+        ensures { Took self.old (front.now ++ (text.now ++ back.now)) self.new };
 
     /// Puts on the digits of bytes, two for each.
     fn put_hex(&mut self, bytes: &[u8])

@@ -5,6 +5,7 @@ ghost use Rattle.serde_json.specs.Read.{read as read_json};
 ghost use Rattle.ctf_json.specs.Told.{items_said as items_view, said as view};
 ghost use Rattle.ctf_protocol.specs.lines.Ask.{ask, open_asked, list_named, close_asked, import_asked, publication_asked, publish_asked, take_asked, withdraw_asked, about_type as type_question_asked, about_slot as slot_question_asked, about_held as held_question_asked, bytes_asked, symbol_asked, show_asked, names_asked, part_asked, word_asked, asked_with, request_asked, value_asked};
 ghost use Rattle.ctf_protocol.specs.lines.LineFields.{within, number_in, text_in, slot_under as slot_named, slot_in, type_in, name_under as name_asked, from_asked, count_asked, window_asked};
+ghost use Rattle.ctf_protocol.specs.words.Words.{word_named, words};
 ghost use Rattle.ctf_model.specs.rules.Refusals.{placeless, want_of_memory};
 ghost use Rattle.ctf_model.specs.declared.faults.TheConstants.Fault.{MEMORY};
 ghost use Rattle.ctf_protocol.specs.declared.questions.SlotQuestion.TheVariants as whole;
@@ -16,8 +17,8 @@ use crate::models::model;
 use crate::spelled::{name, names, piece};
 use ctf_json::{NotRead, Scratch, Value, as_array, as_str, as_u64, get};
 use ctf_protocol::{
-    Change, DataModel, Fault, HeldQuestion, ListName, Names, Piece, PublicationName, Question,
-    Request, SlotNumber, SlotQuestion, TypeNum, TypeQuestion, Window, Word, placeless,
+    Change, DataModel, Fault, HeldQuestion, ListName, Names, Piece, PlainQuestion, PublicationName,
+    Question, Request, SlotNumber, SlotQuestion, TypeNum, TypeQuestion, Window, Word, placeless,
 };
 use std::alloc::{AllocError, Global};
 
@@ -138,11 +139,46 @@ fn read_request(alloc: Global, value: &Value<'_>) -> Result<Option<Request>, All
 fn word(value: &Value<'_>) -> Option<Word>
     ensures { result ≡ word_asked (view value.now) }
 {
-    Word::named(text(value, "op")?)
+    named(text(value, "op")?)
 }
 
-/// What a word asks, with its fields.
+/// The word that a text is. Those that are asked most are known at once.
+#[tactic(auto, unfolding(ctf_protocol::specs::words::Words::words))]
+fn named(text: &str) -> Option<Word>
+    ensures { result ≡ word_named text.now words }
+{
+    match text.as_bytes() {
+        b"kind" => Some(Word::Plain(PlainQuestion::Kind)),
+        b"size" => Some(Word::Plain(PlainQuestion::Size)),
+        b"find" => Some(Word::Find),
+        _ => named_long(text),
+    }
+}
+
+#[tactic(auto, unfolding(ctf_protocol::specs::words::Words::words))]
+fn named_long(text: &str) -> Option<Word>
+    ensures { result ≡ word_named text.now words }
+{
+    match text {
+        "record" => Some(Word::Plain(PlainQuestion::Record)),
+        "members" => Some(Word::Members),
+        "symbol" => Some(Word::Symbol),
+        _ => Word::named(text),
+    }
+}
+
+/// What a word asks, with its fields. Those that take no memory are asked most.
 fn read_word(alloc: Global, value: &Value<'_>, word: Word) -> Result<Option<Request>, AllocError>
+    ensures { IfOk result (λ request. request ≡ asked_with (view value.now) word) }
+{
+    match word {
+        Word::Plain(question) => Ok(about_type(value, Some(TypeQuestion::Plain(question)))),
+        _ => read_other(alloc, value, word),
+    }
+}
+
+#[inline(never)]
+fn read_other(alloc: Global, value: &Value<'_>, word: Word) -> Result<Option<Request>, AllocError>
     ensures { IfOk result (λ request. request ≡ asked_with (view value.now) word) }
 {
     match word {

@@ -19,11 +19,13 @@ pub trait Series {
         ensures { P.Took paper.old (get_or (texts self.now) index []) paper.new };
 }
 
-/// What stands before the text with a number.
-fn comma(index: usize) -> &'static str
-    ensures { result.now ≡ comma_before index }
+/// Puts on what stands before the text with a number.
+fn put_comma<P: Paper>(paper: &mut P, index: usize)
+    ensures { P.Took paper.old (comma_before index) paper.new }
 {
-    if index > 0 { "," } else { "" }
+    if index > 0 {
+        paper.put_one(b',');
+    }
 }
 
 /// Puts all on. What stands behind a limit isn't looked at.
@@ -34,7 +36,7 @@ pub fn put_series<P: Paper, S: Series>(paper: &mut P, series: &S)
         if paper.is_full() {
             return;
         }
-        paper.put(comma(index).as_bytes());
+        put_comma(paper, index);
         series.put_text(paper, index);
     }
 }

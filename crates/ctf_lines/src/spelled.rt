@@ -6,7 +6,7 @@ ghost use Rattle.ctf_protocol.specs.lines.Text.{digit_value as digit_value_of, b
 ghost use Rattle.ctf_lines.specs.Fronts.{IsFront, escape as escape_of};
 
 use crate::digits::decode;
-use crate::names::is_plain;
+use crate::names::{are_plain, is_plain};
 use ctf_json::{Value, as_str};
 use ctf_protocol::{LONGEST_PIECE, Names, Piece};
 use std::alloc::{AllocError, Global};
@@ -77,6 +77,15 @@ fn front(text: &[u8]) -> Option<(u8, &[u8])>
 
 /// The bytes that a text spells. It takes as many bytes of memory as the text has, at most.
 fn bytes_of(alloc: Global, text: &[u8]) -> Result<Option<Vec<u8>>, AllocError>
+    ensures { IfOk result (λ bytes. option_map (λ v. v.items) bytes ≡ bytes_spelled_by text.now) }
+{
+    if are_plain(text) {
+        return Ok(Some(Vec::from_slice(alloc, text)?));
+    }
+    escaped_bytes_of(alloc, text)
+}
+
+fn escaped_bytes_of(alloc: Global, text: &[u8]) -> Result<Option<Vec<u8>>, AllocError>
     ensures { IfOk result (λ bytes. option_map (λ v. v.items) bytes ≡ bytes_spelled_by text.now) }
 {
     let mut bytes = Vec::with_capacity(alloc, text.len())?;

@@ -1,5 +1,5 @@
 //! Texts at the end of a line, and those of numbers.
-ghost use Rattle.std.specs.Prelude.{◌≡◌, ◌+◌, ◌≤◌, ◌++◌, length, vec_len, vec_capacity, decimal};
+ghost use Rattle.std.specs.Prelude.{◌≡◌, ◌+◌, ◌<◌, ◌≤◌, ◌++◌, length, vec_len, vec_capacity, decimal};
 ghost use Rattle.ctf_model.specs.dumps.Texts.{signed_decimal};
 ghost use Rattle.ctf_lines.specs.Appending.{HasRoom, Appended};
 
@@ -40,6 +40,18 @@ impl Paper for Vec<u8> {
         }
     }
 
+    fn put_one(&mut self, byte: u8) {
+        if self.len() < self.capacity() {
+            self.push_reserved(byte);
+        }
+    }
+
+    fn put_between(&mut self, front: &[u8], text: &[u8], back: &[u8]) {
+        self.put(front);
+        self.put(text);
+        self.put(back);
+    }
+
     #[tactic(auto, using(crate::proofs::HexText::hex_of_twice))]
     fn put_hex(&mut self, bytes: &[u8]) {
         if bytes.len() <= (self.capacity() - self.len()) / 2 {
@@ -52,10 +64,41 @@ impl Paper for Vec<u8> {
     ghost joined = { both_appended };
 }
 
+fn digit(number: u64) -> u8
+    requires { number < 10 }
+    ensures { result ≡ 48 + number }
+{
+    b'0' + number as u8
+}
+
+fn put_two_digits<P: Paper>(paper: &mut P, number: u64)
+    requires { (10 ≤ number) × (number < 100) }
+    ensures { P.Took paper.old (decimal number) paper.new }
+{
+    paper.put(&[digit(number / 10), digit(number % 10)]);
+}
+
+fn put_three_digits<P: Paper>(paper: &mut P, number: u64)
+    requires { (100 ≤ number) × (number < 1000) }
+    ensures { P.Took paper.old (decimal number) paper.new }
+{
+    let front = number / 10;
+    paper.put(&[digit(front / 10), digit(front % 10), digit(number % 10)]);
+}
+
+/// Puts a number on. Most are small.
 pub fn put_number<P: Paper>(paper: &mut P, number: u64)
     ensures { P.Took paper.old (decimal number) paper.new }
 {
-    paper.put(Buffer::new().format(number).as_bytes())
+    if number < 10 {
+        paper.put_one(digit(number));
+    } else if number < 100 {
+        put_two_digits(paper, number);
+    } else if number < 1000 {
+        put_three_digits(paper, number);
+    } else {
+        paper.put(Buffer::new().format(number).as_bytes());
+    }
 }
 
 pub fn put_signed<P: Paper>(paper: &mut P, value: i32)

@@ -1,21 +1,26 @@
 //! Writes the line of a reply.
-ghost use Rattle.std.specs.Prelude.{◌≡◌, ◌≤◌, length};
-ghost use Rattle.ctf_protocol.specs.lines.ReplyLines.{fault_fields, fault_line, fitting_answer, object_line, reply_line};
+ghost use Rattle.std.specs.Prelude.{◌≡◌, ◌≤◌, length, MatchBool};
+ghost use Rattle.ctf_protocol.specs.lines.ReplyLines.{answer_line, fault_fields, fault_line, fitting_answer, object_line, reply_line};
 ghost use Rattle.ctf_answers.specs.Counts.{counts_said};
 ghost use Rattle.ctf_answers.specs.Replies.{reply_of, said_to};
-ghost use Rattle.ctf_lines.specs.Appending.{Writes, and_text};
+ghost use Rattle.ctf_lines.specs.Appending.{Appended, IsAsBefore, Writes, and_text};
 
 use crate::lines::ToLine;
 use crate::measures::Measure;
 use crate::papers::Paper;
 use crate::series::put_series;
+use crate::sheets::Sheet;
 use crate::texts::{LONGEST_REPLY, put_number};
 use ctf_answers::{Answer, Counts, Reply, Single};
 use ctf_protocol::{Fault, fault_name, placeless};
 use std::alloc::AllocError;
+use std::mem::replace;
 
 /// The greatest length of the line of a refusal, or of a reply to a change.
 pub const SHORT_LINE: usize = 96;
+
+/// The longest line that is written in one pass, in bytes with its newline.
+const SHORT_PASS: usize = 65_536;
 
 /// Puts the line of an object on.
 fn put_line<P: Paper>(paper: &mut P, under: &str, session: u32, fields: &Answer<'_>)
@@ -56,6 +61,25 @@ fn write_object(
     Ok(())
 }
 
+/// Appends the line of an object in one pass, or nothing where it is long or finds no room.
+fn write_short(out: &mut Vec<u8>, session: u32, fields: &Answer<'_>) -> bool
+    ensures { MatchBool result
+        (Appended out.old out.new (answer_line session fields.now)
+        × (length (answer_line session fields.now) ≤ 65536))
+        (IsAsBefore out.old out.new) }
+{
+    let len = out.len();
+    let empty = Vec::new(*out.allocator());
+    let mut sheet = Sheet::new(replace(out, empty), SHORT_PASS);
+    put_line(&mut sheet, "ok", session, fields);
+    let (lines, is_full) = sheet.into_parts();
+    *out = lines;
+    if is_full {
+        out.truncate(len);
+    }
+    !is_full
+}
+
 /// The fields of a refusal.
 fn fault_answer<'a>(fault: Fault) -> Answer<'a>
     ensures { result ≡ fault_fields fault }
@@ -81,9 +105,9 @@ fn write_fault(out: &mut Vec<u8>, session: u32, fault: Fault) -> Result<(), Allo
     write_object(out, len, "fault", session, &fields)
 }
 
-/// Appends an answer, or the refusal of one that is too long.
+/// Appends an answer that is measured first, or the refusal of one that is too long.
 #[tactic(auto, using(crate::proofs::Short::fitting_fits, crate::proofs::Short::fitting_long))]
-fn write_answer(out: &mut Vec<u8>, session: u32, answer: &Answer<'_>) -> Result<(), AllocError>
+fn write_measured(out: &mut Vec<u8>, session: u32, answer: &Answer<'_>) -> Result<(), AllocError>
     ensures { Writes out.old (fitting_answer session answer.now) result out.new }
 {
     let len = object_len("ok", session, answer);
@@ -92,6 +116,16 @@ fn write_answer(out: &mut Vec<u8>, session: u32, answer: &Answer<'_>) -> Result<
     } else {
         write_fault(out, session, placeless(Fault::LONG_REPLY))
     }
+}
+
+/// Appends an answer, or the refusal of one that is too long.
+fn write_answer(out: &mut Vec<u8>, session: u32, answer: &Answer<'_>) -> Result<(), AllocError>
+    ensures { Writes out.old (fitting_answer session answer.now) result out.new }
+{
+    if write_short(out, session, answer) {
+        return Ok(());
+    }
+    write_measured(out, session, answer)
 }
 
 #[tactic(auto, using(crate::proofs::Short::counts_short))]

@@ -8,3 +8,5 @@ pub mod Places
 pub mod Pointing
 pub mod WrittenTexts
 pub mod Steps
+pub mod Lengths
+pub mod Findings

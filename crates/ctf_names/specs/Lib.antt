@@ -4,6 +4,9 @@ pub mod Bases
 pub mod Unrolling
 pub mod Marks
 pub mod MarkSteps
+pub mod Extents
+pub mod Measuring
+pub mod KnownView
 pub mod Adding
 pub mod Sorts
 pub mod Entries

@@ -1,11 +1,14 @@
 //! Names of types: as C spells them, and looked up.
 #![tactic(auto)]
 
+mod extents;
 mod finding;
 mod index;
 mod inside;
 mod kept;
+mod known;
 mod marks;
+mod measures;
 mod names;
 mod numbers;
 mod pointers;
@@ -20,4 +23,5 @@ mod written;
 
 pub use finding::{find, pointer_to};
 pub use index::NameIndex;
+pub use known::KnownNames;
 pub use spelling::spell;

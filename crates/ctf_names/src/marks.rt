@@ -38,7 +38,7 @@ fn is_behind(below: Option<Layer>) -> bool
 }
 
 /// The mark of a layer, by whether it is the outermost, and by what its qualifiers stand round.
-fn mark_of(outermost: bool, layer: Layer, below: Option<Layer>) -> Mark
+pub fn mark_of(outermost: bool, layer: Layer, below: Option<Layer>) -> Mark
     ensures { result ≡ mark outermost layer below }
 {
     match layer {
@@ -64,7 +64,7 @@ fn mark_of(outermost: bool, layer: Layer, below: Option<Layer>) -> Mark
 }
 
 /// A layer, or what is below it where it is a qualifier.
-fn first_beyond(layer: Layer, below: Option<Layer>) -> Option<Layer>
+pub fn first_beyond(layer: Layer, below: Option<Layer>) -> Option<Layer>
     ensures { result ≡ beyond layer below }
 {
     match layer {

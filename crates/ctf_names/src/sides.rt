@@ -81,6 +81,20 @@ fn put_right(out: &mut Vec<u8>, mark: Mark)
     }
 }
 
+/// A length and what a mark puts in front of the name.
+pub fn plus_front(len: usize, mark: Mark) -> usize
+    ensures { result ≡ min (len + length (front_text mark)) TOO_LONG }
+{
+    plus(len, front(mark).len())
+}
+
+/// A length and what a mark puts on both sides of the declarator.
+pub fn plus_sides(len: usize, mark: Mark) -> usize
+    ensures { result ≡ min (len + (length (left_text mark) + length (right_text mark))) TOO_LONG }
+{
+    plus_right(plus(len, left(mark).len()), mark)
+}
+
 pub fn plus_fronts(start: usize, marks: &[Mark]) -> usize
     requires { start ≤ TOO_LONG }
     ensures { result ≡ min (start + length (flat_map front_text marks.now)) TOO_LONG }

@@ -20,7 +20,7 @@ pub struct Unrolled<'a> {
 }
 
 /// What stands for no type.
-fn void<'a>() -> Base<'a>
+pub fn void<'a>() -> Base<'a>
     ensures { base_text result ≡ codes "void" }
 {
     Base {

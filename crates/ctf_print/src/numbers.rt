@@ -1,5 +1,5 @@
 //! Numbers in memory, and how they are shown as they are.
-ghost use Rattle.std.specs.Prelude.{◌≡◌, ◌+◌, ◌*◌, ◌≤◌, ◌<◌, ◌^◌, ◌/◌, ◌%◌, length, nat_le, slice_index, IfErr, OnOk, Ok};
+ghost use Rattle.std.specs.Prelude.{◌≡◌, ◌+◌, ◌-◌, ◌*◌, ◌≤◌, ◌<◌, ◌^◌, ◌/◌, ◌%◌, length, nat_le, IfErr, OnOk, Ok};
 ghost use Rattle.ctf_model.specs.values.MemoryBits.{bits_at, field as field_of, hexadecimal, started_bytes};
 ghost use Rattle.ctf_model.specs.values.Pieces.{piece};
 ghost use Rattle.ctf_model.specs.dumps.Texts.{hex_digit as hex_digit_of, hex_of_byte};
@@ -9,13 +9,44 @@ ghost use Rattle.ctf_print.specs.Written.{Refused, written};
 use crate::text::Text;
 use ctf_model::{Fault, placeless};
 
-/// A bit of the memory: of a byte, with a number in it.
-fn bit(memory: &[u8], byte: usize, inside: u32) -> u64
-    requires inside_memory { byte < length memory.now }
-    requires low { inside < 8 }
-    ensures value { result ≡ slice_index memory.now byte / 2 ^ inside % 2 }
+/// So many bits of a byte, from one of them on.
+fn bits_of(byte: u8, from: u32, count: u16) -> u64
+    requires low { from < 8 }
+    requires inside { from + count ≤ 8 }
+    ensures value { result ≡ byte / 2 ^ from % 2 ^ count }
 {
-    (memory[byte] >> inside) as u64 % 2
+    u64::from(byte >> from) % (1u64 << count)
+}
+
+/// The number in so many bits from a bit on, which stand in one byte.
+fn bits_in_byte(memory: &[u8], at: u128, count: u16) -> u64
+    requires in_byte { at % 8 + count ≤ 8 }
+    requires inside { at < 8 * length memory.now }
+    ensures value { result ≡ bits_at memory.now at count }
+    ensures small { result < 2 ^ count }
+{
+    bits_of(memory[(at / 8) as usize], (at % 8) as u32, count)
+}
+
+/// How many of so many bits from a bit on, from the last of them, stand in one byte.
+fn last_bits(at: u128, width: u16) -> u16
+    requires some { 0 < width }
+    requires short { width ≤ 64 }
+    requires fits { at + width < 2 ^ 127 }
+    ensures some { 0 < result }
+    ensures few { result ≤ width }
+    ensures in_byte { (at + (width - result)) % 8 + result ≤ 8 }
+{
+    let over = ((at + u128::from(width)) % 8) as u16;
+    let last = if over == 0 { 8 } else { over };
+    last.min(width)
+}
+
+fn power_of_two(exponent: u16) -> u64
+    requires { exponent ≤ 8 }
+    ensures { result ≡ 2 ^ exponent }
+{
+    1 << exponent
 }
 
 /// The number in so many bits from a bit on, where the memory has these.
@@ -26,9 +57,11 @@ fn bits(memory: &[u8], at: u128, width: u16) -> u64
     ensures small { result < 2 ^ width }
 {
     let mut value = 0u64;
-    for i in 0..width {
-        let place = at + (width - 1 - i) as u128;
-        value = value * 2 + bit(memory, (place / 8) as usize, (place % 8) as u32);
+    let mut left = width;
+    while left > 0 {
+        let count = last_bits(at, left);
+        left -= count;
+        value = value * power_of_two(count) + bits_in_byte(memory, at + u128::from(left), count);
     }
     value
 }

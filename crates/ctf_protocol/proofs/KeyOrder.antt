@@ -139,7 +139,7 @@ on_whole (whole.Function n) s = figure signature_fields (λ f. arguments_rise f.
 on_whole (whole.Labels window) s = listed (windowed window (map label_item s.own.labels)) true (in_window window (map label_item s.own.labels) (each label_item (λ x. refl) s.own.labels)) refl
 on_whole (whole.Label name) s = figure last_fields (λ n. refl) (label_of s.own name)
 
-of_slot : (question : Question) (slot : Option Slot) → IsInOrder (said_by_slot question slot)
+pub of_slot : (question : Question) (slot : Option Slot) → IsInOrder (said_by_slot question slot)
 of_slot question None = tt
 of_slot (OfType t question) (Some slot) = of_type question (slot_space slot) t.0 (space_type (slot_space slot) t.0)
 of_slot (OfSlot question) (Some slot) = on_whole question (slot_space slot)
@@ -153,7 +153,7 @@ quoted : (over : Bool) (outcome : Outcome) (state : State) → nat_lt quota (cha
 quoted true outcome state e h = rw e tt
 quoted false outcome state e h = rw e h
 
-staging : (list : ListName) (bytes : List ℕ) (state : State) (long : Bool) → nat_lt longest_list (length bytes) ≡ long → IsInOrder (stages list bytes state).reply.outcome
+pub staging : (list : ListName) (bytes : List ℕ) (state : State) (long : Bool) → nat_lt longest_list (length bytes) ≡ long → IsInOrder (stages list bytes state).reply.outcome
 staging list bytes state true e = rw e tt
 staging list bytes state false e = rw e (quoted _ _ state refl refl)
 
@@ -161,15 +161,15 @@ opened : (fault : Option Fault) (kept : Kept) (state : State) → IsInOrder (ope
 opened None kept state = refl
 opened (Some fault) kept state = tt
 
-opening : (model : DataModel) (state : State) (room : Bool) → has_room state ≡ room → IsInOrder (opens model state).reply.outcome
+pub opening : (model : DataModel) (state : State) (room : Bool) → has_room state ≡ room → IsInOrder (opens model state).reply.outcome
 opening model state true e = rw e (opened (first_fault state.stage) (record { lists = state.stage; model = model }) state)
 opening model state false e = rw e tt
 
-accepted : (fault : Option Fault) (state : State) → IsInOrder (accepts_unless fault state).reply.outcome
+pub accepted : (fault : Option Fault) (state : State) → IsInOrder (accepts_unless fault state).reply.outcome
 accepted None state = refl
 accepted (Some fault) state = tt
 
-closed : (d : ℕ) (slot : Option Slot) (state : State) → IsInOrder (with_slot (λ s. grants [] (record state { slots = slots_without d state.slots })) slot state).reply.outcome
+pub closed : (d : ℕ) (slot : Option Slot) (state : State) → IsInOrder (with_slot (λ s. grants [] (record state { slots = slots_without d state.slots })) slot state).reply.outcome
 closed d None state = tt
 closed d (Some slot) state = refl
 
@@ -181,7 +181,7 @@ import_of : (drafted : Bool) (child : Slot) (d : ℕ) (parent : Kept) (state : S
 import_of true child d parent state e = rw e tt
 import_of false child d parent state e = rw e (imported (fault_over child.kept parent) d parent state)
 
-importing : (d : ℕ) (child parent : Option Slot) (state : State) → IsInOrder (with_slot (λ c. with_slot (λ p. imports_into c d p.kept state) parent state) child state).reply.outcome
+pub importing : (d : ℕ) (child parent : Option Slot) (state : State) → IsInOrder (with_slot (λ c. with_slot (λ p. imports_into c d p.kept state) parent state) child state).reply.outcome
 importing d None parent state = tt
 importing d (Some c) None state = tt
 importing d (Some c) (Some p) state = import_of _ c d p.kept state refl
@@ -190,7 +190,7 @@ published : (taken : Bool) (name : List ℕ) (kept : Kept) (state : State) → i
 published true name kept state e = rw e tt
 published false name kept state e = rw e refl
 
-withdrawn : (there : Bool) (name : List ℕ) (state : State) → is_some (published_as name state.published) ≡ there → IsInOrder (withdraws name state).reply.outcome
+pub withdrawn : (there : Bool) (name : List ℕ) (state : State) → is_some (published_as name state.published) ≡ there → IsInOrder (withdraws name state).reply.outcome
 withdrawn true name state e = rw e refl
 withdrawn false name state e = rw e tt
 
@@ -202,7 +202,7 @@ publish_of : (late : Bool) (name : List ℕ) (slot : Slot) (state : State) → n
 publish_of true name slot state e = rw e tt
 publish_of false name slot state e = rw e (published_within _ name slot.kept state refl)
 
-publishing : (name : List ℕ) (slot : Option Slot) (state : State) → IsInOrder (with_slot (λ s. publishes_slot name s state) slot state).reply.outcome
+pub publishing : (name : List ℕ) (slot : Option Slot) (state : State) → IsInOrder (with_slot (λ s. publishes_slot name s state) slot state).reply.outcome
 publishing name None state = tt
 publishing name (Some slot) state = publish_of _ name slot state refl
 
@@ -210,7 +210,7 @@ taken : (found : Option Kept) (state : State) → IsInOrder (takes_found found s
 taken None state = tt
 taken (Some kept) state = quoted _ _ state refl refl
 
-taking : (found : Option Kept) (state : State) (room : Bool) → has_room state ≡ room → IsInOrder (takes found state).reply.outcome
+pub taking : (found : Option Kept) (state : State) (room : Bool) → has_room state ≡ room → IsInOrder (takes found state).reply.outcome
 taking found state true e = rw e (taken found state)
 taking found state false e = rw e tt
 
@@ -228,7 +228,7 @@ created_on : (slot : Option Slot) (asked : Created) (state : State) → IsInOrde
 created_on None asked state = tt
 created_on (Some slot) asked state = created_over _ (Some slot.kept) asked state refl
 
-created_from : (parent : Option ℕ) (asked : Created) (state : State) → IsInOrder (creates_from parent asked state).reply.outcome
+pub created_from : (parent : Option ℕ) (asked : Created) (state : State) → IsInOrder (creates_from parent asked state).reply.outcome
 created_from None asked state = created_over _ None asked state refl
 created_from (Some p) asked state = created_on (slot_at p state.slots) asked state
 
@@ -271,22 +271,6 @@ becoming d (steps.Add addition) outcome state h = h
 becoming d steps.Update outcome state h = updated_within outcome.said _ state h
 becoming d steps.Discard outcome state h = h
 
-stepping : (d : ℕ) (step : DraftStep) (slot : Option Slot) (state : State) → IsInOrder (with_slot (λ s. becomes_by step d (slot_step step s) state) slot state).reply.outcome
+pub stepping : (d : ℕ) (step : DraftStep) (slot : Option Slot) (state : State) → IsInOrder (with_slot (λ s. becomes_by step d (slot_step step s) state) slot state).reply.outcome
 stepping d step None state = tt
 stepping d step (Some slot) state = becoming d step (slot_step step slot) state (of_draft step slot slot.draft)
-
-pub keys_rise : KeysRise
-unfolding change_step
-keys_rise state (Changes (change.Part list piece)) found = staging list _ state _ refl
-keys_rise state (Changes change.Check) found = accepted (first_fault state.stage) state
-keys_rise state (Changes (change.Open model)) found = opening model state _ refl
-keys_rise state (Changes change.Clear) found = refl
-keys_rise state (Changes change.Reset) found = refl
-keys_rise state (Changes (change.Close d)) found = closed d (slot_at d state.slots) state
-keys_rise state (Changes (change.Import d p)) found = importing d (slot_at d state.slots) (slot_at p state.slots) state
-keys_rise state (Changes (change.Publish d name)) found = publishing name (slot_at d state.slots) state
-keys_rise state (Changes (change.Withdraw name)) found = withdrawn _ name state refl
-keys_rise state (Changes (change.Take owner name)) found = taking found state _ refl
-keys_rise state (Changes (change.Create asked)) found = created_from asked.parent asked state
-keys_rise state (Changes (change.Draft d step)) found = stepping d step (slot_at d state.slots) state
-keys_rise state (Asks d question) found = of_slot question (slot_at d state.slots)

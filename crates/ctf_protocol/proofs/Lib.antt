@@ -1,4 +1,5 @@
 pub mod Charged
+pub mod EachChange
 pub mod KeyOrder
 pub mod RefusedSteps
 pub mod TableCodes

@@ -24,10 +24,10 @@ use Rattle.ctf_protocol.specs.declared.requests.ListName.{ListName}
 use Rattle.ctf_protocol.specs.declared.requests.Request.TheVariants.{Changes, Asks}
 
 -- where it is a refusal, the library is this one
-abbrev Stays : Outcome → State → Type 0
+abbrev pub Stays : Outcome → State → Type 0
 Stays outcome state = (f : Fault) → outcome.reply.outcome ≡ Err f → outcome.state ≡ state
 
-granted : (answer : Answer) (new state : State) → Stays (grants answer new) state
+pub granted : (answer : Answer) (new state : State) → Stays (grants answer new) state
 granted answer new state f e = absurd cc
 
 quoted : (over : Bool) (answer : Answer) (new state : State) → nat_lt quota (charge new) ≡ over → Stays (within_quota (grants answer new) state) state
@@ -39,11 +39,11 @@ within answer new state = quoted (nat_lt quota (charge new)) answer new state re
 
 -- ---- lists
 
-staging : (long : Bool) (list : ListName) (bytes : List ℕ) (state : State) → nat_lt longest_list (length bytes) ≡ long → Stays (stages list bytes state) state
+pub staging : (long : Bool) (list : ListName) (bytes : List ℕ) (state : State) → nat_lt longest_list (length bytes) ≡ long → Stays (stages list bytes state) state
 staging true list bytes state e = rw e (λ f h. refl)
 staging false list bytes state e = rw e (within _ _ state)
 
-accepting : (fault : Option Fault) (state : State) → Stays (accepts_unless fault state) state
+pub accepting : (fault : Option Fault) (state : State) → Stays (accepts_unless fault state) state
 accepting None state f h = refl
 accepting (Some fault) state f h = refl
 
@@ -51,13 +51,13 @@ opening : (fault : Option Fault) (kept : Kept) (state : State) → Stays (opens_
 opening None kept state f h = absurd cc
 opening (Some fault) kept state f h = refl
 
-opens_stay : (room : Bool) (model : DataModel) (state : State) → has_room state ≡ room → Stays (opens model state) state
+pub opens_stay : (room : Bool) (model : DataModel) (state : State) → has_room state ≡ room → Stays (opens model state) state
 opens_stay true model state e = rw e (opening (first_fault state.stage) (record { lists = state.stage; model = model }) state)
 opens_stay false model state e = rw e (λ f h. refl)
 
 -- ---- slots
 
-closing : (d : ℕ) (slot : Option Slot) (state : State) → Stays (with_slot (λ s. grants [] (record state { slots = slots_without d state.slots })) slot state) state
+pub closing : (d : ℕ) (slot : Option Slot) (state : State) → Stays (with_slot (λ s. grants [] (record state { slots = slots_without d state.slots })) slot state) state
 closing d None state f h = refl
 closing d (Some slot) state f h = absurd cc
 
@@ -69,7 +69,7 @@ import_of : (drafted : Bool) (child : Slot) (d : ℕ) (parent : Kept) (state : S
 import_of true child d parent state e = rw e (λ f h. refl)
 import_of false child d parent state e = rw e (imported (fault_over child.kept parent) d parent state)
 
-importing : (d : ℕ) (child parent : Option Slot) (state : State) → Stays (with_slot (λ c. with_slot (λ p. imports_into c d p.kept state) parent state) child state) state
+pub importing : (d : ℕ) (child parent : Option Slot) (state : State) → Stays (with_slot (λ c. with_slot (λ p. imports_into c d p.kept state) parent state) child state) state
 importing d None parent state = λ f h. refl
 importing d (Some c) None state = λ f h. refl
 importing d (Some c) (Some p) state = import_of _ c d p.kept state refl
@@ -84,11 +84,11 @@ publish_of : (late : Bool) (name : List ℕ) (slot : Slot) (state : State) → n
 publish_of true name slot state e = rw e (λ f h. refl)
 publish_of false name slot state e = rw e (published _ name slot.kept state refl)
 
-publishing : (name : List ℕ) (slot : Option Slot) (state : State) → Stays (with_slot (λ s. publishes_slot name s state) slot state) state
+pub publishing : (name : List ℕ) (slot : Option Slot) (state : State) → Stays (with_slot (λ s. publishes_slot name s state) slot state) state
 publishing name None state = λ f h. refl
 publishing name (Some slot) state = publish_of _ name slot state refl
 
-withdrawn : (there : Bool) (name : List ℕ) (state : State) → is_some (published_as name state.published) ≡ there → Stays (withdraws name state) state
+pub withdrawn : (there : Bool) (name : List ℕ) (state : State) → is_some (published_as name state.published) ≡ there → Stays (withdraws name state) state
 withdrawn true name state e = rw e (granted _ _ state)
 withdrawn false name state e = rw e (λ f h. refl)
 
@@ -96,7 +96,7 @@ taken : (found : Option Kept) (state : State) → Stays (takes_found found state
 taken None state = λ f h. refl
 taken (Some kept) state = within _ _ state
 
-taking : (room : Bool) (found : Option Kept) (state : State) → has_room state ≡ room → Stays (takes found state) state
+pub taking : (room : Bool) (found : Option Kept) (state : State) → has_room state ≡ room → Stays (takes found state) state
 taking true found state e = rw e (taken found state)
 taking false found state e = rw e (λ f h. refl)
 
@@ -114,7 +114,7 @@ created_on : (slot : Option Slot) (asked : Created) (state : State) → Stays (w
 created_on None asked state = λ f h. refl
 created_on (Some slot) asked state = created_over _ (Some slot.kept) asked state refl
 
-created_from : (parent : Option ℕ) (asked : Created) (state : State) → Stays (creates_from parent asked state) state
+pub created_from : (parent : Option ℕ) (asked : Created) (state : State) → Stays (creates_from parent asked state) state
 created_from None asked state = created_over _ None asked state refl
 created_from (Some p) asked state = created_on (slot_at p state.slots) asked state
 
@@ -166,24 +166,6 @@ becoming (steps.Add addition) d slot state at = becomes d slot _ state at (if_dr
 becoming steps.Update d slot state at = update_within _ d slot _ state refl at (if_draft steps.Update slot slot.draft)
 becoming steps.Discard d slot state at = becomes d slot _ state at (if_draft steps.Discard slot slot.draft)
 
-stepping : (x : DraftStep) (d : ℕ) (slot : Option Slot) (state : State) → slot_at d state.slots ≡ slot → Stays (with_slot (λ s. becomes_by x d (slot_step x s) state) slot state) state
+pub stepping : (x : DraftStep) (d : ℕ) (slot : Option Slot) (state : State) → slot_at d state.slots ≡ slot → Stays (with_slot (λ s. becomes_by x d (slot_step x s) state) slot state) state
 stepping x d None state at = λ f h. refl
 stepping x d (Some slot) state at = becoming x d slot state at
-
--- ---- every request
-
-pub stays : RefusalsChangeNothing
-unfolding change_step
-stays state (Asks d question) found = λ f h. refl
-stays state (Changes (change.Part list piece)) found = staging _ list _ state refl
-stays state (Changes change.Check) found = accepting (first_fault state.stage) state
-stays state (Changes (change.Open model)) found = opens_stay _ model state refl
-stays state (Changes change.Clear) found = granted _ _ state
-stays state (Changes change.Reset) found = granted _ _ state
-stays state (Changes (change.Close d)) found = closing d (slot_at d state.slots) state
-stays state (Changes (change.Import d p)) found = importing d (slot_at d state.slots) (slot_at p state.slots) state
-stays state (Changes (change.Publish d name)) found = publishing name (slot_at d state.slots) state
-stays state (Changes (change.Withdraw name)) found = withdrawn _ name state refl
-stays state (Changes (change.Take owner name)) found = taking _ found state refl
-stays state (Changes (change.Create asked)) found = created_from asked.parent asked state
-stays state (Changes (change.Draft d x)) found = stepping x d (slot_at d state.slots) state refl

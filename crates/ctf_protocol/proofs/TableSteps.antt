@@ -115,13 +115,13 @@ in_slot (OfType t q) slot = type_asked q (slot_space slot) t.0
 in_slot (OfSlot q) slot = slot_asked q (slot_space slot)
 in_slot (OfHeld q) slot = refl
 
-by_slot : (q : Question) (slot : Option Slot) → good (said_by_slot q slot) ≡ true
+pub by_slot : (q : Question) (slot : Option Slot) → good (said_by_slot q slot) ≡ true
 by_slot q None = refl
 by_slot q (Some slot) = in_slot q slot
 
 -- ---- changes
 
-abbrev right : Outcome → Bool
+abbrev pub right : Outcome → Bool
 right outcome = good outcome.reply.outcome
 
 either_right : (t : Bool) (a b : Outcome) → right a ≡ true → right b ≡ true → right (if t then a else b) ≡ true
@@ -131,10 +131,10 @@ either_right false a b ga gb = gb
 within : (outcome : Outcome) (state : State) → right outcome ≡ true → right (within_quota outcome state) ≡ true
 within outcome state g = either_right (nat_lt quota (charge outcome.state)) _ outcome refl g
 
-staged_right : (list : ListName) (bytes : List ℕ) (state : State) → right (stages list bytes state) ≡ true
+pub staged_right : (list : ListName) (bytes : List ℕ) (state : State) → right (stages list bytes state) ≡ true
 staged_right list bytes state = either_right (nat_lt longest_list (length bytes)) _ _ refl (within _ state refl)
 
-accepted : (fault : Option Fault) (state : State) → good_fault fault ≡ true → right (accepts_unless fault state) ≡ true
+pub accepted : (fault : Option Fault) (state : State) → good_fault fault ≡ true → right (accepts_unless fault state) ≡ true
 accepted None state g = refl
 accepted (Some f) state g = g
 
@@ -142,10 +142,10 @@ opened : (fault : Option Fault) (kept : Kept) (state : State) → good_fault fau
 opened None kept state g = refl
 opened (Some f) kept state g = g
 
-opens_right : (model : DataModel) (state : State) → right (opens model state) ≡ true
+pub opens_right : (model : DataModel) (state : State) → right (opens model state) ≡ true
 opens_right model state = either_right (has_room state) (opens_unless (first_fault state.stage) (record { lists = state.stage; model = model }) state) _ (opened (first_fault state.stage) (record { lists = state.stage; model = model }) state (dictionary_good state.stage)) refl
 
-at_slot : (does : Slot → Outcome) (slot : Option Slot) (state : State) → ((s : Slot) → right (does s) ≡ true) → right (with_slot does slot state) ≡ true
+pub at_slot : (does : Slot → Outcome) (slot : Option Slot) (state : State) → ((s : Slot) → right (does s) ≡ true) → right (with_slot does slot state) ≡ true
 at_slot does None state h = refl
 at_slot does (Some slot) state h = h slot
 
@@ -153,23 +153,23 @@ imported : (fault : Option Fault) (d : ℕ) (parent : Kept) (state : State) → 
 imported None d parent state g = within _ state refl
 imported (Some f) d parent state g = g
 
-import_right : (child : Slot) (d : ℕ) (parent : Kept) (state : State) → right (imports_into child d parent state) ≡ true
+pub import_right : (child : Slot) (d : ℕ) (parent : Kept) (state : State) → right (imports_into child d parent state) ≡ true
 import_right child d parent state = either_right (is_some child.draft) _ (imports_unless (fault_over child.kept parent) d parent state) refl (imported (fault_over child.kept parent) d parent state (import_good (record { child = modelled_by child.kept; parent = modelled_by parent })))
 
 publish_right : (name : List ℕ) (kept : Kept) (state : State) → right (publishes_within name kept state) ≡ true
 publish_right name kept state = either_right (is_some (published_as name state.published)) _ _ refl (within _ state refl)
 
-publish_slot : (name : List ℕ) (slot : Slot) (state : State) → right (publishes_slot name slot state) ≡ true
+pub publish_slot : (name : List ℕ) (slot : Slot) (state : State) → right (publishes_slot name slot state) ≡ true
 publish_slot name slot state = either_right (nat_lt 0 (pending_in slot.draft)) _ (publishes_within name slot.kept state) refl (publish_right name slot.kept state)
 
-withdrawn : (name : List ℕ) (state : State) → right (withdraws name state) ≡ true
+pub withdrawn : (name : List ℕ) (state : State) → right (withdraws name state) ≡ true
 withdrawn name state = either_right (is_some (published_as name state.published)) _ _ refl refl
 
 taken : (found : Option Kept) (state : State) → right (takes_found found state) ≡ true
 taken None state = refl
 taken (Some kept) state = within (adds_slot kept state) state refl
 
-takes_right : (found : Option Kept) (state : State) → right (takes found state) ≡ true
+pub takes_right : (found : Option Kept) (state : State) → right (takes found state) ≡ true
 takes_right found state = either_right (has_room state) (takes_found found state) _ (taken found state) refl
 
 -- ---- drafts
@@ -193,7 +193,7 @@ adds_right (Err f) state g = g
 over_right : (parent : Option Kept) (asked : Created) (state : State) → right (creates_over parent asked state) ≡ true
 over_right parent asked state = either_right (has_room state) (adds_created (created_slot state.next parent asked) state) _ (adds_right (created_slot state.next parent asked) state (created_good state.next parent asked)) refl
 
-from_right : (parent : Option ℕ) (asked : Created) (state : State) → right (creates_from parent asked state) ≡ true
+pub from_right : (parent : Option ℕ) (asked : Created) (state : State) → right (creates_from parent asked state) ≡ true
 from_right None asked state = over_right None asked state
 from_right (Some p) asked state = at_slot (λ slot. creates_over (Some slot.kept) asked state) (slot_at p state.slots) state (λ slot. over_right (Some slot.kept) asked state)
 
@@ -234,31 +234,10 @@ updates_right : (said : Result Answer Fault) (outcome : Outcome) (state : State)
 updates_right (Ok answer) outcome state g = within outcome state g
 updates_right (Err f) outcome state g = g
 
-becomes_right : (x : DraftStep) (d : ℕ) (slot : Slot) (state : State) → right (becomes_by x d (slot_step x slot) state) ≡ true
+pub becomes_right : (x : DraftStep) (d : ℕ) (slot : Slot) (state : State) → right (becomes_by x d (slot_step x slot) state) ≡ true
 becomes_right (steps.Add addition) d slot state = if_draft (steps.Add addition) slot slot.draft
 becomes_right steps.Update d slot state = updates_right (slot_step steps.Update slot).said (slot_becomes d (slot_step steps.Update slot) state) state (if_draft steps.Update slot slot.draft)
 becomes_right steps.Discard d slot state = if_draft steps.Discard slot slot.draft
-
--- ---- every request
-
-step_right : (state : State) (request : Request) (found : Option Kept) → right (step state request found) ≡ true
-unfolding change_step
-step_right state (Asks d question) found = by_slot question (slot_at d state.slots)
-step_right state (Changes (change.Part list piece)) found = staged_right list _ state
-step_right state (Changes change.Check) found = accepted (first_fault state.stage) state (dictionary_good state.stage)
-step_right state (Changes (change.Open model)) found = opens_right model state
-step_right state (Changes change.Clear) found = refl
-step_right state (Changes change.Reset) found = refl
-step_right state (Changes (change.Close d)) found = at_slot _ (slot_at d state.slots) state (λ slot. refl)
-step_right state (Changes (change.Import d p)) found = at_slot _ (slot_at d state.slots) state (λ child. at_slot _ (slot_at p state.slots) state (λ parent. import_right child d parent.kept state))
-step_right state (Changes (change.Publish d name)) found = at_slot _ (slot_at d state.slots) state (λ slot. publish_slot name slot state)
-step_right state (Changes (change.Withdraw name)) found = withdrawn name state
-step_right state (Changes (change.Take owner name)) found = takes_right found state
-step_right state (Changes (change.Create asked)) found = from_right asked.parent asked state
-step_right state (Changes (change.Draft d x)) found = at_slot _ (slot_at d state.slots) state (λ slot. becomes_right x d slot state)
-
-pub refusals : RefusalsAreInTheTable
-refusals state request found fault e = told (step state request found).reply.outcome fault (step_right state request found) e
 
 -- ---- lines
 

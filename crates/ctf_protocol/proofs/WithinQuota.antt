@@ -27,7 +27,7 @@ use Rattle.ctf_protocol.specs.declared.requests.DraftStep.TheVariants as steps
 use Rattle.ctf_protocol.specs.declared.requests.ListName.{ListName}
 use Rattle.ctf_protocol.specs.declared.requests.Request.TheVariants.{Changes, Asks}
 
-abbrev Stays : Outcome → Type 0
+abbrev pub Stays : Outcome → Type 0
 Stays outcome = charge outcome.state ≤ quota
 
 quoted : (over : Bool) (outcome : Outcome) (state : State) → nat_lt quota (charge outcome.state) ≡ over → charge state ≤ quota → Stays (within_quota outcome state)
@@ -39,11 +39,11 @@ within outcome state h = quoted (nat_lt quota (charge outcome.state)) outcome st
 
 -- ---- lists
 
-staging : (long : Bool) (list : ListName) (bytes : List ℕ) (state : State) → nat_lt longest_list (length bytes) ≡ long → charge state ≤ quota → Stays (stages list bytes state)
+pub staging : (long : Bool) (list : ListName) (bytes : List ℕ) (state : State) → nat_lt longest_list (length bytes) ≡ long → charge state ≤ quota → Stays (stages list bytes state)
 staging true list bytes state e h = rw e h
 staging false list bytes state e h = rw e (within _ state h)
 
-accepting : (fault : Option Fault) (state : State) → charge state ≤ quota → Stays (accepts_unless fault state)
+pub accepting : (fault : Option Fault) (state : State) → charge state ≤ quota → Stays (accepts_unless fault state)
 accepting None state h = h
 accepting (Some fault) state h = h
 
@@ -58,18 +58,18 @@ opening None model state h =
     let more = sum_by_push slot_bytes state.slots slot in
     omega (arith, h, before, after, more)
 
-opens_stay : (room : Bool) (model : DataModel) (state : State) → has_room state ≡ room → charge state ≤ quota → Stays (opens model state)
+pub opens_stay : (room : Bool) (model : DataModel) (state : State) → has_room state ≡ room → charge state ≤ quota → Stays (opens model state)
 opens_stay true model state e h = rw e (opening (first_fault state.stage) model state h)
 opens_stay false model state e h = rw e h
 
-clearing : (state : State) → charge state ≤ quota → Stays (change_step state change.Clear None)
+pub clearing : (state : State) → charge state ≤ quota → Stays (change_step state change.Clear None)
 unfolding change_step
 clearing state h =
     let before = charge_is state in
     let after = charge_is (change_step state change.Clear None).state in
     omega (arith, h, before, after)
 
-resetting : (state : State) → charge state ≤ quota → Stays (change_step state change.Reset None)
+pub resetting : (state : State) → charge state ≤ quota → Stays (change_step state change.Reset None)
 unfolding change_step
 resetting state h =
     let before = charge_is state in
@@ -78,7 +78,7 @@ resetting state h =
 
 -- ---- slots
 
-closing : (d : ℕ) (slot : Option Slot) (state : State) → slot_at d state.slots ≡ slot → charge state ≤ quota → Stays (with_slot (λ s. grants [] (record state { slots = slots_without d state.slots })) slot state)
+pub closing : (d : ℕ) (slot : Option Slot) (state : State) → slot_at d state.slots ≡ slot → charge state ≤ quota → Stays (with_slot (λ s. grants [] (record state { slots = slots_without d state.slots })) slot state)
 closing d None state e h = h
 closing d (Some slot) state e h =
     let before = charge_is state in
@@ -94,7 +94,7 @@ import_of : (drafted : Bool) (child : Slot) (d : ℕ) (parent : Kept) (state : S
 import_of true child d parent state e h = rw e h
 import_of false child d parent state e h = rw e (imported (fault_over child.kept parent) d parent state h)
 
-importing : (d : ℕ) (child parent : Option Slot) (state : State) → charge state ≤ quota → Stays (with_slot (λ c. with_slot (λ p. imports_into c d p.kept state) parent state) child state)
+pub importing : (d : ℕ) (child parent : Option Slot) (state : State) → charge state ≤ quota → Stays (with_slot (λ c. with_slot (λ p. imports_into c d p.kept state) parent state) child state)
 importing d None parent state h = h
 importing d (Some c) None state h = h
 importing d (Some c) (Some p) state h = import_of _ c d p.kept state refl h
@@ -109,11 +109,11 @@ publish_of : (late : Bool) (name : List ℕ) (slot : Slot) (state : State) → n
 publish_of true name slot state e h = rw e h
 publish_of false name slot state e h = rw e (published _ name slot.kept state refl h)
 
-publishing : (name : List ℕ) (slot : Option Slot) (state : State) → charge state ≤ quota → Stays (with_slot (λ s. publishes_slot name s state) slot state)
+pub publishing : (name : List ℕ) (slot : Option Slot) (state : State) → charge state ≤ quota → Stays (with_slot (λ s. publishes_slot name s state) slot state)
 publishing name None state h = h
 publishing name (Some slot) state h = publish_of _ name slot state refl h
 
-withdrawn : (there : Bool) (name : List ℕ) (state : State) → is_some (published_as name state.published) ≡ there → charge state ≤ quota → Stays (withdraws name state)
+pub withdrawn : (there : Bool) (name : List ℕ) (state : State) → is_some (published_as name state.published) ≡ there → charge state ≤ quota → Stays (withdraws name state)
 withdrawn true name state e h =
     let before = charge_is state in
     let after = charge_is (record state { published = published_without name state.published }) in
@@ -125,7 +125,7 @@ taken : (found : Option Kept) (state : State) → charge state ≤ quota → Sta
 taken None state h = h
 taken (Some kept) state h = within _ state h
 
-taking : (room : Bool) (found : Option Kept) (state : State) → has_room state ≡ room → charge state ≤ quota → Stays (takes found state)
+pub taking : (room : Bool) (found : Option Kept) (state : State) → has_room state ≡ room → charge state ≤ quota → Stays (takes found state)
 taking true found state e h = rw e (taken found state h)
 taking false found state e h = rw e h
 
@@ -143,7 +143,7 @@ created_on : (slot : Option Slot) (asked : Created) (state : State) → charge s
 created_on None asked state h = h
 created_on (Some slot) asked state h = created_over _ (Some slot.kept) asked state refl h
 
-created_from : (parent : Option ℕ) (asked : Created) (state : State) → charge state ≤ quota → Stays (creates_from parent asked state)
+pub created_from : (parent : Option ℕ) (asked : Created) (state : State) → charge state ≤ quota → Stays (creates_from parent asked state)
 created_from None asked state h = created_over _ None asked state refl h
 created_from (Some p) asked state h = created_on (slot_at p state.slots) asked state h
 
@@ -192,24 +192,6 @@ becoming (steps.Add addition) d slot state at h = same_slot d slot (slot_step (s
 becoming steps.Update d slot state at h = updating (slot_step steps.Update slot).said d slot state refl at h
 becoming steps.Discard d slot state at h = same_slot d slot (slot_step steps.Discard slot) state at (discard_same slot) h
 
-stepping : (x : DraftStep) (d : ℕ) (slot : Option Slot) (state : State) → slot_at d state.slots ≡ slot → charge state ≤ quota → Stays (with_slot (λ s. becomes_by x d (slot_step x s) state) slot state)
+pub stepping : (x : DraftStep) (d : ℕ) (slot : Option Slot) (state : State) → slot_at d state.slots ≡ slot → charge state ≤ quota → Stays (with_slot (λ s. becomes_by x d (slot_step x s) state) slot state)
 stepping x d None state at h = h
 stepping x d (Some slot) state at h = becoming x d slot state at h
-
--- ---- every request
-
-pub stays : RequestsStayWithinQuota
-unfolding change_step
-stays state (Asks d question) found h = h
-stays state (Changes (change.Part list piece)) found h = staging _ list _ state refl h
-stays state (Changes change.Check) found h = accepting (first_fault state.stage) state h
-stays state (Changes (change.Open model)) found h = opens_stay _ model state refl h
-stays state (Changes change.Clear) found h = clearing state h
-stays state (Changes change.Reset) found h = resetting state h
-stays state (Changes (change.Close d)) found h = closing d (slot_at d state.slots) state refl h
-stays state (Changes (change.Import d p)) found h = importing d (slot_at d state.slots) (slot_at p state.slots) state h
-stays state (Changes (change.Publish d name)) found h = publishing name (slot_at d state.slots) state h
-stays state (Changes (change.Withdraw name)) found h = withdrawn _ name state refl h
-stays state (Changes (change.Take owner name)) found h = taking _ found state refl h
-stays state (Changes (change.Create asked)) found h = created_from asked.parent asked state h
-stays state (Changes (change.Draft d x)) found h = stepping x d (slot_at d state.slots) state refl h

@@ -1,4 +1,4 @@
-use Rattle.std.proofs.Common.{◌≡◌, Option, Some, None, option_map, Bor, Global, refl, sym, ap, ◌∙◌}
+use Rattle.std.proofs.Common.{◌≡◌, Option, Some, None, option_map, Bor, Global, refl, ap, ◌∙◌}
 use Rattle.json.specs.Value.{value_view}
 use Rattle.json.specs.declared.value.Value.{Value}
 use Rattle.ctf_json.specs.Told.{said, told}
@@ -10,4 +10,4 @@ over None = refl
 over (Some v) = refl
 
 pub returns : goal.returns
-returns c = over c.get.result ∙ ap (option_map told) c.get.ensures ∙ get-told c.args.key.now (value_view c.args.value.now)
+returns c = over c.member.result ∙ ap (option_map told) c.member.ensures ∙ get-told c.args.key.now (value_view c.args.value.now)

@@ -1,8 +1,7 @@
-use Rattle.std.proofs.Common.{◌≡◌, Some, true, false, [], refl, sym, ap, ◌∙◌, arith}
+use Rattle.std.proofs.Common.{◌≡◌, Some, true, false, [], sym, ◌∙◌, arith}
 use Rattle.json.specs.Json.{value}
 use Rattle.json.specs.Lex.{tokens}
 use Rattle.json.specs.Value.{value_view}
-use Rattle.ctf_json.specs.Told.{in_range}
 use Rattle.ctf_json.proofs.Telling.{read-told}
 use Rattle.ctf_json.proofs.reading.read.Goals as goal
 

@@ -1,4 +1,4 @@
-use Rattle.std.proofs.Common.{arith, ap, sym, ◌∙◌}
+use Rattle.std.proofs.Common.{arith, ap, sym}
 use Rattle.std.proofs.lemmas.List.{take_all}
 use Rattle.ctf_model.specs.dumps.Texts.{separated}
 use Rattle.ctf_lines.proofs.Separated.{first-next, first-rest}
@@ -18,8 +18,7 @@ loop-index-preserved g c =
     let count = c.count-index-end.ensures in
     let test = c.loop-index-test.true in
     let join = g.met.P.Paper.joined in
-    let comma = as_text (g.P.Paper.Took) (c.as_bytes.ensures.value ∙ c.comma.ensures) c.put.ensures in
-    let more = join _ _ _ _ _ c.loop-index.invariant (join _ _ _ _ _ comma c.put_text.ensures) in
+    let more = join _ _ _ _ _ c.loop-index.invariant (join _ _ _ _ _ c.put_comma.ensures c.put_text.ensures) in
     as_text (g.P.Paper.Took) (sym (first-next texts k (omega (arith, count, test)))) more
 
 pub returns : goal.returns

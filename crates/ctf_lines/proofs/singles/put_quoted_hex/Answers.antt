@@ -3,4 +3,4 @@ use Rattle.ctf_lines.proofs.singles.put_quoted_hex.Goals as goal
 pub returns : goal.returns
 returns g c =
     let join = g.met.P.Paper.joined in
-    join _ _ _ _ _ c.put.ensures (join _ _ _ _ _ c.put_hex.ensures c.put-2.ensures)
+    join _ _ _ _ _ c.put_one.ensures (join _ _ _ _ _ c.put_hex.ensures c.put_one-2.ensures)

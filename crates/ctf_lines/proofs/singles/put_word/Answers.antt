@@ -1,8 +1,6 @@
+use Rattle.std.proofs.Common.{ℕ, List, [], ◌∷◌, ◌++◌, ap}
 use Rattle.ctf_lines.proofs.Walks.{as_text}
 use Rattle.ctf_lines.proofs.singles.put_word.Goals as goal
 
 pub returns : goal.returns
-returns g c =
-    let join = g.met.P.Paper.joined in
-    let middle = as_text (g.P.Paper.Took) c.as_bytes.ensures.value c.put-2.ensures in
-    join _ _ _ _ _ c.put.ensures (join _ _ _ _ _ middle c.put-3.ensures)
+returns g c = as_text (g.P.Paper.Took) (ap (λ (t : List ℕ). 34 ∷ (t ++ (34 ∷ []))) c.as_bytes.ensures.value) c.put_between.ensures

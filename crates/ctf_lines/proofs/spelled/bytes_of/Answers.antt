@@ -1,8 +1,7 @@
-use Rattle.std.proofs.Common.{sym, ◌∙◌}
-use Rattle.std.proofs.lemmas.Bool.{eqb-true}
-use Rattle.ctf_lines.proofs.Fronts.{spelled_end}
+use Rattle.std.proofs.Common.{Some, sym, ap, ◌∙◌}
+use Rattle.ctf_lines.proofs.Plain.{plain_spelled}
 use Rattle.ctf_lines.proofs.spelled.bytes_of.Goals as goal
 
-pub returns : goal.returns
-returns c =
-    spelled_end c.args.text.now c.loop-rest.rest.now c.loop-rest.bytes.items (eqb-true _ 0 (sym c.is_empty.ensures ∙ c.loop-rest-test.false)) c.loop-rest.invariant.spelled
+pub returns-then-are_plain : goal.returns-then-are_plain
+returns-then-are_plain c =
+    ap Some c.in_ok-from_slice.ensures.items ∙ sym (plain_spelled c.args.text.now (c.are_plain.ensures c.if-are_plain.true))

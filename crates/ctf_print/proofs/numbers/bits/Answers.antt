@@ -1,18 +1,34 @@
-use Rattle.std.proofs.Common.{◌≡◌, ◌+◌, ◌-◌, arith, sym, ◌∙◌}
-use Rattle.std.proofs.lemmas.Nat.{pow-add}
-use Rattle.ctf_model.specs.values.MemoryBits.{bits_at}
-use Rattle.ctf_print.proofs.Bits.{bits_more, bit_is}
+use Rattle.std.proofs.Common.{◌≡◌, ◌+◌, ◌-◌, arith, sym}
+use Rattle.std.proofs.lemmas.Nat.{pow_pos}
+use Rattle.ctf_print.proofs.Bits.{bits_more, more_fits}
 use Rattle.ctf_print.proofs.numbers.bits.Goals as goal
 
-pub loop-i-preserved : goal.loop-i-preserved
-loop-i-preserved c =
-    let place : c.args.at + (c.args.width - 1 - c.loop-i.i) ≡ c.args.at + (c.args.width - (c.loop-i.i + 1)) = omega arith in
-    let behind : c.args.at + (c.args.width - c.loop-i.i) ≡ c.args.at + (c.args.width - (c.loop-i.i + 1)) + 1 = omega arith in
-    let here : c.bit.result ≡ bits_at c.args.memory.now (c.args.at + (c.args.width - (c.loop-i.i + 1))) 1 =
-    c.bit.ensures.value ∙ rw place (sym (bit_is c.args.memory.now (c.args.at + (c.args.width - (c.loop-i.i + 1))) (λ k. omega (arith, c.type_inv.memory k)))) in
-    let before = c.loop-i.invariant.value in
-    let all = bits_more c.args.memory.now (c.args.at + (c.args.width - (c.loop-i.i + 1))) c.loop-i.i in
+pub overflow_mul-value : goal.overflow_mul-value
+overflow_mul-value c =
+    let i = c.args.width - c.loop-left.left in
+    let n = c.last_bits-count.result in
+    let some = pow_pos n in
+    let all = more_fits c.loop-left.value i n 0 64 c.loop-left.invariant.small some (omega (arith, c.loop-left.invariant.few, c.last_bits-count.ensures.few, c.requires.short)) in
+    rw c.power_of_two.ensures (omega (arith, all))
+
+pub overflow_add-value : goal.overflow_add-value
+overflow_add-value c =
+    let i = c.args.width - c.loop-left.left in
+    let n = c.last_bits-count.result in
+    let all = more_fits c.loop-left.value i n c.bits_in_byte.result 64 c.loop-left.invariant.small c.bits_in_byte.ensures.small (omega (arith, c.loop-left.invariant.few, c.last_bits-count.ensures.few, c.requires.short)) in
+    rw c.power_of_two.ensures (omega (arith, all))
+
+pub loop-left-preserved : goal.loop-left-preserved
+loop-left-preserved c =
+    let i = c.args.width - c.loop-left.left in
+    let n = c.last_bits-count.result in
+    let at = c.args.at + (c.loop-left.left - n) in
+    let behind : c.args.at + c.loop-left.left ≡ at + n = omega (arith, c.last_bits-count.ensures.few) in
+    let wider : c.args.width - (c.loop-left.left - n) ≡ i + n = omega (arith, c.loop-left.invariant.few, c.last_bits-count.ensures.few) in
+    let before = c.loop-left.invariant.value in
+    let here = rw c.from.ensures at c.bits_in_byte.ensures.value in
     record {
-      value = rw (before, here, behind) (sym all);
-      small = omega (arith, pow-add 2 c.loop-i.i 1, c.bit.ensures.value, c.loop-i.invariant.small);
+      few = omega (arith, c.loop-left.invariant.few);
+      value = rw (c.power_of_two.ensures, before, here, behind, wider) (sym (bits_more c.args.memory.now at i n));
+      small = rw (c.power_of_two.ensures, wider) (more_fits c.loop-left.value i n c.bits_in_byte.result (i + n) c.loop-left.invariant.small c.bits_in_byte.ensures.small (omega arith));
     }

@@ -1,4 +1,4 @@
-use Rattle.ctf_protocol.proofs.KeyOrder as order
+use Rattle.ctf_protocol.proofs.EachChange as order
 use Rattle.ctf_protocol.proofs.laws.keys_rise.Goals as goal
 
 pub returns : goal.returns

@@ -1,5 +1,5 @@
-use Rattle.ctf_protocol.proofs.RefusedSteps.{stays}
+use Rattle.ctf_protocol.proofs.EachChange.{refusals_keep}
 use Rattle.ctf_protocol.proofs.session_laws.refusals_change_nothing.Goals as goal
 
 pub returns : goal.returns
-returns c = stays
+returns c = refusals_keep

@@ -1,0 +1,66 @@
+//! The types of a C program, from a CTF dictionary (version 2), in process.
+//!
+//! A [`Dictionary`] is judged whole when it is opened, and refused for any fault in it. What it is
+//! asked is answered by the library that `libctfd.a` is, which is proved to answer what the format
+//! says. This crate hands its answers on as types that cannot outlive their dictionary.
+//!
+//! ```
+//! use ctfd::{Dictionary, Kind};
+//!
+//! # fn main() -> Result<(), Box<dyn std::error::Error>> {
+//! let types = Dictionary::open(&std::fs::read("../../examples/lua.ctf")?)?;
+//! let node = types.find("struct luaL_Reg")?;
+//! assert_eq!(node.kind(), Kind::Struct);
+//! assert_eq!(node.size()?, 16);
+//! let lines: Vec<String> = node
+//!     .members()?
+//!     .map(|member| format!("{}: {}", member.offset / 8, member))
+//!     .collect();
+//! assert_eq!(lines, ["0: const char *name", "8: lua_CFunction func"]);
+//! # Ok(())
+//! # }
+//! ```
+//!
+//! A refusal is a [`Refusal`]: a [`Fault`] by its name in docs/FAULTS.md, and its place.
+//!
+//! ```
+//! use ctfd::{Dictionary, Fault};
+//!
+//! let refused = Dictionary::open(b"\xf1\xcf\x03\0").unwrap_err();
+//! assert_eq!(refused.fault, Fault::BadVersion);
+//! ```
+//!
+//! A type borrows its dictionary, so it can't outlive it:
+//!
+//! ```compile_fail,E0505
+//! let types = ctfd::Dictionary::open(&[]).unwrap();
+//! let found = types.find("int").unwrap();
+//! drop(types);
+//! println!("{found}");
+//! ```
+//!
+//! Dictionaries, and all that shares them, stay on the thread that opened them:
+//!
+//! ```compile_fail,E0277
+//! let types = ctfd::Dictionary::open(&[]).unwrap();
+//! std::thread::spawn(move || types.count());
+//! ```
+
+mod declaration;
+mod dictionary;
+mod draft;
+mod faults;
+mod lists;
+mod names;
+mod raw;
+mod service;
+mod types;
+
+pub use declaration::Declaration;
+pub use dictionary::{Dictionary, Function, Label, Labels, Model, Options, Types};
+pub use draft::{Draft, Named};
+pub use faults::{Fault, Refusal};
+pub use lists::{Arguments, Enumerator, Enumerators, Member, Members};
+pub use names::Name;
+pub use service::Service;
+pub use types::{Array, Encoding, Kind, Type};

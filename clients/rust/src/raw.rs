@@ -1,0 +1,362 @@
+//! The calls of libctfd.a, as clients/c/ctfd.h declares them.
+
+use std::os::raw::c_void;
+
+/// What is open, or a service of the line protocol: `struct ctfd`, `struct ctfd_service`.
+#[repr(C)]
+pub struct Handle {
+    pub full: bool,
+    pub at: *mut c_void,
+}
+
+impl Handle {
+    /// What each handle begins as.
+    pub const NONE: Handle = Handle {
+        full: false,
+        at: std::ptr::null_mut(),
+    };
+}
+
+#[repr(C)]
+#[derive(Default)]
+pub struct Encoding {
+    pub encoding: u32,
+    pub offset: u32,
+    pub bits: u32,
+}
+
+#[repr(C)]
+#[derive(Default)]
+pub struct Array {
+    pub count: u32,
+    pub contents: u16,
+    pub index: u16,
+}
+
+#[repr(C)]
+#[derive(Default)]
+pub struct Member {
+    pub offset: u64,
+    pub name_len: u64,
+    pub tnum: u16,
+}
+
+#[repr(C)]
+#[derive(Default)]
+pub struct Label {
+    pub name_len: u64,
+    pub last: u32,
+}
+
+#[repr(C)]
+#[derive(Default)]
+pub struct Function {
+    pub arguments: u64,
+    pub varargs: u32,
+    pub ret: u16,
+}
+
+extern "C" {
+    pub fn ctfd_open(
+        handle: *mut Handle,
+        ctf: *const u8,
+        ctf_len: usize,
+        sym: *const u8,
+        sym_len: usize,
+        strs: *const u8,
+        strs_len: usize,
+        has_sym: bool,
+        has_strs: bool,
+        ilp32: bool,
+        place: *mut u64,
+    ) -> u32;
+    pub fn ctfd_close(handle: *mut Handle);
+    pub fn ctfd_import(handle: *mut Handle, parent: *mut Handle, place: *mut u64) -> u32;
+    pub fn ctfd_count(handle: *mut Handle, out: *mut u64) -> u32;
+    pub fn ctfd_child(handle: *mut Handle, out: *mut u32) -> u32;
+    pub fn ctfd_parent_count(handle: *mut Handle, out: *mut u64) -> u32;
+    pub fn ctfd_model(handle: *mut Handle, out: *mut u32) -> u32;
+    pub fn ctfd_parent_name(
+        handle: *mut Handle,
+        text: *mut u8,
+        text_len: usize,
+        len: *mut u64,
+    ) -> u32;
+    pub fn ctfd_parent_label(
+        handle: *mut Handle,
+        text: *mut u8,
+        text_len: usize,
+        len: *mut u64,
+    ) -> u32;
+    pub fn ctfd_label_count(handle: *mut Handle, out: *mut u64) -> u32;
+    pub fn ctfd_label(
+        handle: *mut Handle,
+        index: usize,
+        name: *mut u8,
+        name_len: usize,
+        out: *mut Label,
+    ) -> u32;
+    pub fn ctfd_label_last(
+        handle: *mut Handle,
+        name: *const u8,
+        name_len: usize,
+        out: *mut u32,
+    ) -> u32;
+    pub fn ctfd_kind(handle: *mut Handle, t: u16, out: *mut u32) -> u32;
+    pub fn ctfd_declared_name(
+        handle: *mut Handle,
+        t: u16,
+        text: *mut u8,
+        text_len: usize,
+        len: *mut u64,
+    ) -> u32;
+    pub fn ctfd_root(handle: *mut Handle, t: u16, out: *mut u32) -> u32;
+    pub fn ctfd_reference(handle: *mut Handle, t: u16, out: *mut u16) -> u32;
+    pub fn ctfd_tag(handle: *mut Handle, t: u16, out: *mut u32) -> u32;
+    pub fn ctfd_encoding(handle: *mut Handle, t: u16, out: *mut Encoding) -> u32;
+    pub fn ctfd_array(handle: *mut Handle, t: u16, out: *mut Array) -> u32;
+    pub fn ctfd_length(handle: *mut Handle, t: u16, out: *mut u64) -> u32;
+    pub fn ctfd_member(
+        handle: *mut Handle,
+        t: u16,
+        index: usize,
+        name: *mut u8,
+        name_len: usize,
+        out: *mut Member,
+    ) -> u32;
+    pub fn ctfd_enumerator(
+        handle: *mut Handle,
+        t: u16,
+        index: usize,
+        name: *mut u8,
+        name_len: usize,
+        value: *mut i32,
+        len: *mut u64,
+    ) -> u32;
+    pub fn ctfd_return(handle: *mut Handle, t: u16, out: *mut u16) -> u32;
+    pub fn ctfd_argument(handle: *mut Handle, t: u16, index: usize, out: *mut u16) -> u32;
+    pub fn ctfd_resolve(handle: *mut Handle, t: u16, out: *mut u16) -> u32;
+    pub fn ctfd_size(handle: *mut Handle, t: u16, out: *mut u64) -> u32;
+    pub fn ctfd_align(handle: *mut Handle, t: u16, out: *mut u64) -> u32;
+    pub fn ctfd_field(
+        handle: *mut Handle,
+        t: u16,
+        name: *const u8,
+        name_len: usize,
+        offset: *mut u64,
+        to: *mut u16,
+    ) -> u32;
+    pub fn ctfd_path(
+        handle: *mut Handle,
+        t: u16,
+        names: *const u8,
+        names_len: usize,
+        offset: *mut u64,
+        to: *mut u16,
+    ) -> u32;
+    pub fn ctfd_name(
+        handle: *mut Handle,
+        t: u16,
+        text: *mut u8,
+        text_len: usize,
+        len: *mut u64,
+    ) -> u32;
+    pub fn ctfd_show(
+        handle: *mut Handle,
+        t: u16,
+        memory: *const u8,
+        memory_len: usize,
+        offset: u64,
+        text: *mut u8,
+        text_len: usize,
+        len: *mut u64,
+    ) -> u32;
+    pub fn ctfd_find(handle: *mut Handle, text: *const u8, text_len: usize, out: *mut u16) -> u32;
+    pub fn ctfd_pointer(handle: *mut Handle, t: u16, out: *mut u16) -> u32;
+    pub fn ctfd_symbol(handle: *mut Handle, name: *const u8, name_len: usize, out: *mut u32)
+        -> u32;
+    pub fn ctfd_symbol_name(
+        handle: *mut Handle,
+        number: u32,
+        text: *mut u8,
+        text_len: usize,
+        len: *mut u64,
+    ) -> u32;
+    pub fn ctfd_object(handle: *mut Handle, number: u32, out: *mut u16) -> u32;
+    pub fn ctfd_function(handle: *mut Handle, number: u32, out: *mut Function) -> u32;
+    pub fn ctfd_function_argument(
+        handle: *mut Handle,
+        number: u32,
+        index: usize,
+        out: *mut u16,
+    ) -> u32;
+    pub fn ctfd_create(handle: *mut Handle, ilp32: bool, place: *mut u64) -> u32;
+    pub fn ctfd_create_child(
+        handle: *mut Handle,
+        parent: *mut Handle,
+        parname: *const u8,
+        parname_len: usize,
+        parlabel: *const u8,
+        parlabel_len: usize,
+        place: *mut u64,
+    ) -> u32;
+    pub fn ctfd_add_integer(
+        handle: *mut Handle,
+        name: *const u8,
+        name_len: usize,
+        root: bool,
+        encoding: u8,
+        offset: u8,
+        bits: u16,
+        size: u64,
+        out: *mut u16,
+    ) -> u32;
+    pub fn ctfd_add_float(
+        handle: *mut Handle,
+        name: *const u8,
+        name_len: usize,
+        root: bool,
+        encoding: u8,
+        offset: u8,
+        bits: u16,
+        size: u64,
+        out: *mut u16,
+    ) -> u32;
+    pub fn ctfd_add_pointer(
+        handle: *mut Handle,
+        name: *const u8,
+        name_len: usize,
+        root: bool,
+        to: u16,
+        out: *mut u16,
+    ) -> u32;
+    pub fn ctfd_add_typedef(
+        handle: *mut Handle,
+        name: *const u8,
+        name_len: usize,
+        root: bool,
+        to: u16,
+        out: *mut u16,
+    ) -> u32;
+    pub fn ctfd_add_volatile(
+        handle: *mut Handle,
+        name: *const u8,
+        name_len: usize,
+        root: bool,
+        to: u16,
+        out: *mut u16,
+    ) -> u32;
+    pub fn ctfd_add_const(
+        handle: *mut Handle,
+        name: *const u8,
+        name_len: usize,
+        root: bool,
+        to: u16,
+        out: *mut u16,
+    ) -> u32;
+    pub fn ctfd_add_restrict(
+        handle: *mut Handle,
+        name: *const u8,
+        name_len: usize,
+        root: bool,
+        to: u16,
+        out: *mut u16,
+    ) -> u32;
+    pub fn ctfd_add_array(
+        handle: *mut Handle,
+        name: *const u8,
+        name_len: usize,
+        root: bool,
+        contents: u16,
+        index: u16,
+        count: u32,
+        out: *mut u16,
+    ) -> u32;
+    pub fn ctfd_add_function(
+        handle: *mut Handle,
+        name: *const u8,
+        name_len: usize,
+        root: bool,
+        ret: u16,
+        args: *const u16,
+        args_len: usize,
+        out: *mut u16,
+    ) -> u32;
+    pub fn ctfd_add_struct(
+        handle: *mut Handle,
+        name: *const u8,
+        name_len: usize,
+        root: bool,
+        size: u64,
+        out: *mut u16,
+    ) -> u32;
+    pub fn ctfd_add_union(
+        handle: *mut Handle,
+        name: *const u8,
+        name_len: usize,
+        root: bool,
+        size: u64,
+        out: *mut u16,
+    ) -> u32;
+    pub fn ctfd_add_enum(
+        handle: *mut Handle,
+        name: *const u8,
+        name_len: usize,
+        root: bool,
+        size: u64,
+        out: *mut u16,
+    ) -> u32;
+    pub fn ctfd_add_forward(
+        handle: *mut Handle,
+        name: *const u8,
+        name_len: usize,
+        root: bool,
+        tag: u32,
+        out: *mut u16,
+    ) -> u32;
+    pub fn ctfd_add_unknown(
+        handle: *mut Handle,
+        name: *const u8,
+        name_len: usize,
+        root: bool,
+        out: *mut u16,
+    ) -> u32;
+    pub fn ctfd_add_member(
+        handle: *mut Handle,
+        t: u16,
+        name: *const u8,
+        name_len: usize,
+        tnum: u16,
+        has_offset: bool,
+        offset: u64,
+        out: *mut u64,
+    ) -> u32;
+    pub fn ctfd_add_enumerator(
+        handle: *mut Handle,
+        t: u16,
+        name: *const u8,
+        name_len: usize,
+        value: i32,
+    ) -> u32;
+    pub fn ctfd_add_label(handle: *mut Handle, name: *const u8, name_len: usize, last: u32) -> u32;
+    pub fn ctfd_update(handle: *mut Handle, types: *mut u64, place: *mut u64) -> u32;
+    pub fn ctfd_discard(handle: *mut Handle, types: *mut u64) -> u32;
+    pub fn ctfd_bytes(
+        handle: *mut Handle,
+        from: u64,
+        bytes: *mut u8,
+        bytes_len: usize,
+        len: *mut u64,
+    ) -> u32;
+    pub fn ctfd_begin(handle: *mut Handle) -> u32;
+    pub fn ctfd_end(handle: *mut Handle);
+    pub fn ctfd_line(
+        handle: *mut Handle,
+        line: *const u8,
+        line_len: usize,
+        text: *mut u8,
+        text_len: usize,
+        len: *mut u64,
+    ) -> u32;
+    pub fn ctfd_reply(handle: *mut Handle, text: *mut u8, text_len: usize, len: *mut u64) -> u32;
+}

@@ -1,0 +1,356 @@
+//! Types, and what they are asked.
+
+use crate::declaration::Declaration;
+use crate::dictionary::Dictionary;
+use crate::faults::{told, Refusal};
+use crate::lists::{Arguments, Enumerators, Member, Members};
+use crate::names::{fill, text, Name};
+use crate::raw;
+use std::fmt;
+
+/// The kinds of types, by their numbers in sys/ctf.h.
+#[derive(Clone, Copy, Debug, PartialEq, Eq, Hash)]
+#[repr(u8)]
+pub enum Kind {
+    /// A type of which nothing is known.
+    Unknown = 0,
+    /// An integer.
+    Integer = 1,
+    /// A number with a point.
+    Float = 2,
+    /// A pointer.
+    Pointer = 3,
+    /// An array.
+    Array = 4,
+    /// A function.
+    Function = 5,
+    /// A struct.
+    Struct = 6,
+    /// A union.
+    Union = 7,
+    /// An enum.
+    Enum = 8,
+    /// A struct, union or enum that is declared and not told.
+    Forward = 9,
+    /// Another name of a type.
+    Typedef = 10,
+    /// A type with `volatile`.
+    Volatile = 11,
+    /// A type with `const`.
+    Const = 12,
+    /// A type with `restrict`.
+    Restrict = 13,
+}
+
+impl Kind {
+    const ALL: [Kind; 14] = [
+        Kind::Unknown,
+        Kind::Integer,
+        Kind::Float,
+        Kind::Pointer,
+        Kind::Array,
+        Kind::Function,
+        Kind::Struct,
+        Kind::Union,
+        Kind::Enum,
+        Kind::Forward,
+        Kind::Typedef,
+        Kind::Volatile,
+        Kind::Const,
+        Kind::Restrict,
+    ];
+
+    /// The kind of a number that the library answered.
+    fn of(number: u32) -> Kind {
+        Kind::ALL[number as usize]
+    }
+}
+
+/// How the value of an integer or a float lies in its storage.
+#[derive(Clone, Copy, Debug, PartialEq, Eq, Hash)]
+pub struct Encoding {
+    /// The format's number: of an integer, 1 signed, 2 character, 4 boolean, 8 varargs, added.
+    pub encoding: u8,
+    /// How many bits the value lies behind the start of its storage.
+    pub offset: u8,
+    /// How many bits wide it is.
+    pub bits: u16,
+}
+
+/// The parts of an array.
+#[derive(Clone, Copy, Debug)]
+pub struct Array<'d> {
+    /// The type of its elements.
+    pub contents: Option<Type<'d>>,
+    /// The type of its index.
+    pub index: Option<Type<'d>>,
+    /// How many elements it has.
+    pub count: u32,
+}
+
+/// A type of a dictionary, which it borrows. `None` stands for no type, as behind a pointer to
+/// void.
+#[derive(Clone, Copy)]
+pub struct Type<'d> {
+    of: &'d Dictionary,
+    number: u16,
+}
+
+impl PartialEq for Type<'_> {
+    fn eq(&self, other: &Self) -> bool {
+        std::ptr::eq(self.of, other.of) && self.number == other.number
+    }
+}
+
+impl Eq for Type<'_> {}
+
+impl fmt::Debug for Type<'_> {
+    fn fmt(&self, to: &mut fmt::Formatter<'_>) -> fmt::Result {
+        write!(to, "{} ({self})", self.number)
+    }
+}
+
+/// Shows the type as C spells it, as in a cast.
+impl fmt::Display for Type<'_> {
+    fn fmt(&self, to: &mut fmt::Formatter<'_>) -> fmt::Result {
+        match self.name() {
+            Ok(name) => name.fmt(to),
+            Err(refused) => write!(to, "({refused})"),
+        }
+    }
+}
+
+impl<'d> Type<'d> {
+    /// The type of a number that an answer had.
+    pub(crate) fn known(of: &'d Dictionary, number: u16) -> Type<'d> {
+        Type { of, number }
+    }
+
+    /// The same, where 0 is no type.
+    pub(crate) fn some(of: &'d Dictionary, number: u16) -> Option<Type<'d>> {
+        (number != 0).then_some(Type { of, number })
+    }
+
+    /// The type of a number that a caller has.
+    pub(crate) fn get(of: &'d Dictionary, number: u16) -> Result<Type<'d>, Refusal> {
+        let mut kind = 0;
+        // SAFETY: as `Dictionary::handle` says; so are all calls below.
+        told(unsafe { raw::ctfd_kind(of.handle(), number, &mut kind) })?;
+        Ok(Type { of, number })
+    }
+
+    pub(crate) fn dictionary(self) -> &'d Dictionary {
+        self.of
+    }
+
+    /// Its number.
+    pub fn number(self) -> u16 {
+        self.number
+    }
+
+    /// Its kind. A type of a parent that is not imported is of an unknown kind.
+    pub fn kind(self) -> Kind {
+        let mut kind = 0;
+        match told(unsafe { raw::ctfd_kind(self.of.handle(), self.number, &mut kind) }) {
+            Ok(()) => Kind::of(kind),
+            Err(_) => Kind::Unknown,
+        }
+    }
+
+    /// Its name as C spells it: `struct point *`.
+    pub fn name(self) -> Result<Name, Refusal> {
+        text(|at, len, told| unsafe {
+            raw::ctfd_name(self.of.handle(), self.number, at, len, told)
+        })
+    }
+
+    /// The name in its record, without `struct`, `union` or `enum` in front: empty for none.
+    pub fn declared_name(self) -> Result<Name, Refusal> {
+        text(|at, len, told| unsafe {
+            raw::ctfd_declared_name(self.of.handle(), self.number, at, len, told)
+        })
+    }
+
+    /// How C declares something of this type: shown, it is `struct point *next`.
+    pub fn declare(self, name: impl AsRef<[u8]>) -> Declaration<'d> {
+        Declaration::new(Some(self), name.as_ref())
+    }
+
+    /// Whether it is visible to look-ups by name.
+    pub fn is_root(self) -> Result<bool, Refusal> {
+        let mut root = 0;
+        told(unsafe { raw::ctfd_root(self.of.handle(), self.number, &mut root) })?;
+        Ok(root != 0)
+    }
+
+    /// Its size in bytes.
+    pub fn size(self) -> Result<u64, Refusal> {
+        let mut bytes = 0;
+        told(unsafe { raw::ctfd_size(self.of.handle(), self.number, &mut bytes) })?;
+        Ok(bytes)
+    }
+
+    /// Its alignment in bytes.
+    pub fn align(self) -> Result<u64, Refusal> {
+        let mut bytes = 0;
+        told(unsafe { raw::ctfd_align(self.of.handle(), self.number, &mut bytes) })?;
+        Ok(bytes)
+    }
+
+    /// The type that it stands for, along typedefs and qualifiers.
+    pub fn resolve(self) -> Result<Option<Type<'d>>, Refusal> {
+        let mut to = 0;
+        told(unsafe { raw::ctfd_resolve(self.of.handle(), self.number, &mut to) })?;
+        Ok(Type::some(self.of, to))
+    }
+
+    /// What it points to, renames or qualifies.
+    pub fn reference(self) -> Result<Option<Type<'d>>, Refusal> {
+        let mut to = 0;
+        told(unsafe { raw::ctfd_reference(self.of.handle(), self.number, &mut to) })?;
+        Ok(Type::some(self.of, to))
+    }
+
+    /// The least pointer to it.
+    pub fn pointer(self) -> Result<Type<'d>, Refusal> {
+        let mut to = 0;
+        told(unsafe { raw::ctfd_pointer(self.of.handle(), self.number, &mut to) })?;
+        Ok(Type::known(self.of, to))
+    }
+
+    /// What a function type returns.
+    pub fn returns(self) -> Result<Option<Type<'d>>, Refusal> {
+        let mut to = 0;
+        told(unsafe { raw::ctfd_return(self.of.handle(), self.number, &mut to) })?;
+        Ok(Type::some(self.of, to))
+    }
+
+    /// What a forward declares: a struct, a union or an enum.
+    pub fn tag(self) -> Result<Kind, Refusal> {
+        let mut tag = 0;
+        told(unsafe { raw::ctfd_tag(self.of.handle(), self.number, &mut tag) })?;
+        Ok(Kind::of(tag))
+    }
+
+    /// How the value of an integer or a float is encoded.
+    pub fn encoding(self) -> Result<Encoding, Refusal> {
+        let mut raw = raw::Encoding::default();
+        told(unsafe { raw::ctfd_encoding(self.of.handle(), self.number, &mut raw) })?;
+        Ok(Encoding {
+            encoding: raw.encoding as u8,
+            offset: raw.offset as u8,
+            bits: raw.bits as u16,
+        })
+    }
+
+    /// The parts of an array.
+    pub fn array(self) -> Result<Array<'d>, Refusal> {
+        let mut raw = raw::Array::default();
+        told(unsafe { raw::ctfd_array(self.of.handle(), self.number, &mut raw) })?;
+        Ok(Array {
+            contents: Type::some(self.of, raw.contents),
+            index: Type::some(self.of, raw.index),
+            count: raw.count,
+        })
+    }
+
+    /// How many members, enumerators or arguments it has.
+    pub fn length(self) -> Result<usize, Refusal> {
+        let mut length = 0;
+        told(unsafe { raw::ctfd_length(self.of.handle(), self.number, &mut length) })?;
+        Ok(length as usize)
+    }
+
+    /// The members of a struct or union, in order.
+    pub fn members(self) -> Result<Members<'d>, Refusal> {
+        Members::of(self)
+    }
+
+    /// The enumerators of an enum, in order.
+    pub fn enumerators(self) -> Result<Enumerators<'d>, Refusal> {
+        Enumerators::of(self)
+    }
+
+    /// The types of the arguments of a function type, in order: a last `None` says that more may
+    /// follow.
+    pub fn arguments(self) -> Result<Arguments<'d>, Refusal> {
+        Arguments::of(self)
+    }
+
+    /// A member by its number, its name lent from a room that is used again and again.
+    pub fn member_in<'n>(
+        self,
+        index: usize,
+        room: &'n mut Vec<u8>,
+    ) -> Result<Member<'d, &'n [u8]>, Refusal> {
+        let mut raw = raw::Member::default();
+        fill(room, |at, len, told| {
+            let handle = self.of.handle();
+            let status = unsafe { raw::ctfd_member(handle, self.number, index, at, len, &mut raw) };
+            *told = raw.name_len;
+            status
+        })?;
+        Ok(Member {
+            name: room,
+            offset: raw.offset,
+            kind: Type::some(self.of, raw.tnum),
+        })
+    }
+
+    /// Where the first member of a name lies, in bits, and its type.
+    pub fn field(self, name: impl AsRef<[u8]>) -> Result<(u64, Option<Type<'d>>), Refusal> {
+        let (name, mut offset, mut to) = (name.as_ref(), 0, 0);
+        let handle = self.of.handle();
+        told(unsafe {
+            raw::ctfd_field(
+                handle,
+                self.number,
+                name.as_ptr(),
+                name.len(),
+                &mut offset,
+                &mut to,
+            )
+        })?;
+        Ok((offset, Type::some(self.of, to)))
+    }
+
+    /// The same of a member of a member, the outermost first.
+    pub fn path(self, names: &[&[u8]]) -> Result<(u64, Option<Type<'d>>), Refusal> {
+        let (mut offset, mut to) = (0, 0);
+        let steps: Vec<u8> = names
+            .iter()
+            .flat_map(|name| name.iter().chain(&[0]))
+            .copied()
+            .collect();
+        let handle = self.of.handle();
+        told(unsafe {
+            raw::ctfd_path(
+                handle,
+                self.number,
+                steps.as_ptr(),
+                steps.len(),
+                &mut offset,
+                &mut to,
+            )
+        })?;
+        Ok((offset, Type::some(self.of, to)))
+    }
+
+    /// What a value holds that begins at a bit of some memory, as a debugger shows it.
+    pub fn show(self, memory: &[u8], offset: u64) -> Result<Name, Refusal> {
+        text(|at, len, told| unsafe {
+            let handle = self.of.handle();
+            let memory_at = memory.as_ptr();
+            raw::ctfd_show(
+                handle,
+                self.number,
+                memory_at,
+                memory.len(),
+                offset,
+                at,
+                len,
+                told,
+            )
+        })
+    }
+}

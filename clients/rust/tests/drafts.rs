@@ -1,0 +1,142 @@
+//! Dictionaries that are made, and parents that are shared.
+
+use ctfd::{Dictionary, Draft, Encoding, Fault, Kind, Model, Named};
+
+const INT: Encoding = Encoding {
+    encoding: 1,
+    offset: 0,
+    bits: 32,
+};
+
+/// `int`, and `struct node { int value; struct node *next; }`.
+fn nodes() -> Draft {
+    let mut draft = Draft::new(Model::Lp64).unwrap();
+    let int = draft.integer("int", INT, 4).unwrap();
+    let node = draft.structure("node", 0).unwrap();
+    let to = draft.pointer(Named::hidden(b""), node).unwrap();
+    assert_eq!(draft.member(node, "value", int, None), Ok(0));
+    assert_eq!(draft.member(node, "next", to, None), Ok(64));
+    assert_eq!(draft.find("int").unwrap_err().fault, Fault::NotFound);
+    draft.update().unwrap();
+    draft
+}
+
+#[test]
+fn what_is_added_is_told_after_an_update() {
+    let draft = nodes();
+    let node = draft.find("struct node").unwrap();
+    let shown: Vec<String> = node.members().unwrap().map(|one| one.to_string()).collect();
+    assert_eq!(shown, ["int value", "struct node *next"]);
+    assert_eq!(node.size(), Ok(16));
+}
+
+#[test]
+fn all_kinds_are_added() {
+    let mut draft = nodes();
+    draft
+        .float(
+            "double",
+            Encoding {
+                encoding: 2,
+                offset: 0,
+                bits: 64,
+            },
+            8,
+        )
+        .unwrap();
+    draft.typedef("number", 1).unwrap();
+    draft.volatile("", 1).unwrap();
+    let constant = draft.constant("", 3).unwrap();
+    draft.restrict("", constant).unwrap();
+    draft.array("", 1, 1, 7).unwrap();
+    draft.function("", 1, &[1, 0]).unwrap();
+    let either = draft.union("either", 0).unwrap();
+    draft.member(either, "n", 1, Some(0)).unwrap();
+    let color = draft.enumeration("color", 4).unwrap();
+    draft.enumerator(color, "red", -1).unwrap();
+    draft.forward("later", Kind::Struct).unwrap();
+    draft.unknown("").unwrap();
+    draft.label("one", 2).unwrap();
+    draft.update().unwrap();
+    let kinds: Vec<Kind> = draft.types().map(|t| t.kind()).skip(3).collect();
+    assert_eq!(
+        kinds,
+        [
+            Kind::Float,
+            Kind::Typedef,
+            Kind::Volatile,
+            Kind::Const,
+            Kind::Restrict,
+            Kind::Array,
+            Kind::Function,
+            Kind::Union,
+            Kind::Enum,
+            Kind::Forward,
+            Kind::Unknown
+        ]
+    );
+    for t in draft.types() {
+        assert_eq!(t.declare("").to_string(), t.to_string());
+    }
+    let restrict = draft.types().find(|t| t.kind() == Kind::Restrict).unwrap();
+    assert_eq!(restrict.declare("p").to_string(), format!("{restrict} p"));
+    let forward = draft.types().find(|t| t.kind() == Kind::Forward).unwrap();
+    assert_eq!(forward.tag(), Ok(Kind::Struct));
+    let function = draft.types().find(|t| t.kind() == Kind::Function).unwrap();
+    let arguments: Vec<_> = function.arguments().unwrap().collect();
+    assert_eq!((arguments.len(), arguments[1]), (2, None));
+    assert_eq!(draft.labels().next().unwrap().last, 2);
+}
+
+#[test]
+fn what_is_discarded_is_gone() {
+    let mut draft = nodes();
+    assert_eq!(draft.structure("gone", 0), Ok(4));
+    draft.discard().unwrap();
+    draft.update().unwrap();
+    assert_eq!(
+        (draft.count(), draft.get(4).unwrap_err().fault),
+        (3, Fault::NoType)
+    );
+    assert_eq!(
+        draft.member(2, "x", 1, None).unwrap_err().fault,
+        Fault::Settled
+    );
+    assert_eq!(draft.typedef("t", 99).unwrap_err().fault, Fault::BadRef);
+}
+
+#[test]
+fn a_parent_lives_as_long_as_its_child() {
+    let base = nodes();
+    let mut draft = Draft::child(&base, "base", "v1").unwrap();
+    draft.pointer("", 2).unwrap();
+    draft.update().unwrap();
+    let mut child = Dictionary::open(&draft.bytes()).unwrap();
+    assert_eq!((child.is_child(), child.parent_count()), (true, None));
+    assert_eq!(child.parent_name(), "base");
+    assert_eq!(child.parent_label(), "v1");
+    let alone = child.types().next().unwrap();
+    assert_eq!(alone.number(), 32_769);
+    assert_eq!(alone.name().unwrap_err().fault, Fault::NoParent);
+    child.import(&base).unwrap();
+    drop(base);
+    drop(draft);
+    assert_eq!(child.types().next().unwrap().to_string(), "struct node *");
+    assert_eq!(child.parent_count(), Some(3));
+}
+
+#[test]
+fn a_refused_import_changes_nothing() {
+    let (base, none) = (nodes(), Draft::new(Model::Lp64).unwrap());
+    let mut draft = Draft::child(&base, "base", "").unwrap();
+    draft.pointer("", 2).unwrap();
+    draft.update().unwrap();
+    let mut child = Dictionary::open(&draft.bytes()).unwrap();
+    child.import(&base).unwrap();
+    let refused = child.import(&none).unwrap_err();
+    assert_eq!((refused.fault, refused.place), (Fault::ParentShort, 2));
+    assert_eq!(refused.to_string(), "ParentShort at 2");
+    assert_eq!(child.parent_count(), Some(3));
+    let mut alone = nodes().into_dictionary().unwrap();
+    assert_eq!(alone.import(&base).unwrap_err().fault, Fault::NotChild);
+}

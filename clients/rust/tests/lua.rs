@@ -1,0 +1,215 @@
+//! What is told of lua's types is what a dump of them says.
+
+use ctfd::{Dictionary, Fault, Kind, Model, Options, Service};
+use std::fs;
+
+const EXAMPLES: &str = concat!(env!("CARGO_MANIFEST_DIR"), "/../../examples");
+
+fn read(name: &str) -> Vec<u8> {
+    fs::read(format!("{EXAMPLES}/{name}")).expect(name)
+}
+
+fn lua() -> Dictionary {
+    let options = Options {
+        symbols: Some(&read("lua.sym")),
+        strings: Some(&read("lua.str")),
+        model: Model::Lp64,
+    };
+    Dictionary::open_with(&read("lua.ctf"), options).expect("lua's dictionary is sound")
+}
+
+fn said<T: ToString>(answer: Result<T, ctfd::Refusal>) -> String {
+    answer.map_or_else(|refused| refused.to_string(), |value| value.to_string())
+}
+
+/// The lines of a dump, without what stands in a record behind the name.
+fn lines_of_types(types: &Dictionary) -> Vec<String> {
+    let mut lines = Vec::new();
+    for t in types.types() {
+        lines.push(format!(
+            "type {} {} {:?} : {:?} bytes={} align={}",
+            t.number(),
+            format!("{:?}", t.kind()).to_lowercase(),
+            t.declared_name().unwrap(),
+            t.name().unwrap(),
+            said(t.size()),
+            said(t.align()),
+        ));
+        for member in t.members().into_iter().flatten() {
+            let kind = member.kind.map_or(0, |t| t.number());
+            lines.push(format!(
+                "  member {:?} offset={} type={kind}",
+                member.name, member.offset
+            ));
+        }
+        for one in t.enumerators().into_iter().flatten() {
+            lines.push(format!("  value {:?} {}", one.name, one.value));
+        }
+    }
+    lines
+}
+
+/// The same of the file that `ctfd dump` wrote.
+fn lines_of_dump() -> Vec<String> {
+    let dump = String::from_utf8(read("lua.dump")).unwrap();
+    let lines = dump
+        .lines()
+        .filter(|line| line.starts_with("type ") || line.starts_with(' '));
+    lines
+        .map(|line| match line.split_once(" : ") {
+            Some((front, back)) => {
+                let name_ends = front.rfind('"').unwrap() + 1;
+                format!("{} : {back}", &front[..name_ends])
+            }
+            None => line.to_string(),
+        })
+        .collect()
+}
+
+#[test]
+fn types_are_those_of_the_dump() {
+    let (seen, wanted) = (lines_of_types(&lua()), lines_of_dump());
+    assert!(wanted.len() > 1200);
+    for (one, other) in seen.iter().zip(&wanted) {
+        assert_eq!(one, other);
+    }
+    assert_eq!(seen.len(), wanted.len());
+}
+
+#[test]
+fn declarations_without_a_name_are_names() {
+    let types = lua();
+    for t in types.types() {
+        assert_eq!(t.declare("").to_string(), t.to_string());
+    }
+}
+
+#[test]
+fn declarations_stand_round_their_names() {
+    let types = lua();
+    let state = types.find("struct lua_State").unwrap();
+    let shown: Vec<String> = state
+        .members()
+        .unwrap()
+        .map(|one| one.to_string())
+        .collect();
+    assert_eq!(shown[0], "struct GCObject *next");
+    assert!(shown.contains(&"volatile lua_Hook hook".to_string()));
+    let call = types
+        .find("lua_CFunction")
+        .unwrap()
+        .reference()
+        .unwrap()
+        .unwrap();
+    assert_eq!(call.declare("f").to_string(), "int (*f)()");
+    let array = types.types().find(|t| t.kind() == Kind::Array).unwrap();
+    let spelled = array.to_string();
+    let (front, back) = spelled.split_once('[').unwrap();
+    assert_eq!(array.declare("a").to_string(), format!("{front}a[{back}"));
+}
+
+#[test]
+fn names_find_their_types() {
+    let types = lua();
+    let state = types.find("struct lua_State").unwrap();
+    assert_eq!(state, types.get(state.number()).unwrap());
+    assert_eq!(state.pointer().unwrap().to_string(), "struct lua_State *");
+    assert_eq!(state.field("hook").unwrap().0, 160 * 8);
+    assert_eq!(
+        state
+            .path(&[b"base_ci", b"next"])
+            .unwrap()
+            .1
+            .unwrap()
+            .to_string(),
+        "struct CallInfo *"
+    );
+    assert_eq!(state.path(&[]).unwrap(), (0, Some(state)));
+    assert_eq!(
+        types.find("struct nothing").unwrap_err().fault,
+        Fault::NotFound
+    );
+    assert_eq!(types.get(527).unwrap_err().fault, Fault::NoType);
+    assert_eq!(state.enumerators().unwrap_err().fault, Fault::WrongKind);
+    assert_eq!(state.field("none").unwrap_err().fault, Fault::NoMember);
+}
+
+#[test]
+fn a_lent_name_takes_no_memory_of_its_own() {
+    let types = lua();
+    let state = types.find("struct lua_State").unwrap();
+    let mut room = Vec::new();
+    for (index, member) in state.members().unwrap().enumerate() {
+        let lent = state.member_in(index, &mut room).unwrap();
+        assert_eq!((lent.name, lent.offset), (&*member.name, member.offset));
+    }
+    let refused = state.member_in(24, &mut room).unwrap_err();
+    assert_eq!(refused.fault, Fault::NoMember);
+}
+
+#[test]
+fn lists_go_from_both_ends() {
+    let types = lua();
+    let state = types.find("struct lua_State").unwrap();
+    let mut back: Vec<_> = state.members().unwrap().rev().collect();
+    back.reverse();
+    assert!(back.into_iter().eq(state.members().unwrap()));
+    assert_eq!(state.members().unwrap().len(), 24);
+    assert_eq!(types.types().next_back().unwrap().number(), 526);
+    assert_eq!(types.types().len(), 526);
+}
+
+#[test]
+fn symbols_and_labels_are_told() {
+    let types = lua();
+    let symbol = types.symbol("lua_close").unwrap();
+    assert_eq!(types.symbol_name(symbol).unwrap(), "lua_close");
+    let close = types.function(symbol).unwrap();
+    assert_eq!(close.arguments[0].unwrap().to_string(), "lua_State *");
+    assert!(!close.varargs);
+    assert_eq!(types.object(symbol).unwrap_err().fault, Fault::NotData);
+    let labels: Vec<_> = types.labels().collect();
+    assert_eq!((labels.len(), labels[0].last), (1, 526));
+    assert_eq!(labels[0].name, "lua");
+    assert_eq!(types.label("lua"), Ok(526));
+    assert_eq!((types.is_child(), types.parent_count()), (false, None));
+    assert_eq!(types.bytes(), read("lua.ctf"));
+}
+
+#[test]
+fn values_are_shown() {
+    let types = lua();
+    let int = types.find("int").unwrap();
+    assert_eq!(int.show(&[0xfe, 0xff, 0xff, 0xff], 0).unwrap(), "-2");
+    assert_eq!(int.show(&[1], 0).unwrap_err().fault, Fault::ShortMemory);
+}
+
+#[test]
+fn pointers_may_have_four_bytes() {
+    let options = Options {
+        model: Model::Ilp32,
+        ..Options::default()
+    };
+    let types = Dictionary::open_with(&read("lua.ctf"), options).unwrap();
+    assert_eq!(types.find("struct lua_State *").unwrap().size(), Ok(4));
+    assert_eq!(types.model(), Model::Ilp32);
+}
+
+#[test]
+fn each_fault_has_its_number() {
+    for code in 0..63 {
+        assert_eq!(Fault::from_code(code).unwrap().code(), code);
+    }
+    assert_eq!(Fault::from_code(63), None);
+    assert_eq!(Fault::FixedParent.code(), 62);
+}
+
+#[test]
+fn lines_are_answered() {
+    let mut service = Service::new().unwrap();
+    let asked = String::from_utf8(read("struct.jsonl")).unwrap();
+    let wanted = String::from_utf8(read("struct.replies")).unwrap();
+    for (line, reply) in asked.lines().zip(wanted.lines()) {
+        assert_eq!(service.answer(line).unwrap(), reply);
+    }
+}

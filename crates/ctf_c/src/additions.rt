@@ -1,0 +1,431 @@
+//! Exports that add to drafts.
+ghost use Rattle.std.specs.Prelude.{◌≡◌, IfOk, map, option_map};
+ghost use Rattle.ctf_c.specs.Drafting.{Adds, Steps, enlarged, enumerator_added, forward_asked, label_added, member_added, number_there, tag_numbered, type_added};
+ghost use Rattle.ctf_c.specs.Given.{asked};
+ghost use Rattle.ctf_c.specs.PartView.{part_in};
+ghost use Rattle.ctf_draft.specs.NewView.{new_body_of};
+ghost use Rattle.ctf_draft.specs.TypeView.{number_of};
+ghost use Rattle.ctf_model.specs.drafts.NewTypes as new;
+ghost use Rattle.ctf_records.specs.RecordView.{tag_of as tag_shown};
+
+use crate::adding::Part;
+use crate::given::{NOT_OPEN, status};
+use crate::handle::Handle;
+use ctf_draft::{AggregateKind, NewBody, ReferenceKind, ScalarKind};
+use ctf_model::{Fault, TypeNum, placeless};
+use ctf_records::Tag;
+use ctf_views::{ArrayInfo, Encoding};
+use std::alloc::{AllocError, Global};
+
+/// Adds a type to the draft that is open, and gives its number.
+fn add(
+    alloc: Global,
+    handle: &mut Handle,
+    name: &[u8],
+    root: bool,
+    body: NewBody,
+    out: &mut u16,
+) -> u32
+    ensures { Steps (asked handle.old.held.session
+        (type_added (record { name = name.now; root = root; body = new_body_of body })))
+        result out.old out.new handle.old.held.session handle.new.held.session }
+{
+    let Some(mut session) = handle.take(alloc) else {
+        return NOT_OPEN;
+    };
+    let outcome = session.add(alloc, name, root, body);
+    *handle = Handle::of(session);
+    match outcome {
+        Ok(t) => {
+            *out = t.0;
+            0
+        }
+        Err(fault) => status(fault),
+    }
+}
+
+/// Adds to the draft that is open, and gives what is answered.
+fn add_part(alloc: Global, handle: &mut Handle, part: Part<'_>, out: &mut u64) -> u32
+    ensures { Steps (asked handle.old.held.session (enlarged (part_in part.entry))) result
+        out.old out.new handle.old.held.session handle.new.held.session }
+{
+    let Some(mut session) = handle.take(alloc) else {
+        return NOT_OPEN;
+    };
+    let outcome = session.add_part(alloc, part);
+    *handle = Handle::of(session);
+    match outcome {
+        Ok(answer) => {
+            *out = answer;
+            0
+        }
+        Err(fault) => status(fault),
+    }
+}
+
+/// Adds an integer, and gives its number.
+#[unsafe(no_mangle)]
+pub extern "C" fn ctfd_add_integer(
+    alloc: Global,
+    handle: &mut Handle,
+    name: &[u8],
+    root: bool,
+    encoding: u8,
+    offset: u8,
+    bits: u16,
+    size: u64,
+    out: &mut u16,
+) -> u32
+    ensures { Steps (asked handle.old.held.session (type_added (record {
+      name = name.now;
+      root = root;
+      body = new.integer (record { size = size; encoding = encoding; offset = offset; bits = bits });
+    }))) result out.old out.new handle.old.held.session handle.new.held.session }
+{
+    let encoding = Encoding {
+        encoding,
+        offset,
+        bits,
+    };
+    let body = NewBody::Scalar(ScalarKind::Integer, size, encoding);
+    add(alloc, handle, name, root, body, out)
+}
+
+/// Adds a float, and gives its number.
+#[unsafe(no_mangle)]
+pub extern "C" fn ctfd_add_float(
+    alloc: Global,
+    handle: &mut Handle,
+    name: &[u8],
+    root: bool,
+    encoding: u8,
+    offset: u8,
+    bits: u16,
+    size: u64,
+    out: &mut u16,
+) -> u32
+    ensures { Steps (asked handle.old.held.session (type_added (record {
+      name = name.now;
+      root = root;
+      body = new.float (record { size = size; encoding = encoding; offset = offset; bits = bits });
+    }))) result out.old out.new handle.old.held.session handle.new.held.session }
+{
+    let encoding = Encoding {
+        encoding,
+        offset,
+        bits,
+    };
+    let body = NewBody::Scalar(ScalarKind::Float, size, encoding);
+    add(alloc, handle, name, root, body, out)
+}
+
+/// Adds a pointer to a type; 0 is void, and gives its number.
+#[unsafe(no_mangle)]
+pub extern "C" fn ctfd_add_pointer(
+    alloc: Global,
+    handle: &mut Handle,
+    name: &[u8],
+    root: bool,
+    to: u16,
+    out: &mut u16,
+) -> u32
+    ensures { Steps (asked handle.old.held.session
+        (type_added (record { name = name.now; root = root; body = new.pointer to })))
+        result out.old out.new handle.old.held.session handle.new.held.session }
+{
+    let body = NewBody::Reference(ReferenceKind::Pointer, TypeNum(to));
+    add(alloc, handle, name, root, body, out)
+}
+
+/// Adds a typedef of a type, and gives its number.
+#[unsafe(no_mangle)]
+pub extern "C" fn ctfd_add_typedef(
+    alloc: Global,
+    handle: &mut Handle,
+    name: &[u8],
+    root: bool,
+    to: u16,
+    out: &mut u16,
+) -> u32
+    ensures { Steps (asked handle.old.held.session
+        (type_added (record { name = name.now; root = root; body = new.typedef to })))
+        result out.old out.new handle.old.held.session handle.new.held.session }
+{
+    let body = NewBody::Reference(ReferenceKind::Typedef, TypeNum(to));
+    add(alloc, handle, name, root, body, out)
+}
+
+/// Adds a volatile type, and gives its number.
+#[unsafe(no_mangle)]
+pub extern "C" fn ctfd_add_volatile(
+    alloc: Global,
+    handle: &mut Handle,
+    name: &[u8],
+    root: bool,
+    to: u16,
+    out: &mut u16,
+) -> u32
+    ensures { Steps (asked handle.old.held.session
+        (type_added (record { name = name.now; root = root; body = new.volatile to })))
+        result out.old out.new handle.old.held.session handle.new.held.session }
+{
+    let body = NewBody::Reference(ReferenceKind::Volatile, TypeNum(to));
+    add(alloc, handle, name, root, body, out)
+}
+
+/// Adds a const type, and gives its number.
+#[unsafe(no_mangle)]
+pub extern "C" fn ctfd_add_const(
+    alloc: Global,
+    handle: &mut Handle,
+    name: &[u8],
+    root: bool,
+    to: u16,
+    out: &mut u16,
+) -> u32
+    ensures { Steps (asked handle.old.held.session
+        (type_added (record { name = name.now; root = root; body = new.const to })))
+        result out.old out.new handle.old.held.session handle.new.held.session }
+{
+    let body = NewBody::Reference(ReferenceKind::Const, TypeNum(to));
+    add(alloc, handle, name, root, body, out)
+}
+
+/// Adds a restrict type, and gives its number.
+#[unsafe(no_mangle)]
+pub extern "C" fn ctfd_add_restrict(
+    alloc: Global,
+    handle: &mut Handle,
+    name: &[u8],
+    root: bool,
+    to: u16,
+    out: &mut u16,
+) -> u32
+    ensures { Steps (asked handle.old.held.session
+        (type_added (record { name = name.now; root = root; body = new.restrict to })))
+        result out.old out.new handle.old.held.session handle.new.held.session }
+{
+    let body = NewBody::Reference(ReferenceKind::Restrict, TypeNum(to));
+    add(alloc, handle, name, root, body, out)
+}
+
+/// Adds an array, and gives its number.
+#[unsafe(no_mangle)]
+pub extern "C" fn ctfd_add_array(
+    alloc: Global,
+    handle: &mut Handle,
+    name: &[u8],
+    root: bool,
+    contents: u16,
+    index: u16,
+    count: u32,
+    out: &mut u16,
+) -> u32
+    ensures { Steps (asked handle.old.held.session
+        (type_added (record { name = name.now; root = root; body = new.array (record { contents = contents; index = index; count = count }) })))
+        result out.old out.new handle.old.held.session handle.new.held.session }
+{
+    let body = NewBody::Array(ArrayInfo {
+        contents: TypeNum(contents),
+        index: TypeNum(index),
+        count,
+    });
+    add(alloc, handle, name, root, body, out)
+}
+
+/// Adds a struct without members yet, and gives its number.
+#[unsafe(no_mangle)]
+pub extern "C" fn ctfd_add_struct(
+    alloc: Global,
+    handle: &mut Handle,
+    name: &[u8],
+    root: bool,
+    size: u64,
+    out: &mut u16,
+) -> u32
+    ensures { Steps (asked handle.old.held.session
+        (type_added (record { name = name.now; root = root; body = new.struct size })))
+        result out.old out.new handle.old.held.session handle.new.held.session }
+{
+    let body = NewBody::Aggregate(AggregateKind::Struct, size);
+    add(alloc, handle, name, root, body, out)
+}
+
+/// Adds a union without members yet, and gives its number.
+#[unsafe(no_mangle)]
+pub extern "C" fn ctfd_add_union(
+    alloc: Global,
+    handle: &mut Handle,
+    name: &[u8],
+    root: bool,
+    size: u64,
+    out: &mut u16,
+) -> u32
+    ensures { Steps (asked handle.old.held.session
+        (type_added (record { name = name.now; root = root; body = new.union size })))
+        result out.old out.new handle.old.held.session handle.new.held.session }
+{
+    let body = NewBody::Aggregate(AggregateKind::Union, size);
+    add(alloc, handle, name, root, body, out)
+}
+
+/// Adds an enum without enumerators yet, and gives its number.
+#[unsafe(no_mangle)]
+pub extern "C" fn ctfd_add_enum(
+    alloc: Global,
+    handle: &mut Handle,
+    name: &[u8],
+    root: bool,
+    size: u64,
+    out: &mut u16,
+) -> u32
+    ensures { Steps (asked handle.old.held.session
+        (type_added (record { name = name.now; root = root; body = new.enum size })))
+        result out.old out.new handle.old.held.session handle.new.held.session }
+{
+    add(alloc, handle, name, root, NewBody::Enum(size), out)
+}
+
+/// Adds a type of no known kind, and gives its number.
+#[unsafe(no_mangle)]
+pub extern "C" fn ctfd_add_unknown(
+    alloc: Global,
+    handle: &mut Handle,
+    name: &[u8],
+    root: bool,
+    out: &mut u16,
+) -> u32
+    ensures { Steps (asked handle.old.held.session
+        (type_added (record { name = name.now; root = root; body = new.unknown })))
+        result out.old out.new handle.old.held.session handle.new.held.session }
+{
+    add(alloc, handle, name, root, NewBody::Unknown, out)
+}
+
+/// Numbers of types.
+fn numbers(alloc: Global, numbers: &[u16]) -> Result<Vec<TypeNum>, AllocError>
+    ensures { IfOk result (λ types. map number_of types.items ≡ numbers.now) }
+{
+    let mut types = Vec::with_capacity(alloc, numbers.len())?;
+    for number in numbers {
+        types.push_reserved(TypeNum(*number));
+    }
+    Ok(types)
+}
+
+/// Adds a function, with what it returns and its arguments, and gives its number. A last argument 0
+/// says that more may follow.
+#[unsafe(no_mangle)]
+pub extern "C" fn ctfd_add_function(
+    alloc: Global,
+    handle: &mut Handle,
+    name: &[u8],
+    root: bool,
+    ret: u16,
+    args: &[u16],
+    out: &mut u16,
+) -> u32
+    ensures { Steps (asked handle.old.held.session
+        (type_added (record { name = name.now; root = root; body = new.function ret args.now })))
+        result out.old out.new handle.old.held.session handle.new.held.session }
+{
+    let Ok(args) = numbers(alloc, args) else {
+        return status(placeless(Fault::MEMORY));
+    };
+    let body = NewBody::Function(TypeNum(ret), args);
+    add(alloc, handle, name, root, body, out)
+}
+
+/// What a number says that a forward declares: 6 for a struct, 7 for a union, 8 for an enum.
+fn tag_of(number: u32) -> Option<Tag>
+    ensures { option_map tag_shown result ≡ tag_numbered number }
+{
+    match number {
+        6 => Some(Tag::Struct),
+        7 => Some(Tag::Union),
+        8 => Some(Tag::Enum),
+        _ => None,
+    }
+}
+
+/// Adds a forward, and gives its number. The tag says what it declares: 6 for a struct, 7 for a
+/// union, 8 for an enum.
+#[unsafe(no_mangle)]
+pub extern "C" fn ctfd_add_forward(
+    alloc: Global,
+    handle: &mut Handle,
+    name: &[u8],
+    root: bool,
+    tag: u32,
+    out: &mut u16,
+) -> u32
+    ensures { Steps (forward_asked name.now root (tag_numbered tag) handle.old.held.session) result
+        out.old out.new handle.old.held.session handle.new.held.session }
+{
+    match tag_of(tag) {
+        Some(tag) => add(alloc, handle, name, root, NewBody::Forward(tag), out),
+        None => status(placeless(Fault::WRONG_KIND)),
+    }
+}
+
+/// A number, if it is there.
+fn number_if(there: bool, number: u64) -> Option<u64>
+    ensures { result ≡ number_there there number }
+{
+    if there { Some(number) } else { None }
+}
+
+/// Adds a member to a struct or union that was added since the last update, and gives its offset in
+/// bits. Where none is stated, it stands behind the last one.
+#[unsafe(no_mangle)]
+pub extern "C" fn ctfd_add_member(
+    alloc: Global,
+    handle: &mut Handle,
+    t: u16,
+    name: &[u8],
+    tnum: u16,
+    has_offset: bool,
+    offset: u64,
+    out: &mut u64,
+) -> u32
+    ensures { Steps (asked handle.old.held.session
+        (member_added t name.now tnum (number_there has_offset offset)))
+        result out.old out.new handle.old.held.session handle.new.held.session }
+{
+    let offset = number_if(has_offset, offset);
+    let part = Part::Member(TypeNum(t), name, TypeNum(tnum), offset);
+    add_part(alloc, handle, part, out)
+}
+
+/// Adds an enumerator to an enum that was added since the last update.
+#[unsafe(no_mangle)]
+pub extern "C" fn ctfd_add_enumerator(
+    alloc: Global,
+    handle: &mut Handle,
+    t: u16,
+    name: &[u8],
+    value: i32,
+) -> u32
+    ensures { Adds (asked handle.old.held.session
+        (enumerator_added t (record { name = name.now; value = value })))
+        result handle.old.held.session handle.new.held.session }
+{
+    let mut none = 0;
+    add_part(
+        alloc,
+        handle,
+        Part::Enumerator(TypeNum(t), name, value),
+        &mut none,
+    )
+}
+
+/// Adds a label, with the last type that it covers.
+#[unsafe(no_mangle)]
+pub extern "C" fn ctfd_add_label(alloc: Global, handle: &mut Handle, name: &[u8], last: u32) -> u32
+    ensures { Adds (asked handle.old.held.session
+        (label_added (record { name = name.now; last = last })))
+        result handle.old.held.session handle.new.held.session }
+{
+    let mut none = 0;
+    add_part(alloc, handle, Part::Label(name, last), &mut none)
+}

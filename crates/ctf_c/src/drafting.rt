@@ -1,0 +1,250 @@
+//! Drafts of sessions: how they are made, updated and dropped.
+ghost use Rattle.std.specs.Prelude.{◌≡◌, ◌==◌, ◌⊎◌, not, length, is_some, IfErr, IfOk, OnErr, Ok, Err, None, Some, option_map, option_copied, option_and_then};
+ghost use Rattle.std.specs.Option.{ForSome};
+ghost use Rattle.ctf_c.specs.Drafting.{created, dropped, updated};
+ghost use Rattle.ctf_library.specs.Drafting.{IsUnder, IsWritten};
+ghost use Rattle.ctf_library.specs.Fitting.{AreTablesOf};
+ghost use Rattle.ctf_model.specs.drafts.Drafts.{held, new_draft as new_draft_of};
+ghost use Rattle.ctf_model.specs.format.Dictionary.{Denotes};
+ghost use Rattle.ctf_model.specs.rules.Refusals.{want_of_memory};
+ghost use Rattle.ctf_model.specs.spaces.Kept.{Kept, fault_over, kept_dictionary, modelled_by};
+ghost use Rattle.ctf_model.specs.writing.Written.{written};
+
+use crate::session::{Imported, Session, parts_of};
+use ctf_draft::Draft;
+use ctf_library::{Loaded, tables_over};
+use ctf_model::{Bytes, DataModel, Fault, Parts, placeless};
+use ctf_space::Opened;
+use ctf_writer::write;
+use std::alloc::{AllocError, Global};
+use std::rc::Rc;
+
+/// A dictionary over its parent, if it has one, with the tables of the one over the other.
+fn imported_over(
+    alloc: Global,
+    own: &Loaded,
+    parent: Option<&Loaded>,
+) -> Result<Option<Imported>, Fault>
+    ensures parent { IfOk result (λ i. option_map (λ i. i.parent) i ≡ option_copied parent.entry) }
+    ensures fits { IfOk result (λ i. ForSome i (λ i. fault_over own.now i.parent ≡ None)) }
+    ensures made { IfOk result (λ i. ForSome i
+        (λ i. AreTablesOf own.now (Some i.parent) i.tables)) }
+    ensures exact_err { IfErr result (λ f. (f ≡ want_of_memory)
+        ⊎ (option_and_then (λ p. fault_over own.now p) (option_copied parent.entry) ≡ Some f)) }
+{
+    let Some(parent) = parent else {
+        return Ok(None);
+    };
+    let tables = match tables_over(alloc, own, parent, true) {
+        Ok(tables) => tables,
+        Err(fault) => return Err(fault),
+    };
+    match parent.share() {
+        Ok(parent) => Ok(Some(Imported { parent, tables })),
+        Err(_) => Err(placeless(Fault::MEMORY)),
+    }
+}
+
+/// A dictionary once more, from copies of its lists: a draft keeps its own and its parent's.
+fn again(alloc: Global, own: &Loaded) -> Result<Rc<Opened>, AllocError>
+    ensures { IfOk result (λ o. o.value ≡ own.now) }
+{
+    let lists = own.view().lists();
+    let parts = parts_of(alloc, lists.ctf, lists.sym, lists.strs)?;
+    let Ok(dictionary) = Opened::build(alloc, parts, own.model()) else {
+        return Err(AllocError);
+    };
+    match Rc::new(alloc, dictionary) {
+        Ok(dictionary) => Ok(dictionary),
+        Err(_) => Err(AllocError),
+    }
+}
+
+/// The bytes of a draft as a dictionary, which is kept for its draft as well.
+#[derive(Drop)]
+struct Updated {
+    own: Loaded,
+    opened: Rc<Opened>,
+    imported: Option<Imported>,
+}
+
+/// The dictionary that a draft's bytes make.
+fn loaded(alloc: Global, draft: &Draft) -> Result<Loaded, Fault>
+    ensures written { IfOk result (λ l. IsWritten draft.now.draft l) }
+    ensures denotes { IfOk result (λ l. Denotes l.lists (held draft.now.draft)) }
+    ensures under { IfOk result
+        (λ l. (p : Kept) → draft.now.draft.parent ≡ Some (kept_dictionary p)
+        → p.model ≡ draft.now.draft.model → fault_over l p ≡ None) }
+    ensures exact_err { IfErr result (λ f. (f ≡ want_of_memory)
+        ⊎ (written (held draft.now.draft) ≡ Err f)) }
+{
+    let bytes = match write(alloc, draft) {
+        Ok(bytes) => bytes,
+        Err(fault) => return Err(fault),
+    };
+    let parts = Parts {
+        ctf: Bytes::from(bytes),
+        sym: None,
+        strs: None,
+    };
+    match Loaded::build(alloc, parts, draft.model()) {
+        Ok(loaded) => Ok(loaded),
+        Err((fault, _)) => Err(fault),
+    }
+}
+
+/// What a draft's dictionary becomes by an update, over the draft's parent.
+fn updated_over(alloc: Global, draft: &Draft, parent: Option<&Loaded>) -> Result<Updated, Fault>
+    requires { IsUnder draft.now.draft (option_copied parent) }
+    ensures written { IfOk result (λ u. IsWritten draft.now.draft u.own) }
+    ensures denotes { IfOk result (λ u. Denotes u.own.lists (held draft.now.draft)) }
+    ensures opened { IfOk result (λ u. u.opened.value ≡ u.own) }
+    ensures parent { IfOk result (λ u. option_map (λ i. i.parent) u.imported
+        ≡ option_copied parent.entry) }
+    ensures fits { IfOk result (λ u. ForSome u.imported (λ i. fault_over u.own i.parent ≡ None)) }
+    ensures made { IfOk result (λ u. ForSome u.imported
+        (λ i. AreTablesOf u.own (Some i.parent) i.tables)) }
+    ensures exact_err { IfErr result (λ f. (f ≡ want_of_memory)
+        ⊎ (written (held draft.now.draft) ≡ Err f)) }
+{
+    let own = match loaded(alloc, draft) {
+        Ok(own) => own,
+        Err(fault) => return Err(fault),
+    };
+    let imported = match imported_over(alloc, &own, parent) {
+        Ok(imported) => imported,
+        Err(fault) => return Err(fault),
+    };
+    match again(alloc, &own) {
+        Ok(opened) => Ok(Updated {
+            own,
+            opened,
+            imported,
+        }),
+        Err(_) => Err(placeless(Fault::MEMORY)),
+    }
+}
+
+/// The parent of a session, if it has one.
+fn parent_of(imported: &Option<Imported>) -> Option<&Loaded>
+    ensures { option_copied result ≡ option_map (λ i. i.parent) imported.now }
+{
+    match imported {
+        Some(imported) => Some(&imported.parent),
+        None => None,
+    }
+}
+
+/// A dictionary, if there is one, to be the parent of a draft.
+fn opened(alloc: Global, parent: Option<&Loaded>) -> Result<Option<Rc<Opened>>, AllocError>
+    ensures { IfOk result (λ o. option_map (λ p. p.value) o ≡ option_copied parent.entry) }
+{
+    match parent {
+        Some(parent) => Ok(Some(again(alloc, parent)?)),
+        None => Ok(None),
+    }
+}
+
+/// A draft with nothing in it.
+fn new_draft(
+    alloc: Global,
+    parent: Option<&Loaded>,
+    parname: &[u8],
+    parlabel: &[u8],
+    model: DataModel,
+) -> Result<Draft, Fault>
+    requires { is_some parent ≡ not (length parname.now == 0) }
+    ensures ok { IfOk result (λ d.
+        new_draft_of (option_map modelled_by (option_copied parent.entry)) parname.now
+        parlabel.now model ≡ Ok d.draft) }
+    ensures under { IfOk result (λ d. IsUnder d.draft (option_copied parent.entry)) }
+    ensures exact_err { IfErr result (λ f. (f ≡ want_of_memory)
+        ⊎ (new_draft_of (option_map modelled_by (option_copied parent.entry)) parname.now
+        parlabel.now model ≡ Err f)) }
+{
+    let Ok(parname) = Bytes::from_slice(alloc, parname) else {
+        return Err(placeless(Fault::MEMORY));
+    };
+    let Ok(parlabel) = Bytes::from_slice(alloc, parlabel) else {
+        return Err(placeless(Fault::MEMORY));
+    };
+    let Ok(parent) = opened(alloc, parent) else {
+        return Err(placeless(Fault::MEMORY));
+    };
+    Draft::new(alloc, parent, parname, parlabel, model)
+}
+
+/// How many types a dictionary has.
+fn types_of(own: &Loaded) -> u64
+    ensures { result ≡ length (kept_dictionary own.now).terms }
+{
+    own.view().count() as u64
+}
+
+impl Session {
+    /// A new draft, over a parent if there is one, updated with nothing in it.
+    pub fn create(
+        alloc: Global,
+        parent: Option<&Loaded>,
+        parname: &[u8],
+        parlabel: &[u8],
+        model: DataModel,
+    ) -> Result<Session, Fault>
+        requires { is_some parent ≡ not (length parname.now == 0) }
+        ensures ok { IfOk result (λ s.
+            created (option_copied parent.entry) parname.now parlabel.now model ≡ Ok s) }
+        ensures exact_err { IfErr result (λ f. (f ≡ want_of_memory)
+            ⊎ (created (option_copied parent.entry) parname.now parlabel.now model ≡ Err f)) }
+    {
+        let mut draft = match new_draft(alloc, parent, parname, parlabel, model) {
+            Ok(draft) => draft,
+            Err(fault) => return Err(fault),
+        };
+        let update = match updated_over(alloc, &draft, parent) {
+            Ok(update) => update,
+            Err(fault) => return Err(fault),
+        };
+        draft.settle(update.opened);
+        Ok(Session {
+            own: update.own,
+            imported: update.imported,
+            draft: Some(draft),
+        })
+    }
+
+    /// Makes all that was added to its draft part of the dictionary, and answers how many types that
+    /// has. A refusal changes nothing.
+    pub fn update(&mut self, alloc: Global) -> Result<u64, Fault>
+        ensures ok { IfOk result (λ n.
+            updated self.old ≡ Ok (record { served = self.new; answer = n })) }
+        ensures exact_err { IfErr result (λ f. (f ≡ want_of_memory) ⊎ (updated self.old ≡ Err f)) }
+        ensures as_before { OnErr result (self.new ≡ self.old) }
+    {
+        let Some(draft) = &mut self.draft else {
+            return Err(placeless(Fault::READ_ONLY));
+        };
+        let update = match updated_over(alloc, draft, parent_of(&self.imported)) {
+            Ok(update) => update,
+            Err(fault) => return Err(fault),
+        };
+        draft.settle(update.opened);
+        self.own = update.own;
+        self.imported = update.imported;
+        Ok(types_of(&self.own))
+    }
+
+    /// Drops what was added to its draft since the last update, and answers how many types the
+    /// dictionary has.
+    pub fn discard(&mut self) -> Result<u64, Fault>
+        ensures ok { IfOk result (λ n.
+            dropped self.old ≡ Ok (record { served = self.new; answer = n })) }
+        ensures err { IfErr result (λ f. dropped self.old ≡ Err f) }
+        ensures as_before { OnErr result (self.new ≡ self.old) }
+    {
+        let Some(draft) = &mut self.draft else {
+            return Err(placeless(Fault::READ_ONLY));
+        };
+        draft.discard();
+        Ok(types_of(&self.own))
+    }
+}

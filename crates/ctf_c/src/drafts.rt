@@ -1,0 +1,200 @@
+//! Exports that make, update and drop drafts, and give the bytes of dictionaries.
+ghost use Rattle.std.specs.Prelude.{◌≡◌, ◌==◌, ◌⊎◌, [], None, Some, Ok, Err, IfOk, IfErr, drop, is_some, length, not, option_copied};
+ghost use Rattle.ctf_c.specs.Drafting.{Creates, Does, StepsAt, created, created_under, dropped, updated};
+ghost use Rattle.ctf_c.specs.Given.{GivesBytes, asked, model_if};
+ghost use Rattle.ctf_model.specs.rules.Refusals.{want_of_memory};
+
+use crate::given::{NOT_OPEN, model_of, status, write_front};
+use crate::handle::Handle;
+use crate::session::Session;
+use ctf_library::Loaded;
+use ctf_model::{DataModel, Fault, placeless};
+use std::alloc::Global;
+
+/// A new draft on the heap.
+fn drafted(
+    alloc: Global,
+    parent: Option<&Loaded>,
+    parname: &[u8],
+    parlabel: &[u8],
+    model: DataModel,
+) -> Result<Box<Session>, Fault>
+    requires { is_some parent ≡ not (length parname.now == 0) }
+    ensures ok { IfOk result (λ s.
+        created (option_copied parent.entry) parname.now parlabel.now model ≡ Ok s.value) }
+    ensures exact_err { IfErr result (λ f. (f ≡ want_of_memory)
+        ⊎ (created (option_copied parent.entry) parname.now parlabel.now model ≡ Err f)) }
+{
+    match Session::create(alloc, parent, parname, parlabel, model) {
+        Ok(session) => match Box::new(alloc, session) {
+            Ok(session) => Ok(session),
+            Err(_) => Err(placeless(Fault::MEMORY)),
+        },
+        Err(fault) => Err(fault),
+    }
+}
+
+/// Makes a draft without a parent, in place of what was open. Where it is refused, what was open
+/// stays, and `place` is 0 or says where.
+#[unsafe(no_mangle)]
+pub extern "C" fn ctfd_create(
+    alloc: Global,
+    handle: &mut Handle,
+    ilp32: bool,
+    place: &mut u64,
+) -> u32
+    ensures { Creates (created None [] [] (model_if ilp32)) result place.new
+        handle.old.held.session handle.new.held.session }
+{
+    match drafted(alloc, None, &[], &[], model_of(ilp32)) {
+        Ok(session) => {
+            drop(handle.take(alloc));
+            *handle = Handle::of(session);
+            0
+        }
+        Err(fault) => {
+            *place = fault.place;
+            status(fault)
+        }
+    }
+}
+
+/// A new draft on the heap, over what is open.
+fn drafted_under(
+    alloc: Global,
+    parent: &Session,
+    parname: &[u8],
+    parlabel: &[u8],
+) -> Result<Box<Session>, Fault>
+    ensures ok { IfOk result (λ s.
+        created_under (Some parent.now) parname.now parlabel.now ≡ Ok s.value) }
+    ensures exact_err { IfErr result (λ f. (f ≡ want_of_memory)
+        ⊎ (created_under (Some parent.now) parname.now parlabel.now ≡ Err f)) }
+{
+    if parname.is_empty() {
+        return Err(placeless(Fault::BAD_REQUEST));
+    }
+    drafted(
+        alloc,
+        Some(&parent.own),
+        parname,
+        parlabel,
+        parent.own.model(),
+    )
+}
+
+/// Makes a draft over what is open in another handle, of that one's data model, in place of what was
+/// open. The parent has to have a name.
+#[unsafe(no_mangle)]
+pub extern "C" fn ctfd_create_child(
+    alloc: Global,
+    handle: &mut Handle,
+    parent: &mut Handle,
+    parname: &[u8],
+    parlabel: &[u8],
+    place: &mut u64,
+) -> u32
+    ensures parent { parent.new.held.session ≡ parent.old.held.session }
+    ensures answer { Creates
+        (created_under parent.old.held.session parname.now parlabel.now) result place.new
+        handle.old.held.session handle.new.held.session }
+{
+    let Some(source) = parent.take(alloc) else {
+        *place = 0;
+        return NOT_OPEN;
+    };
+    let outcome = drafted_under(alloc, &source, parname, parlabel);
+    *parent = Handle::of(source);
+    match outcome {
+        Ok(session) => {
+            drop(handle.take(alloc));
+            *handle = Handle::of(session);
+            0
+        }
+        Err(fault) => {
+            *place = fault.place;
+            status(fault)
+        }
+    }
+}
+
+/// Makes all that was added part of the dictionary, and gives how many types that has. Where it is
+/// refused, `place` says where, and nothing changes.
+#[unsafe(no_mangle)]
+pub extern "C" fn ctfd_update(
+    alloc: Global,
+    handle: &mut Handle,
+    types: &mut u64,
+    place: &mut u64,
+) -> u32
+    ensures { StepsAt (asked handle.old.held.session updated) result types.old types.new place.new
+        handle.old.held.session handle.new.held.session }
+{
+    let Some(mut session) = handle.take(alloc) else {
+        *place = 0;
+        return NOT_OPEN;
+    };
+    let outcome = session.update(alloc);
+    *handle = Handle::of(session);
+    match outcome {
+        Ok(count) => {
+            *types = count;
+            0
+        }
+        Err(fault) => {
+            *place = fault.place;
+            status(fault)
+        }
+    }
+}
+
+/// Drops what was added since the last update, and gives how many types the dictionary has.
+#[unsafe(no_mangle)]
+pub extern "C" fn ctfd_discard(alloc: Global, handle: &mut Handle, types: &mut u64) -> u32
+    ensures { Does (asked handle.old.held.session dropped) result types.old types.new
+        handle.old.held.session handle.new.held.session }
+{
+    let Some(mut session) = handle.take(alloc) else {
+        return NOT_OPEN;
+    };
+    let outcome = session.discard();
+    *handle = Handle::of(session);
+    match outcome {
+        Ok(count) => {
+            *types = count;
+            0
+        }
+        Err(fault) => status(fault),
+    }
+}
+
+/// What stands behind a place.
+fn behind(bytes: &[u8], from: u64) -> &[u8]
+    ensures { result.now ≡ drop from bytes.now }
+{
+    bytes.get(from as usize..).unwrap_or(&[])
+}
+
+/// The bytes of the dictionary from a place on, as much as fits, and how many it has in all.
+#[unsafe(no_mangle)]
+pub extern "C" fn ctfd_bytes(
+    alloc: Global,
+    handle: &mut Handle,
+    from: u64,
+    bytes: &mut [u8],
+    len: &mut u64,
+) -> u32
+    ensures same { handle.new.held.session ≡ handle.old.held.session }
+    ensures answer { GivesBytes (asked handle.old.held.session (λ s. Ok s.own.lists.ctf)) from
+        result (record { text = bytes.old; len = len.old })
+        (record { text = bytes.new; len = len.new }) }
+{
+    let Some(session) = handle.take(alloc) else {
+        return NOT_OPEN;
+    };
+    let ctf = session.ctf();
+    write_front(behind(ctf, from), bytes);
+    *len = ctf.len() as u64;
+    *handle = Handle::of(session);
+    0
+}

@@ -1,0 +1,80 @@
+//! The export that follows a path of names.
+ghost use Rattle.std.specs.Prelude.{◌≡◌, ◌⊎◌, Err, IfOk, IfErr, Ok, map};
+ghost use Rattle.ctf_c.specs.Given.{MayGive, asked};
+ghost use Rattle.ctf_c.specs.Naming.{names_said};
+ghost use Rattle.ctf_c.specs.Served.{space_in};
+ghost use Rattle.ctf_layout.specs.Reached.{position_of};
+ghost use Rattle.ctf_model.specs.figures.Paths.{path as path_to};
+ghost use Rattle.ctf_model.specs.rules.Refusals.{want_of_memory};
+
+use crate::given::{NOT_OPEN, status};
+use crate::handle::Handle;
+use crate::session::Session;
+use ctf_layout::path;
+use ctf_model::{Fault, TypeNum, placeless};
+use std::alloc::{AllocError, Global};
+
+/// The names in some bytes, each closed by a zero byte; the last one may stand without it.
+fn names_in(alloc: Global, bytes: &[u8]) -> Result<Vec<&[u8]>, AllocError>
+    ensures { IfOk result (λ names. map (λ name. name.now) names.items ≡ names_said bytes.now) }
+{
+    let mut names = Vec::new(alloc);
+    let mut from = 0;
+    for at in 0..bytes.len() {
+        if bytes[at] == 0 {
+            names.push(&bytes[from..at])?;
+            from = at + 1;
+        }
+    }
+    if from < bytes.len() {
+        names.push(&bytes[from..])?;
+    }
+    Ok(names)
+}
+
+impl Session {
+    /// Where the member lies that names lead to, from a type on, and its type.
+    pub fn path(&self, alloc: Global, t: TypeNum, names: &[u8]) -> Result<(u64, TypeNum), Fault>
+        ensures ok { IfOk result (λ at.
+            path_to (space_in self.now) t.0 (names_said names.now) ≡ Ok (position_of at)) }
+        ensures exact_err { IfErr result (λ f. (f ≡ want_of_memory)
+            ⊎ (path_to (space_in self.now) t.0 (names_said names.now) ≡ Err f)) }
+    {
+        match names_in(alloc, names) {
+            Ok(names) => path(&self.space(), t, names.as_slice()),
+            Err(_) => Err(placeless(Fault::MEMORY)),
+        }
+    }
+}
+
+/// Where the member lies that names lead to, from a type on: how many bits lie in front of it, and
+/// its type. Each name is closed by a zero byte.
+#[unsafe(no_mangle)]
+pub extern "C" fn ctfd_path(
+    alloc: Global,
+    handle: &mut Handle,
+    t: u16,
+    names: &[u8],
+    offset: &mut u64,
+    to: &mut u16,
+) -> u32
+    ensures same { handle.new.held.session ≡ handle.old.held.session }
+    ensures answer { MayGive (asked handle.old.held.session (λ s.
+        path_to (space_in s) t (names_said names.now))) result
+        (record { offset = offset.old; tnum = to.old })
+        (record { offset = offset.new; tnum = to.new }) }
+{
+    let Some(session) = handle.take(alloc) else {
+        return NOT_OPEN;
+    };
+    let outcome = session.path(alloc, TypeNum(t), names);
+    *handle = Handle::of(session);
+    match outcome {
+        Ok((at, found)) => {
+            *offset = at;
+            *to = found.0;
+            0
+        }
+        Err(fault) => status(fault),
+    }
+}

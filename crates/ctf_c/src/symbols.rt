@@ -1,0 +1,154 @@
+//! Exports that answer of a program's functions and symbols, and of labels.
+ghost use Rattle.std.specs.Prelude.{◌≡◌, Ok, length};
+ghost use Rattle.ctf_c.specs.Given.{Gives, GivesLabel, GivesText, asked, function_said, label_at, named_said};
+ghost use Rattle.ctf_c.specs.Served.{own_in};
+ghost use Rattle.ctf_model.specs.symbols.SymbolQuestions.{function_of, name_of_symbol};
+
+use crate::given::{NOT_OPEN, flag, give, give_text, give_type, status, write_front};
+use crate::handle::Handle;
+use crate::programs::named_count;
+use ctf_views::is_variadic;
+use std::alloc::Global;
+
+/// A function of the program: `struct ctfd_function`. A last argument 0 is not counted: it says that
+/// more may follow.
+#[repr(C)]
+#[derive(Drop)]
+pub struct GivenFunction {
+    pub arguments: u64,
+    pub varargs: u32,
+    pub ret: u16,
+}
+
+/// A label, apart from its name: `struct ctfd_label`.
+#[repr(C)]
+#[derive(Drop)]
+pub struct GivenLabel {
+    pub name_len: u64,
+    pub last: u32,
+}
+
+/// The name of a symbol of the program, by its number. As much of it is written as fits.
+#[unsafe(no_mangle)]
+pub extern "C" fn ctfd_symbol_name(
+    alloc: Global,
+    handle: &mut Handle,
+    number: u32,
+    text: &mut [u8],
+    len: &mut u64,
+) -> u32
+    ensures same { handle.new.held.session ≡ handle.old.held.session }
+    ensures answer { GivesText (asked handle.old.held.session (λ s.
+        name_of_symbol (own_in s) number)) result
+        (record { text = text.old; len = len.old })
+        (record { text = text.new; len = len.new }) }
+{
+    let Some(session) = handle.take(alloc) else {
+        return NOT_OPEN;
+    };
+    let given = give_text(session.symbol_name(number), text, len);
+    *handle = Handle::of(session);
+    given
+}
+
+/// What a function of the program returns, and how many arguments it names, by the number of its
+/// symbol.
+#[unsafe(no_mangle)]
+pub extern "C" fn ctfd_function(
+    alloc: Global,
+    handle: &mut Handle,
+    number: u32,
+    out: &mut GivenFunction,
+) -> u32
+    ensures same { handle.new.held.session ≡ handle.old.held.session }
+    ensures answer { Gives (asked handle.old.held.session (λ s.
+        function_said (function_of (own_in s) number))) result
+        (record { arguments = out.old.arguments; varargs = out.old.varargs; ret = out.old.ret })
+        (record { arguments = out.new.arguments; varargs = out.new.varargs; ret = out.new.ret }) }
+{
+    let Some(session) = handle.take(alloc) else {
+        return NOT_OPEN;
+    };
+    let given = match session.function(number) {
+        Ok(function) => {
+            *out = GivenFunction {
+                arguments: named_count(&function.args) as u64,
+                varargs: flag(is_variadic(&function.args)),
+                ret: function.ret.0,
+            };
+            0
+        }
+        Err(fault) => status(fault),
+    };
+    *handle = Handle::of(session);
+    given
+}
+
+/// An argument that a function of the program names, from 0.
+#[unsafe(no_mangle)]
+pub extern "C" fn ctfd_function_argument(
+    alloc: Global,
+    handle: &mut Handle,
+    number: u32,
+    index: usize,
+    out: &mut u16,
+) -> u32
+    ensures same { handle.new.held.session ≡ handle.old.held.session }
+    ensures answer { Gives (asked handle.old.held.session (λ s.
+        named_said index (function_of (own_in s) number))) result out.old out.new }
+{
+    let Some(session) = handle.take(alloc) else {
+        return NOT_OPEN;
+    };
+    let given = give_type(session.function_argument(number, index), out);
+    *handle = Handle::of(session);
+    given
+}
+
+/// The number of labels.
+#[unsafe(no_mangle)]
+pub extern "C" fn ctfd_label_count(alloc: Global, handle: &mut Handle, out: &mut u64) -> u32
+    ensures same { handle.new.held.session ≡ handle.old.held.session }
+    ensures answer { Gives (asked handle.old.held.session (λ s. Ok (length (own_in s).labels)))
+        result out.old out.new }
+{
+    let Some(session) = handle.take(alloc) else {
+        return NOT_OPEN;
+    };
+    let given = give(Ok(session.label_count()), out);
+    *handle = Handle::of(session);
+    given
+}
+
+/// A label, from 0. As much of its name is written as fits.
+#[unsafe(no_mangle)]
+pub extern "C" fn ctfd_label(
+    alloc: Global,
+    handle: &mut Handle,
+    index: usize,
+    name: &mut [u8],
+    out: &mut GivenLabel,
+) -> u32
+    ensures same { handle.new.held.session ≡ handle.old.held.session }
+    ensures answer { GivesLabel (asked handle.old.held.session (λ s.
+        label_at index (own_in s).labels)) result name.old name.new
+        (record { name_len = out.old.name_len; last = out.old.last })
+        (record { name_len = out.new.name_len; last = out.new.last }) }
+{
+    let Some(session) = handle.take(alloc) else {
+        return NOT_OPEN;
+    };
+    let given = match session.label_numbered(index) {
+        Ok(label) => {
+            write_front(label.name, name);
+            *out = GivenLabel {
+                name_len: label.name.len() as u64,
+                last: label.last,
+            };
+            0
+        }
+        Err(fault) => status(fault),
+    };
+    *handle = Handle::of(session);
+    given
+}

@@ -1,0 +1,17 @@
+-- What is held for C: nothing, or the same as a `Box<Service>` owns.
+use base.Fml.{Fml, ftrue}
+use base.Stored.{Coded}
+use denote.RawPtr.{Ptr}
+use Rattle.std.specs.Prelude.{Option, None, Some}
+use Rattle.std.specs.Coded.{coded_option}
+use Rattle.std.specs.Box.Ownership.{box_owns}
+use Rattle.std.specs.Global.{Global}
+use Rattle.std_heap.specs.contracts.GlobalAllocator.TheImpl.{ghosts}
+use Rattle.ctf_line.specs.contracts.service.Service.{the_row}
+
+abbrev pub held_owns : Global → Ptr → Option the_row.Denot → Fml
+held_owns alloc at None = ftrue
+held_owns alloc at (Some x) = box_owns (ghosts.dealloc_token alloc) the_row at x
+
+abbrev pub held_coded : Coded (Option the_row.Denot)
+held_coded = coded_option the_row.coded

@@ -1,0 +1,40 @@
+-- What is put on a sheet: room behind a list, of which no more than that is used.
+use Rattle.std.proofs.Common.{◌≡◌, ℕ, ◌+◌, ◌++◌, false, List, [], length, length-append, append_assoc, append-nil, refl, sym, ap, ◌∙◌, arith}
+use Rattle.std.specs.Prelude.{vec_capacity, vec_len}
+use Rattle.ctf_lines.specs.declared.sheets.Sheet.{Sheet}
+
+-- a text was put on, where the sheet isn't full then; it never was, and the list was not moved
+pub record TakesIn (old : Sheet) (text : List ℕ) (new : Sheet) : Type 0 where
+  pub capacity : vec_capacity new.out ≡ vec_capacity old.out
+  pub behind : List ℕ
+  pub kept : new.out.items ≡ old.out.items ++ behind
+  pub len : vec_len new.out ≡ vec_len old.out + length behind
+  pub open_before : new.is_full ≡ false → old.is_full ≡ false
+  pub written : new.is_full ≡ false → behind ≡ text
+  pub room : new.is_full ≡ false → new.room + length text ≡ old.room
+
+pub none_taken : (sheet : Sheet) → TakesIn sheet [] sheet
+none_taken sheet = record {
+  capacity = refl;
+  behind = [];
+  kept = sym (append-nil sheet.out.items);
+  len = omega arith;
+  open_before = λ e. e;
+  written = λ e. refl;
+  room = λ e. omega arith;
+}
+
+pub both_taken : (old mid new : Sheet) (a b : List ℕ) → TakesIn old a mid → TakesIn mid b new → TakesIn old (a ++ b) new
+both_taken old mid new a b first second = record {
+  capacity = second.capacity ∙ first.capacity;
+  behind = first.behind ++ second.behind;
+  kept = second.kept ∙ ap (λ (t : List ℕ). t ++ second.behind) first.kept ∙ append_assoc old.out.items first.behind second.behind;
+  len = let both = length-append first.behind second.behind in let one = first.len in let other = second.len in omega (arith, both, one, other);
+  open_before = λ e. first.open_before (second.open_before e);
+  written = λ e. ap (λ (t : List ℕ). t ++ second.behind) (first.written (second.open_before e)) ∙ ap (λ (t : List ℕ). a ++ t) (second.written e);
+  room = λ e.
+      let both = length-append a b in
+      let one = first.room (second.open_before e) in
+      let other = second.room e in
+      omega (arith, both, one, other);
+}

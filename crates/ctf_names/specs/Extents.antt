@@ -1,0 +1,34 @@
+-- How long the parts of a declaration's text are that other layers are put round. The words are ours.
+use Rattle.std.specs.Prelude.{ℕ, ◌+◌, false, List, [], ◌∷◌, length, min, Result, Ok, Err}
+use Rattle.std.specs.List.{flat_map}
+use Rattle.ctf_model.specs.names.TypeNames.{Declaration, past}
+use Rattle.ctf_model.specs.declared.faults.Fault.{Fault}
+use Rattle.ctf_model.specs.declared.layers.Layer.{Layer}
+use Rattle.ctf_names.specs.Marks.{front, left, marks, right}
+use Rattle.ctf_names.specs.declared.extents.Extent.{Extent}
+
+-- a length, where all that are too long count alike
+abbrev pub counted : ℕ → ℕ
+counted n = min n 65537
+
+-- a layer more
+abbrev pub one_more : Layer → Declaration → Declaration
+one_more layer d = record { layers = layer ∷ d.layers; name = d.name }
+
+-- that of a declaration which is no outermost one
+unfoldable pub extent_of : Declaration → Extent
+extent_of d = record {
+  name = counted (length (flat_map front (marks false d.layers)) + length d.name);
+  declarator = counted (length (flat_map left (marks false d.layers))
+      + length (flat_map right (marks false d.layers)));
+  below = past d.layers;
+}
+
+-- that of a name
+abbrev pub of_base : List ℕ → Extent
+of_base name = extent_of (record { layers = []; name = name })
+
+-- that of what a type comes to
+abbrev pub measured : Result Declaration Fault → Result Extent Fault
+measured (Ok d) = Ok (extent_of d)
+measured (Err fault) = Err fault

@@ -1,0 +1,17 @@
+-- What the name of a type comes to, as it is found. The words are ours.
+use Rattle.std.specs.Prelude.{◌≡◌, ◌+◌, ℕ, suc}
+use Rattle.ctf_model.specs.names.TypeNames.{around, declaration_within}
+use Rattle.ctf_model.specs.spaces.Space.{Space}
+use Rattle.ctf_names.specs.Extents.{measured}
+use Rattle.ctf_names.specs.declared.measures.Measured.{Measured}
+use Rattle.ctf_names.specs.declared.measures.Step.{Step}
+use Rattle.ctf_names.specs.declared.measures.Step.TheVariants.{End, Round}
+
+-- the declaration is found within that many layers, and no more of them change it
+pub record IsMeasured (s : Space) (n : ℕ) (m : Measured) : Type 0 where
+  pub same : (k : ℕ) → declaration_within s (suc (k + m.layers)) n ≡ declaration_within s (suc m.layers) n
+  pub right : measured (declaration_within s (suc m.layers) n) ≡ m.extent
+
+abbrev pub IsStep : Space → ℕ → Step → Type 0
+IsStep s n (End extent) = IsMeasured s n (record { layers = 0; extent = extent })
+IsStep s n (Round layer t) = (k : ℕ) → declaration_within s (suc k) n ≡ around layer (declaration_within s k t.0)

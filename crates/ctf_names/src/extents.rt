@@ -1,0 +1,90 @@
+//! How long the name of a type is, found from the name inside, layer by layer.
+ghost use Rattle.std.specs.Prelude.{◌≡◌, [], ◌∷◌, IfSome, Result, Err, length, min};
+ghost use Rattle.ctf_model.specs.declared.faults.Fault.{Fault as Refusal};
+ghost use Rattle.ctf_model.specs.names.TypeNames.{Declaration, around as round_of, declared, text_of_declaration};
+ghost use Rattle.ctf_names.specs.Bases.{base_text};
+ghost use Rattle.ctf_names.specs.Extents.{extent_of, measured, of_base as extent_of_base, one_more};
+
+use crate::inside::{Base, plus_base};
+use crate::marks::{first_beyond, mark_of};
+use crate::sides::{plus_front, plus_sides};
+use crate::texts::{LONGEST_TEXT, plus};
+use ctf_model::{Fault, Layer, placeless};
+
+/// How long the two parts of a text are that other layers are put round. A length above
+/// `LONGEST_TEXT` counts as `TOO_LONG`.
+#[derive(Clone, Copy)]
+pub struct Extent {
+    /// The name, with the qualifiers in front of it.
+    name: usize,
+    /// The declarator.
+    declarator: usize,
+    /// The outermost layer that is no qualifier.
+    below: Option<Layer>,
+}
+
+/// The extent of a name without layers.
+pub fn of_base(base: Base<'_>) -> Extent
+    ensures { result ≡ extent_of_base (base_text base.entry) }
+{
+    Extent {
+        name: plus_base(0, base),
+        declarator: 0,
+        below: None,
+    }
+}
+
+/// The extent with a layer more.
+fn round(layer: Layer, inside: Extent) -> Extent
+    ensures { (d : Declaration) → inside ≡ extent_of d → result ≡ extent_of (one_more layer d) }
+{
+    let mark = mark_of(false, layer, inside.below);
+    Extent {
+        name: plus_front(inside.name, mark),
+        declarator: plus_sides(inside.declarator, mark),
+        below: first_beyond(layer, inside.below),
+    }
+}
+
+/// What a layer round a type comes to.
+pub fn around(layer: Layer, inside: Result<Extent, Fault>) -> Result<Extent, Fault>
+    ensures { (x : Result Declaration Refusal) → measured x ≡ inside
+        → result ≡ measured (round_of layer x) }
+{
+    match inside {
+        Ok(extent) => Ok(round(layer, extent)),
+        Err(fault) => Err(fault),
+    }
+}
+
+/// How long the text of a type is whose outermost layer is this one.
+fn whole_len(layer: Layer, inside: Extent) -> usize
+    ensures { (d : Declaration) → inside ≡ extent_of d
+        → result ≡ min (length (declared (layer ∷ d.layers) d.name [])) 65537 }
+{
+    let mark = mark_of(true, layer, inside.below);
+    let name = plus_front(inside.name, mark);
+    let declarator = plus_sides(inside.declarator, mark);
+    if declarator == 0 {
+        name
+    } else {
+        plus(plus(name, 1), declarator)
+    }
+}
+
+/// Why a layer round a type has no name, if that is so.
+pub fn refused(layer: Layer, inside: Result<Extent, Fault>) -> Option<Fault>
+    ensures { (x : Result Declaration Refusal) → measured x ≡ inside
+        → IfSome result (λ f. text_of_declaration (round_of layer x) ≡ Err f) }
+{
+    match inside {
+        Err(fault) => Some(fault),
+        Ok(extent) => {
+            if whole_len(layer, extent) > LONGEST_TEXT {
+                Some(placeless(Fault::TOO_LONG))
+            } else {
+                None
+            }
+        }
+    }
+}

@@ -1,0 +1,146 @@
+#!/usr/bin/env python3
+"""Makes crates/ctf_c/out/libctfd.a, the library for C, and prints where it is.
+
+usage: tests/archive.py [--kept]
+
+With --kept nothing is made: the archive that is there is taken, or it is told that there is none.
+Where CTFD_ARCHIVE in the environment names one, it is that.
+
+`rt ci` proves the two crates that C calls and makes no archive. It leaves the crates below as it
+built them, but without the stamps by which `rt lib` knows that they are still good. So a crate that
+was built after each of its files was written is given its stamp, and `rt lib` then makes the two
+alone. Where that can't be done it makes all crates anew, which takes as long as `make`.
+
+The archive has what both crates export, and the three functions by which the library takes memory,
+from the kit: over malloc, realloc and free. A program that defines these itself is linked with its
+own. Needs ar and nm, and objcopy where both crates define a name that is not for C.
+"""
+from __future__ import annotations
+
+import argparse
+import importlib.machinery
+import importlib.util
+import os
+import shutil
+import subprocess
+import sys
+from pathlib import Path
+
+TOP = Path(__file__).resolve().parents[1]
+CRATES = [TOP / "crates" / name for name in ("ctf_c", "ctf_line")]
+ARCHIVE = CRATES[0] / "out" / "libctfd.a"
+TOOLS = ("ar", "nm", "objcopy")
+
+
+def skip(why: str) -> None:
+    print(f"skipped: {why}")
+    sys.exit(0)
+
+
+def newest(folder: Path) -> float:
+    """When the last of a crate's own files was written."""
+    return max(path.stat().st_mtime for path in folder.rglob("*")
+               if path.is_file() and "out" not in path.relative_to(folder).parts)
+
+
+def stamp_what_was_built(kit: Path) -> None:
+    """Gives each crate that is built, and not changed since, the stamp that `rt lib` looks for."""
+    loader = importlib.machinery.SourceFileLoader("rtlib", str(kit / "bin" / "rtlib.py"))
+    made = importlib.util.spec_from_loader("rtlib", loader)
+    assert made
+    library = importlib.util.module_from_spec(made)
+    sys.modules["rtlib"] = library
+    loader.exec_module(library)
+    crates = library.crates_below(str(TOP))
+    stamp_each_once(type(crates[0]))
+    below = {low.name: low for crate in crates if Path(crate.folder) in CRATES
+             for low in crate.below()}
+    for low in below.values():
+        built = Path(low.folder) / "out" / "rlib"
+        rlib = built / f"{low.name}.rlib"
+        if rlib.exists() and not (built / "stamp").exists() \
+                and rlib.stat().st_mtime > newest(Path(low.folder)):
+            (built / "stamp").write_text(low.stamp(), encoding="utf-8")
+
+
+def stamp_each_once(kind: type) -> None:
+    """The kit computes the stamp of a crate anew for each way that leads down to it."""
+    computed = kind.stamp
+    known: dict[str, str] = {}
+
+    def stamp(crate: object) -> str:
+        if crate.folder not in known:
+            known[crate.folder] = computed(crate)
+        return known[crate.folder]
+
+    kind.stamp = stamp
+
+
+def extracted(archive: Path, into: Path, *names: str) -> list[Path]:
+    """The objects of an archive, or some of them, in a folder of their own."""
+    shutil.rmtree(into, ignore_errors=True)
+    into.mkdir(parents=True)
+    subprocess.run(["ar", "x", archive, *names], cwd=into, check=True)
+    return sorted(into.iterdir())
+
+
+def defined(made: Path) -> set[str]:
+    """The names that an object defines for others."""
+    said = subprocess.run(["nm", "-g", "--defined-only", made], check=True, text=True,
+                          capture_output=True).stdout
+    return {line.split()[2] for line in said.splitlines() if len(line.split()) == 3}
+
+
+def keep_exports_apart(objects: list[Path]) -> None:
+    """Hides what is not for C, where two objects define a name."""
+    names = [defined(made) for made in objects]
+    if len(set.union(*names)) == sum(map(len, names)):
+        return
+    for made, own in zip(objects, names):
+        keep = made.with_suffix(".names")
+        keep.write_text("".join(f"{name}\n" for name in sorted(own) if name.startswith("ctfd_")),
+                        encoding="utf-8")
+        subprocess.run(["objcopy", f"--keep-global-symbols={keep}", made], check=True)
+        keep.unlink()
+
+
+def make(kit: Path) -> None:
+    """Builds both crates, and puts their objects into one archive."""
+    ARCHIVE.unlink(missing_ok=True)
+    os.chdir(TOP)
+    try:
+        stamp_what_was_built(kit)
+    except (Exception, SystemExit) as why:  # the kit's own parts may be others tomorrow
+        print(f"all crates are made anew: {why!r}", file=sys.stderr)
+    objects = []
+    for crate in CRATES:
+        subprocess.run(["rt", "lib"], cwd=crate, stdout=sys.stderr, check=True)
+        objects += extracted(crate / "out" / f"lib{crate.name}.a", crate / "out" / "objects")
+    keep_exports_apart(objects)
+    objects += extracted(kit / "c" / "liblibc_c.a", CRATES[0] / "out" / "heap", "heap.pic.o")
+    subprocess.run(["ar", "rcsD", ARCHIVE, *objects], check=True)
+
+
+def main() -> None:
+    assert __doc__
+    options = argparse.ArgumentParser(usage=__doc__.split("usage: ")[1].split("\n")[0])
+    options.add_argument("--kept", action="store_true")
+    is_kept = options.parse_args().kept
+    if named := os.environ.get("CTFD_ARCHIVE"):
+        print(Path(named).resolve(strict=True))
+        return
+    if is_kept:
+        if not ARCHIVE.exists():
+            skip("there is no libctfd.a, which `make` builds")
+    else:
+        rt = shutil.which("rt")
+        missing = [tool for tool in TOOLS if not shutil.which(tool)]
+        if not rt or missing:
+            skip(f"{' '.join(missing) or 'rt'} is not on the path")
+        else:
+            make(Path(rt).resolve().parents[1])
+    print(ARCHIVE)
+
+
+if __name__ == "__main__":
+    main()

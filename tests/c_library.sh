@@ -1,0 +1,171 @@
+#!/usr/bin/env bash
+# Checks the library for C, its headers and libctf's calls over it, beside a built ctfd.
+# usage: tests/c_library.sh PROGRAM [--rounds N]
+# The archive is the one that CTFD_ARCHIVE names, else crates/ctf_c/out/libctfd.a, which
+# tests/archive.py makes. Needs C and C++ compilers, nm, sanitizers and Python; clang is used where
+# it is.
+#
+# - The header says what the crates export, and broken headers are found (c_library/header.py).
+# - Both headers are C11 and C++11 without a warning.
+# - Dumps by the calls of ctfd.h and by those of libctf are those of `ctfd dump`: of programs, of a
+#   child with its parent, and with pointers of 4 bytes.
+# - What is asked of each type, member, enumerator, name and symbol is answered as by the service.
+# - Lines are answered as by the service.
+# - What is refused writes no result and closes nothing; so does each allocation that is refused.
+# - Damaged dictionaries, lines and random calls, under AddressSanitizer and
+#   UndefinedBehaviorSanitizer: N rounds of them (10000).
+# Prints what was wrong, and counts; the status is 1 where something was wrong.
+set -eu
+program=$(realpath "$1")
+shift
+rounds=10000
+[ "${1:-}" = --rounds ] && rounds=$2
+top=$(realpath "$(dirname "$0")/..")
+tests=$top/tests/c_library
+for tool in cc nm; do
+    command -v $tool > /dev/null || { echo "skipped: no $tool here"; exit 0; }
+done
+archive=$("$top/tests/archive.py" --kept)
+[ -f "$archive" ] || { echo "$archive"; exit 0; }
+work=$(mktemp -d)
+trap 'rm -r "$work"' EXIT
+cd "$work"
+checks=0 wrong=0
+
+# count WHAT COMMAND..: runs it, and shows what it said where it failed.
+count() {
+    local what=$1
+    shift
+    checks=$((checks + 1))
+    "$@" > said 2>&1 && return
+    wrong=$((wrong + 1))
+    echo "$what:"
+    head -n 40 said
+}
+
+# compile SOURCE OUT FLAGS..: as the users of the headers may, so no warning is let through.
+compile() {
+    local source=$1 out=$2
+    shift 2
+    cc -std=gnu11 -O2 -Wall -Wextra -Wpedantic -Werror -I"$top/clients/c" "$@" "$source" \
+        "$archive" -o "$out"
+}
+
+# same WANTED SEEN: two files are the same, or the first lines in which they differ.
+same() {
+    cmp -s "$1" "$2" || { diff "$1" "$2" | head -n 20; return 1; }
+}
+
+count "the header and the crates" "$tests/header.py" "$archive"
+
+for header in ctfd ctfd_libctf; do
+    printf '#include "%s.h"\nint main(void) { return ctfd_status_name(CTFD_OK)[0] != 79; }\n' \
+        $header > $header.c
+    cp $header.c $header.cc
+    flags=(-Wall -Wextra -Wpedantic -Werror -I"$top/clients/c" -D_GNU_SOURCE)
+    count "$header.h in C" cc -std=c11 -Wconversion -Wshadow "${flags[@]}" $header.c -o $header
+    count "$header.h names its statuses" ./$header
+    command -v clang > /dev/null && count "$header.h by clang" \
+        clang -std=c11 "${flags[@]}" -c $header.c -o $header.o
+    if command -v c++ > /dev/null; then
+        count "$header.h in C++" c++ -std=c++11 "${flags[@]}" $header.cc -o $header
+    else
+        echo "skipped: no C++ compiler here"
+    fi
+done
+
+for name in dump answers lines refusals refuse libctf; do
+    count "compile $name.c" compile "$tests/$name.c" $name
+done
+for name in ctfdump first; do
+    count "compile $name.c" compile "$top/examples/c/$name.c" $name
+done
+
+# A child and its parent, as the service writes them.
+"$program" serve > made << 'END'
+{"s":1,"op":"create"}
+{"s":1,"op":"add","d":1,"what":"integer","name":"int","encoding":1,"offset":0,"bits":32,"size":4}
+{"s":1,"op":"add","d":1,"what":"struct","name":"base"}
+{"s":1,"op":"add","d":1,"what":"member","t":2,"name":"x","type":1}
+{"s":1,"op":"add","d":1,"what":"forward","name":"later","tag":"union"}
+{"s":1,"op":"add","d":1,"what":"array","contents":1,"index":1,"count":3}
+{"s":1,"op":"update","d":1}
+{"s":1,"op":"create","parent":1,"parname":"base","parlabel":"v\\x22"}
+{"s":1,"op":"add","d":2,"what":"pointer","type":2}
+{"s":1,"op":"add","d":2,"what":"function","type":1,"args":[32769,0],"name":"f"}
+{"s":1,"op":"add","d":2,"what":"union","name":"u"}
+{"s":1,"op":"add","d":2,"what":"member","t":32771,"name":"b","type":2}
+{"s":1,"op":"add","d":2,"what":"enum","name":"e","root":false}
+{"s":1,"op":"add","d":2,"what":"enumerator","t":32772,"name":"a\\xff","value":-7}
+{"s":1,"op":"add","d":2,"what":"unknown"}
+{"s":1,"op":"add","d":2,"what":"label","name":"one","last":32770}
+{"s":1,"op":"add","d":2,"what":"label","name":"","last":7}
+{"s":1,"op":"update","d":2}
+{"s":1,"op":"bytes","d":1,"from":0,"count":9999}
+{"s":1,"op":"bytes","d":2,"from":0,"count":9999}
+END
+tail -n 2 made | python3 -c '
+import json, sys
+for name, line in zip(("parent", "child"), sys.stdin):
+    open(name + ".ctf", "wb").write(bytes.fromhex(json.loads(line)["ok"]["bytes"]))'
+
+# No call tells the size in an array's record.
+without_sizes() {
+    sed -E 's/^(type [0-9]+ array .*) size=[0-9]+ :/\1 :/'
+}
+
+# dumped NAME CTF WORDS..: the same by both, the words being those of `ctfd dump`.
+dumped() {
+    local name=$1 ctf=$2
+    shift 2
+    "$program" dump "$ctf" "$@" | without_sizes > wanted
+    ./dump "$ctf" $(printf '%s\n' "$@" | sed '/^--model$/d; s/^ilp32$/--ilp32/') > seen
+    count "dump of $name" same wanted seen
+}
+for name in lua zlib; do
+    dumped $name "$top/examples/$name.ctf" --sym "$top/examples/$name.sym" \
+        --str "$top/examples/$name.str"
+    ./ctfdump "$top"/examples/$name.{ctf,sym,str} > seen
+    count "ctfdump of $name" same wanted seen
+    ./answers "$top"/examples/$name.{ctf,sym,str} | sort > seen
+    "$tests/answers.py" "$program" "$top"/examples/$name.{ctf,sym,str} | sort > wanted
+    count "answers of $name: $(wc -l < wanted)" same wanted seen
+done
+count "enough was asked" [ "$(wc -l < wanted)" -gt 1000 ]
+dumped "lua, pointers of 4 bytes" "$top/examples/lua.ctf" --model ilp32
+dumped written "$top/examples/written.ctf"
+dumped "a child" child.ctf
+dumped "a child on its parent" child.ctf --parent parent.ctf
+"$program" dump parent.ctf | without_sizes > wanted
+./ctfdump parent.ctf > seen
+count "ctfdump of a parent" same wanted seen
+
+for file in "$top"/examples/*.jsonl; do
+    "$program" serve < "$file" > wanted
+    ./lines < "$file" > seen
+    count "the lines of ${file##*/}" same wanted seen
+done
+
+echo 'struct lua_State: 200 bytes' > wanted
+(cd "$top" && "$work/first") > seen
+count "the first example" same wanted seen
+count refusals ./refusals "$top/examples"
+count "libctf's calls" ./libctf "$top/examples" "$work"
+count "refused allocations" ./refuse "$top/examples"
+grep -v ' checks, ' said || true
+
+sanitize=(-g -O1 -fsanitize=address,undefined -fno-sanitize-recover=all)
+echo 'int main(void) { return 0; }' > none.c
+if cc "${sanitize[@]}" none.c -o none 2> said && ./none 2>> said; then
+    for name in fuzz refusals libctf; do
+        count "compile $name.c with sanitizers" compile "$tests/$name.c" $name "${sanitize[@]}"
+    done
+    count "fuzz under sanitizers" ./fuzz "$top/examples" "$rounds"
+    cat said
+    count "refusals under sanitizers" ./refusals "$top/examples"
+    count "libctf's calls under sanitizers" ./libctf "$top/examples" "$work"
+else
+    echo "skipped: no sanitizers here"
+fi
+echo "c_library: $checks checks, $wrong wrong"
+[ $wrong = 0 ]

@@ -1,0 +1,127 @@
+#!/usr/bin/env bash
+# Checks `make install` and `make uninstall`, and that programs are built by what is installed.
+# usage: tests/install.sh PROGRAM
+# The archive is the one that CTFD_ARCHIVE names, else crates/ctf_c/out/libctfd.a. Needs make, a C
+# compiler and pkg-config; cargo is used where it is.
+#
+# Installed is into a folder by DESTDIR and PREFIX, and into another by PREFIX alone. From each a C
+# file of a few lines is built by what `pkg-config --cflags --libs ctfd` says, and a Rust one by the
+# crate. The program, the Python package with its commands, and the manual pages are used where they
+# were put. After `make uninstall` no file is left.
+# Prints what was wrong, and counts; the status is 1 where something was wrong.
+set -eu
+program=$(realpath "$1")
+top=$(realpath "$(dirname "$0")/..")
+for tool in make cc pkg-config; do
+    command -v $tool > /dev/null || { echo "skipped: no $tool here"; exit 0; }
+done
+archive=$("$top/tests/archive.py" --kept)
+[ -f "$archive" ] || { echo "$archive"; exit 0; }
+work=$(mktemp -d)
+trap 'rm -r "$work"' EXIT
+checks=0 wrong=0
+
+# count WHAT COMMAND..: runs it, and shows what it said where it failed.
+count() {
+    local what=$1
+    shift
+    checks=$((checks + 1))
+    "$@" > "$work/said" 2>&1 && return
+    wrong=$((wrong + 1))
+    echo "$what:"
+    head -n 40 "$work/said"
+}
+
+# says WANTED COMMAND..: it prints just that.
+says() {
+    local wanted=$1
+    shift
+    [ "$("$@" 2>&1)" = "$wanted" ] || { "$@"; return 1; }
+}
+
+made() {
+    make -C "$top" --no-print-directory CTFD="$program" CTFD_ARCHIVE="$archive" "$@"
+}
+
+cat > "$work/own.c" << 'END'
+#include <ctfd_libctf.h>
+#include <stdio.h>
+int main(int argc, char **argv)
+{
+    int error = 0;
+    ctf_file_t *types = argc > 2 ? ctf_open(argv[1], &error) : NULL;
+    printf("%zd\n", types ? ctf_type_size(types, ctf_lookup_by_name(types, argv[2])) : -1);
+    ctf_close(types);
+    return types == NULL;
+}
+END
+mkdir -p "$work/own/src"
+cat > "$work/own/Cargo.toml" << END
+[package]
+name = "own"
+version = "0.1.0"
+edition = "2021"
+
+[dependencies]
+ctfd = { path = "$top/clients/rust" }
+END
+cat > "$work/own/src/main.rs" << 'END'
+fn main() -> Result<(), Box<dyn std::error::Error>> {
+    let words: Vec<String> = std::env::args().collect();
+    let types = ctfd::Dictionary::open(&std::fs::read(&words[1])?)?;
+    println!("{}", types.find(&words[2])?.size()?);
+    Ok(())
+}
+END
+
+# used FOLDER: what is installed below it is used. The words for pkg-config are in the environment.
+used() {
+    local below=$1 packages lua=$top/examples/lua.ctf
+    count "build in C" cc -std=gnu11 -Wall -Wextra -Werror "$work/own.c" \
+        $(pkg-config --cflags --libs ctfd) -o "$work/own_c"
+    count "run in C" says 200 "$work/own_c" "$lua" "struct lua_State"
+    count "the version" says "$(sed -n 's/^VERSION = "\(.*\)"/\1/p' \
+        "$top/clients/python/ctfd/version.py")" pkg-config --modversion ctfd
+    count "the program" says "$("$program" --version)" "$below/bin/ctfd" --version
+    packages=$(dirname "$(dirname "$(find "$below" -path '*/ctfd/version.py')")")
+    for command in ctfd-types ctfd-convert ctfd-diff ctfd-explore ctfd-front; do
+        count $command env PYTHONPATH="$packages" "$below/bin/$command" --help
+    done
+    count "a type by ctfd-types" env PYTHONPATH="$packages" CTFD="$below/bin/ctfd" \
+        "$below/bin/ctfd-types" "$lua" "struct luaL_Reg"
+    count "a page of the manual" test -s "$below/share/man/man3/ctfd.3"
+    if command -v cargo > /dev/null && cargo --version > /dev/null 2>&1; then
+        count "build in Rust" env -u CTFD_ARCHIVE CARGO_TARGET_DIR="$work/target" \
+            cargo build --offline --quiet --manifest-path "$work/own/Cargo.toml"
+        count "run in Rust" says 200 "$work/target/debug/own" "$lua" "struct lua_State"
+    else
+        echo "not possible here: there is no cargo"
+    fi
+}
+
+count "install with DESTDIR" made install DESTDIR="$work/root" PREFIX=/opt/ctfd
+(
+    export PKG_CONFIG_PATH=$work/root/opt/ctfd/lib/pkgconfig PKG_CONFIG_SYSROOT_DIR=$work/root
+    used "$work/root/opt/ctfd"
+    echo "$checks $wrong" > "$work/counts"
+)
+read -r checks wrong < "$work/counts"
+count "uninstall with DESTDIR" made uninstall DESTDIR="$work/root" PREFIX=/opt/ctfd
+count "nothing is left" says "" find "$work/root" ! -type d
+
+count "install" made install PREFIX="$work/prefix"
+(
+    export PKG_CONFIG_PATH=$work/prefix/lib/pkgconfig
+    rm -rf "$work/target"
+    used "$work/prefix"
+    echo "$checks $wrong" > "$work/counts"
+)
+read -r checks wrong < "$work/counts"
+count "an installed command alone" env CTFD="$work/prefix/bin/ctfd" \
+    "$work/prefix/bin/ctfd-types" "$top/examples/lua.ctf" "struct luaL_Reg"
+count "uninstall" made uninstall PREFIX="$work/prefix"
+count "nothing is left" says "" find "$work/prefix" ! -type d
+count "nothing to install" sh -c "! make -C '$top' install CTFD=/none PREFIX='$work/prefix'"
+
+echo "install: $checks checks, $wrong wrong"
+[ $wrong = 0 ]
