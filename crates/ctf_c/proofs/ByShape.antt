@@ -2,8 +2,9 @@
 use Rattle.std.proofs.Common.{◌≡◌, Bool, Option, Some, None, Ok, sym, ap}
 use Rattle.std.specs.Option.{option_map}
 use Rattle.std.proofs.lemmas.Option.{same_Some}
-use Rattle.ctf_c.specs.Given.{flag, root_said, shape_of}
-use Rattle.ctf_model.specs.format.Shown.{Shape, shape}
+use Rattle.ctf_c.specs.Given.{flag, kind_said, number_of_kind, root_said, said_of, shape_of}
+use Rattle.ctf_model.specs.format.Shown.{Shape, kind_of, shape}
+use Rattle.ctf_model.specs.declared.kinds.Kind.{Kind}
 use Rattle.ctf_model.specs.format.Term.{Term}
 use Rattle.ctf_model.specs.spaces.TypeNumbers.{or_no_type}
 
@@ -14,3 +15,7 @@ shape_known (Some x) k e = sym (ap (λ z. Ok z) (same_Some (shape x.body) k e))
 pub root_known : (o : Option Term) (b : Bool) → option_map (λ x. x.root) o ≡ Some b → Ok (flag b) ≡ root_said (or_no_type o)
 root_known None b e = absurd cc
 root_known (Some x) b e = sym (ap (λ z. Ok (flag z)) (same_Some x.root b e))
+
+pub kind_known : (o : Option Term) (k : Kind) → option_map (λ x. kind_of x.body) o ≡ Some k → Ok (number_of_kind k) ≡ said_of kind_said (shape_of (or_no_type o))
+kind_known None k e = absurd cc
+kind_known (Some x) k e = sym (ap (λ z. Ok (number_of_kind z)) (same_Some (kind_of x.body) k e))

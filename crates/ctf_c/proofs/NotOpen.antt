@@ -10,8 +10,8 @@ use Rattle.ctf_model.specs.rules.Refusals.{placeless}
 pub no_step : (step : Served → Result Stepped Fault) (n : ℕ) (old new : Option Served) → old ≡ None → new ≡ None → Steps (asked old step) 50 n n old new
 no_step step n old new e f = rw (e, f) (inr (placeless NO_SLOT, (inr refl, refl, refl, refl)))
 
-pub no_step_at : (step : Served → Result Stepped Fault) (n : ℕ) (old new : Option Served) → old ≡ None → new ≡ None → StepsAt (asked old step) 50 n n 0 old new
-no_step_at step n old new e f = rw (e, f) (inr (placeless NO_SLOT, (inr refl, refl, refl, refl, refl)))
+pub no_step_at : (step : Served → Result Stepped Fault) (n before : ℕ) (old new : Option Served) → old ≡ None → new ≡ None → StepsAt (asked old step) 50 n n before 0 old new
+no_step_at step n before old new e f = rw (e, f) (inr (placeless NO_SLOT, (inr refl, refl, refl, refl, refl)))
 
-pub no_child : (parent old : Option Served) (parname parlabel : List ℕ) → parent ≡ None → Creates (created_under parent parname parlabel) 50 0 old old
-no_child parent old parname parlabel e = rw e (inr (placeless NO_SLOT, (inr refl, refl, refl, refl)))
+pub no_child : (was : ℕ) (parent old : Option Served) (parname parlabel : List ℕ) → parent ≡ None → Creates (created_under parent parname parlabel) 50 was 0 old old
+no_child was parent old parname parlabel e = rw e (inr (placeless NO_SLOT, (inr refl, refl, refl, refl)))

@@ -1,5 +1,5 @@
--- What calls from C do to drafts. The words are ours; what is done is that of libctf(3LIB), ctf_create,
--- ctf_add_type and its kin, ctf_update, ctf_discard.
+-- What calls from C do to drafts. The words are ours; what is done is that of libctf(3LIB):
+-- ctf_create, ctf_add_type and its kin, ctf_update, ctf_discard.
 use Rattle.std.specs.Prelude.{◌≡◌, ◌⊎◌, ◌==◌, ℕ, Bool, true, false, List, length, Option, None, Some, Result, Ok, Err, if◌then◌else◌}
 use Rattle.std.specs.Option.{option_map}
 use Rattle.ctf_model.specs.drafts.Adders.{Added, add_enumerator, add_label, add_member, add_type}
@@ -127,9 +127,9 @@ dropped s = discarded_if s s.draft
 -- ---- what is given
 
 -- another is open in place of what was, or why it isn't is told, and what was open stays
-abbrev pub Creates : Result Served Fault → ℕ → ℕ → Option Served → Option Served → Type 0
-Creates made status place old new =
-    ((s : Served) × ((status ≡ 0) × (new ≡ Some s) × (made ≡ Ok s)))
+abbrev pub Creates : Result Served Fault → ℕ → ℕ → ℕ → Option Served → Option Served → Type 0
+Creates made status was place old new =
+    ((s : Served) × ((status ≡ 0) × (place ≡ was) × (new ≡ Some s) × (made ≡ Ok s)))
     ⊎ ((f : Fault) × (((f ≡ want_of_memory) ⊎ (made ≡ Err f)) × (status ≡ status_of f)
     × (place ≡ f.place) × (new ≡ old)))
 
@@ -146,9 +146,10 @@ abbrev pub Adds : Result Stepped Fault → ℕ → Option Served → Option Serv
 Adds outcome status old new = (n : ℕ) × Steps outcome status 0 n old new
 
 -- the same, and where the fault is
-abbrev pub StepsAt : Result Stepped Fault → ℕ → ℕ → ℕ → ℕ → Option Served → Option Served → Type 0
-StepsAt outcome status was is place old new =
-    ((s : Served) × ((status ≡ 0) × (new ≡ Some s)
+abbrev pub StepsAt : Result Stepped Fault → ℕ → ℕ → ℕ → ℕ → ℕ → Option Served → Option Served
+    → Type 0
+StepsAt outcome status was is before place old new =
+    ((s : Served) × ((status ≡ 0) × (place ≡ before) × (new ≡ Some s)
     × (outcome ≡ Ok (record { served = s; answer = is }))))
     ⊎ ((f : Fault) × (((f ≡ want_of_memory) ⊎ (outcome ≡ Err f)) × (status ≡ status_of f)
     × (place ≡ f.place) × (is ≡ was) × (new ≡ old)))

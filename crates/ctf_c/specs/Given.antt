@@ -193,7 +193,8 @@ pub record MemberTold : Type 0 where
   pub name_len : ℕ
   pub tnum : ℕ
 
-abbrev pub GivesMember : Result Member Fault → ℕ → List ℕ → List ℕ → MemberTold → MemberTold → Type 0
+abbrev pub GivesMember : Result Member Fault → ℕ → List ℕ → List ℕ
+    → MemberTold → MemberTold → Type 0
 GivesMember (Ok m) status old new was is =
     (status ≡ 0) × (new ≡ written_over m.name old)
     × (is ≡ record { offset = m.offset; name_len = length m.name; tnum = m.tnum })
@@ -201,7 +202,8 @@ GivesMember (Err fault) status old new was is =
     (status ≡ status_of fault) × (new ≡ old) × (is ≡ was)
 
 abbrev pub GivesEnumerator : Result Enumerator Fault → ℕ → Told → Told → ℤ → ℤ → Type 0
-GivesEnumerator (Ok e) status old new was is = (status ≡ 0) × (new ≡ told e.name old) × (is ≡ e.value)
+GivesEnumerator (Ok e) status old new was is =
+    (status ≡ 0) × (new ≡ told e.name old) × (is ≡ e.value)
 GivesEnumerator (Err fault) status old new was is =
     (status ≡ status_of fault) × (new ≡ old) × (is ≡ was)
 
@@ -232,16 +234,17 @@ model_if false = Lp64
 abbrev pub Refuses : Option Fault → Fault → Type 0
 Refuses fault f = (f ≡ want_of_memory) ⊎ (fault ≡ Some f)
 
--- a change was made, or why it was not is told, and what was open stays
-abbrev pub Changes : Option Fault → ℕ → ℕ → Option Served → Option Served → Option Served → Type 0
-Changes fault status place old changed new =
-    ((status ≡ 0) × (fault ≡ None) × (new ≡ changed))
+-- a change was made, or why it was not is told, with its place, and what was open stays
+abbrev pub Changes : Option Fault → ℕ → ℕ → ℕ → Option Served → Option Served → Option Served
+    → Type 0
+Changes fault status was place old changed new =
+    ((status ≡ 0) × (fault ≡ None) × (place ≡ was) × (new ≡ changed))
     ⊎ ((f : Fault) × (Refuses fault f × (status ≡ status_of f) × (place ≡ f.place) × (new ≡ old)))
 
 -- a dictionary was opened in place of what was open
-abbrev pub Opens : Kept → ℕ → ℕ → Option Served → Option Served → Type 0
-Opens kept status place old new =
-    Changes (first_fault kept.lists) status place old
+abbrev pub Opens : Kept → ℕ → ℕ → ℕ → Option Served → Option Served → Type 0
+Opens kept status was place old new =
+    Changes (first_fault kept.lists) status was place old
     (Some (record { own = kept; parent = None; draft = None })) new
 
 -- the parent of a draft is that of its making; else the fault is that of the import
@@ -250,10 +253,11 @@ import_refusal child parent =
     if is_some child.draft then Some (placeless FIXED_PARENT) else fault_over child.own parent.own
 
 -- a parent was imported
-abbrev pub Imports : Option Served → Option Served → ℕ → ℕ → Option Served → Type 0
-Imports None parent status place new = (status ≡ status_of (placeless NO_SLOT)) × (new ≡ None)
-Imports (Some child) None status place new =
-    (status ≡ status_of (placeless NO_SLOT)) × (new ≡ Some child)
-Imports (Some child) (Some parent) status place new =
-    Changes (import_refusal child parent) status place (Some child)
+abbrev pub Imports : Option Served → Option Served → ℕ → ℕ → ℕ → Option Served → Type 0
+Imports None parent status was place new =
+    (status ≡ status_of (placeless NO_SLOT)) × (place ≡ was) × (new ≡ None)
+Imports (Some child) None status was place new =
+    (status ≡ status_of (placeless NO_SLOT)) × (place ≡ was) × (new ≡ Some child)
+Imports (Some child) (Some parent) status was place new =
+    Changes (import_refusal child parent) status was place (Some child)
     (Some (record { own = child.own; parent = Some parent.own; draft = None })) new

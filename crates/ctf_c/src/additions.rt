@@ -79,7 +79,12 @@ pub extern "C" fn ctfd_add_integer(
     ensures { Steps (asked handle.old.held.session (type_added (record {
       name = name.now;
       root = root;
-      body = new.integer (record { size = size; encoding = encoding; offset = offset; bits = bits });
+      body = new.integer (record {
+        size = size;
+        encoding = encoding;
+        offset = offset;
+        bits = bits;
+      });
     }))) result out.old out.new handle.old.held.session handle.new.held.session }
 {
     let encoding = Encoding {
@@ -222,7 +227,11 @@ pub extern "C" fn ctfd_add_array(
     out: &mut u16,
 ) -> u32
     ensures { Steps (asked handle.old.held.session
-        (type_added (record { name = name.now; root = root; body = new.array (record { contents = contents; index = index; count = count }) })))
+        (type_added (record {
+          name = name.now;
+          root = root;
+          body = new.array (record { contents = contents; index = index; count = count });
+        })))
         result out.old out.new handle.old.held.session handle.new.held.session }
 {
     let body = NewBody::Array(ArrayInfo {

@@ -29,13 +29,6 @@ use ctf_records::Tag;
 use ctf_views::{ArrayInfo, Encoding, Enumerator, Member, Variant};
 use std::alloc::Global;
 
-/// The number of a kind, as a shape has it.
-fn kind_of(x: Shape<'_>) -> Result<u32, Fault>
-    ensures { result ≡ kind_said (shape_seen x.entry) }
-{
-    Ok(kind_number(x.kind))
-}
-
 /// The number of what a forward declares.
 fn tag_number(tag: Tag) -> u32
     ensures { result ≡ number_of_tag (tag_shown tag) }
@@ -176,8 +169,8 @@ impl Session {
         ensures { result
             ≡ said_of kind_said (shape_of (space_type (space_in self.now) t.0)) }
     {
-        match self.shape(t) {
-            Ok(x) => kind_of(x),
+        match self.space().term(t) {
+            Ok(found) => Ok(kind_number(found.kind())),
             Err(fault) => Err(fault),
         }
     }

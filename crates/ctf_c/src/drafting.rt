@@ -10,7 +10,7 @@ ghost use Rattle.ctf_model.specs.rules.Refusals.{want_of_memory};
 ghost use Rattle.ctf_model.specs.spaces.Kept.{Kept, fault_over, kept_dictionary, modelled_by};
 ghost use Rattle.ctf_model.specs.writing.Written.{written};
 
-use crate::session::{Imported, Session, parts_of};
+use crate::session::{Imported, Session};
 use ctf_draft::Draft;
 use ctf_library::{Loaded, tables_over};
 use ctf_model::{Bytes, DataModel, Fault, Parts, placeless};
@@ -42,21 +42,6 @@ fn imported_over(
     match parent.share() {
         Ok(parent) => Ok(Some(Imported { parent, tables })),
         Err(_) => Err(placeless(Fault::MEMORY)),
-    }
-}
-
-/// A dictionary once more, from copies of its lists: a draft keeps its own and its parent's.
-fn again(alloc: Global, own: &Loaded) -> Result<Rc<Opened>, AllocError>
-    ensures { IfOk result (λ o. o.value ≡ own.now) }
-{
-    let lists = own.view().lists();
-    let parts = parts_of(alloc, lists.ctf, lists.sym, lists.strs)?;
-    let Ok(dictionary) = Opened::build(alloc, parts, own.model()) else {
-        return Err(AllocError);
-    };
-    match Rc::new(alloc, dictionary) {
-        Ok(dictionary) => Ok(dictionary),
-        Err(_) => Err(AllocError),
     }
 }
 
@@ -115,7 +100,7 @@ fn updated_over(alloc: Global, draft: &Draft, parent: Option<&Loaded>) -> Result
         Ok(imported) => imported,
         Err(fault) => return Err(fault),
     };
-    match again(alloc, &own) {
+    match own.opened() {
         Ok(opened) => Ok(Updated {
             own,
             opened,
@@ -136,11 +121,11 @@ fn parent_of(imported: &Option<Imported>) -> Option<&Loaded>
 }
 
 /// A dictionary, if there is one, to be the parent of a draft.
-fn opened(alloc: Global, parent: Option<&Loaded>) -> Result<Option<Rc<Opened>>, AllocError>
+fn opened(parent: Option<&Loaded>) -> Result<Option<Rc<Opened>>, AllocError>
     ensures { IfOk result (λ o. option_map (λ p. p.value) o ≡ option_copied parent.entry) }
 {
     match parent {
-        Some(parent) => Ok(Some(again(alloc, parent)?)),
+        Some(parent) => Ok(Some(parent.opened()?)),
         None => Ok(None),
     }
 }
@@ -168,7 +153,7 @@ fn new_draft(
     let Ok(parlabel) = Bytes::from_slice(alloc, parlabel) else {
         return Err(placeless(Fault::MEMORY));
     };
-    let Ok(parent) = opened(alloc, parent) else {
+    let Ok(parent) = opened(parent) else {
         return Err(placeless(Fault::MEMORY));
     };
     Draft::new(alloc, parent, parname, parlabel, model)
@@ -212,8 +197,8 @@ impl Session {
         })
     }
 
-    /// Makes all that was added to its draft part of the dictionary, and answers how many types that
-    /// has. A refusal changes nothing.
+    /// Makes all that was added to its draft part of the dictionary, and answers how many types
+    /// that has. A refusal changes nothing.
     pub fn update(&mut self, alloc: Global) -> Result<u64, Fault>
         ensures ok { IfOk result (λ n.
             updated self.old ≡ Ok (record { served = self.new; answer = n })) }

@@ -43,7 +43,7 @@ pub extern "C" fn ctfd_create(
     ilp32: bool,
     place: &mut u64,
 ) -> u32
-    ensures { Creates (created None [] [] (model_if ilp32)) result place.new
+    ensures { Creates (created None [] [] (model_if ilp32)) result place.old place.new
         handle.old.held.session handle.new.held.session }
 {
     match drafted(alloc, None, &[], &[], model_of(ilp32)) {
@@ -83,8 +83,8 @@ fn drafted_under(
     )
 }
 
-/// Makes a draft over what is open in another handle, of that one's data model, in place of what was
-/// open. The parent has to have a name.
+/// Makes a draft over what is open in another handle, of that one's data model, in place of what
+/// was open. The parent has to have a name.
 #[unsafe(no_mangle)]
 pub extern "C" fn ctfd_create_child(
     alloc: Global,
@@ -96,8 +96,8 @@ pub extern "C" fn ctfd_create_child(
 ) -> u32
     ensures parent { parent.new.held.session ≡ parent.old.held.session }
     ensures answer { Creates
-        (created_under parent.old.held.session parname.now parlabel.now) result place.new
-        handle.old.held.session handle.new.held.session }
+        (created_under parent.old.held.session parname.now parlabel.now) result
+        place.old place.new handle.old.held.session handle.new.held.session }
 {
     let Some(source) = parent.take(alloc) else {
         *place = 0;
@@ -127,8 +127,8 @@ pub extern "C" fn ctfd_update(
     types: &mut u64,
     place: &mut u64,
 ) -> u32
-    ensures { StepsAt (asked handle.old.held.session updated) result types.old types.new place.new
-        handle.old.held.session handle.new.held.session }
+    ensures { StepsAt (asked handle.old.held.session updated) result types.old types.new
+        place.old place.new handle.old.held.session handle.new.held.session }
 {
     let Some(mut session) = handle.take(alloc) else {
         *place = 0;

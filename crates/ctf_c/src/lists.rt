@@ -30,7 +30,8 @@ pub extern "C" fn ctfd_member(
 ) -> u32
     ensures same { handle.new.held.session ≡ handle.old.held.session }
     ensures answer { GivesMember (asked handle.old.held.session (λ s.
-        said_of (member_said index) (shape_of (space_type (space_in s) t)))) result name.old name.new
+        said_of (member_said index) (shape_of (space_type (space_in s) t))))
+        result name.old name.new
         (record { offset = out.old.offset; name_len = out.old.name_len; tnum = out.old.tnum })
         (record { offset = out.new.offset; name_len = out.new.name_len; tnum = out.new.tnum }) }
 {

@@ -70,7 +70,7 @@ pub extern "C" fn ctfd_open(
         strs = list_there has_strs strs.now;
       };
       model = model_if ilp32;
-    }) result place.new handle.old.held.session handle.new.held.session }
+    }) result place.old place.new handle.old.held.session handle.new.held.session }
 {
     let model = model_of(ilp32);
     match opened(
@@ -109,8 +109,8 @@ pub extern "C" fn ctfd_import(
     place: &mut u64,
 ) -> u32
     ensures parent { parent.new.held.session ≡ parent.old.held.session }
-    ensures answer { Imports handle.old.held.session parent.old.held.session result place.new
-        handle.new.held.session }
+    ensures answer { Imports handle.old.held.session parent.old.held.session result
+        place.old place.new handle.new.held.session }
 {
     let Some(mut child) = handle.take(alloc) else {
         return NOT_OPEN;

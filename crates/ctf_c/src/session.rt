@@ -78,7 +78,11 @@ pub(crate) fn parts_of(
     strs: Option<&[u8]>,
 ) -> Result<Parts, AllocError>
     ensures { IfOk result (λ p. lists_owned p
-        ≡ record { ctf = ctf.now; sym = option_copied sym.entry; strs = option_copied strs.entry }) }
+        ≡ record {
+          ctf = ctf.now;
+          sym = option_copied sym.entry;
+          strs = option_copied strs.entry;
+        }) }
 {
     Ok(Parts {
         ctf: Bytes::from_slice(alloc, ctf)?,

@@ -10,8 +10,8 @@ use crate::programs::named_count;
 use ctf_views::is_variadic;
 use std::alloc::Global;
 
-/// A function of the program: `struct ctfd_function`. A last argument 0 is not counted: it says that
-/// more may follow.
+/// A function of the program: `struct ctfd_function`. A last argument 0 is not counted: it says
+/// that more may follow.
 #[repr(C)]
 #[derive(Drop)]
 pub struct GivenFunction {

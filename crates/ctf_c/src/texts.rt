@@ -22,7 +22,8 @@ pub extern "C" fn ctfd_declared_name(
     len: &mut u64,
 ) -> u32
     ensures same { handle.new.held.session ≡ handle.old.held.session }
-    ensures answer { GivesText (asked handle.old.held.session (λ s. name_in (space_type (space_in s) t))) result
+    ensures answer { GivesText
+        (asked handle.old.held.session (λ s. name_in (space_type (space_in s) t))) result
         (record { text = text.old; len = len.old })
         (record { text = text.new; len = len.new }) }
 {
@@ -44,7 +45,8 @@ pub extern "C" fn ctfd_name(
     len: &mut u64,
 ) -> u32
     ensures same { handle.new.held.session ≡ handle.old.held.session }
-    ensures answer { MayGiveText (asked handle.old.held.session (λ s. spelled_name (space_in s) t)) result
+    ensures answer { MayGiveText
+        (asked handle.old.held.session (λ s. spelled_name (space_in s) t)) result
         (record { text = text.old; len = len.old })
         (record { text = text.new; len = len.new }) }
 {

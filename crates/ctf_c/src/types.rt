@@ -31,7 +31,8 @@ pub extern "C" fn ctfd_kind(alloc: Global, handle: &mut Handle, t: u16, out: &mu
 #[unsafe(no_mangle)]
 pub extern "C" fn ctfd_root(alloc: Global, handle: &mut Handle, t: u16, out: &mut u32) -> u32
     ensures same { handle.new.held.session ≡ handle.old.held.session }
-    ensures answer { Gives (asked handle.old.held.session (λ s. root_said (space_type (space_in s) t)))
+    ensures answer { Gives
+        (asked handle.old.held.session (λ s. root_said (space_type (space_in s) t)))
         result out.old out.new }
 {
     let Some(session) = handle.take(alloc) else {

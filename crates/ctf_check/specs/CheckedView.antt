@@ -5,7 +5,6 @@ use Rattle.ctf_model.specs.rules.Faults.{types}
 use Rattle.ctf_model.specs.format.Lists.{Lists, tables}
 use Rattle.ctf_model.specs.format.Name.{Tables}
 use Rattle.ctf_model.specs.format.Term.{Term}
-use Rattle.ctf_check.specs.ListsView.{lists_in}
 use Rattle.ctf_records.specs.Pieces.{piece_numbered}
 use Rattle.ctf_records.specs.RecordView.{piece}
 use Rattle.ctf_check.specs.declared.checked.Checked.{Checked}
@@ -13,7 +12,7 @@ use Rattle.ctf_records.specs.declared.record.Record.{Record}
 
 -- the lists that it was handed in as
 abbrev pub lists_of : Checked → Lists
-lists_of d = lists_in d.lists
+lists_of d = d.judged.now
 
 -- its tables of names
 abbrev pub tables_of : Checked → Tables

@@ -1,12 +1,10 @@
 //! A dictionary that breaks no rule, and what it answers.
-ghost use Rattle.std.specs.Prelude.{◌≡◌, ◌≤◌, ◌<◌, ◌^◌, ◌+◌, ◌↔◌, length, IsSome, IfOk, IfSome, Some, None};
-ghost use Rattle.std.specs.Option.{ForSome, option_map};
-ghost use Rattle.ctf_model.specs.format.Dictionary.{said_by, denoted, name_or_empty};
+ghost use Rattle.std.specs.Prelude.{◌≡◌, ◌<◌, ◌^◌, ◌↔◌, length, IsSome, IfSome, Some, None};
+ghost use Rattle.std.specs.Option.{option_map};
+ghost use Rattle.ctf_model.specs.format.Dictionary.{denoted, name_or_empty};
 ghost use Rattle.ctf_chains.specs.Starts.{starts_in};
-ghost use Rattle.ctf_model.specs.rules.Faults.{first_fault, types as types_of, walk_fault};
-ghost use Rattle.ctf_model.specs.format.Header.{fields, section};
-ghost use Rattle.ctf_model.specs.format.Lists.{tables as tables_in};
-ghost use Rattle.ctf_model.specs.declared.sections.Section.TheVariants.{STypes};
+ghost use Rattle.ctf_model.specs.rules.Faults.{first_fault, walk_fault};
+ghost use Rattle.ctf_model.specs.format.Header.{section as section_of};
 ghost use Rattle.ctf_model.specs.rules.Needs.{needed};
 ghost use Rattle.ctf_model.specs.format.Spelling.{term_of};
 ghost use Rattle.ctf_sections.specs.StringsView.{tables};
@@ -17,51 +15,25 @@ ghost use Rattle.ctf_records.specs.Pieces.{piece_numbered};
 ghost use Rattle.ctf_records.specs.RecordView.{piece};
 ghost use Rattle.ctf_views.specs.VariantView.{seen};
 
+use crate::judged::Judged;
 use crate::lists::LentLists;
 use crate::needs::{entries_need, greater, records_need};
-use crate::sections::bytes_in;
-use ctf_chains::{Starts, record_started, record_starts};
+use ctf_chains::record_started;
 use ctf_model::Section;
-use ctf_records::{Record, record_numbered};
-use ctf_sections::{Header, Strings};
+use ctf_records::Record;
+use ctf_sections::Strings;
 use ctf_views::{Variant, variant};
-use std::alloc::{AllocError, Global};
 
-/// A dictionary that breaks no rule. Each call answers from the lists that it was handed in as.
+/// A dictionary that breaks no rule, lent. Each call answers from the lists that it was handed in
+/// as.
 #[derive(Clone, Copy)]
 pub struct Checked<'a> {
-    lists: LentLists<'a>,
-    strings: Strings<'a>,
-    types: &'a [u8],
-    parname: u32,
-    parlabel: u32,
-    count: usize,
-    /// Where the types begin, where that was kept: a type is then found without reading others.
-    starts: Option<&'a [u32]>,
-    pub ghost faultless: { first_fault (lists_in lists) ≡ None },
-    ghost tabled: { tables strings ≡ tables_in (lists_in lists) },
-    ghost part: { types.now ≡ section lists.ctf.now STypes },
-    ghost short: { length types.now < 2 ^ 32 },
-    ghost of_parent: { parname ≡ (fields lists.ctf.now).parname },
-    ghost of_label: { parlabel ≡ (fields lists.ctf.now).parlabel },
-    ghost counted: { count ≡ length (said_by (lists_in lists)).terms },
-    ghost begin: { ForSome starts (λ s. s.now ≡ starts_in (types_of lists.ctf.now)) },
-}
-
-/// The header of a dictionary that was accepted before.
-pub(crate) fn header_of(lists: LentLists<'_>) -> Header
-    requires faultless { first_fault (lists_in lists) ≡ None }
-    ensures fits { result ≡ fields lists.entry.ctf.now }
-    ensures inside { 36 + result.stroff + result.strlen ≤ length lists.entry.ctf.now }
-{
-    match Header::read(lists.ctf) {
-        Ok(header) => header,
-        Err(_) => unreachable!(),
-    }
+    judged: &'a Judged,
+    pub ghost faultless: { first_fault judged.now ≡ None },
 }
 
 /// The record with a number of a section, by the places at which all begin.
-fn find_started<'a>(types: &'a [u8], starts: &[u32], index: usize) -> Option<Record<'a>>
+fn find<'a>(types: &'a [u8], starts: &[u32], index: usize) -> Option<Record<'a>>
     requires whole { walk_fault (records types.now) ≡ None }
     requires begin { starts.now ≡ starts_in (records types.now) }
     ensures { option_map piece result ≡ piece_numbered (records types.now) index }
@@ -75,81 +47,31 @@ fn find_started<'a>(types: &'a [u8], starts: &[u32], index: usize) -> Option<Rec
     Some(record_started(types, starts, index - 1))
 }
 
-/// The same, read from the first record on where no places were kept.
-fn find<'a>(types: &'a [u8], starts: Option<&[u32]>, index: usize) -> Option<Record<'a>>
-    requires whole { walk_fault (records types.now) ≡ None }
-    requires begin { ForSome starts (λ s. s.now ≡ starts_in (records types.now)) }
-    ensures { option_map piece result ≡ piece_numbered (records types.now) index }
-{
-    match starts {
-        Some(starts) => find_started(types, starts, index),
-        None => record_numbered(types, index as u64),
-    }
-}
-
 impl<'a> Checked<'a> {
     ghost use Rattle.ctf_check.specs.CheckedView.{lists_of, dictionary_of, tables_of, type_at, IsOwn};
     ghost use Rattle.ctf_records.specs.RecordView.{index_of, bytes_of};
 
-    /// A dictionary that breaks no rule, by its header, the number of its own types, and where they
-    /// begin, if that was kept.
-    pub(crate) fn accepted(
-        lists: LentLists<'a>,
-        header: Header,
-        count: usize,
-        starts: Option<&'a [u32]>,
-    ) -> Checked<'a>
-        requires faultless { first_fault (lists_in lists) ≡ None }
-        requires fits { header ≡ fields lists.ctf.now }
-        requires inside { 36 + header.stroff + header.strlen ≤ length lists.ctf.now }
-        requires counted { count ≡ length (said_by (lists_in lists)).terms }
-        requires begin { ForSome starts (λ s. s.now ≡ starts_in (types_of lists.ctf.now)) }
-        ensures { lists_of result ≡ lists_in lists.entry }
+    /// What was judged, lent.
+    pub(crate) fn of(judged: &'a Judged) -> Checked<'a>
+        requires { first_fault judged.now ≡ None }
+        ensures { lists_of result ≡ judged.now }
     {
-        let internal = bytes_in(lists.ctf, header, Section::SStrings);
-        Checked {
-            lists,
-            strings: Strings::new(internal, lists.strs),
-            types: bytes_in(lists.ctf, header, Section::STypes),
-            parname: header.parname(),
-            parlabel: header.parlabel(),
-            count,
-            starts,
-        }
+        Checked { judged }
     }
 
-    /// A dictionary that was accepted before, without judging it again.
-    ///
-    /// `count` is the number of its own types. It takes constant time.
-    pub fn again(lists: LentLists<'a>, count: usize) -> Checked<'a>
-        requires faultless { first_fault (lists_in lists) ≡ None }
-        requires counted { count ≡ length (said_by (lists_in lists)).terms }
-        ensures { lists_of result ≡ lists_in lists.entry }
+    /// The bytes of a section.
+    pub(crate) fn section(&self, section: Section) -> &'a [u8]
+        ensures bytes { result.now ≡ section_of (lists_of self.now).ctf section }
+        ensures short { length result.now < 2 ^ 32 }
     {
-        Checked::accepted(lists, header_of(lists), count, None)
-    }
-
-    /// The same with the places at which its types begin: a type is then found in constant time.
-    pub fn indexed(lists: LentLists<'a>, starts: &'a [u32]) -> Checked<'a>
-        requires faultless { first_fault (lists_in lists) ≡ None }
-        requires begin { starts.now ≡ starts_in (types_of lists.ctf.now) }
-        ensures { lists_of result ≡ lists_in lists.entry }
-    {
-        Checked::accepted(lists, header_of(lists), starts.len(), Some(starts))
-    }
-
-    /// The places at which its types begin. Each takes four bytes.
-    pub fn starts(&self, alloc: Global) -> Result<Starts, AllocError>
-        ensures { IfOk result (λ starts. starts ≡ starts_in (types_of (lists_of self.now).ctf)) }
-    {
-        record_starts(alloc, self.types, self.count)
+        self.judged.section(section)
     }
 
     /// Its tables of names.
     pub fn strings(&self) -> Strings<'a>
         ensures { tables result ≡ tables_of self.now }
     {
-        self.strings
+        Strings::new(self.section(Section::SStrings), self.judged.lists().strs)
     }
 
     /// The name of a reference of the dictionary.
@@ -166,7 +88,7 @@ impl<'a> Checked<'a> {
     pub fn count(&self) -> usize
         ensures { result ≡ length (dictionary_of self.now).terms }
     {
-        self.count
+        self.judged.starts().len()
     }
 
     /// Whether its low type numbers are those of a parent.
@@ -174,7 +96,7 @@ impl<'a> Checked<'a> {
     pub fn child(&self) -> bool
         ensures { result ≡ (dictionary_of self.now).child }
     {
-        self.parname != 0
+        self.judged.header().parname() != 0
     }
 
     /// The name of its parent.
@@ -182,7 +104,7 @@ impl<'a> Checked<'a> {
     pub fn parname(&self) -> &'a [u8]
         ensures { result.now ≡ (dictionary_of self.now).parname }
     {
-        self.named(self.parname)
+        self.named(self.judged.header().parname())
     }
 
     /// The label up to which it uses its parent.
@@ -190,11 +112,11 @@ impl<'a> Checked<'a> {
     pub fn parlabel(&self) -> &'a [u8]
         ensures { result.now ≡ (dictionary_of self.now).parlabel }
     {
-        self.named(self.parlabel)
+        self.named(self.judged.header().parlabel())
     }
 
-    /// The record of an own type; they count from 1. Where the places of the types were kept it
-    /// takes constant time, else it is looked for from the first record on.
+    /// The record of an own type; they count from 1. It is found in constant time.
+    #[inline(always)]
     pub fn term(&self, index: usize) -> Option<Record<'a>>
         ensures exact { IsSome result ↔ IsSome (type_at (dictionary_of self.now) index) }
         ensures spells { IfSome result (λ r. term_of (tables_of self.now) (bytes_of r)
@@ -202,7 +124,7 @@ impl<'a> Checked<'a> {
         ensures index { IfSome result (λ r. index_of r ≡ index) }
         ensures own { IfSome result (λ r. IsOwn self.now r) }
     {
-        find(self.types, self.starts, index)
+        find(self.section(Section::STypes), self.judged.starts(), index)
     }
 
     /// The greatest number below 0x8000 that the types of a child name, or that is told of its
@@ -214,13 +136,17 @@ impl<'a> Checked<'a> {
         ensures { result ≡ needed (dictionary_of self.now) }
     {
         if self.child() {
-            greater(records_need(self.types), entries_need(self.entries()))
+            greater(
+                records_need(self.section(Section::STypes)),
+                entries_need(self.entries()),
+            )
         } else {
             0
         }
     }
 
     /// The name of a type of the dictionary.
+    #[inline(always)]
     pub fn name(&self, term: &Record<'a>) -> &'a [u8]
         requires own { IsOwn self.now term.now }
         ensures { option_map (λ x. x.name) (term_of (tables_of self.now) (bytes_of term.now))
@@ -230,6 +156,7 @@ impl<'a> Checked<'a> {
     }
 
     /// What stands behind the head of a type of the dictionary.
+    #[inline(always)]
     pub fn variant(&self, term: &Record<'a>) -> Variant<'a>
         requires own { IsOwn self.now term.now }
         ensures { option_map (λ x. shown x.body) (term_of (tables_of self.now) (bytes_of term.now))
@@ -243,6 +170,6 @@ impl<'a> Checked<'a> {
         ensures same { lists_in result ≡ lists_of self.now }
         ensures denotes { denoted (lists_of self.now) ≡ Some (dictionary_of self.now) }
     {
-        self.lists
+        self.judged.lists()
     }
 }

@@ -17,6 +17,7 @@ impl<'a> Checked<'a> {
     ghost use Rattle.ctf_records.specs.RecordView.{bytes_of};
 
     /// What a type of the dictionary is, apart from its name. It takes constant time.
+    #[inline(always)]
     pub fn shape(&self, term: &Record<'a>) -> Shape<'a>
         requires own { IsOwn self.now term.now }
         ensures { option_map (λ x. shape x.body) (term_of (tables_of self.now) (bytes_of term.now))

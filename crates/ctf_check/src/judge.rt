@@ -1,13 +1,13 @@
 //! The check: which rule a dictionary breaks first.
-ghost use Rattle.std.specs.Prelude.{◌≡◌, ◌≤◌, ◌<◌, ◌^◌, ◌⊎◌, length, IfOk, IfErr, OnOk, Some, None, option_copied};
-ghost use Rattle.ctf_model.specs.rules.Faults.{first_fault, walk_fault};
+ghost use Rattle.std.specs.Prelude.{◌≡◌, ◌≤◌, ◌<◌, ◌^◌, ◌+◌, ◌⊎◌, length, IfOk, IfErr, OnOk, Some, None, option_copied};
+ghost use Rattle.ctf_chains.specs.Starts.{starts_in};
+ghost use Rattle.ctf_model.specs.format.Header.{fields};
+ghost use Rattle.ctf_model.specs.rules.Faults.{first_fault, types as types_of, walk_fault};
 ghost use Rattle.ctf_model.specs.format.Section.{records};
-ghost use Rattle.ctf_check.specs.CheckedView.{lists_of};
 ghost use Rattle.ctf_check.specs.ListsView.{given};
 ghost use Rattle.ctf_check.specs.Named.{first_that_misnames};
 ghost use Rattle.ctf_check.specs.Stages.{IsTypesFault, fault_before_chains, records_fault, want_of_memory};
 
-use crate::checked::Checked;
 use crate::ends::NameEnds;
 use crate::judging::judge_chains;
 use crate::lists::LentLists;
@@ -15,10 +15,18 @@ use crate::names::bad_name;
 use crate::references::{Numbers, bad_reference};
 use crate::sections::bytes_in;
 use crate::symbols::judge_symbols;
+use ctf_chains::Starts;
 use ctf_model::{Fault, Section};
 use ctf_records::Records;
 use ctf_sections::Header;
 use std::alloc::Global;
+
+/// What the check of a dictionary finds out: what its header says, and where its types begin.
+#[derive(Drop)]
+pub struct Findings {
+    pub header: Header,
+    pub starts: Starts,
+}
 
 /// How many records a section has.
 #[tactic(auto, using(crate::proofs::Reading::walk_len))]
@@ -42,14 +50,15 @@ fn count_records(types: &[u8]) -> Result<usize, Fault>
     Ok(count)
 }
 
-/// Judges the types of records: what they name, and then their chains.
+/// Judges the types of records: what they name, and then their chains. Answers where they begin.
 ///
-/// Takes six bytes for each record while it runs.
-fn judge_types(alloc: Global, types: &[u8], numbers: Numbers) -> Result<(), Fault>
+/// Takes six bytes for each record while it runs, of which the answer keeps four.
+fn judge_types(alloc: Global, types: &[u8], numbers: Numbers) -> Result<Starts, Fault>
     requires whole { walk_fault (records types.now) ≡ None }
     requires count { numbers.count ≡ length (records types.now) }
     requires short { length types.now < 2 ^ 32 }
     ensures ok { OnOk result (IsTypesFault numbers.child (records types.now) None) }
+    ensures starts { IfOk result (λ s. s ≡ starts_in (records types.now)) }
     ensures err { IfErr result (λ f. (f ≡ want_of_memory)
         ⊎ IsTypesFault numbers.child (records types.now) (Some f)) }
     ensures late { IfErr result (λ f.
@@ -71,14 +80,15 @@ fn judge_types(alloc: Global, types: &[u8], numbers: Numbers) -> Result<(), Faul
 /// Reads each record, member, enumerator, argument and symbol a bounded number of times, and takes
 /// six bytes for each record while it runs. Where that is refused, the fault is `Memory`: it may
 /// stand for a fault of chains, and for no other before them. No name is searched for its end.
-pub fn check<'a>(
+pub fn check(
     alloc: Global,
-    ctf: &'a [u8],
-    sym: Option<&'a [u8]>,
-    strs: Option<&'a [u8]>,
-) -> Result<Checked<'a>, Fault>
-    ensures lists { IfOk result (λ d. lists_of d
-        ≡ given ctf.now (option_copied sym.entry) (option_copied strs.entry)) }
+    ctf: &[u8],
+    sym: Option<&[u8]>,
+    strs: Option<&[u8]>,
+) -> Result<Findings, Fault>
+    ensures header { IfOk result (λ x. x.header ≡ fields ctf.now) }
+    ensures inside { IfOk result (λ x. 36 + x.header.stroff + x.header.strlen ≤ length ctf.now) }
+    ensures starts { IfOk result (λ x. x.starts ≡ starts_in (types_of ctf.now)) }
     ensures exact_ok { OnOk result (first_fault
         (given ctf.now (option_copied sym.entry) (option_copied strs.entry)) ≡ None) }
     ensures exact_err { IfErr result (λ f. (f ≡ want_of_memory) ⊎ (first_fault
@@ -99,8 +109,7 @@ pub fn check<'a>(
     }
     let child = header.parname() != 0;
     let numbers = Numbers { child, count };
-    judge_types(alloc, types, numbers)?;
-    let lists = LentLists { ctf, sym, strs };
-    judge_symbols(lists, header, numbers)?;
-    Ok(Checked::accepted(lists, header, count, None))
+    let starts = judge_types(alloc, types, numbers)?;
+    judge_symbols(LentLists { ctf, sym, strs }, header, numbers)?;
+    Ok(Findings { header, starts })
 }

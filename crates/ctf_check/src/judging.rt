@@ -1,5 +1,5 @@
 //! The rules of chains: no chain of types is too long.
-ghost use Rattle.std.specs.Prelude.{◌≡◌, ◌<◌, ◌^◌, length, OnOk, IfErr, None, Some, ◌⊎◌};
+ghost use Rattle.std.specs.Prelude.{◌≡◌, ◌<◌, ◌^◌, length, OnOk, IfOk, IfErr, None, Some, ◌⊎◌};
 ghost use Rattle.ctf_model.specs.rules.Faults.{walk_fault};
 ghost use Rattle.ctf_model.specs.format.Section.{records};
 ghost use Rattle.ctf_chains.specs.Starts.{starts_in};
@@ -37,12 +37,15 @@ fn judge_chain(
 }
 
 /// Judges the chains of the types of records: first those of steps by value, then those of
-/// declarator steps. Takes six bytes for each record while it runs.
-pub fn judge_chains(alloc: Global, types: &[u8], numbers: Numbers) -> Result<(), Fault>
+/// declarator steps. Answers where the records begin.
+///
+/// Takes six bytes for each record while it runs, of which the answer keeps four.
+pub fn judge_chains(alloc: Global, types: &[u8], numbers: Numbers) -> Result<Starts, Fault>
     requires whole { walk_fault (records types.now) ≡ None }
     requires count { numbers.count ≡ length (records types.now) }
     requires short { length types.now < 2 ^ 32 }
     ensures ok { OnOk result (IsChainsFault numbers.child (records types.now) None) }
+    ensures starts { IfOk result (λ s. s ≡ starts_in (records types.now)) }
     ensures err { IfErr result (λ f. (f ≡ want_of_memory)
         ⊎ IsChainsFault numbers.child (records types.now) (Some f)) }
 {
@@ -64,5 +67,6 @@ pub fn judge_chains(alloc: Global, types: &[u8], numbers: Numbers) -> Result<(),
         numbers.child,
         Chain::Declarator,
         Fault::DECL_DEEP,
-    )
+    )?;
+    Ok(starts)
 }

@@ -4,8 +4,7 @@ ghost use Rattle.ctf_model.specs.format.Header.{section};
 ghost use Rattle.ctf_check.specs.CheckedView.{dictionary_of, lists_of};
 ghost use Rattle.ctf_model.specs.declared.sections.Section.TheVariants.{SLabels};
 
-use crate::checked::{Checked, header_of};
-use crate::sections::bytes_in;
+use crate::checked::Checked;
 use ctf_model::Section;
 use ctf_views::{Labels, read_labels};
 
@@ -16,8 +15,7 @@ impl<'a> Checked<'a> {
         ensures bytes { result.now ≡ section (lists_of self.now).ctf SLabels }
         ensures short { length result.now < 2 ^ 32 }
     {
-        let lists = self.lists();
-        bytes_in(lists.ctf, header_of(lists), Section::SLabels)
+        self.section(Section::SLabels)
     }
 
     /// Its labels. Their names are lent.

@@ -6,6 +6,7 @@ mod ends;
 mod facts;
 mod heads;
 mod judge;
+mod judged;
 mod judging;
 mod labels;
 mod lists;
@@ -19,7 +20,8 @@ mod typed;
 
 pub use checked::Checked;
 pub use facts::{Facts, Shape};
-pub use judge::check;
-pub use lists::LentLists;
+pub use judge::{Findings, check};
+pub use judged::Judged;
+pub use lists::{LentLists, lent};
 pub use told::SymbolParts;
 pub use typed::Typed;

@@ -1,4 +1,9 @@
-//! The byte lists that a dictionary was handed in as.
+//! The byte lists that a dictionary is handed in as, lent.
+ghost use Rattle.std.specs.Prelude.{◌≡◌, option_copied};
+ghost use Rattle.ctf_check.specs.ListsView.{lists_in};
+ghost use Rattle.ctf_model.specs.format.OwnedLists.{lists_owned};
+
+use ctf_model::{Bytes, Parts};
 
 /// The CTF section, and the program's symbol table and its strings where they are there.
 #[derive(Clone, Copy)]
@@ -6,4 +11,25 @@ pub struct LentLists<'a> {
     pub ctf: &'a [u8],
     pub sym: Option<&'a [u8]>,
     pub strs: Option<&'a [u8]>,
+}
+
+/// The bytes of a list, if it is there.
+fn list_bytes(list: &Option<Bytes>) -> Option<&[u8]>
+    ensures { option_copied result ≡ list.now }
+{
+    match list {
+        Some(bytes) => Some(bytes.as_slice()),
+        None => None,
+    }
+}
+
+/// Owned lists, lent.
+pub fn lent(parts: &Parts) -> LentLists<'_>
+    ensures { lists_in result ≡ lists_owned parts.now }
+{
+    LentLists {
+        ctf: parts.ctf.as_slice(),
+        sym: list_bytes(&parts.sym),
+        strs: list_bytes(&parts.strs),
+    }
 }

@@ -6,8 +6,7 @@ ghost use Rattle.ctf_entries.specs.Sound.{bad_place};
 ghost use Rattle.ctf_check.specs.CheckedView.{dictionary_of, lists_of};
 ghost use Rattle.ctf_model.specs.declared.sections.Section.TheVariants.{SObjects, SFunctions};
 
-use crate::checked::{Checked, header_of};
-use crate::sections::bytes_in;
+use crate::checked::Checked;
 use crate::symbols::table_of;
 use ctf_entries::Entries;
 use ctf_model::Section;
@@ -36,14 +35,11 @@ impl<'a> Checked<'a> {
             result.sym.now)) result.functions.now ≡ None }
     {
         let lists = self.lists();
-        let header = header_of(lists);
-        let objects = bytes_in(lists.ctf, header, Section::SObjects);
-        let functions = bytes_in(lists.ctf, header, Section::SFunctions);
         SymbolParts {
             sym: table_of(lists.sym),
             strs: lists.strs,
-            objects,
-            functions,
+            objects: self.section(Section::SObjects),
+            functions: self.section(Section::SFunctions),
         }
     }
 

@@ -2,7 +2,7 @@
 ghost use Rattle.std.specs.Prelude.{◌≡◌, ◌<◌, ◌↔◌, length, slice_index, IsSome, IfSome, Some};
 ghost use Rattle.std.specs.Option.{option_map};
 ghost use Rattle.ctf_model.specs.rules.Chains.{by_value};
-ghost use Rattle.ctf_model.specs.format.Shown.{facts, shape, shown};
+ghost use Rattle.ctf_model.specs.format.Shown.{facts, kind_of, reference_of, shape, shown};
 ghost use Rattle.ctf_records.specs.RecordView.{index_of};
 ghost use Rattle.ctf_views.specs.VariantView.{seen};
 ghost use Rattle.ctf_check.specs.CheckedView.{dictionary_of, tables_of, type_at, IsOwn};
@@ -11,7 +11,7 @@ ghost use Rattle.ctf_check.specs.FactsView.{facts_seen, shape_seen};
 
 use crate::checked::Checked;
 use crate::facts::{Facts, Shape};
-use ctf_model::TypeNum;
+use ctf_model::{Kind, TypeNum};
 use ctf_records::Record;
 use ctf_views::Variant;
 
@@ -28,6 +28,7 @@ impl<'a> Checked<'a> {
     ghost use Rattle.ctf_check.specs.TypedView.{dictionary_in, record_in, spelled};
 
     /// An own type; they count from 1.
+    #[inline(always)]
     pub fn typed(&self, index: usize) -> Option<Typed<'a>>
         ensures exact { IsSome result ↔ IsSome (type_at (dictionary_of self.now) index) }
         ensures spells { IfSome result (λ x. spelled x ≡ type_at (dictionary_of self.now) index) }
@@ -59,6 +60,7 @@ impl<'a> Typed<'a> {
         self.source
     }
 
+    #[inline(always)]
     pub fn name(&self) -> &'a [u8]
         ensures { option_map (λ x. x.name) (spelled self.now) ≡ Some result.now }
     {
@@ -81,13 +83,29 @@ impl<'a> Typed<'a> {
     }
 
     /// What stands behind its head: members, enumerators, arguments and the like.
+    #[inline(always)]
     pub fn variant(&self) -> Variant<'a>
         ensures { option_map (λ x. shown x.body) (spelled self.now) ≡ Some (seen result) }
     {
         self.dictionary.variant(&self.source)
     }
 
+    pub fn kind(&self) -> Kind
+        ensures { option_map (λ x. kind_of x.body) (spelled self.now) ≡ Some result }
+    {
+        self.dictionary.kind(&self.source)
+    }
+
+    /// What it points to, returns, renames or qualifies.
+    pub fn reference(&self) -> Option<TypeNum>
+        ensures { option_map (λ x. reference_of x.body) (spelled self.now)
+            ≡ Some (option_map (λ t. t.0) result) }
+    {
+        self.dictionary.reference(&self.source)
+    }
+
     /// What it is, apart from its name. It takes constant time.
+    #[inline(always)]
     pub fn shape(&self) -> Shape<'a>
         ensures { option_map (λ x. shape x.body) (spelled self.now) ≡ Some (shape_seen result) }
     {

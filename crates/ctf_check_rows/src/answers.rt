@@ -1,8 +1,8 @@
 //! What a dictionary that breaks no rule answers.
 
-use crate::inputs::{EMPTY, INT, LABELLED, OUTER, changed};
-use ctf_check::{Checked, check};
+use crate::inputs::{EMPTY, INT, LABELLED, OUTER, changed, judge};
 use ctf_model::Kind;
+use std::test::Fail;
 
 /// `INT`'s record in long form.
 const LONG: [u8; 61] = *b"\xf1\xcf\x02\x00\
@@ -13,7 +13,7 @@ const LONG: [u8; 61] = *b"\xf1\xcf\x02\x00\
     \x00int\x00";
 
 #[test]
-fn answers(rt: HostRuntime) {
+fn answers(rt: HostRuntime) -> Result<(), Fail> {
     let longer = b"\xf1\xcf\x02\x00\
         \x00\x00\x00\x00\x00\x00\x00\x00\
         \x00\x00\x00\x00\x00\x00\x00\x00\x00\x00\x00\x00\x00\x00\x00\x00\
@@ -30,9 +30,10 @@ fn answers(rt: HostRuntime) {
         (&changed(&LABELLED, &[(60, 2)]), None, &[b"int", b"nt"]),
     ];
     for (ctf, strs, names) in rows {
-        let Ok(checked) = check(rt.alloc(), ctf, None, strs) else {
+        let Some(judged) = judge(rt.alloc(), ctf, None, strs)? else {
             panic!(rt; "it breaks no rule")
         };
+        let checked = judged.view();
         assert!(rt; checked.count() == names.len());
         assert!(rt; checked.term(0).is_none());
         assert!(rt; checked.term(3).is_none());
@@ -49,23 +50,29 @@ fn answers(rt: HostRuntime) {
         let lists = checked.lists();
         assert!(rt; (lists.ctf, lists.strs) == (ctf, strs));
     }
+    Ok(())
 }
 
+/// A dictionary that was judged is lent again, and at last hands back its lists.
 #[test]
-fn answers_again(rt: HostRuntime) {
-    let Ok(checked) = check(rt.alloc(), &LABELLED, None, None) else {
+fn answers_again(rt: HostRuntime) -> Result<(), Fail> {
+    let Some(judged) = judge(rt.alloc(), &LABELLED, None, None)? else {
         panic!(rt; "it breaks no rule")
     };
-    let again = Checked::again(checked.lists(), checked.count());
+    let checked = judged.view();
+    let again = judged.view();
     assert!(rt; (again.count(), again.child(), again.needs()) == (2, false, 0));
     let Some(record) = again.term(2) else {
         panic!(rt; "the type is there")
     };
     assert!(rt; (record.index(), again.name(&record)) == (2, b"int".as_slice()));
+    assert!(rt; (checked.count(), checked.term(2).is_some()) == (2, true));
+    assert!(rt; judged.into_parts().ctf.as_slice() == LABELLED.as_slice());
+    Ok(())
 }
 
 #[test]
-fn tells_its_parent(rt: HostRuntime) {
+fn tells_its_parent(rt: HostRuntime) -> Result<(), Fail> {
     let rows: [(&[(usize, u8)], bool, &[u8], &[u8]); 4] = [
         (&[], false, b"", b""),
         (&[(4, 1)], false, b"", b"int"),
@@ -74,12 +81,14 @@ fn tells_its_parent(rt: HostRuntime) {
     ];
     for (changes, child, parname, parlabel) in rows {
         let ctf = changed(&INT, changes);
-        let Ok(checked) = check(rt.alloc(), &ctf, None, None) else {
+        let Some(judged) = judge(rt.alloc(), &ctf, None, None)? else {
             panic!(rt; "it breaks no rule")
         };
+        let checked = judged.view();
         assert!(rt;
             (checked.child(), checked.parname(), checked.parlabel()) == (child, parname, parlabel),
             "at {changes:?}"
         );
     }
+    Ok(())
 }

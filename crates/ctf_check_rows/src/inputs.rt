@@ -1,7 +1,8 @@
 //! How the tests write dictionaries.
 
 use crate::framed;
-use ctf_check::{LentLists, check};
+use ctf_check::{Judged, LentLists, check};
+use ctf_model::{Bytes, Parts};
 use std::alloc::{AllocError, Global};
 
 /// A header alone.
@@ -92,6 +93,29 @@ pub fn alone(ctf: &[u8]) -> LentLists<'_> {
         sym: None,
         strs: None,
     }
+}
+
+/// A copy of a list, if it is there.
+fn copied(alloc: Global, list: Option<&[u8]>) -> Result<Option<Bytes>, AllocError> {
+    match list {
+        Some(bytes) => Ok(Some(Bytes::from_slice(alloc, bytes)?)),
+        None => Ok(None),
+    }
+}
+
+/// The dictionary of copies of these lists, if it breaks no rule.
+pub fn judge(
+    alloc: Global,
+    ctf: &[u8],
+    sym: Option<&[u8]>,
+    strs: Option<&[u8]>,
+) -> Result<Option<Judged>, AllocError> {
+    let parts = Parts {
+        ctf: Bytes::from_slice(alloc, ctf)?,
+        sym: copied(alloc, sym)?,
+        strs: copied(alloc, strs)?,
+    };
+    Ok(Judged::build(alloc, parts).ok())
 }
 
 /// The code and the place of the fault of a dictionary, if it has one.

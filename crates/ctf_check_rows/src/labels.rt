@@ -1,8 +1,7 @@
 //! The labels of a dictionary, and what they are looked up by.
 
 use crate::framed;
-use crate::inputs::{EMPTY, INTEGER, changed};
-use ctf_check::check;
+use crate::inputs::{EMPTY, INTEGER, changed, judge};
 use ctf_model::Fault;
 use ctf_symbols::SymbolMap;
 use ctf_views::Label;
@@ -30,9 +29,10 @@ fn label(name: &[u8], last: u32) -> Label<'_> {
 #[test]
 fn tells_labels(rt: HostRuntime) -> Result<(), Fail> {
     let ctf = labelled(rt.alloc())?;
-    let Ok(checked) = check(rt.alloc(), &ctf, None, None) else {
+    let Some(judged) = judge(rt.alloc(), &ctf, None, None)? else {
         panic!(rt; "it breaks no rule")
     };
+    let checked = judged.view();
     let labels = checked.labels();
     assert!(rt; labels.len() == 3);
     assert!(rt; labels.get(0) == Some(label(b"one", 5)));
@@ -49,9 +49,10 @@ fn tells_labels(rt: HostRuntime) -> Result<(), Fail> {
 #[test]
 fn the_first_label_of_a_name_answers(rt: HostRuntime) -> Result<(), Fail> {
     let ctf = labelled(rt.alloc())?;
-    let Ok(checked) = check(rt.alloc(), &ctf, None, None) else {
+    let Some(judged) = judge(rt.alloc(), &ctf, None, None)? else {
         panic!(rt; "it breaks no rule")
     };
+    let checked = judged.view();
     let map = SymbolMap::build(rt.alloc(), &checked)?;
     let rows: [(&[u8], Option<u32>); 5] = [
         (b"one", Some(5)),
@@ -71,9 +72,10 @@ fn the_first_label_of_a_name_answers(rt: HostRuntime) -> Result<(), Fail> {
 
 #[test]
 fn without_labels_none_is_found(rt: HostRuntime) -> Result<(), Fail> {
-    let Ok(checked) = check(rt.alloc(), &EMPTY, None, None) else {
+    let Some(judged) = judge(rt.alloc(), &EMPTY, None, None)? else {
         panic!(rt; "it breaks no rule")
     };
+    let checked = judged.view();
     let map = SymbolMap::build(rt.alloc(), &checked)?;
     assert!(rt; checked.labels().next().is_none());
     match map.label(&checked, b"") {

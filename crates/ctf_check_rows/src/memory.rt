@@ -1,7 +1,7 @@
 //! Want of memory.
 //!
-//! With `rt try --test --fail-alloc N` these tests but the first hold for every N: they say what may
-//! then be answered. The first says that in ample memory nothing is answered Memory.
+//! With `rt try --test --fail-alloc N` these tests but the first hold for every N: they say what
+//! may then be answered. The first says that in ample memory nothing is answered Memory.
 
 use crate::inputs::{INT, alone, changed, fault_of};
 use ctf_model::Fault;

@@ -1,7 +1,7 @@
 //! Symbols that are looked up by their names.
 
+use crate::inputs::judge;
 use crate::symbols::{STRS, over, program, symbol};
-use ctf_check::check;
 use ctf_model::{Fault, SymbolClass};
 use ctf_symbols::{NamedSymbol, SymbolMap};
 use std::alloc::{AllocError, Global};
@@ -37,9 +37,10 @@ fn finds_the_first_of_a_name(rt: HostRuntime) -> Result<(), Fail> {
     let mut strs = Vec::from_slice(rt.alloc(), STRS)?;
     strs.extend_from_slice(b"_END_\0b\0")?;
     let ctf = over(rt.alloc(), 0, b"\x01\0\0\0")?;
-    let Ok(checked) = check(rt.alloc(), &ctf, Some(&sym), Some(&strs)) else {
+    let Some(judged) = judge(rt.alloc(), &ctf, Some(&sym), Some(&strs))? else {
         panic!(rt; "it breaks no rule")
     };
+    let checked = judged.view();
     let map = SymbolMap::build(rt.alloc(), &checked)?;
     let rows: [(&[u8], Option<NamedSymbol>); 9] = [
         (b"b", object(4)),
@@ -61,9 +62,10 @@ fn finds_the_first_of_a_name(rt: HostRuntime) -> Result<(), Fail> {
         }
     }
     // without its strings no symbol has a name
-    let Ok(nameless) = check(rt.alloc(), &ctf, Some(&sym), None) else {
+    let Some(judged) = judge(rt.alloc(), &ctf, Some(&sym), None)? else {
         panic!(rt; "it breaks no rule")
     };
+    let nameless = judged.view();
     let map = SymbolMap::build(rt.alloc(), &nameless)?;
     assert!(rt; map.named(&nameless, b"b") == None);
     Ok(())
@@ -109,9 +111,10 @@ fn put_digits(text: &mut Vec<u8>, number: u32) -> Result<(), AllocError> {
 fn hostile_names_are_found(rt: HostRuntime) -> Result<(), Fail> {
     let (sym, strs) = hostile(rt.alloc())?;
     let ctf = over(rt.alloc(), 0, b"\x01\0\0\0")?;
-    let Ok(checked) = check(rt.alloc(), &ctf, Some(&sym), Some(&strs)) else {
+    let Some(judged) = judge(rt.alloc(), &ctf, Some(&sym), Some(&strs))? else {
         panic!(rt; "it breaks no rule")
     };
+    let checked = judged.view();
     let map = SymbolMap::build(rt.alloc(), &checked)?;
     for (length, number) in [(1, 9_999), (4_321, 5_679), (10_000, 0)] {
         let name = Vec::from_elem(rt.alloc(), b'a', length)?;

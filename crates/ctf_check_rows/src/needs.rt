@@ -1,16 +1,15 @@
 //! Which types of its parent a child needs.
 
-use crate::inputs::{dictionary, put_head};
-use ctf_check::check;
+use crate::inputs::{dictionary, judge, put_head};
 use std::alloc::{AllocError, Global};
 use std::test::Fail;
 
 /// What a dictionary of records without names needs, if it breaks no rule.
 fn needs_of(alloc: Global, parname: u32, types: &[u8]) -> Result<Option<u16>, AllocError> {
     let ctf = dictionary(alloc, parname, types, b"\x00p\x00")?;
-    match check(alloc, &ctf, None, None) {
-        Ok(checked) => Ok(Some(checked.needs())),
-        Err(_) => Ok(None),
+    match judge(alloc, &ctf, None, None)? {
+        Some(judged) => Ok(Some(judged.view().needs())),
+        None => Ok(None),
     }
 }
 

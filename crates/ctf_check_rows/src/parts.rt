@@ -1,7 +1,6 @@
 //! What stands behind the heads of types.
 
-use crate::inputs::dictionary;
-use ctf_check::check;
+use crate::inputs::{dictionary, judge};
 use ctf_views::Variant;
 use std::test::Fail;
 
@@ -49,9 +48,10 @@ fn part_of(variant: Variant<'_>) -> (&'static str, usize) {
 #[test]
 fn shows_the_sorts_of_other_kinds(rt: HostRuntime) -> Result<(), Fail> {
     let ctf = dictionary(rt.alloc(), 0, OTHERS, b"\x00A\x00")?;
-    let Ok(checked) = check(rt.alloc(), &ctf, None, None) else {
+    let Some(judged) = judge(rt.alloc(), &ctf, None, None)? else {
         panic!(rt; "it breaks no rule")
     };
+    let checked = judged.view();
     for (i, want) in SORTS.into_iter().enumerate() {
         let Some(record) = checked.term(i + 1) else {
             panic!(rt; "the type is there")

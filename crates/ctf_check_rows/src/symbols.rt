@@ -1,8 +1,7 @@
 //! The rules of symbols, and what is told of them.
 
 use crate::framed;
-use crate::inputs::EMPTY;
-use ctf_check::check;
+use crate::inputs::{EMPTY, judge};
 use ctf_entries::{Entries, Entry, Told};
 use ctf_symbols::{SymbolMap, symbol_name};
 use std::alloc::{AllocError, Global};
@@ -86,9 +85,10 @@ fn tells_entries(rt: HostRuntime) -> Result<(), Fail> {
     ];
     for (sections, of_function) in rows {
         let ctf = over(rt.alloc(), 0, sections)?;
-        let Ok(checked) = check(rt.alloc(), &ctf, Some(&sym), Some(STRS)) else {
+        let Some(judged) = judge(rt.alloc(), &ctf, Some(&sym), Some(STRS))? else {
             panic!(rt; "it breaks no rule")
         };
+        let checked = judged.view();
         let mut entries = checked.entries();
         assert!(rt; entries.next().map(told) == Some((4, b"b".as_slice(), false, Some((1, 0, 0)))));
         assert!(rt; entries.next().map(told) == Some((5, b"c".as_slice(), false, None)));
@@ -102,9 +102,10 @@ fn tells_entries(rt: HostRuntime) -> Result<(), Fail> {
 fn answers_by_number(rt: HostRuntime) -> Result<(), Fail> {
     let sym = program(rt.alloc())?;
     let ctf = over(rt.alloc(), 0, b"\x01\0\x01\x28\x01\0\0\0")?;
-    let Ok(checked) = check(rt.alloc(), &ctf, Some(&sym), Some(STRS)) else {
+    let Some(judged) = judge(rt.alloc(), &ctf, Some(&sym), Some(STRS))? else {
         panic!(rt; "it breaks no rule")
     };
+    let checked = judged.view();
     let map = SymbolMap::build(rt.alloc(), &checked)?;
     let objects = [35, 37, 37, 37, 0, 37, 35, 34];
     let functions = [36, 36, 36, 36, 36, 36, 0, 34];
@@ -142,15 +143,16 @@ fn entries_need_types(rt: HostRuntime) -> Result<(), Fail> {
     ];
     for (sections, want) in rows {
         let ctf = over(rt.alloc(), 1, sections)?;
-        let Ok(checked) = check(rt.alloc(), &ctf, Some(&sym), Some(STRS)) else {
+        let Some(judged) = judge(rt.alloc(), &ctf, Some(&sym), Some(STRS))? else {
             panic!(rt; "it breaks no rule")
         };
+        let checked = judged.view();
         assert!(rt; checked.needs() == want, "at {sections:?}");
         // without its symbols it needs none
-        let Ok(alone) = check(rt.alloc(), &ctf, None, Some(STRS)) else {
+        let Some(alone) = judge(rt.alloc(), &ctf, None, Some(STRS))? else {
             panic!(rt; "it breaks no rule")
         };
-        assert!(rt; alone.needs() == 0);
+        assert!(rt; alone.view().needs() == 0);
     }
     Ok(())
 }
@@ -179,17 +181,19 @@ fn long_names_are_not_read(rt: HostRuntime) -> Result<(), Fail> {
     let mut strs = Vec::from_elem(rt.alloc(), b'a', 16_777_216)?;
     let ctf = over(rt.alloc(), 0, b"\x01\0\0\0")?;
     // no name ends: no symbol is considered
-    let Ok(checked) = check(rt.alloc(), &ctf, Some(&sym), Some(&strs)) else {
+    let Some(judged) = judge(rt.alloc(), &ctf, Some(&sym), Some(&strs))? else {
         panic!(rt; "it breaks no rule")
     };
+    let checked = judged.view();
     assert!(rt; checked.entries().next().is_none());
     // all end with the last byte: the first symbol has the one entry
     if let Some(last) = strs.last_mut() {
         *last = 0;
     }
-    let Ok(checked) = check(rt.alloc(), &ctf, Some(&sym), Some(&strs)) else {
+    let Some(judged) = judge(rt.alloc(), &ctf, Some(&sym), Some(&strs))? else {
         panic!(rt; "it breaks no rule")
     };
+    let checked = judged.view();
     assert!(rt; counted(checked.entries()) == 100_000);
     let Some(first) = checked.entries().next() else {
         panic!(rt; "the first symbol is considered")

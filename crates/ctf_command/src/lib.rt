@@ -9,7 +9,7 @@ mod status;
 mod wanted;
 
 pub use ctf_dump::{DumpEnd, InputFile, Inputs, dump_lists};
-pub use ctf_model::DataModel;
+pub use ctf_model::{Bytes, DataModel};
 pub use ctf_wire::{Broker, FromReader, RunFault, ToWriter, serve};
 pub use files::read_file;
 pub use models::model_named;

@@ -17,15 +17,15 @@ use Rattle.ctf_model.specs.declared.faults.Fault.{Fault}
 -- ---- what is dumped
 
 abbrev pub bytes_of : Option InputFile → Option (List ℕ)
-bytes_of file = option_map (λ f. f.bytes.now) file
+bytes_of file = option_map (λ f. f.bytes) file
 
 -- the dictionary, with the symbols and strings of its program
 abbrev pub own_lists : Inputs → Lists
-own_lists i = record { ctf = i.ctf.bytes.now; sym = bytes_of i.sym; strs = bytes_of i.str }
+own_lists i = record { ctf = i.ctf.bytes; sym = bytes_of i.sym; strs = bytes_of i.str }
 
 -- a parent, which is handed in by itself
 abbrev pub parent_lists : InputFile → Lists
-parent_lists f = record { ctf = f.bytes.now; sym = None; strs = None }
+parent_lists f = record { ctf = f.bytes; sym = None; strs = None }
 
 -- No file tells its data model: one is handed in beside the files, for all of them.
 -- So no parent is of another than its child.

@@ -1,24 +1,21 @@
 //! A dump of files that were read: they are judged, and then dumped.
 ghost use Rattle.std.specs.Prelude.{◌≡◌, ◌⊎◌, IfOk, IfErr, OnOk, None, Some};
+ghost use Rattle.std.specs.Option.{option_map};
 ghost use Rattle.std.specs.Io.KnownBytes.{Appends, Keeps};
-ghost use Rattle.ctf_chains.specs.Starts.{starts_in};
-ghost use Rattle.ctf_check.specs.CheckedView.{lists_of};
-ghost use Rattle.ctf_check.specs.ListsView.{lists_in};
 ghost use Rattle.ctf_dump.specs.Progress.{HasBegun};
-ghost use Rattle.ctf_dump.specs.Refused.{EndsBy, MayAnswer, RefusedBy};
-ghost use Rattle.ctf_dump.specs.Refused.{in_file, over, own_lists, parent_lists, refusal, space_in, status_after};
+ghost use Rattle.ctf_dump.specs.Refused.{EndsBy, MayAnswer, RefusedBy, bytes_of, in_file, refusal, space_in, status_after};
 ghost use Rattle.ctf_model.specs.dumps.Dump.{dump as text_of};
-ghost use Rattle.ctf_model.specs.rules.Faults.{first_fault, types as types_of};
+ghost use Rattle.ctf_model.specs.rules.Faults.{first_fault};
 ghost use Rattle.ctf_model.specs.rules.Refusals.{want_of_memory};
+ghost use Rattle.ctf_model.specs.spaces.Kept.{fault_over, kept_space};
 ghost use Rattle.ctf_space.specs.SpaceView.{space_of};
 
 use crate::dumping::dump;
 use crate::ends::{DONE, DumpEnd};
 use crate::inputs::{InputFile, Inputs};
-use ctf_chains::Starts;
-use ctf_check::{Checked, LentLists, check};
+use ctf_check::Judged;
 use ctf_layout::Layout;
-use ctf_model::Fault;
+use ctf_model::{Bytes, DataModel, Fault, Parts};
 use ctf_space::Space;
 use std::alloc::Global;
 use std::io::Write;
@@ -35,20 +32,40 @@ fn refused(file: &str, fault: Fault) -> DumpEnd<'_>
     }
 }
 
-/// Where the types of the dictionary in a file begin, if it breaks no rule.
+/// The bytes of a file, if it is there.
+fn bytes(file: Option<InputFile<'_>>) -> Option<Bytes>
+    ensures { result ≡ bytes_of file.entry }
+{
+    match file {
+        Some(file) => Some(file.bytes),
+        None => None,
+    }
+}
+
+/// Judges the dictionary in a file, with the symbols and strings of its program.
 fn judged<'a>(
     alloc: Global,
     file: InputFile<'a>,
-    lists: LentLists<'_>,
-) -> Result<Starts, DumpEnd<'a>>
-    ensures starts { IfOk result (λ s. s ≡ starts_in (types_of lists.entry.ctf.now)) }
-    ensures exact_ok { OnOk result (first_fault (lists_in lists.entry) ≡ None) }
-    ensures exact_err { IfErr result (λ e. RefusedBy
-        (in_file file.entry (first_fault (lists_in lists.entry))) e) }
+    sym: Option<InputFile<'_>>,
+    strs: Option<InputFile<'_>>,
+) -> Result<Judged, DumpEnd<'a>>
+    ensures ok { IfOk result (λ j. j
+        ≡ record { ctf = file.entry.bytes; sym = bytes_of sym.entry; strs = bytes_of strs.entry }) }
+    ensures exact_ok { OnOk result (first_fault
+        (record { ctf = file.entry.bytes; sym = bytes_of sym.entry; strs = bytes_of strs.entry })
+        ≡ None) }
+    ensures exact_err { IfErr result (λ e. RefusedBy (in_file file.entry (first_fault
+        (record { ctf = file.entry.bytes; sym = bytes_of sym.entry; strs = bytes_of strs.entry })))
+        e) }
 {
-    match check(alloc, lists.ctf, lists.sym, lists.strs) {
-        Ok(dictionary) => Ok(dictionary.starts(alloc)?),
-        Err(fault) => Err(refused(file.name, fault)),
+    let parts = Parts {
+        ctf: file.bytes,
+        sym: bytes(sym),
+        strs: bytes(strs),
+    };
+    match Judged::build(alloc, parts) {
+        Ok(judged) => Ok(judged),
+        Err((fault, _)) => Err(refused(file.name, fault)),
     }
 }
 
@@ -72,54 +89,67 @@ fn dump_space<'a, W: Write>(
     }
 }
 
-/// Dumps a dictionary that breaks no rule over its parent, unless that is refused.
+/// Dumps the dictionary of a file over its parent, unless that is refused.
 fn dump_over<'a, W: Write>(
     alloc: Global,
-    inputs: &Inputs<'a>,
-    own: Checked<'_>,
-    parent: InputFile<'a>,
+    name: &'a str,
+    own: &Judged,
+    parent: &Judged,
+    model: DataModel,
     out: &mut W,
 ) -> Result<(), DumpEnd<'a>>
-    requires own { lists_of own ≡ own_lists inputs.now }
-    requires parent { inputs.now.parent ≡ Some parent }
     ensures written { OnOk result (Appends (W.contents out.old) (W.contents out.new)
-        (text_of (space_in inputs.now))) }
-    ensures exact_ok { OnOk result (over inputs.now (Some parent.entry) ≡ None) }
-    ensures exact_err { IfErr result (λ e. EndsBy (over inputs.now (Some parent.entry)) e) }
+        (text_of (kept_space (record { lists = own.now; model = model })
+        (Some (record { lists = parent.now; model = model }))))) }
+    ensures exact_ok { OnOk result (fault_over (record { lists = own.now; model = model })
+        (record { lists = parent.now; model = model }) ≡ None) }
+    ensures exact_err { IfErr result (λ e. EndsBy
+        (option_map (λ x. record { file = name.now; fault = x })
+        (fault_over (record { lists = own.now; model = model })
+        (record { lists = parent.now; model = model }))) e) }
     ensures quiet { IfErr result (λ e. status_after e ≡ 1
         → Keeps (W.contents out.old) (W.contents out.new)) }
     ensures begun { IfErr result (λ e. e ≡ DumpEnd.Memory
-        → HasBegun (W.contents out.old) (W.contents out.new) (text_of (space_in inputs.now))) }
+        → HasBegun (W.contents out.old) (W.contents out.new)
+        (text_of (kept_space (record { lists = own.now; model = model })
+        (Some (record { lists = parent.now; model = model }))))) }
 {
-    let starts = judged(alloc, parent, parent.lists())?;
-    let dictionary = Checked::indexed(parent.lists(), starts.as_slice());
-    match Space::over(own, inputs.model, dictionary, inputs.model) {
+    match Space::over(own.view(), model, parent.view(), model) {
         Ok(space) => dump_space(alloc, &space, out),
-        Err(fault) => Err(DumpEnd::Refused(inputs.ctf.name, fault)),
+        Err(fault) => Err(DumpEnd::Refused(name, fault)),
     }
 }
 
 /// Dumps the files, unless one of them is refused.
 fn dump_inputs<'a, W: Write>(
     alloc: Global,
-    inputs: &Inputs<'a>,
+    inputs: Inputs<'a>,
     out: &mut W,
 ) -> Result<(), DumpEnd<'a>>
     ensures written { OnOk result (Appends (W.contents out.old) (W.contents out.new)
-        (text_of (space_in inputs.now))) }
-    ensures exact_ok { OnOk result (refusal inputs.now ≡ None) }
-    ensures exact_err { IfErr result (λ e. EndsBy (refusal inputs.now) e) }
+        (text_of (space_in inputs.entry))) }
+    ensures exact_ok { OnOk result (refusal inputs.entry ≡ None) }
+    ensures exact_err { IfErr result (λ e. EndsBy (refusal inputs.entry) e) }
     ensures quiet { IfErr result (λ e. status_after e ≡ 1
         → Keeps (W.contents out.old) (W.contents out.new)) }
     ensures begun { IfErr result (λ e. e ≡ DumpEnd.Memory
-        → HasBegun (W.contents out.old) (W.contents out.new) (text_of (space_in inputs.now))) }
+        → HasBegun (W.contents out.old) (W.contents out.new) (text_of (space_in inputs.entry))) }
 {
-    let lists = inputs.lists();
-    let starts = judged(alloc, inputs.ctf, lists)?;
-    let own = Checked::indexed(lists, starts.as_slice());
-    match inputs.parent {
-        None => dump_space(alloc, &Space::own(own, inputs.model), out),
-        Some(parent) => dump_over(alloc, inputs, own, parent, out),
+    let Inputs {
+        ctf,
+        parent,
+        sym,
+        str,
+        model,
+    } = inputs;
+    let name = ctf.name;
+    let own = judged(alloc, ctf, sym, str)?;
+    match parent {
+        None => dump_space(alloc, &Space::own(own.view(), model), out),
+        Some(file) => {
+            let parent = judged(alloc, file, None, None)?;
+            dump_over(alloc, name, &own, &parent, model, out)
+        }
     }
 }
 
@@ -127,18 +157,18 @@ fn dump_inputs<'a, W: Write>(
 /// exit status of a program that does so.
 pub fn dump_lists<W: Write, E: Write>(
     alloc: Global,
-    inputs: &Inputs<'_>,
+    inputs: Inputs<'_>,
     out: &mut W,
     err: &mut E,
 ) -> u8
-    ensures status { MayAnswer (refusal inputs.now) result }
+    ensures status { MayAnswer (refusal inputs.entry) result }
     ensures written { result ≡ 0 → Appends (W.contents out.old) (W.contents out.new)
-        (text_of (space_in inputs.now)) }
+        (text_of (space_in inputs.entry)) }
     // A file that is refused is not dumped.
     ensures quiet { result ≡ 1 → Keeps (W.contents out.old) (W.contents out.new) }
     // Without memory the text breaks off.
     ensures begun { result ≡ 4 → HasBegun (W.contents out.old) (W.contents out.new)
-        (text_of (space_in inputs.now)) }
+        (text_of (space_in inputs.entry)) }
 {
     match dump_inputs(alloc, inputs, out) {
         Ok(()) => DONE,

@@ -51,7 +51,7 @@ replaced_alike d n body = at (pending_place d n) (space_type (space_of d) n)
     at None (Ok x) = record { parent = refl; model = refl }
     at None (Err f) = record { parent = refl; model = refl }
 
-type_alike : (d : Draft) (x : NewType) (a : Added) → add_type d x ≡ Ok a → AreAlike d a.draft
+pub type_alike : (d : Draft) (x : NewType) (a : Added) → add_type d x ≡ Ok a → AreAlike d a.draft
 unfolding add_type
 type_alike d x a e =
     let done = unless_ok (first_met (against_type d (new_term x))) (Ok (record { draft = with_type d (new_term x); answer = next_number d })) a e in
@@ -63,7 +63,7 @@ put_alike d n m bits a e =
     let done = unless_ok (first_met (against_place m.offset (size_with d n m.offset bits))) (Ok b) a e in
     added_alike d b a (replaced_alike d n (with_member m (size_with d n m.offset bits) (body_at d n))) done
 
-member_alike : (d : Draft) (n : ℕ) (name : List ℕ) (tnum : ℕ) (offset : Option ℕ) (a : Added) → add_member d n name tnum offset ≡ Ok a → AreAlike d a.draft
+pub member_alike : (d : Draft) (n : ℕ) (name : List ℕ) (tnum : ℕ) (offset : Option ℕ) (a : Added) → add_member d n name tnum offset ≡ Ok a → AreAlike d a.draft
 unfolding add_member
 member_alike d n name tnum offset a e =
     let placed = unless_ok (first_met (against_member d n name tnum)) _ a e in
@@ -71,14 +71,14 @@ member_alike d n name tnum offset a e =
     let place = then_ok (member_place (space_of d) (body_at d n) tnum offset) _ a bits.1 in
     put_alike d n (record { name = name; tnum = tnum; offset = place.0 }) bits.0 a place.1
 
-enumerator_alike : (d : Draft) (n : ℕ) (x : Enumerator) (a : Draft) → add_enumerator d n x ≡ Ok a → AreAlike d a
+pub enumerator_alike : (d : Draft) (n : ℕ) (x : Enumerator) (a : Draft) → add_enumerator d n x ≡ Ok a → AreAlike d a
 unfolding add_enumerator
 enumerator_alike d n x a e =
     let b : Draft = replaced d n (with_enumerator x (body_at d n)) in
     let done = unless_ok (first_met (against_enumerator d n x.name)) (Ok b) a e in
     draft_alike d b a (replaced_alike d n (with_enumerator x (body_at d n))) done
 
-label_alike : (d : Draft) (x : Label) (a : Draft) → add_label d x ≡ Ok a → AreAlike d a
+pub label_alike : (d : Draft) (x : Label) (a : Draft) → add_label d x ≡ Ok a → AreAlike d a
 unfolding add_label
 label_alike d x a e =
     let done = unless_ok (first_met (against_label d x.name)) (Ok (with_label d x)) a e in

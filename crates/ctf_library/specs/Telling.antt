@@ -1,9 +1,10 @@
 -- What is told of a type, and which questions take memory. The words are ours.
-use Rattle.std.specs.Prelude.{◌≡◌, ℕ, Bool, true, false}
+use Rattle.std.specs.Prelude.{◌≡◌, ℕ, Bool, true, false, Result}
 use Rattle.ctf_library.specs.declared.answering.Told.{Told}
 use Rattle.ctf_library.specs.declared.answering.Told.TheVariants.{Lent, Name, Value}
-use Rattle.ctf_protocol.specs.answers.Questions.{said_on}
-use Rattle.ctf_model.specs.format.Shown.{Facts}
+use Rattle.ctf_protocol.specs.answers.Questions.{said_of}
+use Rattle.ctf_model.specs.declared.faults.Fault.{Fault}
+use Rattle.ctf_model.specs.format.Term.{Term}
 use Rattle.ctf_model.specs.spaces.Space.{Space}
 use Rattle.ctf_protocol.specs.declared.questions.Question.{Question}
 use Rattle.ctf_protocol.specs.declared.questions.Question.TheVariants.{OfType, OfSlot, OfHeld}
@@ -11,9 +12,9 @@ use Rattle.ctf_protocol.specs.declared.questions.PlainQuestion.TheVariants as pl
 use Rattle.ctf_protocol.specs.declared.questions.TypeQuestion.{TypeQuestion}
 use Rattle.ctf_protocol.specs.declared.questions.TypeQuestion.TheVariants as about
 
--- a question is answered so, or asks for this text
-abbrev pub IsTold : TypeQuestion → Space → ℕ → Facts → Told → Type 0
-IsTold question s t x (Lent answer) = answer ≡ said_on question s t x
+-- a question is answered so of what a number names, or asks for this text
+abbrev pub IsTold : TypeQuestion → Space → ℕ → Result Term Fault → Told → Type 0
+IsTold question s t x (Lent answer) = answer ≡ said_of question s t x
 IsTold question s t x Name = question ≡ about.Plain plain.Name
 IsTold question s t x (Value memory offset) = question ≡ about.Show memory.now offset
 

@@ -2,8 +2,8 @@
 ghost use Rattle.std.specs.Prelude.{◌≡◌, ◌≤◌, [], ◌∷◌, codes, length, map, take, true, false, None, Some, Ok, Err, IfOk, IfSome, IfNone, IsNone, option_map, option_and_then};
 ghost use Rattle.ctf_protocol.specs.answers.Answers.{number, says, word};
 ghost use Rattle.ctf_model.specs.names.KindNames.{name_of_kind, name_of_tag};
-ghost use Rattle.ctf_protocol.specs.answers.Questions.{or_wrong_kind, list_fields, plain_said, said_on, type_said, record_fields, member_fields, enumerator_fields, argument_fields, array_fields, encoding_fields, as_fields, type_fields, name_fields, position_fields, value_fields, number_item};
-ghost use Rattle.ctf_model.specs.format.Shown.{members_in, enumerators_in, arguments_in, array_in, encoding_in, list_length, named_arguments};
+ghost use Rattle.ctf_protocol.specs.answers.Questions.{or_wrong_kind, list_fields, said_of, type_said, record_fields, member_fields, enumerator_fields, argument_fields, array_fields, encoding_fields, as_fields, type_fields, name_fields, position_fields, value_fields, number_item};
+ghost use Rattle.ctf_model.specs.format.Shown.{kind_of, members_in, enumerators_in, arguments_in, array_in, encoding_in, list_length, named_arguments};
 ghost use Rattle.ctf_protocol.specs.sessions.Steps.{is_quiet, is_quiet_on, slot_said, slot_space, MayAnswer};
 ghost use Rattle.ctf_model.specs.names.TypeNames.{spelled_name};
 ghost use Rattle.ctf_model.specs.values.Values.{value_text};
@@ -14,17 +14,20 @@ ghost use Rattle.ctf_library.specs.Fitting.{AreTablesOf, Serve};
 ghost use Rattle.ctf_layout.specs.Reached.{position_of};
 ghost use Rattle.ctf_answers.specs.Items.{items_of};
 ghost use Rattle.ctf_answers.specs.Singles.{single_of};
-ghost use Rattle.ctf_check.specs.FactsView.{facts_seen};
+ghost use Rattle.ctf_check.specs.FactsView.{facts_seen, shape_seen};
+ghost use Rattle.ctf_check.specs.TypedView.{spelled};
 ghost use Rattle.ctf_records.specs.RecordView.{tag_of};
 ghost use Rattle.ctf_views.specs.VariantView.{seen};
 ghost use Rattle.ctf_space.specs.SpaceView.{own_lists, parent_lists, space_of};
 ghost use Rattle.ctf_protocol.specs.declared.questions.PlainQuestion.TheVariants as plain;
+ghost use Rattle.ctf_protocol.specs.declared.questions.TypeQuestion.TheVariants as about;
+ghost use Rattle.ctf_model.specs.spaces.TypeNumbers.{or_no_type};
 
 use crate::slots::Slot;
 use crate::tables::Tables;
 use crate::whole::whole_answer;
 use ctf_answers::{Answer, Items, Listed, RecordTold, Single, kind_name};
-use ctf_check::Facts;
+use ctf_check::{Facts, Shape, Typed};
 use ctf_layout::{Layout, path, referred, resolve};
 use ctf_names::{pointer_to, spell};
 use ctf_print::show;
@@ -93,12 +96,12 @@ pub(crate) fn signed<'a>(args: Args<'a>, ret: TypeNum) -> Answer<'a>
     )
 }
 
-fn arguments<'a>(behind: Variant<'a>, returned: Option<TypeNum>) -> Result<Answer<'a>, Fault>
-    ensures { let args = arguments_in (seen behind.entry) in result ≡ or_wrong_kind
-        (option_and_then (λ ret. option_map (argument_fields ret) args)
-        (option_map (λ t. t.0) returned)) }
+fn arguments<'a>(x: Shape<'a>) -> Result<Answer<'a>, Fault>
+    ensures { let said = shape_seen x.entry in let args = arguments_in said.behind in
+        result ≡ or_wrong_kind
+        (option_and_then (λ ret. option_map (argument_fields ret) args) said.reference) }
 {
-    match (behind, returned) {
+    match (x.behind, x.reference) {
         (Variant::Args(args), Some(ret)) => Ok(signed(args, ret)),
         _ => Err(placeless(Fault::WRONG_KIND)),
     }
@@ -198,7 +201,7 @@ fn record_of<'a>(x: Facts<'a>) -> Answer<'a>
     })
 }
 
-fn kind<'a>(kind: Kind) -> Answer<'a>
+fn kind_answer<'a>(kind: Kind) -> Answer<'a>
     ensures { result ≡ says (codes "kind") (word (name_of_kind kind)) ∷ [] }
 {
     Answer::one("kind", Single::Word(kind_name(kind)))
@@ -243,26 +246,29 @@ pub(crate) enum Told<'a, 'q> {
 }
 
 /// What a question that brings no more than the type is answered of one that a number names, and
-/// that says this of itself; none where a text is to be made of its name.
+/// that is of a kind; none where a text is to be made of its name. It reads no more of the type
+/// than it answers.
 fn plain_answer<'a>(
-    x: Facts<'a>,
+    x: &Typed<'a>,
+    kind: Kind,
     space: &Space<'a>,
     tables: &Tables,
     t: TypeNum,
     question: PlainQuestion,
 ) -> Option<Result<Answer<'a>, Fault>>
-    requires { Serve space.now tables.now }
+    requires kind { option_map (λ x. kind_of x.body) (spelled x.now) ≡ Some kind }
+    requires tables { Serve space.now tables.now }
     ensures some { IfSome result (λ answer. answer
-        ≡ plain_said question (space_of space.now) t.0 (facts_seen x.entry)) }
+        ≡ said_of (about.Plain question) (space_of space.now) t.0 (or_no_type (spelled x.now))) }
     ensures none { IfNone result (question ≡ plain.Name) }
 {
     match question {
-        PlainQuestion::Kind => Some(Ok(kind(x.shape.kind))),
-        PlainQuestion::Record => Some(Ok(record_of(x))),
-        PlainQuestion::Args => Some(arguments(x.shape.behind, x.shape.reference)),
-        PlainQuestion::Array => Some(array(x.shape.behind)),
-        PlainQuestion::Encoding => Some(encoding(x.shape.behind)),
-        PlainQuestion::Reference => Some(type_answer(referred(x.shape))),
+        PlainQuestion::Kind => Some(Ok(kind_answer(kind))),
+        PlainQuestion::Record => Some(Ok(record_of(x.facts()))),
+        PlainQuestion::Args => Some(arguments(x.shape())),
+        PlainQuestion::Array => Some(array(x.variant())),
+        PlainQuestion::Encoding => Some(encoding(x.variant())),
+        PlainQuestion::Reference => Some(type_answer(referred(x.shape()))),
         PlainQuestion::Resolve => Some(type_answer(resolve(space, t))),
         PlainQuestion::Size => Some(number_answer("size", tables.layout.size(t))),
         PlainQuestion::Align => Some(number_answer("align", tables.layout.align(t))),
@@ -271,24 +277,26 @@ fn plain_answer<'a>(
     }
 }
 
-/// What a question tells of a type that a number names, and that says this of itself.
+/// What a question tells of a type that a number names, and that is of a kind.
 fn tell<'a, 'q>(
-    x: Facts<'a>,
+    x: &Typed<'a>,
+    kind: Kind,
     space: &Space<'a>,
     tables: &Tables,
     t: TypeNum,
     question: &'q TypeQuestion,
 ) -> Told<'a, 'q>
-    requires { Serve space.now tables.now }
-    ensures { IsTold question.now (space_of space.now) t.0 (facts_seen x.entry) result }
+    requires kind { option_map (λ x. kind_of x.body) (spelled x.now) ≡ Some kind }
+    requires tables { Serve space.now tables.now }
+    ensures { IsTold question.now (space_of space.now) t.0 (or_no_type (spelled x.now)) result }
 {
     match question {
-        TypeQuestion::Plain(question) => match plain_answer(x, space, tables, t, *question) {
+        TypeQuestion::Plain(question) => match plain_answer(x, kind, space, tables, t, *question) {
             Some(answer) => Told::Lent(answer),
             None => Told::Name,
         },
-        TypeQuestion::Members(window) => Told::Lent(members(x.shape.behind, *window)),
-        TypeQuestion::Enumerators(window) => Told::Lent(enumerators(x.shape.behind, *window)),
+        TypeQuestion::Members(window) => Told::Lent(members(x.variant(), *window)),
+        TypeQuestion::Enumerators(window) => Told::Lent(enumerators(x.variant(), *window)),
         TypeQuestion::Path(names) => Told::Lent(position_answer(path(space, t, names.as_slice()))),
         TypeQuestion::Show { memory, offset } => Told::Value {
             memory: memory.as_slice(),
@@ -317,7 +325,7 @@ fn answer_on<'a>(
         Ok(found) => found,
         Err(fault) => return Err(fault),
     };
-    match tell(found.facts(), space, tables, t, question) {
+    match tell(&found, found.kind(), space, tables, t, question) {
         Told::Lent(answer) => answer,
         Told::Name => name(alloc, space, t),
         Told::Value { memory, offset } => value(alloc, space, &tables.layout, t, memory, offset),

@@ -12,9 +12,8 @@ ghost use Rattle.ctf_protocol.specs.sessions.Steps.{quota};
 use crate::loaded::Loaded;
 use crate::publications::Publication;
 use crate::slots::Slot;
-use ctf_check::LentLists;
+use ctf_check::{LentLists, lent};
 use ctf_protocol::Parts;
-use ctf_space::lent;
 
 /// The greatest charge that a request may leave a library with.
 const QUOTA: u128 = 268_435_456;

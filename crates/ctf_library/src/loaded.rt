@@ -106,8 +106,8 @@ impl Loaded {
         Ok(Loaded { dictionary, beside })
     }
 
-    /// The dictionary, to be kept by a draft over it, or by its own draft.
-    pub(crate) fn opened(&self) -> Result<Rc<Opened>, AllocError>
+    /// The dictionary, shared once more, to be kept by a draft over it or by its own draft.
+    pub fn opened(&self) -> Result<Rc<Opened>, AllocError>
         ensures { IfOk result (λ o. o.value ≡ self.now) }
     {
         self.dictionary.clone()

@@ -97,8 +97,8 @@ pub fn set_parent(slots: &mut Vec<Slot>, number: u32, imported: Imported)
     }
 }
 
-/// Makes a step of the draft in the slot of a number, and counts what slots come to, beside what all
-/// else does. Want of memory changes nothing.
+/// Makes a step of the draft in the slot of a number, and counts what slots come to, beside what
+/// all else does. Want of memory changes nothing.
 pub fn step_draft(
     alloc: Global,
     slots: &mut Vec<Slot>,

@@ -8,9 +8,8 @@ ghost use Rattle.ctf_model.specs.format.OwnedLists.{lists_owned};
 ghost use Rattle.ctf_model.specs.rules.Refusals.{want_of_memory};
 
 use crate::loaded::Loaded;
-use ctf_check::LentLists;
+use ctf_check::{LentLists, lent};
 use ctf_protocol::{DataModel, Fault, Parts, placeless};
-use ctf_space::lent;
 use std::alloc::Global;
 use std::marker::Model;
 
@@ -80,8 +79,8 @@ impl Pool {
     /// The dictionary of lists, for programs of a data model, or their first fault with the lists,
     /// whatever is held.
     ///
-    /// A new dictionary is held from then on, and the oldest are not where it would be too many. One
-    /// that is too large is not held.
+    /// A new dictionary is held from then on, and the oldest are not where it would be too many.
+    /// One that is too large is not held.
     pub fn open(&mut self, parts: Parts, model: DataModel) -> Result<Loaded, (Fault, Parts)>
         ensures ok { IfOk result (λ l. l ≡ record { lists = lists_owned parts; model = model }) }
         ensures exact_ok { OnOk result (first_fault (lists_owned parts) ≡ None) }

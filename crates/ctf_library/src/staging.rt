@@ -7,9 +7,8 @@ ghost use Rattle.ctf_model.specs.rules.Refusals.{placeless, want_of_memory};
 ghost use Rattle.ctf_protocol.specs.sessions.Steps.{longest_list, staged};
 ghost use Rattle.ctf_model.specs.declared.faults.TheConstants.Fault.{STAGE_FULL};
 
-use ctf_check::check;
+use ctf_check::{check, lent};
 use ctf_protocol::{Bytes, Fault, ListName, Parts, placeless};
-use ctf_space::lent;
 use std::alloc::Global;
 
 /// The greatest length of a staged list, in bytes.

@@ -22,11 +22,13 @@ told text old = record { text = written_over text old.text; len = length text }
 abbrev pub IsNotOpen : ℕ → Told → Told → Type 0
 IsNotOpen status old new = (status ≡ 50) × (new ≡ old)
 
--- a service is open in which no session holds anything, or memory was refused and what was open stays
+-- a service is open in which no session holds anything, or memory was refused and what was open
+-- stays
 abbrev pub Begins : ℕ → Option Served → Option Served → Type 0
 Begins status old None = (status ≡ 1) × (old ≡ None)
 Begins status old (Some new) =
-    ((status ≡ 0) × (new.reply ≡ []) × ((session : ℕ) → library_at new.libraries session ≡ empty_state))
+    ((status ≡ 0) × (new.reply ≡ [])
+    × ((session : ℕ) → library_at new.libraries session ≡ empty_state))
     ⊎ ((status ≡ 1) × (old ≡ Some new))
 
 -- a line is answered: its reply is kept, and given as far as it fits

@@ -24,14 +24,23 @@ none_taken sheet = record {
   room = λ e. omega arith;
 }
 
-pub both_taken : (old mid new : Sheet) (a b : List ℕ) → TakesIn old a mid → TakesIn mid b new → TakesIn old (a ++ b) new
+pub both_taken : (old mid new : Sheet) (a b : List ℕ) → TakesIn old a mid → TakesIn mid b new
+    → TakesIn old (a ++ b) new
 both_taken old mid new a b first second = record {
   capacity = second.capacity ∙ first.capacity;
   behind = first.behind ++ second.behind;
-  kept = second.kept ∙ ap (λ (t : List ℕ). t ++ second.behind) first.kept ∙ append_assoc old.out.items first.behind second.behind;
-  len = let both = length-append first.behind second.behind in let one = first.len in let other = second.len in omega (arith, both, one, other);
+  kept =
+      second.kept ∙ ap (λ (t : List ℕ). t ++ second.behind) first.kept
+      ∙ append_assoc old.out.items first.behind second.behind;
+  len =
+      let both = length-append first.behind second.behind in
+      let one = first.len in
+      let other = second.len in
+      omega (arith, both, one, other);
   open_before = λ e. first.open_before (second.open_before e);
-  written = λ e. ap (λ (t : List ℕ). t ++ second.behind) (first.written (second.open_before e)) ∙ ap (λ (t : List ℕ). a ++ t) (second.written e);
+  written = λ e.
+      ap (λ (t : List ℕ). t ++ second.behind) (first.written (second.open_before e))
+      ∙ ap (λ (t : List ℕ). a ++ t) (second.written e);
   room = λ e.
       let both = length-append a b in
       let one = first.room (second.open_before e) in

@@ -102,6 +102,7 @@ ordered t tag terms items o has fits = record {
   has = record { inside = inside_of; all = all_of };
   named = fits.stands.named;
   sorted = fits.sorted;
+  ranked = fits.ranked;
 }
   where
     inside_of : (e : Entry) → Contains (entries_of o) e → is_entry_of t tag terms e ≡ true
@@ -124,6 +125,7 @@ fits_itself t tag terms o in_order = record {
     all = λ e text h is. any_to (is_early (name t) text e.item) (entries_of o) e (early (name t) text e.item e (omega arith) is) h;
   };
   sorted = in_order.sorted;
+  ranked = in_order.ranked;
 }
 
 -- ---- what is found

@@ -6,7 +6,7 @@ use Rattle.ctf_model.specs.format.Dictionary.{name_or_empty}
 use Rattle.ctf_model.specs.names.Found.{same_tag, tag_of}
 use Rattle.ctf_model.specs.format.Name.{Tables, name}
 use Rattle.ctf_model.specs.format.Term.{Tag, Term}
-use Rattle.ctf_order.specs.Holding.{entries_of, is_early, precedes}
+use Rattle.ctf_order.specs.Holding.{entries_of, is_early, precedes, AreRanked}
 use Rattle.ctf_order.specs.Names.{is_text}
 use Rattle.ctf_order.specs.declared.entries.Entry.{Entry}
 use Rattle.ctf_order.specs.declared.order.Order.{Order}
@@ -43,3 +43,4 @@ pub record AreInOrder (t : Tables) (tag : Option Tag) (terms : List Term) (o : O
   pub named : (e : Entry) → Contains (entries_of o) e
       → name t e.reference ≡ Some (name_or_empty t e.reference)
   pub sorted : IsSortedBy (precedes (name t)) (entries_of o)
+  pub ranked : AreRanked (name t) o

@@ -1,4 +1,5 @@
--- How long the parts of a declaration's text are that other layers are put round. The words are ours.
+-- How long the parts of a declaration's text are that other layers are put round. The words are
+-- ours.
 use Rattle.std.specs.Prelude.{ℕ, ◌+◌, false, List, [], ◌∷◌, length, min, Result, Ok, Err}
 use Rattle.std.specs.List.{flat_map}
 use Rattle.ctf_model.specs.names.TypeNames.{Declaration, past}

@@ -9,9 +9,11 @@ use Rattle.ctf_names.specs.declared.measures.Step.TheVariants.{End, Round}
 
 -- the declaration is found within that many layers, and no more of them change it
 pub record IsMeasured (s : Space) (n : ℕ) (m : Measured) : Type 0 where
-  pub same : (k : ℕ) → declaration_within s (suc (k + m.layers)) n ≡ declaration_within s (suc m.layers) n
+  pub same : (k : ℕ)
+      → declaration_within s (suc (k + m.layers)) n ≡ declaration_within s (suc m.layers) n
   pub right : measured (declaration_within s (suc m.layers) n) ≡ m.extent
 
 abbrev pub IsStep : Space → ℕ → Step → Type 0
 IsStep s n (End extent) = IsMeasured s n (record { layers = 0; extent = extent })
-IsStep s n (Round layer t) = (k : ℕ) → declaration_within s (suc k) n ≡ around layer (declaration_within s k t.0)
+IsStep s n (Round layer t) =
+    (k : ℕ) → declaration_within s (suc k) n ≡ around layer (declaration_within s k t.0)

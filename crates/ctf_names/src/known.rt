@@ -147,7 +147,8 @@ impl<'a> KnownNames<'a> {
         refused(layer, inside.extent)
     }
 
-    /// Appends the name of the type with a number, as C spells it. On a refusal nothing is appended.
+    /// Appends the name of the type with a number, as C spells it. On a refusal nothing is
+    /// appended.
     pub fn spell(&mut self, number: TypeNum, out: &mut Vec<u8>) -> Result<(), Fault>
         ensures exact_ok { OnOk result
             (added out.old.items (spelled_name self.old number.0) ≡ Ok out.new.items) }

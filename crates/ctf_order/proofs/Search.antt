@@ -1,49 +1,49 @@
 -- A search in items that stand in the order of their names finds the least of a name.
-use Rattle.std.proofs.Common.{◌≡◌, ◌⊎◌, inl, inr, ℕ, zero, suc, ◌<◌, ◌≤◌, ltb, Bool, true, false, List, [], ◌∷◌, length, get_or, drop, Option, Some, None, refl, sym, ap, ◌∙◌, arith}
+use Rattle.std.proofs.Common.{◌≡◌, ◌⊎◌, inl, inr, ℕ, zero, suc, ◌<◌, ◌≤◌, ltb, Bool, true, false, List, [], ◌∷◌, length, map, get_or, drop, Option, Some, None, refl, sym, ap, ◌∙◌, arith}
 use Rattle.std.specs.Prelude.{nat_le, ◌==◌, ◌&&◌, ◌||◌, MatchOption}
 use Rattle.std.specs.List.{list_any, Contains}
 use Rattle.std.specs.List.Sorted.{IsSortedBy, IsPartitionedBy}
-use Rattle.std.specs.Cmp.{IsStrictWeakOrder, nat_cmp_is}
-use Rattle.std.proofs.lemmas.Bool.{eqb-true, leb-true, ltb-true, ltb-false}
+use Rattle.std.specs.Cmp.{nat_cmp_is}
+use Rattle.std.proofs.lemmas.Bool.{eqb-true, leb-true, ltb-true, ltb-false, lt-ltb}
+use Rattle.std.proofs.lemmas.List.{get_or-map, length-map}
 use Rattle.std.proofs.lemmas.List.Elements.{Contains-get_or}
-use Rattle.std.specs.Ordering.{is_gt, is_lt, nat_cmp, ordering_reverse, ordering_then}
-use Rattle.std.specs.Str.{bytes_eq}
+use Rattle.std.specs.Ordering.{is_lt, nat_cmp, ordering_then}
 use Rattle.std.specs.declared.cmp.Ordering.{Ordering}
 use Rattle.std.specs.declared.cmp.Ordering.TheVariants.{Less, Equal, Greater}
-use Rattle.std.proofs.lemmas.Cmp.{then_total, nat_cmp_total, on_total}
-use Rattle.std.proofs.lemmas.List.MinMax.{ranks_by}
 use Rattle.std.proofs.lemmas.List.Sorted.{sorted_far}
 use Rattle.std.proofs.lemmas.Slice.Eq.{bytes_eq-Decides}
 use Rattle.ctf_order.specs.Naming.{Naming, name_or_empty}
 use Rattle.ctf_order.specs.Holding.{is_early, precedes, same_entry, IsFound, IsNamed, Stands}
-use Rattle.ctf_order.specs.Names.{by_front, compared, is_text}
+use Rattle.ctf_order.specs.Names.{is_text, rank}
 use Rattle.ctf_order.specs.Searching.{first_of}
 use Rattle.ctf_order.specs.declared.entries.Entry.{Entry}
-use Rattle.ctf_order.proofs.Ranks.{names_total}
+use Rattle.ctf_order.specs.declared.entries.Ranked.{Ranked}
+use Rattle.ctf_order.proofs.Lent.{entry_in}
+use Rattle.ctf_order.proofs.Ranks.{precedes_ranks}
 
 -- ---- the order
 
 abbrev pub called : Naming → Entry → List ℕ
 called t e = name_or_empty t e.reference
 
-pub precedes_ranks : (t : Naming) → IsStrictWeakOrder (precedes t)
-precedes_ranks t = ranks_by (then_total (on_total (λ (e : Entry). name_or_empty t e.reference) names_total) (on_total (λ (e : Entry). e.item) nat_cmp_total)) (λ e. e)
-
-names_rank : IsStrictWeakOrder (λ x y. is_lt (by_front x y))
-names_rank = ranks_by names_total (λ x. x)
+not_less : (a b : ℕ) → is_lt (nat_cmp a b) ≡ false → b ≤ a
+not_less a b g = by_case (ltb a b) refl
+  where
+    by_case : (u : Bool) → ltb a b ≡ u → b ≤ a
+    by_case false e = ltb-false a b e
+    by_case true e = absurd (let less : Less ≡ nat_cmp a b = nat_cmp_is a b Less (ltb-true a b e) in let bad : true ≡ false = ap is_lt less ∙ g in cc)
 
 by_name : (o p : Ordering) → is_lt (ordering_then o p) ≡ false → is_lt o ≡ false
 by_name Less p h = absurd cc
 by_name Equal p h = refl
 by_name Greater p h = refl
 
-itself_equal : (x : List ℕ) → by_front x x ≡ Equal
-itself_equal x = by_case (by_front x x) refl
-  where
-    by_case : (o : Ordering) → by_front x x ≡ o → o ≡ Equal
-    by_case Equal e = refl
-    by_case Less e = absurd (let back : by_front x x ≡ Greater = names_total.antisymm x x ∙ ap ordering_reverse e in cc)
-    by_case Greater e = absurd (let back : by_front x x ≡ Less = names_total.antisymm x x ∙ ap ordering_reverse e in cc)
+itself_equal : (n : ℕ) → nat_cmp n n ≡ Equal
+itself_equal n = sym (nat_cmp_is n n Equal refl)
+
+-- an entry that no other precedes has the lower rank
+ranks_up : (t : Naming) (e f : Entry) → precedes t f e ≡ false → rank (called t e) ≤ rank (called t f)
+ranks_up t e f far = not_less (rank (called t f)) (rank (called t e)) (by_name (nat_cmp (rank (called t f)) (rank (called t e))) (nat_cmp f.item e.item) far)
 
 -- ---- one entry against a text
 
@@ -97,12 +97,8 @@ abbrev pub Searched : Naming → List ℕ → List Entry → Option ℕ → Type
 Searched t text entries found = MatchOption found (NoneOf t text entries) (LeastOf t text entries)
 
 -- items of one name stand in order
-not_less : (o : Ordering) (a b : ℕ) → o ≡ Equal → is_lt (ordering_then o (nat_cmp a b)) ≡ false → b ≤ a
-not_less o a b same h = by_case (ltb a b) refl (rw same at h)
-  where
-    by_case : (u : Bool) → ltb a b ≡ u → is_lt (nat_cmp a b) ≡ false → b ≤ a
-    by_case false e g = ltb-false a b e
-    by_case true e g = absurd (let less : Less ≡ nat_cmp a b = nat_cmp_is a b Less (ltb-true a b e) in let bad : true ≡ false = ap is_lt less ∙ g in cc)
+not_smaller : (o : Ordering) (a b : ℕ) → o ≡ Equal → is_lt (ordering_then o (nat_cmp a b)) ≡ false → b ≤ a
+not_smaller o a b same h = not_less a b (rw same at h)
 
 same_called : (t : Naming) (text : List ℕ) (e : Entry) → IsNamed t text e → called t e ≡ text
 same_called t text e h = rw h refl
@@ -110,8 +106,8 @@ same_called t text e h = rw h refl
 -- of two entries of one name the first has the smaller item
 in_order : (t : Naming) (text : List ℕ) (e f : Entry) → precedes t f e ≡ false → IsNamed t text e → IsNamed t text f → e.item ≤ f.item
 in_order t text e f far is also =
-    let tie : by_front (called t f) (called t e) ≡ Equal = ap (λ x. by_front x (called t e)) (same_called t text f also) ∙ ap (by_front text) (same_called t text e is) ∙ itself_equal text in
-    not_less (by_front (called t f) (called t e)) f.item e.item tie far
+    let tie : nat_cmp (rank (called t f)) (rank (called t e)) ≡ Equal = ap (λ x. nat_cmp (rank x) (rank (called t e))) (same_called t text f also) ∙ ap (λ x. nat_cmp (rank text) (rank x)) (same_called t text e is) ∙ itself_equal (rank text) in
+    not_smaller (nat_cmp (rank (called t f)) (rank (called t e))) f.item e.item tie far
 
 here : (t : Naming) (text : List ℕ) (e : Entry) (entries : List Entry) → Rises t (e ∷ entries) → IsNamed t text e → LeastOf t text (e ∷ entries) e.item
 here t text e entries rises is = record { entry = e; there = (0, omega arith, refl); named = is; is = refl; least = λ f h also. least_case f also (by_place e f entries h) }
@@ -123,25 +119,16 @@ here t text e entries rises is = record { entry = e; there = (0, omega arith, re
 not_here : (t : Naming) (text : List ℕ) (e f : Entry) → is_text (t e.reference) text ≡ false → e ≡ f → IsNamed t text f → ⊥
 not_here t text e f h same is = let bad : is_text (t e.reference) text ≡ true = is_text_of t text e (rw same is) in absurd cc
 
--- what stands behind a greater name is greater
-past : (t : Naming) (text : List ℕ) (e f : Entry) → t e.reference ≡ Some (called t e) → is_gt (compared (t e.reference) text) ≡ true → precedes t f e ≡ false → IsNamed t text f → ⊥
-past t text e f has gt far is =
-    let greater : is_gt (by_front (called t e) text) ≡ true = rw has at gt in
-    let no : is_lt (by_front (called t f) (called t e)) ≡ false = by_name (by_front (called t f) (called t e)) (nat_cmp f.item e.item) far in
-    let less : is_lt (by_front text (called t e)) ≡ false = rw (same_called t text f is) at no in
-    turned (by_front (called t e) text) greater (ap is_lt (sym (names_total.antisymm text (called t e))) ∙ less)
-  where
-    turned : (o : Ordering) → is_gt o ≡ true → is_lt (ordering_reverse o) ≡ false → ⊥
-    turned Less g l = absurd cc
-    turned Equal g l = absurd cc
-    turned Greater g l = absurd cc
+-- what stands behind an entry of a greater rank has a greater one too
+past : (t : Naming) (text : List ℕ) (e f : Entry) → rank text < rank (called t e) → rank (called t e) ≤ rank (called t f) → IsNamed t text f → ⊥
+past t text e f gt far is = absurd (omega (arith, gt, far, ap rank (same_called t text f is)))
 
-none_past : (t : Naming) (text : List ℕ) (e : Entry) (entries : List Entry) → Rises t (e ∷ entries) → t e.reference ≡ Some (called t e) → is_text (t e.reference) text ≡ false → is_gt (compared (t e.reference) text) ≡ true → NoneOf t text (e ∷ entries)
-none_past t text e entries rises has not gt f h is = none_case (by_place e f entries h)
+none_past : (t : Naming) (text : List ℕ) (e : Entry) (entries : List Entry) → Rises t (e ∷ entries) → rank text < rank (called t e) → NoneOf t text (e ∷ entries)
+none_past t text e entries rises gt f h is = none_case (by_place e f entries h)
   where
     none_case : (e ≡ f) ⊎ Contains entries f → ⊥
-    none_case (inl same) = not_here t text e f not same is
-    none_case (inr there) = past t text e f has gt (from_first t e f entries rises there) is
+    none_case (inl same) = absurd (omega (arith, gt, ap (λ (x : Entry). rank (called t x)) same, ap rank (same_called t text f is)))
+    none_case (inr there) = past t text e f gt (ranks_up t e f (from_first t e f entries rises there)) is
 
 further : (t : Naming) (text : List ℕ) (e : Entry) (entries : List Entry) → is_text (t e.reference) text ≡ false → (found : Option ℕ) → Searched t text entries found → Searched t text (e ∷ entries) found
 further t text e entries not None none = λ f h is. none_case f is (by_place e f entries h)
@@ -155,62 +142,67 @@ further t text e entries not (Some n) least = record { entry = least.entry; ther
     least_case f is (inl same) = absurd (not_here t text e f not same is)
     least_case f is (inr h) = least.least f h is
 
-search_case : (t : Naming) (text : List ℕ) (e : Entry) (entries : List Entry) → Rises t (e ∷ entries) → t e.reference ≡ Some (called t e) → Searched t text entries (first_of t text entries) → (a b : Bool) → is_text (t e.reference) text ≡ a → is_gt (compared (t e.reference) text) ≡ b → Searched t text (e ∷ entries) (first_of t text (e ∷ entries))
+search_case : (t : Naming) (text : List ℕ) (r : Ranked) (kept : List Ranked) → Rises t (r.entry ∷ map entry_in kept) → r.rank ≡ rank (called t r.entry) → Searched t text (map entry_in kept) (first_of t (rank text) text kept) → (a b : Bool) → ltb (rank text) r.rank ≡ a → is_text (t r.entry.reference) text ≡ b → Searched t text (map entry_in (r ∷ kept)) (first_of t (rank text) text (r ∷ kept))
 unfolding first_of
-search_case t text e entries rises has rest true b p q = rw p (here t text e entries rises (text_is t text e p))
-search_case t text e entries rises has rest false true p q = rw (p, q) (none_past t text e entries rises has p q)
-search_case t text e entries rises has rest false false p q = rw (p, q) (further t text e entries p (first_of t text entries) rest)
+search_case t text r kept rises ranks rest true b p q = rw p (none_past t text r.entry (map entry_in kept) rises (omega (arith, ltb-true (rank text) r.rank p, ranks)))
+search_case t text r kept rises ranks rest false true p q = rw (p, q) (here t text r.entry (map entry_in kept) rises (text_is t text r.entry q))
+search_case t text r kept rises ranks rest false false p q = rw (p, q) (further t text r.entry (map entry_in kept) q (first_of t (rank text) text kept) rest)
 
-pub searched : (t : Naming) (text : List ℕ) (entries : List Entry) → AllNamed t entries → Rises t entries → Searched t text entries (first_of t text entries)
+-- each rank is that of the item's name
+abbrev pub AllRanked : Naming → List Ranked → Type 0
+AllRanked t kept = (r : Ranked) → Contains kept r → r.rank ≡ rank (called t r.entry)
+
+kept_on : (r s : Ranked) (kept : List Ranked) → Contains kept s → Contains (r ∷ kept) s
+kept_on r s kept h = (suc h.0, omega (arith, h.1), h.2)
+
+pub searched : (t : Naming) (text : List ℕ) (kept : List Ranked) → AllRanked t kept → Rises t (map entry_in kept) → Searched t text (map entry_in kept) (first_of t (rank text) text kept)
 unfolding first_of
-searched t text [] all rises = λ e h is. absurd (omega (arith, h.1))
-searched t text (e ∷ entries) all rises =
-    search_case t text e entries rises (all e (0, omega arith, refl)) (searched t text entries (λ f h. all f (in_rest e f entries h)) (rises_on t e entries rises)) (is_text (t e.reference) text) (is_gt (compared (t e.reference) text)) refl refl
+searched t text [] ranked rises = λ e h is. absurd (omega (arith, h.1))
+searched t text (r ∷ kept) ranked rises =
+    search_case t text r kept rises (ranked r (0, omega arith, refl)) (searched t text kept (λ s h. ranked s (kept_on r s kept h)) (rises_on t r.entry (map entry_in kept) rises)) (ltb (rank text) r.rank) (is_text (t r.entry.reference) text) refl refl
 
--- ---- entries in front that stand before the text
-
-skipped_one : (o : Option (List ℕ)) (text : List ℕ) → is_lt (compared o text) ≡ true → (is_text o text ≡ false) × (is_gt (compared o text) ≡ false)
-skipped_one None text h = absurd cc
-skipped_one (Some x) text h = (not_text (bytes_eq x text) refl, not_greater (by_front x text) h)
+not_ltb : (a b : ℕ) → b ≤ a → ltb a b ≡ false
+not_ltb a b le = by_case (ltb a b) refl
   where
-    not_text : (u : Bool) → bytes_eq x text ≡ u → u ≡ false
+    by_case : (u : Bool) → ltb a b ≡ u → u ≡ false
+    by_case false e = refl
+    by_case true e = absurd (omega (arith, le, ltb-true a b e))
+
+-- ---- entries in front, of lower ranks
+
+skipped_one : (t : Naming) (text : List ℕ) (r : Ranked) → r.rank ≡ rank (called t r.entry) → r.rank < rank text → (ltb (rank text) r.rank ≡ false) × (is_text (t r.entry.reference) text ≡ false)
+skipped_one t text r ranks lower = (not_ltb (rank text) r.rank (omega (arith, lower)), not_text (is_text (t r.entry.reference) text) refl)
+  where
+    not_text : (u : Bool) → is_text (t r.entry.reference) text ≡ u → u ≡ false
     not_text false e = refl
-    not_text true e = let same : x ≡ text = (bytes_eq-Decides x text).0 e in absurd (let tie : by_front x text ≡ Equal = rw same (itself_equal text) in let bad : is_lt Equal ≡ true = rw tie at h in cc)
+    not_text true e = absurd (omega (arith, lower, ranks, ap rank (same_called t text r.entry (text_is t text r.entry e))))
 
-    not_greater : (p : Ordering) → is_lt p ≡ true → is_gt p ≡ false
-    not_greater Less g = refl
-    not_greater Equal g = absurd cc
-    not_greater Greater g = absurd cc
-
-pub skipped : (t : Naming) (text : List ℕ) (from : ℕ) (entries : List Entry) → ((j : ℕ) (d : Entry) → j < from → j < length entries → is_lt (compared (t (get_or entries j d).reference) text) ≡ true) → first_of t text entries ≡ first_of t text (drop from entries)
+pub skipped : (t : Naming) (text : List ℕ) (from : ℕ) (kept : List Ranked) → AllRanked t kept → ((j : ℕ) (d : Ranked) → j < from → j < length kept → (get_or kept j d).rank < rank text) → first_of t (rank text) text kept ≡ first_of t (rank text) text (drop from kept)
 unfolding first_of
-skipped t text zero entries before = refl
-skipped t text (suc n) [] before = refl
-skipped t text (suc n) (e ∷ entries) before =
-    let one = skipped_one (t e.reference) text (before 0 e (omega arith) (omega arith)) in
-    rw (one.0, one.1) (skipped t text n entries (λ j d lt inside. before (suc j) d (omega (arith, lt)) (omega (arith, inside))))
+skipped t text zero kept ranked before = refl
+skipped t text (suc n) [] ranked before = refl
+skipped t text (suc n) (r ∷ kept) ranked before =
+    let one = skipped_one t text r (ranked r (0, omega arith, refl)) (before 0 r (omega arith) (omega arith)) in
+    rw (one.0, one.1) (skipped t text n kept (λ s h. ranked s (kept_on r s kept h)) (λ j d lt inside. before (suc j) d (omega (arith, lt)) (omega (arith, inside))))
 
 -- ---- the place of a text
 
 pub rises_by : (t : Naming) (entries : List Entry) → IsSortedBy (precedes t) entries → Rises t entries
 rises_by t entries sorted i j d le lt = sorted_far (precedes t) (precedes_ranks t) entries sorted i j d le lt
 
-pub parted : (t : Naming) (text : List ℕ) (entries : List Entry) → AllNamed t entries → Rises t entries → IsPartitionedBy (λ e. is_lt (compared (t e.reference) text)) entries
-parted t text entries all rises i j d le lt h = by_case (is_lt (compared (t (get_or entries i d).reference) text)) refl
-  where
-    by_case : (u : Bool) → is_lt (compared (t (get_or entries i d).reference) text) ≡ u → u ≡ true
-    by_case true e = refl
-    by_case false e = absurd (
-        let x = get_or entries i d in
-        let y = get_or entries j d in
-        let has_x : t x.reference ≡ Some (called t x) = all x (Contains-get_or entries i d (omega (arith, le, lt))) in
-        let has_y : t y.reference ≡ Some (called t y) = all y (Contains-get_or entries j d lt) in
-        let not_x : is_lt (by_front (called t x) text) ≡ false = rw has_x at e in
-        let is_y : is_lt (by_front (called t y) text) ≡ true = rw has_y at h in
-        let far : is_lt (by_front (called t y) (called t x)) ≡ false = by_name (by_front (called t y) (called t x)) (nat_cmp y.item x.item) (rises i j d le lt) in
-        let not_y : is_lt (by_front (called t y) text) ≡ false = names_rank.chain (called t y) (called t x) text far not_x in
-        let bad : true ≡ false = sym is_y ∙ not_y in
-        cc)
+-- ranks rise
+pub ranks_rise : (t : Naming) (kept : List Ranked) → AllRanked t kept → Rises t (map entry_in kept) → (i j : ℕ) (d : Ranked) → i ≤ j → j < length kept → (get_or kept i d).rank ≤ (get_or kept j d).rank
+ranks_rise t kept ranked rises i j d le lt =
+    let x = get_or kept i d in
+    let y = get_or kept j d in
+    let near : i < length kept = omega (arith, le, lt) in
+    let first : get_or (map entry_in kept) i d.entry ≡ x.entry = get_or-map entry_in kept i d d.entry near in
+    let second : get_or (map entry_in kept) j d.entry ≡ y.entry = get_or-map entry_in kept j d d.entry lt in
+    let far : precedes t y.entry x.entry ≡ false = rw (first, second) at (rises i j d.entry le (omega (arith, lt, length-map kept entry_in))) in
+    omega (arith, ranks_up t x.entry y.entry far, ranked x (Contains-get_or kept i d near), ranked y (Contains-get_or kept j d lt))
+
+pub parted : (t : Naming) (text : List ℕ) (kept : List Ranked) → AllRanked t kept → Rises t (map entry_in kept) → IsPartitionedBy (λ r. ltb r.rank (rank text)) kept
+parted t text kept ranked rises i j d le lt h = lt-ltb (get_or kept i d).rank (rank text) (omega (arith, ranks_rise t kept ranked rises i j d le lt, ltb-true (get_or kept j d).rank (rank text) h))
 
 -- ---- items
 
@@ -253,18 +245,18 @@ found_by t items entries text stands (Some n) least =
 
 -- ---- a step of the loop
 
-pub step_found : (t : Naming) (text : List ℕ) (e : Entry) (entries : List Entry) → is_text (t e.reference) text ≡ true → first_of t text (e ∷ entries) ≡ Some e.item
+pub step_stop : (t : Naming) (rank : ℕ) (text : List ℕ) (r : Ranked) (kept : List Ranked) → rank < r.rank → first_of t rank text (r ∷ kept) ≡ None
 unfolding first_of
-step_found t text e entries p = rw p refl
+step_stop t rank text r kept p = rw (lt-ltb rank r.rank p) refl
 
-pub step_stop : (t : Naming) (text : List ℕ) (e : Entry) (entries : List Entry) → is_text (t e.reference) text ≡ false → is_gt (compared (t e.reference) text) ≡ true → first_of t text (e ∷ entries) ≡ None
+pub step_found : (t : Naming) (rank : ℕ) (text : List ℕ) (r : Ranked) (kept : List Ranked) → r.rank ≤ rank → is_text (t r.entry.reference) text ≡ true → first_of t rank text (r ∷ kept) ≡ Some r.entry.item
 unfolding first_of
-step_stop t text e entries p q = rw (p, q) refl
+step_found t rank text r kept p q = rw (not_ltb rank r.rank p, q) refl
 
-pub step_on : (t : Naming) (text : List ℕ) (e : Entry) (entries : List Entry) → is_text (t e.reference) text ≡ false → is_gt (compared (t e.reference) text) ≡ false → first_of t text (e ∷ entries) ≡ first_of t text entries
+pub step_on : (t : Naming) (rank : ℕ) (text : List ℕ) (r : Ranked) (kept : List Ranked) → r.rank ≤ rank → is_text (t r.entry.reference) text ≡ false → first_of t rank text (r ∷ kept) ≡ first_of t rank text kept
 unfolding first_of
-step_on t text e entries p q = rw (p, q) refl
+step_on t rank text r kept p q = rw (not_ltb rank r.rank p, q) refl
 
-pub step_end : (t : Naming) (text : List ℕ) → first_of t text [] ≡ None
+pub step_end : (t : Naming) (rank : ℕ) (text : List ℕ) → first_of t rank text [] ≡ None
 unfolding first_of
-step_end t text = refl
+step_end t rank text = refl

@@ -1,11 +1,12 @@
 -- Items by their names. Source: ours.
-use Rattle.std.specs.Prelude.{◌≡◌, ◌≤◌, ℕ, ◌==◌, ◌&&◌, nat_le, Bool, true, List, Option, Some, MatchOption}
+use Rattle.std.specs.Prelude.{◌≡◌, ◌≤◌, ℕ, ◌==◌, ◌&&◌, nat_le, Bool, true, List, map, Option, Some, MatchOption}
 use Rattle.std.specs.List.{list_any, Contains}
 use Rattle.std.specs.List.Sorted.{IsSortedBy}
 use Rattle.std.specs.Ordering.{is_lt, nat_cmp, ordering_then}
 use Rattle.ctf_order.specs.Naming.{Naming, name_or_empty}
-use Rattle.ctf_order.specs.Names.{by_front, is_text}
+use Rattle.ctf_order.specs.Names.{by_rank, is_text, rank}
 use Rattle.ctf_order.specs.declared.entries.Entry.{Entry}
+use Rattle.ctf_order.specs.declared.entries.Ranked.{Ranked}
 use Rattle.ctf_order.specs.declared.order.Order.{Order}
 
 -- ---- which item a name finds
@@ -29,10 +30,10 @@ IsFound t items text found =
 
 -- ---- how they are kept
 
--- by the order of names, and then by item
+-- by the ranks of names, and then by item
 abbrev pub precedes : Naming → Entry → Entry → Bool
 precedes t a b =
-    is_lt (ordering_then (by_front (name_or_empty t a.reference) (name_or_empty t b.reference))
+    is_lt (ordering_then (by_rank (name_or_empty t a.reference) (name_or_empty t b.reference))
     (nat_cmp a.item b.item))
 
 abbrev pub same_entry : Entry → Entry → Bool
@@ -51,9 +52,15 @@ pub record Stands (t : Naming) (items entries : List Entry) : Type 0 where
 
 -- what is kept
 abbrev pub entries_of : Order → List Entry
-entries_of o = o.entries.items
+entries_of o = map (λ r. r.entry) o.entries.items
+
+-- each rank is that of the item's name
+abbrev pub AreRanked : Naming → Order → Type 0
+AreRanked t o = (r : Ranked) → Contains o.entries.items r
+    → r.rank ≡ rank (name_or_empty t r.entry.reference)
 
 -- and they stand in order
 pub record Fits (t : Naming) (items : List Entry) (o : Order) : Type 0 where
   pub stands : Stands t items (entries_of o)
   pub sorted : IsSortedBy (precedes t) (entries_of o)
+  pub ranked : AreRanked t o

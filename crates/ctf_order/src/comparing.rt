@@ -1,13 +1,15 @@
-//! The order of names: by length, and then by the bytes in front.
-ghost use Rattle.std.specs.Prelude.{◌≡◌, take};
+//! Names by numbers, and against a text.
+ghost use Rattle.std.specs.Prelude.{◌≡◌, ◌<◌, ◌^◌, take};
 ghost use Rattle.ctf_order.specs.Naming.{naming};
-ghost use Rattle.ctf_order.specs.Names.{compared, by_front, is_text, front as front_of};
+ghost use Rattle.ctf_order.specs.Names.{front as front_of, hash as hash_of, is_text, rank as rank_of};
 
 use crate::texts::Texts;
-use std::cmp::Ordering;
 
-/// How many bytes at the front of a name are compared.
+/// How many bytes at the front of a name are read for its rank.
 const FRONT: usize = 64;
+
+/// What the numbers of half a word stay below.
+const HALF: u64 = 1 << 32;
 
 /// The first bytes of a name, or all where they are fewer.
 fn prefix(name: &[u8], most: usize) -> &[u8]
@@ -26,23 +28,24 @@ fn front(name: &[u8]) -> &[u8]
     prefix(name, FRONT)
 }
 
-/// Names by length, and then by the bytes in front.
-#[tactic(auto, unfolding(crate::specs::Names::by_front))]
-pub(crate) fn order(a: &[u8], b: &[u8]) -> Ordering
-    ensures { result ≡ by_front a.now b.now }
+/// A number below `HALF` for some bytes.
+fn hash(bytes: &[u8]) -> u64
+    ensures below { result < 2 ^ 32 }
+    ensures is { result ≡ hash_of bytes.now }
 {
-    a.len().cmp(&b.len()).then(front(a).cmp(&front(b)))
+    let mut hash = 2_166_136_261;
+    for byte in bytes {
+        hash = (hash * 16_777_619 + *byte as u64) % HALF;
+    }
+    hash
 }
 
-/// Where the name of a reference stands against a text. It reads one byte more than the text has at
-/// most, however long the name is.
-pub(crate) fn compare(texts: &Texts<'_>, reference: u32, text: &[u8]) -> Ordering
-    ensures { result ≡ compared (naming texts.now reference) text.now }
+/// The number of a name that names are put in order by. It reads 64 bytes at most.
+#[tactic(auto, unfolding(crate::specs::Names::rank))]
+pub(crate) fn rank(name: &[u8]) -> u64
+    ensures { result ≡ rank_of name.now }
 {
-    match texts.short_name(reference, text.len()) {
-        Some(name) => order(name, text),
-        None => Ordering::Greater,
-    }
+    name.len() as u64 % HALF * HALF + hash(front(name))
 }
 
 /// Whether a reference names a text. It reads one byte more than the text has at most.

@@ -7,3 +7,10 @@ pub struct Entry {
     pub reference: u32,
     pub item: u32,
 }
+
+/// An item beside the rank of its name.
+#[derive(Clone, Copy)]
+pub(crate) struct Ranked {
+    pub(crate) rank: u64,
+    pub(crate) entry: Entry,
+}

@@ -1,13 +1,13 @@
 //! Names that are lent while items are put in order.
-ghost use Rattle.std.specs.Prelude.{◌≡◌, IfOk, map, option_copied};
+ghost use Rattle.std.specs.Prelude.{◌≡◌, IfOk, option_copied};
 ghost use Rattle.std.specs.Option.{ForSome, option_map};
 ghost use Rattle.std.specs.List.Sorted.{IsSortedBy, IsPermutation};
 ghost use Rattle.ctf_order.specs.Naming.{naming};
 ghost use Rattle.ctf_order.specs.declared.texts.Texts.{Texts as AnyTexts};
-ghost use Rattle.ctf_order.specs.Lending.{goes_before, repeats, IsLent, IsNextLent, Lends};
+ghost use Rattle.ctf_order.specs.Lending.{goes_before, repeats, IsLent, IsNextLent, Ranks};
 
-use crate::comparing::order;
-use crate::entries::Entry;
+use crate::comparing::rank;
+use crate::entries::{Entry, Ranked};
 use crate::texts::Texts;
 use std::alloc::{AllocError, Global};
 use std::cmp::Ordering;
@@ -20,8 +20,8 @@ pub(crate) struct Named<'a> {
 }
 
 /// What a reference names that points into the name of another.
-fn rest_of<'a>(before: &Named<'a>, reference: u32) -> Option<&'a [u8]>
-    ensures { (texts : AnyTexts) → IsLent (naming texts) before.now
+fn rest_of<'a>(before: Named<'a>, reference: u32) -> Option<&'a [u8]>
+    ensures { (texts : AnyTexts) → IsLent (naming texts) before.entry
         → ForSome result (λ r. naming texts reference ≡ Some r.now) }
 {
     let first = before.entry.reference;
@@ -36,8 +36,8 @@ fn rest_of<'a>(before: &Named<'a>, reference: u32) -> Option<&'a [u8]>
 }
 
 /// What a reference names. Where it points into the name of the one before it, no byte is read.
-fn name_after<'a>(texts: &Texts<'a>, before: Option<&Named<'a>>, reference: u32) -> Option<&'a [u8]>
-    requires { ForSome before (λ b. IsLent (naming texts.now) b.now) }
+fn name_after<'a>(texts: &Texts<'a>, before: Option<Named<'a>>, reference: u32) -> Option<&'a [u8]>
+    requires { ForSome before (IsLent (naming texts.now)) }
     ensures { option_copied result ≡ naming texts.now reference }
 {
     if let Some(named) = before {
@@ -49,8 +49,8 @@ fn name_after<'a>(texts: &Texts<'a>, before: Option<&Named<'a>>, reference: u32)
 }
 
 /// Whether an item has the reference of a smaller one.
-fn is_repeated(before: Option<&Named<'_>>, item: Entry) -> bool
-    ensures { result ≡ repeats (option_map (λ b. b.now.entry) before.entry) item }
+fn is_repeated(before: Option<Named<'_>>, item: Entry) -> bool
+    ensures { result ≡ repeats (option_map (λ n. n.entry) before.entry) item }
 {
     match before {
         Some(named) => {
@@ -65,10 +65,9 @@ fn is_repeated(before: Option<&Named<'_>>, item: Entry) -> bool
 }
 
 /// An item beside its name, if it has one, and is not the repetition of a smaller one.
-fn next_named<'a>(texts: &Texts<'a>, before: Option<&Named<'a>>, item: Entry) -> Option<Named<'a>>
-    requires { ForSome before (λ b. IsLent (naming texts.now) b.now) }
-    ensures { let first = option_map (λ b. b.now.entry) before.entry in
-        IsNextLent (naming texts.now) first item result }
+fn next_named<'a>(texts: &Texts<'a>, before: Option<Named<'a>>, item: Entry) -> Option<Named<'a>>
+    requires { ForSome before (IsLent (naming texts.now)) }
+    ensures { IsNextLent (naming texts.now) (option_map (λ n. n.entry) before.entry) item result }
 {
     if is_repeated(before, item) {
         return None;
@@ -77,39 +76,33 @@ fn next_named<'a>(texts: &Texts<'a>, before: Option<&Named<'a>>, item: Entry) ->
     Some(Named { name, entry: item })
 }
 
-/// The items that have names, beside these; of items with one reference at least the least. Where
-/// their references rise, each table is read once at most.
-pub(crate) fn lent<'a>(
+/// The items that have names, beside the ranks of these; of items with one reference at least the
+/// least. Where their references rise, each table is read once at most to find where names end.
+pub(crate) fn ranked<'a>(
     alloc: Global,
     texts: &Texts<'a>,
     items: &[Entry],
-) -> Result<Vec<Named<'a>>, AllocError>
-    ensures { IfOk result (λ named. Lends (naming texts.now) items.now named.items) }
+) -> Result<Vec<Ranked>, AllocError>
+    ensures { IfOk result (λ ranked. Ranks (naming texts.now) items.now ranked.items) }
 {
-    let mut named = Vec::with_capacity(alloc, items.len())?;
+    let mut ranked = Vec::with_capacity(alloc, items.len())?;
+    let mut before: Option<Named<'a>> = None;
     for item in items {
-        if let Some(next) = next_named(texts, named.last(), *item) {
-            named.push(next)?;
+        if let Some(next) = next_named(texts, before, *item) {
+            ranked.push(Ranked {
+                rank: rank(next.name),
+                entry: next.entry,
+            })?;
+            before = Some(next);
         }
     }
-    Ok(named)
+    Ok(ranked)
 }
 
-/// Sorts items by their names, and then by number.
-pub(crate) fn arrange(named: &mut Vec<Named<'_>>)
-    ensures permutation { IsPermutation named.old.items named.new.items }
-    ensures sorted { IsSortedBy goes_before named.new.items }
+/// Sorts items by the ranks of their names, and then by number.
+pub(crate) fn arrange(ranked: &mut Vec<Ranked>)
+    ensures permutation { IsPermutation ranked.old.items ranked.new.items }
+    ensures sorted { IsSortedBy goes_before ranked.new.items }
 {
-    named.sort_unstable_by(|a, b| order(a.name, b.name).then(a.entry.item.cmp(&b.entry.item)));
-}
-
-/// The items without their names.
-pub(crate) fn kept(alloc: Global, named: &[Named<'_>]) -> Result<Vec<Entry>, AllocError>
-    ensures { IfOk result (λ entries. entries.items ≡ map (λ n. n.entry) named.now) }
-{
-    let mut entries = Vec::with_capacity(alloc, named.len())?;
-    for one in named {
-        entries.push_reserved(one.entry);
-    }
-    Ok(entries)
+    ranked.sort_unstable_by(|a, b| a.rank.cmp(&b.rank).then(a.entry.item.cmp(&b.entry.item)));
 }

@@ -111,6 +111,12 @@ pub no_size : (show : Shows) (p contents count : ℕ) (sized : Result ℕ Fault)
 unfolding followed_by
 no_size show p contents count sized fault e = rw e refl
 
+-- the first element shows why none is shown
+pub none_found : (show : Shows) (p contents count size : ℕ) (sized : Result ℕ Fault) (fault : Fault) → sized ≡ Ok size → 0 < count → ((q : ℕ) → show contents q ≡ ends fault) → separated (elements show p contents count sized) ≡ ends fault
+unfolding followed_by
+none_found show p contents count size sized fault e some none =
+    separated_is (elements show p contents count sized) ∙ at_element show p contents count size 0 sized e some ∙ rw (none (p + 8 * size * 0)) refl
+
 -- ---- members
 
 member_at : {A : Type 0} (f : A → Pieces) (xs : List A) (i : ℕ) (x : A) → slice_get xs i ≡ Some x → drop i (map f xs) ≡ f x ∷ drop (i + 1) (map f xs)

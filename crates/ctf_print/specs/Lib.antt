@@ -1,3 +1,4 @@
+pub mod Finding
 pub mod ImageView
 pub mod KnownView
 pub mod Placing

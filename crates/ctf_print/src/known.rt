@@ -90,27 +90,29 @@ impl<'a> Known<'a> {
     }
 
     /// Keeps what stands behind a type. Without memory for it it is not kept.
-    fn keep(&mut self, number: TypeNum, behind: Behind)
+    fn keep(&mut self, number: TypeNum, behind: Behind) -> Behind
         requires { StandsFor self.old number.0 behind.steps behind.number.0 }
-        ensures { self.new ≡ self.old }
+        ensures same { result ≡ behind }
+        ensures kept { self.new ≡ self.old }
     {
         let _ = self.behind.insert(number.0, behind);
+        behind
     }
 
-    /// What stands behind a type. Each type is followed once.
+    /// What stands behind a type. The record of each type is read once.
     fn find(&mut self, number: TypeNum, most: u32) -> Behind
         ensures stands { StandsFor self.old number.0 result.steps result.number.0 }
         ensures kept { self.new ≡ self.old }
     {
+        if let Some(known) = self.behind.get(&number.0) {
+            return *known;
+        }
         if most == 0 {
             return itself(number);
         }
         let Some(next) = self.next(number) else {
-            return itself(number);
+            return self.keep(number, itself(number));
         };
-        if let Some(known) = self.behind.get(&number.0) {
-            return *known;
-        }
         let found = self.find(next, most - 1);
         if found.steps == u32::MAX {
             return itself(number);
@@ -119,8 +121,7 @@ impl<'a> Known<'a> {
             number: found.number,
             steps: found.steps + 1,
         };
-        self.keep(number, behind);
-        behind
+        self.keep(number, behind)
     }
 
     /// The type behind a value's typedefs and qualifiers.

@@ -2,6 +2,7 @@
 #![tactic(auto)]
 
 mod enums;
+mod found;
 mod image;
 mod integers;
 mod known;

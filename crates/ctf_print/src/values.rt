@@ -13,11 +13,12 @@ ghost use Rattle.ctf_print.specs.ToldView.{told_seen};
 ghost use Rattle.ctf_print.specs.Written.{Refused, written};
 
 use crate::enums::show_enum;
+use crate::found::{Found, find};
 use crate::image::Image;
 use crate::integers::{show_float, show_integer};
 use crate::known::Known;
 use crate::numbers::show_raw;
-use crate::telling::{Told, told_by};
+use crate::telling::Told;
 use crate::text::Text;
 use ctf_model::{DataModel, Fault, TypeNum, placeless};
 use ctf_views::{ArrayInfo, Member, Members};
@@ -58,10 +59,14 @@ fn show_elements(
         Ok(size) => size,
         Err(fault) => return out.end(fault),
     };
+    let found = match find(image, array.contents, nesting, known) {
+        Ok(found) => found,
+        Err(fault) => return out.end(fault),
+    };
     let mut place = at;
     for i in 0..array.count {
         out.put_comma(i as usize)?;
-        show_value(image, array.contents, place, nesting, known, out)?;
+        show_told(image, &found, place, known, out)?;
         place = place.saturating_add(u128::from(size) * 8);
     }
     out.put_nothing()
@@ -156,66 +161,45 @@ fn show_members(
     out.put(b"}")
 }
 
-/// Puts the value of a type that is shown so, by the type's number.
+/// Puts the value of a type that is shown so.
 #[cycle(values)]
 fn show_told(
     image: &Image<'_>,
-    number: TypeNum,
-    how: Told<'_>,
+    found: &Found<'_>,
     at: u128,
-    nesting: u32,
     known: &mut Known<'_>,
     out: &mut Text,
 ) -> Result<(), Fault>
     requires known { known.old ≡ types_of image.now }
-    requires how { told_of (types_of image.now) number.0 ≡ told_seen how }
+    requires how { told_of (types_of image.now) found.now.number.0 ≡ told_seen found.now.how }
     ensures ok { OnOk result (written out.old
-        (told_shown (types_of image.now) (memory_of image.now) (shows image.now nesting) at
-        (told_seen how.entry)) ≡ Ok out.new) }
+        (told_shown (types_of image.now) (memory_of image.now) (shows image.now found.now.nesting)
+        at (told_seen found.now.how)) ≡ Ok out.new) }
     ensures err { IfErr result (Refused out.old
-        (told_shown (types_of image.now) (memory_of image.now) (shows image.now nesting) at
-        (told_seen how.entry))) }
+        (told_shown (types_of image.now) (memory_of image.now) (shows image.now found.now.nesting)
+        at (told_seen found.now.how))) }
     ensures kept { known.new ≡ known.old }
 {
-    match how {
-        Told::Integer(encoding) => show_integer(image.memory, at, encoding, out),
-        Told::Float(encoding) => show_float(image.memory, at, encoding, out),
+    let nesting = found.nesting;
+    match &found.how {
+        Told::Integer(encoding) => show_integer(image.memory, at, *encoding, out),
+        Told::Float(encoding) => show_float(image.memory, at, *encoding, out),
         Told::Pointer => show_raw(image.memory, at, pointer_bits(image.space.model()), out),
         Told::Enum(said, enumerators) => {
-            show_enum(image.memory, at, number, said, &enumerators, known, out)
+            show_enum(
+                image.memory,
+                at,
+                found.number,
+                *said,
+                enumerators,
+                known,
+                out,
+            )
         }
-        Told::Members(members) => show_members(image, &members, at, nesting, known, out),
-        Told::Array(array) => show_array(image, array, at, nesting, known, out),
-        Told::As(next) => show_value(image, next, at, nesting, known, out),
+        Told::Members(members) => show_members(image, members, at, nesting, known, out),
+        Told::Array(array) => show_array(image, *array, at, nesting, known, out),
+        Told::As(next) => show_value(image, *next, at, nesting, known, out),
         Told::Incomplete => out.end(placeless(Fault::INCOMPLETE)),
-    }
-}
-
-/// Puts what the value of a number's type shows, as its record says.
-#[cycle(values)]
-fn show_type(
-    image: &Image<'_>,
-    number: TypeNum,
-    at: u128,
-    nesting: u32,
-    known: &mut Known<'_>,
-    out: &mut Text,
-) -> Result<(), Fault>
-    requires known { known.old ≡ types_of image.now }
-    ensures ok { OnOk result
-        (written out.old (shows image.now nesting number.0 at) ≡ Ok out.new) }
-    ensures err { IfErr result (Refused out.old (shows image.now nesting number.0 at)) }
-    ensures kept { known.new ≡ known.old }
-{
-    if nesting == 0 || number.0 == 0 {
-        return out.end(placeless(Fault::INCOMPLETE));
-    }
-    match image.space.term(number) {
-        Ok(found) => {
-            let how = told_by(found.shape());
-            show_told(image, number, how, at, nesting - 1, known, out)
-        }
-        Err(fault) => out.end(fault),
     }
 }
 
@@ -236,6 +220,8 @@ pub fn show_value(
     ensures err { IfErr result (Refused out.old (shows image.now nesting number.0 at)) }
     ensures kept { known.new ≡ known.old }
 {
-    let reached = known.reach(number, nesting);
-    show_type(image, reached.number, at, reached.nesting, known, out)
+    match find(image, number, nesting, known) {
+        Ok(found) => show_told(image, &found, at, known, out),
+        Err(fault) => out.end(fault),
+    }
 }

@@ -1,4 +1,5 @@
-//! Runs over a writer of 5 bytes a call, which notes its flushes; of three lines, by reads of 7 bytes.
+//! Runs over a writer of 5 bytes a call, which notes its flushes; of three lines, by reads of 7
+//! bytes.
 
 use ctf_runs::Pieces;
 use ctf_wire::{Broker, FromReader, RunFault, ToWriter, serve_bounded};

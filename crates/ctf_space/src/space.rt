@@ -23,6 +23,7 @@ pub struct Space<'a> {
 }
 
 /// The own type of a dictionary with a number from 0.
+#[inline(always)]
 fn own_type<'a>(dictionary: Checked<'a>, i: usize) -> Result<Typed<'a>, Fault>
     requires { i < 65536 }
     ensures { type_found result ≡ or_no_type (slice_get (dictionary_of dictionary.entry).terms i) }
@@ -103,6 +104,7 @@ impl<'a> Space<'a> {
     }
 
     /// The type that a number names, beside the dictionary whose tables name it.
+    #[inline(always)]
     pub fn term(&self, number: TypeNum) -> Result<Typed<'a>, Fault>
         ensures { type_found result ≡ space_type (space_of self.now) number.0 }
     {

@@ -13,7 +13,7 @@ use std::alloc::{AllocError, Global};
 
 /// The symbols of a dictionary by their numbers and by their names, and its labels by their names.
 ///
-/// It keeps plain numbers and borrows nothing: four bytes for each symbol, and at most eight for
+/// It keeps plain numbers and borrows nothing: four bytes for each symbol, and at most 16 for
 /// each considered one and for each label.
 #[derive(Drop)]
 pub struct SymbolMap {
@@ -24,9 +24,9 @@ pub struct SymbolMap {
 }
 
 impl SymbolMap {
-    /// The map of a dictionary. Reads each symbol and each entry a bounded number of times, and
-    /// each table of names once, and then sorts. While it runs it takes at most 32 bytes more for
-    /// each symbol, and then for each label.
+    /// The map of a dictionary. Reads each symbol and each entry a bounded number of times, each
+    /// table of names once to find where names end, and at most 64 bytes of each name, and then
+    /// sorts. While it runs it takes at most 8 bytes more for each symbol, and then for each label.
     pub fn build(alloc: Global, dictionary: &Checked<'_>) -> Result<SymbolMap, AllocError>
         ensures { IfOk result (λ m. Fits (lists_of dictionary.now) m) }
     {

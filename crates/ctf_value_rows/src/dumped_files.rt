@@ -1,7 +1,7 @@
 //! Dumps of files in memory: what is written, what is said of a refusal, and the exit statuses.
 
 use ctf_dump::{DumpEnd, InputFile, Inputs, dump_lists};
-use ctf_model::{DataModel, Fault, placeless};
+use ctf_model::{Bytes, DataModel, Fault, placeless};
 use std::alloc::{AllocError, Global};
 use std::io;
 use std::io::{ErrorKind, Write};
@@ -35,22 +35,33 @@ fn child(alloc: Global) -> Result<Vec<u8>, AllocError> {
     dictionary(alloc, [1, 0, 0, 0, 8, 3], b"\0\0\0\0\0\x18\x03\0\0p\0")
 }
 
+/// A file of a name with a copy of these bytes.
+fn file<'a>(alloc: Global, name: &'a str, bytes: &[u8]) -> Result<InputFile<'a>, AllocError> {
+    let bytes = Bytes::from_slice(alloc, bytes)?;
+    Ok(InputFile { name, bytes })
+}
+
 /// A file `c` and, with a parent, `p`, of a program whose pointers have 8 bytes.
-pub fn inputs<'a>(ctf: &'a [u8], parent: Option<&'a [u8]>) -> Inputs<'a> {
-    Inputs {
-        ctf: InputFile {
-            name: "c",
-            bytes: ctf,
-        },
-        parent: parent.map(|bytes| InputFile { name: "p", bytes }),
+pub fn inputs(
+    alloc: Global,
+    ctf: &[u8],
+    parent: Option<&[u8]>,
+) -> Result<Inputs<'static>, AllocError> {
+    let parent = match parent {
+        Some(bytes) => Some(file(alloc, "p", bytes)?),
+        None => None,
+    };
+    Ok(Inputs {
+        ctf: file(alloc, "c", ctf)?,
+        parent,
         sym: None,
         str: None,
         model: DataModel::Lp64,
-    }
+    })
 }
 
 /// Whether a dump of files writes this text, says this of an end, and has this exit status.
-pub fn ends(alloc: Global, inputs: &Inputs<'_>, status: u8, text: &str, said: &str) -> bool {
+pub fn ends(alloc: Global, inputs: Inputs<'_>, status: u8, text: &str, said: &str) -> bool {
     let mut out = Vec::new(alloc);
     let mut err = Vec::new(alloc);
     dump_lists(alloc, inputs, &mut out, &mut err) == status
@@ -59,20 +70,25 @@ pub fn ends(alloc: Global, inputs: &Inputs<'_>, status: u8, text: &str, said: &s
 }
 
 /// Whether a dictionary by itself is dumped as this text.
-fn dumps(alloc: Global, ctf: &[u8], text: &str) -> bool {
-    ends(alloc, &inputs(ctf, None), 0, text, "")
+fn dumps(alloc: Global, ctf: &[u8], text: &str) -> Result<bool, AllocError> {
+    Ok(ends(alloc, inputs(alloc, ctf, None)?, 0, text, ""))
 }
 
 /// Whether files are refused, and this is said.
-fn refuses(alloc: Global, ctf: &[u8], parent: Option<&[u8]>, said: &str) -> bool {
-    ends(alloc, &inputs(ctf, parent), 1, "", said)
+fn refuses(
+    alloc: Global,
+    ctf: &[u8],
+    parent: Option<&[u8]>,
+    said: &str,
+) -> Result<bool, AllocError> {
+    Ok(ends(alloc, inputs(alloc, ctf, parent)?, 1, "", said))
 }
 
 #[test]
 fn an_integer(rt: HostRuntime) -> Result<(), Fail> {
     let text = "ctf types=1 child=no parname=\"\" parlabel=\"\"\n\
         type 1 integer \"int\" root size=4 encoding=1 offset=0 bits=32 : \"int\" bytes=4 align=4\n";
-    assert!(rt; dumps(rt.alloc(), &int(rt.alloc())?, text));
+    assert!(rt; dumps(rt.alloc(), &int(rt.alloc())?, text)?);
     Ok(())
 }
 
@@ -86,7 +102,7 @@ fn functions(rt: HostRuntime) -> Result<(), Fail> {
         type 1 function \"\" hidden return=3 args=3 : \"int ()\" bytes=0 align=8\n\
         type 2 function \"\" hidden return=3 args=3,0 : \"int ()\" bytes=0 align=8\n\
         type 3 integer \"int\" root size=4 encoding=1 offset=0 bits=32 : \"int\" bytes=4 align=4\n";
-    assert!(rt; dumps(rt.alloc(), &ctf, text));
+    assert!(rt; dumps(rt.alloc(), &ctf, text)?);
     Ok(())
 }
 
@@ -106,7 +122,7 @@ fn structs(rt: HostRuntime) -> Result<(), Fail> {
         type 3 struct \"\" root size=8192 : \"struct (anon)\" bytes=8192 align=4\n\
         \x20 member \"a\" offset=0 type=1\n\
         \x20 member \"b\" offset=32 type=1\n";
-    assert!(rt; dumps(rt.alloc(), &ctf, text));
+    assert!(rt; dumps(rt.alloc(), &ctf, text)?);
     Ok(())
 }
 
@@ -145,7 +161,7 @@ fn each_other_kind(rt: HostRuntime) -> Result<(), Fail> {
         type 10 array \"\" hidden contents=1 index=1 count=10 size=40 : \
         \"int [10]\" bytes=40 align=4\n\
         type 11 pointer \"\" hidden to=0 : \"void *\" bytes=8 align=8\n";
-    assert!(rt; dumps(rt.alloc(), &ctf, text));
+    assert!(rt; dumps(rt.alloc(), &ctf, text)?);
     Ok(())
 }
 
@@ -155,7 +171,7 @@ fn labels(rt: HostRuntime) -> Result<(), Fail> {
     let ctf = dictionary(rt.alloc(), [0, 12, 12, 12, 12, 3], behind)?;
     let text = "ctf types=0 child=no parname=\"\" parlabel=\"\"\n\
         label \"a\" 5\n";
-    assert!(rt; dumps(rt.alloc(), &ctf, text));
+    assert!(rt; dumps(rt.alloc(), &ctf, text)?);
     Ok(())
 }
 
@@ -185,19 +201,13 @@ fn program(alloc: Global) -> Result<Vec<u8>, AllocError> {
 }
 
 /// A dictionary with a program's symbols and their strings.
-fn with_symbols<'a>(ctf: &'a [u8], sym: &'a [u8]) -> Inputs<'a> {
+fn with_symbols(alloc: Global, ctf: &[u8], sym: &[u8]) -> Result<Inputs<'static>, AllocError> {
     let strs = b"\0_START_\0x\0a\0b\0c\0f\0";
-    Inputs {
-        sym: Some(InputFile {
-            name: "sym",
-            bytes: sym,
-        }),
-        str: Some(InputFile {
-            name: "str",
-            bytes: strs,
-        }),
-        ..inputs(ctf, None)
-    }
+    Ok(Inputs {
+        sym: Some(file(alloc, "sym", sym)?),
+        str: Some(file(alloc, "str", strs)?),
+        ..inputs(alloc, ctf, None)?
+    })
 }
 
 /// The object `c` and the symbols in front of `b` have no entry.
@@ -211,19 +221,19 @@ fn symbols(rt: HostRuntime) -> Result<(), Fail> {
         object 4 \"b\" 1\n\
         function 6 \"f\" return=1 args=0\n\
         type 1 integer \"int\" root size=4 encoding=1 offset=0 bits=32 : \"int\" bytes=4 align=4\n";
-    assert!(rt; ends(alloc, &with_symbols(&ctf, &sym), 0, text, ""));
+    assert!(rt; ends(alloc, with_symbols(alloc, &ctf, &sym)?, 0, text, ""));
     // a function without arguments, and without an entry for the object
     let behind = b"\0\0\0\x28\x01\0\0\0\x01\0\0\0\x00\x0c\x04\0\x20\0\0\x01\0int\0";
     let ctf = dictionary(alloc, [0, 0, 2, 8, 20, 5], behind)?;
     let text = "ctf types=1 child=no parname=\"\" parlabel=\"\"\n\
         function 6 \"f\" return=1 args=\n\
         type 1 integer \"int\" root size=4 encoding=1 offset=0 bits=32 : \"int\" bytes=4 align=4\n";
-    assert!(rt; ends(alloc, &with_symbols(&ctf, &sym), 0, text, ""));
+    assert!(rt; ends(alloc, with_symbols(alloc, &ctf, &sym)?, 0, text, ""));
     // an entry of another kind is a fault of the dictionary's file
     let behind = b"\x01\0\0\x08\0\0\0\0\x01\0\0\0\x00\x0c\x04\0\x20\0\0\x01\0int\0";
     let ctf = dictionary(alloc, [0, 0, 2, 8, 20, 5], behind)?;
     let said = "ctfd: c: BadFuncs at 6\n";
-    assert!(rt; ends(alloc, &with_symbols(&ctf, &sym), 1, "", said));
+    assert!(rt; ends(alloc, with_symbols(alloc, &ctf, &sym)?, 1, "", said));
     Ok(())
 }
 
@@ -233,13 +243,13 @@ fn parents(rt: HostRuntime) -> Result<(), Fail> {
     let child = child(alloc)?;
     let text = "ctf types=1 child=yes parname=\"p\" parlabel=\"\"\n\
         type 32769 pointer \"\" hidden to=3 : NoParent bytes=8 align=8\n";
-    assert!(rt; dumps(alloc, &child, text));
+    assert!(rt; dumps(alloc, &child, text)?);
     let behind = b"\x01\0\0\0\x00\x0c\x04\0\x20\0\0\x01\
         \0\0\0\0\0\x18\x01\0\0\0\0\0\0\x18\x02\0\0int\0";
     let parent = dictionary(alloc, [0, 0, 0, 0, 28, 5], behind)?;
     let text = "ctf types=1 child=yes parname=\"p\" parlabel=\"\"\n\
         type 32769 pointer \"\" hidden to=3 : \"int ***\" bytes=8 align=8\n";
-    assert!(rt; ends(alloc, &inputs(&child, Some(&parent)), 0, text, ""));
+    assert!(rt; ends(alloc, inputs(alloc, &child, Some(&parent))?, 0, text, ""));
     Ok(())
 }
 
@@ -248,13 +258,13 @@ fn parents(rt: HostRuntime) -> Result<(), Fail> {
 fn refusals(rt: HostRuntime) -> Result<(), Fail> {
     let alloc = rt.alloc();
     let (int, pair, child) = (int(alloc)?, pair(alloc)?, child(alloc)?);
-    assert!(rt; refuses(alloc, b"", None, "ctfd: c: TooShort at 0\n"));
-    assert!(rt; refuses(alloc, b"", Some(b""), "ctfd: c: TooShort at 0\n"));
-    assert!(rt; refuses(alloc, &child, Some(b"bad!"), "ctfd: p: BadMagic at 0\n"));
-    assert!(rt; refuses(alloc, &int, Some(b"bad!"), "ctfd: p: BadMagic at 0\n"));
-    assert!(rt; refuses(alloc, &int, Some(&pair), "ctfd: c: NotChild at 0\n"));
-    assert!(rt; refuses(alloc, &child, Some(&child), "ctfd: c: ParentIsChild at 0\n"));
-    assert!(rt; refuses(alloc, &child, Some(&pair), "ctfd: c: ParentShort at 3\n"));
+    assert!(rt; refuses(alloc, b"", None, "ctfd: c: TooShort at 0\n")?);
+    assert!(rt; refuses(alloc, b"", Some(b""), "ctfd: c: TooShort at 0\n")?);
+    assert!(rt; refuses(alloc, &child, Some(b"bad!"), "ctfd: p: BadMagic at 0\n")?);
+    assert!(rt; refuses(alloc, &int, Some(b"bad!"), "ctfd: p: BadMagic at 0\n")?);
+    assert!(rt; refuses(alloc, &int, Some(&pair), "ctfd: c: NotChild at 0\n")?);
+    assert!(rt; refuses(alloc, &child, Some(&child), "ctfd: c: ParentIsChild at 0\n")?);
+    assert!(rt; refuses(alloc, &child, Some(&pair), "ctfd: c: ParentShort at 3\n")?);
     Ok(())
 }
 
@@ -295,7 +305,7 @@ fn failed_writes(rt: HostRuntime) -> Result<(), Fail> {
     ] {
         let mut out = Full { room, flushes };
         let mut err = Vec::new(alloc);
-        let ended = dump_lists(alloc, &inputs(&int, None), &mut out, &mut err);
+        let ended = dump_lists(alloc, inputs(alloc, &int, None)?, &mut out, &mut err);
         assert!(rt; ended == status, "at {room}");
         assert!(rt; err.as_slice() == said.as_bytes(), "at {room}");
     }
@@ -305,7 +315,7 @@ fn failed_writes(rt: HostRuntime) -> Result<(), Fail> {
         room: 0,
         flushes: true,
     };
-    assert!(rt; dump_lists(alloc, &inputs(b"", None), &mut out, &mut err) == 1);
+    assert!(rt; dump_lists(alloc, inputs(alloc, b"", None)?, &mut out, &mut err) == 1);
     Ok(())
 }
 

@@ -7,11 +7,11 @@ use std::alloc::{AllocError, Global};
 use std::test::Fail;
 
 /// A file `c` and, with a parent, `p`.
-fn short<'a>(ctf: &'a [u8], parent: Option<&'a [u8]>) -> Inputs<'a> {
-    Inputs {
+fn short(alloc: Global, ctf: &[u8], parent: Option<&[u8]>) -> Result<Inputs<'static>, AllocError> {
+    Ok(Inputs {
         model: DataModel::Ilp32,
-        ..inputs(ctf, parent)
-    }
+        ..inputs(alloc, ctf, parent)?
+    })
 }
 
 /// 1 int, 2 a pointer to it, 3 an array of three of 2, 4 a function, 5 a struct of 2 and 1, 6 a
@@ -46,7 +46,7 @@ fn each_kind_that_leads_to_a_pointer(rt: HostRuntime) -> Result<(), Fail> {
         \x20 member \"p\" offset=0 type=2\n\
         type 7 typedef \"t\" root to=2 : \"t\" bytes=4 align=4\n\
         type 8 integer \"q\" root size=8 encoding=1 offset=0 bits=64 : \"q\" bytes=8 align=8\n";
-    assert!(rt; ends(alloc, &short(&ctf, None), 0, text, ""));
+    assert!(rt; ends(alloc, short(alloc, &ctf, None)?, 0, text, ""));
     Ok(())
 }
 
@@ -67,12 +67,12 @@ fn parents(rt: HostRuntime) -> Result<(), Fail> {
     let text = "ctf types=2 child=yes parname=\"p\" parlabel=\"\"\n\
         type 32769 pointer \"\" hidden to=3 : \"int ***\" bytes=4 align=4\n\
         type 32770 const \"\" hidden to=3 : \"int **const\" bytes=4 align=4\n";
-    assert!(rt; ends(alloc, &short(&child, Some(&parent)), 0, text, ""));
+    assert!(rt; ends(alloc, short(alloc, &child, Some(&parent))?, 0, text, ""));
     // without it the pointer is sized, and the constant is not
     let text = "ctf types=2 child=yes parname=\"p\" parlabel=\"\"\n\
         type 32769 pointer \"\" hidden to=3 : NoParent bytes=4 align=4\n\
         type 32770 const \"\" hidden to=3 : NoParent bytes=NoParent align=NoParent\n";
-    assert!(rt; ends(alloc, &short(&child, None), 0, text, ""));
+    assert!(rt; ends(alloc, short(alloc, &child, None)?, 0, text, ""));
     Ok(())
 }
 
@@ -83,6 +83,6 @@ fn a_short_parent(rt: HostRuntime) -> Result<(), Fail> {
     let child = child(alloc)?;
     let parent = dictionary(alloc, [0, 0, 0, 0, 8, 0], b"\0\0\0\0\0\x18\0\0")?;
     let said = "ctfd: c: ParentShort at 3\n";
-    assert!(rt; ends(alloc, &short(&child, Some(&parent)), 1, "", said));
+    assert!(rt; ends(alloc, short(alloc, &child, Some(&parent))?, 1, "", said));
     Ok(())
 }

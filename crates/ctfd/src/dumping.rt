@@ -2,41 +2,26 @@
 
 use clap::ArgMatches;
 use ctf_command::{
-    DataModel, DumpEnd, InputFile, Inputs, MISUSED, dump_lists, model_named, read_file,
+    Bytes, DataModel, DumpEnd, InputFile, Inputs, MISUSED, dump_lists, model_named, read_file,
 };
 use std::io;
 use std::io::BufWriter;
 
-/// A file that was read, with the name that the words call it by.
-#[derive(Drop)]
-struct Given<'a> {
-    name: &'a str,
-    bytes: Vec<u8>,
+/// The file with a name.
+fn read<'a>(rt: &HostRuntime, name: &'a str) -> Result<InputFile<'a>, DumpEnd<'a>> {
+    let bytes = Bytes::from(read_file(rt, name)?);
+    Ok(InputFile { name, bytes })
 }
 
-impl<'a> Given<'a> {
-    fn read(rt: &HostRuntime, name: &'a str) -> Result<Given<'a>, DumpEnd<'a>> {
-        let bytes = read_file(rt, name)?;
-        Ok(Given { name, bytes })
-    }
-
-    /// The file of an option, if that is there.
-    fn option(
-        rt: &HostRuntime,
-        words: &ArgMatches<'a>,
-        option: &str,
-    ) -> Result<Option<Given<'a>>, DumpEnd<'a>> {
-        match words.get_str(option) {
-            Some(name) => Ok(Some(Given::read(rt, name)?)),
-            None => Ok(None),
-        }
-    }
-
-    fn lent(&self) -> InputFile<'_> {
-        InputFile {
-            name: self.name,
-            bytes: &self.bytes,
-        }
+/// The file of an option, if that is there.
+fn read_option<'a>(
+    rt: &HostRuntime,
+    words: &ArgMatches<'a>,
+    option: &str,
+) -> Result<Option<InputFile<'a>>, DumpEnd<'a>> {
+    match words.get_str(option) {
+        Some(name) => Ok(Some(read(rt, name)?)),
+        None => Ok(None),
     }
 }
 
@@ -46,21 +31,17 @@ fn dump_files<'a>(
     words: &ArgMatches<'a>,
     model: DataModel,
 ) -> Result<u8, DumpEnd<'a>> {
-    let ctf = Given::read(rt, words.get_str("ctf").unwrap_or(""))?;
-    let parent = Given::option(rt, words, "parent")?;
-    let sym = Given::option(rt, words, "sym")?;
-    let strs = Given::option(rt, words, "str")?;
     let inputs = Inputs {
-        ctf: ctf.lent(),
-        parent: parent.as_ref().map(Given::lent),
-        sym: sym.as_ref().map(Given::lent),
-        str: strs.as_ref().map(Given::lent),
+        ctf: read(rt, words.get_str("ctf").unwrap_or(""))?,
+        parent: read_option(rt, words, "parent")?,
+        sym: read_option(rt, words, "sym")?,
+        str: read_option(rt, words, "str")?,
         model,
     };
     let Ok(mut out) = BufWriter::new(rt.alloc(), io::writer(rt)) else {
         return Err(DumpEnd::Memory);
     };
-    Ok(dump_lists(rt.alloc(), &inputs, &mut out, &mut rt.stderr()))
+    Ok(dump_lists(rt.alloc(), inputs, &mut out, &mut rt.stderr()))
 }
 
 /// Dumps the files that the words name, and answers the exit status.

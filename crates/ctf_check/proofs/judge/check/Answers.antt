@@ -7,10 +7,10 @@ use Rattle.ctf_model.specs.format.Lists.{Lists, tables as tables_of}
 use Rattle.ctf_model.specs.format.Name.{Tables}
 use Rattle.ctf_model.specs.format.Section.{Piece, records}
 use Rattle.ctf_model.specs.declared.faults.Fault.{Fault}
+use Rattle.ctf_chains.specs.Starts.{starts_in}
 use Rattle.ctf_check.specs.ListsView.{given}
 use Rattle.ctf_check.specs.Stages.{records_fault}
 use Rattle.ctf_check.proofs.Order.{at_header, at_records, at_names, types_are, read_whole}
-use Rattle.ctf_check.proofs.Terms.{terms_count}
 use Rattle.ctf_check.proofs.TypeStages.{at_types, at_types_or_memory, at_types_or_late}
 use Rattle.ctf_check.proofs.judge.check.Goals as goal
 
@@ -69,23 +69,23 @@ same_child n g h e f = rw (e, f) refl
 pub judge_types-requires : goal.judge_types-requires
 judge_types-requires c = record { whole = read_whole (records c.bytes_in-types.result.now) c.in_ok-count.ensures.exact_ok; count = c.in_ok-count.ensures.count; short = c.bytes_in-types.ensures.short }
 
-pub returns-in_err-judge_types-clause-exact_err : goal.returns-in_err-judge_types-clause-exact_err
-returns-in_err-judge_types-clause-exact_err c =
-    let p = err_from_is_err_and c.from_residual-in_err-judge_types.result c.from_residual-in_err-judge_types.ensures.1 in
+pub returns-in_err-starts-clause-exact_err : goal.returns-in_err-starts-clause-exact_err
+returns-in_err-starts-clause-exact_err c =
+    let p = err_from_is_err_and c.from_residual-in_err-starts.result c.from_residual-in_err-starts.ensures.1 in
     let s = given c.args.ctf.now (option_copied c.args.sym) (option_copied c.args.strs) in
     let part = types_are s.ctf c.bytes_in-types.result.now c.bytes_in-types.ensures.bytes in
     let same = same_tables _ s c.bytes_in.result.now c.new-ends.ensures c.bytes_in.ensures.bytes in
     let bad = c.bad_name.ensures ∙ ap (λ (t : Tables). first_nameless t (sites s.ctf)) same in
-    rw (p.1, p.2) (at_types_or_memory s c.bytes_in-types.result.now _ c.bad_name.result c.in_err-judge_types.field-0.0 c.in_ok-header.ensures.exact_ok part c.in_ok-count.ensures.exact_ok bad c.in_default.is (same_child c.parname-child.result c.in_ok-header.header (fields c.args.ctf.now) c.parname-child.ensures c.in_ok-header.ensures.fields) c.in_err-judge_types.ensures.err)
+    rw (p.1, p.2) (at_types_or_memory s c.bytes_in-types.result.now _ c.bad_name.result c.in_err-starts.field-0.0 c.in_ok-header.ensures.exact_ok part c.in_ok-count.ensures.exact_ok bad c.in_default.is (same_child c.parname-child.result c.in_ok-header.header (fields c.args.ctf.now) c.parname-child.ensures c.in_ok-header.ensures.fields) c.in_err-starts.ensures.err)
 
-pub returns-in_err-judge_types-clause-late : goal.returns-in_err-judge_types-clause-late
-returns-in_err-judge_types-clause-late c =
-    let p = err_from_is_err_and c.from_residual-in_err-judge_types.result c.from_residual-in_err-judge_types.ensures.1 in
+pub returns-in_err-starts-clause-late : goal.returns-in_err-starts-clause-late
+returns-in_err-starts-clause-late c =
+    let p = err_from_is_err_and c.from_residual-in_err-starts.result c.from_residual-in_err-starts.ensures.1 in
     let s = given c.args.ctf.now (option_copied c.args.sym) (option_copied c.args.strs) in
     let part = types_are s.ctf c.bytes_in-types.result.now c.bytes_in-types.ensures.bytes in
     let same = same_tables _ s c.bytes_in.result.now c.new-ends.ensures c.bytes_in.ensures.bytes in
     let bad = c.bad_name.ensures ∙ ap (λ (t : Tables). first_nameless t (sites s.ctf)) same in
-    rw (p.1, p.2) (at_types_or_late s c.bytes_in-types.result.now _ c.in_ok-count.count c.bad_name.result c.in_err-judge_types.field-0.0 c.in_ok-header.ensures.exact_ok part c.in_ok-count.ensures.exact_ok bad c.in_default.is (same_child c.parname-child.result c.in_ok-header.header (fields c.args.ctf.now) c.parname-child.ensures c.in_ok-header.ensures.fields) c.in_ok-count.ensures.count c.in_err-judge_types.ensures.late)
+    rw (p.1, p.2) (at_types_or_late s c.bytes_in-types.result.now _ c.in_ok-count.count c.bad_name.result c.in_err-starts.field-0.0 c.in_ok-header.ensures.exact_ok part c.in_ok-count.ensures.exact_ok bad c.in_default.is (same_child c.parname-child.result c.in_ok-header.header (fields c.args.ctf.now) c.parname-child.ensures c.in_ok-header.ensures.fields) c.in_ok-count.ensures.count c.in_err-starts.ensures.late)
 
 pub judge_symbols-requires : goal.judge_symbols-requires
 judge_symbols-requires c =
@@ -104,7 +104,7 @@ returns-in_err-judge_symbols-clause-exact_err c =
     let part = types_are s.ctf c.bytes_in-types.result.now c.bytes_in-types.ensures.bytes in
     let same = same_tables _ s c.bytes_in.result.now c.new-ends.ensures c.bytes_in.ensures.bytes in
     let bad = c.bad_name.ensures ∙ ap (λ (t : Tables). first_nameless t (sites s.ctf)) same in
-    let none = at_types s c.bytes_in-types.result.now _ c.bad_name.result None c.in_ok-header.ensures.exact_ok part c.in_ok-count.ensures.exact_ok bad c.in_default.is (same_child c.parname-child.result c.in_ok-header.header (fields c.args.ctf.now) c.parname-child.ensures c.in_ok-header.ensures.fields) c.in_ok-judge_types.ensures.ok in
+    let none = at_types s c.bytes_in-types.result.now _ c.bad_name.result None c.in_ok-header.ensures.exact_ok part c.in_ok-count.ensures.exact_ok bad c.in_default.is (same_child c.parname-child.result c.in_ok-header.header (fields c.args.ctf.now) c.parname-child.ensures c.in_ok-header.ensures.fields) c.in_ok-starts.ensures.ok in
     rw (p.1, p.2) (inr (none ∙ c.in_err-judge_symbols.ensures.err))
 
 pub returns-in_err-judge_symbols-clause-late : goal.returns-in_err-judge_symbols-clause-late
@@ -114,20 +114,16 @@ returns-in_err-judge_symbols-clause-late c =
     let part = types_are s.ctf c.bytes_in-types.result.now c.bytes_in-types.ensures.bytes in
     let same = same_tables _ s c.bytes_in.result.now c.new-ends.ensures c.bytes_in.ensures.bytes in
     let bad = c.bad_name.ensures ∙ ap (λ (t : Tables). first_nameless t (sites s.ctf)) same in
-    let none = at_types s c.bytes_in-types.result.now _ c.bad_name.result None c.in_ok-header.ensures.exact_ok part c.in_ok-count.ensures.exact_ok bad c.in_default.is (same_child c.parname-child.result c.in_ok-header.header (fields c.args.ctf.now) c.parname-child.ensures c.in_ok-header.ensures.fields) c.in_ok-judge_types.ensures.ok in
+    let none = at_types s c.bytes_in-types.result.now _ c.bad_name.result None c.in_ok-header.ensures.exact_ok part c.in_ok-count.ensures.exact_ok bad c.in_default.is (same_child c.parname-child.result c.in_ok-header.header (fields c.args.ctf.now) c.parname-child.ensures c.in_ok-header.ensures.fields) c.in_ok-starts.ensures.ok in
     rw (p.1, p.2) (inr (none ∙ c.in_err-judge_symbols.ensures.err))
 
-pub accepted-requires : goal.accepted-requires
-accepted-requires c =
+pub returns-clause-starts : goal.returns-clause-starts
+returns-clause-starts c = c.in_ok-starts.ensures.starts ∙ ap starts_in (types_are c.args.ctf.now c.bytes_in-types.result.now c.bytes_in-types.ensures.bytes)
+
+pub returns-clause-exact_ok : goal.returns-clause-exact_ok
+returns-clause-exact_ok c =
     let s = given c.args.ctf.now (option_copied c.args.sym) (option_copied c.args.strs) in
     let part = types_are s.ctf c.bytes_in-types.result.now c.bytes_in-types.ensures.bytes in
     let same = same_tables _ s c.bytes_in.result.now c.new-ends.ensures c.bytes_in.ensures.bytes in
     let bad = c.bad_name.ensures ∙ ap (λ (t : Tables). first_nameless t (sites s.ctf)) same in
-    let none = at_types s c.bytes_in-types.result.now _ c.bad_name.result None c.in_ok-header.ensures.exact_ok part c.in_ok-count.ensures.exact_ok bad c.in_default.is (same_child c.parname-child.result c.in_ok-header.header (fields c.args.ctf.now) c.parname-child.ensures c.in_ok-header.ensures.fields) c.in_ok-judge_types.ensures.ok ∙ c.in_ok-judge_symbols.ensures.ok in
-    record {
-      faultless = none;
-      fits = c.in_ok-header.ensures.fields;
-      inside = c.in_ok-header.ensures.inside;
-      counted = c.in_ok-count.ensures.count ∙ ap (λ (l : List (Result Piece Fault)). length l) part ∙ sym (terms_count s none);
-      begin = λ s e. absurd cc;
-    }
+    at_types s c.bytes_in-types.result.now _ c.bad_name.result None c.in_ok-header.ensures.exact_ok part c.in_ok-count.ensures.exact_ok bad c.in_default.is (same_child c.parname-child.result c.in_ok-header.header (fields c.args.ctf.now) c.parname-child.ensures c.in_ok-header.ensures.fields) c.in_ok-starts.ensures.ok ∙ c.in_ok-judge_symbols.ensures.ok

@@ -1,21 +1,15 @@
-use Rattle.std.proofs.Common.{◌≡◌, refl, subst}
-use Rattle.std.proofs.lemmas.Result.{err_from_is_err_and, IfErr-weaker}
+use Rattle.std.proofs.Common.{◌≡◌, IfErr, Some, refl, subst}
 use Rattle.ctf_model.specs.dumps.Dump.{dump}
+use Rattle.ctf_model.specs.spaces.Kept.{Kept, kept_space}
 use Rattle.ctf_model.specs.spaces.Space.{Space}
 use Rattle.ctf_space.specs.SpaceView.{space_of}
 use Rattle.ctf_dump.specs.Progress.{HasBegun}
-use Rattle.ctf_dump.specs.Refused.{space_in}
-use Rattle.ctf_dump.proofs.Progress.{begun_nothing}
+use Rattle.ctf_dump.specs.declared.ends.DumpEnd.TheVariants.{Memory}
 use Rattle.ctf_dump.proofs.lists.dump_over.Goals as goal
-
-pub returns-in_err-starts-clause-begun : goal.returns-in_err-starts-clause-begun
-returns-in_err-starts-clause-begun g c =
-    let p = err_from_is_err_and c.from_residual.result c.from_residual.ensures.1 in
-    rw (p.1, p.2) (λ memory. begun_nothing _ _)
 
 pub returns-in-Ok-clause-begun : goal.returns-in-Ok-clause-begun
 returns-in-Ok-clause-begun g c =
-    let same : space_of c.in-Ok.space ≡ space_in c.args.inputs.now = rw (c.requires.parent, c.in-Ok.ensures.ok, c.requires.own, c.indexed-dictionary.ensures, c.lists-2.ensures) refl in
-    IfErr-weaker c.dump_space.result _ _
-    (λ e begun memory. subst (λ (s : Space). HasBegun (g.W.Write.contents c.args.out.now) (g.W.Write.contents c.dump_space.new.out) (dump s)) same (begun memory))
-    c.dump_space.ensures.begun
+    let own : Kept = record { lists = c.args.own.now; model = c.args.model } in
+    let parent : Kept = record { lists = c.args.parent.now; model = c.args.model } in
+    let same : space_of c.in-Ok.space ≡ kept_space own (Some parent) = rw (c.in-Ok.ensures.ok, c.view.ensures, c.view-2.ensures) refl in
+    subst (λ (s : Space). IfErr c.dump_space.result (λ e. e ≡ Memory → HasBegun (g.W.Write.contents c.args.out.now) (g.W.Write.contents c.dump_space.new.out) (dump s))) same c.dump_space.ensures.begun

@@ -1,20 +1,19 @@
 use Rattle.std.proofs.Common.{ap, inl, ◌∙◌}
 use Rattle.ctf_protocol.specs.answers.Questions.{said_of}
 use Rattle.ctf_space.specs.SpaceView.{space_of}
-use Rattle.ctf_library.proofs.SaidOfFacts.{said_of_facts}
 use Rattle.ctf_library.proofs.answering.answer_on.Goals as goal
 
 pub returns-in-Lent-clause-answer : goal.returns-in-Lent-clause-answer
 returns-in-Lent-clause-answer c =
     let s = space_of c.args.space.now in
-    inl (c.in-Lent.ensures ∙ said_of_facts c.args.question.now s c.args.t.0 _ _ c.facts.ensures ∙ ap (said_of c.args.question.now s c.args.t.0) c.in-Ok.ensures)
+    inl (c.in-Lent.ensures ∙ ap (said_of c.args.question.now s c.args.t.0) c.in-Ok.ensures)
 
 pub returns-in-Lent-clause-quiet : goal.returns-in-Lent-clause-quiet
 returns-in-Lent-clause-quiet c =
     let s = space_of c.args.space.now in
-    λ quiet. c.in-Lent.ensures ∙ said_of_facts c.args.question.now s c.args.t.0 _ _ c.facts.ensures ∙ ap (said_of c.args.question.now s c.args.t.0) c.in-Ok.ensures
+    λ quiet. c.in-Lent.ensures ∙ ap (said_of c.args.question.now s c.args.t.0) c.in-Ok.ensures
 
 pub returns-in-Lent-clause-lent : goal.returns-in-Lent-clause-lent
 returns-in-Lent-clause-lent c =
     let s = space_of c.args.space.now in
-    λ lent. c.in-Lent.ensures ∙ said_of_facts c.args.question.now s c.args.t.0 _ _ c.facts.ensures ∙ ap (said_of c.args.question.now s c.args.t.0) c.in-Ok.ensures
+    λ lent. c.in-Lent.ensures ∙ ap (said_of c.args.question.now s c.args.t.0) c.in-Ok.ensures

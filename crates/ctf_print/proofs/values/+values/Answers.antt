@@ -1,21 +1,16 @@
 use Rattle.std.proofs.Common.{◌≡◌, ◌^◌, ◌*◌, ◌+◌, ◌-◌, map, eqb, false, codes, refl, sym, ap, ◌∙◌, arith}
 use Rattle.std.proofs.lemmas.Bool.{ne_eqb}
 use Rattle.std.proofs.lemmas.Result.{err_from_is_err_and}
-use Rattle.ctf_check.specs.FactsView.{shape_seen}
-use Rattle.ctf_check.specs.TypedView.{spelled}
-use Rattle.ctf_model.specs.figures.Figures.{incomplete, size as size_of}
-use Rattle.ctf_model.specs.values.Pieces.{ends, piece, separated}
+use Rattle.ctf_model.specs.figures.Figures.{size as size_of}
+use Rattle.ctf_model.specs.values.Pieces.{piece, separated}
 use Rattle.ctf_model.specs.values.Values.{elements, elements_shown, label, member_shown}
 use Rattle.ctf_views.specs.ItemsView.{member as member_seen}
 use Rattle.ctf_print.specs.ImageView.{memory_of, shows, types_of}
 use Rattle.ctf_print.specs.Written.{written}
 use Rattle.ctf_print.proofs.Alike.{counted}
 use Rattle.ctf_print.proofs.Names.{item_lent, some_lent}
-use Rattle.ctf_print.proofs.Placings.{told_is}
-use Rattle.ctf_print.proofs.Tellings.{no_type_shown, none_shown, too_deep, type_shown}
-use Rattle.ctf_print.proofs.Writes.{at_element, first_refused, later_refused, member_refused, member_turn, next_ok, no_more, no_more_members, no_size, refused_first, second_refused, separated_is, some_member, two_ok}
+use Rattle.ctf_print.proofs.Writes.{at_element, first_refused, later_refused, member_refused, member_turn, next_ok, no_more, no_more_members, no_size, none_found, refused_first, second_refused, separated_is, some_member, two_ok}
 use Rattle.ctf_print.proofs.values.+values.Goals as goal
-use Rattle.ctf_print.proofs.values.+values.Goals.{show_type-then-nesting-eq0-via-then-nesting-eq0, show_type-then-nesting-eq0-via-else-nesting-eq0+then-number-eq0}
 
 -- ---- arrays
 
@@ -57,7 +52,7 @@ show_elements-loop-i-init t c =
     record {
       rest = rw some (ap (written c.args.out.now) (separated_is (elements (shows c.args.image.now c.args.nesting) c.args.at c.args.array.contents.0 c.args.array.count (size_of (types_of c.args.image.now) c.args.array.contents.0))));
       place = omega arith;
-      known = refl;
+      known = c.find.ensures.kept;
     }
 
 pub show_elements-returns-in_err-put_comma-clause-err : goal.show_elements-returns-in_err-put_comma-clause-err
@@ -66,21 +61,29 @@ show_elements-returns-in_err-put_comma-clause-err t c =
     let next = at_element (shows c.args.image.now c.args.nesting) c.args.at c.args.array.contents.0 c.args.array.count c.in-Ok.size c.loop-i.i (size_of (types_of c.args.image.now) c.args.array.contents.0) (sym c.size.ensures ∙ c.in-Ok.is) c.loop-i-test.true in
     rw (p.1, p.2) (first_refused c.args.out.now c.loop-i.out _ _ _ _ (c.loop-i.invariant.rest ∙ ap (written c.loop-i.out) next) c.in_err-put_comma.ensures.err)
 
-pub show_elements-returns-in_err-show_value-clause-err : goal.show_elements-returns-in_err-show_value-clause-err
-show_elements-returns-in_err-show_value-clause-err t c =
-    let p = err_from_is_err_and c.from_residual-in_err-show_value.result c.from_residual-in_err-show_value.ensures.1 in
+pub show_elements-returns-in-Err-find-clause-err : goal.show_elements-returns-in-Err-find-clause-err
+show_elements-returns-in-Err-find-clause-err t c =
+    let some : eqb c.args.array.count 0 ≡ false = ne_eqb c.args.array.count 0 c.if-array-eq0.false in
+    rw some (rw (none_found (shows c.args.image.now c.args.nesting) c.args.at c.args.array.contents.0 c.args.array.count c.in-Ok.size (size_of (types_of c.args.image.now) c.args.array.contents.0) c.in-Err-find.fault (sym c.size.ensures ∙ c.in-Ok.is) (omega (arith, c.if-array-eq0.false)) c.in-Err-find.ensures.fault) c.end-in-Err-find.ensures.err)
+
+pub show_elements-show_told-requires : goal.show_elements-show_told-requires
+show_elements-show_told-requires t c = (omega (arith, c.decreases, c.in-Ok-find.ensures.found.fewer), (c.loop-i.invariant.known ∙ c.requires.known, c.in-Ok-find.ensures.found.told))
+
+pub show_elements-returns-in_err-show_told-clause-err : goal.show_elements-returns-in_err-show_told-clause-err
+show_elements-returns-in_err-show_told-clause-err t c =
+    let p = err_from_is_err_and c.from_residual-in_err-show_told.result c.from_residual-in_err-show_told.ensures.1 in
     let next = at_element (shows c.args.image.now c.args.nesting) c.args.at c.args.array.contents.0 c.args.array.count c.in-Ok.size c.loop-i.i (size_of (types_of c.args.image.now) c.args.array.contents.0) (sym c.size.ensures ∙ c.in-Ok.is) c.loop-i-test.true in
     let here = counted (types_of c.args.image.now) (memory_of c.args.image.now) c.args.nesting c.args.array.contents.0 (c.args.at + 8 * c.in-Ok.size * c.loop-i.i) (2 ^ 128 - 1) c.loop-i.place (omega arith) (omega (arith, c.loop-i.invariant.place)) in
-    rw (p.1, p.2) (second_refused c.args.out.now c.loop-i.out _ _ _ _ _ (c.loop-i.invariant.rest ∙ ap (written c.loop-i.out) next) c.put_comma.new.self c.in_ok-put_comma.ensures.ok (rw (← here) c.in_err-show_value.ensures.err))
+    rw (p.1, p.2) (second_refused c.args.out.now c.loop-i.out _ _ _ _ _ (c.loop-i.invariant.rest ∙ ap (written c.loop-i.out) next) c.put_comma.new.self c.in_ok-put_comma.ensures.ok (rw (sym here ∙ c.in-Ok-find.ensures.found.shown c.loop-i.place) c.in_err-show_told.ensures.err))
 
 pub show_elements-loop-i-preserved : goal.show_elements-loop-i-preserved
 show_elements-loop-i-preserved t c =
     let next = at_element (shows c.args.image.now c.args.nesting) c.args.at c.args.array.contents.0 c.args.array.count c.in-Ok.size c.loop-i.i (size_of (types_of c.args.image.now) c.args.array.contents.0) (sym c.size.ensures ∙ c.in-Ok.is) c.loop-i-test.true in
     let here = counted (types_of c.args.image.now) (memory_of c.args.image.now) c.args.nesting c.args.array.contents.0 (c.args.at + 8 * c.in-Ok.size * c.loop-i.i) (2 ^ 128 - 1) c.loop-i.place (omega arith) (omega (arith, c.loop-i.invariant.place)) in
     record {
-      rest = two_ok c.args.out.now c.loop-i.out _ _ _ _ (c.loop-i.invariant.rest ∙ ap (written c.loop-i.out) next) c.put_comma.new.self c.in_ok-put_comma.ensures.ok c.show_value.new.out (rw (← here) c.in_ok-show_value.ensures.ok);
+      rest = two_ok c.args.out.now c.loop-i.out _ _ _ _ (c.loop-i.invariant.rest ∙ ap (written c.loop-i.out) next) c.put_comma.new.self c.in_ok-put_comma.ensures.ok c.show_told.new.out (rw (sym here ∙ c.in-Ok-find.ensures.found.shown c.loop-i.place) c.in_ok-show_told.ensures.ok);
       place = omega (arith, c.saturating_add-place.ensures, c.from.ensures, c.loop-i.invariant.place);
-      known = c.show_value.ensures.kept ∙ c.loop-i.invariant.known;
+      known = c.show_told.ensures.kept ∙ c.loop-i.invariant.known;
     }
 
 pub show_elements-returns-clause-ok : goal.show_elements-returns-clause-ok
@@ -171,42 +174,3 @@ pub show_members-returns-clause-err : goal.show_members-returns-clause-err
 show_members-returns-clause-err t c =
     let all = two_ok c.args.out.now c.args.out.now _ (piece (codes "{")) (separated (map (member_shown (shows c.args.image.now c.args.nesting) c.args.at) c.args.members.now)) (piece (codes "}")) refl c.put.new.self c.in_ok-put.ensures.ok c.show_each_member.new.out c.in_ok-show_each_member.ensures.ok in
     later_refused c.put-2.result _ _ _ _ all c.put-2.ensures.err
-
--- ---- values
-
-pub show_type-returns-then-nesting-eq0-clause-ok : goal.show_type-returns-then-nesting-eq0-clause-ok
-show_type-returns-then-nesting-eq0-clause-ok t c =
-    let is : shows c.args.image.now c.args.nesting c.args.number.0 c.args.at ≡ ends incomplete =
-    elim c.then-nesting-eq0.branch [ show_type-then-nesting-eq0-via-then-nesting-eq0 w ↦ too_deep (types_of c.args.image.now) (memory_of c.args.image.now) c.args.nesting c.args.number.0 c.args.at w.if-nesting-eq0.true | show_type-then-nesting-eq0-via-else-nesting-eq0+then-number-eq0 w ↦ none_shown (types_of c.args.image.now) (memory_of c.args.image.now) c.args.nesting c.args.number.0 c.args.at w.if-number-eq0.true ] in
-    rw is (rw c.placeless.ensures at c.end.ensures.ok)
-
-pub show_type-returns-then-nesting-eq0-clause-err : goal.show_type-returns-then-nesting-eq0-clause-err
-show_type-returns-then-nesting-eq0-clause-err t c =
-    let is : shows c.args.image.now c.args.nesting c.args.number.0 c.args.at ≡ ends incomplete =
-    elim c.then-nesting-eq0.branch [ show_type-then-nesting-eq0-via-then-nesting-eq0 w ↦ too_deep (types_of c.args.image.now) (memory_of c.args.image.now) c.args.nesting c.args.number.0 c.args.at w.if-nesting-eq0.true | show_type-then-nesting-eq0-via-else-nesting-eq0+then-number-eq0 w ↦ none_shown (types_of c.args.image.now) (memory_of c.args.image.now) c.args.nesting c.args.number.0 c.args.at w.if-number-eq0.true ] in
-    rw is (rw c.placeless.ensures at c.end.ensures.err)
-
-pub show_type-show_told-requires : goal.show_type-show_told-requires
-show_type-show_told-requires t c =
-    let told = told_is (types_of c.args.image.now) c.args.number.0 (spelled c.in-Ok.found) (shape_seen c.shape.result) (rw c.in-Ok.is at c.term.ensures) c.shape.ensures in
-    (omega (arith, c.decreases, c.if-nesting-eq0.false), (c.requires.known, told ∙ sym c.told_by-how.ensures))
-
-pub show_type-returns-in-Ok-clause-ok : goal.show_type-returns-in-Ok-clause-ok
-show_type-returns-in-Ok-clause-ok t c =
-    let value = type_shown (types_of c.args.image.now) (memory_of c.args.image.now) c.args.nesting c.args.number.0 c.args.at (spelled c.in-Ok.found) (shape_seen c.shape.result) c.if-nesting-eq0.false c.if-number-eq0.false (rw c.in-Ok.is at c.term.ensures) c.shape.ensures in
-    rw value (rw c.told_by-how.ensures at c.show_told.ensures.ok)
-
-pub show_type-returns-in-Ok-clause-err : goal.show_type-returns-in-Ok-clause-err
-show_type-returns-in-Ok-clause-err t c =
-    let value = type_shown (types_of c.args.image.now) (memory_of c.args.image.now) c.args.nesting c.args.number.0 c.args.at (spelled c.in-Ok.found) (shape_seen c.shape.result) c.if-nesting-eq0.false c.if-number-eq0.false (rw c.in-Ok.is at c.term.ensures) c.shape.ensures in
-    rw value (rw c.told_by-how.ensures at c.show_told.ensures.err)
-
-pub show_type-returns-in-Err-clause-ok : goal.show_type-returns-in-Err-clause-ok
-show_type-returns-in-Err-clause-ok t c =
-    let value = no_type_shown (types_of c.args.image.now) (memory_of c.args.image.now) c.args.nesting c.args.number.0 c.args.at c.in-Err.fault c.if-nesting-eq0.false c.if-number-eq0.false (rw c.in-Err.is at c.term.ensures) in
-    rw value c.end-in-Err.ensures.ok
-
-pub show_type-returns-in-Err-clause-err : goal.show_type-returns-in-Err-clause-err
-show_type-returns-in-Err-clause-err t c =
-    let value = no_type_shown (types_of c.args.image.now) (memory_of c.args.image.now) c.args.nesting c.args.number.0 c.args.at c.in-Err.fault c.if-nesting-eq0.false c.if-number-eq0.false (rw c.in-Err.is at c.term.ensures) in
-    rw value c.end-in-Err.ensures.err

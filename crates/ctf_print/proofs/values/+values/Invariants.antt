@@ -7,33 +7,30 @@ use Rattle.ctf_print.specs.Written.{separated_from, written}
 use Rattle.ctf_print.proofs.values.+values.Given as goal
 
 abbrev pub decreases-show_value : goal.decreases-show_value
-decreases-show_value l = 6 * l.nesting + 1
-
-abbrev pub decreases-show_type : goal.decreases-show_type
-decreases-show_type l = 6 * l.nesting
+decreases-show_value l = 5 * l.nesting
 
 abbrev pub decreases-show_elements : goal.decreases-show_elements
-decreases-show_elements l = 6 * l.nesting + 2
+decreases-show_elements l = 5 * l.nesting
 
 abbrev pub decreases-show_array : goal.decreases-show_array
-decreases-show_array l = 6 * l.nesting + 3
+decreases-show_array l = 5 * l.nesting + 1
 
 abbrev pub decreases-show_member : goal.decreases-show_member
-decreases-show_member l = 6 * l.nesting + 2
+decreases-show_member l = 5 * l.nesting + 1
 
 abbrev pub decreases-show_each_member : goal.decreases-show_each_member
-decreases-show_each_member l = 6 * l.nesting + 3
+decreases-show_each_member l = 5 * l.nesting + 2
 
 abbrev pub decreases-show_members : goal.decreases-show_members
-decreases-show_members l = 6 * l.nesting + 4
+decreases-show_members l = 5 * l.nesting + 3
 
 abbrev pub decreases-show_told : goal.decreases-show_told
-decreases-show_told l = 6 * l.nesting + 5
+decreases-show_told l = 5 * l.found.now.nesting + 4
 
 abbrev pub invariant-show_elements-loop-i : goal.invariant-show_elements-loop-i
 invariant-show_elements-loop-i l = record {
-  rest : written l.fn.out (elements_shown (shows l.image l.nesting) l.at l.array.contents.0 l.array.count (size_of (types_of l.image) l.array.contents.0))
-      ≡ written l.out (separated_from l.i (drop l.i (elements (shows l.image l.nesting) l.at l.array.contents.0 l.array.count (size_of (types_of l.image) l.array.contents.0))));
+  rest : written l.fn.out (elements_shown (shows l.image l.nesting) l.at l.fn.array.contents.0 l.fn.array.count (size_of (types_of l.image) l.fn.array.contents.0))
+      ≡ written l.out (separated_from l.i (drop l.i (elements (shows l.image l.nesting) l.at l.fn.array.contents.0 l.fn.array.count (size_of (types_of l.image) l.fn.array.contents.0))));
   place : l.place ≡ min (l.at + 8 * l.size * l.i) (2 ^ 128 - 1);
   known : l.known ≡ l.fn.known;
 }

@@ -4,7 +4,8 @@ use Rattle.ctf_draft.specs.DraftView.{Owned}
 use Rattle.ctf_draft.specs.NewView.{new_of}
 use Rattle.ctf_library.specs.Drafting.{IsUnder}
 use Rattle.ctf_model.specs.drafts.Adders.{add_type}
-use Rattle.ctf_c.proofs.Alike.{still_under, type_alike}
+use Rattle.ctf_c.proofs.Alike.{still_under}
+use Rattle.ctf_library.proofs.DraftParents.{type_alike}
 use Rattle.ctf_c.proofs.session.Session.add.Goals as goal
 
 pub invariant_of-self-2 : goal.invariant_of-self-2

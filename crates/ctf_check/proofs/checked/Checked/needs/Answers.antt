@@ -8,7 +8,7 @@ use Rattle.ctf_check.proofs.checked.Checked.needs.Goals as goal
 pub returns-then-child : goal.returns-then-child
 returns-then-child c =
     let d = c.args.self.now in
-    let part = types_are d.lists.ctf.now d.types.now d.part in
+    let part = types_are (lists_of d).ctf c.section.result.now c.section.ensures.bytes in
     let child_is = c.if-child.ensures in
     let records = c.records_need.ensures ∙ ap records_need part in
     let entries = c.entries_need.ensures ∙ ap entries_need c.entries.ensures in

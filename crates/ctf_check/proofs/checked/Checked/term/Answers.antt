@@ -47,14 +47,14 @@ own xs n (Some r) e = ap (piece_numbered xs) (numbered_index xs n (piece r) (sym
 pub returns-clause-exact : goal.returns-clause-exact
 returns-clause-exact c =
     let d = c.args.self.now in
-    let part = types_are d.lists.ctf.now d.types.now d.part in
+    let part = types_are (lists_of d).ctf c.section.result.now c.section.ensures.bytes in
     let found = c.find.ensures ∙ ap (λ (l : List (Result Piece Fault)). piece_numbered l c.args.index) part in
     some_iff (tables_of d) _ c.args.index _ _ (all_spelled (lists_of d) d.faultless) found (type_is (lists_of d) c.args.index d.faultless)
 
 pub returns-clause-spells : goal.returns-clause-spells
 returns-clause-spells c =
     let d = c.args.self.now in
-    let part = types_are d.lists.ctf.now d.types.now d.part in
+    let part = types_are (lists_of d).ctf c.section.result.now c.section.ensures.bytes in
     let found = c.find.ensures ∙ ap (λ (l : List (Result Piece Fault)). piece_numbered l c.args.index) part in
     said (tables_of d) _ c.args.index _ _ found (type_is (lists_of d) c.args.index d.faultless)
 
@@ -64,17 +64,17 @@ returns-clause-index c = numbered _ c.args.index _ c.find.ensures
 pub returns-clause-own : goal.returns-clause-own
 returns-clause-own c =
     let d = c.args.self.now in
-    let part = types_are d.lists.ctf.now d.types.now d.part in
-    own (types d.lists.ctf.now) c.args.index _ (c.find.ensures ∙ ap (λ (l : List (Result Piece Fault)). piece_numbered l c.args.index) part)
+    let part = types_are (lists_of d).ctf c.section.result.now c.section.ensures.bytes in
+    own (types (lists_of d).ctf) c.args.index _ (c.find.ensures ∙ ap (λ (l : List (Result Piece Fault)). piece_numbered l c.args.index) part)
 
 pub find-requires-clause-whole : goal.find-requires-clause-whole
 find-requires-clause-whole c =
     let d = c.args.self.now in
-    let part = types_are d.lists.ctf.now d.types.now d.part in
+    let part = types_are (lists_of d).ctf c.section.result.now c.section.ensures.bytes in
     ap walk_fault part ∙ (faultless (lists_of d) d.faultless).read
 
 pub find-requires-clause-begin : goal.find-requires-clause-begin
 find-requires-clause-begin c =
     let d = c.args.self.now in
-    let part = types_are d.lists.ctf.now d.types.now d.part in
-    λ s e. d.begin s e ∙ ap starts_in (sym part)
+    let part = types_are (lists_of d).ctf c.section.result.now c.section.ensures.bytes in
+    c.starts.ensures ∙ ap starts_in (sym part)

@@ -3,7 +3,7 @@ use Rattle.ctf_model.specs.format.Section.{records}
 use Rattle.ctf_records.specs.RecordView.{piece}
 use Rattle.ctf_chains.proofs.Begins.{starts_count}
 use Rattle.ctf_check.proofs.Indexed.{found_numbered, none_numbered}
-use Rattle.ctf_check.proofs.checked.find_started.Goals as goal
+use Rattle.ctf_check.proofs.checked.find.Goals as goal
 
 pub returns-then-index-eq0 : goal.returns-then-index-eq0
 returns-then-index-eq0 c = sym (none_numbered c.args.types.now c.args.index c.requires.whole (inl (omega arith)))

@@ -1,0 +1,57 @@
+//! How the values of a type are shown, found once for all of them.
+ghost use Rattle.std.specs.Prelude.{◌≡◌, ℕ, IfErr, IfOk};
+ghost use Rattle.ctf_model.specs.values.Pieces.{ends};
+ghost use Rattle.ctf_print.specs.Finding.{IsFound};
+ghost use Rattle.ctf_print.specs.ImageView.{shows, types_of};
+
+use crate::image::Image;
+use crate::known::Known;
+use crate::telling::{Told, told_by};
+use ctf_model::{Fault, TypeNum, placeless};
+
+/// How the values of a type are shown.
+#[derive(Drop)]
+pub struct Found<'a> {
+    /// The type whose record says so.
+    pub number: TypeNum,
+    pub how: Told<'a>,
+    /// How many values may still stand in each other inside one of them.
+    pub nesting: u32,
+}
+
+/// How the values of a number's type are shown, as its record says, or why none is.
+#[inline(always)]
+fn by_record<'a>(image: &Image<'a>, number: TypeNum, nesting: u32) -> Result<Found<'a>, Fault>
+    ensures found { IfOk result (IsFound image.now nesting number.0) }
+    ensures fault { IfErr result (λ f. (p : ℕ) → shows image.now nesting number.0 p ≡ ends f) }
+{
+    if nesting == 0 || number.0 == 0 {
+        return Err(placeless(Fault::INCOMPLETE));
+    }
+    match image.space.term(number) {
+        Ok(found) => Ok(Found {
+            number,
+            how: told_by(found.shape()),
+            nesting: nesting - 1,
+        }),
+        Err(fault) => Err(fault),
+    }
+}
+
+/// How the values of a number's type are shown, wherever they stand, or why none is. Typedefs and
+/// qualifiers are followed once for each type.
+#[inline]
+pub fn find<'a>(
+    image: &Image<'a>,
+    number: TypeNum,
+    nesting: u32,
+    known: &mut Known<'_>,
+) -> Result<Found<'a>, Fault>
+    requires known { known.old ≡ types_of image.now }
+    ensures found { IfOk result (IsFound image.now nesting number.0) }
+    ensures fault { IfErr result (λ f. (p : ℕ) → shows image.now nesting number.0 p ≡ ends f) }
+    ensures kept { known.new ≡ known.old }
+{
+    let reached = known.reach(number, nesting);
+    by_record(image, reached.number, reached.nesting)
+}
