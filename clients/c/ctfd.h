@@ -312,9 +312,9 @@ enum ctfd_status ctfd_field(struct ctfd *handle, uint16_t t, const char *name, s
 
 /* The same of a member of a member: `names` are the names of the steps, each closed by a zero byte,
  * as "address\0street" with names_len 15. Without names it is 0, and `t` itself. CTFD_TOO_BIG past
- * 64 bits. Takes memory. */
+ * 64 bits. A refusal writes the number of its step, from 0, to `place`. Takes memory. */
 enum ctfd_status ctfd_path(struct ctfd *handle, uint16_t t, const char *names, size_t names_len,
-    uint64_t *offset, uint16_t *to);
+    uint64_t *offset, uint16_t *to, uint64_t *place);
 
 /* Its name as C spells it, as in a cast: "struct point *", "int (*)[10]". CTFD_TOO_LONG past 65,536
  * bytes. Takes memory. */

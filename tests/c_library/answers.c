@@ -83,12 +83,12 @@ static void figures(uint16_t t)
         printf("array %u: %s\n", t, ctfd_status_name(status));
 }
 
-/* A member's place by its name, and by a path of this one name. */
+/* A member's place by its name, by a path of this one name, and by one with a name that isn't there. */
 static void places(uint16_t t, const char *name, uint64_t name_len)
 {
-    uint64_t offset = 0;
+    uint64_t offset = 0, place = 0;
     uint16_t to = 0;
-    char *step = (char *)calloc(name_len + 1, 1);
+    char *step = (char *)calloc(name_len + 3, 1);
     enum ctfd_status status = ctfd_field(&types, t, name, name_len, &offset, &to);
     if (step == NULL)
         exit(2);
@@ -96,9 +96,13 @@ static void places(uint16_t t, const char *name, uint64_t name_len)
     printf("field %u %s: %s %llu %u\n", t, shown(name, name_len), ctfd_status_name(status),
         (unsigned long long)offset, to);
     offset = to = 0;
-    status = ctfd_path(&types, t, step, name_len + 1, &offset, &to);
+    status = ctfd_path(&types, t, step, name_len + 1, &offset, &to, &place);
     printf("path %u %s: %s %llu %u\n", t, shown(name, name_len), ctfd_status_name(status),
         (unsigned long long)offset, to);
+    step[name_len + 1] = '?';
+    status = ctfd_path(&types, t, step, name_len + 3, &offset, &to, &place);
+    printf("further %u %s: %s %llu\n", t, shown(name, name_len), ctfd_status_name(status),
+        (unsigned long long)place);
     free(step);
 }
 

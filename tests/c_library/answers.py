@@ -32,14 +32,15 @@ class Service:
         self.front.append({"op": "open"})
 
     def ask(self, questions: list[dict[str, Any]]) -> list[Reply]:
-        """The replies: what `ok` has, or the name of a fault as `fault`."""
+        """The replies: what `ok` has, or the name of a fault as `fault`, and its place."""
         asked = self.front + [{"d": 1, **question} for question in questions]
         lines = "".join(json.dumps({"s": 1, **one}) + "\n" for one in asked)
         said = subprocess.run([self.program, "serve"], input=lines, text=True, check=True,
                               capture_output=True).stdout
         replies = [json.loads(line) for line in said.splitlines()][len(self.front):]
         assert len(replies) == len(questions)
-        return [one["ok"] if "ok" in one else {"fault": one["fault"]["name"]} for one in replies]
+        return [one["ok"] if "ok" in one else {"fault": one["fault"]["name"], "place": one["fault"]["place"]}
+                for one in replies]
 
 
 def said(reply: Reply, *fields: str) -> str:
@@ -106,14 +107,16 @@ def of_types(service: Service, types: list[int]) -> list[str]:
 def of_names(service: Service, places: list[tuple[int, str]],
              names: list[tuple[int, str]]) -> list[str]:
     replies = service.ask([{"op": "path", "t": t, "names": [name]} for t, name in places]
+                          + [{"op": "path", "t": t, "names": [name, "?"]} for t, name in places]
                           + [{"op": "find", "text": name} for _, name in names])
     lines = []
-    for (t, name), reply in zip(places, replies):
+    for (t, name), reply, further in zip(places, replies, replies[len(places):]):
         status = reply.get("fault", "Ok")
         where = f"{reply.get('offset', 0)} {reply.get('t', 0)}"
         lines += [f"{word} {t} {name}: {status} {where}" for word in ("field", "path")]
+        lines.append(f"further {t} {name}: {further['fault']} {further['place']}")
     lines += [f"find {t}: {said(reply, 't')}"
-              for (t, _), reply in zip(names, replies[len(places):])]
+              for (t, _), reply in zip(names, replies[2 * len(places):])]
     return lines
 
 

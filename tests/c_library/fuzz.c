@@ -156,7 +156,7 @@ static void ask_name(struct ctfd *d)
 {
     size_t len;
     char *text = some_text(&len);
-    uint64_t offset = 77;
+    uint64_t offset = 77, place;
     uint32_t number = 77;
     uint16_t to = 77;
     enum ctfd_status status;
@@ -165,7 +165,7 @@ static void ask_name(struct ctfd *d)
     case 1: status = ctfd_symbol(d, text, len, &number); break;
     case 2: status = ctfd_label_last(d, text, len, &number); break;
     case 3: status = ctfd_field(d, some_type(), text, len, &offset, &to); break;
-    default: status = ctfd_path(d, some_type(), text, len + below(2), &offset, &to); break;
+    default: status = ctfd_path(d, some_type(), text, len + below(2), &offset, &to, &place); break;
     }
     count(status);
     CHECK(status == CTFD_OK || (offset == 77 && number == 77 && to == 77));

@@ -42,6 +42,7 @@ static bool is_untouched(void)
 static void refuse_type(struct ctfd *d, uint16_t t, enum ctfd_status status)
 {
     static const uint8_t memory[16];
+    uint64_t place;
     REFUSED(ctfd_kind(d, t, &got.number), status);
     REFUSED(ctfd_declared_name(d, t, TEXT, &got.len), status);
     REFUSED(ctfd_root(d, t, &got.number), status);
@@ -58,7 +59,7 @@ static void refuse_type(struct ctfd *d, uint16_t t, enum ctfd_status status)
     REFUSED(ctfd_size(d, t, &got.wide), status);
     REFUSED(ctfd_align(d, t, &got.wide), status);
     REFUSED(ctfd_field(d, t, "x", 1, &got.wide, &got.to), status);
-    REFUSED(ctfd_path(d, t, "x", 2, &got.wide, &got.to), status);
+    REFUSED(ctfd_path(d, t, "x", 2, &got.wide, &got.to, &place), status);
     REFUSED(ctfd_name(d, t, TEXT, &got.len), status);
     REFUSED(ctfd_show(d, t, memory, sizeof memory, 0, TEXT, &got.len), status);
 }

@@ -103,10 +103,13 @@ static enum ctfd_status show(void)
 
 static enum ctfd_status path(void)
 {
-    uint64_t offset = 0;
+    uint64_t offset = 0, place = 77;
     uint16_t t = 0;
+    enum ctfd_status status;
     CHECK(ctfd_find(&types, "struct lua_State", 16, &t) == CTFD_OK);
-    return ctfd_path(&types, t, "base_ci\0next", 13, &offset, &t);
+    status = ctfd_path(&types, t, "base_ci\0next", 13, &offset, &t, &place);
+    CHECK(place == (status == CTFD_OK ? 77 : 0));
+    return status;
 }
 
 static enum ctfd_status add(void)

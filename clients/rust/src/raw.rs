@@ -153,6 +153,7 @@ extern "C" {
         names_len: usize,
         offset: *mut u64,
         to: *mut u16,
+        place: *mut u64,
     ) -> u32;
     pub fn ctfd_name(
         handle: *mut Handle,

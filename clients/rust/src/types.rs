@@ -2,7 +2,7 @@
 
 use crate::declaration::Declaration;
 use crate::dictionary::Dictionary;
-use crate::faults::{told, Refusal};
+use crate::faults::{told, told_at, Refusal};
 use crate::lists::{Arguments, Enumerators, Member, Members};
 use crate::names::{fill, text, Name};
 use crate::raw;
@@ -314,16 +314,17 @@ impl<'d> Type<'d> {
         Ok((offset, Type::some(self.of, to)))
     }
 
-    /// The same of a member of a member, the outermost first.
+    /// The same of a member of a member, the outermost first. The place of a refusal is the number of
+    /// its step, from 0.
     pub fn path(self, names: &[&[u8]]) -> Result<(u64, Option<Type<'d>>), Refusal> {
-        let (mut offset, mut to) = (0, 0);
+        let (mut offset, mut to, mut place) = (0, 0, 0);
         let steps: Vec<u8> = names
             .iter()
             .flat_map(|name| name.iter().chain(&[0]))
             .copied()
             .collect();
         let handle = self.of.handle();
-        told(unsafe {
+        let status = unsafe {
             raw::ctfd_path(
                 handle,
                 self.number,
@@ -331,8 +332,10 @@ impl<'d> Type<'d> {
                 steps.len(),
                 &mut offset,
                 &mut to,
+                &mut place,
             )
-        })?;
+        };
+        told_at(status, place)?;
         Ok((offset, Type::some(self.of, to)))
     }
 

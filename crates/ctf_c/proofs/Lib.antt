@@ -1,5 +1,4 @@
 pub mod Alike
-mod AsBox
 pub mod ByShape
 pub mod Creating
 pub mod Importing

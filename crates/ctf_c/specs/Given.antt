@@ -7,6 +7,7 @@ use Rattle.ctf_model.specs.declared.faults.TheConstants.Fault.{FIXED_PARENT, NO_
 use Rattle.ctf_model.specs.declared.kinds.Kind.{Kind}
 use Rattle.ctf_model.specs.declared.kinds.Kind.TheVariants.{KUnknown, KInteger, KFloat, KPointer, KArray, KFunction, KStruct, KUnion, KEnum, KForward, KTypedef, KVolatile, KConst, KRestrict}
 use Rattle.ctf_model.specs.format.Shown.{ArrayParts, EncodingParts, Shape, arguments_in, array_in, encoding_in, enumerators_in, is_variadic, list_length, members_in, named_arguments, shape}
+use Rattle.ctf_model.specs.figures.Paths.{Position}
 use Rattle.ctf_model.specs.format.Dictionary.{Label}
 use Rattle.ctf_model.specs.format.Term.{Enumerator, Member, Tag, Term, struct_tag, union_tag, enum_tag}
 use Rattle.ctf_model.specs.rules.Faults.{first_fault}
@@ -36,6 +37,25 @@ Gives (Err fault) status old new = (status ≡ status_of fault) × (new ≡ old)
 abbrev pub MayGive : {A : Type 0} → Result A Fault → ℕ → A → A → Type 0
 MayGive answer status old new =
     Gives answer status old new ⊎ Gives (Err want_of_memory) status old new
+
+-- where names lead to, and which step was refused
+pub record PathTold : Type 0 where
+  pub offset : ℕ
+  pub tnum : ℕ
+  pub place : ℕ
+
+-- the end of a path is given, or the step at which it was refused
+abbrev pub GivesPath : Result Position Fault → ℕ → PathTold → PathTold → Type 0
+GivesPath (Ok at) status old new =
+    (status ≡ 0) × (new ≡ record { offset = at.offset; tnum = at.tnum; place = old.place })
+GivesPath (Err fault) status old new =
+    (status ≡ status_of fault)
+    × (new ≡ record { offset = old.offset; tnum = old.tnum; place = fault.place })
+
+-- the same where memory may be refused
+abbrev pub MayGivePath : Result Position Fault → ℕ → PathTold → PathTold → Type 0
+MayGivePath answer status old new =
+    GivesPath answer status old new ⊎ GivesPath (Err want_of_memory) status old new
 
 -- ---- what is asked
 

@@ -4,3 +4,4 @@ pub mod Naming
 pub mod Owned
 pub mod PartView
 pub mod Served
+pub mod Slots

@@ -30,12 +30,10 @@ fn add(
         (type_added (record { name = name.now; root = root; body = new_body_of body })))
         result out.old out.new handle.old.held.session handle.new.held.session }
 {
-    let Some(mut session) = handle.take(alloc) else {
+    let Some(session) = handle.slot().get_mut() else {
         return NOT_OPEN;
     };
-    let outcome = session.add(alloc, name, root, body);
-    *handle = Handle::of(session);
-    match outcome {
+    match session.add(alloc, name, root, body) {
         Ok(t) => {
             *out = t.0;
             0
@@ -49,12 +47,10 @@ fn add_part(alloc: Global, handle: &mut Handle, part: Part<'_>, out: &mut u64) -
     ensures { Steps (asked handle.old.held.session (enlarged (part_in part.entry))) result
         out.old out.new handle.old.held.session handle.new.held.session }
 {
-    let Some(mut session) = handle.take(alloc) else {
+    let Some(session) = handle.slot().get_mut() else {
         return NOT_OPEN;
     };
-    let outcome = session.add_part(alloc, part);
-    *handle = Handle::of(session);
-    match outcome {
+    match session.add_part(alloc, part) {
         Ok(answer) => {
             *out = answer;
             0

@@ -51,6 +51,7 @@ fn tag_of(x: Shape<'_>) -> Result<u32, Fault>
 }
 
 /// How many members, enumerators or arguments there are.
+#[inline(always)]
 fn length_of(x: Shape<'_>) -> Result<u64, Fault>
     ensures { result ≡ length_said (shape_seen x.entry) }
 {
@@ -62,6 +63,7 @@ fn length_of(x: Shape<'_>) -> Result<u64, Fault>
     })
 }
 
+#[inline(always)]
 fn encoding_of(x: Shape<'_>) -> Result<Encoding, Fault>
     ensures { result_map_both encoding_info (λ f. f) result ≡ encoding_said (shape_seen x.entry) }
 {
@@ -71,6 +73,7 @@ fn encoding_of(x: Shape<'_>) -> Result<Encoding, Fault>
     }
 }
 
+#[inline(always)]
 fn array_of(x: Shape<'_>) -> Result<ArrayInfo, Fault>
     ensures { result_map_both array_info (λ f. f) result ≡ array_said (shape_seen x.entry) }
 {
@@ -89,6 +92,7 @@ fn return_of(x: Shape<'_>) -> Result<TypeNum, Fault>
     }
 }
 
+#[inline(always)]
 fn member_of(x: Shape<'_>, index: usize) -> Result<Member<'_>, Fault>
     ensures { result_map_both member_seen (λ f. f) result
         ≡ member_said index (shape_seen x.entry) }
@@ -102,6 +106,7 @@ fn member_of(x: Shape<'_>, index: usize) -> Result<Member<'_>, Fault>
     }
 }
 
+#[inline(always)]
 fn enumerator_of(x: Shape<'_>, index: usize) -> Result<Enumerator<'_>, Fault>
     ensures { result_map_both enumerator_seen (λ f. f) result
         ≡ enumerator_said index (shape_seen x.entry) }
@@ -115,6 +120,7 @@ fn enumerator_of(x: Shape<'_>, index: usize) -> Result<Enumerator<'_>, Fault>
     }
 }
 
+#[inline(always)]
 fn argument_of(x: Shape<'_>, index: usize) -> Result<TypeNum, Fault>
     ensures { result_map_both (λ t. t.0) (λ f. f) result
         ≡ argument_said index (shape_seen x.entry) }
@@ -154,6 +160,7 @@ impl Session {
     }
 
     /// What a type is, apart from its name.
+    #[inline(always)]
     fn shape(&self, t: TypeNum) -> Result<Shape<'_>, Fault>
         ensures { result_map_both shape_seen (λ f. f) result
             ≡ shape_of (space_type (space_in self.now) t.0) }
@@ -165,6 +172,7 @@ impl Session {
     }
 
     /// The number of a type's kind in sys/ctf.h.
+    #[inline(always)]
     pub fn kind(&self, t: TypeNum) -> Result<u32, Fault>
         ensures { result
             ≡ said_of kind_said (shape_of (space_type (space_in self.now) t.0)) }
@@ -241,6 +249,7 @@ impl Session {
     }
 
     /// A member of a struct or union, from 0. Its name is lent.
+    #[inline(always)]
     pub fn member(&self, t: TypeNum, index: usize) -> Result<Member<'_>, Fault>
         ensures { result_map_both member_seen (λ f. f) result
             ≡ said_of (member_said index) (shape_of (space_type (space_in self.now) t.0)) }
@@ -281,12 +290,14 @@ impl Session {
         self.space().name(t)
     }
 
+    #[inline(always)]
     pub fn size(&self, t: TypeNum) -> Result<u64, Fault>
         ensures { result ≡ size_of (space_in self.now) t.0 }
     {
         self.tables().layout.size(t)
     }
 
+    #[inline(always)]
     pub fn align(&self, t: TypeNum) -> Result<u64, Fault>
         ensures { result ≡ align_of (space_in self.now) t.0 }
     {
@@ -301,6 +312,7 @@ impl Session {
     }
 
     /// The type that a type points to, renames or qualifies.
+    #[inline(always)]
     pub fn reference(&self, t: TypeNum) -> Result<TypeNum, Fault>
         ensures { result_map_both (λ t. t.0) (λ f. f) result
             ≡ reference_of (space_in self.now) t.0 }

@@ -48,8 +48,7 @@ pub extern "C" fn ctfd_create(
 {
     match drafted(alloc, None, &[], &[], model_of(ilp32)) {
         Ok(session) => {
-            drop(handle.take(alloc));
-            *handle = Handle::of(session);
+            handle.slot().hold(session);
             0
         }
         Err(fault) => {
@@ -99,16 +98,13 @@ pub extern "C" fn ctfd_create_child(
         (created_under parent.old.held.session parname.now parlabel.now) result
         place.old place.new handle.old.held.session handle.new.held.session }
 {
-    let Some(source) = parent.take(alloc) else {
+    let Some(source) = parent.slot().get() else {
         *place = 0;
         return NOT_OPEN;
     };
-    let outcome = drafted_under(alloc, &source, parname, parlabel);
-    *parent = Handle::of(source);
-    match outcome {
+    match drafted_under(alloc, source, parname, parlabel) {
         Ok(session) => {
-            drop(handle.take(alloc));
-            *handle = Handle::of(session);
+            handle.slot().hold(session);
             0
         }
         Err(fault) => {
@@ -130,13 +126,11 @@ pub extern "C" fn ctfd_update(
     ensures { StepsAt (asked handle.old.held.session updated) result types.old types.new
         place.old place.new handle.old.held.session handle.new.held.session }
 {
-    let Some(mut session) = handle.take(alloc) else {
+    let Some(session) = handle.slot().get_mut() else {
         *place = 0;
         return NOT_OPEN;
     };
-    let outcome = session.update(alloc);
-    *handle = Handle::of(session);
-    match outcome {
+    match session.update(alloc) {
         Ok(count) => {
             *types = count;
             0
@@ -150,16 +144,14 @@ pub extern "C" fn ctfd_update(
 
 /// Drops what was added since the last update, and gives how many types the dictionary has.
 #[unsafe(no_mangle)]
-pub extern "C" fn ctfd_discard(alloc: Global, handle: &mut Handle, types: &mut u64) -> u32
+pub extern "C" fn ctfd_discard(handle: &mut Handle, types: &mut u64) -> u32
     ensures { Does (asked handle.old.held.session dropped) result types.old types.new
         handle.old.held.session handle.new.held.session }
 {
-    let Some(mut session) = handle.take(alloc) else {
+    let Some(session) = handle.slot().get_mut() else {
         return NOT_OPEN;
     };
-    let outcome = session.discard();
-    *handle = Handle::of(session);
-    match outcome {
+    match session.discard() {
         Ok(count) => {
             *types = count;
             0
@@ -177,24 +169,17 @@ fn behind(bytes: &[u8], from: u64) -> &[u8]
 
 /// The bytes of the dictionary from a place on, as much as fits, and how many it has in all.
 #[unsafe(no_mangle)]
-pub extern "C" fn ctfd_bytes(
-    alloc: Global,
-    handle: &mut Handle,
-    from: u64,
-    bytes: &mut [u8],
-    len: &mut u64,
-) -> u32
+pub extern "C" fn ctfd_bytes(handle: &mut Handle, from: u64, bytes: &mut [u8], len: &mut u64) -> u32
     ensures same { handle.new.held.session ≡ handle.old.held.session }
     ensures answer { GivesBytes (asked handle.old.held.session (λ s. Ok s.own.lists.ctf)) from
         result (record { text = bytes.old; len = len.old })
         (record { text = bytes.new; len = len.new }) }
 {
-    let Some(session) = handle.take(alloc) else {
+    let Some(session) = handle.slot().get() else {
         return NOT_OPEN;
     };
     let ctf = session.ctf();
     write_front(behind(ctf, from), bytes);
     *len = ctf.len() as u64;
-    *handle = Handle::of(session);
     0
 }

@@ -8,7 +8,6 @@ ghost use Rattle.ctf_model.specs.spaces.Space.{space_type};
 use crate::given::{NOT_OPEN, status};
 use crate::handle::Handle;
 use ctf_model::TypeNum;
-use std::alloc::Global;
 
 /// How an integer or a float is encoded: `struct ctfd_encoding`.
 #[repr(C)]
@@ -30,22 +29,17 @@ pub struct GivenArray {
 
 /// How an integer or a float is encoded.
 #[unsafe(no_mangle)]
-pub extern "C" fn ctfd_encoding(
-    alloc: Global,
-    handle: &mut Handle,
-    t: u16,
-    out: &mut GivenEncoding,
-) -> u32
+pub extern "C" fn ctfd_encoding(handle: &mut Handle, t: u16, out: &mut GivenEncoding) -> u32
     ensures same { handle.new.held.session ≡ handle.old.held.session }
     ensures answer { Gives (asked handle.old.held.session (λ s.
         said_of encoding_said (shape_of (space_type (space_in s) t)))) result
         (record { encoding = out.old.encoding; offset = out.old.offset; bits = out.old.bits })
         (record { encoding = out.new.encoding; offset = out.new.offset; bits = out.new.bits }) }
 {
-    let Some(session) = handle.take(alloc) else {
+    let Some(session) = handle.slot().get() else {
         return NOT_OPEN;
     };
-    let given = match session.encoding(TypeNum(t)) {
+    match session.encoding(TypeNum(t)) {
         Ok(info) => {
             *out = GivenEncoding {
                 encoding: u32::from(info.encoding),
@@ -55,29 +49,22 @@ pub extern "C" fn ctfd_encoding(
             0
         }
         Err(fault) => status(fault),
-    };
-    *handle = Handle::of(session);
-    given
+    }
 }
 
 /// What an array holds.
 #[unsafe(no_mangle)]
-pub extern "C" fn ctfd_array(
-    alloc: Global,
-    handle: &mut Handle,
-    t: u16,
-    out: &mut GivenArray,
-) -> u32
+pub extern "C" fn ctfd_array(handle: &mut Handle, t: u16, out: &mut GivenArray) -> u32
     ensures same { handle.new.held.session ≡ handle.old.held.session }
     ensures answer { Gives (asked handle.old.held.session (λ s.
         said_of array_said (shape_of (space_type (space_in s) t)))) result
         (record { contents = out.old.contents; index = out.old.index; count = out.old.count })
         (record { contents = out.new.contents; index = out.new.index; count = out.new.count }) }
 {
-    let Some(session) = handle.take(alloc) else {
+    let Some(session) = handle.slot().get() else {
         return NOT_OPEN;
     };
-    let given = match session.array(TypeNum(t)) {
+    match session.array(TypeNum(t)) {
         Ok(info) => {
             *out = GivenArray {
                 count: info.count,
@@ -87,15 +74,12 @@ pub extern "C" fn ctfd_array(
             0
         }
         Err(fault) => status(fault),
-    };
-    *handle = Handle::of(session);
-    given
+    }
 }
 
 /// Where the first member of a name lies in a struct or union, in bits, and its type.
 #[unsafe(no_mangle)]
 pub extern "C" fn ctfd_field(
-    alloc: Global,
     handle: &mut Handle,
     t: u16,
     name: &[u8],
@@ -108,17 +92,15 @@ pub extern "C" fn ctfd_field(
         (record { offset = offset.old; tnum = to.old })
         (record { offset = offset.new; tnum = to.new }) }
 {
-    let Some(session) = handle.take(alloc) else {
+    let Some(session) = handle.slot().get() else {
         return NOT_OPEN;
     };
-    let given = match session.field(TypeNum(t), name) {
+    match session.field(TypeNum(t), name) {
         Ok((at, found)) => {
             *offset = at;
             *to = found.0;
             0
         }
         Err(fault) => status(fault),
-    };
-    *handle = Handle::of(session);
-    given
+    }
 }

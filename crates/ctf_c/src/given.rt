@@ -9,6 +9,7 @@ use ctf_model::{DataModel, Fault, Kind, TypeNum};
 pub const NOT_OPEN: u32 = 50;
 
 /// The status of a refusal: 1 and the number of its fault.
+#[inline(always)]
 pub fn status(fault: Fault) -> u32
     ensures { result ≡ status_of fault }
 {
@@ -16,6 +17,7 @@ pub fn status(fault: Fault) -> u32
 }
 
 /// Gives a number, or the status of a refusal.
+#[inline(always)]
 pub fn give(answer: Result<u64, Fault>, out: &mut u64) -> u32
     ensures { Gives answer result out.old out.new }
 {
@@ -29,6 +31,7 @@ pub fn give(answer: Result<u64, Fault>, out: &mut u64) -> u32
 }
 
 /// The same of a number of 32 bits.
+#[inline(always)]
 pub fn give_short(answer: Result<u32, Fault>, out: &mut u32) -> u32
     ensures { Gives answer result out.old out.new }
 {
@@ -42,6 +45,7 @@ pub fn give_short(answer: Result<u32, Fault>, out: &mut u32) -> u32
 }
 
 /// The same of the number of a type.
+#[inline(always)]
 pub fn give_type(answer: Result<TypeNum, Fault>, out: &mut u16) -> u32
     ensures { Gives (result_map_both (λ t. t.0) (λ f. f) answer) result out.old out.new }
 {
@@ -55,6 +59,7 @@ pub fn give_type(answer: Result<TypeNum, Fault>, out: &mut u16) -> u32
 }
 
 /// Writes the front of some bytes over the front of others, as much as fits.
+#[inline(always)]
 pub fn write_front(from: &[u8], to: &mut [u8])
     ensures { to.new ≡ take (length to.old) from.now ++ drop (length from.now) to.old }
 {
@@ -66,6 +71,7 @@ pub fn write_front(from: &[u8], to: &mut [u8])
 }
 
 /// Gives a text as far as it fits, and its length, or the status of a refusal.
+#[inline(always)]
 pub fn give_text(answer: Result<&[u8], Fault>, text: &mut [u8], len: &mut u64) -> u32
     ensures { GivesText (result_map_both (λ t. t.now) (λ f. f) answer.entry) result
         (record { text = text.old; len = len.old }) (record { text = text.new; len = len.new }) }
@@ -81,6 +87,7 @@ pub fn give_text(answer: Result<&[u8], Fault>, text: &mut [u8], len: &mut u64) -
 }
 
 /// The number of a kind in sys/ctf.h.
+#[inline(always)]
 pub fn kind_number(kind: Kind) -> u32
     ensures { result ≡ number_of_kind kind }
 {
@@ -103,6 +110,7 @@ pub fn kind_number(kind: Kind) -> u32
 }
 
 /// 1 for what holds, else 0.
+#[inline(always)]
 pub fn flag(holds: bool) -> u32
     ensures { result ≡ flag_of holds }
 {

@@ -1,55 +1,45 @@
 //! A handle, as C has it.
-ghost use Rattle.std.specs.Prelude.{◌≡◌, Option, None, Some, is_some, option_map};
+ghost use Rattle.std.specs.Prelude.{◌≡◌, Option, is_some};
+ghost use Rattle.ctf_c.specs.Owned.{place_coded, place_owns};
 ghost use Rattle.ctf_c.specs.Served.{Served};
 
-use crate::held::Held;
 use crate::session::Session;
+use ctf_handle::Slot;
 use std::alloc::Global;
-use std::mem;
+use std::marker::Model;
 
-/// What is open, if anything is.
+/// A session on the heap, or nothing: `Held` without type parameters, since C is given none.
+#[repr(C)]
+#[derive(Drop)]
+pub struct Place {
+    at: *mut u8,
+    alloc: Global,
+    pub ghost session: { Option Served } by { place_coded },
+}
+
+impl Model for Place {
+    ghost also_owns = { λ p. place_owns p.alloc p.at p.session };
+}
+
+/// What is open, if anything is: a `Slot` without type parameters.
 #[repr(C)]
 #[derive(Drop)]
 pub struct Handle {
     full: bool,
-    pub held: Held,
+    pub held: Place,
     ghost tells: { full ≡ is_some held.session },
 }
 
 impl Handle {
-    /// Nothing is open.
-    pub fn none(alloc: Global) -> Handle
-        ensures { result.held.session ≡ None }
-    {
-        Handle {
-            full: false,
-            held: Held::none(alloc),
-        }
-    }
+    ghost use Rattle.std.specs.Borrow.{sem};
+    ghost use Rattle.ctf_c.specs.Slots.{HandleLends};
 
-    /// A session is open.
-    pub fn of(session: Box<Session>) -> Handle
-        ensures { result.held.session ≡ Some session.value }
+    /// The slot that it is in memory.
+    #[inline(always)]
+    pub fn slot(&mut self) -> &mut Slot<Session>
+        ensures* writes_back { sem 𝓛 (HandleLends self.entry result) }
+        ensures same { result.now.held.value ≡ self.old.held.session }
     {
-        Handle {
-            full: true,
-            held: Held::of(session),
-        }
-    }
-
-    /// What was open.
-    pub fn into_box(self) -> Option<Box<Session>>
-        ensures { option_map (λ b. b.value) result ≡ self.held.session }
-    {
-        let Handle { full, held } = self;
-        if full { Some(held.into_box()) } else { None }
-    }
-
-    /// Takes out what is open.
-    pub fn take(&mut self, alloc: Global) -> Option<Box<Session>>
-        ensures value { option_map (λ b. b.value) result ≡ self.old.held.session }
-        ensures none { self.new.held.session ≡ None }
-    {
-        mem::replace(self, Handle::none(alloc)).into_box()
+        unsafe { &mut *(self as *mut Handle as *mut Slot<Session>) }
     }
 }

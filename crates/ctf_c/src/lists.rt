@@ -7,7 +7,6 @@ ghost use Rattle.ctf_model.specs.spaces.Space.{space_type};
 use crate::given::{NOT_OPEN, status, write_front};
 use crate::handle::Handle;
 use ctf_model::TypeNum;
-use std::alloc::Global;
 
 /// A member, apart from its name: `struct ctfd_member`. The offset is in bits.
 #[repr(C)]
@@ -21,7 +20,6 @@ pub struct GivenMember {
 /// A member of a struct or union, from 0. As much of its name is written as fits.
 #[unsafe(no_mangle)]
 pub extern "C" fn ctfd_member(
-    alloc: Global,
     handle: &mut Handle,
     t: u16,
     index: usize,
@@ -35,10 +33,10 @@ pub extern "C" fn ctfd_member(
         (record { offset = out.old.offset; name_len = out.old.name_len; tnum = out.old.tnum })
         (record { offset = out.new.offset; name_len = out.new.name_len; tnum = out.new.tnum }) }
 {
-    let Some(session) = handle.take(alloc) else {
+    let Some(session) = handle.slot().get() else {
         return NOT_OPEN;
     };
-    let given = match session.member(TypeNum(t), index) {
+    match session.member(TypeNum(t), index) {
         Ok(member) => {
             write_front(member.name, name);
             *out = GivenMember {
@@ -49,15 +47,12 @@ pub extern "C" fn ctfd_member(
             0
         }
         Err(fault) => status(fault),
-    };
-    *handle = Handle::of(session);
-    given
+    }
 }
 
 /// An enumerator of an enum, from 0. As much of its name is written as fits.
 #[unsafe(no_mangle)]
 pub extern "C" fn ctfd_enumerator(
-    alloc: Global,
     handle: &mut Handle,
     t: u16,
     index: usize,
@@ -71,10 +66,10 @@ pub extern "C" fn ctfd_enumerator(
         (record { text = name.old; len = len.old }) (record { text = name.new; len = len.new })
         value.old value.new }
 {
-    let Some(session) = handle.take(alloc) else {
+    let Some(session) = handle.slot().get() else {
         return NOT_OPEN;
     };
-    let given = match session.enumerator(TypeNum(t), index) {
+    match session.enumerator(TypeNum(t), index) {
         Ok(enumerator) => {
             write_front(enumerator.name, name);
             *value = enumerator.value;
@@ -82,7 +77,5 @@ pub extern "C" fn ctfd_enumerator(
             0
         }
         Err(fault) => status(fault),
-    };
-    *handle = Handle::of(session);
-    given
+    }
 }

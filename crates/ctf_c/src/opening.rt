@@ -81,8 +81,7 @@ pub extern "C" fn ctfd_open(
         model,
     ) {
         Ok(session) => {
-            drop(handle.take(alloc));
-            *handle = Handle::of(session);
+            handle.slot().hold(session);
             0
         }
         Err(fault) => {
@@ -97,7 +96,7 @@ pub extern "C" fn ctfd_open(
 pub extern "C" fn ctfd_close(alloc: Global, handle: &mut Handle)
     ensures { handle.new.held.session ≡ None }
 {
-    drop(handle.take(alloc));
+    drop(handle.slot().take(alloc));
 }
 
 /// Imports what is open in another handle as the parent. They share it. A refusal changes nothing.
@@ -112,17 +111,13 @@ pub extern "C" fn ctfd_import(
     ensures answer { Imports handle.old.held.session parent.old.held.session result
         place.old place.new handle.new.held.session }
 {
-    let Some(mut child) = handle.take(alloc) else {
+    let Some(child) = handle.slot().get_mut() else {
         return NOT_OPEN;
     };
-    let Some(source) = parent.take(alloc) else {
-        *handle = Handle::of(child);
+    let Some(source) = parent.slot().get() else {
         return NOT_OPEN;
     };
-    let outcome = child.import(alloc, &source);
-    *handle = Handle::of(child);
-    *parent = Handle::of(source);
-    match outcome {
+    match child.import(alloc, source) {
         Ok(()) => 0,
         Err(fault) => {
             *place = fault.place;

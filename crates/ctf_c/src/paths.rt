@@ -1,6 +1,6 @@
 //! The export that follows a path of names.
 ghost use Rattle.std.specs.Prelude.{◌≡◌, ◌⊎◌, Err, IfOk, IfErr, Ok, map};
-ghost use Rattle.ctf_c.specs.Given.{MayGive, asked};
+ghost use Rattle.ctf_c.specs.Given.{MayGivePath, asked};
 ghost use Rattle.ctf_c.specs.Naming.{names_said};
 ghost use Rattle.ctf_c.specs.Served.{space_in};
 ghost use Rattle.ctf_layout.specs.Reached.{position_of};
@@ -48,7 +48,7 @@ impl Session {
 }
 
 /// Where the member lies that names lead to, from a type on: how many bits lie in front of it, and
-/// its type. Each name is closed by a zero byte.
+/// its type. Each name is closed by a zero byte. Where it is refused, `place` says at which step.
 #[unsafe(no_mangle)]
 pub extern "C" fn ctfd_path(
     alloc: Global,
@@ -57,24 +57,27 @@ pub extern "C" fn ctfd_path(
     names: &[u8],
     offset: &mut u64,
     to: &mut u16,
+    place: &mut u64,
 ) -> u32
     ensures same { handle.new.held.session ≡ handle.old.held.session }
-    ensures answer { MayGive (asked handle.old.held.session (λ s.
+    ensures answer { MayGivePath (asked handle.old.held.session (λ s.
         path_to (space_in s) t (names_said names.now))) result
-        (record { offset = offset.old; tnum = to.old })
-        (record { offset = offset.new; tnum = to.new }) }
+        (record { offset = offset.old; tnum = to.old; place = place.old })
+        (record { offset = offset.new; tnum = to.new; place = place.new }) }
 {
-    let Some(session) = handle.take(alloc) else {
+    let Some(session) = handle.slot().get() else {
+        *place = 0;
         return NOT_OPEN;
     };
-    let outcome = session.path(alloc, TypeNum(t), names);
-    *handle = Handle::of(session);
-    match outcome {
+    match session.path(alloc, TypeNum(t), names) {
         Ok((at, found)) => {
             *offset = at;
             *to = found.0;
             0
         }
-        Err(fault) => status(fault),
+        Err(fault) => {
+            *place = fault.place;
+            status(fault)
+        }
     }
 }

@@ -161,6 +161,7 @@ impl Session {
     }
 
     /// What its questions see.
+    #[inline(always)]
     pub fn space(&self) -> Space<'_>
         ensures space { space_of result ≡ space_in self.now }
         ensures lists { own_lists result ≡ self.now.own.lists }
@@ -175,6 +176,7 @@ impl Session {
     }
 
     /// The tables of what its questions see.
+    #[inline(always)]
     pub fn tables(&self) -> &Tables
         ensures { AreTablesOf self.now.own self.now.parent result.now }
     {
@@ -185,6 +187,7 @@ impl Session {
     }
 
     /// The dictionary itself.
+    #[inline(always)]
     pub fn dictionary(&self) -> Checked<'_>
         ensures lists { lists_of result ≡ self.now.own.lists }
         ensures own { dictionary_of result ≡ own_in self.now }

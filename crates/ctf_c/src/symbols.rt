@@ -8,7 +8,6 @@ use crate::given::{NOT_OPEN, flag, give, give_text, give_type, status, write_fro
 use crate::handle::Handle;
 use crate::programs::named_count;
 use ctf_views::is_variadic;
-use std::alloc::Global;
 
 /// A function of the program: `struct ctfd_function`. A last argument 0 is not counted: it says
 /// that more may follow.
@@ -31,7 +30,6 @@ pub struct GivenLabel {
 /// The name of a symbol of the program, by its number. As much of it is written as fits.
 #[unsafe(no_mangle)]
 pub extern "C" fn ctfd_symbol_name(
-    alloc: Global,
     handle: &mut Handle,
     number: u32,
     text: &mut [u8],
@@ -43,33 +41,26 @@ pub extern "C" fn ctfd_symbol_name(
         (record { text = text.old; len = len.old })
         (record { text = text.new; len = len.new }) }
 {
-    let Some(session) = handle.take(alloc) else {
+    let Some(session) = handle.slot().get() else {
         return NOT_OPEN;
     };
-    let given = give_text(session.symbol_name(number), text, len);
-    *handle = Handle::of(session);
-    given
+    give_text(session.symbol_name(number), text, len)
 }
 
 /// What a function of the program returns, and how many arguments it names, by the number of its
 /// symbol.
 #[unsafe(no_mangle)]
-pub extern "C" fn ctfd_function(
-    alloc: Global,
-    handle: &mut Handle,
-    number: u32,
-    out: &mut GivenFunction,
-) -> u32
+pub extern "C" fn ctfd_function(handle: &mut Handle, number: u32, out: &mut GivenFunction) -> u32
     ensures same { handle.new.held.session ≡ handle.old.held.session }
     ensures answer { Gives (asked handle.old.held.session (λ s.
         function_said (function_of (own_in s) number))) result
         (record { arguments = out.old.arguments; varargs = out.old.varargs; ret = out.old.ret })
         (record { arguments = out.new.arguments; varargs = out.new.varargs; ret = out.new.ret }) }
 {
-    let Some(session) = handle.take(alloc) else {
+    let Some(session) = handle.slot().get() else {
         return NOT_OPEN;
     };
-    let given = match session.function(number) {
+    match session.function(number) {
         Ok(function) => {
             *out = GivenFunction {
                 arguments: named_count(&function.args) as u64,
@@ -79,15 +70,12 @@ pub extern "C" fn ctfd_function(
             0
         }
         Err(fault) => status(fault),
-    };
-    *handle = Handle::of(session);
-    given
+    }
 }
 
 /// An argument that a function of the program names, from 0.
 #[unsafe(no_mangle)]
 pub extern "C" fn ctfd_function_argument(
-    alloc: Global,
     handle: &mut Handle,
     number: u32,
     index: usize,
@@ -97,33 +85,28 @@ pub extern "C" fn ctfd_function_argument(
     ensures answer { Gives (asked handle.old.held.session (λ s.
         named_said index (function_of (own_in s) number))) result out.old out.new }
 {
-    let Some(session) = handle.take(alloc) else {
+    let Some(session) = handle.slot().get() else {
         return NOT_OPEN;
     };
-    let given = give_type(session.function_argument(number, index), out);
-    *handle = Handle::of(session);
-    given
+    give_type(session.function_argument(number, index), out)
 }
 
 /// The number of labels.
 #[unsafe(no_mangle)]
-pub extern "C" fn ctfd_label_count(alloc: Global, handle: &mut Handle, out: &mut u64) -> u32
+pub extern "C" fn ctfd_label_count(handle: &mut Handle, out: &mut u64) -> u32
     ensures same { handle.new.held.session ≡ handle.old.held.session }
     ensures answer { Gives (asked handle.old.held.session (λ s. Ok (length (own_in s).labels)))
         result out.old out.new }
 {
-    let Some(session) = handle.take(alloc) else {
+    let Some(session) = handle.slot().get() else {
         return NOT_OPEN;
     };
-    let given = give(Ok(session.label_count()), out);
-    *handle = Handle::of(session);
-    given
+    give(Ok(session.label_count()), out)
 }
 
 /// A label, from 0. As much of its name is written as fits.
 #[unsafe(no_mangle)]
 pub extern "C" fn ctfd_label(
-    alloc: Global,
     handle: &mut Handle,
     index: usize,
     name: &mut [u8],
@@ -135,10 +118,10 @@ pub extern "C" fn ctfd_label(
         (record { name_len = out.old.name_len; last = out.old.last })
         (record { name_len = out.new.name_len; last = out.new.last }) }
 {
-    let Some(session) = handle.take(alloc) else {
+    let Some(session) = handle.slot().get() else {
         return NOT_OPEN;
     };
-    let given = match session.label_numbered(index) {
+    match session.label_numbered(index) {
         Ok(label) => {
             write_front(label.name, name);
             *out = GivenLabel {
@@ -148,7 +131,5 @@ pub extern "C" fn ctfd_label(
             0
         }
         Err(fault) => status(fault),
-    };
-    *handle = Handle::of(session);
-    given
+    }
 }

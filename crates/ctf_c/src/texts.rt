@@ -15,7 +15,6 @@ use std::alloc::Global;
 /// The name that a type's record has. As much of it is written as fits.
 #[unsafe(no_mangle)]
 pub extern "C" fn ctfd_declared_name(
-    alloc: Global,
     handle: &mut Handle,
     t: u16,
     text: &mut [u8],
@@ -27,12 +26,10 @@ pub extern "C" fn ctfd_declared_name(
         (record { text = text.old; len = len.old })
         (record { text = text.new; len = len.new }) }
 {
-    let Some(session) = handle.take(alloc) else {
+    let Some(session) = handle.slot().get() else {
         return NOT_OPEN;
     };
-    let given = give_text(session.declared_name(TypeNum(t)), text, len);
-    *handle = Handle::of(session);
-    given
+    give_text(session.declared_name(TypeNum(t)), text, len)
 }
 
 /// The name of a type, as C spells it. As much of it is written as fits.
@@ -50,19 +47,17 @@ pub extern "C" fn ctfd_name(
         (record { text = text.old; len = len.old })
         (record { text = text.new; len = len.new }) }
 {
-    let Some(session) = handle.take(alloc) else {
+    let Some(session) = handle.slot().get() else {
         return NOT_OPEN;
     };
-    let given = match session.name(alloc, TypeNum(t)) {
+    match session.name(alloc, TypeNum(t)) {
         Ok(said) => {
             write_front(said.as_slice(), text);
             *len = said.len() as u64;
             0
         }
         Err(fault) => status(fault),
-    };
-    *handle = Handle::of(session);
-    given
+    }
 }
 
 /// What a value of a type shows, in memory and from a bit on. As much of it is written as fits.
@@ -82,17 +77,15 @@ pub extern "C" fn ctfd_show(
         (record { text = text.old; len = len.old })
         (record { text = text.new; len = len.new }) }
 {
-    let Some(session) = handle.take(alloc) else {
+    let Some(session) = handle.slot().get() else {
         return NOT_OPEN;
     };
-    let given = match session.show(alloc, TypeNum(t), memory, offset) {
+    match session.show(alloc, TypeNum(t), memory, offset) {
         Ok(said) => {
             write_front(said.as_slice(), text);
             *len = said.len() as u64;
             0
         }
         Err(fault) => status(fault),
-    };
-    *handle = Handle::of(session);
-    given
+    }
 }

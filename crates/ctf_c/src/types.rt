@@ -9,181 +9,152 @@ ghost use Rattle.ctf_model.specs.spaces.Space.{space_type};
 use crate::given::{NOT_OPEN, give, give_short, give_type};
 use crate::handle::Handle;
 use ctf_model::TypeNum;
-use std::alloc::Global;
 
 /// The number of a type's kind in sys/ctf.h.
 #[unsafe(no_mangle)]
-pub extern "C" fn ctfd_kind(alloc: Global, handle: &mut Handle, t: u16, out: &mut u32) -> u32
+pub extern "C" fn ctfd_kind(handle: &mut Handle, t: u16, out: &mut u32) -> u32
     ensures same { handle.new.held.session ≡ handle.old.held.session }
     ensures answer { Gives (asked handle.old.held.session (λ s.
         said_of kind_said (shape_of (space_type (space_in s) t))))
         result out.old out.new }
 {
-    let Some(session) = handle.take(alloc) else {
+    let Some(session) = handle.slot().get() else {
         return NOT_OPEN;
     };
-    let given = give_short(session.kind(TypeNum(t)), out);
-    *handle = Handle::of(session);
-    given
+    give_short(session.kind(TypeNum(t)), out)
 }
 
 /// 1 where look-ups by name see a type, else 0.
 #[unsafe(no_mangle)]
-pub extern "C" fn ctfd_root(alloc: Global, handle: &mut Handle, t: u16, out: &mut u32) -> u32
+pub extern "C" fn ctfd_root(handle: &mut Handle, t: u16, out: &mut u32) -> u32
     ensures same { handle.new.held.session ≡ handle.old.held.session }
     ensures answer { Gives
         (asked handle.old.held.session (λ s. root_said (space_type (space_in s) t)))
         result out.old out.new }
 {
-    let Some(session) = handle.take(alloc) else {
+    let Some(session) = handle.slot().get() else {
         return NOT_OPEN;
     };
-    let given = give_short(session.root(TypeNum(t)), out);
-    *handle = Handle::of(session);
-    given
+    give_short(session.root(TypeNum(t)), out)
 }
 
 /// The number of the kind that a forward declares: 6 for a struct, 7 for a union, 8 for an enum.
 #[unsafe(no_mangle)]
-pub extern "C" fn ctfd_tag(alloc: Global, handle: &mut Handle, t: u16, out: &mut u32) -> u32
+pub extern "C" fn ctfd_tag(handle: &mut Handle, t: u16, out: &mut u32) -> u32
     ensures same { handle.new.held.session ≡ handle.old.held.session }
     ensures answer { Gives (asked handle.old.held.session (λ s.
         said_of tag_said (shape_of (space_type (space_in s) t))))
         result out.old out.new }
 {
-    let Some(session) = handle.take(alloc) else {
+    let Some(session) = handle.slot().get() else {
         return NOT_OPEN;
     };
-    let given = give_short(session.tag(TypeNum(t)), out);
-    *handle = Handle::of(session);
-    given
+    give_short(session.tag(TypeNum(t)), out)
 }
 
 /// How many members, enumerators or arguments a type has: 0 for kinds without a list.
 #[unsafe(no_mangle)]
-pub extern "C" fn ctfd_length(alloc: Global, handle: &mut Handle, t: u16, out: &mut u64) -> u32
+pub extern "C" fn ctfd_length(handle: &mut Handle, t: u16, out: &mut u64) -> u32
     ensures same { handle.new.held.session ≡ handle.old.held.session }
     ensures answer { Gives (asked handle.old.held.session (λ s.
         said_of length_said (shape_of (space_type (space_in s) t))))
         result out.old out.new }
 {
-    let Some(session) = handle.take(alloc) else {
+    let Some(session) = handle.slot().get() else {
         return NOT_OPEN;
     };
-    let given = give(session.length(TypeNum(t)), out);
-    *handle = Handle::of(session);
-    given
+    give(session.length(TypeNum(t)), out)
 }
 
 /// The size of a type, in bytes.
 #[unsafe(no_mangle)]
-pub extern "C" fn ctfd_size(alloc: Global, handle: &mut Handle, t: u16, out: &mut u64) -> u32
+pub extern "C" fn ctfd_size(handle: &mut Handle, t: u16, out: &mut u64) -> u32
     ensures same { handle.new.held.session ≡ handle.old.held.session }
     ensures answer { Gives (asked handle.old.held.session (λ s. size_of (space_in s) t))
         result out.old out.new }
 {
-    let Some(session) = handle.take(alloc) else {
+    let Some(session) = handle.slot().get() else {
         return NOT_OPEN;
     };
-    let given = give(session.size(TypeNum(t)), out);
-    *handle = Handle::of(session);
-    given
+    give(session.size(TypeNum(t)), out)
 }
 
 /// The alignment of a type, in bytes.
 #[unsafe(no_mangle)]
-pub extern "C" fn ctfd_align(alloc: Global, handle: &mut Handle, t: u16, out: &mut u64) -> u32
+pub extern "C" fn ctfd_align(handle: &mut Handle, t: u16, out: &mut u64) -> u32
     ensures same { handle.new.held.session ≡ handle.old.held.session }
     ensures answer { Gives (asked handle.old.held.session (λ s. align_of (space_in s) t))
         result out.old out.new }
 {
-    let Some(session) = handle.take(alloc) else {
+    let Some(session) = handle.slot().get() else {
         return NOT_OPEN;
     };
-    let given = give(session.align(TypeNum(t)), out);
-    *handle = Handle::of(session);
-    given
+    give(session.align(TypeNum(t)), out)
 }
 
 /// The type that a type stands for, along typedefs and qualifiers. 0 is no type.
 #[unsafe(no_mangle)]
-pub extern "C" fn ctfd_resolve(alloc: Global, handle: &mut Handle, t: u16, out: &mut u16) -> u32
+pub extern "C" fn ctfd_resolve(handle: &mut Handle, t: u16, out: &mut u16) -> u32
     ensures same { handle.new.held.session ≡ handle.old.held.session }
     ensures answer { Gives (asked handle.old.held.session (λ s. resolved (space_in s) t))
         result out.old out.new }
 {
-    let Some(session) = handle.take(alloc) else {
+    let Some(session) = handle.slot().get() else {
         return NOT_OPEN;
     };
-    let given = give_type(session.resolve(TypeNum(t)), out);
-    *handle = Handle::of(session);
-    given
+    give_type(session.resolve(TypeNum(t)), out)
 }
 
 /// The type that a type points to, renames or qualifies.
 #[unsafe(no_mangle)]
-pub extern "C" fn ctfd_reference(alloc: Global, handle: &mut Handle, t: u16, out: &mut u16) -> u32
+pub extern "C" fn ctfd_reference(handle: &mut Handle, t: u16, out: &mut u16) -> u32
     ensures same { handle.new.held.session ≡ handle.old.held.session }
     ensures answer { Gives (asked handle.old.held.session (λ s. reference_of (space_in s) t))
         result out.old out.new }
 {
-    let Some(session) = handle.take(alloc) else {
+    let Some(session) = handle.slot().get() else {
         return NOT_OPEN;
     };
-    let given = give_type(session.reference(TypeNum(t)), out);
-    *handle = Handle::of(session);
-    given
+    give_type(session.reference(TypeNum(t)), out)
 }
 
 /// The least pointer to a type, or to what it stands for.
 #[unsafe(no_mangle)]
-pub extern "C" fn ctfd_pointer(alloc: Global, handle: &mut Handle, t: u16, out: &mut u16) -> u32
+pub extern "C" fn ctfd_pointer(handle: &mut Handle, t: u16, out: &mut u16) -> u32
     ensures same { handle.new.held.session ≡ handle.old.held.session }
     ensures answer { Gives (asked handle.old.held.session (λ s. pointer_of (space_in s) t))
         result out.old out.new }
 {
-    let Some(session) = handle.take(alloc) else {
+    let Some(session) = handle.slot().get() else {
         return NOT_OPEN;
     };
-    let given = give_type(session.pointer(TypeNum(t)), out);
-    *handle = Handle::of(session);
-    given
+    give_type(session.pointer(TypeNum(t)), out)
 }
 
 /// What a function type returns.
 #[unsafe(no_mangle)]
-pub extern "C" fn ctfd_return(alloc: Global, handle: &mut Handle, t: u16, out: &mut u16) -> u32
+pub extern "C" fn ctfd_return(handle: &mut Handle, t: u16, out: &mut u16) -> u32
     ensures same { handle.new.held.session ≡ handle.old.held.session }
     ensures answer { Gives (asked handle.old.held.session (λ s.
         said_of return_said (shape_of (space_type (space_in s) t))))
         result out.old out.new }
 {
-    let Some(session) = handle.take(alloc) else {
+    let Some(session) = handle.slot().get() else {
         return NOT_OPEN;
     };
-    let given = give_type(session.returned(TypeNum(t)), out);
-    *handle = Handle::of(session);
-    given
+    give_type(session.returned(TypeNum(t)), out)
 }
 
 /// An argument of a function type, from 0, as it is stored: a last 0 says that more may follow.
 #[unsafe(no_mangle)]
-pub extern "C" fn ctfd_argument(
-    alloc: Global,
-    handle: &mut Handle,
-    t: u16,
-    index: usize,
-    out: &mut u16,
-) -> u32
+pub extern "C" fn ctfd_argument(handle: &mut Handle, t: u16, index: usize, out: &mut u16) -> u32
     ensures same { handle.new.held.session ≡ handle.old.held.session }
     ensures answer { Gives (asked handle.old.held.session (λ s.
         said_of (argument_said index) (shape_of (space_type (space_in s) t))))
         result out.old out.new }
 {
-    let Some(session) = handle.take(alloc) else {
+    let Some(session) = handle.slot().get() else {
         return NOT_OPEN;
     };
-    let given = give_type(session.argument(TypeNum(t), index), out);
-    *handle = Handle::of(session);
-    given
+    give_type(session.argument(TypeNum(t), index), out)
 }

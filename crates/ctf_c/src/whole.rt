@@ -7,171 +7,135 @@ ghost use Rattle.ctf_model.specs.symbols.SymbolQuestions.{by_name, label_of, obj
 
 use crate::given::{NOT_OPEN, flag, give, give_short, give_text, give_type};
 use crate::handle::Handle;
-use std::alloc::Global;
 
 /// The type that a written name finds, as "struct node *".
 #[unsafe(no_mangle)]
-pub extern "C" fn ctfd_find(alloc: Global, handle: &mut Handle, text: &[u8], out: &mut u16) -> u32
+pub extern "C" fn ctfd_find(handle: &mut Handle, text: &[u8], out: &mut u16) -> u32
     ensures same { handle.new.held.session ≡ handle.old.held.session }
     ensures answer { Gives (asked handle.old.held.session (λ s. found (space_in s) text.now))
         result out.old out.new }
 {
-    let Some(session) = handle.take(alloc) else {
+    let Some(session) = handle.slot().get() else {
         return NOT_OPEN;
     };
-    let given = give_type(session.find(text), out);
-    *handle = Handle::of(session);
-    given
+    give_type(session.find(text), out)
 }
 
 /// The number of the first symbol of a name.
 #[unsafe(no_mangle)]
-pub extern "C" fn ctfd_symbol(alloc: Global, handle: &mut Handle, name: &[u8], out: &mut u32) -> u32
+pub extern "C" fn ctfd_symbol(handle: &mut Handle, name: &[u8], out: &mut u32) -> u32
     ensures same { handle.new.held.session ≡ handle.old.held.session }
     ensures answer { Gives (asked handle.old.held.session (λ s. by_name (own_in s) name.now))
         result out.old out.new }
 {
-    let Some(session) = handle.take(alloc) else {
+    let Some(session) = handle.slot().get() else {
         return NOT_OPEN;
     };
-    let given = give_short(session.symbol(name), out);
-    *handle = Handle::of(session);
-    given
+    give_short(session.symbol(name), out)
 }
 
 /// The last type of the first label of a name.
 #[unsafe(no_mangle)]
-pub extern "C" fn ctfd_label_last(
-    alloc: Global,
-    handle: &mut Handle,
-    name: &[u8],
-    out: &mut u32,
-) -> u32
+pub extern "C" fn ctfd_label_last(handle: &mut Handle, name: &[u8], out: &mut u32) -> u32
     ensures same { handle.new.held.session ≡ handle.old.held.session }
     ensures answer { Gives (asked handle.old.held.session (λ s. label_of (own_in s) name.now))
         result out.old out.new }
 {
-    let Some(session) = handle.take(alloc) else {
+    let Some(session) = handle.slot().get() else {
         return NOT_OPEN;
     };
-    let given = give_short(session.label(name), out);
-    *handle = Handle::of(session);
-    given
+    give_short(session.label(name), out)
 }
 
 /// The type of an object of the program, by the number of its symbol.
 #[unsafe(no_mangle)]
-pub extern "C" fn ctfd_object(alloc: Global, handle: &mut Handle, number: u32, out: &mut u16) -> u32
+pub extern "C" fn ctfd_object(handle: &mut Handle, number: u32, out: &mut u16) -> u32
     ensures same { handle.new.held.session ≡ handle.old.held.session }
     ensures answer { Gives (asked handle.old.held.session (λ s. object_of (own_in s) number))
         result out.old out.new }
 {
-    let Some(session) = handle.take(alloc) else {
+    let Some(session) = handle.slot().get() else {
         return NOT_OPEN;
     };
-    let given = give_type(session.object(number), out);
-    *handle = Handle::of(session);
-    given
+    give_type(session.object(number), out)
 }
 
 /// The number of the dictionary's own types.
 #[unsafe(no_mangle)]
-pub extern "C" fn ctfd_count(alloc: Global, handle: &mut Handle, out: &mut u64) -> u32
+pub extern "C" fn ctfd_count(handle: &mut Handle, out: &mut u64) -> u32
     ensures same { handle.new.held.session ≡ handle.old.held.session }
     ensures answer { Gives (asked handle.old.held.session (λ s. Ok (length (own_in s).terms)))
         result out.old out.new }
 {
-    let Some(session) = handle.take(alloc) else {
+    let Some(session) = handle.slot().get() else {
         return NOT_OPEN;
     };
-    let given = give(Ok(session.count()), out);
-    *handle = Handle::of(session);
-    given
+    give(Ok(session.count()), out)
 }
 
 /// 1 where the low numbers of types are those of a parent, else 0.
 #[unsafe(no_mangle)]
-pub extern "C" fn ctfd_child(alloc: Global, handle: &mut Handle, out: &mut u32) -> u32
+pub extern "C" fn ctfd_child(handle: &mut Handle, out: &mut u32) -> u32
     ensures same { handle.new.held.session ≡ handle.old.held.session }
     ensures answer { Gives (asked handle.old.held.session (λ s. Ok (flag_of (own_in s).child)))
         result out.old out.new }
 {
-    let Some(session) = handle.take(alloc) else {
+    let Some(session) = handle.slot().get() else {
         return NOT_OPEN;
     };
-    let given = give_short(Ok(flag(session.child())), out);
-    *handle = Handle::of(session);
-    given
+    give_short(Ok(flag(session.child())), out)
 }
 
 /// The number of types that the imported parent has.
 #[unsafe(no_mangle)]
-pub extern "C" fn ctfd_parent_count(alloc: Global, handle: &mut Handle, out: &mut u64) -> u32
+pub extern "C" fn ctfd_parent_count(handle: &mut Handle, out: &mut u64) -> u32
     ensures same { handle.new.held.session ≡ handle.old.held.session }
     ensures answer { Gives (asked handle.old.held.session (λ s. parent_types s))
         result out.old out.new }
 {
-    let Some(session) = handle.take(alloc) else {
+    let Some(session) = handle.slot().get() else {
         return NOT_OPEN;
     };
-    let given = give(session.parent_count(), out);
-    *handle = Handle::of(session);
-    given
+    give(session.parent_count(), out)
 }
 
 /// The name of the parent, as the dictionary says it. As much of it is written as fits.
 #[unsafe(no_mangle)]
-pub extern "C" fn ctfd_parent_name(
-    alloc: Global,
-    handle: &mut Handle,
-    text: &mut [u8],
-    len: &mut u64,
-) -> u32
+pub extern "C" fn ctfd_parent_name(handle: &mut Handle, text: &mut [u8], len: &mut u64) -> u32
     ensures same { handle.new.held.session ≡ handle.old.held.session }
     ensures answer { GivesText (asked handle.old.held.session (λ s. Ok (own_in s).parname)) result
         (record { text = text.old; len = len.old })
         (record { text = text.new; len = len.new }) }
 {
-    let Some(session) = handle.take(alloc) else {
+    let Some(session) = handle.slot().get() else {
         return NOT_OPEN;
     };
-    let given = give_text(Ok(session.parname()), text, len);
-    *handle = Handle::of(session);
-    given
+    give_text(Ok(session.parname()), text, len)
 }
 
 /// The label of the parent, as the dictionary says it. As much of it is written as fits.
 #[unsafe(no_mangle)]
-pub extern "C" fn ctfd_parent_label(
-    alloc: Global,
-    handle: &mut Handle,
-    text: &mut [u8],
-    len: &mut u64,
-) -> u32
+pub extern "C" fn ctfd_parent_label(handle: &mut Handle, text: &mut [u8], len: &mut u64) -> u32
     ensures same { handle.new.held.session ≡ handle.old.held.session }
     ensures answer { GivesText (asked handle.old.held.session (λ s. Ok (own_in s).parlabel)) result
         (record { text = text.old; len = len.old })
         (record { text = text.new; len = len.new }) }
 {
-    let Some(session) = handle.take(alloc) else {
+    let Some(session) = handle.slot().get() else {
         return NOT_OPEN;
     };
-    let given = give_text(Ok(session.parlabel()), text, len);
-    *handle = Handle::of(session);
-    given
+    give_text(Ok(session.parlabel()), text, len)
 }
 
 /// 1 where the pointers of its program have 4 bytes, else 0.
 #[unsafe(no_mangle)]
-pub extern "C" fn ctfd_model(alloc: Global, handle: &mut Handle, out: &mut u32) -> u32
+pub extern "C" fn ctfd_model(handle: &mut Handle, out: &mut u32) -> u32
     ensures same { handle.new.held.session ≡ handle.old.held.session }
     ensures answer { Gives (asked handle.old.held.session (λ s. Ok (model_number s.own.model)))
         result out.old out.new }
 {
-    let Some(session) = handle.take(alloc) else {
+    let Some(session) = handle.slot().get() else {
         return NOT_OPEN;
     };
-    let given = give_short(Ok(session.model_number()), out);
-    *handle = Handle::of(session);
-    given
+    give_short(Ok(session.model_number()), out)
 }

@@ -6,6 +6,7 @@ pub mod Needing
 pub mod Order
 pub mod Reading
 pub mod Sites
+pub mod EntryStages
 pub mod SymbolStages
 pub mod Terms
 pub mod TypeStages

@@ -8,7 +8,9 @@ use Rattle.ctf_chains.specs.Steps.{AreSpelled, steps}
 use Rattle.ctf_chains.specs.declared.chain.Chain.{Chain}
 use Rattle.ctf_chains.specs.declared.chain.Chain.TheVariants.{ByValue, Declarator}
 use Rattle.ctf_model.specs.rules.Faults.{Site, list_sites, walk_fault, or_later, first_broken, first_misnaming, first_deep, first_where, tells_missing, bad_funcs, bad_symbol_type, bad_symtab, rules}
-use Rattle.ctf_model.specs.symbols.Entries.{Entry}
+use Rattle.ctf_model.specs.symbols.Entries.{Entry, entries_of}
+use Rattle.ctf_model.specs.symbols.Symbols.{Symbol}
+use Rattle.ctf_entries.specs.Sound.{bad_place}
 use Rattle.ctf_model.specs.format.Header.{Fields}
 use Rattle.ctf_model.specs.format.Lists.{Lists}
 use Rattle.ctf_model.specs.format.Name.{Tables}
@@ -70,6 +72,13 @@ IsTypesFault child rs fault = (t : Tables) → AreSpelled t rs → types_fault t
 -- the first of which a type is told that is not there
 abbrev pub first_mistold : Bool → ℕ → List Entry → Option ℕ
 first_mistold child count es = first_where (tells_missing child count) (λ e. e.number) es
+
+-- the first fault of considered symbols, whose entries stand in these sections:
+-- a bad entry of a function, else a type that is not there
+abbrev pub entries_fault : Bool → ℕ → List (ℕ × Symbol) → List ℕ → List ℕ → Option Fault
+entries_fault child count xs objects functions =
+    or_later BAD_FUNCS (bad_place xs functions)
+    (or_later BAD_SYMBOL_TYPE (first_mistold child count (entries_of xs objects functions)) None)
 
 -- the first fault of symbols: a bad entry of a function, a type that is not there,
 -- a symbol that is cut off

@@ -3,6 +3,7 @@
 
 mod checked;
 mod ends;
+mod entries;
 mod facts;
 mod heads;
 mod judge;

@@ -5,6 +5,7 @@ use Rattle.std.specs.List.{before_first, position_or_len}
 use Rattle.std.specs.Str.{bytes_eq}
 use Rattle.std.proofs.lemmas.Bool.{ne_eqb}
 use Rattle.ctf_model.specs.format.Name.{is_zero}
+use Rattle.ctf_model.specs.symbols.Symbols.{is_mark}
 
 -- a name that begins with a zero byte is empty; another goes on
 pub name_cons : (x : ℕ) (xs : List ℕ) → is_zero x ≡ false → before_first is_zero (x ∷ xs) ≡ x ∷ before_first is_zero xs
@@ -29,6 +30,19 @@ pub same_in_front : (t m : List ℕ) (n : ℕ) → length m < n → bytes_eq (be
 same_in_front t m zero lt = absurd (omega arith)
 same_in_front [] m (suc n) lt = refl
 same_in_front (x ∷ xs) m (suc n) lt = front_case x n xs m (is_zero x) refl (λ ys less. same_in_front xs ys n less) lt
+
+-- a mark begins with an underscore
+pub no_mark : (t : List ℕ) → length t ≡ 0 → is_mark (before_first is_zero t) ≡ false
+no_mark [] e = refl
+no_mark (x ∷ xs) e = absurd (omega arith)
+
+mark_case : (x : ℕ) (xs : List ℕ) (b : Bool) → is_zero x ≡ b → eqb x 95 ≡ false → is_mark (before_first is_zero (x ∷ xs)) ≡ false
+mark_case x xs true e other = rw (name_none x xs e) refl
+mark_case x xs false e other = rw (name_cons x xs e, other) refl
+
+pub other_front : (t : List ℕ) (d : ℕ) → 0 < length t → eqb (get_or t 0 d) 95 ≡ false → is_mark (before_first is_zero t) ≡ false
+other_front [] d lt e = absurd (omega arith)
+other_front (x ∷ xs) d lt e = mark_case x xs (is_zero x) refl e
 
 -- ---- whether a name is empty
 

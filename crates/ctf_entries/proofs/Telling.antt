@@ -67,21 +67,3 @@ sound_function all xs x f e is h = at (is_bad_entry f) refl (rw (e, is) at h)
     at : (c : Bool) → is_bad_entry f ≡ c → cond c (Some x.0) (bad_place xs (drop (entry_len f) f)) ≡ None → (is_bad_entry f ≡ false) × (bad_place xs (drop (entry_len f) f) ≡ None)
     at true b g = absurd cc
     at false b g = (b, g)
-
--- ---- the first of the functions with a bad entry
-
-pub bad_none : (f : List ℕ) → bad_place [] f ≡ None
-unfolding bad_place function_sites_of
-bad_none f = refl
-
-pub bad_object : (x : ℕ × Symbol) (xs : List (ℕ × Symbol)) (f : List ℕ) → is_object x.1 ≡ true → bad_place (x ∷ xs) f ≡ bad_place xs f
-unfolding bad_place function_sites_of
-bad_object x xs f is = rw is refl
-
-pub bad_here : (x : ℕ × Symbol) (xs : List (ℕ × Symbol)) (f : List ℕ) → is_object x.1 ≡ false → is_bad_entry f ≡ true → bad_place (x ∷ xs) f ≡ Some x.0
-unfolding bad_place function_sites_of
-bad_here x xs f is bad = rw (is, bad) refl
-
-pub bad_behind : (x : ℕ × Symbol) (xs : List (ℕ × Symbol)) (f : List ℕ) → is_object x.1 ≡ false → is_bad_entry f ≡ false → bad_place (x ∷ xs) f ≡ bad_place xs (drop (entry_len f) f)
-unfolding bad_place function_sites_of
-bad_behind x xs f is good = rw (is, good) refl

@@ -1,7 +1,7 @@
 //! The entry of a function.
 ghost use Rattle.std.specs.Prelude.{◌≡◌, ◌≤◌, ◌*◌, length, drop, false};
 ghost use Rattle.std.specs.Option.{option_map};
-ghost use Rattle.ctf_model.specs.symbols.Entries.{argument_count as argument_count_in, entry_len as entry_len_in, is_bad_entry, is_silent as silent, kind_number as kind_number_in, signature_in};
+ghost use Rattle.ctf_model.specs.symbols.Entries.{argument_count as argument_count_in, entry_len as entry_len_in, is_bad_entry as bad_entry, is_silent as silent, kind_number as kind_number_in, signature_in};
 ghost use Rattle.ctf_entries.specs.FunctionView.{signature};
 
 use crate::signature::Signature;
@@ -47,8 +47,8 @@ fn entry_len(entry: &[u8]) -> usize
 
 /// Whether the entry that begins some bytes has a wrong kind or runs past their end.
 #[tactic(auto, using(crate::proofs::Telling::long_entry))]
-pub(crate) fn is_bad(functions: &[u8]) -> bool
-    ensures { result ≡ is_bad_entry functions.now }
+pub fn is_bad_entry(functions: &[u8]) -> bool
+    ensures { result ≡ bad_entry functions.now }
 {
     if functions.is_empty() {
         return false;
@@ -65,7 +65,7 @@ pub(crate) fn is_bad(functions: &[u8]) -> bool
 /// The bytes behind the entry that begins them.
 #[tactic(auto, using(crate::proofs::Telling::good_entry))]
 pub fn behind_function(functions: &[u8]) -> &[u8]
-    requires good { is_bad_entry functions.now ≡ false }
+    requires good { bad_entry functions.now ≡ false }
     ensures { result.now ≡ drop (entry_len_in functions.now) functions.now }
 {
     if functions.is_empty() {
@@ -78,7 +78,7 @@ pub fn behind_function(functions: &[u8]) -> &[u8]
 /// The signature that the entry says which begins some bytes.
 #[tactic(auto, using(crate::proofs::Telling::good_entry, crate::proofs::Telling::said_signature, crate::proofs::Telling::no_signature))]
 pub fn signature_of(functions: &[u8]) -> Option<Signature<'_>>
-    requires good { is_bad_entry functions.now ≡ false }
+    requires good { bad_entry functions.now ≡ false }
     ensures { option_map signature result ≡ signature_in functions.now }
 {
     if functions.is_empty() {

@@ -4,7 +4,6 @@
 mod considered;
 mod entries;
 mod function;
-mod judging;
 mod marks;
 mod names;
 mod object;
@@ -14,8 +13,7 @@ mod untold;
 
 pub use considered::{Considered, Numbered};
 pub use entries::{Entries, Entry, Told};
-pub use function::{behind_function, signature_of};
-pub use judging::bad_function;
+pub use function::{behind_function, is_bad_entry, signature_of};
 pub use names::SymbolNames;
 pub use object::{behind_object, type_in};
 pub use signature::Signature;

@@ -24,9 +24,16 @@ fn begins(text: &[u8], name: &[u8]) -> bool
 }
 
 /// Whether the name that begins some strings is one of the linker's marks. It reads eight bytes at
-/// most, however long the name is.
+/// most, however long the name is, and of most names one.
+#[tactic(auto, using(crate::proofs::NameFronts::no_mark, crate::proofs::NameFronts::other_front))]
 pub(crate) fn begins_mark(text: &[u8]) -> bool
     ensures { result ≡ mark (before_first is_zero text.now) }
 {
+    if text.is_empty() {
+        return false;
+    }
+    if text[0] != b'_' {
+        return false;
+    }
     begins(text, b"_START_") || begins(text, b"_END_")
 }

@@ -1,17 +1,16 @@
--- What is held for C: nothing, or the same as a `Box<Service>` owns.
-use base.Fml.{Fml, ftrue}
+-- What is held for C: nothing, or the same as a box of a service owns.
+use base.Fml.{Fml}
 use base.Stored.{Coded}
 use denote.RawPtr.{Ptr}
-use Rattle.std.specs.Prelude.{Option, None, Some}
+use Rattle.std.specs.Prelude.{Option}
 use Rattle.std.specs.Coded.{coded_option}
-use Rattle.std.specs.Box.Ownership.{box_owns}
 use Rattle.std.specs.Global.{Global}
 use Rattle.std_heap.specs.contracts.GlobalAllocator.TheImpl.{ghosts}
+use Rattle.ctf_handle.specs.Owned.{held_owns}
 use Rattle.ctf_line.specs.contracts.service.Service.{the_row}
 
-abbrev pub held_owns : Global → Ptr → Option the_row.Denot → Fml
-held_owns alloc at None = ftrue
-held_owns alloc at (Some x) = box_owns (ghosts.dealloc_token alloc) the_row at x
+abbrev pub place_owns : Global → Ptr → Option the_row.Denot → Fml
+place_owns alloc = held_owns (ghosts.dealloc_token alloc) the_row
 
-abbrev pub held_coded : Coded (Option the_row.Denot)
-held_coded = coded_option the_row.coded
+abbrev pub place_coded : Coded (Option the_row.Denot)
+place_coded = coded_option the_row.coded

@@ -1,55 +1,45 @@
 //! A handle, as C has it.
-ghost use Rattle.std.specs.Prelude.{◌≡◌, Option, None, Some, is_some, option_map};
+ghost use Rattle.std.specs.Prelude.{◌≡◌, Option, is_some};
+ghost use Rattle.ctf_line.specs.Owned.{place_coded, place_owns};
 ghost use Rattle.ctf_line.specs.Served.{Served};
 
-use crate::held::Held;
 use crate::service::Service;
+use ctf_handle::Slot;
 use std::alloc::Global;
-use std::mem;
+use std::marker::Model;
 
-/// What is open, if anything is.
+/// A service on the heap, or nothing: `Held` without type parameters, since C is given none.
+#[repr(C)]
+#[derive(Drop)]
+pub struct Place {
+    at: *mut u8,
+    alloc: Global,
+    pub ghost service: { Option Served } by { place_coded },
+}
+
+impl Model for Place {
+    ghost also_owns = { λ p. place_owns p.alloc p.at p.service };
+}
+
+/// What is open, if anything is: a `Slot` without type parameters.
 #[repr(C)]
 #[derive(Drop)]
 pub struct Handle {
     full: bool,
-    pub held: Held,
+    pub held: Place,
     ghost tells: { full ≡ is_some held.service },
 }
 
 impl Handle {
-    /// Nothing is open.
-    pub fn none(alloc: Global) -> Handle
-        ensures { result.held.service ≡ None }
-    {
-        Handle {
-            full: false,
-            held: Held::none(alloc),
-        }
-    }
+    ghost use Rattle.std.specs.Borrow.{sem};
+    ghost use Rattle.ctf_line.specs.Slots.{HandleLends};
 
-    /// A service is open.
-    pub fn of(service: Box<Service>) -> Handle
-        ensures { result.held.service ≡ Some service.value }
+    /// The slot that it is in memory.
+    #[inline(always)]
+    pub fn slot(&mut self) -> &mut Slot<Service>
+        ensures* writes_back { sem 𝓛 (HandleLends self.entry result) }
+        ensures same { result.now.held.value ≡ self.old.held.service }
     {
-        Handle {
-            full: true,
-            held: Held::of(service),
-        }
-    }
-
-    /// What was open.
-    pub fn into_box(self) -> Option<Box<Service>>
-        ensures { option_map (λ b. b.value) result ≡ self.held.service }
-    {
-        let Handle { full, held } = self;
-        if full { Some(held.into_box()) } else { None }
-    }
-
-    /// Takes out what is open.
-    pub fn take(&mut self, alloc: Global) -> Option<Box<Service>>
-        ensures value { option_map (λ b. b.value) result ≡ self.old.held.service }
-        ensures none { self.new.held.service ≡ None }
-    {
-        mem::replace(self, Handle::none(alloc)).into_box()
+        unsafe { &mut *(self as *mut Handle as *mut Slot<Service>) }
     }
 }

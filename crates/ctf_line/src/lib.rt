@@ -6,8 +6,6 @@ ghost use Rattle.ctf_line.specs.Given.{Begins, Repeats, Serves};
 
 mod given;
 mod handle;
-mod held;
-mod parts;
 mod service;
 
 use given::tell;
@@ -31,8 +29,7 @@ pub extern "C" fn ctfd_begin(alloc: Global, handle: &mut Handle) -> u32
     };
     match Box::new(alloc, service) {
         Ok(service) => {
-            drop(handle.take(alloc));
-            *handle = Handle::of(service);
+            handle.slot().hold(service);
             0
         }
         Err(_) => MEMORY,
@@ -44,47 +41,34 @@ pub extern "C" fn ctfd_begin(alloc: Global, handle: &mut Handle) -> u32
 pub extern "C" fn ctfd_end(alloc: Global, handle: &mut Handle)
     ensures { handle.new.held.service ≡ None }
 {
-    drop(handle.take(alloc));
+    drop(handle.slot().take(alloc));
 }
 
 /// Answers a line, without its newline. As much of the reply is written as fits.
 #[unsafe(no_mangle)]
-pub extern "C" fn ctfd_line(
-    alloc: Global,
-    handle: &mut Handle,
-    line: &[u8],
-    text: &mut [u8],
-    len: &mut u64,
-) -> u32
+pub extern "C" fn ctfd_line(handle: &mut Handle, line: &[u8], text: &mut [u8], len: &mut u64) -> u32
     ensures { Serves handle.old.held.service line.now result
         (record { text = text.old; len = len.old }) (record { text = text.new; len = len.new })
         handle.new.held.service }
 {
-    let Some(mut service) = handle.take(alloc) else {
+    let Some(service) = handle.slot().get_mut() else {
         return NOT_OPEN;
     };
     service.answer(line);
     tell(service.reply(), text, len);
-    *handle = Handle::of(service);
     0
 }
 
 /// Gives the last reply again.
 #[unsafe(no_mangle)]
-pub extern "C" fn ctfd_reply(
-    alloc: Global,
-    handle: &mut Handle,
-    text: &mut [u8],
-    len: &mut u64,
-) -> u32
+pub extern "C" fn ctfd_reply(handle: &mut Handle, text: &mut [u8], len: &mut u64) -> u32
     ensures same { handle.new.held.service ≡ handle.old.held.service }
     ensures answer { Repeats handle.old.held.service result
         (record { text = text.old; len = len.old }) (record { text = text.new; len = len.new }) }
 {
-    let Some(service) = handle.take(alloc) else {
+    let Some(service) = handle.slot().get() else {
         return NOT_OPEN;
     };
     tell(service.reply(), text, len);
-    *handle = Handle::of(service);
     0
 }

@@ -8,7 +8,7 @@ use Rattle.ctf_lines.proofs.Short.{fitting_fits}
 use Rattle.ctf_lines.specs.Appending.{Appended, Writes}
 
 -- it is what is to be written
-pub passed : {E : Type 0} (old new : Vec ℕ Global) (s : ℕ) (answer : List Field) → Appended old new (answer_line s answer) → length (answer_line s answer) ≤ 65536 → Writes {E = E} old (fitting_line s (answer_line s answer)) (Ok tt) new
+pub passed : {E : Type 0} (old new : Vec ℕ Global) (s : ℕ) (answer : List Field) → Appended old new (answer_line s answer) → length (answer_line s answer) ≤ 131072 → Writes {E = E} old (fitting_line s (answer_line s answer)) (Ok tt) new
 passed {E = E} old new s answer added short =
     let line = answer_line s answer in
     let fits : fitting_line s line ≡ line = fitting_fits s line (omega (arith, short)) in

@@ -1,5 +1,6 @@
 -- Texts of plain bytes.
 use Rattle.std.proofs.Common.{◌≡◌, ℕ, ◌+◌, ◌<◌, ◌≤◌, Bool, true, false, List, [], ◌∷◌, ◌++◌, Some, length, length-append, get_or, take, drop, refl, sym, ap, ◌∙◌, arith, lit≤}
+use Rattle.std.specs.Prelude.{◌&&◌}
 use Rattle.std.proofs.lemmas.List.{take_more}
 use Rattle.ctf_model.specs.dumps.Texts.{is_plain}
 use Rattle.ctf_protocol.specs.lines.Text.{text_of_byte, text_of, and_bytes, bytes_spelled_by}
@@ -16,6 +17,11 @@ plain-next bytes k h plain same =
     ∙ ap (λ (t : List ℕ). t ++ text_of_byte (get_or bytes k 0)) same
     ∙ ap (λ (t : List ℕ). take k bytes ++ t) (one (get_or bytes k 0) plain)
     ∙ sym (take_more bytes k 0 h)
+
+pub plain-more : (bytes : List ℕ) (k : ℕ) (were is : Bool) → k < length bytes → is ≡ is_plain (get_or bytes k 0) → (were ≡ true → text_of (take k bytes) ≡ take k bytes) → were && is ≡ true → text_of (take (k + 1) bytes) ≡ take (k + 1) bytes
+plain-more bytes k true true h e same t = plain-next bytes k h (sym e) (same refl)
+plain-more bytes k true false h e same t = absurd cc
+plain-more bytes k false is h e same t = absurd cc
 
 five : (b : ℕ) → is_plain b ≡ false → length (text_of_byte b) ≡ 5
 five b other = rw other refl

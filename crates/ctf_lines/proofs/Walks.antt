@@ -2,6 +2,7 @@
 use Rattle.std.proofs.Common.{◌≡◌, ℕ, ◌+◌, ◌<◌, ◌≤◌, List, [], ◌∷◌, ◌++◌, length, get_or, take, drop, sym, ap, ◌∙◌}
 use Rattle.std.specs.List.{flat_map}
 use Rattle.std.proofs.lemmas.Grind.{flat_map-append}
+use Rattle.std.proofs.Math.Seq.{take-add}
 use Rattle.std.proofs.lemmas.List.{append-nil, take_all, take_more, take-append-drop}
 
 -- the first ones, and one more
@@ -14,6 +15,10 @@ walked text bytes k h =
 -- the first ones, and all others
 pub left_out : (text : ℕ → List ℕ) (bytes : List ℕ) (k : ℕ) → flat_map text (take k bytes) ++ flat_map text (drop k bytes) ≡ flat_map text bytes
 left_out text bytes k = sym (flat_map-append text (take k bytes) (drop k bytes)) ∙ ap (flat_map text) (take-append-drop k bytes)
+
+-- the first ones, and some more
+pub more_walked : (text : ℕ → List ℕ) (bytes : List ℕ) (k n : ℕ) → flat_map text (take k bytes) ++ flat_map text (take n (drop k bytes)) ≡ flat_map text (take (k + n) bytes)
+more_walked text bytes k n = sym (flat_map-append text (take k bytes) (take n (drop k bytes))) ∙ ap (flat_map text) (sym (take-add k n bytes))
 
 -- a text under another name
 pub as_text : {S : Type 0} (Took : S → List ℕ → S → Type 0) {old new : S} {a b : List ℕ} → a ≡ b → Took old a new → Took old b new

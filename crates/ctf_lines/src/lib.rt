@@ -24,4 +24,4 @@ pub use ctf_json::Scratch;
 pub use lines::{FromLine, ToLine};
 pub use no_memory::memory_line;
 pub use reading::LONGEST_LINE;
-pub use writing::{SHORT_LINE, write_change};
+pub use writing::{SHORT_LINE, SHORT_PASS, write_change};

@@ -52,15 +52,53 @@ pub fn are_plain(text: &[u8]) -> bool
     true
 }
 
+/// How many bytes of a name are looked at before any is put on.
+const PIECE: usize = 64;
+
+/// Whether all bytes of a piece stand as themselves. None ends it early, so that many are looked
+/// at at once.
+fn is_plain_piece(piece: &[u8]) -> bool
+    ensures { IsTrue result → text_of piece.now ≡ piece.now }
+{
+    let mut plain = true;
+    for byte in piece {
+        plain &= is_plain(*byte);
+    }
+    plain
+}
+
+/// Puts bytes on, one by one.
+fn put_bytes<P: Paper>(paper: &mut P, bytes: &[u8])
+    ensures { P.Took paper.old (text_of bytes.now) paper.new }
+{
+    for byte in bytes {
+        put_byte(paper, *byte);
+    }
+}
+
+/// Puts a part of a name on.
+fn put_piece<P: Paper>(paper: &mut P, piece: &[u8])
+    ensures { P.Took paper.old (text_of piece.now) paper.new }
+{
+    if is_plain_piece(piece) {
+        paper.put(piece);
+    } else {
+        put_bytes(paper, piece);
+    }
+}
+
 /// Puts a name on. What stands behind a limit isn't looked at.
 pub fn put_name<P: Paper>(paper: &mut P, name: &[u8])
     ensures { P.Took paper.old (text_of name.now) paper.new }
 {
-    for byte in name {
+    let mut at = 0;
+    while at < name.len() {
         if paper.is_full() {
             return;
         }
-        put_byte(paper, *byte);
+        let end = name.len().min(at + PIECE);
+        put_piece(paper, &name[at..end]);
+        at = end;
     }
 }
 

@@ -4,6 +4,7 @@ ghost use Rattle.ctf_lines.specs.Appending.{HasRoom, Appended};
 
 use crate::names::append_hex;
 use crate::papers::Paper;
+use crate::texts::appended;
 use std::mem::replace;
 
 /// A list, and how many bytes may be put behind it. Where a text found no room, nothing more is
@@ -14,19 +15,6 @@ pub struct Sheet {
     room: usize,
     is_full: bool,
     ghost inside: { vec_len out + room ≤ vec_capacity out },
-}
-
-/// Appends bytes where there is room.
-#[inline(always)]
-fn appended(out: Vec<u8>, bytes: &[u8]) -> Vec<u8>
-    requires { HasRoom out bytes.now }
-    ensures { Appended out result bytes.now }
-{
-    let mut lines = out;
-    for byte in bytes {
-        lines.push_reserved(*byte);
-    }
-    lines
 }
 
 impl Sheet {

@@ -6,6 +6,7 @@ ghost use Rattle.ctf_lines.specs.Appending.{HasRoom, Appended};
 use crate::names::append_hex;
 use crate::papers::Paper;
 use itoa::Buffer;
+use std::mem::replace;
 
 /// The longest line of a reply, in bytes without its newline.
 pub const LONGEST_REPLY: usize = 4_194_304;
@@ -13,14 +14,26 @@ pub const LONGEST_REPLY: usize = 4_194_304;
 /// The length, newline included, that any line counts as which is longer than a reply's may be.
 pub const TOO_LONG: usize = 4_194_306;
 
+/// A list with bytes behind it, for which there is room.
+#[inline(always)]
+pub fn appended(out: Vec<u8>, bytes: &[u8]) -> Vec<u8>
+    requires { HasRoom out bytes.now }
+    ensures { Appended out result bytes.now }
+{
+    let mut lines = out;
+    for byte in bytes {
+        lines.push_reserved(*byte);
+    }
+    lines
+}
+
 /// Appends bytes where there is room.
 fn append(out: &mut Vec<u8>, bytes: &[u8])
     requires { HasRoom out.old bytes.now }
     ensures { Appended out.old out.new bytes.now }
 {
-    for byte in bytes {
-        out.push_reserved(*byte);
-    }
+    let empty = Vec::new(*out.allocator());
+    *out = appended(replace(out, empty), bytes);
 }
 
 /// A line, to whose end a text is appended where there is room.

@@ -19,8 +19,9 @@ use std::mem::replace;
 /// The greatest length of the line of a refusal, or of a reply to a change.
 pub const SHORT_LINE: usize = 96;
 
-/// The longest line that is written in one pass, in bytes with its newline.
-const SHORT_PASS: usize = 65_536;
+/// The longest line that is written in one pass, in bytes with its newline. What a value shows, or
+/// a spelled name, fits where few of its bytes are escaped.
+pub const SHORT_PASS: usize = 131_072;
 
 /// Puts the line of an object on.
 fn put_line<P: Paper>(paper: &mut P, under: &str, session: u32, fields: &Answer<'_>)
@@ -65,7 +66,7 @@ fn write_object(
 fn write_short(out: &mut Vec<u8>, session: u32, fields: &Answer<'_>) -> bool
     ensures { MatchBool result
         (Appended out.old out.new (answer_line session fields.now)
-        × (length (answer_line session fields.now) ≤ 65536))
+        × (length (answer_line session fields.now) ≤ 131072))
         (IsAsBefore out.old out.new) }
 {
     let len = out.len();

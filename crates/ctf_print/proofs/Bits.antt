@@ -1,63 +1,67 @@
 -- Bits of a number whose bytes stand in memory.
-use Rattle.std.proofs.Common.{◌≡◌, ℕ, suc, ◌+◌, ◌-◌, ◌*◌, ◌^◌, ◌/◌, ◌%◌, ◌<◌, ◌≤◌, List, [], ◌∷◌, get_or, refl, sym, ap, ◌∙◌, arith, ltb, true, false, Bool}
-use Rattle.std.proofs.Math.Nat.{add-mul-div_left, add-mul-mod_self_left, div-div-eq-div-mul, mul_assoc, pow-le-pow_right, zero-div}
-use Rattle.std.proofs.lemmas.Nat.{mul-add-lt, pow-add, pow_pos, mod-pow-add}
-use Rattle.std.proofs.lemmas.Bool.{ltb-true, ltb-false}
+use Rattle.std.proofs.Common.{◌≡◌, ℕ, zero, suc, ◌+◌, ◌-◌, ◌*◌, ◌^◌, ◌/◌, ◌%◌, ◌<◌, ◌≤◌, List, [], ◌∷◌, drop, take, get_or, sym, ap, ◌∙◌, arith}
+use Rattle.std.proofs.Math.Nat.{div-div-eq-div-mul, div-one, mod-one, zero-div, zero-mod}
+use Rattle.std.proofs.Math.Pow.{mod-mod-pow}
+use Rattle.std.proofs.lemmas.List.{get_or-drop}
+use Rattle.std.proofs.lemmas.Nat.{pow-add, mod-pow-add}
 use Rattle.ctf_model.specs.format.Bytes.{number}
 use Rattle.ctf_model.specs.values.MemoryBits.{bits_at}
-
--- bits more in front of a field
-further : (x a c : ℕ) → x / 2 ^ (a + c) ≡ x / 2 ^ a / 2 ^ c
-further x a c = rw (pow-add 2 a c) (sym (div-div-eq-div-mul x (2 ^ a) (2 ^ c)))
-
-pub bits_more : (memory : List ℕ) (a i c : ℕ) → bits_at memory a (i + c) ≡ bits_at memory (a + c) i * 2 ^ c + bits_at memory a c
-bits_more memory a i c = rw (further (number memory) a c) (mod-pow-add (number memory / 2 ^ a) i c)
-
--- they fit in their width
-pub more_fits : (value i c more width : ℕ) → value < 2 ^ i → more < 2 ^ c → i + c ≤ width → value * 2 ^ c + more < 2 ^ width
-more_fits value i c more width h few w =
-    let all : value * 2 ^ c + more < 2 ^ c * 2 ^ i = mul-add-lt value (2 ^ c) more (2 ^ i) h few in
-    let whole : 2 ^ (c + i) ≡ 2 ^ c * 2 ^ i = pow-add 2 c i in
-    let wide : 2 ^ (c + i) ≤ 2 ^ width = pow-le-pow_right {n = 2} (omega arith) {i = c + i} {j = width} (omega (arith, w)) in
-    omega (arith, all, whole, wide)
+use Rattle.ctf_print.proofs.Digits.{middle}
 
 -- each is a byte
 abbrev pub AreBytes : List ℕ → Type 0
 AreBytes bs = (k : ℕ) → get_or bs k 0 < 256
 
--- a byte as bits in front of, inside and behind a field
-in_three : (p c d n : ℕ) → p + (c + d) ≡ 8 → 256 * n ≡ 2 ^ p * (2 ^ c * (2 ^ d * n))
-in_three p c d n e =
-    let whole : 2 ^ (p + (c + d)) ≡ 256 = rw e refl in
-    let split : 2 ^ (p + (c + d)) ≡ 2 ^ p * (2 ^ c * 2 ^ d) = pow-add 2 p (c + d) ∙ ap (λ x. 2 ^ p * x) (pow-add 2 c d) in
-    ap (λ x. x * n) (sym whole ∙ split) ∙ mul_assoc (2 ^ p) (2 ^ c * 2 ^ d) n ∙ ap (λ x. 2 ^ p * x) (mul_assoc (2 ^ c) (2 ^ d) n)
-
-in_byte : (b n p c d : ℕ) → p + (c + d) ≡ 8 → (b + 256 * n) / 2 ^ p % 2 ^ c ≡ b / 2 ^ p % 2 ^ c
-in_byte b n p c d e =
-    ap (λ x. (b + x) / 2 ^ p % 2 ^ c) (in_three p c d n e)
-    ∙ ap (λ x. x % 2 ^ c) (add-mul-div_left b (2 ^ c * (2 ^ d * n)) (pow_pos p))
-    ∙ add-mul-mod_self_left (b / 2 ^ p) (2 ^ c) (2 ^ d * n)
-
+-- without the first byte it is less by the bits of that one
 behind_byte : (b n q : ℕ) → b < 256 → (b + 256 * n) / 2 ^ (8 + q) ≡ n / 2 ^ q
 behind_byte b n q h =
     let whole : (b + 256 * n) / 256 ≡ n = omega arith in
     rw (pow-add 2 8 q) (sym (div-div-eq-div-mul (b + 256 * n) 256 (2 ^ q)) ∙ ap (λ m. m / 2 ^ q) whole)
 
-byte_case : (b : ℕ) (bs : List ℕ) (p c d : ℕ) → b < 256 → p % 8 + (c + d) ≡ 8 → ((q : ℕ) → q % 8 + (c + d) ≡ 8 → bits_at bs q c ≡ get_or bs (q / 8) 0 / 2 ^ (q % 8) % 2 ^ c) → (t : Bool) → ltb p 8 ≡ t → (b + 256 * number bs) / 2 ^ p % 2 ^ c ≡ get_or (b ∷ bs) (p / 8) 0 / 2 ^ (p % 8) % 2 ^ c
-byte_case b bs p c d h e rest true t =
-    let first : p / 8 ≡ 0 = omega (arith, ltb-true p 8 t) in
-    let low : p % 8 ≡ p = omega (arith, ltb-true p 8 t) in
-    rw (first, low) (in_byte b (number bs) p c d (omega (arith, e, low)))
-byte_case b bs p c d h e rest false t =
-    let more : 8 ≤ p = ltb-false p 8 t in
-    let next : p / 8 ≡ suc ((p - 8) / 8) = omega arith in
-    let low : p % 8 ≡ (p - 8) % 8 = omega arith in
-    let place : p ≡ 8 + (p - 8) = omega arith in
-    let shifted : (b + 256 * number bs) / 2 ^ p ≡ number bs / 2 ^ (p - 8) = ap (λ x. (b + 256 * number bs) / 2 ^ x) place ∙ behind_byte b (number bs) (p - 8) h in
-    rw (next, low, shifted) (rest (p - 8) (omega (arith, e, low)))
-
--- a field in one byte
-pub byte_is : (memory : List ℕ) (p c d : ℕ) → AreBytes memory → p % 8 + (c + d) ≡ 8 → bits_at memory p c ≡ get_or memory (p / 8) 0 / 2 ^ (p % 8) % 2 ^ c
+number_behind : (bs : List ℕ) (k : ℕ) → AreBytes bs → number (drop k bs) ≡ number bs / 2 ^ (8 * k)
 unfolding number
-byte_is [] p c d h e = rw (zero-div (2 ^ p)) (rw (zero-div (2 ^ (p % 8))) refl)
-byte_is (b ∷ bs) p c d h e = byte_case b bs p c d (h 0) e (λ q f. byte_is bs q c d (λ k. h (suc k)) f) (ltb p 8) refl
+number_behind bs zero h = sym (div-one (number bs))
+number_behind [] (suc k) h = sym (zero-div (2 ^ (8 * suc k)))
+number_behind (b ∷ bs) (suc k) h =
+    let more : 8 * suc k ≡ 8 + 8 * k = omega arith in
+    rw more (number_behind bs k (λ j. h (suc j)) ∙ sym (behind_byte b (number bs) (8 * k) (h 0)))
+
+-- the first bytes are the low bits
+one_byte_more : (b n m q : ℕ) → b < 256 → m ≡ n % 2 ^ q → b + 256 * m ≡ (b + 256 * n) % 2 ^ (q + 8)
+one_byte_more b n m q h same =
+    let whole : (b + 256 * n) / 256 ≡ n = omega arith in
+    let low : (b + 256 * n) % 256 ≡ b = omega arith in
+    let split : (b + 256 * n) % 2 ^ (q + 8) ≡ ((b + 256 * n) / 256 % 2 ^ q) * 256 + (b + 256 * n) % 256 = mod-pow-add (b + 256 * n) q 8 in
+    let high : (b + 256 * n) / 256 % 2 ^ q ≡ m = ap (λ x. x % 2 ^ q) whole ∙ sym same in
+    omega (arith, split, high, low)
+
+number_in_front : (bs : List ℕ) (n : ℕ) → AreBytes bs → number (take n bs) ≡ number bs % 2 ^ (8 * n)
+unfolding number
+number_in_front bs zero h = sym (mod-one (number bs))
+number_in_front [] (suc n) h = sym (zero-mod (2 ^ (8 * suc n)))
+number_in_front (b ∷ bs) (suc n) h =
+    let more : 8 * suc n ≡ 8 * n + 8 = omega arith in
+    rw more (one_byte_more b (number bs) (number (take n bs)) (8 * n) (h 0) (number_in_front bs n (λ j. h (suc j))))
+
+bytes_behind : (bs : List ℕ) (k : ℕ) → AreBytes bs → AreBytes (drop k bs)
+bytes_behind bs k h j = rw (get_or-drop k bs j 0) (h (k + j))
+
+-- the low bits of a number, from one of them on
+inside : (x f w all : ℕ) → f + w ≤ all → x % 2 ^ all / 2 ^ f % 2 ^ w ≡ x / 2 ^ f % 2 ^ w
+inside x f w all h =
+    let rest = all - (f + w) in
+    let split : all ≡ (rest + w) + f = omega arith in
+    rw split (ap (λ m. m % 2 ^ w) (middle x f (rest + w)) ∙ mod-mod-pow (x / 2 ^ f) rest w)
+
+-- bits stand in the bytes from the one on in which they begin, as many of these as they reach
+pub bits_are : (memory : List ℕ) (p w n : ℕ) → AreBytes memory → p % 8 + w ≤ 8 * n → number (take n (drop (p / 8) memory)) / 2 ^ (p % 8) % 2 ^ w ≡ bits_at memory p w
+bits_are memory p w n h few =
+    let from = drop (p / 8) memory in
+    let place : p ≡ 8 * (p / 8) + p % 8 = omega arith in
+    let whole : 2 ^ p ≡ 2 ^ (8 * (p / 8)) * 2 ^ (p % 8) = ap (λ q. 2 ^ q) place ∙ pow-add 2 (8 * (p / 8)) (p % 8) in
+    let behind = number_behind memory (p / 8) h in
+    let both = div-div-eq-div-mul (number memory) (2 ^ (8 * (p / 8))) (2 ^ (p % 8)) in
+    ap (λ x. x / 2 ^ (p % 8) % 2 ^ w) (number_in_front from n (bytes_behind memory (p / 8) h))
+    ∙ inside (number from) (p % 8) w (8 * n) few
+    ∙ ap (λ x. x / 2 ^ (p % 8) % 2 ^ w) behind
+    ∙ ap (λ x. x % 2 ^ w) (both ∙ ap (λ x. number memory / x) (sym whole))

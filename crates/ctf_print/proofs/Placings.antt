@@ -16,7 +16,7 @@ use Rattle.ctf_model.specs.format.Term.{Enumerator, Term}
 use Rattle.ctf_model.specs.spaces.Space.{Space, space_type}
 use Rattle.ctf_model.specs.spaces.TypeNumbers.{or_no_type}
 use Rattle.ctf_model.specs.values.Values.{name_of_value}
-use Rattle.ctf_print.specs.Placing.{ArePlaces, AreKept, enumerators_of, first_with, told_found, told_of}
+use Rattle.ctf_print.specs.Placing.{ArePlaces, AreKept, IsPlaceOf, enumerators_of, first_with, told_found, told_of}
 use Rattle.ctf_print.specs.Telling.{told_in}
 use Rattle.ctf_print.specs.declared.places.Places.{Places}
 use Rattle.ctf_print.proofs.Names.{Says}
@@ -179,3 +179,11 @@ told_case (Some z) x r e is = ap told_found (sym e) ∙ ap told_in (same_Some _ 
 pub told_is : (s : Space) (n : ℕ) (o : Option Term) (x : Shape) → or_no_type o ≡ space_type s n → option_map (λ z. shape z.body) o ≡ Some x → told_of s n ≡ told_in x
 unfolding told_of
 told_is s n o x e is = told_case o x (space_type s n) e is
+
+-- ---- what was looked for last
+
+pub is_place_of : (s : Space) (n : ℕ) (value : ℤ) (place : Option ℕ) (es : List Enumerator) → enumerators_of (told_of s n) ≡ Some es → place ≡ first_with value 0 es → IsPlaceOf s n value place
+unfolding IsPlaceOf
+is_place_of s n value place es told is others h =
+    let same : es ≡ others = same_Some _ _ (sym told ∙ h) in
+    is ∙ ap (first_with value 0) same

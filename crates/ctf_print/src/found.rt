@@ -52,6 +52,17 @@ pub fn find<'a>(
     ensures fault { IfErr result (λ f. (p : ℕ) → shows image.now nesting number.0 p ≡ ends f) }
     ensures kept { known.new ≡ known.old }
 {
-    let reached = known.reach(number, nesting);
-    by_record(image, reached.number, reached.nesting)
+    match by_record(image, number, nesting) {
+        Ok(
+            Found {
+                how: Told::As(next),
+                nesting,
+                ..
+            },
+        ) => {
+            let reached = known.reach(next, nesting);
+            by_record(image, reached.number, reached.nesting)
+        }
+        other => other,
+    }
 }

@@ -14,6 +14,7 @@ use ctf_views::Encoding;
 use itoa::Buffer;
 
 /// What so many bits say in two's complement: in a negative number all bits above are set.
+#[inline(always)]
 pub fn signed(width: u16, number: u64) -> i64
     requires some { 0 < width }
     requires short { width ≤ 64 }
@@ -28,22 +29,39 @@ pub fn signed(width: u16, number: u64) -> i64
     }
 }
 
-/// Puts a number with its sign, in decimal digits.
-pub fn put_signed(value: i64, out: &mut Text) -> Result<(), Fault>
-    ensures ok { OnOk result (written out.old (piece (signed_decimal value)) ≡ Ok out.new) }
-    ensures err { IfErr result (Refused out.old (piece (signed_decimal value))) }
-{
-    out.put(Buffer::new().format(value).as_bytes())
-}
-
-fn put_unsigned(number: u64, out: &mut Text) -> Result<(), Fault>
+fn put_digits(number: u64, out: &mut Text) -> Result<(), Fault>
     ensures ok { OnOk result (written out.old (piece (decimal number)) ≡ Ok out.new) }
     ensures err { IfErr result (Refused out.old (piece (decimal number))) }
 {
     out.put(Buffer::new().format(number).as_bytes())
 }
 
+/// Puts a number with its sign, in decimal digits.
+#[inline(always)]
+pub fn put_signed(value: i64, out: &mut Text) -> Result<(), Fault>
+    ensures ok { OnOk result (written out.old (piece (signed_decimal value)) ≡ Ok out.new) }
+    ensures err { IfErr result (Refused out.old (piece (signed_decimal value))) }
+{
+    if value >= 0 {
+        return put_unsigned(value.cast_unsigned(), out);
+    }
+    out.put(Buffer::new().format(value).as_bytes())
+}
+
+/// Puts a number in decimal digits. Many are small.
+#[inline(always)]
+fn put_unsigned(number: u64, out: &mut Text) -> Result<(), Fault>
+    ensures ok { OnOk result (written out.old (piece (decimal number)) ≡ Ok out.new) }
+    ensures err { IfErr result (Refused out.old (piece (decimal number))) }
+{
+    if number < 10 {
+        return out.put_short(&[b'0' + number as u8]);
+    }
+    put_digits(number, out)
+}
+
 /// Puts a number of so many bits, in decimal digits.
+#[inline(always)]
 fn put_integer(encoding: Encoding, number: u64, out: &mut Text) -> Result<(), Fault>
     requires some { 0 < encoding.bits }
     requires short { encoding.bits ≤ 64 }
@@ -62,6 +80,7 @@ fn put_integer(encoding: Encoding, number: u64, out: &mut Text) -> Result<(), Fa
 }
 
 /// Puts an integer whose storage begins at a bit.
+#[inline(always)]
 pub fn show_integer(
     memory: &[u8],
     at: u128,

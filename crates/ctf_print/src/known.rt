@@ -3,7 +3,7 @@ ghost use Rattle.std.specs.Prelude.{◌≡◌, ◌≤◌, ℕ, List, IfSome, Som
 ghost use Rattle.ctf_model.specs.values.Values.{shown_within};
 ghost use Rattle.ctf_space.specs.SpaceView.{space_of};
 ghost use Rattle.ctf_model.specs.format.Term.{Enumerator};
-ghost use Rattle.ctf_print.specs.Placing.{ArePlaces, enumerators_of, first_with, told_of};
+ghost use Rattle.ctf_print.specs.Placing.{ArePlaces, IsPlaceOf, enumerators_of, first_with, told_of};
 ghost use Rattle.ctf_print.specs.Standing.{StandsFor};
 ghost use Rattle.ctf_print.specs.declared.places.Places.{Places};
 
@@ -31,14 +31,24 @@ pub struct Reached {
     pub nesting: u32,
 }
 
+/// Where a value of an enum stands, of the number of its type.
+#[derive(Clone, Copy)]
+pub struct Sought {
+    pub number: TypeNum,
+    pub value: i64,
+    pub place: Option<usize>,
+}
+
 /// What stands behind typedefs and qualifiers of a space, of those that were met, and where the
-/// values of enums stand, of those of which a value was looked for more than once.
+/// values of enums stand, of those of which a value was looked for more than once; and the value
+/// that was looked for last.
 #[derive(Drop)]
 pub struct Known<'a> {
     space: Space<'a>,
     alloc: Global,
     behind: BTreeMap<u16, Behind>,
     places: BTreeMap<u16, Option<Places>>,
+    last: Option<Sought>,
 }
 
 impl<'a> Model for Known<'a> {
@@ -50,7 +60,7 @@ impl<'a> Model for Known<'a> {
 
     ghost view = { λ k. space_of k.space };
 
-    ghost invariant = { λ k. IsRight (space_of k.space) k.behind k.places };
+    ghost invariant = { λ k. IsRight (space_of k.space) k.behind k.places k.last };
 }
 
 /// A type by itself.
@@ -70,6 +80,7 @@ impl<'a> Known<'a> {
             alloc,
             behind: BTreeMap::new(alloc),
             places: BTreeMap::new(alloc),
+            last: None,
         }
     }
 
@@ -150,7 +161,7 @@ impl<'a> Known<'a> {
 
     /// The number of the first enumerator with a value. Of an enum that is asked for again each
     /// enumerator is read once.
-    pub fn first_place(
+    fn look_for(
         &mut self,
         number: TypeNum,
         enumerators: &Enumerators<'_>,
@@ -172,5 +183,48 @@ impl<'a> Known<'a> {
         let places = Places::of(self.alloc, enumerators);
         self.place(number, places);
         found
+    }
+
+    /// Where a value stands, if it was looked for last.
+    fn last_place(&self, number: TypeNum, value: i64) -> Option<Option<usize>>
+        ensures { IfSome result (IsPlaceOf self.now number.0 value) }
+    {
+        let last = self.last?;
+        if last.number.0 == number.0 && last.value == value {
+            Some(last.place)
+        } else {
+            None
+        }
+    }
+
+    fn keep_last(&mut self, number: TypeNum, value: i64, place: Option<usize>)
+        requires { IsPlaceOf self.old number.0 value place }
+        ensures { self.new ≡ self.old }
+    {
+        self.last = Some(Sought {
+            number,
+            value,
+            place,
+        });
+    }
+
+    /// The number of the first enumerator with a value. What was looked for last is at hand.
+    #[inline(always)]
+    pub fn first_place(
+        &mut self,
+        number: TypeNum,
+        enumerators: &Enumerators<'_>,
+        value: i64,
+    ) -> Option<usize>
+        requires { enumerators_of (told_of self.old number.0) ≡ Some enumerators.now }
+        ensures first { result ≡ first_with value 0 enumerators.now }
+        ensures kept { self.new ≡ self.old }
+    {
+        if let Some(place) = self.last_place(number, value) {
+            return place;
+        }
+        let place = self.look_for(number, enumerators, value);
+        self.keep_last(number, value, place);
+        place
     }
 }

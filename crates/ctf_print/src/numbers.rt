@@ -7,63 +7,22 @@ ghost use Rattle.ctf_model.specs.values.Values.{raw_shown};
 ghost use Rattle.ctf_print.specs.Written.{Refused, written};
 
 use crate::text::Text;
+use byteorder::{ByteOrder, LittleEndian};
 use ctf_model::{Fault, placeless};
 
-/// So many bits of a byte, from one of them on.
-fn bits_of(byte: u8, from: u32, count: u16) -> u64
-    requires low { from < 8 }
-    requires inside { from + count ≤ 8 }
-    ensures value { result ≡ byte / 2 ^ from % 2 ^ count }
-{
-    u64::from(byte >> from) % (1u64 << count)
-}
-
-/// The number in so many bits from a bit on, which stand in one byte.
-fn bits_in_byte(memory: &[u8], at: u128, count: u16) -> u64
-    requires in_byte { at % 8 + count ≤ 8 }
-    requires inside { at < 8 * length memory.now }
-    ensures value { result ≡ bits_at memory.now at count }
-    ensures small { result < 2 ^ count }
-{
-    bits_of(memory[(at / 8) as usize], (at % 8) as u32, count)
-}
-
-/// How many of so many bits from a bit on, from the last of them, stand in one byte.
-fn last_bits(at: u128, width: u16) -> u16
-    requires some { 0 < width }
-    requires short { width ≤ 64 }
-    requires fits { at + width < 2 ^ 127 }
-    ensures some { 0 < result }
-    ensures few { result ≤ width }
-    ensures in_byte { (at + (width - result)) % 8 + result ≤ 8 }
-{
-    let over = ((at + u128::from(width)) % 8) as u16;
-    let last = if over == 0 { 8 } else { over };
-    last.min(width)
-}
-
-fn power_of_two(exponent: u16) -> u64
-    requires { exponent ≤ 8 }
-    ensures { result ≡ 2 ^ exponent }
-{
-    1 << exponent
-}
-
-/// The number in so many bits from a bit on, where the memory has these.
+/// The number in so many bits from a bit on, where the memory has these. They begin in one byte and
+/// end in one of the eight behind it.
+#[inline(always)]
 fn bits(memory: &[u8], at: u128, width: u16) -> u64
+    requires some { 0 < width }
     requires short { width ≤ 64 }
     requires inside { at + width ≤ 8 * length memory.now }
     ensures value { result ≡ bits_at memory.now at width }
     ensures small { result < 2 ^ width }
 {
-    let mut value = 0u64;
-    let mut left = width;
-    while left > 0 {
-        let count = last_bits(at, left);
-        left -= count;
-        value = value * power_of_two(count) + bits_in_byte(memory, at + u128::from(left), count);
-    }
-    value
+    let bytes = &memory[(at / 8) as usize..];
+    let number = LittleEndian::read_uint128(bytes, bytes.len().min(9));
+    ((number >> (at % 8)) % (1 << width)) as u64
 }
 
 /// Whether the memory has so many bits from a bit on.
@@ -75,8 +34,10 @@ fn has_bits(memory: &[u8], at: u128, width: u128) -> bool
 }
 
 /// The number in so many bits from a bit on.
+#[inline(always)]
 pub fn field(memory: &[u8], at: u128, width: u16) -> Result<u64, Fault>
-    requires { width ≤ 64 }
+    requires some { 0 < width }
+    requires short { width ≤ 64 }
     ensures { result ≡ field_of memory.now at width }
 {
     if has_bits(memory, at, u128::from(width)) {
@@ -103,7 +64,7 @@ fn put_byte(byte: u8, out: &mut Text) -> Result<(), Fault>
     ensures err { IfErr result (Refused out.old (piece (hex_of_byte byte))) }
 {
     let digits = [hex_digit(byte / 16), hex_digit(byte % 16)];
-    out.put(&digits)
+    out.put_short(&digits)
 }
 
 /// The byte with a number, from 0, of a number in so many bits.
@@ -137,7 +98,7 @@ pub fn show_raw(memory: &[u8], at: u128, width: u128, out: &mut Text) -> Result<
     ensures err { IfErr result (Refused out.old (raw_shown memory.now at width)) }
 {
     if has_bits(memory, at, width) {
-        out.put(b"0x")?;
+        out.put_short(b"0x")?;
         put_digits(memory, at, width, out)
     } else {
         out.end(placeless(Fault::SHORT_MEMORY))

@@ -1,5 +1,5 @@
 //! A text of bounded length, and how pieces are put behind it.
-ghost use Rattle.std.specs.Prelude.{◌≡◌, [], IfErr, IsOk, OnOk, Err, Ok};
+ghost use Rattle.std.specs.Prelude.{◌≡◌, ◌+◌, ◌≤◌, ◌++◌, [], length, vec_capacity, vec_len, IfErr, IsOk, IsTrue, OnOk, Err, Ok};
 ghost use Rattle.ctf_model.specs.values.Pieces.{ends, nothing, piece};
 ghost use Rattle.ctf_model.specs.values.Values.{label};
 ghost use Rattle.ctf_print.specs.Written.{Refused, comma_before, written};
@@ -25,6 +25,29 @@ impl Model for Text {
     ghost view = { λ t. t.bytes.items };
 
     ghost invariant = { λ t. length t.bytes.items ≤ 65536 };
+}
+
+/// Whether so many bytes more fit into a text, and into the memory that it has.
+#[inline(always)]
+fn has_room(bytes: &Vec<u8>, more: usize) -> bool
+    ensures { IsTrue result → (vec_len bytes.now + more ≤ vec_capacity bytes.now)
+        × (vec_len bytes.now + more ≤ 65536) }
+{
+    if more > bytes.capacity() - bytes.len() {
+        return false;
+    }
+    bytes.len() + more <= LONGEST_TEXT
+}
+
+/// Appends bytes where there is room, one by one.
+#[inline(always)]
+fn append(out: &mut Vec<u8>, bytes: &[u8])
+    requires { vec_len out.old + length bytes.now ≤ vec_capacity out.old }
+    ensures { out.new.items ≡ out.old.items ++ bytes.now }
+{
+    for byte in bytes {
+        out.push_reserved(*byte);
+    }
 }
 
 impl Text {
@@ -57,7 +80,22 @@ impl Text {
         }
     }
 
+    /// The same for a piece of a few bytes, for which there mostly is memory.
+    #[inline(always)]
+    #[tactic(auto, unfolding(crate::specs::Written::written))]
+    pub fn put_short(&mut self, bytes: &[u8]) -> Result<(), Fault>
+        ensures ok { OnOk result (written self.old (piece bytes.now) ≡ Ok self.new) }
+        ensures err { IfErr result (Refused self.old (piece bytes.now)) }
+    {
+        if !has_room(&self.bytes, bytes.len()) {
+            return self.put(bytes);
+        }
+        append(&mut self.bytes, bytes);
+        Ok(())
+    }
+
     /// Puts no piece: a text as it stands is not too long.
+    #[inline(always)]
     #[tactic(auto, unfolding(crate::specs::Written::written), using(crate::proofs::Writes::nothing_written))]
     pub fn put_nothing(&mut self) -> Result<(), Fault>
         ensures done { IsOk result }
@@ -69,6 +107,7 @@ impl Text {
     }
 
     /// Ends the text by a fault.
+    #[inline(always)]
     #[tactic(auto, unfolding(crate::specs::Written::written))]
     pub fn end(&mut self, fault: Fault) -> Result<(), Fault>
         ensures fault { result ≡ Err fault }
@@ -80,6 +119,7 @@ impl Text {
     }
 
     /// Puts what stands before the item with a number, from 0.
+    #[inline(always)]
     pub fn put_comma(&mut self, item: usize) -> Result<(), Fault>
         ensures ok { OnOk result (written self.old (comma_before item) ≡ Ok self.new) }
         ensures err { IfErr result (Refused self.old (comma_before item)) }
@@ -87,7 +127,7 @@ impl Text {
         if item == 0 {
             return self.put_nothing();
         }
-        self.put(b", ")
+        self.put_short(b", ")
     }
 
     /// Puts the name of a member and what stands behind it, if it has a name.
@@ -99,6 +139,6 @@ impl Text {
             return self.put_nothing();
         }
         self.put(name)?;
-        self.put(b" = ")
+        self.put_short(b" = ")
     }
 }

@@ -90,9 +90,9 @@ fn show_array(
         (size_of (types_of image.now) array.contents.0))) }
     ensures kept { known.new ≡ known.old }
 {
-    out.put(b"[")?;
+    out.put_short(b"[")?;
     show_elements(image, array, at, nesting, known, out)?;
-    out.put(b"]")
+    out.put_short(b"]")
 }
 
 #[cycle(values)]
@@ -156,12 +156,13 @@ fn show_members(
         (members_shown (shows image.now nesting) at members.now)) }
     ensures kept { known.new ≡ known.old }
 {
-    out.put(b"{")?;
+    out.put_short(b"{")?;
     show_each_member(image, members, at, nesting, known, out)?;
-    out.put(b"}")
+    out.put_short(b"}")
 }
 
 /// Puts the value of a type that is shown so.
+#[inline(always)]
 #[cycle(values)]
 fn show_told(
     image: &Image<'_>,

@@ -3,9 +3,9 @@ ghost use Rattle.std.specs.Prelude.{IfOk};
 ghost use Rattle.ctf_check.specs.CheckedView.{lists_of};
 ghost use Rattle.ctf_symbols.specs.Fitting.{Fits};
 
-use crate::building::lefts;
+use crate::building::{Listed, list};
 use crate::by_name::program_texts;
-use crate::items::{label_items, symbol_items};
+use crate::items::label_items;
 use ctf_check::Checked;
 use ctf_entries::SymbolNames;
 use ctf_order::{Order, Texts};
@@ -24,16 +24,21 @@ pub struct SymbolMap {
 }
 
 impl SymbolMap {
-    /// The map of a dictionary. Reads each symbol and each entry a bounded number of times, each
-    /// table of names once to find where names end, and at most 64 bytes of each name, and then
-    /// sorts. While it runs it takes at most 8 bytes more for each symbol, and then for each label.
+    /// The map of a dictionary. Reads each symbol and each entry once, each table of names once to
+    /// find where names end, and at most 64 bytes of each name, and then sorts. While it runs it
+    /// takes at most 8 bytes more for each symbol, and then for each label.
     pub fn build(alloc: Global, dictionary: &Checked<'_>) -> Result<SymbolMap, AllocError>
         ensures { IfOk result (λ m. Fits (lists_of dictionary.now) m) }
     {
         let parts = dictionary.symbol_parts();
         let names = SymbolNames::new(parts.strs);
-        let lefts = lefts(alloc, parts.sym, names, parts.objects, parts.functions)?;
-        let items = symbol_items(alloc, parts.sym, names)?;
+        let Listed { lefts, items } = list(
+            alloc,
+            parts.sym,
+            names,
+            parts.objects,
+            parts.functions,
+        )?;
         let symbols = Order::build(alloc, &program_texts(parts.strs), items)?;
         let items = label_items(alloc, dictionary)?;
         let labels = Order::build(alloc, &Texts::Dictionary(dictionary.strings()), items)?;

@@ -1,7 +1,7 @@
 //! Replies that wait.
 ghost use Rattle.std.specs.Prelude.{◌≡◌, ◌+◌, ◌≤◌, [], true, false, IfOk, vec_capacity};
 
-use ctf_lines::SHORT_LINE;
+use ctf_lines::SHORT_PASS;
 use std::alloc::{AllocError, Global};
 
 /// Where so many bytes wait, they are sent before another line is answered.
@@ -15,14 +15,14 @@ pub struct Batch {
 }
 
 impl Batch {
-    /// Nothing waits, and there is room for a short reply behind any batch.
+    /// Nothing waits, and behind any batch there is room for a reply that is written in one pass.
     pub fn new(alloc: Global) -> Result<Self, AllocError>
         ensures empty { IfOk result (λ b. b.bytes.items ≡ []) }
         ensures none { IfOk result (λ b. b.waits ≡ false) }
         ensures room { IfOk result (λ b. 65536 + 96 ≤ vec_capacity b.bytes) }
     {
         Ok(Batch {
-            bytes: Vec::with_capacity(alloc, BATCH + SHORT_LINE)?,
+            bytes: Vec::with_capacity(alloc, BATCH + SHORT_PASS)?,
             waits: false,
         })
     }

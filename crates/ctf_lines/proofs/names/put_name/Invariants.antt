@@ -1,6 +1,12 @@
-use Rattle.std.proofs.Common.{take}
+use Rattle.std.proofs.Common.{◌≤◌, ◌-◌, length, take}
 use Rattle.ctf_protocol.specs.lines.Text.{text_of}
 use Rattle.ctf_lines.proofs.names.put_name.Given as goal
 
-abbrev pub invariant-loop-byte : goal.invariant-loop-byte
-invariant-loop-byte g l = g.P.Paper.Took l.fn.paper (text_of (take l.byte-index l.name)) l.paper
+abbrev pub invariant-loop-at : goal.invariant-loop-at
+invariant-loop-at g l = record {
+  inside : l.at ≤ length l.name;
+  put : g.P.Paper.Took l.fn.paper (text_of (take l.at l.name)) l.paper;
+}
+
+abbrev pub decreases-loop-at : goal.decreases-loop-at
+decreases-loop-at g l = length l.name - l.at

@@ -1,34 +1,16 @@
-use Rattle.std.proofs.Common.{◌≡◌, ◌+◌, ◌-◌, arith, sym}
-use Rattle.std.proofs.lemmas.Nat.{pow_pos}
-use Rattle.ctf_print.proofs.Bits.{bits_more, more_fits}
+use Rattle.std.proofs.Common.{◌≡◌, ◌+◌, ◌*◌, ◌^◌, ◌/◌, ◌%◌, ◌≤◌, length, ap, ◌∙◌, arith}
+use Rattle.std.proofs.lemmas.List.{length-drop}
+use Rattle.ctf_sections.proofs.Numbers.{number_tail, tail_all}
+use Rattle.ctf_print.proofs.Bits.{bits_are}
+use Rattle.ctf_print.proofs.Signs.{below_all}
 use Rattle.ctf_print.proofs.numbers.bits.Goals as goal
 
-pub overflow_mul-value : goal.overflow_mul-value
-overflow_mul-value c =
-    let i = c.args.width - c.loop-left.left in
-    let n = c.last_bits-count.result in
-    let some = pow_pos n in
-    let all = more_fits c.loop-left.value i n 0 64 c.loop-left.invariant.small some (omega (arith, c.loop-left.invariant.few, c.last_bits-count.ensures.few, c.requires.short)) in
-    rw c.power_of_two.ensures (omega (arith, all))
-
-pub overflow_add-value : goal.overflow_add-value
-overflow_add-value c =
-    let i = c.args.width - c.loop-left.left in
-    let n = c.last_bits-count.result in
-    let all = more_fits c.loop-left.value i n c.bits_in_byte.result 64 c.loop-left.invariant.small c.bits_in_byte.ensures.small (omega (arith, c.loop-left.invariant.few, c.last_bits-count.ensures.few, c.requires.short)) in
-    rw c.power_of_two.ensures (omega (arith, all))
-
-pub loop-left-preserved : goal.loop-left-preserved
-loop-left-preserved c =
-    let i = c.args.width - c.loop-left.left in
-    let n = c.last_bits-count.result in
-    let at = c.args.at + (c.loop-left.left - n) in
-    let behind : c.args.at + c.loop-left.left ≡ at + n = omega (arith, c.last_bits-count.ensures.few) in
-    let wider : c.args.width - (c.loop-left.left - n) ≡ i + n = omega (arith, c.loop-left.invariant.few, c.last_bits-count.ensures.few) in
-    let before = c.loop-left.invariant.value in
-    let here = rw c.from.ensures at c.bits_in_byte.ensures.value in
-    record {
-      few = omega (arith, c.loop-left.invariant.few);
-      value = rw (c.power_of_two.ensures, before, here, behind, wider) (sym (bits_more c.args.memory.now at i n));
-      small = rw (c.power_of_two.ensures, wider) (more_fits c.loop-left.value i n c.bits_in_byte.result (i + n) c.loop-left.invariant.small c.bits_in_byte.ensures.small (omega arith));
-    }
+pub returns-clause-value : goal.returns-clause-value
+returns-clause-value c =
+    let all = below_all c.args.width c.requires.short in
+    let mask : (1 * 2 ^ c.args.width) % 340282366920938463463374607431768211456 ≡ 2 ^ c.args.width = omega (arith, all) in
+    let from = c.args.at / 8 in
+    let same = c.read_uint128-number.ensures ∙ number_tail c.min.result c.args.memory.now from in
+    let len = ap length (tail_all c.args.memory.now from) ∙ length-drop from c.args.memory.now in
+    let few : c.args.at % 8 + c.args.width ≤ 8 * c.min.result = omega (arith, c.min.ensures, len, c.requires.inside, c.requires.short) in
+    rw (mask, same) (bits_are c.args.memory.now c.args.at c.args.width c.min.result (λ k. omega (arith, c.type_inv.memory k)) few)

@@ -14,27 +14,27 @@ use Rattle.ctf_print.proofs.values.+values.Goals as goal
 
 -- ---- arrays
 
-pub show_array-returns-in_err-put-clause-err : goal.show_array-returns-in_err-put-clause-err
-show_array-returns-in_err-put-clause-err t c =
+pub show_array-returns-in_err-put_short-clause-err : goal.show_array-returns-in_err-put_short-clause-err
+show_array-returns-in_err-put_short-clause-err t c =
     let p = err_from_is_err_and c.from_residual.result c.from_residual.ensures.1 in
-    rw (p.1, p.2) (refused_first c.args.out.now _ _ _ c.in_err-put.ensures.err)
+    rw (p.1, p.2) (refused_first c.args.out.now _ _ _ c.in_err-put_short.ensures.err)
 
 pub show_array-returns-in_err-show_elements-clause-err : goal.show_array-returns-in_err-show_elements-clause-err
 show_array-returns-in_err-show_elements-clause-err t c =
     let p = err_from_is_err_and c.from_residual-in_err-show_elements.result c.from_residual-in_err-show_elements.ensures.1 in
-    rw (p.1, p.2) (second_refused c.args.out.now c.args.out.now _ (piece (codes "[")) _ (piece (codes "]")) _ refl c.put.new.self c.in_ok-put.ensures.ok c.in_err-show_elements.ensures.err)
+    rw (p.1, p.2) (second_refused c.args.out.now c.args.out.now _ (piece (codes "[")) _ (piece (codes "]")) _ refl c.put_short.new.self c.in_ok-put_short.ensures.ok c.in_err-show_elements.ensures.err)
 
 pub show_array-returns-clause-ok : goal.show_array-returns-clause-ok
 show_array-returns-clause-ok t c =
     let inside = elements_shown (shows c.args.image.now c.args.nesting) c.args.at c.args.array.contents.0 c.args.array.count (size_of (types_of c.args.image.now) c.args.array.contents.0) in
-    let all = two_ok c.args.out.now c.args.out.now _ (piece (codes "[")) inside (piece (codes "]")) refl c.put.new.self c.in_ok-put.ensures.ok c.show_elements.new.out c.in_ok-show_elements.ensures.ok in
-    rw all c.put-2.ensures.ok
+    let all = two_ok c.args.out.now c.args.out.now _ (piece (codes "[")) inside (piece (codes "]")) refl c.put_short.new.self c.in_ok-put_short.ensures.ok c.show_elements.new.out c.in_ok-show_elements.ensures.ok in
+    rw all c.put_short-2.ensures.ok
 
 pub show_array-returns-clause-err : goal.show_array-returns-clause-err
 show_array-returns-clause-err t c =
     let inside = elements_shown (shows c.args.image.now c.args.nesting) c.args.at c.args.array.contents.0 c.args.array.count (size_of (types_of c.args.image.now) c.args.array.contents.0) in
-    let all = two_ok c.args.out.now c.args.out.now _ (piece (codes "[")) inside (piece (codes "]")) refl c.put.new.self c.in_ok-put.ensures.ok c.show_elements.new.out c.in_ok-show_elements.ensures.ok in
-    later_refused c.put-2.result _ _ _ _ all c.put-2.ensures.err
+    let all = two_ok c.args.out.now c.args.out.now _ (piece (codes "[")) inside (piece (codes "]")) refl c.put_short.new.self c.in_ok-put_short.ensures.ok c.show_elements.new.out c.in_ok-show_elements.ensures.ok in
+    later_refused c.put_short-2.result _ _ _ _ all c.put_short-2.ensures.err
 
 pub show_elements-returns-in-Err-clause-ok : goal.show_elements-returns-in-Err-clause-ok
 show_elements-returns-in-Err-clause-ok t c =
@@ -155,22 +155,22 @@ show_each_member-returns-clause-err t c =
     let none = no_more_members (member_shown (shows c.args.image.now c.args.nesting) c.args.at) c.args.members.now c.loop-i.i (rw c.len-i-end.ensures.value at c.loop-i-test.false) in
     later_refused c.put_nothing.result _ _ _ _ (c.loop-i.invariant.rest ∙ ap (written c.loop-i.out) none) c.put_nothing.ensures.err
 
-pub show_members-returns-in_err-put-clause-err : goal.show_members-returns-in_err-put-clause-err
-show_members-returns-in_err-put-clause-err t c =
+pub show_members-returns-in_err-put_short-clause-err : goal.show_members-returns-in_err-put_short-clause-err
+show_members-returns-in_err-put_short-clause-err t c =
     let p = err_from_is_err_and c.from_residual.result c.from_residual.ensures.1 in
-    rw (p.1, p.2) (refused_first c.args.out.now _ _ _ c.in_err-put.ensures.err)
+    rw (p.1, p.2) (refused_first c.args.out.now _ _ _ c.in_err-put_short.ensures.err)
 
 pub show_members-returns-in_err-show_each_member-clause-err : goal.show_members-returns-in_err-show_each_member-clause-err
 show_members-returns-in_err-show_each_member-clause-err t c =
     let p = err_from_is_err_and c.from_residual-in_err-show_each_member.result c.from_residual-in_err-show_each_member.ensures.1 in
-    rw (p.1, p.2) (second_refused c.args.out.now c.args.out.now _ (piece (codes "{")) _ (piece (codes "}")) _ refl c.put.new.self c.in_ok-put.ensures.ok c.in_err-show_each_member.ensures.err)
+    rw (p.1, p.2) (second_refused c.args.out.now c.args.out.now _ (piece (codes "{")) _ (piece (codes "}")) _ refl c.put_short.new.self c.in_ok-put_short.ensures.ok c.in_err-show_each_member.ensures.err)
 
 pub show_members-returns-clause-ok : goal.show_members-returns-clause-ok
 show_members-returns-clause-ok t c =
-    let all = two_ok c.args.out.now c.args.out.now _ (piece (codes "{")) (separated (map (member_shown (shows c.args.image.now c.args.nesting) c.args.at) c.args.members.now)) (piece (codes "}")) refl c.put.new.self c.in_ok-put.ensures.ok c.show_each_member.new.out c.in_ok-show_each_member.ensures.ok in
-    rw all c.put-2.ensures.ok
+    let all = two_ok c.args.out.now c.args.out.now _ (piece (codes "{")) (separated (map (member_shown (shows c.args.image.now c.args.nesting) c.args.at) c.args.members.now)) (piece (codes "}")) refl c.put_short.new.self c.in_ok-put_short.ensures.ok c.show_each_member.new.out c.in_ok-show_each_member.ensures.ok in
+    rw all c.put_short-2.ensures.ok
 
 pub show_members-returns-clause-err : goal.show_members-returns-clause-err
 show_members-returns-clause-err t c =
-    let all = two_ok c.args.out.now c.args.out.now _ (piece (codes "{")) (separated (map (member_shown (shows c.args.image.now c.args.nesting) c.args.at) c.args.members.now)) (piece (codes "}")) refl c.put.new.self c.in_ok-put.ensures.ok c.show_each_member.new.out c.in_ok-show_each_member.ensures.ok in
-    later_refused c.put-2.result _ _ _ _ all c.put-2.ensures.err
+    let all = two_ok c.args.out.now c.args.out.now _ (piece (codes "{")) (separated (map (member_shown (shows c.args.image.now c.args.nesting) c.args.at) c.args.members.now)) (piece (codes "}")) refl c.put_short.new.self c.in_ok-put_short.ensures.ok c.show_each_member.new.out c.in_ok-show_each_member.ensures.ok in
+    later_refused c.put_short-2.result _ _ _ _ all c.put_short-2.ensures.err

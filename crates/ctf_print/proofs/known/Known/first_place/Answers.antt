@@ -1,13 +1,15 @@
-use Rattle.std.proofs.Common.{◌∙◌, Some, sym, ap, w64}
+use Rattle.std.proofs.Common.{w64}
 use Rattle.std.proofs.Math.Facts.{to_z-of_z}
-use Rattle.std.specs.Option.{option_copied}
-use Rattle.ctf_space.specs.SpaceView.{space_of}
-use Rattle.ctf_print.proofs.Placings.{places_of}
+use Rattle.ctf_print.specs.Placing.{IsPlaceOf}
+use Rattle.ctf_print.proofs.Placings.{is_place_of}
 use Rattle.ctf_print.proofs.known.Known.first_place.Goals as goal
 
-pub returns-in-Some-Some-clause-first : goal.returns-in-Some-Some-clause-first
-returns-in-Some-Some-clause-first c =
+pub returns-in-Some-clause-first : goal.returns-in-Some-clause-first
+unfolding IsPlaceOf
+returns-in-Some-clause-first c =
     let same = to_z-of_z {w = w64} {z = c.args.value} c.ranges.value in
-    let kept = sym c.get.ensures.value ∙ ap option_copied c.in-Some-Some.is ∙ ap Some c.in-Some-Some.field-0-is in
-    let are = places_of (space_of c.self.inside.space) c.args.self.now c.self.inside.places c.args.number.0 c.in-Some-Some.places c.args.enumerators.now c.self.view_is c.self.invariant.places kept c.requires in
-    rw same at (c.first.ensures c.args.enumerators.now are)
+    rw same at (c.in-Some.ensures c.args.enumerators.now c.requires)
+
+pub keep_last-requires : goal.keep_last-requires
+keep_last-requires c =
+    rw c.look_for-place.ensures.kept (is_place_of c.args.self.now c.args.number.0 _ c.look_for-place.result c.args.enumerators.now c.requires c.look_for-place.ensures.first)

@@ -8,4 +8,5 @@ invariant_of-result c =
     record {
       behind = none_known (space_of c.args.space) c.new.result c.new.ensures.empty;
       places = none_kept (space_of c.args.space) c.new-2.result c.new-2.ensures.empty;
+      sought = λ x e. absurd cc;
     }

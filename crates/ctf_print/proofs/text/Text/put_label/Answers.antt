@@ -24,9 +24,9 @@ returns-in_err-put-clause-err c =
 pub returns-clause-ok : goal.returns-clause-ok
 returns-clause-ok c =
     let some = label_some c.args.name.now (eqb-false (length c.args.name.now) 0 (sym c.is_empty.ensures ∙ c.if-is_empty.false)) in
-    rw (some, next_ok c.args.self.now c.put.new.self (piece c.args.name.now) (piece (codes " = ")) c.in_ok-put.ensures.ok) c.put-2.ensures.ok
+    rw (some, next_ok c.args.self.now c.put.new.self (piece c.args.name.now) (piece (codes " = ")) c.in_ok-put.ensures.ok) c.put_short.ensures.ok
 
 pub returns-clause-err : goal.returns-clause-err
 returns-clause-err c =
     let some = label_some c.args.name.now (eqb-false (length c.args.name.now) 0 (sym c.is_empty.ensures ∙ c.if-is_empty.false)) in
-    rw some (later_refused c.put-2.result _ _ _ _ (next_ok c.args.self.now c.put.new.self (piece c.args.name.now) (piece (codes " = ")) c.in_ok-put.ensures.ok) c.put-2.ensures.err)
+    rw some (later_refused c.put_short.result _ _ _ _ (next_ok c.args.self.now c.put.new.self (piece c.args.name.now) (piece (codes " = ")) c.in_ok-put.ensures.ok) c.put_short.ensures.err)

@@ -9,7 +9,7 @@ returns c =
     let s = lists_of c.args.dictionary.now in
     let p = c.symbol_parts-parts.ensures in
     record {
-      places = c.in_ok-lefts.ensures ∙ lefts_are s _ _ _ _ _ c.new-names.ensures p.strs p.sym p.objects p.functions;
-      symbols = symbols_ordered s _ _ _ _ _ _ c.new-names.ensures p.strs p.sym c.program_texts.ensures c.in_ok-items.ensures c.in_ok-symbols.ensures;
-      labels = ∣ record { items = _; each = c.in_ok-items-2.ensures; fits = rw c.strings.ensures at c.in_ok-labels.ensures } ∣₁;
+      places = c.in_ok-lefts.ensures.lefts ∙ lefts_are s _ _ _ _ _ c.new-names.ensures p.strs p.sym p.objects p.functions;
+      symbols = symbols_ordered s _ _ _ _ _ _ c.new-names.ensures p.strs p.sym c.program_texts.ensures c.in_ok-lefts.ensures.items c.in_ok-symbols.ensures;
+      labels = ∣ record { items = _; each = c.in_ok-items.ensures; fits = rw c.strings.ensures at c.in_ok-labels.ensures } ∣₁;
     }

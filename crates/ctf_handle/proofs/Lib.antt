@@ -1,0 +1,3 @@
+pub mod Casting
+mod HeldSteps
+pub mod Lending
