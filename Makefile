@@ -20,20 +20,19 @@ PACKAGES = $(shell $(PYTHON) -c 'import site, sys, sysconfig; \
 	print(next((it for it in site.getsitepackages() if it.startswith(under)), \
 	sysconfig.get_path("purelib", "posix_prefix", {"base": sys.argv[1]})))' $(PREFIX))
 
-.PHONY: all program archive check install uninstall try help
+.PHONY: all check prove install uninstall help
 
-all: program archive
+# The program and the library, without checking proofs; nothing where they are built.
+all:
+	@scripts/quick.py
 
-program:
-	rt all check --jobs $(JOBS)
-	cd crates/ctfd && rt run -- --version
+# Over what is built, or over the program that CTFD names.
+check: $(if $(CTFD),,all)
+	@tests/all.py --lanes $(JOBS) $(if $(CTFD),--program $(CTFD))
 
-# After the program, so that the crates below are proved once.
-archive: program
-	tests/archive.py
-
-check:
-	tests/all.py $(if $(CTFD),--program $(CTFD))
+# All proofs. What the kit builds takes the place of what `make` built.
+prove:
+	@tests/all.py --prove-only
 
 install:
 	@test -x $(PROGRAM) && test -f $(CTFD_ARCHIVE) || \
@@ -63,16 +62,14 @@ uninstall:
 	for page in $(PAGES); do rm -f $(DESTDIR)$(MAN)/man$${page##*.}/$$page; done
 	rm -rf $(DESTDIR)$(PACKAGES)/ctfd
 
-try:
-	cd crates/ctfd && rt try -- serve < ../../examples/first.jsonl
-
 help:
-	@echo 'make              proves every crate, JOBS=$(JOBS) at a time, and builds the program'
-	@echo '                  crates/ctfd/out/ctfd and the library crates/ctf_c/out/libctfd.a'
-	@echo 'make check        proves, and runs every test: the last line is "N passed, M failed"'
-	@echo 'make check CTFD=P runs the tests over the program P, and proves nothing'
+	@echo 'make              builds the program crates/ctfd/out/ctfd and the library'
+	@echo '                  crates/ctf_c/out/libctfd.a, without checking proofs'
+	@echo 'make check        runs every test over these, JOBS=$(JOBS) at a time: the last line is'
+	@echo '                  "N passed, M failed"'
+	@echo 'make check CTFD=P runs the tests over the program P'
+	@echo 'make prove        checks every proof, and puts what the kit builds in place of these'
 	@echo 'STRICT=1          makes check fail where the machine lacks what a test needs'
 	@echo 'make install      puts what make built, headers, manual pages and the Python package'
 	@echo '                  below PREFIX=$(PREFIX), in DESTDIR if it is given'
 	@echo 'make uninstall    takes these away again'
-	@echo 'make try          answers examples/first.jsonl, and proves nothing'

@@ -17,6 +17,9 @@ from pathlib import Path
 from typing import BinaryIO, Iterable, Iterator
 
 TOP = Path(__file__).resolve().parents[1]
+TRANSCRIPTS = TOP / "crates" / "ctf_transcripts" / "data"
+# What others say meanwhile, which is no run of its own.
+OTHERS = "others.transcript"
 MARK = re.compile("«(?:(?P<times>[0-9]+) (?P<text>[^»]*)|(?P<factor>[0-9]*)n(?P<plus>\\+[0-9]+)?)»")
 PASSES = re.compile("([0-9]+)\\.\\.=([0-9]+)")
 # No run takes nearly so long, so a service that takes it goes on without end.
@@ -29,6 +32,15 @@ class Run:
 
     title: str
     lines: tuple[bytes, ...]
+
+
+@dataclass(frozen=True)
+class Told:
+    """A line of a transcript: a request or a reply, and whether it stands in the first pass."""
+
+    is_request: bool
+    is_first: bool
+    line: bytes
 
 
 @dataclass(frozen=True)
@@ -80,25 +92,30 @@ def without_marks(line: str, number: int) -> bytes:
     return MARK.sub(meant, line).encode()
 
 
-def requests_of(part: str) -> Iterator[bytes]:
-    """The requests of a part of a run, in all its passes."""
+def told_in(part: str) -> Iterator[Told]:
+    """The requests and replies of a part of a run, in all its passes."""
     first, *lines = part.split("\n")
     passes = PASSES.fullmatch(first)
     low, high = (int(passes[1]), int(passes[2])) if passes else (0, 0)
     for number in range(low, high + 1):
         for line in lines:
-            if line.startswith("> "):
-                yield without_marks(line[2:], number)
+            if line.startswith(("> ", "< ")):
+                yield Told(line[0] == ">", number == low, without_marks(line[2:], number))
+
+
+def stored(name: str) -> Iterator[tuple[str, list[list[Told]]]]:
+    """The runs of a transcript: the title of each, and what its parts tell."""
+    text = (TRANSCRIPTS / name).read_text(encoding="utf-8")
+    for run in text.split("\n# ")[1:]:
+        yield run.split("\n")[0], [list(told_in(part)) for part in run.split("\n* ")]
 
 
 def transcripts() -> Iterator[Run]:
     """All runs of the transcripts, in the order of their files."""
-    folder = TOP / "crates" / "ctf_transcripts" / "data"
-    for path in sorted(folder.glob("*.transcript")):
-        if path.name != "others.transcript":
-            for text in path.read_text(encoding="utf-8").split("\n# ")[1:]:
-                requests = (line for part in text.split("\n* ") for line in requests_of(part))
-                yield Run(text.split("\n")[0], tuple(requests))
+    for path in sorted(TRANSCRIPTS.glob("*.transcript")):
+        if path.name != OTHERS:
+            for title, parts in stored(path.name):
+                yield Run(title, tuple(it.line for part in parts for it in part if it.is_request))
 
 
 def examples() -> Iterator[Run]:

@@ -1,0 +1,78 @@
+"""The parts of the tests: commands that end with status 0 where all is well."""
+from __future__ import annotations
+
+import subprocess
+import sys
+from dataclasses import dataclass, field
+from pathlib import Path
+from typing import Mapping, Sequence
+
+TOP = Path(__file__).resolve().parents[1]
+CLIENT = TOP / "clients" / "python"
+
+
+@dataclass(frozen=True)
+class Part:
+    """A command, where it runs, and which words its environment has beside those that are there.
+
+    It begins once the parts that it stands on have ended. One that measures time runs alone.
+    """
+
+    name: str
+    command: Sequence[str]
+    folder: Path = TOP
+    words: Mapping[str, str] = field(default_factory=dict)
+    after: tuple[str, ...] = ()
+    is_alone: bool = False
+
+
+def with_packages() -> str:
+    """A Python that has what the client reads ELF files and declarations with; else this one."""
+    for python in (sys.executable, "/usr/bin/python3"):
+        if Path(python).exists() and subprocess.run(
+                [python, "-c", "import elftools, pycparser"], capture_output=True).returncode == 0:
+            return python
+    return sys.executable
+
+
+def archive(is_made: bool) -> Part:
+    """The library for C: made of what the kit has proved, or the one that is there."""
+    return Part("archive", ["tests/archive.py", *([] if is_made else ["--kept"])])
+
+
+def quick(program: str) -> Part:
+    """Builds all once more without the proofs, and compares that with what was proved."""
+    return Part("quick", ["tests/quick.sh", program])
+
+
+def parts(program: str) -> list[Part]:
+    """All parts over a program and the library beside it; those that take longest come first."""
+    over = {"CTFD": program}
+    python = with_packages()
+    of_library = ("archive",)
+    return [
+        Part("growths", ["tests/growths.sh", program]),
+        Part("shown", [python, "tests/shown.py", program], after=of_library),
+        Part("lending", ["tests/lending.sh"], after=of_library),
+        Part("client", [python, "-m", "unittest", "discover", "-v", "-s", "tests", "-t", "."],
+             CLIENT, over),
+        Part("front", ["tests/front.sh", program]),
+        Part("gdb", ["tests/gdb.sh", program]),
+        Part("convert", ["tests/convert.sh", program]),
+        Part("c_library", ["tests/c_library.sh", program], after=of_library),
+        Part("install", ["tests/install.sh", program], after=of_library),
+        Part("rust", ["tests/rust.sh"], after=of_library),
+        Part("streams", ["tests/streams.sh", program]),
+        Part("damage", ["tests/damage.py", program]),
+        Part("program", ["tests/program.sh", program]),
+        Part("transcripts", ["tests/transcripts.py", program]),
+        Part("ilp32", ["tests/ilp32.sh", program]),
+        Part("links", ["tests/links.py"]),
+        Part("manual", ["tests/manual.sh"]),
+        Part("examples", ["tests/examples.py", program]),
+        Part("written_bytes", ["bash", "-c",
+                               "tests/written_bytes.py | cmp - examples/written.ctf"]),
+        Part("written_by_pahole", ["tests/written_by_pahole.sh"]),
+        Part("written_by_libctf", ["tests/written_by_libctf.py"]),
+        Part("hostile", ["bench/hostile.py", program, "--limit", "5"], is_alone=True),
+    ]

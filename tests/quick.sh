@@ -1,0 +1,17 @@
+#!/usr/bin/env bash
+# Builds the program and the library for C without their proofs, and compares them with built ones.
+# usage: tests/quick.sh PROGRAM [LINES]
+# PROGRAM is one that the kit built with its proofs. Both programs answer LINES random lines (1000000)
+# with the same bytes, and the library that was built passes tests/c_library.sh. Needs the kit.
+# Prints what was wrong; the status is 1 then.
+set -eu
+program=$(realpath "$1")
+lines=${2:-1000000}
+top=$(realpath "$(dirname "$0")/..")
+command -v rt > /dev/null || { echo "skipped: rt is not on the path"; exit 0; }
+work=$(mktemp -d)
+trap 'rm -r "$work"' EXIT
+cd "$work"
+"$top/scripts/quick.py" --into "$work/built"
+"$top/bench/random_lines.py" "$program" built/ctfd "$lines"
+CTFD_ARCHIVE=$work/built/libctfd.a "$top/tests/c_library.sh" built/ctfd
