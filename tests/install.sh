@@ -7,7 +7,8 @@
 # Installed is into a folder by DESTDIR and PREFIX, and into another by PREFIX alone. From each a C
 # file of a few lines is built by what `pkg-config --cflags --libs ctfd` says, and a Rust one by the
 # crate. The program, the Python package with its commands, and the manual pages are used where they
-# were put. After `make uninstall` no file is left.
+# were put; commands find package and program by where they stand. After `make uninstall` no file is
+# left. PREFIX=/usr, and what is said where pip or wheel is missing, are tried too.
 # Prints what was wrong, and counts; the status is 1 where something was wrong.
 set -eu
 program=$(realpath "$1")
@@ -76,19 +77,21 @@ END
 
 # used FOLDER: what is installed below it is used. The words for pkg-config are in the environment.
 used() {
-    local below=$1 packages lua=$top/examples/lua.ctf
+    local below=$1 lua=$top/examples/lua.ctf
     count "build in C" cc -std=gnu11 -Wall -Wextra -Werror "$work/own.c" \
         $(pkg-config --cflags --libs ctfd) -o "$work/own_c"
     count "run in C" says 200 "$work/own_c" "$lua" "struct lua_State"
-    count "the version" says "$(sed -n 's/^VERSION = "\(.*\)"/\1/p' \
-        "$top/clients/python/ctfd/version.py")" pkg-config --modversion ctfd
+    count "the version" says "$(cat "$top/VERSION")" pkg-config --modversion ctfd
     count "the program" says "$("$program" --version)" "$below/bin/ctfd" --version
-    packages=$(dirname "$(dirname "$(find "$below" -path '*/ctfd/version.py')")")
-    for command in ctfd-types ctfd-convert ctfd-diff ctfd-explore ctfd-front; do
-        count $command env PYTHONPATH="$packages" "$below/bin/$command" --help
+    for command in "$top"/clients/python/ctfd-*; do
+        count "${command##*/}" "$below/bin/${command##*/}" --help
     done
-    count "a type by ctfd-types" env PYTHONPATH="$packages" CTFD="$below/bin/ctfd" \
-        "$below/bin/ctfd-types" "$lua" "struct luaL_Reg"
+    # It finds the program beside it, under each Python that is here.
+    for python in python3 /usr/bin/python3; do
+        count "a type by ctfd-types" env -u CTFD PATH="/usr/bin:/bin" "$(command -v $python)" \
+            "$below/bin/ctfd-types" "$lua" "struct luaL_Reg"
+    done
+    count "a unit" grep -q "^ExecStart=.*/bin/ctfd serve" "$below/lib/systemd/system/ctfd@.service"
     count "a page of the manual" test -s "$below/share/man/man3/ctfd.3"
     if command -v cargo > /dev/null && cargo --version > /dev/null 2>&1; then
         count "build in Rust" env -u CTFD_ARCHIVE CARGO_TARGET_DIR="$work/target" \
@@ -117,10 +120,32 @@ count "install" made install PREFIX="$work/prefix"
     echo "$checks $wrong" > "$work/counts"
 )
 read -r checks wrong < "$work/counts"
-count "an installed command alone" env CTFD="$work/prefix/bin/ctfd" \
-    "$work/prefix/bin/ctfd-types" "$top/examples/lua.ctf" "struct luaL_Reg"
+cd /
+ln -s "$work/prefix/bin/ctfd-types" "$work/linked"
+count "a command by a link" env -u CTFD PATH="/usr/bin:/bin" \
+    "$work/linked" "$top/examples/lua.ctf" "struct luaL_Reg"
 count "uninstall" made uninstall PREFIX="$work/prefix"
 count "nothing is left" says "" find "$work/prefix" ! -type d
+
+# Below /usr the package stands where Debian's Python looks for it.
+count "install below /usr" made install DESTDIR="$work/root" PREFIX=/usr PYTHON=/usr/bin/python3
+count "the package below /usr" test -f "$work/root/usr/lib/python3/dist-packages/ctfd/version.py"
+count "nothing below local" test ! -e "$work/root/usr/local"
+count "uninstall below /usr" made uninstall DESTDIR="$work/root" PREFIX=/usr PYTHON=/usr/bin/python3
+count "nothing is left" says "" find "$work/root" ! -type d
+
+# A Python that says that it lacks two packages.
+cat > "$work/python" << 'END'
+#!/bin/sh
+[ "$1" != -c ] || { echo pip wheel; exit 0; }
+exit 1
+END
+chmod +x "$work/python"
+lacks() {
+    made install PREFIX="$work/prefix" PYTHON="$work/python" > "$work/lacks" 2>&1 && return 1
+    grep -q "Debian's python3-pip python3-wheel" "$work/lacks" && says "" find "$work/prefix" ! -type d
+}
+count "what a Python lacks" lacks
 count "nothing to install" sh -c "! make -C '$top' install CTFD=/none PREFIX='$work/prefix'"
 
 echo "install: $checks checks, $wrong wrong"

@@ -13,5 +13,5 @@ work=$(mktemp -d)
 trap 'rm -r "$work"' EXIT
 cd "$work"
 "$top/scripts/quick.py" --into "$work/built"
-"$top/bench/random_lines.py" "$program" built/ctfd "$lines"
+python3 "$top/bench/random_lines.py" "$program" built/ctfd "$lines"
 CTFD_ARCHIVE=$work/built/libctfd.a "$top/tests/c_library.sh" built/ctfd

@@ -47,6 +47,9 @@
 #include <stddef.h>
 #include <stdint.h>
 
+/* The version of this header and of the library beside it. */
+#define CTFD_VERSION "0.2.0"
+
 #ifdef __cplusplus
 extern "C" {
 #endif

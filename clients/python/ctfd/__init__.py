@@ -4,6 +4,12 @@
         types = ctfd.open_file(client.session(), "examples/lua.ctf")
         print(ctfd.listing(types.find("struct lua_State")))
 """
+import sys
+
+if sys.version_info < (3, 9):
+    sys.exit("ctfd: %s is Python %d.%d, and 3.9 or later is needed: put another first on the PATH,"
+             " such as Debian's python3" % ((sys.executable,) + sys.version_info[:2]))
+
 from .declare import declaration
 from .dictionary import Dictionary, open_file, open_source, taken, withdraw
 from .faults import (BadDictionary, BadSymbols, Error, Gone, Incomplete, NoMemory, NoParent,

@@ -1,8 +1,9 @@
 """Where the service is, and whether it speaks the protocol of this client.
 
-It is the program that the caller names, else the one that CTFD in the environment names, else
-`ctfd` on the path, else the one that the clone with this package in it has built. CTFD_SOCKET in
-the environment names a socket in place of a program, where none is named by the caller.
+It is the program that the caller names, else the one that CTFD in the environment names, else the
+one beside the command that runs, else `ctfd` on the path, else the one that the clone with this
+package in it has built. CTFD_SOCKET in the environment names a socket in place of a program, where
+none is named by the caller.
 """
 from __future__ import annotations
 
@@ -10,6 +11,7 @@ import os
 import re
 import shutil
 import subprocess
+import sys
 from pathlib import Path
 from typing import Optional
 
@@ -31,16 +33,22 @@ def find(named: Optional[str] = None) -> str:
         if found is None:
             raise Gone(f"{program}, {why}, is no program: name the built ctfd")
         return _judged(found)
-    found = shutil.which("ctfd") or _built()
+    found = _beside() or shutil.which("ctfd") or _built()
     if found is None:
         raise Gone("the service ctfd is not found: name it by --service or by CTFD in the"
-                   " environment, put it on the PATH, or build it (`rt run` in crates/ctfd)")
+                   " environment, put it on the PATH, or build it (`make`)")
     return _judged(found)
 
 
 def socket() -> Optional[str]:
     """The socket that CTFD_SOCKET in the environment names, where a service is that others use."""
     return os.environ.get("CTFD_SOCKET") or None
+
+
+def _beside() -> Optional[str]:
+    """The program that was installed with the command that runs, or None."""
+    program = Path(sys.argv[0] if sys.argv else "").resolve().with_name("ctfd")
+    return str(program) if program.is_file() and os.access(program, os.X_OK) else None
 
 
 def _built() -> Optional[str]:

@@ -1,0 +1,190 @@
+#!/usr/bin/env python3
+"""Makes packages of what is built, in dist/: the same bytes of the same commit and build.
+
+usage: scripts/package.py deb|dist [--into FOLDER] [--program PROGRAM] [--archive ARCHIVE]
+
+`deb` makes a package for Debian, by dpkg-deb alone. `dist` makes a tarball with an install script
+(tarball.sh), and a wheel of the Python package by itself. Both have the program, the library for C,
+headers, manual pages, units, the Python package and its commands. Times in them are that of the
+commit, or that of SOURCE_DATE_EPOCH. Needs dpkg-deb for `deb`, git, and what builds a wheel
+(scripts/tree.py).
+"""
+from __future__ import annotations
+
+import argparse
+import gzip
+import hashlib
+import io
+import os
+import re
+import shutil
+import subprocess
+import sys
+import tarfile
+import tempfile
+from pathlib import Path
+from typing import Iterator
+
+import built
+import tree
+from tree import TOP, Lacking, Made, Places
+from version import version
+
+SCRIPTS = TOP / "scripts"
+DEBIAN = SCRIPTS / "debian"
+LIBC = re.compile(rb"GLIBC_(\d+)\.(\d+)\b")
+HOW = {built.How.PROVED: "by the Rattle kit, with their proofs",
+       built.How.QUICK: "of the same sources without checking their proofs"}
+
+
+def epoch() -> int:
+    """The time of the commit, for all that is made. Raises Lacking."""
+    told = os.environ.get("SOURCE_DATE_EPOCH")
+    if not told:
+        try:
+            told = subprocess.run(["git", "log", "-1", "--format=%ct"], cwd=TOP, check=True,
+                                  capture_output=True, text=True).stdout
+        except (OSError, subprocess.CalledProcessError) as why:
+            raise Lacking("git does not tell the time of the commit: say it in SOURCE_DATE_EPOCH, "
+                          "in seconds") from why
+    return int(told)
+
+
+def files(folder: Path) -> Iterator[Path]:
+    """All below a folder, in one order."""
+    yield from sorted(folder.rglob("*"))
+
+
+def at_one_time(folder: Path, seconds: int) -> None:
+    """Gives all below a folder one time, and folders one mode."""
+    for path in (folder, *files(folder)):
+        if path.is_dir():
+            path.chmod(0o755)
+        os.utime(path, (seconds, seconds))
+
+
+def packed(data: bytes) -> bytes:
+    """Data packed by gzip, without a time or a name."""
+    made = io.BytesIO()
+    with gzip.GzipFile(filename="", mode="wb", compresslevel=9, fileobj=made, mtime=0) as out:
+        out.write(data)
+    return made.getvalue()
+
+
+def how_built(made: Made) -> str:
+    """How what is packed was built, as far as that is known."""
+    stands = built.told() if made == Made(built.PROGRAM, built.ARCHIVE) else None
+    return HOW[stands.how] if stands else "in a way that nobody told"
+
+
+def libc(program: Path) -> str:
+    """The least version of the C library that a program runs with."""
+    found = {(int(major), int(minor)) for major, minor in LIBC.findall(program.read_bytes())}
+    if not found:
+        raise Lacking(f"{program} names no version of the C library")
+    return "{}.{}".format(*max(found))
+
+
+def write(path: Path, data: bytes, mode: int = 0o644) -> None:
+    path.parent.mkdir(parents=True, exist_ok=True)
+    path.write_bytes(data)
+    path.chmod(mode)
+
+
+def describe(stage: Path, made: Made) -> None:
+    """Writes what dpkg reads of a package whose files stand in a folder."""
+    listed = [path for path in files(stage) if path.is_file()]
+    size = sum(-(-path.stat().st_size // 1024) for path in listed)
+    control = (DEBIAN / "control").read_text(encoding="utf-8").format(
+        version=version(), size=size, libc=libc(made.program), how=how_built(made))
+    sums = "".join(f"{hashlib.md5(path.read_bytes()).hexdigest()}  {path.relative_to(stage)}\n"
+                   for path in listed)
+    write(stage / "DEBIAN" / "control", control.encode())
+    write(stage / "DEBIAN" / "md5sums", sums.encode())
+    for name in ("postinst", "prerm"):
+        write(stage / "DEBIAN" / name, (DEBIAN / name).read_bytes(), 0o755)
+
+
+def deb(made: Made, into: Path, seconds: int) -> list[Path]:
+    """Makes the package for Debian."""
+    if not shutil.which("dpkg-deb"):
+        raise Lacking("there is no dpkg-deb: install Debian's package dpkg")
+    usr = Path("/usr")
+    package = into / f"ctfd_{version()}_amd64.deb"
+    with tempfile.TemporaryDirectory() as folder:
+        stage = Path(folder)
+        tree.put(made, Places(usr, usr / "lib/python3/dist-packages", usr / "lib/x86_64-linux-gnu",
+                              stage, python=tree.DEBIANS))
+        for page in (stage / "usr/share/man").glob("man*/*"):
+            write(page.with_name(f"{page.name}.gz"), packed(page.read_bytes()))
+            page.unlink()
+        write(stage / "usr/share/doc/ctfd/changelog.gz",
+              packed((TOP / "CHANGELOG.md").read_bytes()))
+        describe(stage, made)
+        at_one_time(stage, seconds)
+        tree.run("dpkg-deb", "--root-owner-group", "-Zgzip", "-z9", "--build", stage, package,
+                 SOURCE_DATE_EPOCH=str(seconds))
+    return [package]
+
+
+def dist(made: Made, into: Path, seconds: int) -> list[Path]:
+    """Makes the tarball and the wheel."""
+    name = f"ctfd-{version()}"
+    tarball = into / f"{name}-x86_64-linux.tar.gz"
+    with tempfile.TemporaryDirectory() as folder:
+        stage = Path(folder, name)
+        stage.mkdir()
+        # The package stands in a folder of its own, where the commands of any Python find it.
+        tree.put(made, Places(Path("/"), Path("/lib/ctfd"), Path("/lib"), stage))
+        listed = "".join(f"{path.relative_to(stage)}\n" for path in files(stage) if path.is_file())
+        write(stage / "FILES", listed.encode())
+        write(stage / "CHANGELOG.md", (TOP / "CHANGELOG.md").read_bytes())
+        write(stage / "BUILT", f"Program and library were built {how_built(made)}.\n".encode())
+        write(stage / "install.sh", (SCRIPTS / "tarball.sh").read_bytes(), 0o755)
+        at_one_time(stage, seconds)
+        tarball.write_bytes(packed(archived(stage, seconds)))
+    return [tarball, tree.wheel(into)]
+
+
+def archived(stage: Path, seconds: int) -> bytes:
+    """A folder as a tar file that root owns."""
+
+    def owned(member: tarfile.TarInfo) -> tarfile.TarInfo:
+        member.uid = member.gid = 0
+        member.uname = member.gname = "root"
+        member.mtime = seconds
+        return member
+
+    made = io.BytesIO()
+    with tarfile.open(fileobj=made, mode="w", format=tarfile.GNU_FORMAT) as out:
+        for path in (stage, *files(stage)):
+            out.add(path, arcname=str(path.relative_to(stage.parent)), recursive=False, filter=owned)
+    return made.getvalue()
+
+
+def main() -> int:
+    assert __doc__
+    options = argparse.ArgumentParser(
+        usage=" ".join(__doc__.split("usage: ")[1].split("\n\n")[0].split()))
+    options.add_argument("kind", choices=("deb", "dist"))
+    options.add_argument("--into", type=Path, default=TOP / "dist")
+    options.add_argument("--program", type=Path, default=built.PROGRAM)
+    options.add_argument("--archive", type=Path, default=built.ARCHIVE)
+    given = options.parse_args()
+    os.umask(0o022)
+    made = Made(Path(os.path.abspath(given.program)), Path(os.path.abspath(given.archive)))
+    into = Path(os.path.abspath(given.into))
+    try:
+        into.mkdir(parents=True, exist_ok=True)
+        seconds = epoch()
+        os.environ["SOURCE_DATE_EPOCH"] = str(seconds)
+        for path in {"deb": deb, "dist": dist}[given.kind](made, into, seconds):
+            print(path)
+    except (Lacking, OSError, ValueError) as why:
+        print(f"no package is made: {why}", file=sys.stderr)
+        return 1
+    return 0
+
+
+if __name__ == "__main__":
+    sys.exit(main())

@@ -1,0 +1,271 @@
+#!/usr/bin/env python3
+"""Puts what is built below a prefix, or takes it away again.
+
+usage: scripts/tree.py --prefix PREFIX [--root FOLDER] [--program PROGRAM] [--archive ARCHIVE]
+                       [--packages FOLDER] [--remove]
+
+That is the program, the library for C with its headers and a file for pkg-config, the manual pages,
+the units for systemd, the Python package and its commands. FOLDER of --root, if it is given, goes
+in front of all, as DESTDIR does.
+
+pip installs the package. It and setuptools and wheel are those of the Python that PYTHON in the
+environment names, else of `python3` or Debian's, whichever has them. The package goes where that
+Python looks for packages below the prefix, or into --packages, below the prefix too. The commands
+find it by where they stand themselves, so they run under any Python from 3.9 on.
+"""
+from __future__ import annotations
+
+import argparse
+import os
+import re
+import shutil
+import subprocess
+import sys
+import tempfile
+from dataclasses import dataclass
+from pathlib import Path
+from typing import Iterator, Optional
+
+import built
+from version import TOP, version
+
+CLIENT = TOP / "clients" / "python"
+COMMANDS = sorted(path.name for path in CLIENT.glob("ctfd-*"))
+HEADERS = ("ctfd.h", "ctfd_libctf.h")
+DEBIANS = "/usr/bin/python3"
+# What builds and installs a package, by Debian's packages.
+NEEDED = {"pip": "python3-pip", "setuptools": "python3-setuptools", "wheel": "python3-wheel"}
+# Where a Python looks for packages below a prefix.
+LOOKS = """
+import site, sys, sysconfig
+below = sys.argv[1].rstrip("/") + "/"
+of_site = [folder for folder in site.getsitepackages() if folder.startswith(below)]
+if sys.argv[1].rstrip("/") == "/usr":
+    of_site = [folder for folder in of_site if not folder.startswith("/usr/local/")]
+print(of_site[0] if of_site else sysconfig.get_path("purelib", "posix_prefix",
+                                                    {"base": sys.argv[1]}))
+"""
+COMMAND = '''#!{python}
+"""{text}"""
+import sys
+from pathlib import Path
+
+# The package's folder comes first for the package alone.
+FOLDER = str((Path(__file__).resolve().parent / "{packages}").resolve())
+sys.path.insert(0, FOLDER)
+
+from {module} import main  # noqa: E402
+
+sys.path.remove(FOLDER)
+sys.path.append(FOLDER)
+
+if __name__ == "__main__":
+    sys.exit(main())
+'''
+
+
+class Lacking(Exception):
+    """Something that is needed is not here."""
+
+
+@dataclass(frozen=True)
+class Made:
+    """What was built."""
+
+    program: Path
+    archive: Path
+
+    def judge(self) -> None:
+        """Raises Lacking where something is not there, or tells another version."""
+        for path in (self.program, self.archive):
+            if not path.exists():
+                raise Lacking(f"there is no {path}: `make` builds it")
+        said = subprocess.run([self.program, "--version"], stdout=subprocess.PIPE, text=True,
+                              check=False).stdout.strip()
+        if said != f"ctfd {version()}":
+            raise Lacking(f"{self.program} tells {said!r}, and VERSION has {version()}: "
+                          "`make` builds it anew")
+
+
+@dataclass(frozen=True)
+class Places:
+    """Where things go below a prefix. `root` goes in front of all; `python` runs the commands."""
+
+    prefix: Path
+    packages: Path
+    libraries: Path
+    root: Path = Path("/")
+    python: str = "/usr/bin/env python3"
+
+    def real(self, path: Path) -> Path:
+        return self.root / path.relative_to("/")
+
+    def texts(self) -> Iterator[tuple[Path, Path, int]]:
+        """Where each file of this repository goes, from where, and with which mode."""
+        for name in HEADERS:
+            yield self.prefix / "include" / name, TOP / "clients" / "c" / name, 0o644
+        yield self.libraries / "pkgconfig" / "ctfd.pc", TOP / "clients" / "c" / "ctfd.pc.in", 0o644
+        for page in sorted((TOP / "docs" / "man").glob("*.[1-9]")):
+            yield self.prefix / "share/man" / f"man{page.suffix[1:]}" / page.name, page, 0o644
+        for unit in sorted((TOP / "clients" / "units").iterdir()):
+            yield self.prefix / "lib/systemd/system" / unit.name, unit, 0o644
+        for name in COMMANDS:
+            yield self.prefix / "bin" / name, CLIENT / name, 0o755
+
+    def text(self, path: Path, source: Path) -> str:
+        """What a file has in its place."""
+        text = source.read_text(encoding="utf-8")
+        if source.name in COMMANDS:
+            return self.command(path, text)
+        libraries = os.path.relpath(self.libraries, self.prefix)
+        return (text.replace("@PREFIX@", str(self.prefix)).replace("@LIBRARIES@", libraries)
+                .replace("@VERSION@", version()).replace("@BIN@", str(self.prefix / "bin")))
+
+    def command(self, path: Path, text: str) -> str:
+        """A command that finds the package by where it stands itself."""
+        told, module = re.search(r'"""(.*)"""', text), re.search(r"from (\S+) import main", text)
+        assert told and module
+        return COMMAND.format(python=self.python, text=told[1], module=module[1],
+                              packages=os.path.relpath(self.packages, path.parent))
+
+
+def python() -> str:
+    """The Python whose pip builds and installs packages. Raises Lacking."""
+    named = os.environ.get("PYTHON")
+    found = [named] if named else ["python3", DEBIANS]
+    lacks = {one: lacking(one) for one in found}
+    for one, missing in lacks.items():
+        if missing == []:
+            return one
+    one, missing = next(iter(lacks.items()))
+    if missing is None:
+        raise Lacking(f"there is no {one}")
+    names = " ".join(NEEDED[name] for name in missing)
+    raise Lacking(f"{one} has no {' and no '.join(missing)}: install Debian's {names}, or name by "
+                  "PYTHON a Python that has them")
+
+
+def lacking(one: str) -> Optional[list[str]]:
+    """What a Python lacks of that, or None where there is no such Python."""
+    asks = ("import importlib.util as it, sys; "
+            "print(*[name for name in sys.argv[1:] if it.find_spec(name) is None])")
+    try:
+        said = subprocess.run([one, "-c", asks, *NEEDED], stdout=subprocess.PIPE, text=True,
+                              check=True).stdout
+    except (OSError, subprocess.CalledProcessError):
+        return None
+    return said.split()
+
+
+def run(*words: object, **environment: str) -> None:
+    """Runs a command that says something only where it fails. Raises Lacking then."""
+    ended = subprocess.run([str(word) for word in words], stdout=subprocess.PIPE,
+                           stderr=subprocess.STDOUT, text=True, errors="replace",
+                           env={**os.environ, **environment}, check=False)
+    if ended.returncode != 0:
+        raise Lacking(f"{words[0]} ended with status {ended.returncode}:\n{ended.stdout.strip()}")
+
+
+def wheel(into: Path) -> Path:
+    """Builds the wheel of the package into a folder, the same of the same sources."""
+    with tempfile.TemporaryDirectory() as folder:
+        # setuptools writes beside the sources, so it gets a copy.
+        copy = Path(folder, "python")
+        shutil.copytree(CLIENT, copy, ignore=shutil.ignore_patterns(
+            "__pycache__", "build", "*.egg-info", "tests"))
+        for path in copy.rglob("*"):
+            path.chmod(0o755 if path.is_dir() or path.name in COMMANDS else 0o644)
+        run(python(), "-m", "pip", "wheel", "--quiet", "--no-index", "--no-deps",
+            "--no-build-isolation", "--no-cache-dir", "--disable-pip-version-check",
+            "--wheel-dir", into, copy)
+    return next(into.glob(f"ctfd-{version()}-*.whl"))
+
+
+def put_package(places: Places) -> None:
+    """Has pip install the package, whose commands stand elsewhere."""
+    folder = places.real(places.packages)
+    remove_package(places)
+    with tempfile.TemporaryDirectory() as made:
+        wheel(Path(made))
+        installed = Path(made, "installed")
+        run(python(), "-m", "pip", "install", "--quiet", "--no-index", "--no-deps", "--no-compile",
+            "--no-warn-script-location", "--disable-pip-version-check", "--find-links", made,
+            "--target", installed, f"ctfd=={version()}", PIP_ROOT_USER_ACTION="ignore")
+        shutil.rmtree(installed / "bin", ignore_errors=True)
+        shutil.copytree(installed, folder, dirs_exist_ok=True)
+        for path in owned(folder):
+            path.chmod(0o755 if path.is_dir() else 0o644)
+
+
+def owned(folder: Path) -> Iterator[Path]:
+    """All that the package has in a folder of packages."""
+    for top in (folder / "ctfd", *folder.glob("ctfd-*.dist-info")):
+        if top.is_dir():
+            yield top
+            yield from top.rglob("*")
+
+
+def put(made: Made, places: Places) -> None:
+    """Puts everything in its place."""
+    made.judge()
+    put_package(places)
+    for path, source, mode in ((places.prefix / "bin" / "ctfd", made.program, 0o755),
+                               (places.libraries / "libctfd.a", made.archive, 0o644)):
+        built.put(source, places.real(path))
+        places.real(path).chmod(mode)
+    for path, source, mode in places.texts():
+        real = places.real(path)
+        real.parent.mkdir(parents=True, exist_ok=True)
+        real.write_text(places.text(path, source), encoding="utf-8")
+        real.chmod(mode)
+
+
+def remove_package(places: Places) -> None:
+    folder = places.real(places.packages)
+    for top in (folder / "ctfd", *folder.glob("ctfd-*.dist-info")):
+        shutil.rmtree(top, ignore_errors=True)
+
+
+def remove(places: Places) -> None:
+    """Takes every file away, and the package's own folders."""
+    remove_package(places)
+    for path in (places.prefix / "bin" / "ctfd", places.libraries / "libctfd.a",
+                 *(path for path, _, _ in places.texts())):
+        places.real(path).unlink(missing_ok=True)
+
+
+def looked_in(prefix: Path) -> Path:
+    """Where the Python that has pip looks for packages below a prefix."""
+    said = subprocess.run([python(), "-c", LOOKS, prefix], stdout=subprocess.PIPE, text=True,
+                          check=True).stdout
+    return Path(said.strip())
+
+
+def main() -> int:
+    assert __doc__
+    options = argparse.ArgumentParser(
+        usage=" ".join(__doc__.split("usage: ")[1].split("\n\n")[0].split()))
+    options.add_argument("--prefix", type=Path, required=True)
+    options.add_argument("--root", type=Path, default=Path("/"))
+    options.add_argument("--program", type=Path, default=built.PROGRAM)
+    options.add_argument("--archive", type=Path, default=built.ARCHIVE)
+    options.add_argument("--packages", type=Path)
+    options.add_argument("--remove", action="store_true")
+    given = options.parse_args()
+    os.umask(0o022)
+    try:
+        prefix = Path(os.path.abspath(given.prefix))
+        places = Places(prefix, given.packages or looked_in(prefix), prefix / "lib",
+                        Path(os.path.abspath(given.root)))
+        if given.remove:
+            remove(places)
+        else:
+            put(Made(given.program, given.archive), places)
+    except (Lacking, OSError) as why:
+        print(f"nothing is {'removed' if given.remove else 'installed'}: {why}", file=sys.stderr)
+        return 1
+    return 0
+
+
+if __name__ == "__main__":
+    sys.exit(main())

@@ -1,0 +1,141 @@
+#!/usr/bin/env bash
+# Checks the packages that `make deb` and `make dist` make, and that one version stands everywhere.
+# usage: tests/packages.sh PROGRAM
+# The archive is the one that CTFD_ARCHIVE names, else crates/ctf_c/out/libctfd.a. Needs a C compiler,
+# dpkg, pkg-config, and what builds a wheel.
+#
+# Made twice, in other folders and by another mask, each package has the same bytes. The package for
+# Debian is unpacked by `dpkg-deb -x`, and installed by `dpkg --root`; the tarball is installed by its
+# script; the wheel by pip. Each time the types of a program that gcc made are printed by what was put
+# there, and after it is removed no file is left. All files that a user looks for are in it.
+# Prints what was wrong, and counts; the status is 1 where something was wrong.
+set -eu
+program=$(realpath "$1")
+top=$(realpath "$(dirname "$0")/..")
+for tool in make cc dpkg dpkg-deb pkg-config; do
+    command -v $tool > /dev/null || { echo "skipped: no $tool here"; exit 0; }
+done
+archive=$("$top/tests/archive.py" --kept)
+[ -f "$archive" ] || { echo "$archive"; exit 0; }
+work=$(mktemp -d)
+trap 'rm -r "$work"' EXIT
+checks=0 wrong=0
+version=$(cat "$top/VERSION")
+unset CTFD CTFD_SOCKET PYTHONPATH
+
+# count WHAT COMMAND..: runs it, and shows what it said where it failed.
+count() {
+    local what=$1
+    shift
+    checks=$((checks + 1))
+    "$@" > "$work/said" 2>&1 && return
+    wrong=$((wrong + 1))
+    echo "$what:"
+    head -n 40 "$work/said"
+}
+
+# says WANTED COMMAND..: it prints just that.
+says() {
+    local wanted=$1
+    shift
+    [ "$("$@" 2>&1)" = "$wanted" ] || { "$@"; return 1; }
+}
+
+# packed KIND INTO: makes a package of what is built.
+packed() {
+    "$top/scripts/package.py" "$1" --into "$2" --program "$program" --archive "$archive"
+}
+
+echo 'struct point { int x, y; char name[16]; struct point *next; } first; int main() {}' \
+    > "$work/own.c"
+cc -g -o "$work/own" "$work/own.c"
+printf '#include <ctfd.h>\n#include <stdio.h>\nint main(void)\n{\n    %s\n}\n' \
+    'return puts(CTFD_VERSION) < 0 || ctfd_status_name(CTFD_OK)[0] == 0;' > "$work/header.c"
+
+# used BELOW LIBRARIES: the types of an own program, by what stands below a folder.
+used() {
+    local below=$1 libraries=$2
+    count "ctfd-convert in $below" env PATH=/usr/bin:/bin "$below/bin/ctfd-convert" \
+        "$work/own" "$work/own.ctf"
+    env PATH=/usr/bin:/bin "$below/bin/ctfd-types" "$work/own.ctf" "struct point" > "$work/types" \
+        2>&1 || true
+    count "ctfd-types in $below" grep -q 'size: 32, cachelines: 1, members: 4' "$work/types"
+    count "the program in $below" says "ctfd $version" "$below/bin/ctfd" --version
+    count "the header in $below" cc -I"$below/include" "$work/header.c" -o "$work/header" \
+        "$libraries/libctfd.a"
+    count "the header's version in $below" says "$version" "$work/header"
+    count "pkg-config in $below" env PKG_CONFIG_PATH="$libraries/pkgconfig" \
+        pkg-config --exact-version="$version" ctfd
+    for file in include/ctfd_libctf.h lib/systemd/system/ctfd-front.socket; do
+        count "$file in $below" test -s "$below/$file"
+    done
+    count "manual pages in $below" says "$(ls "$top/docs/man" | wc -l)" \
+        sh -c "find '$below/share/man' -type f | wc -l"
+}
+
+count "one version" "$top/scripts/version.py"
+count "the program's version" says "ctfd $version" "$program" --version
+
+for kind in deb dist; do
+    count "make $kind" packed $kind "$work/first"
+    (umask 077; cd /; TZ=Asia/Tokyo packed $kind "$work/second") > "$work/said" 2>&1 || true
+done
+for file in "$work"/first/*; do
+    count "the same bytes: ${file##*/}" cmp "$file" "$work/second/${file##*/}"
+done
+count "three packages" says 3 sh -c "ls '$work/first' | wc -l"
+
+deb=$work/first/ctfd_${version}_amd64.deb
+count "dpkg-deb -x" dpkg-deb -x "$deb" "$work/unpacked"
+used "$work/unpacked/usr" "$work/unpacked/usr/lib/x86_64-linux-gnu"
+count "the deb's version" says "$version" dpkg-deb -f "$deb" Version
+count "the deb's dependencies" sh -c \
+    "dpkg-deb -f '$deb' Depends | grep -Eq '^libc6 \(>= 2\.[0-9]+\), python3 \(>= 3\.9\)$'"
+count "all of it is root's" says "" sh -c "dpkg-deb -c '$deb' | grep -v ' root/root ' || true"
+
+# The scripts in the package are run outside the root, which has no shell.
+root=$work/root
+mkdir -p "$root"/var/lib/dpkg/{info,updates,triggers} "$root/var/log"
+touch "$root"/var/lib/dpkg/{status,available}
+dpkg=(dpkg --root="$root" --force-script-chrootless --force-depends --log=/dev/null)
+if [ "$(id -u)" = 0 ]; then
+    count "dpkg -i" "${dpkg[@]}" -i "$deb"
+    used "$root/usr" "$root/usr/lib/x86_64-linux-gnu"
+    count "what dpkg knows" "${dpkg[@]}" -V ctfd
+    count "dpkg -r" "${dpkg[@]}" -P ctfd
+    count "no trace of it" test ! -e "$root/usr"
+else
+    echo "not possible here: dpkg installs for root alone"
+fi
+
+mkdir "$work/tarball"
+count "tar" tar -xzf "$work/first/ctfd-$version-x86_64-linux.tar.gz" -C "$work/tarball"
+install=$work/tarball/ctfd-$version/install.sh
+count "install.sh" "$install" "$work/prefix"
+used "$work/prefix" "$work/prefix/lib"
+count "its units" grep -q "^ExecStart=$work/prefix/bin/ctfd serve" \
+    "$work/prefix/lib/systemd/system/ctfd@.service"
+count "install.sh --remove" "$install" --remove "$work/prefix"
+count "no file of it is left" says "" find "$work/prefix" ! -type d
+count "no folder of its own is left" test ! -e "$work/prefix/lib/ctfd"
+
+count "the wheel by pip" python3 -m pip install --quiet --no-index --no-deps \
+    --target "$work/packages" "$work/first/ctfd-$version-py3-none-any.whl"
+count "the wheel's version" says "$version" env PYTHONPATH="$work/packages" \
+    python3 -c 'import importlib.metadata as it; print(it.version("ctfd"))'
+count "the package by the wheel" sh -c "PYTHONPATH='$work/packages' CTFD='$program' \
+    python3 -m ctfd '$work/own.ctf' 'struct point' | grep -q 'members: 4'"
+
+if command -v systemd-analyze > /dev/null; then
+    mkdir "$work/units"
+    for unit in "$work"/unpacked/usr/lib/systemd/system/*; do
+        sed 's|^ExecStart=[^ ]*|ExecStart=/bin/true|' "$unit" > "$work/units/$(basename "$unit")"
+    done
+    cp "$work/units/ctfd@.service" "$work/units/ctfd@one.service"
+    count "units" sh -c "cd '$work/units' && systemd-analyze verify --man=no ./*[!@].s* 2>&1 |
+        grep -E 'ctfd' > ../units.said; ! [ -s ../units.said ] || { cat ../units.said; exit 1; }"
+else
+    echo "not possible here: no systemd-analyze judges the units"
+fi
+echo "packages: $checks checks, $wrong wrong"
+[ $wrong = 0 ]
