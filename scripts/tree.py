@@ -27,7 +27,7 @@ from pathlib import Path
 from typing import Iterator, Optional
 
 import built
-from version import TOP, version
+from version import TOP, differing, version
 
 CLIENT = TOP / "clients" / "python"
 COMMANDS = sorted(path.name for path in CLIENT.glob("ctfd-*"))
@@ -77,6 +77,8 @@ class Made:
 
     def judge(self) -> None:
         """Raises Lacking where something is not there, or tells another version."""
+        for place in differing():
+            raise Lacking(f"{place} does not tell the version {version()}, which VERSION has")
         for path in (self.program, self.archive):
             if not path.exists():
                 raise Lacking(f"there is no {path}: `make` builds it")

@@ -60,6 +60,7 @@ def parts(program: str) -> list[Part]:
         Part("gdb", ["tests/gdb.sh", program]),
         Part("convert", ["tests/convert.sh", program]),
         Part("c_library", ["tests/c_library.sh", program], after=of_library),
+        Part("packages", ["tests/packages.sh", program], after=of_library),
         Part("install", ["tests/install.sh", program], after=of_library),
         Part("rust", ["tests/rust.sh"], after=of_library),
         Part("streams", ["tests/streams.sh", program]),
