@@ -1,0 +1,41 @@
+"""A symbol of a program with what a dictionary tells of it."""
+from __future__ import annotations
+
+import re
+from typing import NamedTuple, Optional
+
+from ..records import Record
+
+# What compilers append to the names of copies of functions.
+COPIES = (".isra.", ".constprop.", ".part.", ".cold", ".lto_priv.", ".localalias")
+_OF_FUNCTION = re.compile(r"(.+)\.\d+\Z")
+
+
+class Told(NamedTuple):
+    """A symbol: an object with its type's number, or a function with its record.
+
+    `source` is the source file of a symbol that no other file sees, where that is known.
+    """
+
+    name: str
+    address: int
+    size: int
+    is_global: bool
+    source: str = ""
+    type: int = 0
+    function: Optional[Record] = None
+
+    @property
+    def is_copy(self) -> bool:
+        """Whether it is a copy of a function, which may take its arguments elsewhere."""
+        return any(mark in self.name for mark in COPIES)
+
+    @property
+    def written(self) -> str:
+        """Its name as C has it: without what compilers append to tell copies of functions, and
+        variables of functions, from others."""
+        name = self.name
+        for mark in COPIES:
+            name = name.split(mark)[0]
+        found = _OF_FUNCTION.match(name)
+        return found[1] if found else name

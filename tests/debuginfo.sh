@@ -1,0 +1,171 @@
+#!/usr/bin/env bash
+# Compares what gdb says of programs by the debug files of ctfd-debuginfo with what it says by the
+# compiler's debug information.
+# usage: tests/debuginfo.sh PROGRAM
+# PROGRAM is a built ctfd. Needs gdb with Python, gcc, objcopy, llvm-dwarfdump, the libraries of
+# Debian's libstb-dev and libpng-dev, and a Python with what ctfd-convert takes. Programs of 32 bits
+# want gcc-multilib, and lldb and drgn are asked too where they are.
+#
+# The programs are what others wrote: the libraries of libstb-dev as one (PIE, of 32 bits, and as a
+# shared library), and pngtest.c of libpng-dev (at fixed addresses). Each is compiled with debug
+# information, its types are converted to CTF, and the debug information is taken away. Then all
+# structs, unions, enums, typedefs, global variables and functions are asked of gdb, running, by both
+# (debuginfo/dump.py, compare.py); what differs is named in debuginfo/known.txt. llvm-dwarfdump
+# verifies what was written, and converted back it has the same types. A process is attached to, and
+# its core file read.
+# Prints what was wrong, and counts; the status is 1 where something was wrong.
+set -eu
+program=$(realpath "$1")
+top=$(realpath "$(dirname "$0")/..")
+tests=$top/tests/debuginfo
+for tool in gdb gcc objcopy llvm-dwarfdump; do
+    command -v "$tool" > /dev/null || { echo "skipped: no $tool here"; exit 0; }
+done
+for file in /usr/include/stb/stb_image.h /usr/share/doc/libpng-dev/examples/pngtest.c; do
+    [ -f "$file" ] || { echo "skipped: no $file here (Debian: libstb-dev libpng-dev)"; exit 0; }
+done
+gdb -batch -nx -ex run --args true 2> /dev/null | grep -q 'exited normally' ||
+    { echo "not possible here: gdb runs no program"; exit 0; }
+python=
+for one in python3 /usr/bin/python3; do
+    "$one" -c 'import elftools' 2> /dev/null && { python=$one; break; }
+done
+[ -n "$python" ] || { echo "skipped: no Python with pyelftools here"; exit 0; }
+work=$(mktemp -d)
+trap 'rm -r "$work"' EXIT
+cd "$work"
+export CTFD=$program LC_ALL=C
+checks=0 wrong=0
+
+# count WHAT COMMAND..: runs it, and shows what it said where it failed.
+count() {
+    local what=$1
+    shift
+    checks=$((checks + 1))
+    "$@" > said 2>&1 && return
+    wrong=$((wrong + 1))
+    echo "$what:"
+    head -n 40 said
+}
+
+# client COMMAND WORD..: a command of the client.
+client() {
+    "$python" "$top/clients/python/$1" "${@:2}"
+}
+
+# made NAME WORD..: NAME.g with debug information, NAME without, and NAME.debug; gcc takes the words.
+# It has the data model that $model names, lp64 where it names none.
+made() {
+    local name=$1 model=${model:-lp64}
+    shift
+    gcc -g -O1 -w -o "$name.g" "$@"
+    client ctfd-convert --lossy --section "$name.g" "$name.ctf" > said 2>&1 || { cat said; return 1; }
+    objcopy --strip-debug "$name.ctf" "$name"
+    count "the debug file of $name" client ctfd-debuginfo "$name" "$name.debug"
+    count "$name.debug is right" llvm-dwarfdump --verify "$name.debug"
+    client ctfd-convert --lossy "$name.debug" back.ctf > said 2>&1 || cat said
+    count "$name converted back" same_types --model "$model" "$name" back.ctf
+}
+
+# same_types OLD NEW: their types do not differ.
+same_types() {
+    client ctfd-diff "$@" > differ && [ ! -s differ ] || { cat differ; return 1; }
+}
+
+# added NAME: gdb's words by which a file gets its debug file.
+added() {
+    echo "python next(it for it in gdb.objfiles() if it.filename.endswith('/$1'))" \
+        ".add_separate_debug_file('$work/$1.debug')"
+}
+
+# asked OUT PROGRAM WORD..: all that dump.py asks, in gdb that gets the words.
+asked() {
+    local out=$1 file=$2
+    shift 2
+    NAMES=names OUT=$out gdb -batch -nx -iex 'set debug-file-directory /none' "$@" \
+        -x "$tests/dump.py" "$file" > log 2>&1
+}
+
+# compared NAME: both kinds of debug information, at the start of main.
+compared() {
+    local name=$1
+    rm -f names
+    asked first "$name.g"
+    for out in first again; do asked $out "$name.g" -ex 'break *main' -ex run; done
+    asked ours "$name" -ex "$(added "$name")" -ex 'break *main' -ex run
+    "$tests/compare.py" "$tests/known.txt" first again ours
+}
+
+made stb "$tests/stb.c" -lm
+count "stb" compared stb
+grep same said
+made png -no-pie -fno-pie /usr/share/doc/libpng-dev/examples/pngtest.c -lpng
+count "png" compared png
+grep same said
+if echo 'int main(void) { return 0; }' | gcc -m32 -x c - -o none 2> said; then
+    model=ilp32 made stb32 -m32 "$tests/stb.c" -lm
+    if ./none; then
+        count "stb32" compared stb32
+        grep same said
+    else
+        echo "not possible here: a program of 32 bits does not run"
+    fi
+else
+    echo "skipped: gcc -m32 makes no program here (Debian: gcc-multilib)"
+fi
+
+# A library, in a program that has no types.
+made libstb.so -shared -fPIC -Dmain=stb_main "$tests/stb.c" -lm
+echo 'int stb_main(int, char **); int main(int c, char **v) { return stb_main(c, v); }' > user.c
+gcc -o user user.c -L. -l:libstb.so -Wl,-rpath,"$work"
+gdb -batch -nx -iex 'set debug-file-directory /none' -ex 'break *stb_main' -ex run \
+    -ex "$(added libstb.so)" -ex 'whatis stbi_load' -ex 'print sizeof(stbtt_fontinfo)' \
+    -ex 'info args' user > seen 2>&1
+count "a library's function" grep -Fq 'type = stbi_uc *(const char *, int *, int *, int *, int)' seen
+count "a library's type" grep -Eq '^\$1 = [1-9]' seen
+count "arguments" grep -q '^arg0 = 1$' seen
+
+# By the build id, in the folder where gdb looks.
+count "--folder" client ctfd-debuginfo --folder stb "$work/debug"
+gdb -batch -nx -iex "set debug-file-directory $work/debug" -ex 'ptype struct stbtt_fontinfo' stb \
+    > seen 2>&1
+count "by the build id" grep -q 'unsigned char \*data;' seen
+
+# A process that waits, and its core file.
+made waits "$tests/waits.c"
+./waits &
+pid=$!
+questions=(-ex 'print first.next->y' -ex 'print sizeof(struct point)' -ex 'print &last == first.next')
+answers=$(printf '$1 = 6\n$2 = 16\n$3 = 1')
+if gdb -batch -nx -iex 'set debug-file-directory /none' -ex "$(added waits)" "${questions[@]}" \
+        -ex 'generate-core-file core' -p $pid > seen 2>&1 && [ -f core ]; then
+    count "attached" [ "$(grep '^\$' seen)" = "$answers" ]
+    gdb -batch -nx -iex 'set debug-file-directory /none' -ex "$(added waits)" "${questions[@]}" \
+        waits core > seen 2>&1
+    count "a core file" [ "$(grep '^\$' seen)" = "$answers" ]
+else
+    echo "not possible here: gdb attaches to no process"
+fi
+kill $pid
+
+# Stripped whole, the symbols are those of a copy, or nothing is told of them.
+# says TEXT WORD..: ctfd-debuginfo with these words says a text.
+says() {
+    local text=$1
+    shift
+    client ctfd-debuginfo "$@" > told 2>&1 || true
+    grep -Eq "$text" told || { cat told; return 1; }
+}
+strip -o bare stb
+count "a stripped program" says 'name the program before it was stripped by --symbols' bare x.debug
+count "its types" says '^x.debug: [0-9]+ types, 0 objects, 0 functions' bare x.debug
+count "its symbols by a copy" says ' [1-9][0-9]* objects, [1-9][0-9]* functions' \
+    bare --symbols stb.g x.debug
+rm x.debug
+count "another build" says '^ctfd-debuginfo: png is of another build than bare' \
+    bare --symbols png x.debug
+count "which leaves no file" [ ! -e x.debug ]
+client ctfd-debuginfo stb --no-arguments stb.debug > said
+count "--no-arguments" sh -c "! llvm-dwarfdump stb.debug | grep -q '\"arg0\"'"
+echo "debuginfo: $checks checks, $wrong wrong"
+[ $wrong = 0 ]

@@ -1,0 +1,13 @@
+/* A program that waits, with what is to be seen of it meanwhile. */
+#include <unistd.h>
+
+struct point { int x, y; struct point *next; };
+
+static struct point last = {5, 6, 0};
+struct point first = {3, 4, &last};
+
+int main(void)
+{
+    for (;;)
+        pause();
+}
