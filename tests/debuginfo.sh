@@ -72,6 +72,16 @@ same_types() {
     client ctfd-diff "$@" > differ && [ ! -s differ ] || { cat differ; return 1; }
 }
 
+# says_160 DEBUG: drgn tells the size of a struct by a debug file alone.
+says_160() {
+    [ "$(/usr/bin/python3 -c '
+import drgn, sys
+flags = drgn.PlatformFlags.IS_LITTLE_ENDIAN | drgn.PlatformFlags.IS_64_BIT
+program = drgn.Program(drgn.Platform(drgn.Architecture.X86_64, flags))
+program.load_debug_info(sys.argv[1:])
+print(drgn.sizeof(program.type("struct stbtt_fontinfo")))' "$1")" = 160 ]
+}
+
 # added NAME: gdb's words by which a file gets its debug file.
 added() {
     echo "python next(it for it in gdb.objfiles() if it.filename.endswith('/$1'))" \
@@ -130,6 +140,21 @@ count "--folder" client ctfd-debuginfo --folder stb "$work/debug"
 gdb -batch -nx -iex "set debug-file-directory $work/debug" -ex 'ptype struct stbtt_fontinfo' stb \
     > seen 2>&1
 count "by the build id" grep -q 'unsigned char \*data;' seen
+
+# Other debuggers, by the same file.
+if command -v lldb > /dev/null; then
+    lldb -b -o 'target create stb' -o 'target symbols add stb.debug' \
+        -o 'expression sizeof(stbtt_fontinfo)' -o 'image lookup -t stbtt_bakedchar' > seen 2>&1
+    count "a size in lldb" grep -q '^(unsigned long) \$0 = 160$' seen
+    count "a type in lldb" grep -q 'float xadvance;' seen
+else
+    echo "not possible here: there is no lldb"
+fi
+if /usr/bin/python3 -c 'import drgn' 2> /dev/null; then
+    count "drgn" says_160 stb.debug
+else
+    echo "not possible here: Debian's Python has no drgn"
+fi
 
 # A process that waits, and its core file.
 made waits "$tests/waits.c"
