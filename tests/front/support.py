@@ -12,7 +12,7 @@ import tempfile
 import time
 import unittest
 from pathlib import Path
-from typing import Any, Callable, Dict, Sequence
+from typing import Any, Callable, Dict, List, Sequence
 
 TOP = Path(__file__).resolve().parents[2]
 PROGRAM = os.environ.get("CTFD", "")
@@ -108,8 +108,7 @@ class Front:
 
     def service(self) -> int:
         """The process of its service."""
-        found = [pid for pid in map(int, filter(str.isdigit, os.listdir("/proc")))
-                 if parent(pid) == self.process.pid]
+        found = children(self.process.pid)
         assert len(found) == 1, found
         return found[0]
 
@@ -137,6 +136,12 @@ class WithFront(unittest.TestCase):
         talker = Talker(front.path)
         self.addCleanup(talker.close)
         return talker
+
+
+def children(process: int) -> List[int]:
+    """The processes that another has started."""
+    return [pid for pid in map(int, filter(str.isdigit, os.listdir("/proc")))
+            if parent(pid) == process]
 
 
 def parent(pid: int) -> int:

@@ -10,7 +10,6 @@ import argparse
 import asyncio
 import dataclasses
 import resource
-import signal
 import sys
 from typing import Callable, Optional, Sequence
 
@@ -21,6 +20,7 @@ from .front import TROUBLE, Front, Options
 from .journal import NAME, Level, say
 from .limits import Limits
 from .scanning import LAST_SESSION
+from .signals import Signals
 from .tagging import LONGEST
 
 SPARE_FILES = 32
@@ -36,18 +36,18 @@ SIGUSR1 writes what was seen to standard error."""
 
 def main(arguments: Optional[Sequence[str]] = None) -> int:
     """The command; its exit status."""
-    signal.signal(signal.SIGUSR1, signal.SIG_IGN)  # till there is something to tell
+    signals = Signals()
     words = _parser().parse_args(arguments)
     try:
-        return asyncio.run(_run(words))
+        return asyncio.run(_run(words, signals))
     except Error as error:
         say(str(error), Level.ERROR)
         return TROUBLE
-    except KeyboardInterrupt:
-        return 0
+    finally:
+        signals.ignore()
 
 
-async def _run(words: argparse.Namespace) -> int:
+async def _run(words: argparse.Namespace, signals: Signals) -> int:
     command = [service.find(words.service), "serve", "--", *words.files]
     limits = Limits(**{field.name: getattr(words, field.name)
                        for field in dataclasses.fields(Limits)})
@@ -55,7 +55,7 @@ async def _run(words: argparse.Namespace) -> int:
     listener = _listener(words)
     options = Options(words.processes, words.withdraw, words.restart, words.stats, words.metrics,
                       words.stats or Options.metrics_every)
-    return await Front(command, listener, limits, options).run()
+    return await Front(command, listener, limits, options).run(signals)
 
 
 def _listener(words: argparse.Namespace) -> listening.Listener:

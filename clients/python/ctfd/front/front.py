@@ -4,7 +4,6 @@ from __future__ import annotations
 import asyncio
 import contextlib
 import itertools
-import signal
 import socket
 from dataclasses import dataclass
 from typing import Callable, Dict, List, Optional, Sequence
@@ -21,6 +20,7 @@ from .published import Published
 from .refusals import Refusal
 from .rooms import Room
 from .service import Service
+from .signals import Signals
 from .statistics import Statistics
 from .told import families
 from .users import Account, Users, user_of
@@ -63,11 +63,10 @@ class Front:
         self._waiters: List["asyncio.Future[None]"] = []
         self._last_told = self._last_written = self._loop.time()
 
-    async def run(self) -> int:
+    async def run(self, signals: Signals) -> int:
         """Serves until it is told to end, or a service ends for good; the status."""
-        for number in (signal.SIGTERM, signal.SIGINT):
-            self._loop.add_signal_handler(number, self._stop)
-        self._loop.add_signal_handler(signal.SIGUSR1, self._tell)
+        signals.listen(self._stop, self._tell)
+        self._is_stopping = signals.is_ending
         running = [self._loop.create_task(self._serve(service)) for service in self._services]
         self._tick()
         try:
