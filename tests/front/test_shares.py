@@ -6,6 +6,7 @@ import contextlib
 import fcntl
 import os
 import random
+import socket
 import statistics
 import struct
 import sys
@@ -14,11 +15,19 @@ import time
 import unittest
 from typing import Iterator, List
 
-from support import HAND_IN, Front, Talker, WithFront, ask, until
+from support import HAND_IN, TOP, Front, Talker, WithFront, ask, until
+
+sys.path.insert(0, str(TOP / "clients" / "python"))
+
+from ctfd.front.limits import Limits  # noqa: E402
+from ctfd.front.refusals import Refusal  # noqa: E402
+from ctfd.front.users import Users  # noqa: E402
 
 KIND = ask("kind", d=1, t=1)
 INTEGER = b'{"ok":{"kind":"integer"},"s":1}'
 IMPORT = ask("import", d=2, parent=1)
+LOOKED_UP = b'{"op":"kind","d":1,"t":1,"s":1}\n'  # one by one, since its s is not in front
+REFUSED = b'{"fault":{"code":%d,"name":"%b","place":0},"s":0}'
 MEBIBYTE = 1 << 20
 MEMBERS = 1023
 UNIONS = int(os.environ.get("UNIONS", "860"))  # 7 MB; 8,000 are the dearest that a list can hold
@@ -128,7 +137,7 @@ def keep_asking(talker: Talker, ends: threading.Event, waits: List[float]) -> No
         time.sleep(0.005 * random.random())
 
 
-class Users(WithFront):
+class OneUser(WithFront):
     """No user takes what is there for all."""
 
     def several(self, *words: str) -> Front:
@@ -148,6 +157,117 @@ class Users(WithFront):
         with as_user(ANOTHER):
             talker = self.talker(front)
         self.assertGreater(talker.number(), 0)
+
+    def test_connections_of_one_user_are_limited(self) -> None:
+        """One more is told so in a line, and another user's is not refused."""
+        if not may_be_others():
+            return
+        front = self.several("--user-connections", "3")
+        self.idle(front, SOMEBODY, 3)
+        with as_user(SOMEBODY):
+            refused = self.talker(front)
+        self.assertEqual(refused.line(), REFUSED % (100, b"ConnectionsFull"))
+        self.assertTrue(refused.is_closed())
+        with as_user(ANOTHER):
+            self.assertGreater(self.talker(front).number(), 0)
+        self.assertIn(f"user {SOMEBODY} is refused a connection", front.said)
+
+    def test_sessions_of_one_user_are_limited(self) -> None:
+        front = self.front("--user-sessions", "5").started()
+        for _ in range(5):
+            self.talker(front).close()
+        self.assertEqual(self.talker(front).line(), REFUSED % (101, b"SessionsFull"))
+
+    def test_sessions_come_back_within_the_hour(self) -> None:
+        now = 0.0
+        users = Users(Limits(user_sessions=6), lambda: now)
+        account = users.account(SOMEBODY)
+        for _ in range(6):
+            self.assertIsNone(users.refusal(account))
+            users.begin(account)
+            users.end(account)
+        self.assertIs(users.refusal(users.account(SOMEBODY)), Refusal.SESSIONS)
+        self.assertIsNone(users.refusal(users.account(ANOTHER)))
+        now = 600.0  # the sixth part of an hour
+        self.assertIsNone(users.refusal(users.account(SOMEBODY)))
+
+    def test_all_sessions_are_made(self) -> None:
+        front = self.front("--sessions", "2").started()
+        for _ in range(3):
+            self.talker(front)
+        self.assertEqual(front.process.wait(10), 7)
+
+    def test_memory_of_one_user(self) -> None:
+        """Another user's half-lines are not closed for those of one."""
+        if not may_be_others():
+            return
+        front = self.several("--user-memory", str(3 * MEBIBYTE))
+        talkers: List[Talker] = []
+        for user in (ANOTHER, *[SOMEBODY] * 6, ANOTHER):
+            with as_user(user):
+                talkers.append(self.talker(front))
+            with contextlib.suppress(OSError):
+                talkers[-1].send(b'{"op":"info","x":"' + 900_000 * b" ")
+        until(lambda: "memory " in front.tell())
+        for talker in (talkers[0], talkers[-1]):
+            self.assertIn(b'"BadRequest"', talker.ask(b'"}\n'))
+
+    def test_lines_of_one_user_in_the_service(self) -> None:
+        """A user whose lines fill its share leaves room for another's, and all are answered."""
+        if not may_be_others():
+            return
+        front = self.several("--ahead", "64", "--user-ahead", "8")
+        talkers: List[Talker] = []
+        for user in (SOMEBODY, SOMEBODY, ANOTHER):
+            with as_user(user):
+                talkers.append(self.talker(front))
+            talkers[-1].ask(HAND_IN)
+        for talker in talkers:
+            talker.send(500 * LOOKED_UP)
+        for talker in talkers:
+            for _ in range(500):
+                self.assertEqual(talker.line(), INTEGER)
+
+    def test_users_have_equal_shares(self) -> None:
+        """One with many connections has no more of the service than one with a single one."""
+        if not may_be_others():
+            return
+        front = self.several()
+        waits: List[float] = []
+        with as_user(SOMEBODY):
+            dear = [self.talker(front) for _ in range(5)]
+        with as_user(ANOTHER):
+            other = self.talker(front)
+        for talker in dear:
+            made_dear(talker, 200)
+        other.ask(HAND_IN)
+        took = dearest(dear[0])
+        for talker in dear:
+            talker.send(100 * IMPORT)
+        dear[0].line()
+        for _ in range(30):
+            began = time.monotonic()
+            other.ask(KIND)
+            waits.append(time.monotonic() - began)
+        self.assertLess(statistics.median(waits), 2 * took, (waits, took))
+
+    def test_lock_that_others_may_open(self) -> None:
+        """It is not taken, since another could hold it; no start waits for it."""
+        path = os.path.join(self.folder, "front.sock")
+        with open(f"{path}.lock", "w"):
+            os.chmod(f"{path}.lock", 0o644)
+        front = self.front()
+        self.assertEqual(front.process.wait(10), 5)
+        self.assertIn("others may open it: remove it", front.said)
+
+    def test_lock_is_the_fronts_own(self) -> None:
+        """Two that start at once: one listens, and no file is left."""
+        with socket.socket(socket.AF_UNIX) as stale:
+            stale.bind(os.path.join(self.folder, "front.sock"))
+        fronts = [self.front() for _ in range(4)]
+        until(lambda: sum(front.process.poll() is not None for front in fronts) == 3)
+        self.assertEqual(sorted(os.listdir(self.folder)), ["front.sock", "front.sock.log"])
+        self.assertGreater(self.talker(fronts[0]).number(), 0)
 
     def test_folder_that_another_locks(self) -> None:
         """Whoever can read the socket's folder can lock it, and no start waits for that."""
