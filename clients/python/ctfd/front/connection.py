@@ -4,7 +4,7 @@ from __future__ import annotations
 import asyncio
 import contextlib
 import socket
-import time
+from time import monotonic, perf_counter
 from typing import TYPE_CHECKING, Callable, List, NamedTuple, Optional
 
 from . import rooms
@@ -26,10 +26,11 @@ READ = 65_536
 NAME_BYTES = 160  # what the front keeps for a publication that it is to withdraw
 COUNTED = 4_096  # bytes: a change of what is held that is counted
 OK = b'{"ok"'
+BRIEF, OPEN = Cost.BRIEF, Cost.OPEN
 LONG = 4_096  # bytes of a line from which on it is measured how long the front takes to read it
 SHARE = 0.001  # seconds of expected time that a connection has in the service, beyond one line
-MOST = {Cost.BRIEF: 2 * RUN, Cost.SHORT: 8, Cost.OPEN: 1}  # lines there
-AT_FIRST = {Cost.BRIEF: 3e-6, Cost.SHORT: 50e-6, Cost.OPEN: DEPTH}  # seconds that one may take
+MOST = (2 * RUN, 8, 1)  # lines there, by their cost
+AT_FIRST = (3e-6, 50e-6, DEPTH)  # seconds that one may take, by its cost
 AT_MOST = DEPTH / 4  # seconds that brief lines are expected to take, however slow a machine is
 
 
@@ -63,15 +64,15 @@ class Connection:
         self.held = self.lines = self.refused = 0
         self.seconds = 0.0  # of the service
         self._loop = asyncio.get_running_loop()
-        self.moved = self._loop.time()
+        self.moved = monotonic()
         self._channel, self._shared, self._limits = channel, shared, shared.limits
         self._seen = shared.seen
         self._tag = Tag(session, self._limits.line)
         self._incoming, self._outgoing = Incoming(self._limits.line), Outgoing()
-        self._pace = dict(AT_FIRST)
+        self._pace = list(AT_FIRST)
         self._upcoming: Optional[Flight] = None
         self._asked_bytes = self._flying = 0  # bytes upcoming or with the service; lines there
-        self._flying_cost = Cost.BRIEF
+        self._flying_cost = BRIEF
         self._replies: List[bytes] = []
         self._is_reading = self._has_ended = self._is_told = False
         channel.setblocking(False)
@@ -88,14 +89,16 @@ class Connection:
             if not self._incoming.whole:
                 return None
             self._upcoming = self._prepared()
-        return self._upcoming if self._may_launch(self._upcoming) else None
+        is_free = not self._flying or self._may_launch(self._upcoming)
+        return self._upcoming if is_free else None
 
     def launched(self) -> None:
         """What it asked next is with the service."""
         assert self._upcoming
         flight, self._upcoming = self._upcoming, None
         cost = flight.asked.cost
-        self._flying_cost = max(cost, self._flying_cost) if self._flying else cost
+        if not self._flying or cost > self._flying_cost:
+            self._flying_cost = cost
         self._flying += flight.left
         self.has_asked = True
 
@@ -140,7 +143,10 @@ class Connection:
                 self._outgoing.add(data)
             else:
                 self._send(data)
-        self._go_on()
+        is_at_rest = (self._is_reading and not self._has_ended and not self._incoming.size
+                      and self._upcoming is None and not self._outgoing.size and not self.held)
+        if not is_at_rest:
+            self._go_on()
 
     # Its end.
 
@@ -210,24 +216,22 @@ class Connection:
     def _prepared(self) -> Flight:
         """Its next lines, as the service is given them."""
         is_long = self._incoming.size > LONG
-        began = time.perf_counter() if is_long else 0.0
+        began = perf_counter() if is_long else 0.0
         asked = self._incoming.next(self._tag)
-        spent = time.perf_counter() - began if is_long else 0.0
+        spent = perf_counter() - began if is_long else 0.0
         self._asked_bytes += len(asked.data)
         expected = asked.lines * self._pace[asked.cost]
-        if asked.cost is Cost.BRIEF:
-            expected = min(expected, AT_MOST)
+        if expected > AT_MOST and asked.cost == BRIEF:
+            expected = AT_MOST
         return Flight(self, asked, expected, spent)
 
     def _may_launch(self, flight: Flight) -> bool:
         """Whether its lines that are with the service leave room for these."""
-        if not self._flying:
-            return True
         cost = max(flight.asked.cost, self._flying_cost)
-        if cost is Cost.OPEN:
+        if cost == OPEN:
             return False
         lines = self._flying + flight.left
-        return lines <= MOST[cost] and (cost is Cost.BRIEF or lines * self._pace[cost] <= SHARE)
+        return lines <= MOST[cost] and (cost == BRIEF or lines * self._pace[cost] <= SHARE)
 
     # What it holds, and what is read from it.
 
@@ -305,12 +309,12 @@ class Connection:
             self._has_ended, ended = True, 0
             self._incoming.end()
         if ended or was_empty:
-            self.moved = self._loop.time()
+            self.moved = monotonic()
         self._go_on()
 
     def _send(self, data: bytes) -> None:
         """Sends what was replied, where nothing else waits; what does not go now waits."""
-        self.moved = self._loop.time()
+        self.moved = monotonic()
         try:
             sent = self._channel.send(data)
         except BlockingIOError:
@@ -333,7 +337,7 @@ class Connection:
         except OSError:
             self.close("broken")
             return
-        self.moved = self._loop.time()
+        self.moved = monotonic()
         self._seen.bytes_out += sent
         self._outgoing.sent(sent)
         if not self._outgoing.size:

@@ -29,6 +29,7 @@ ACCEPTED_AT_ONCE = 64
 LEAST_TICK, LONGEST_TICK = 0.02, 1.0
 TOLD_AGAIN = 60.0  # seconds after which it is told again that a user is refused
 TROUBLE, NUMBERS_ENDED = 5, 7
+TIDIED_AFTER = 60.0  # seconds
 
 
 @dataclass(frozen=True)
@@ -61,7 +62,7 @@ class Front:
         self._is_stopping = self._is_listening = self._has_listened = False
         self._status: Optional[int] = None
         self._waiters: List["asyncio.Future[None]"] = []
-        self._last_told = self._last_written = self._loop.time()
+        self._last_told = self._last_written = self._last_tidied = self._loop.time()
 
     async def run(self, signals: Signals) -> int:
         """Serves until it is told to end, or a service ends for good; the status."""
@@ -207,7 +208,6 @@ class Front:
             say(f"user {account.number} is refused a connection: {refusal.words}"
                 f" ({account.connections} of its own, {self._users.connections} in all)",
                 Level.WARNING)
-        self._users.drop(account)
 
     def _take(self, channel: socket.socket, account: Account) -> None:
         """Gives a connection its session; when none is left, the front ends."""
@@ -271,6 +271,9 @@ class Front:
     def _tick(self) -> None:
         """Looks for those who are silent too long, and tells statistics."""
         now, options = self._loop.time(), self._options
+        if now - self._last_tidied >= TIDIED_AFTER:
+            self._last_tidied = now
+            self._users.tidy()
         for connection in list(self._open):
             why = connection.overdue(now)
             if why:

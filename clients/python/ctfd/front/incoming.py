@@ -32,12 +32,13 @@ class Incoming:
         if not last:
             self._begin(data)
             return 0
-        rest = data[last:] if last < len(data) else b""
-        self._end(data[:last] if rest else data)
-        if rest:
-            self._begin(rest)
         ended = data.count(b"\n")
         self.whole += ended
+        if last == len(data):
+            self._end(data)
+        else:
+            self._end(data[:last])
+            self._begin(data[last:])
         return ended
 
     def end(self) -> None:
@@ -54,13 +55,13 @@ class Incoming:
     def next(self, tag: Tag) -> Asked:
         """The next whole line, or several where they are brief, as the service is given them."""
         chunk = self._chunks[0]
-        run = tag.run(chunk, self._start)
-        if run is not None:
-            asked, end = run
-        else:
-            end = chunk.index(b"\n", self._start) + 1
-            asked = tag.asked(chunk[self._start:end - 1])
-        self._take(asked.lines, end)
+        asked = tag.run(chunk, self._start)
+        if asked is not None:
+            self._take(asked.lines, asked.end)
+            return asked
+        end = chunk.index(b"\n", self._start)
+        asked = tag.asked(chunk[self._start:end])
+        self._take(1, end + 1)
         return asked
 
     def first(self) -> Optional[bytes]:

@@ -12,7 +12,7 @@ last one, so nothing that a client writes is read in its place:
 from __future__ import annotations
 
 import re
-from typing import NamedTuple, Optional, Tuple
+from typing import NamedTuple, Optional
 
 from .scanning import LAST_SESSION, NOBODY, own_session
 from .words import BRIEF, Cost, cost
@@ -23,6 +23,7 @@ RUN = 64  # lines in one go
 
 _BLANKS = b" \t\r"
 _OBJECT_END = b"}\n"
+_BRIEF = Cost.BRIEF
 
 
 def _run(line: bytes) -> "re.Pattern[bytes]":
@@ -41,12 +42,14 @@ class Asked(NamedTuple):
     """Lines as the service is given them, each with its newline.
 
     `back` is what a reply ends in for the client, newline included; None where it goes on as it is.
+    `end` is where they end in what was looked at.
     """
 
     data: bytes
     lines: int
     back: Optional[bytes]
     cost: Cost
+    end: int = 0
 
 
 class Tag:
@@ -58,14 +61,16 @@ class Tag:
         self._longest = longest
         self._own, self._back = b"", b""  # as the client wrote it last
 
-    def run(self, held: bytes, start: int) -> Optional[Tuple[Asked, int]]:
-        """Brief lines of one session at a place, all in one go, and where they end."""
+    def run(self, held: bytes, start: int) -> Optional[Asked]:
+        """Brief lines of one session at a place, all in one go."""
         found = _COMPACT.match(held, start) or _SPACED.match(held, start)
-        if found is None or found.end() - start > self._longest:
+        if found is None:
             return None
-        lines = held[start:found.end()]
-        data = lines.replace(_OBJECT_END, self._end)
-        return Asked(data, lines.count(b"\n"), self._back_to(found[1]), Cost.BRIEF), found.end()
+        end = found.end()
+        if end - start > self._longest:
+            return None
+        data = held[start:end].replace(_OBJECT_END, self._end)
+        return Asked(data, data.count(b"\n"), self._back_to(found[1]), _BRIEF, end)
 
     def asked(self, line: bytes) -> Asked:
         """A client's line with the session in it. A line that is too long stays that."""

@@ -27,6 +27,7 @@ DEPTH = 0.002  # seconds
 AT_ONCE = 262_144  # bytes
 ABOUT = 1.0  # seconds that somebody counts as being about after a reply
 LONGEST_REST = 1.0
+OPEN = Cost.OPEN
 
 
 class Flight:
@@ -118,6 +119,7 @@ class User:
         self.tag, self.in_turn = 0.0, False
         self.line = Line()
         self.flying = 0  # lines
+        self.is_full = False  # so that it waits until some of these are answered
 
 
 class Turns:
@@ -206,6 +208,7 @@ class Turns:
     def _next_of(self, user: User, now: float, resting: List[Asker]) -> Optional[Flight]:
         """What a user's first asker asks."""
         if user.flying >= self._user_ahead:
+            user.is_full = True
             return None
         while True:
             asker = user.line.first()
@@ -240,42 +243,47 @@ class Turns:
         self._flying.append(flight)
 
     def _charge(self, done: Sequence[Flight], seconds: float) -> None:
-        """Counts what lines took: in place of what was expected of them."""
+        """Counts what lines took, in place of what was expected of them.
+
+        Where there are lines of which nothing is known, the others took what was expected of them,
+        and these the rest; else all took the same part of what was expected.
+        """
         self._unshared += seconds
         if not done:
             return
         now = time.monotonic()
-        for flight, took in zip(done, shares(done, self._unshared)):
-            asker, took = flight.asker, took + flight.spent
-            user = self._users[asker.user]
+        known, count = 0.0, 0
+        for flight in done:
+            known += flight.expected
+            count += flight.asked.cost == OPEN
+        if count:
+            known -= sum(flight.expected for flight in done if flight.asked.cost == OPEN)
+            factor, rest = 1.0, max(0.0, self._unshared - known) / count
+        else:
+            factor, rest = self._unshared / known, 0.0
+        for flight in done:
+            expected = flight.expected
+            took = flight.spent + (rest if flight.asked.cost == OPEN else expected * factor)
+            self._account(flight, took, now)
+            user = self._users[flight.asker.user]
+            user.tag += took - expected
             user.flying -= flight.asked.lines
-            self._lines -= flight.asked.lines
-            self._expected -= flight.expected
-            asker.tag += took - flight.expected
-            user.tag += took - flight.expected
-            asker.used(flight, took)
-            if self._recent is not asker:
-                self._others_recently, self._recent = self._recently, asker
-            self._recently = now
-            if took > DEPTH and now - self._others_recently < ABOUT:
-                asker.rests_until = now + min(took, LONGEST_REST)
-            if user.flying < self._user_ahead and user.line.first() is not None:
+            if user.is_full:
+                user.is_full = False
                 self._line.offer(user, 0.0)
         self._unshared = 0.0
         if not self._flying:
             self._expected = 0.0  # no sum of rounding
 
-
-def shares(done: Sequence[Flight], seconds: float) -> List[float]:
-    """What each of some flights took of a time. Where there are lines of which nothing is known,
-    the others took what was expected of them, and these the rest."""
-    if len(done) == 1:
-        return [seconds]
-    expected = [flight.expected for flight in done]
-    is_open = [flight.asked.cost is Cost.OPEN for flight in done]
-    known = sum(one for one, is_so in zip(expected, is_open) if not is_so)
-    count = sum(is_open)
-    if not count:
-        return [one * seconds / known for one in expected]
-    rest = max(0.0, seconds - known) / count
-    return [rest if is_so else one for one, is_so in zip(expected, is_open)]
+    def _account(self, flight: Flight, took: float, now: float) -> None:
+        """Counts what a flight took, and lets who sent it rest where that was long."""
+        asker = flight.asker
+        self._lines -= flight.asked.lines
+        self._expected -= flight.expected
+        asker.tag += took - flight.expected
+        asker.used(flight, took)
+        if self._recent is not asker:
+            self._others_recently, self._recent = self._recently, asker
+        self._recently = now
+        if took > DEPTH and now - self._others_recently < ABOUT:
+            asker.rests_until = now + min(took, LONGEST_REST)

@@ -66,13 +66,13 @@ class Users:
         """A connection is closed."""
         self.connections -= 1
         account.connections -= 1
-        self.drop(account)
 
-    def drop(self, account: Account) -> None:
-        """Forgets a user who has nothing, and may make as many sessions as any."""
-        self._allow_again(account)
-        if not account.connections and account.sessions >= self._limits.user_sessions - 1:
-            self.accounts.pop(account.number, None)
+    def tidy(self) -> None:
+        """Forgets users who have nothing, and may make as many sessions as any."""
+        for account in list(self.accounts.values()):
+            self._allow_again(account)
+            if not account.connections and account.sessions >= self._limits.user_sessions:
+                del self.accounts[account.number]
 
     def hold(self, account: Account, more: int) -> bool:
         """Counts bytes that have come, or gone where it is negative; whether it is too many now."""
