@@ -26,11 +26,11 @@ READ = 65_536
 NAME_BYTES = 160  # what the front keeps for a publication that it is to withdraw
 COUNTED = 4_096  # bytes: a change of what is held that is counted
 OK = b'{"ok"'
-BRIEF, OPEN = Cost.BRIEF, Cost.OPEN
+BRIEF, CHANGING, OPEN = Cost.BRIEF, Cost.CHANGING, Cost.OPEN
 LONG = 4_096  # bytes of a line from which on it is measured how long the front takes to read it
 SHARE = 0.001  # seconds of expected time that a connection has in the service, beyond one line
-MOST = (2 * RUN, 8, 1)  # lines there, by their cost
-AT_FIRST = (3e-6, 50e-6, DEPTH)  # seconds that one may take, by its cost
+MOST = (2 * RUN, 8, 8, 1)  # lines there, by their cost
+AT_FIRST = (3e-6, 50e-6, 50e-6, DEPTH)  # seconds that one may take, by its cost
 AT_MOST = DEPTH / 4  # seconds that brief lines are expected to take, however slow a machine is
 
 
@@ -59,7 +59,7 @@ class Connection:
         self.session, self.account, self.published = session, account, published
         self.user = account.number
         self.service: Optional[Service] = None
-        self.is_open, self.has_asked = True, False
+        self.is_open, self.may_hold = True, False
         self.tag, self.rests_until, self.in_turn = 0.0, 0.0, False
         self.held = self.lines = self.refused = 0
         self.seconds = 0.0  # of the service
@@ -100,7 +100,8 @@ class Connection:
         if not self._flying or cost > self._flying_cost:
             self._flying_cost = cost
         self._flying += flight.left
-        self.has_asked = True
+        if cost >= CHANGING:
+            self.may_hold = True
 
     def replied(self, replies: bytes, flight: Flight, count: int) -> None:
         """Takes replies to lines of a flight. They go to the client when all of a round are taken.
@@ -187,7 +188,7 @@ class Connection:
     def lose(self) -> None:
         """Nothing is answered any more: it is closed when the replies that there are have gone."""
         self._flying, self._upcoming = 0, None
-        self.has_asked = False  # of what is there now
+        self.may_hold = False  # of what is there now
         if not self.is_open:
             self._tell_gone()
             return

@@ -239,7 +239,7 @@ class Front:
         service = connection.service
         if service:
             service.connections -= 1
-            if connection.has_asked and service.is_serving:
+            if connection.may_hold and service.is_serving:
                 names = connection.published.names if connection.published else set()
                 service.turns.offer(Farewell(connection.session, connection.user, names))
         if not self._open:

@@ -14,26 +14,34 @@ from typing import Dict
 
 
 class Cost(enum.IntEnum):
-    """The least is first. BRIEF is some microseconds, SHORT at most some milliseconds."""
+    """The least is first. BRIEF is some microseconds, SHORT at most some milliseconds.
+
+    From CHANGING on, the session may hold something afterwards.
+    """
 
     BRIEF = 0
     SHORT = 1
-    OPEN = 2  # in proportion to dictionaries: nothing is known of it
+    CHANGING = 2  # SHORT, and more than a question
+    OPEN = 3  # in proportion to dictionaries: nothing is known of it
 
 
 BRIEF = ("kind", "size", "align", "resolve", "reference", "encoding", "array", "model")
 SHORT = ("record", "members", "enumerators", "args", "name", "pointer", "find", "path", "show",
-         "symbol", "object", "function", "labels", "label", "info", "bytes", "take", "part", "add")
+         "symbol", "object", "function", "labels", "label", "info", "bytes")
+CHANGING = ("take", "part", "add")
 
-_COSTS: Dict[bytes, Cost] = {**{word.encode(): Cost.BRIEF for word in BRIEF},
-                             **{word.encode(): Cost.SHORT for word in SHORT}}
+_COSTS: Dict[bytes, Cost] = {word.encode(): cost for words, cost in (
+    (BRIEF, Cost.BRIEF), (SHORT, Cost.SHORT), (CHANGING, Cost.CHANGING)) for word in words}
 _WORD = re.compile(rb'"op"[ \t\r]*:[ \t\r]*"([a-z]{1,16})"')
 
 
 def cost(line: bytes) -> Cost:
     """What a line may cost. One that may say its word twice, or by escapes, is not looked into."""
-    if line.count(b'"op"') != 1 or b"\\" in line:
+    if b"\\" in line:
         return Cost.OPEN
+    count = line.count(b'"op"')
+    if count != 1:
+        return Cost.OPEN if count else Cost.SHORT
     found = _WORD.search(line)
     return _COSTS.get(found[1], Cost.OPEN) if found else Cost.OPEN
 
