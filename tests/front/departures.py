@@ -3,10 +3,11 @@
 usage: departures.py [RUNS [SEED]]
 
 Each run starts a front and some clients. Some read all their replies, some slowly, some never; some
-leave with lines in flight and replies unread, some amid a line. At a random moment the front is told
-to end, or a service is killed, or both. Then the front has to end with the status that its manual
-page says, without a traceback, with no service and no file left behind; and whoever reads has been
-sent whole lines, each the reply to its next line. CTFD in the environment names the program.
+leave with lines in flight and replies unread, some amid a line. At a random moment the front is
+told to end, or a service is killed, or both. Then the front has to end with the status that its
+manual page says, without a traceback, with no service and no file left behind; and whoever reads
+has been sent whole lines, each the reply to its next line. CTFD in the environment names the
+program.
 """
 from __future__ import annotations
 

@@ -1,4 +1,5 @@
-"""What an operator sees: the file of statistics, as Prometheus reads it, and the journal's levels."""
+"""What an operator sees: the file of statistics, as Prometheus reads it, and levels of the journal.
+"""
 from __future__ import annotations
 
 import os
@@ -74,8 +75,8 @@ class Metrics(WithFront):
             port = free.getsockname()[1]
         exporter = subprocess.Popen(
             [EXPORTER, "--collector.disable-defaults", "--collector.textfile",
-             f"--collector.textfile.directory={self.folder}", f"--web.listen-address=127.0.0.1:{port}"],
-            stderr=subprocess.DEVNULL)
+             f"--collector.textfile.directory={self.folder}",
+             f"--web.listen-address=127.0.0.1:{port}"], stderr=subprocess.DEVNULL)
         self.addCleanup(exporter.communicate)
         self.addCleanup(exporter.terminate)
         text = fetched(f"http://127.0.0.1:{port}/metrics")

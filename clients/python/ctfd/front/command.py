@@ -120,9 +120,9 @@ def _add_limits(parser: argparse.ArgumentParser) -> None:
     def add(name: str, said: str, most: Optional[int] = None) -> None:
         default = getattr(limits, name)
         is_time = name in ("idle", "stalled", "grace")
-        group.add_argument(f"--{name.replace('_', '-')}", type=_seconds if is_time else _count(most),
-                           default=default, metavar="SECONDS" if is_time else "N",
-                           help=f"{said} ({default})")
+        group.add_argument(f"--{name.replace('_', '-')}", default=default,
+                           type=_seconds if is_time else _count(most),
+                           metavar="SECONDS" if is_time else "N", help=f"{said} ({default})")
 
     add("connections", "how many there are at most; one more is told so and closed")
     add("user_connections", "how many one user has at most")

@@ -1,5 +1,4 @@
-"""What the front has seen, as a file that the textfile collector of Prometheus' node exporter reads.
-"""
+"""What the front has seen, as a file for the textfile collector of Prometheus' node exporter."""
 from __future__ import annotations
 
 import os

@@ -60,7 +60,9 @@ class Service:
         """How its process has ended, and a line that tells it and how many are lost by that."""
         assert self._process
         status = await self._process.status(self._limits.grace)
-        what = f", and {connections} connections with it" if self.is_ready else " before it answered"
+        what = " before it answered"
+        if self.is_ready:
+            what = f", and {connections} connections with it"
         advice = "; start ctfd-front again, or give it --restart" if is_last else ""
         say(f"the service ended {cause(status)}{what}: what it says of that stands above{advice}",
             Level.ERROR)

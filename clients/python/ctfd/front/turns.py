@@ -7,10 +7,10 @@ of equal ones the line that is expected to be shorter.
 
 What a line takes is known when it is answered. Until then its expected time is counted, which is
 what such lines of that connection took before. No more than `DEPTH` seconds of expected time are
-with the service at once, since nobody overtakes what is in its pipe. A line that is expected to take
-as long by itself is there alone. Where others are about, a connection that had such a line rests as
-long as that took: they are undisturbed for half of the time, also where they have no line waiting
-at the very moment when the service has none.
+with the service at once, since nobody overtakes what is in its pipe. A line that is expected to
+take as long by itself is there alone. Where others are about, a connection that had such a line
+rests as long as that took: they are undisturbed for half of the time, also where they have no line
+waiting at the very moment when the service has none.
 """
 from __future__ import annotations
 
@@ -18,7 +18,8 @@ import heapq
 import itertools
 import time
 from collections import deque
-from typing import Callable, Deque, Dict, Iterable, List, Optional, Protocol, Sequence, Tuple
+from typing import (Callable, Deque, Dict, Generic, Iterable, List, Optional, Protocol, Sequence,
+                    Tuple, TypeVar)
 
 from .tagging import Asked
 from .words import Cost
@@ -71,15 +72,18 @@ class Node(Protocol):
     in_turn: bool
 
 
-class Line:
+AnyNode = TypeVar("AnyNode", bound=Node)
+
+
+class Line(Generic[AnyNode]):
     """Nodes by their tags. `now` is the tag of the one that was served last."""
 
     def __init__(self) -> None:
         self.now = 0.0
-        self._heap: List[Tuple[float, float, int, Node]] = []
+        self._heap: List[Tuple[float, float, int, AnyNode]] = []
         self._counter = itertools.count()
 
-    def offer(self, node: Node, expected: float) -> None:
+    def offer(self, node: AnyNode, expected: float) -> None:
         """Gives a node its place, where it has none."""
         if not node.in_turn:
             node.in_turn = True
@@ -87,7 +91,7 @@ class Line:
                 node.tag = self.now
             heapq.heappush(self._heap, (node.tag, expected, next(self._counter), node))
 
-    def first(self) -> Optional[Node]:
+    def first(self) -> Optional[AnyNode]:
         """Who is next. One that was found to have used more since it came gets its new place."""
         while self._heap:
             key, expected, _, node = self._heap[0]
@@ -96,7 +100,7 @@ class Line:
             heapq.heapreplace(self._heap, (node.tag, expected, next(self._counter), node))
         return None
 
-    def served(self, node: Node, seconds: float) -> None:
+    def served(self, node: AnyNode, seconds: float) -> None:
         """The first one is served. It keeps its place, until it is seen to have used more."""
         if node.tag > self.now:
             self.now = node.tag
@@ -117,7 +121,7 @@ class User:
 
     def __init__(self) -> None:
         self.tag, self.in_turn = 0.0, False
-        self.line = Line()
+        self.line: Line[Asker] = Line()
         self.flying = 0  # lines
         self.is_full = False  # so that it waits until some of these are answered
 
@@ -131,16 +135,11 @@ class Turns:
     def __init__(self, ahead: int, user_ahead: int, wake: Callable[[], None]) -> None:
         self._ahead, self._user_ahead, self._wake = ahead, user_ahead, wake
         self._users: Dict[int, User] = {}
-        self._line = Line()
+        self._line: Line[User] = Line()
         self._flying: Deque[Flight] = deque()
         self._lines, self._expected, self._unshared = 0, 0.0, 0.0
         self._recent: Optional[Asker] = None  # who was answered last, and when
         self._recently = self._others_recently = -ABOUT
-
-    @property
-    def has_flights(self) -> bool:
-        """Whether the service has lines."""
-        return bool(self._flying)
 
     def offer(self, asker: Asker) -> None:
         """Gives an asker a turn, where it has none yet."""
