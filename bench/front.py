@@ -1,15 +1,21 @@
 #!/usr/bin/env python3
 """Measures how many lines pass through ctfd-front in a second, beside a pipe to `ctfd serve`.
 
-usage: front.py PROGRAM [LINES]
+usage: front.py PROGRAM [--lines N] [--library libctfd.a]
 
-The lines are questions of `kind` on a dictionary of one type, written without waiting for replies,
-while replies are read: 200,000 in all, by one client and by 50. The pipe is written and read in the
-same way. The clock counts, and the best of three runs, since three processes are at work: this one,
-the front and the service. Printed are lines a second, and the processor time of the front, and of
-the service, for a line.
+The lines are questions of `kind` on a dictionary of one type: 200,000 in all, by one client and by
+50, written without waiting for replies, while replies are read. The pipe is written and read in the
+same way. Then 50 clients each wait for a reply before they ask again, and then lines are written to
+four services behind one front. The clock counts, and the best of three runs, since three processes
+are at work: this one, the front and the service. Printed are lines a second, and the processor time
+of the front, and of the services, for a line. With --library, the same lines are answered in this
+process too, by the library for C through ctypes: the call and its reply alone, without a socket.
 """
+from __future__ import annotations
+
+import argparse
 import contextlib
+import ctypes
 import os
 import selectors
 import socket
@@ -17,7 +23,9 @@ import subprocess
 import sys
 import tempfile
 import time
+from dataclasses import dataclass
 from pathlib import Path
+from typing import Callable, Dict, Iterator, List, Optional, Sequence, Tuple
 
 from streams import INT
 
@@ -27,16 +35,24 @@ KIND = b'{"s":7,"op":"kind","d":1,"t":1}\n'
 BEGIN = b'{"s":7,"op":"part","section":"ctf","bytes":"%s"}\n{"s":7,"op":"open"}\n' % INT.encode()
 PIECE = 65_536
 RUNS = 3
+SERVICES = 4
+Ends = Tuple[int, int]  # a file that is written and one that is read; neither blocks
 
 
-def exchange(ends, lines):
-    """The seconds that it takes to write so many lines to each end and read their replies.
+@dataclass(frozen=True, order=True)
+class Measured:
+    """How long a way took, by the clock and by the processor, in seconds."""
 
-    An end is a file that is written and one that is read; neither blocks."""
+    clock: float
+    service: float
+    front: Optional[float] = None
+
+
+def pipelined(ends: Sequence[Ends], lines: int) -> None:
+    """Writes so many lines to each end, and reads their replies meanwhile."""
     data = BEGIN + lines * KIND
     left = {written: memoryview(data) for written, _ in ends}
     owed = {read: lines + 2 for _, read in ends}
-    began = time.monotonic()
     with selectors.DefaultSelector() as ready:
         for written, read in ends:
             ready.register(written, selectors.EVENT_WRITE)
@@ -53,71 +69,142 @@ def exchange(ends, lines):
                     if not owed[key.fd]:
                         ready.unregister(key.fd)
                         del owed[key.fd]
-    return time.monotonic() - began
 
 
-def used(pid):
+def one_by_one(ends: Sequence[Ends], lines: int) -> None:
+    """Each end is asked again when it has answered."""
+    pipelined(ends, 0)
+    writes = {read: written for written, read in ends}
+    left = dict.fromkeys(writes, lines)
+    with selectors.DefaultSelector() as ready:
+        for written, read in ends:
+            ready.register(read, selectors.EVENT_READ)
+            os.write(written, KIND)
+        while left:
+            for key, _ in ready.select():
+                os.read(key.fd, PIECE)
+                left[key.fd] -= 1
+                if left[key.fd]:
+                    os.write(writes[key.fd], KIND)
+                else:
+                    ready.unregister(key.fd)
+                    del left[key.fd]
+
+
+def used(pid: int) -> float:
     """The seconds of processor time that a process has used."""
-    fields = Path(f"/proc/{pid}/stat").read_text().rsplit(")", 1)[1].split()
-    return (int(fields[11]) + int(fields[12])) / os.sysconf("SC_CLK_TCK")
+    return time.clock_gettime(~pid << 3 | 2)  # as clock_getcpuclockid(3) has it
 
 
-def started_by(parent):
-    """The process that another has started."""
+def started_by(parent: int) -> Iterator[int]:
+    """The processes that another has started."""
     for stat in Path("/proc").glob("[0-9]*/stat"):
         with contextlib.suppress(OSError):
             if int(stat.read_text().rsplit(")", 1)[1].split()[1]) == parent:
-                return int(stat.parent.name)
-    sys.exit("the front has no service")
+                yield int(stat.parent.name)
 
 
-def by_pipe(program, lines):
+def by_pipe(program: str, lines: int) -> Measured:
     child = subprocess.Popen([program, "serve"], stdin=subprocess.PIPE, stdout=subprocess.PIPE)
+    assert child.stdin and child.stdout
     ends = child.stdin.fileno(), child.stdout.fileno()
     for end in ends:
         os.set_blocking(end, False)
-    seconds = exchange([ends], lines)
-    times = [used(child.pid)]
+    began = time.monotonic()
+    pipelined([ends], lines)
+    measured = Measured(time.monotonic() - began, used(child.pid))
     child.stdin.close()
     child.wait()
-    return seconds, times
+    return measured
 
 
-def by_front(program, lines, clients):
+def by_front(program: str, lines: int, clients: int, services: int = 1,
+             exchange: Callable[[Sequence[Ends], int], None] = pipelined) -> Measured:
     with tempfile.TemporaryDirectory() as folder:
         path = f"{folder}/front"
-        child = subprocess.Popen([sys.executable, COMMAND, "--service", program, "--socket", path],
-                                 stderr=subprocess.PIPE)
+        child = subprocess.Popen([sys.executable, COMMAND, "--service", program, "--socket", path,
+                                  "--processes", str(services)], stderr=subprocess.PIPE)
+        assert child.stderr
         child.stderr.readline()  # it listens
-        service = started_by(child.pid)
-        sockets, ends = [], []
+        sockets: List[socket.socket] = []
+        ends: List[Ends] = []
         for _ in range(clients):
             sockets.append(socket.socket(socket.AF_UNIX))
             sockets[-1].connect(path)
             sockets[-1].setblocking(False)
             ends.append((sockets[-1].fileno(), os.dup(sockets[-1].fileno())))
-        before = used(child.pid)
-        seconds = exchange(ends, lines // clients)
-        times = [used(service), used(child.pid) - before]
+        before, began = used(child.pid), time.monotonic()
+        exchange(ends, lines // clients)
+        measured = Measured(time.monotonic() - began, sum(map(used, started_by(child.pid))),
+                            used(child.pid) - before)
         for one, (_, read) in zip(sockets, ends):
             one.close()
             os.close(read)
         child.terminate()
         child.wait()
         child.stderr.close()
-    return seconds, times
+    return measured
 
 
-def main(program, lines=200_000):
-    ways = {"pipe": lambda: by_pipe(program, lines),
-            "1 client": lambda: by_front(program, lines, 1),
-            "50 clients": lambda: by_front(program, lines, 50)}
+class Handle(ctypes.Structure):
+    """A `struct ctfd_service` of ctfd.h."""
+
+    _fields_ = [("full", ctypes.c_bool), ("at", ctypes.c_void_p)]
+
+
+def in_process(archive: str, lines: int) -> Measured:
+    """The lines are answered by the library, in this process."""
+    room, length, handle = ctypes.create_string_buffer(PIECE), ctypes.c_uint64(), Handle()
+    with tempfile.TemporaryDirectory() as folder:
+        shared = f"{folder}/libctfd.so"
+        subprocess.run(["gcc", "-shared", "-o", shared, "-Wl,--whole-archive", archive,
+                        "-Wl,--no-whole-archive"], check=True)
+        library = ctypes.CDLL(shared)
+        library.ctfd_begin(ctypes.byref(handle))
+        answer = library.ctfd_line
+        answer.argtypes = [ctypes.c_void_p, ctypes.c_char_p, ctypes.c_size_t, ctypes.c_void_p,
+                           ctypes.c_size_t, ctypes.c_void_p]
+        at, text, told = map(ctypes.addressof, (handle, room, length))
+
+        def replied(line: bytes) -> bytes:
+            answer(at, line, len(line), text, PIECE, told)
+            return ctypes.string_at(text, length.value)
+
+        for line in BEGIN.splitlines():
+            replied(line)
+        before, began = time.process_time(), time.monotonic()
+        for _ in range(lines):
+            replied(KIND[:-1])
+        measured = Measured(time.monotonic() - began, time.process_time() - before)
+        library.ctfd_end(ctypes.byref(handle))
+    return measured
+
+
+def main() -> int:
+    parser = argparse.ArgumentParser(description=__doc__,
+                                     formatter_class=argparse.RawDescriptionHelpFormatter)
+    parser.add_argument("program")
+    parser.add_argument("--lines", type=int, default=200_000)
+    parser.add_argument("--library", metavar="libctfd.a")
+    given = parser.parse_args()
+    program, lines = os.path.abspath(given.program), given.lines
+    ways: Dict[str, Callable[[], Measured]] = {
+        "pipe": lambda: by_pipe(program, lines),
+        "1 client": lambda: by_front(program, lines, 1),
+        "50 clients": lambda: by_front(program, lines, 50),
+        "50 that wait": lambda: by_front(program, lines, 50, exchange=one_by_one),
+        f"50, {SERVICES} services": lambda: by_front(program, lines, 50, SERVICES)}
+    if given.library:
+        ways["in process"] = lambda: in_process(given.library, lines)
     for name, way in ways.items():
-        seconds, times = min(way() for _ in range(RUNS))
-        told = [f"{1e6 * one / lines:.1f}" for one in times]
-        print(f"{name:11} {lines / seconds:10,.0f} lines/s; microseconds of a processor for a line:"
-              f" service {told[0]}" + (f", front {told[1]}" if told[1:] else ""))
+        best = min(way() for _ in range(RUNS))
+        told = f"service {1e6 * best.service / lines:.1f}"
+        if best.front is not None:
+            told += f", front {1e6 * best.front / lines:.1f}"
+        print(f"{name:15} {lines / best.clock:10,.0f} lines/s; microseconds of a processor for a"
+              f" line: {told}", flush=True)
+    return 0
 
 
 if __name__ == "__main__":
-    sys.exit(main(sys.argv[1], *map(int, sys.argv[2:])) if len(sys.argv) > 1 else __doc__)
+    sys.exit(main())

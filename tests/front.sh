@@ -1,16 +1,19 @@
 #!/usr/bin/env bash
 # Checks ctfd-front, with which many clients use one service, over a built ctfd.
 # usage: tests/front.sh PROGRAM [--all]
-# PROGRAM is crates/ctfd/out/ctfd once `rt run` in crates/ctfd has built it. Needs Python alone, and
-# Linux.
+# PROGRAM is crates/ctfd/out/ctfd once `rt run` in crates/ctfd has built it. Needs Linux, Python, and
+# Debian's python3-prometheus-client for one test.
 #
 # Isolation seen from outside (tests/front/isolation.py): 200 clients send 100,000 lines, valid and
 # hostile, and each is replied what a service of its own replies. Attacks on a session's number and
-# on the others' patience and memory (test_attacks.py). Beginnings, ends, and processes killed in
-# the middle of a load (test_ends.py). Random lines with a number in them (test_tagging.py). The
-# client over a socket (test_client.py). The units of docs/SERVING.md, where systemd-analyze is
-# there (units.py). With --all, isolation is tried with other seeds, and a million lines. Two run at
-# a time.
+# on the others' patience and memory (test_attacks.py). Shares of the service's time, and limits for
+# each user (test_shares.py). What a line costs (test_costs.py). Beginnings, ends, and processes
+# killed in the middle of a load (test_ends.py); ends at random moments while clients come and leave
+# (departures.py). Random lines with a number in them (test_tagging.py). Several services behind one
+# front (test_rooms.py). What an operator sees (test_told.py). The client over a socket
+# (test_client.py). The units of docs/SERVING.md, where systemd-analyze is there (units.py).
+# With --all, isolation is tried with other seeds and a million lines, ends 1,000 times, and shares
+# beside the dearest requests that are known. Two run at a time.
 # Prints what was wrong; the status is 1 where something was wrong.
 set -eu
 CTFD=$(realpath "$1")
@@ -27,13 +30,28 @@ told() {
     "$@" > "$work/$name" 2>&1 || echo "$name: status $?" >> "$work/failed"
 }
 
-(told isolation python3 isolation.py; told client python3 -W ignore -m unittest test_client;
- told tagging python3 -m unittest test_tagging; told units python3 units.py) &
+# with_prometheus: a Python that has Prometheus' client; else the one on the path.
+with_prometheus() {
+    local python
+    for python in python3 /usr/bin/python3; do
+        "$python" -c 'import prometheus_client' 2> /dev/null && echo "$python" && return
+    done
+    echo python3
+}
+
+(told isolation python3 isolation.py; told client python3 -W ignore -m unittest test_client
+ told tagging python3 -m unittest test_tagging; told rooms python3 -W ignore -m unittest test_rooms
+ told told "$(with_prometheus)" -W ignore -m unittest test_told
+ told attacks python3 -W ignore -m unittest test_attacks; told units python3 units.py) &
 told ends python3 -W ignore -m unittest test_ends
-told attacks python3 -W ignore -m unittest test_attacks
+told departures python3 departures.py
+told shares python3 -W ignore -m unittest test_shares
 wait
+told costs python3 -W ignore -m unittest test_costs
 if [ "${2:-}" = --all ]; then
     for seed in 2 3 4 5 6; do told "isolation_$seed" python3 isolation.py 200 200000 "$seed"; done
+    told dearest env UNIONS=8000 python3 -W ignore -m unittest test_shares.Shares
+    told departures_all python3 departures.py 1000 1000
 fi
 for log in "$work"/*; do cat "$log"; done
 [ ! -e "$work/failed" ] || failed=1

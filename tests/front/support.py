@@ -12,7 +12,7 @@ import tempfile
 import time
 import unittest
 from pathlib import Path
-from typing import Any, Callable, Dict, Sequence
+from typing import Any, Callable, Dict, List, Sequence
 
 TOP = Path(__file__).resolve().parents[2]
 PROGRAM = os.environ.get("CTFD", "")
@@ -108,8 +108,7 @@ class Front:
 
     def service(self) -> int:
         """The process of its service."""
-        found = [pid for pid in map(int, filter(str.isdigit, os.listdir("/proc")))
-                 if parent(pid) == self.process.pid]
+        found = children(self.process.pid)
         assert len(found) == 1, found
         return found[0]
 
@@ -139,6 +138,12 @@ class WithFront(unittest.TestCase):
         return talker
 
 
+def children(process: int) -> List[int]:
+    """The processes that another has started."""
+    return [pid for pid in map(int, filter(str.isdigit, os.listdir("/proc")))
+            if parent(pid) == process]
+
+
 def parent(pid: int) -> int:
     """The process that started another; 0 where that has gone."""
     try:
@@ -160,6 +165,11 @@ def memory(pid: int) -> Dict[str, int]:
     """The memory of a process in KiB: VmHWM at most, VmRSS now."""
     status = Path(f"/proc/{pid}/status").read_text()
     return {name: int(size) for name, size in re.findall(r"(VmHWM|VmRSS):\s+([0-9]+) kB", status)}
+
+
+def processor(pid: int) -> float:
+    """The seconds of processor time that a process has used."""
+    return time.clock_gettime(~pid << 3 | 2)  # as clock_getcpuclockid(3) has it
 
 
 def serve(given: bytes, files: Sequence[str] = (LUA,)) -> "list[bytes]":

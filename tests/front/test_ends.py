@@ -1,6 +1,7 @@
 """How the front begins and ends, and what becomes of clients when a process is killed."""
 from __future__ import annotations
 
+import contextlib
 import os
 import signal
 import socket
@@ -131,6 +132,34 @@ class Ends(WithFront):
         self.assertEqual(front.end(), 0)
         self.assertTrue(load.has_ended())
 
+    def test_beside_a_client_that_has_left(self) -> None:
+        """Its lines are still in the service, and the others' replies come all the same."""
+        front = self.front().started()
+        gone, honest = Talker(front.path), self.talker(front)
+        service = front.service()
+        large = ask("bytes", **{"d": 1, "from": 0, "count": 20_000})
+        for talker in (gone, honest):
+            talker.ask(TAKE)
+        gone.send(KIND)  # a reply that it does not read, so that its end breaks the connection
+        until(lambda: "lines 3," in front.tell())
+        os.kill(service, signal.SIGSTOP)
+        self.addCleanup(resume, service)
+        for talker in (gone, honest):
+            talker.send(50 * large)
+        time.sleep(0.3)
+        gone.close()
+        time.sleep(0.3)
+        front.process.terminate()
+        time.sleep(0.3)
+        os.kill(service, signal.SIGCONT)
+        try:
+            for _ in range(50):
+                self.assertIn(b'"length"', honest.line())
+            self.assertEqual(honest.line(), b"")
+            self.assertEqual(front.process.wait(PATIENCE), 0)
+        finally:
+            self.assertNotIn("Traceback", front.said)
+
     def test_client_that_does_not_read_holds_up_no_end(self) -> None:
         front = self.front("--grace", "1").started()
         deaf = self.talker(front)
@@ -259,13 +288,18 @@ class Told(WithFront):
         talker = self.talker(front)
         talker.ask(TAKE, KIND, b"no\n", ask("kind", d=9, t=1), ask("kind", d=9, t=1))
         told = front.tell()
-        for part in ("connections 1 of 1, lines 5,", "NoSlot 2, NotJson 1", "slowest: ",
+        for part in ("connections 1 of 1, lines 5,", "NoSlot 2, NotJson 1", "dearest: ",
                      "session 1, "):
             self.assertIn(part, told)
 
     def test_again_and_again(self) -> None:
         front = self.front("--stats", "0.2").started()
         until(lambda: front.said.count("connections 0 of 0") >= 3)
+
+
+def resume(pid: int) -> None:
+    with contextlib.suppress(OSError):
+        os.kill(pid, signal.SIGCONT)
 
 
 def is_running(pid: int) -> bool:

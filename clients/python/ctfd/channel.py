@@ -1,15 +1,18 @@
 """The way to a service: the pipes of a process that is started here, or a socket of a front."""
 from __future__ import annotations
 
+import contextlib
 import json
 import os
+import re
 import socket
 import subprocess
-from typing import Optional, Protocol, Sequence
+from typing import Any, Dict, Optional, Protocol, Sequence
 
-from .faults import Gone
+from .faults import ADVICE, FRONT_REFUSES, Gone
 
 READ = 65_536
+ROOM = re.compile(r"[A-Za-z0-9._-]{1,64}\Z")
 
 
 class Channel(Protocol):
@@ -73,15 +76,15 @@ class Socket:
 
     pid: Optional[int] = None
 
-    def __init__(self, path: str, patience: Optional[float]) -> None:
+    def __init__(self, path: str, patience: Optional[float], room: Optional[str] = None) -> None:
         self.path = path
         self._channel = socket.socket(socket.AF_UNIX, socket.SOCK_STREAM)
         self._channel.settimeout(patience)
         try:
             self._channel.connect(path)
+            if room is not None:
+                self._enter(room)
             self.number = self._asked()
-        except (BrokenPipeError, ConnectionResetError) as error:
-            raise self._closed_at_once() from error
         except OSError as error:
             self._channel.close()
             why = error.strerror or "it does not answer"
@@ -91,28 +94,54 @@ class Socket:
         self.replies = self._channel.fileno()
         self.requests = os.dup(self.replies)  # a selector takes a file once
 
+    def _enter(self, room: str) -> None:
+        """Goes to the service where a room lives; where there is no front, all are in one."""
+        said = self._told({"s": 1, "op": "room", "name": room})
+        if "ok" not in said and said["fault"]["name"] == "BadRequest" and not ROOM.match(room):
+            self._channel.close()
+            raise Gone(f"the socket {self.path}: {room!r} is no name of a room: it has 1 to 64"
+                       " letters, digits, '.', '_' or '-'")
+
     def _asked(self) -> int:
         """The session of this connection: that of a line that names none."""
-        self._channel.sendall(b"{}\n")
-        said = b""
-        while not said.endswith(b"\n"):
-            data = self._channel.recv(READ)
-            if not data:
-                raise self._closed_at_once()
-            said += data
-        try:
-            number = json.loads(said)["s"]
-        except (ValueError, KeyError, TypeError):
-            number = None
+        number = self._told({})["s"]
         if not isinstance(number, int):
-            self._channel.close()
-            raise Gone(f"the socket {self.path}: what answers there is no ctfd")
+            raise self._no_service()
         return number
 
-    def _closed_at_once(self) -> Gone:
+    def _told(self, request: Dict[str, Any]) -> Dict[str, Any]:
+        """The reply to a request. Raises Gone where the connection is refused, with the reason."""
+        said = b""
+        with contextlib.suppress(BrokenPipeError, ConnectionResetError):
+            try:
+                self._channel.sendall(json.dumps(request).encode("ascii") + b"\n")
+            except (BrokenPipeError, ConnectionResetError):
+                pass  # why may still be there to read
+            while not said.endswith(b"\n"):
+                data = self._channel.recv(READ)
+                if not data:
+                    break
+                said += data
+        if not said:
+            raise self._closed_at_once("its service has ended")
+        try:
+            reply = json.loads(said.split(b"\n", 1)[0])
+            refused = reply.get("fault", {}).get("name")
+        except (ValueError, AttributeError):
+            raise self._no_service() from None
+        if refused in FRONT_REFUSES:
+            raise self._closed_at_once(f"{refused}, {ADVICE[refused]}")
+        if not isinstance(reply.get("s"), int):
+            raise self._no_service()
+        return dict(reply)
+
+    def _no_service(self) -> Gone:
         self._channel.close()
-        return Gone(f"the socket {self.path} was closed at once: there are too many connections,"
-                    " or its service has ended; try again later")
+        return Gone(f"the socket {self.path}: what answers there is no ctfd")
+
+    def _closed_at_once(self, why: str) -> Gone:
+        self._channel.close()
+        return Gone(f"the socket {self.path} was closed at once: {why}; try again later")
 
     @property
     def where(self) -> str:

@@ -161,4 +161,13 @@ ADVICE: Dict[str, str] = {
     "NotJson": "the request is no JSON",
     "BadRequest": "the service does not know this word, or a field is missing or out of range",
     "LongLine": "a request has at most 1,048,576 bytes: hand in a list by several parts",
+    "ConnectionsFull": "there are too many connections to ctfd-front, of this user or of all: close"
+    " one, or raise --connections and --user-connections",
+    "SessionsFull": "this user has made too many sessions within the hour: use one for longer, or"
+    " raise --user-sessions",
+    "HeldFull": "ctfd-front holds too much for this user or for all: read replies while writing,"
+    " or raise --memory and --user-memory",
 }
+
+# What a front says by itself before it closes a connection.
+FRONT_REFUSES = ("ConnectionsFull", "SessionsFull", "HeldFull")

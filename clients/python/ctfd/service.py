@@ -3,7 +3,7 @@
 It is the program that the caller names, else the one that CTFD in the environment names, else the
 one beside the command that runs, else `ctfd` on the path, else the one that the clone with this
 package in it has built. CTFD_SOCKET in the environment names a socket in place of a program, where
-none is named by the caller.
+none is named by the caller; behind a socket, CTFD_ROOM names the room.
 """
 from __future__ import annotations
 
@@ -43,6 +43,11 @@ def find(named: Optional[str] = None) -> str:
 def socket() -> Optional[str]:
     """The socket that CTFD_SOCKET in the environment names, where a service is that others use."""
     return os.environ.get("CTFD_SOCKET") or None
+
+
+def room() -> Optional[str]:
+    """The room that CTFD_ROOM in the environment names: clients that meet are in one."""
+    return os.environ.get("CTFD_ROOM") or None
 
 
 def _beside() -> Optional[str]:

@@ -44,7 +44,8 @@ class Client:
 
     With `socket` it is one that others use too: the path of a socket where ctfd-front listens, in
     which each session is a connection. Where neither is named, CTFD_SOCKET in the environment may
-    name such a path.
+    name such a path. `room` is a name that clients agree on who take from each other: behind a
+    front that has several services they need it (CTFD_ROOM in the environment names one too).
     `patience` is how many seconds it may be silent before it counts as gone; None is for ever.
     An exception amid a call (Ctrl-C, say) leaves its replies owed, and the next call reads past
     them; where it came amid one of the few steps that belong together, the next call says Gone.
@@ -52,16 +53,17 @@ class Client:
     """
 
     def __init__(self, program: Optional[str] = None, arguments: Sequence[str] = SERVE,
-                 patience: Optional[float] = 60, socket: Optional[str] = None) -> None:
+                 patience: Optional[float] = 60, socket: Optional[str] = None,
+                 room: Optional[str] = None) -> None:
         self.patience = patience
         if program is None and socket is None and arguments == SERVE:
             socket = service.socket()
-        self._socket = socket
+        self._socket, self._room = socket, service.room() if room is None else room
         self._channel: Channel
         if socket is None:
             self._channel = Pipes([program or service.find(), *arguments])
         else:
-            self._channel = Socket(socket, patience)
+            self._channel = Socket(socket, patience, self._room)
         self._requests, self._replies = self._channel.requests, self._channel.replies
         self._others: List[Client] = []
         self._unsent = bytearray()
@@ -96,7 +98,8 @@ class Client:
     def session(self) -> Session:
         """A session that this client has not used yet. Behind a front it is a connection more."""
         if self._channel.number and self._has_session:
-            self._others.append(Client(patience=self.patience, socket=self._socket))
+            self._others.append(Client(patience=self.patience, socket=self._socket,
+                                       room=self._room))
             return self._others[-1].session()
         self._has_session = True
         self._last_session += 1

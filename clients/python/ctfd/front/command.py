@@ -8,20 +8,24 @@ from __future__ import annotations
 
 import argparse
 import asyncio
+import dataclasses
 import resource
-import signal
 import sys
 from typing import Callable, Optional, Sequence
 
 from .. import service
 from ..faults import Error
 from . import listening
-from .front import NAME, Front, Options, say
+from .front import TROUBLE, Front, Options
+from .journal import NAME, Level, say
 from .limits import Limits
+from .scanning import LAST_SESSION
+from .signals import Signals
 from .tagging import LONGEST
 
-USAGE, TROUBLE = 2, 5
 SPARE_FILES = 32
+FILES_OF_A_PROCESS = 4
+MOST_PROCESSES = 256
 STATUSES = """\
 The status is 0 when it was told to end by SIGTERM or SIGINT; that of the service when that has
 ended (1 a file was refused, 3 a read or write failed, 4 memory, 128 and more by a signal; 6 where
@@ -32,25 +36,26 @@ SIGUSR1 writes what was seen to standard error."""
 
 def main(arguments: Optional[Sequence[str]] = None) -> int:
     """The command; its exit status."""
-    signal.signal(signal.SIGUSR1, signal.SIG_IGN)  # till there is something to tell
+    signals = Signals()
     words = _parser().parse_args(arguments)
     try:
-        return asyncio.run(_run(words))
+        return asyncio.run(_run(words, signals))
     except Error as error:
-        say(str(error))
+        say(str(error), Level.ERROR)
         return TROUBLE
-    except KeyboardInterrupt:
-        return 0
+    finally:
+        signals.ignore()
 
 
-async def _run(words: argparse.Namespace) -> int:
+async def _run(words: argparse.Namespace, signals: Signals) -> int:
     command = [service.find(words.service), "serve", "--", *words.files]
-    limits = Limits(words.connections, words.line, words.lines, words.bytes, words.unread,
-                    words.memory, words.idle, words.stalled, words.grace, words.ahead)
-    _allow_files(words.connections + SPARE_FILES)
+    limits = Limits(**{field.name: getattr(words, field.name)
+                       for field in dataclasses.fields(Limits)})
+    _allow_files(words.connections + SPARE_FILES + FILES_OF_A_PROCESS * words.processes)
     listener = _listener(words)
-    options = Options(words.withdraw, words.restart, words.stats)
-    return await Front(command, listener, limits, options).run()
+    options = Options(words.processes, words.withdraw, words.restart, words.stats, words.metrics,
+                      words.stats or Options.metrics_every)
+    return await Front(command, listener, limits, options).run(signals)
 
 
 def _listener(words: argparse.Namespace) -> listening.Listener:
@@ -73,7 +78,7 @@ def _allow_files(wanted: int) -> None:
         resource.setrlimit(resource.RLIMIT_NOFILE, (most, hard))
         if most < wanted:
             say(f"no more than {most} files may be open, which is less than --connections wants:"
-                " raise `ulimit -Hn` or LimitNOFILE=")
+                " raise `ulimit -Hn` or LimitNOFILE=", Level.WARNING)
 
 
 def _parser() -> argparse.ArgumentParser:
@@ -84,12 +89,18 @@ def _parser() -> argparse.ArgumentParser:
                         " environment, or ctfd on the path)")
     _add_socket(parser)
     _add_limits(parser)
+    parser.add_argument("--processes", type=_count(MOST_PROCESSES), default=1, metavar="N",
+                        help="how many services (1). Clients that meet name a room in their first"
+                        ' line, {"op":"room","name":"NAME"}: it lives in one of them')
     parser.add_argument("--withdraw", action="store_true", help="withdraw what a client has"
                         " published when its connection ends")
     parser.add_argument("--restart", action="store_true", help="start a new service when it ends,"
                         " with the same files")
     parser.add_argument("--stats", type=_seconds, default=0, metavar="SECONDS", help="write what"
                         " was seen to standard error, so often; without it, at SIGUSR1 alone")
+    parser.add_argument("--metrics", metavar="FILE", help="write what was seen there too, for the"
+                        " textfile collector of Prometheus' node exporter, so often or each"
+                        f" {Options.metrics_every:g} seconds")
     return parser
 
 
@@ -109,18 +120,23 @@ def _add_limits(parser: argparse.ArgumentParser) -> None:
     def add(name: str, said: str, most: Optional[int] = None) -> None:
         default = getattr(limits, name)
         is_time = name in ("idle", "stalled", "grace")
-        group.add_argument(f"--{name}", type=_seconds if is_time else _count(most),
-                           default=default, metavar="SECONDS" if is_time else "N",
-                           help=f"{said} ({default})")
+        group.add_argument(f"--{name.replace('_', '-')}", default=default,
+                           type=_seconds if is_time else _count(most),
+                           metavar="SECONDS" if is_time else "N", help=f"{said} ({default})")
 
-    add("connections", "how many there are at most; one more is closed at once")
+    add("connections", "how many there are at most; one more is told so and closed")
+    add("user_connections", "how many one user has at most")
     add("line", f"bytes of a line, no more than {LONGEST}; a longer one is refused as LongLine",
         LONGEST)
     add("lines", "lines of a connection that are unanswered; then it is not read from")
     add("bytes", "bytes of a connection that are unanswered; then it is not read from")
     add("unread", "bytes of replies that a client has not read; then its next line waits")
-    add("memory", "bytes held for all connections; then the one that has most is closed")
-    add("ahead", "lines that the service has at a time, of all connections")
+    add("memory", "bytes held for all connections; then the one that asked for more is closed")
+    add("user_memory", "bytes held for one user's connections; then the same")
+    add("sessions", "sessions that are made in all; then the front ends", LAST_SESSION)
+    add("user_sessions", "sessions that one user may make in an hour")
+    add("ahead", "lines that a service has at a time, of all connections")
+    add("user_ahead", "lines of one user that a service has at a time")
     add("idle", "a connection that sends nothing for so long is closed")
     add("stalled", "so is one with half a line, or with replies that it does not read")
     add("grace", "how long clients have to read their last replies when the front ends")

@@ -2,36 +2,41 @@
 from __future__ import annotations
 
 import json
-from typing import Optional, Set
+from typing import List, Optional, Set
 
-from .tagging import Asked
+from .tagging import RUN, Asked
+from .turns import Flight
+from .words import Cost
 
 
 class Farewell:
     """Takes back what a session has published by some names, and then what it holds."""
 
-    def __init__(self, session: int, names: Set[str]) -> None:
-        self.in_turn = False
-        self._session, self._names = session, names
-        self._is_reset = False
+    def __init__(self, session: int, user: int, names: Set[str]) -> None:
+        self.tag, self.rests_until, self.in_turn = 0.0, 0.0, False
+        self.user = user
+        withdrawn = [b'{"name":%b,"op":"withdraw","s":%d}\n' % (json.dumps(name).encode(), session)
+                     for name in sorted(names)]
+        self._lines: List[bytes] = [*withdrawn, b'{"op":"reset","s":%d}\n' % session]
+        self._is_flying = False
 
-    @property
-    def may_ask(self) -> bool:
-        """Whether it has a line left."""
-        return not self._is_reset
-
-    def next(self) -> Optional[Asked]:
-        """The names first, and the reset last."""
-        if self._names:
-            named = json.dumps(self._names.pop()).encode("ascii")
-            return b'{"name":%b,"op":"withdraw","s":%d}' % (named, self._session), None
-        if self._is_reset:
+    def next(self) -> Optional[Flight]:
+        """So many lines at a time, the reset last."""
+        if self._is_flying or not self._lines:
             return None
-        self._is_reset = True
-        return b'{"op":"reset","s":%d}' % self._session, None
+        lines = self._lines[:RUN]
+        return Flight(self, Asked(b"".join(lines), len(lines), None, Cost.OPEN), 0.0)
 
-    def replied(self, reply: bytes, line: bytes, back: Optional[bytes]) -> None:
+    def launched(self) -> None:
+        self._is_flying = True
+        del self._lines[:RUN]
+
+    def replied(self, replies: bytes, flight: Flight, count: int) -> None:
         """Nobody waits for a reply."""
+        self._is_flying = flight.left > 0
+
+    def used(self, flight: Flight, seconds: float) -> None:
+        """Nobody is told of what it used."""
 
     def settle(self) -> None:
         """Nobody waits for a reply."""

@@ -59,7 +59,7 @@ def handed_over() -> Optional[Listener]:
 def at_path(path: str, mode: int, group: Optional[str]) -> Listener:
     """A socket at a path. A file that is there is replaced where nobody listens. Raises Error."""
     try:
-        with _alone(os.path.dirname(path) or "."):
+        with _alone(f"{path}.lock"):
             return _bound(path, mode, group)
     except OSError as error:
         raise Error(f"{path}: {error.strerror or error}") from error
@@ -114,23 +114,52 @@ def _remove_stale(path: str) -> None:
 
 
 @contextlib.contextmanager
-def _alone(folder: str) -> Iterator[None]:
-    """No two fronts look for a stale file in one folder at once."""
-    held = os.open(folder, os.O_RDONLY | os.O_DIRECTORY)
-    try:
-        until = time.monotonic() + LOCK_SECONDS
-        while True:
-            try:
-                fcntl.flock(held, fcntl.LOCK_EX | fcntl.LOCK_NB)
+def _alone(path: str) -> Iterator[None]:
+    """No two fronts look for a stale socket at one path at once.
+
+    What is locked is a file beside it that nobody else may open, so nobody else can hold the lock.
+    It is removed while it is locked: who waited for it finds another file there, or none.
+    """
+    until = time.monotonic() + LOCK_SECONDS
+    while True:
+        held = _opened(path)
+        try:
+            fcntl.flock(held, fcntl.LOCK_EX | fcntl.LOCK_NB)
+            if _is_there(path, held):
                 break
-            except BlockingIOError:
-                if time.monotonic() > until:
-                    raise Error(f"{folder} is locked: start again when no other front starts"
-                                ) from None
-                time.sleep(0.02)
+        except BlockingIOError:
+            pass
+        os.close(held)
+        if time.monotonic() > until:
+            raise Error(f"{path} is locked: start again when no other front starts")
+        time.sleep(0.02)
+    try:
         yield
     finally:
+        with contextlib.suppress(OSError):
+            os.unlink(path)
         os.close(held)
+
+
+def _opened(path: str) -> int:
+    """A file of this user's own, which no other user may open."""
+    held = os.open(path, os.O_RDWR | os.O_CREAT | os.O_NOFOLLOW | os.O_CLOEXEC, 0o600)
+    found = os.fstat(held)
+    if found.st_uid != os.geteuid() or found.st_mode & 0o077 or not stat.S_ISREG(found.st_mode):
+        os.close(held)
+        raise Error(f"{path} is there and others may open it: remove it, or name a socket in a"
+                    " folder where others can't make files")
+    return held
+
+
+def _is_there(path: str, held: int) -> bool:
+    """Whether an open file still stands at its path."""
+    try:
+        there = os.lstat(path)
+    except FileNotFoundError:
+        return False
+    found = os.fstat(held)
+    return (there.st_dev, there.st_ino) == (found.st_dev, found.st_ino)
 
 
 def _identity(path: str) -> Tuple[int, int]:

@@ -1,7 +1,7 @@
-"""The session's number in a line, and the client's own one in the reply.
+"""The session's number in lines, and the client's own one in the replies.
 
-The number is put in as the last member of the line's object. Of a repeated key the service reads
-the last one, so nothing that a client writes is read in its place:
+The number is put in as the last member of a line's object. Of a repeated key the service reads the
+last one, so nothing that a client writes is read in its place:
 
 - Where the line with the number is JSON, the `,"s":N}` at its end stands in no text (the quote
   before the `s` would end it, and `s` follows nothing that ended), so it ends an object, and since
@@ -11,23 +11,45 @@ the last one, so nothing that a client writes is read in its place:
 """
 from __future__ import annotations
 
-import json
 import re
-from typing import Any, Optional, Tuple
+from typing import NamedTuple, Optional
+
+from .scanning import LAST_SESSION, NOBODY, own_session
+from .words import BRIEF, Cost, cost
 
 LINE = 1_048_576  # what the service takes, newline not counted
-LONGEST = LINE - len(b',"s":4294967295')  # what is left of that for a client
-LAST_SESSION = 4_294_967_295
-
-NOBODY = b"0"
+LONGEST = LINE - len(b',"s":%d' % LAST_SESSION)  # what is left of that for a client
+RUN = 64  # lines in one go
 
 _BLANKS = b" \t\r"
-_USUAL = re.compile(rb'\{"s":([1-9][0-9]{0,8})[,}]')
+_OBJECT_END = b"}\n"
+_BRIEF = Cost.BRIEF
 
 
-# A line as the service is given it, and what its reply ends in for the client: None where the reply
-# goes on as it is.
-Asked = Tuple[bytes, Optional[bytes]]
+def _run(line: bytes) -> "re.Pattern[bytes]":
+    """So many lines of one session, each a question of slot and type: as programs write them, since
+    a pattern without choices costs a third of one that takes blanks anywhere."""
+    words = "|".join(BRIEF).encode()
+    first, others = line % (rb"([1-9][0-9]{0,8})", words), line % (rb"\1", words)
+    return re.compile(first + rb"(?:" + others + rb"){0,%d}" % (RUN - 1))
+
+
+_COMPACT = _run(rb'\{"s":%b,"op":"(?:%b)","d":[0-9]+,"t":[0-9]+\}\n')
+_SPACED = _run(rb'\{"s": %b, "op": "(?:%b)", "d": [0-9]+, "t": [0-9]+\}\n')
+
+
+class Asked(NamedTuple):
+    """Lines as the service is given them, each with its newline.
+
+    `back` is what a reply ends in for the client, newline included; None where it goes on as it is.
+    `end` is where they end in what was looked at.
+    """
+
+    data: bytes
+    lines: int
+    back: Optional[bytes]
+    cost: Cost
+    end: int = 0
 
 
 class Tag:
@@ -35,69 +57,46 @@ class Tag:
 
     def __init__(self, number: int, longest: int = LONGEST) -> None:
         self._member = b'"s":%d' % number
-        self._end = b',"s":%d}' % number
+        self._end = b',"s":%d}\n' % number
         self._longest = longest
-        self._begins, self._back = b'{"s":1,', b',"s":1}'  # as the client wrote it last
+        self._own, self._back = b"", b""  # as the client wrote it last
+
+    def run(self, held: bytes, start: int) -> Optional[Asked]:
+        """Brief lines of one session at a place, all in one go."""
+        found = _COMPACT.match(held, start) or _SPACED.match(held, start)
+        if found is None:
+            return None
+        end = found.end()
+        if end - start > self._longest:
+            return None
+        data = held[start:end].replace(_OBJECT_END, self._end)
+        return Asked(data, data.count(b"\n"), self._back_to(found[1]), _BRIEF, end)
 
     def asked(self, line: bytes) -> Asked:
         """A client's line with the session in it. A line that is too long stays that."""
         if len(line) > self._longest:
-            return line[:LINE + 1].ljust(LINE + 1), None
-        if line.startswith(self._begins) and line.endswith(b"}") and _is_plain(line):
-            return line[:-1] + self._end, self._back
+            return Asked(line[:LINE + 1].ljust(LINE + 1) + b"\n", 1, None, Cost.SHORT)
         own = own_session(line)
-        if own == NOBODY:
-            return _with(line, b'"s":0'), None
-        if own is None:
-            return _with(line, self._member), None
-        self._begins, self._back = b'{"s":%b,' % own, b',"s":%b}' % own
-        return _with(line, self._member), self._back
+        if own is None or own == NOBODY:
+            member = self._member if own is None else b'"s":0'
+            return Asked(_with(line, member), 1, None, cost(line))
+        return Asked(_with(line, self._member), 1, self._back_to(own), cost(line))
 
-    def restored(self, reply: bytes, back: Optional[bytes]) -> bytes:
-        """A reply with the client's own number; one of no session has none to be replaced."""
-        if back is not None and reply.endswith(self._end):
-            return reply[:-len(self._end)] + back
-        return reply
+    def restored(self, replies: bytes, back: bytes) -> bytes:
+        """Replies with the client's own number; one of no session has none to be replaced."""
+        return replies.replace(self._end, back)
 
-
-def own_session(line: bytes) -> Optional[bytes]:
-    """The session that a client's line names, as the service reads it.
-
-    None where the line has no `s` or is no object, NOBODY where its `s` is no session.
-    """
-    usual = _USUAL.match(line)
-    if usual and _is_plain(line):
-        return usual[1]
-    try:
-        found = _DECODED(line.decode("utf-8"))
-    except (ValueError, RecursionError):
-        return None  # the service says what is wrong with it
-    if not isinstance(found, dict) or "s" not in found:
-        return None
-    own = found["s"]
-    if type(own) is int and 1 <= own <= LAST_SESSION:
-        return b"%d" % own
-    return NOBODY
-
-
-def _is_plain(line: bytes) -> bool:
-    """Whether a line that begins with its `s` has no other one."""
-    return b"\\" not in line and line.count(b'"s"') == 1
+    def _back_to(self, own: bytes) -> bytes:
+        if own != self._own:
+            self._own, self._back = own, b',"s":%b}\n' % own
+        return self._back
 
 
 def _with(line: bytes, member: bytes) -> bytes:
     """A line with a last member more, where it begins and ends as an object does."""
     text = line.strip(_BLANKS)
     if not (text.startswith(b"{") and text.endswith(b"}")):
-        return line
+        return line + b"\n"
     head = text[:-1]
     is_empty = len(head.rstrip(_BLANKS)) == 1
-    return b"".join((head, b"" if is_empty else b",", member, b"}"))
-
-
-def _integer(digits: str) -> Any:
-    """A number, where it can be that of a session; Python refuses to read very long ones."""
-    return int(digits) if len(digits) <= 20 else -1
-
-
-_DECODED = json.JSONDecoder(parse_int=_integer).decode
+    return b"".join((head, b"" if is_empty else b",", member, _OBJECT_END))

@@ -1,0 +1,316 @@
+"""Fair shares of the service's time, limits for each user, and who is closed where memory is short.
+"""
+from __future__ import annotations
+
+import contextlib
+import fcntl
+import os
+import random
+import socket
+import statistics
+import struct
+import sys
+import threading
+import time
+import unittest
+from typing import Iterator, List
+
+from support import HAND_IN, TOP, Front, Talker, WithFront, ask, until
+
+sys.path.insert(0, str(TOP / "clients" / "python"))
+
+from ctfd.front.limits import Limits  # noqa: E402
+from ctfd.front.refusals import Refusal  # noqa: E402
+from ctfd.front.users import Users  # noqa: E402
+
+KIND = ask("kind", d=1, t=1)
+INTEGER = b'{"ok":{"kind":"integer"},"s":1}'
+IMPORT = ask("import", d=2, parent=1)
+LOOKED_UP = b'{"op":"kind","d":1,"t":1,"s":1}\n'  # one by one, since its s is not in front
+REFUSED = b'{"fault":{"code":%d,"name":"%b","place":0},"s":0}'
+MEBIBYTE = 1 << 20
+MEMBERS = 1023
+UNIONS = int(os.environ.get("UNIONS", "860"))  # 7 MB; 8,000 are the dearest that a list can hold
+PART = 1_000_000
+SOMEBODY, ANOTHER = 65_534, 65_533
+
+
+def child(unions: int) -> bytes:
+    """A dictionary whose every member is of its parent's first type."""
+    names = b"\0p\0"
+    union = struct.pack("<IHH", 0, 7 << 11 | 1 << 10 | MEMBERS, 8)
+    records = (union + struct.pack("<IHH", 0, 1, 0) * MEMBERS) * unions
+    head = struct.pack("<8I", 0, 1, 0, 0, 0, 0, len(records), len(names))
+    return b"\xf1\xcf\x02\0" + head + records + names
+
+
+def handed_in(data: str) -> Iterator[bytes]:
+    """The lines that hand a dictionary in and open it, from its digits."""
+    for start in range(0, len(data), PART):
+        yield ask("part", section="ctf", bytes=data[start:start + PART])
+    yield ask("open")
+
+
+def made_dear(talker: Talker, unions: int = UNIONS) -> None:
+    """Hands in a child whose import takes long."""
+    talker.ask(HAND_IN)
+    for line in handed_in(child(unions).hex()):
+        talker.ask(line)
+
+
+def dearest(talker: Talker) -> float:
+    """How long an import takes by the clock: the longest of some, as the machine is loaded now."""
+    took = []
+    for _ in range(4):
+        began = time.monotonic()
+        assert talker.ask(IMPORT) == b'{"ok":{},"s":1}'
+        took.append(time.monotonic() - began)
+        time.sleep(2 * took[-1])
+    return max(took)
+
+
+@contextlib.contextmanager
+def as_user(number: int) -> Iterator[None]:
+    """What is connected here is another user's."""
+    os.seteuid(number)
+    try:
+        yield
+    finally:
+        os.seteuid(0)
+
+
+def may_be_others() -> bool:
+    """Whether a test can connect as several users; it says so where it can't."""
+    if os.getuid():
+        print("not possible here: only root can connect as several users")
+    return not os.getuid()
+
+
+class Shares(WithFront):
+    """Whoever has used more of the service's time waits for those who used less."""
+
+    def test_small_questions_beside_the_dearest_requests(self) -> None:
+        """49 clients that ask small questions, one after the other, beside 200 imports."""
+        front = self.front().started()
+        dear, others = self.talker(front), [self.talker(front) for _ in range(49)]
+        made_dear(dear)
+        for other in others:
+            other.ask(HAND_IN)
+        waits: List[float] = []
+        ends = threading.Event()
+        askers = [threading.Thread(target=keep_asking, args=(other, ends, waits))
+                  for other in others]
+        for asker in askers:
+            asker.start()
+        took = dearest(dear)
+        waits.clear()
+        dear.send(200 * IMPORT)
+        time.sleep(max(5.0, 12 * took))
+        ends.set()
+        for asker in askers:
+            asker.join()
+        said = f"{len(waits)} waits, median {statistics.median(waits):.4f}," \
+               f" worst {max(waits):.4f}, import {took:.4f}"
+        print(said, file=sys.stderr)
+        self.assertLess(statistics.median(waits), 0.020, said)
+        self.assertLess(max(waits), 2 * took, said)
+
+    def test_newcomer_is_not_behind_a_queue(self) -> None:
+        front = self.front().started()
+        dear = self.talker(front)
+        made_dear(dear)
+        took = dearest(dear)
+        dear.send(200 * IMPORT)
+        dear.line()
+        newcomer = self.talker(front)
+        began = time.monotonic()
+        newcomer.number()
+        self.assertLess(time.monotonic() - began, 2 * took)
+
+
+def keep_asking(talker: Talker, ends: threading.Event, waits: List[float]) -> None:
+    """Asks a small question again and again, with pauses of some milliseconds."""
+    while not ends.is_set():
+        began = time.monotonic()
+        assert talker.ask(KIND) == INTEGER
+        waits.append(time.monotonic() - began)
+        time.sleep(0.005 * random.random())
+
+
+class OneUser(WithFront):
+    """No user takes what is there for all."""
+
+    def several(self, *words: str) -> Front:
+        os.chmod(self.folder, 0o755)
+        return self.front("--mode", "666", *words).started()
+
+    def idle(self, front: Front, user: int, count: int) -> None:
+        with as_user(user):
+            for _ in range(count):
+                self.talker(front)
+
+    def test_idle_connections_of_one_user(self) -> None:
+        if not may_be_others():
+            return
+        front = self.several()
+        self.idle(front, SOMEBODY, 1_000)
+        with as_user(ANOTHER):
+            talker = self.talker(front)
+        self.assertGreater(talker.number(), 0)
+
+    def test_connections_of_one_user_are_limited(self) -> None:
+        """One more is told so in a line, and another user's is not refused."""
+        if not may_be_others():
+            return
+        front = self.several("--user-connections", "3")
+        self.idle(front, SOMEBODY, 3)
+        with as_user(SOMEBODY):
+            refused = self.talker(front)
+        self.assertEqual(refused.line(), REFUSED % (100, b"ConnectionsFull"))
+        self.assertTrue(refused.is_closed())
+        with as_user(ANOTHER):
+            self.assertGreater(self.talker(front).number(), 0)
+        self.assertIn(f"user {SOMEBODY} is refused a connection", front.said)
+
+    def test_sessions_of_one_user_are_limited(self) -> None:
+        front = self.front("--user-sessions", "5").started()
+        for _ in range(5):
+            self.talker(front).close()
+        self.assertEqual(self.talker(front).line(), REFUSED % (101, b"SessionsFull"))
+
+    def test_sessions_come_back_within_the_hour(self) -> None:
+        now = 0.0
+        users = Users(Limits(user_sessions=6), lambda: now)
+        account = users.account(SOMEBODY)
+        for _ in range(6):
+            self.assertIsNone(users.refusal(account))
+            users.begin(account)
+            users.end(account)
+        self.assertIs(users.refusal(users.account(SOMEBODY)), Refusal.SESSIONS)
+        self.assertIsNone(users.refusal(users.account(ANOTHER)))
+        now = 600.0  # the sixth part of an hour
+        self.assertIsNone(users.refusal(users.account(SOMEBODY)))
+
+    def test_all_sessions_are_made(self) -> None:
+        front = self.front("--sessions", "2").started()
+        for _ in range(3):
+            self.talker(front)
+        self.assertEqual(front.process.wait(10), 7)
+
+    def test_memory_of_one_user(self) -> None:
+        """Another user's half-lines are not closed for those of one."""
+        if not may_be_others():
+            return
+        front = self.several("--user-memory", str(3 * MEBIBYTE))
+        talkers: List[Talker] = []
+        for user in (ANOTHER, *[SOMEBODY] * 6, ANOTHER):
+            with as_user(user):
+                talkers.append(self.talker(front))
+            with contextlib.suppress(OSError):
+                talkers[-1].send(b'{"op":"info","x":"' + 900_000 * b" ")
+        until(lambda: "memory " in front.tell())
+        for talker in (talkers[0], talkers[-1]):
+            self.assertIn(b'"BadRequest"', talker.ask(b'"}\n'))
+
+    def test_lines_of_one_user_in_the_service(self) -> None:
+        """A user whose lines fill its share leaves room for another's, and all are answered."""
+        if not may_be_others():
+            return
+        front = self.several("--ahead", "64", "--user-ahead", "8")
+        talkers: List[Talker] = []
+        for user in (SOMEBODY, SOMEBODY, ANOTHER):
+            with as_user(user):
+                talkers.append(self.talker(front))
+            talkers[-1].ask(HAND_IN)
+        for talker in talkers:
+            talker.send(500 * LOOKED_UP)
+        for talker in talkers:
+            for _ in range(500):
+                self.assertEqual(talker.line(), INTEGER)
+
+    def test_users_have_equal_shares(self) -> None:
+        """One with many connections has no more of the service than one with a single one."""
+        if not may_be_others():
+            return
+        front = self.several()
+        waits: List[float] = []
+        with as_user(SOMEBODY):
+            dear = [self.talker(front) for _ in range(5)]
+        with as_user(ANOTHER):
+            other = self.talker(front)
+        for talker in dear:
+            made_dear(talker, 200)
+        other.ask(HAND_IN)
+        took = dearest(dear[0])
+        for talker in dear:
+            talker.send(100 * IMPORT)
+        dear[0].line()
+        for _ in range(30):
+            began = time.monotonic()
+            other.ask(KIND)
+            waits.append(time.monotonic() - began)
+        self.assertLess(statistics.median(waits), 2 * took, (waits, took))
+
+    def test_lock_that_others_may_open(self) -> None:
+        """It is not taken, since another could hold it; no start waits for it."""
+        path = os.path.join(self.folder, "front.sock")
+        with open(f"{path}.lock", "w"):
+            os.chmod(f"{path}.lock", 0o644)
+        front = self.front()
+        self.assertEqual(front.process.wait(10), 5)
+        self.assertIn("others may open it: remove it", front.said)
+
+    def test_lock_is_the_fronts_own(self) -> None:
+        """Two that start at once: one listens, and no file is left."""
+        with socket.socket(socket.AF_UNIX) as stale:
+            stale.bind(os.path.join(self.folder, "front.sock"))
+        fronts = [self.front() for _ in range(4)]
+        until(lambda: sum(front.process.poll() is not None for front in fronts) == 3)
+        self.assertEqual(sorted(os.listdir(self.folder)), ["front.sock", "front.sock.log"])
+        self.assertGreater(self.talker(fronts[0]).number(), 0)
+
+    def test_folder_that_another_locks(self) -> None:
+        """Whoever can read the socket's folder can lock it, and no start waits for that."""
+        held = os.open(self.folder, os.O_RDONLY)
+        self.addCleanup(os.close, held)
+        fcntl.flock(held, fcntl.LOCK_EX)
+        front = self.front().started()
+        self.assertGreater(self.talker(front).number(), 0)
+
+
+class Memory(WithFront):
+    """Who is closed where memory is short: who asked for more last, not who has most."""
+
+    def test_honest_client_stays(self) -> None:
+        front = self.front("--memory", str(32 * MEBIBYTE)).started()
+        honest = self.talker(front)
+        honest.ask(ask("take", owner=0, name="lua"))
+        large = ask("bytes", **{"d": 1, "from": 0, "count": 20_000})
+        lines = 200
+        honest.send(lines * large)  # 8 MB of replies, of which it reads none for now
+        until(lambda: int(held(front.tell())) > MEBIBYTE)
+        others = [self.talker(front) for _ in range(40)]
+        for other in others:
+            with contextlib.suppress(OSError):
+                other.send(1_048_000 * b" ")
+        until(lambda: "memory " in front.tell())
+        for _ in range(lines):
+            self.assertIn(b'"length"', honest.line())
+        self.assertIn(b'"name":"HeldFull"', b"".join(map(told, others)))
+
+
+def held(said: str) -> str:
+    """The bytes that a front says it holds."""
+    return said.split(" held ")[1].split(";")[0]
+
+
+def told(talker: Talker) -> bytes:
+    """What has come by now."""
+    talker.socket.setblocking(False)
+    with contextlib.suppress(OSError):
+        return talker.socket.recv(MEBIBYTE)
+    return b""
+
+
+if __name__ == "__main__":
+    unittest.main()
