@@ -3,9 +3,8 @@
 # them.
 # usage: tests/convert.sh PROGRAM [all]
 # PROGRAM is crates/ctfd/out/ctfd once `rt run` in crates/ctfd has built it. Needs gcc, and a Python
-# with pyelftools and pycparser (Debian's python3-pyelftools and python3-pycparser); says so and
-# ends with status 0 where one is missing. Programs of 32 bits want gcc-multilib, BTF and headers
-# want dwarves.
+# with pycparser (Debian's python3-pycparser); says so and ends with status 0 where one is missing.
+# Programs of 32 bits want gcc-multilib, BTF and headers want dwarves.
 #
 # Random C files are compiled and run, for each data model that gcc has, and say where their members
 # lie: so do, through the service, the dictionaries made of their debug information, of GNU's CTF,
@@ -19,9 +18,9 @@ tests=$(realpath "$(dirname "$0")")
 command -v gcc > /dev/null || { echo "skipped: no gcc here"; exit 0; }
 python=
 for one in python3 /usr/bin/python3; do
-    "$one" -c 'import elftools, pycparser' 2> /dev/null && { python=$one; break; }
+    "$one" -c 'import pycparser' 2> /dev/null && { python=$one; break; }
 done
-[ -n "$python" ] || { echo "skipped: no Python with pyelftools and pycparser here"; exit 0; }
+[ -n "$python" ] || { echo "skipped: no Python with pycparser here"; exit 0; }
 failed=0
 
 if [ "${2:-}" != all ]; then

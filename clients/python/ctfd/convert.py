@@ -8,6 +8,7 @@ then 1, and OUT is written all the same. It is 2 where nothing was written.
 from __future__ import annotations
 
 import argparse
+import gc
 import os
 import sys
 from typing import List, NoReturn, Optional, Sequence, Set, Tuple
@@ -31,8 +32,10 @@ BY_ITSELF = "the service numbers"
 
 
 def main(arguments: Optional[Sequence[str]] = None) -> int:
-    """The command; its exit status."""
+    """The command; its exit status. What is read is kept to the end, so nothing is gained by
+    looking for garbage in it."""
     said = words(arguments)
+    gc.disable()
     try:
         losses = convert(said)
     except Error as error:

@@ -1,13 +1,18 @@
 """A file's types as a table, whatever they are written in: DWARF, BTF, GNU's CTF or CTF itself."""
 from __future__ import annotations
 
+import struct
 from typing import Callable, Dict, List, NamedTuple, Optional, Set
 
-from . import elf, from_btf, from_ctf, from_dwarf, from_gnu, source
-from .debugfiles import Opened, opened, with_debug
+from . import archives, elf, from_btf, from_ctf, from_dwarf, from_gnu, source
+from .debugfiles import FOLDERS, has_debug, with_debug
+from .dwarf.files import Debug
+from .dwarf.sections import Sections
 from .elf import Elf
 from .faults import Unreadable
+from .files import Mapped, contents
 from .model import Model
+from .progress import Progress
 from .records import Record, Table
 from .sound import judge
 from .symbols import Wanted, considered
@@ -42,20 +47,13 @@ def read(path: str, options: Options) -> Input:
         raise Unreadable(f"{path}: it is empty")
     if data[:4] == elf.MAGIC:
         return _named(path, lambda: _of_elf(path, data, options))
+    if archives.is_archive(data):
+        return _named(path, lambda: _of_archive(path, data, options))
     form = _form(data)
     if form is None:
-        raise Unreadable(f"{path}: {source.foreign(data)}")
+        raise Unreadable(f"{path}: {source.foreign(data[:])}")
     table, reader = Table(options.model or "lp64"), _READERS[form]
-    return _named(path, lambda: reader(data, None, table, [], options))
-
-
-def contents(path: str) -> bytes:
-    """A file's bytes."""
-    try:
-        with open(path, "rb") as file:
-            return file.read()
-    except OSError as error:
-        raise Unreadable(f"{path}: {error.strerror}") from error
+    return _named(path, lambda: reader(data[:], None, table, [], options))
 
 
 def _named(path: str, run: Callable[[], Input]) -> Input:
@@ -69,7 +67,7 @@ def _named(path: str, run: Callable[[], Input]) -> Input:
         raise Unreadable(said if said.startswith(f"{path}: ") else f"{path}: {said}") from error
 
 
-def _form(data: bytes) -> Optional[str]:
+def _form(data: Mapped) -> Optional[str]:
     """What a section's first bytes say that it is."""
     if data[:2] in (from_btf.MAGIC, from_btf.BIG_ENDIAN):
         return "btf"
@@ -78,7 +76,7 @@ def _form(data: bytes) -> Optional[str]:
     return "ctf" if data[:3] == b"\xf1\xcf\x02" else None
 
 
-def _of_elf(path: str, data: bytes, options: Options) -> Input:
+def _of_elf(path: str, data: Mapped, options: Options) -> Input:
     """The first of the forms that an ELF file has, or the one asked for; DWARF may be elsewhere."""
     file = Elf(data, path)
     table = Table(options.model or file.model)
@@ -94,27 +92,13 @@ def _of_elf(path: str, data: bytes, options: Options) -> Input:
             held = file.bytes(section)
             if _form(held) == form:
                 strings = _strings(file, section.link)
-                wanted = _wanted(path) if form == "btf" else []
+                wanted = considered(file) if form == "btf" else []
                 return _READERS[form](held, strings, table, wanted, options)
     if options.form not in (None, "dwarf"):
         names = " or ".join(SECTIONS[options.form or "ctf"])
         raise Unreadable(f"it has no section {names} with what --from {options.form} asks for:"
                          " leave that out, and what it has is read")
-    return _of_dwarf(opened(path), table, options)
-
-
-def has_debug(file: Elf) -> bool:
-    """Whether a file has DWARF in it."""
-    found = file.named(".debug_info") or file.named(".zdebug_info")
-    return found is not None and found.kind != elf.NOBITS and found.size > 0
-
-
-def _wanted(path: str) -> List[Wanted]:
-    """The symbols of a file; none where there is no library to read them."""
-    try:
-        return considered(opened(path).file)
-    except Unreadable:
-        return []
+    return _of_dwarf(file, table, options)
 
 
 def _strings(file: Elf, link: int) -> Optional[bytes]:
@@ -126,22 +110,50 @@ def _strings(file: Elf, link: int) -> Optional[bytes]:
     return file.bytes(found) if found else None
 
 
-def _of_dwarf(whole: Opened, table: Table, options: Options) -> Input:
+def _of_dwarf(whole: Elf, table: Table, options: Options) -> Input:
+    reader = from_dwarf.Reader(table, considered(whole))
+    _take(reader, whole, options)
+    reader.tell(whole.kind != elf.RELOCATABLE)
+    return Input(table, reader.roots, 0, "DWARF")
+
+
+def _of_archive(path: str, data: Mapped, options: Options) -> Input:
+    """The types of all object files in an archive. Of symbols nothing is told: it has no table of
+    them that a dictionary could go by."""
+    reader: Optional[from_dwarf.Reader] = None
+    for name, held in archives.members(path, data):
+        if held[:4] != elf.MAGIC:
+            continue
+        file = Elf(held, f"{path}({name})")
+        if reader is None:
+            reader = from_dwarf.Reader(Table(options.model or file.model), [])
+        elif reader.table.model != (options.model or file.model):
+            raise Unreadable(f"its members are of two data models, as {file.path} is of"
+                             f" {file.model}: take those of one out by ar x")
+        if has_debug(file):
+            _take(reader, file, options)
+    if reader is None or not reader.roots:
+        raise Unreadable("an archive in which no object file has debug information: compile these"
+                         " with -g")
+    reader.tell(False)
+    return Input(reader.table, reader.roots, 0, "DWARF")
+
+
+def _take(reader: from_dwarf.Reader, whole: Elf, options: Options) -> None:
+    """Reads the debug information of a file, wherever it is. Raises Unreadable."""
     found = with_debug(whole, options.folders)
-    wanted = considered(whole.file)
-    is_linked = whole.file["e_type"] != "ET_REL"
+    progress = Progress(f"reading {found.path}")
     try:
-        info = found.file.get_dwarf_info()
-        table, roots = from_dwarf.read(info, table, wanted, is_linked)
+        sections = Sections(found, [*options.folders, *FOLDERS])
+        reader.read(Debug(sections, progress.told))
     except Unreadable as error:
         raise Unreadable(f"{found.path}: {error}") from error
-    except MemoryError:
-        raise
-    except Exception as error:  # the library raises many things on damaged debug information
+    except (struct.error, IndexError, KeyError, ValueError, OverflowError) as error:
         why = f"{type(error).__name__} {error}".strip()
         raise Unreadable(f"{found.path}: its debug information is damaged or of a form that is"
                          f" not read ({why})") from error
-    return Input(table, roots, 0, "DWARF")
+    finally:
+        progress.end()
 
 
 def _of_ctf(data: bytes, strings: Optional[bytes], table: Table, _: List[Wanted],
@@ -191,7 +203,7 @@ def _btf_of(path: str) -> bytes:
         return file.bytes(section)
     if _form(data) != "btf":
         raise Unreadable(f"{path}: the base is no BTF")
-    return data
+    return data[:]
 
 
 def named(table: Table) -> Set[int]:

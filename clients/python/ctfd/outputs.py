@@ -13,7 +13,8 @@ from typing import Iterator, List, NamedTuple, Optional
 from . import elf, source
 from .elf import Elf
 from .faults import BadSymbols, Error, Refused
-from .inputs import Input, contents
+from .files import contents
+from .inputs import Input
 from .records import Table
 from .text import printable
 from .wire import Client, Session

@@ -12,6 +12,7 @@ from typing import NamedTuple, Optional, Tuple
 from . import elf
 from .elf import Elf, Section
 from .faults import Unreadable
+from .files import Mapped, contents
 from .model import Model
 
 HEADER = 36
@@ -41,19 +42,14 @@ class Source(NamedTuple):
 
 def read(path: str) -> Source:
     """What a file has to hand in; Unreadable where the service would not read it."""
-    try:
-        with open(path, "rb") as file:
-            data = file.read()
-    except OSError as error:
-        raise Unreadable(f"{path}: {error.strerror}") from error
-    return of_bytes(data, path)
+    return of_bytes(contents(path), path)
 
 
-def of_bytes(data: bytes, path: str = "the file") -> Source:
+def of_bytes(data: Mapped, path: str = "the file") -> Source:
     """As `read`, of a file's bytes."""
     if data[:4] == elf.MAGIC:
         return _of_elf(Elf(data, path))
-    return Source(plain(data, path))
+    return Source(plain(data[:], path))
 
 
 def plain(ctf: bytes, path: str = "the file") -> bytes:
