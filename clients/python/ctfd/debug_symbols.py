@@ -2,7 +2,7 @@
 from __future__ import annotations
 
 import re
-from typing import Dict, List, NamedTuple, Optional, Tuple
+from typing import Dict, List, NamedTuple, Optional, Sequence, Tuple
 
 from .dwarf import attributes, operations
 from .dwarf.encoding import uleb
@@ -40,7 +40,7 @@ class Told(NamedTuple):
 class DebugSymbols:
     """What was said so far of the symbols that are wanted."""
 
-    def __init__(self, wanted: List[Wanted]) -> None:
+    def __init__(self, wanted: Sequence[Wanted]) -> None:
         self.wanted = wanted
         self._names = {one.name.split("@")[0] for one in wanted}
         self._names |= {bare(name) for name in self._names}

@@ -14,7 +14,7 @@ COMPRESSED = 0x800
 EXTENDED = 0xFFFF
 RELOCATABLE = 1
 ENTRY = 24
-LONGEST_NAME = 65_536
+LONGEST_NAME = 4096
 OBJECT, FUNCTION = 1, 2
 SYMBOL = struct.Struct("<IBBHQQ")  # of 64 bits: the service reads no others
 SYMBOL_32 = struct.Struct("<IIIBBH")
@@ -182,10 +182,16 @@ def whole(table: bytes, form: struct.Struct) -> bytes:
 
 
 def text(strings: bytes, offset: int) -> str:
-    """The string at an offset, or as much of it as a name may have."""
+    """The string at an offset, as it is shown."""
+    return raw_text(strings, offset).decode("utf-8", "backslashreplace")
+
+
+def raw_text(strings: bytes, offset: int) -> bytes:
+    """The string at an offset, or as much of it as a name may have: of a damaged table all may
+    be one, and each name an end of it."""
     last = min(len(strings), offset + LONGEST_NAME)
     end = strings.find(b"\0", offset, last)
-    return strings[offset:end if end >= 0 else last].decode("utf-8", "backslashreplace")
+    return strings[offset:end if end >= 0 else last]
 
 
 def build_id(file: Elf) -> str:

@@ -19,6 +19,13 @@ CHARACTERS = ("char", "signed char", "unsigned char")
 FLAGS = ((1, SIGNED), (2, CHARACTER), (4, BOOLEAN))
 
 
+class Named(NamedTuple):
+    """A function or a variable, and the number of its type."""
+
+    name: str
+    type: int
+
+
 class Read(NamedTuple):
     """What was read: for each of BTF's numbers that of the table, the strings, and what is told
     of functions and variables by their names."""
@@ -26,8 +33,8 @@ class Read(NamedTuple):
     table: Table
     numbers: List[int]
     strings: bytes
-    functions: Dict[str, int]
-    objects: Dict[str, int]
+    functions: List[Named]
+    objects: List[Named]
     roots: Set[int]
 
 
@@ -42,8 +49,8 @@ class _Reader:
         self.numbers = list(base.numbers) if base else [0]
         self.said: List[Tuple[int, Record]] = []
         self.aliases: Dict[int, int] = {}
-        self.functions: Dict[str, int] = {}
-        self.objects: Dict[str, int] = {}
+        self.functions: List[Named] = []
+        self.objects: List[Named] = []
         self.at = 0
 
     def run(self) -> Read:
@@ -55,8 +62,8 @@ class _Reader:
             self.table.put(number, record.renumbered(self._number))
             if record.name or record.kind == "enum":
                 roots.add(number)
-        told = [{name: self._number(n) for name, n in named.items()}
-                for named in (self.functions, self.objects)]
+        told = [[Named(one.name, self._number(one.type)) for one in listed]
+                for listed in (self.functions, self.objects)]
         return Read(self.table, self.numbers, self.strings, told[0], told[1], roots)
 
     def _number(self, n: int) -> int:
@@ -110,10 +117,10 @@ class _Reader:
     def _other(self, kind: int, length: int, name: str, field: int, own: int) -> None:
         """What is no type itself."""
         if kind == FUNC:
-            self.functions[name] = field
+            self.functions.append(Named(name, field))
         elif kind == VAR:
             self._take("I")
-            self.objects[name] = field
+            self.objects.append(Named(name, field))
         elif kind == DATASEC:
             self.at += 12 * length
         elif kind == DECL_TAG:

@@ -1,7 +1,7 @@
 """The types of C in a program's debug information, as a table."""
 from __future__ import annotations
 
-from typing import Dict, List, NamedTuple, Optional, Set, Tuple
+from typing import Dict, List, NamedTuple, Optional, Sequence, Set, Tuple
 
 from . import debug_symbols
 from .debug_symbols import DebugSymbols, Said, Told
@@ -45,7 +45,7 @@ class Reader:
     entry whose number was forgotten is read once more, and joined.
     """
 
-    def __init__(self, table: Table, wanted: List[Wanted]) -> None:
+    def __init__(self, table: Table, wanted: Sequence[Wanted]) -> None:
         self.table = table
         self.symbols = DebugSymbols(wanted)
         self.roots: Set[int] = set()
@@ -79,6 +79,11 @@ class Reader:
             elif language not in languages.ASSEMBLERS:
                 name = languages.name(language)
                 self._foreign[name] = self._foreign.get(name, 0) + 1
+
+    @property
+    def has_units(self) -> bool:
+        """Whether there was any debug information, in whatever language."""
+        return bool(self._units or self._foreign)
 
     def _unit(self, unit: Unit) -> None:
         """The types, functions and objects in a unit and in its functions."""
