@@ -168,7 +168,7 @@ def _selected(found: Input, names: List[str]) -> "tuple[Table, Set[int]]":
 def _alone(table: Table, symbols: Symbols) -> Made:
     """A dictionary without a parent."""
     if len(table) > MOST_TYPES:
-        chosen = fitting(table, _roots(table))
+        chosen = fitting(table, _roots(table), table.symbol_roots())
         losses = told_left_out(table, chosen.left, "a dictionary holds (--split writes two)")
         table = table.kept(chosen.kept)
         table.losses += losses
@@ -220,7 +220,7 @@ def _over(parent: Table, table: Table, name: str, symbols: Symbols) -> Made:
     made = merged(joined, bases)
     own = len(made) - bases
     if own > MOST_TYPES:
-        chosen = fitting(made, range(bases + 1, len(made) + 1))
+        chosen = fitting(made, range(bases + 1, len(made) + 1), made.symbol_roots())
         kept = [*range(1, bases + 1), *(n for n in chosen.kept if n > bases)][:bases + MOST_TYPES]
         left = sorted(set(made.numbers()) - set(kept))
         losses = told_left_out(made, left, "a child holds beside its parent")
