@@ -176,7 +176,7 @@ def _symbol(types: Dictionary, name: str) -> str:
         _warn(source.WARNINGS[types.how])
     if isinstance(said, Signature):
         return declare.function(said, name) + ";"
-    return declare.declaration(said, name) + ";"
+    return declare.object_of(said, name) + ";"
 
 
 def _warn(said: str) -> None:

@@ -88,6 +88,7 @@ class Dictionary:
         self.types_label = types_label
         self.parent: Optional[Dictionary] = None
         self._answers: Dict[Tuple[str, int], Outcome] = {}
+        self._copies: Dict[int, bool] = {}
         info = session.ask("info", d=slot)
         self.is_child: bool = info["child"]
         self.own: int = info["types"]
@@ -215,6 +216,23 @@ class Dictionary:
         types = self.types()
         self.fetch([("record", t.number) for t in types])
         return [t for t in types if _called(t) in spellings(base)]
+
+    def is_copy(self, integer: Type) -> bool:
+        """Whether an integer is a hidden copy of one that is seen."""
+        known = self._copies.get(integer.number)
+        if known is None:
+            known = self._copies[integer.number] = self._is_copy(integer)
+        return known
+
+    def _is_copy(self, integer: Type) -> bool:
+        if integer.is_root:
+            return False
+        try:
+            seen = self.find(integer.raw_name)
+        except Refused:
+            return False
+        return (seen.kind == "integer" and seen.number != integer.number
+                and (seen.size, seen.encoding) == (integer.size, integer.encoding))
 
     def names(self) -> List[str]:
         """The names by which types are found, those of the parent too."""

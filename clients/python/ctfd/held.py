@@ -106,11 +106,13 @@ def _nested(table: Table, record: Record) -> Record:
 
 
 def _member(table: Table, whole: Record, part: Part) -> Part:
-    """A bit-field gets a type of its width, all others stay."""
+    """A bit-field gets a type of its width, all others stay. One as wide as its type gets a hidden
+    copy of that, by which it is known."""
     if part.width is None:
         return part
     base = table[table.resolved(part.type)] if table.resolved(part.type) else None
-    if base is None or part.width == 8 * base.size or base.kind not in ("integer", "enum"):
+    is_whole = base is not None and part.width == 8 * base.size
+    if base is None or base.kind not in ("integer", "enum") or is_whole and base.kind == "enum":
         return part._replace(width=None)
     if base.kind == "enum":
         table.losses.append(f"{whole.tagged}: its bit-field {part.name} is one of"
@@ -174,7 +176,7 @@ def spelled(table: Table, number: int) -> str:
         elif record.kind in ("volatile", "const", "restrict"):
             if inner and inner.kind == "pointer":
                 left = f"{record.kind} {left}"
-            else:
+            elif record.kind not in before:
                 before.append(record.kind)
         else:
             break
