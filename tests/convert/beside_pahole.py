@@ -35,6 +35,7 @@ from ctfd.elf import Elf, MAGIC
 from ctfd.files import contents
 
 MOST = 20
+ERROR = "<ERROR("
 TOO_MANY = "that a dictionary holds"
 COMMAND = headers.HERE.parents[1] / "clients/python/ctfd-convert"
 _BLOCK = re.compile(r"^(struct|union) (\w+) \{\n(.*?)^\};?", re.MULTILINE | re.DOTALL)
@@ -54,6 +55,7 @@ class Struct(NamedTuple):
     places: Tuple[headers.Place, ...]
     holes: int
     padding: int
+    has_error: bool
 
 
 Listed = Dict[str, List[Struct]]
@@ -74,7 +76,8 @@ def parsed(text: str) -> Listed:
         name = f"{block[1]} {block[2]}"
         own = block[3]
         places = headers.parsed(f"{name} {{\n{own}}}\n").get(name, ())
-        found[name].append(Struct(places, _bits("holes", own), _bits("padding", own)))
+        found[name].append(Struct(places, _bits("holes", own), _bits("padding", own),
+                                  ERROR in own))
     return found
 
 
@@ -131,26 +134,28 @@ def compare(service: str, path: str) -> int:
         if any(TOO_MANY in line for line in figures.losses):
             figures = converted(service, path, made, "--split", parent)
         ours = listed(service, made, parent)
-    count = laid = unsized = 0
+    count = wrong = unknown = 0
     for name, all_of_name in shown(path).items():
         for one in all_of_name:
             count += 1
             if one in ours.get(name, []):
                 continue
-            if any(_is_unsized(one, own) for own in ours.get(name, [])):
-                unsized += 1
+            if any(_is_unknown(one, own) for own in ours.get(name, [])):
+                unknown += 1
                 continue
-            laid += 1
-            tell(laid, name, one, ours.get(name, []))
-    print(f"{path}: {count} structs and unions of pahole's view, {laid} otherwise, {unsized} with"
-          f" members that pahole has no size of; {figures.seconds:.1f} s, {figures.megabytes} MB,"
+            wrong += 1
+            tell(wrong, name, one, ours.get(name, []))
+    print(f"{path}: {count} structs and unions of pahole's view, {wrong} otherwise, {unknown} with"
+          f" members that pahole can't read; {figures.seconds:.1f} s, {figures.megabytes} MB,"
           f" {len(figures.losses)} lines on what CTF can't hold")
-    return laid + (not count)
+    return wrong + (not count)
 
 
-def _is_unsized(theirs: Struct, ours: Struct) -> bool:
-    """Whether two differ in members alone that pahole says have no bytes: those of _Atomic types,
-    which it does not know."""
+def _is_unknown(theirs: Struct, ours: Struct) -> bool:
+    """Whether two differ in members alone that pahole leaves out with a word on its error, or says
+    have no bytes: those of _Atomic types, which it does not know."""
+    if theirs.has_error:
+        return set(theirs.places) <= set(ours.places)
     return len(theirs.places) == len(ours.places) and all(
         one == own or one._replace(size=own.size) == own and not one.size
         for one, own in zip(theirs.places, ours.places))

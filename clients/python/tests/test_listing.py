@@ -1,4 +1,5 @@
 """Declarations and listings: as C writes them, and as pahole prints places and holes."""
+import re
 import shutil
 import struct
 import subprocess
