@@ -7,6 +7,7 @@ from typing import Iterator, List, NamedTuple, Optional, Tuple
 from .faults import Unreadable
 from .files import Mapped
 from .model import Model
+from .strings import Strings
 
 MAGIC = b"\x7fELF"
 NOBITS, SYMTAB, STRTAB, DYNSYM = 8, 2, 3, 11
@@ -104,8 +105,12 @@ class Elf:
             raise IndexError
         headers = [self._header(start + number * size) for number in range(count)]
         strings = self._cut(headers[names][4], headers[names][5]) if names else b""
-        return [Section(text(strings, h[0]), h[1], h[2], h[4], h[5], h[6], h[3], h[7])
-                for h in headers]
+        named = Strings(strings + b"\0")
+        try:
+            return [Section(named.at(min(h[0], len(strings))), h[1], h[2], h[4], h[5], h[6], h[3],
+                            h[7]) for h in headers]
+        except ValueError as error:
+            raise Unreadable(f"{self.path}: an ELF file whose section names are damaged") from error
 
     def _header(self, offset: int) -> Tuple[int, ...]:
         return self.form.section.unpack_from(self.data, offset)
@@ -182,16 +187,10 @@ def whole(table: bytes, form: struct.Struct) -> bytes:
 
 
 def text(strings: bytes, offset: int) -> str:
-    """The string at an offset, as it is shown."""
-    return raw_text(strings, offset).decode("utf-8", "backslashreplace")
-
-
-def raw_text(strings: bytes, offset: int) -> bytes:
-    """The string at an offset, or as much of it as a name may have: of a damaged table all may
-    be one, and each name an end of it."""
+    """The string at an offset, as it is shown, or as much of it as a name may have."""
     last = min(len(strings), offset + LONGEST_NAME)
     end = strings.find(b"\0", offset, last)
-    return strings[offset:end if end >= 0 else last]
+    return strings[offset:end if end >= 0 else last].decode("utf-8", "backslashreplace")
 
 
 def build_id(file: Elf) -> str:

@@ -6,6 +6,7 @@ from typing import Dict, List, NamedTuple, Optional, Set, Tuple
 
 from .faults import Unreadable
 from .records import BOOLEAN, CHARACTER, Part, Record, SIGNED, Table
+from .strings import Strings
 from .types import Encoding, Enumerator
 
 MAGIC = b"\x9f\xeb"
@@ -45,6 +46,7 @@ class _Reader:
         types, strings = _sections(btf)
         self.types = types
         self.strings = (base.strings if base else b"") + strings
+        self._names = Strings(self.strings)
         self.table = table
         self.numbers = list(base.numbers) if base else [0]
         self.said: List[Tuple[int, Record]] = []
@@ -68,10 +70,11 @@ class _Reader:
 
     def _number(self, n: int) -> int:
         """The table's number of one of BTF's: tags lead on to what they are of."""
-        for _ in range(len(self.aliases) + 1):
-            if n not in self.aliases:
-                break
+        passed: List[int] = []
+        while n in self.aliases and len(passed) <= len(self.aliases):
+            passed.append(n)
             n = self.aliases[n]
+        self.aliases.update(dict.fromkeys(passed, n))
         return self.numbers[n]
 
     def _take(self, form: str) -> Tuple[int, ...]:
@@ -80,8 +83,7 @@ class _Reader:
         return taken
 
     def _name(self, offset: int) -> str:
-        end = self.strings.index(b"\0", offset)
-        return self.strings[offset:end].decode("utf-8", "surrogateescape")
+        return self._names.at(offset)
 
     def _type(self) -> None:
         offset, info, field = self._take("III")

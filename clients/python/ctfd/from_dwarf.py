@@ -55,7 +55,7 @@ class Reader:
         self._new_roots: List[int] = []
         self._todo: List[Todo] = []
         self._told: List[Told] = []
-        self._copied: Dict[int, Record] = {}
+        self._copied: Dict[Tuple[int, bool], Said] = {}
         self._sizes: Dict[int, int] = {}
         self._imported: Set[int] = set()
         self._imports: List[Unit] = []
@@ -121,8 +121,12 @@ class Reader:
         else:
             self._numbers.clear()
         self.roots.update(to.get(n, n) for n in self._new_roots)
+        renumbered: Dict[int, Said] = {}  # by what is said, which all copies of a function share
         for told in self._told:
-            self.symbols.tell(told._replace(said=told.said.renumbered(to)))
+            said = renumbered.get(id(told.said))
+            if said is None:
+                said = renumbered[id(told.said)] = told.said.renumbered(to)
+            self.symbols.tell(told._replace(said=said))
         self._new, self._new_roots, self._told = [], [], []
         self._copied.clear()
         self._sizes.clear()
@@ -296,20 +300,21 @@ class Reader:
             return
         name = debug_symbols.called(chain)
         if self.symbols.has(name, where):
-            said = Said(0, self._signature(chain, insides), where is not None)
-            self._told.append(Told(name, where, said))
+            self._told.append(Told(name, where, self._signature(chain, insides, where is not None)))
 
-    def _signature(self, chain: List[Entry], insides: Dict[int, List[Listed]]) -> Record:
+    def _signature(self, chain: List[Entry], insides: Dict[int, List[Listed]],
+                   is_whole: bool) -> Said:
         """What a function takes, read once for all copies of it."""
         own = debug_symbols.with_arguments(chain)
-        key = own.unit.start - own.unit.offset + own.offset
+        key = own.unit.start - own.unit.offset + own.offset, is_whole
         known = self._copied.get(key)
         if known is None:
             listed = insides.get(own.offset) if own.unit is chain[0].unit else None
             parts = list(own.children()) if listed is None else [
                 Entry(own.unit, offset) for offset, shape in listed
                 if shape.tag in (tags.FORMAL, tags.UNSPECIFIED_PARAMETERS)]
-            known = self._copied[key] = self._function(parts, self._type_of(chain))
+            told = self._function(parts, self._type_of(chain))
+            known = self._copied[key] = Said(0, told, is_whole)
         return known
 
     def _type_of(self, chain: List[Entry]) -> int:

@@ -7,13 +7,12 @@ from __future__ import annotations
 import struct
 from typing import Any, Callable, Dict, NamedTuple, Optional, Tuple, Union
 
+from ..strings import Data, cut
 from . import forms
 
-Data = Union[bytes, memoryview]
 Read = Callable[[Data, int], Tuple[Any, int]]
 
 MOST_BITS = 128
-PIECE = 64
 
 
 def uleb(data: Data, at: int) -> Tuple[int, int]:
@@ -40,19 +39,9 @@ def sleb(data: Data, at: int) -> Tuple[int, int]:
 
 
 def string(data: Data, at: int) -> Tuple[bytes, int]:
-    """The bytes before a zero; they are looked at in pieces, since a section may be mapped."""
-    pieces = []
-    start, size = at, PIECE
-    while start < len(data):
-        piece = bytes(data[start:start + size])
-        end = piece.find(b"\0")
-        if end >= 0:
-            pieces.append(piece[:end])
-            return b"".join(pieces), start + end + 1
-        pieces.append(piece)
-        start += size
-        size *= 2
-    raise ValueError("a string that is cut off")
+    """The bytes before a zero."""
+    found = cut(data, at)
+    return found, at + len(found) + 1
 
 
 def decoded(raw: bytes) -> str:

@@ -6,8 +6,9 @@ import bisect
 from typing import Callable, Dict, Iterator, List, Optional, Tuple
 
 from ..faults import Unreadable
+from ..strings import Data, Strings
 from . import attributes, operations
-from .encoding import Data, Sizes, decoded, string
+from .encoding import Sizes
 from .sections import Sections
 from .shapes import Key, Shape, shapes
 from .units import Entry, Unit
@@ -60,7 +61,7 @@ class File:
         self.sections = sections
         self.number = number
         self.is_alternate = False
-        self._strings: Dict[Tuple[str, int], str] = {}
+        self._strings: Dict[str, Strings] = {}
         self._alternate: Optional[File] = None
         self.info = Info(self, "info", number << FILE)
         self.types = Info(self, "types", number << FILE | 1 << SECTION)
@@ -79,11 +80,10 @@ class File:
 
     def string(self, section: str, offset: int) -> str:
         """The string at an offset."""
-        found = self._strings.get((section, offset))
+        found = self._strings.get(section)
         if found is None:
-            data = self.sections.held(section)
-            found = self._strings[section, offset] = decoded(string(data, offset)[0])
-        return found
+            found = self._strings[section] = Strings(self.sections.held(section))
+        return found.at(offset)
 
 
 class Debug:

@@ -4,7 +4,7 @@ from __future__ import annotations
 import struct
 from typing import Dict, Tuple
 
-from .encoding import Data
+from ..strings import Data
 
 INFO, TYPES, ABBREV, STR_OFFSETS = 1, 2, 3, 6
 NAMES = {INFO: "info", TYPES: "types", ABBREV: "abbrev", STR_OFFSETS: "str_offsets"}

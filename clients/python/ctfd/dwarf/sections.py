@@ -10,8 +10,8 @@ from typing import Dict, List, Optional
 from .. import elf, files
 from ..elf import Elf, Section, build_id
 from ..faults import Unreadable
+from ..strings import Data
 from . import packages
-from .encoding import Data
 from .relocations import relocated
 
 ZLIB, ZSTD = 1, 2

@@ -4,8 +4,9 @@ from __future__ import annotations
 import struct
 from typing import Any, Dict, List, NamedTuple, Optional, Tuple
 
+from ..strings import Data
 from . import attributes, forms
-from .encoding import Data, Read, Sizes, reader, sleb, uleb
+from .encoding import Read, Sizes, reader, sleb, uleb
 
 
 class Attribute(NamedTuple):

@@ -12,8 +12,9 @@ from __future__ import annotations
 import struct
 from typing import TYPE_CHECKING, Any, Dict, Iterator, List, NamedTuple, Optional, Tuple
 
+from ..strings import Data
 from . import attributes, forms, operations, tags
-from .encoding import Data, Sizes, decoded, index, uleb
+from .encoding import Sizes, decoded, index, uleb
 from .shapes import Shape
 
 if TYPE_CHECKING:
@@ -320,9 +321,12 @@ class Unit:
 
 
 def _is_listed(shape: Shape) -> bool:
-    """Whether entries of a shape can be wanted: of variables those that may be objects."""
+    """Whether entries of a shape can be wanted: of variables those that may be objects, of enums
+    those that name something."""
     said = shape.forms
     if shape.tag == tags.VARIABLE:
         return (attributes.EXTERNAL in said or attributes.SPECIFICATION in said
                 or said.get(attributes.LOCATION) in forms.BLOCKS)
+    if shape.tag == tags.ENUMERATION:
+        return shape.has_children or attributes.NAME in said
     return shape.tag in tags.WITHOUT_NAME or attributes.NAME in said
