@@ -39,6 +39,9 @@ ERROR = "<ERROR("
 TOO_MANY = "that a dictionary holds"
 COMMAND = headers.HERE.parents[1] / "clients/python/ctfd-convert"
 _BLOCK = re.compile(r"^(struct|union) (\w+) \{\n(.*?)^\};?", re.MULTILINE | re.DOTALL)
+# A type that is declared in a struct, which pahole lists a second time in front of its member where
+# clang has it there: it has no place.
+_INNER = re.compile(r"^\t(?:struct|union)(?: \w+)? \{\n(?:\t\t.*\n|\n)*\t\};\n", re.MULTILINE)
 # What a note under a struct says in bytes or bits, and how many bits one of these is.
 _NOTES = {
     "holes": ((re.compile(r"[ ,] holes: \d+, sum holes: (\d+)"), 8),
@@ -74,7 +77,7 @@ def parsed(text: str) -> Listed:
     found: Listed = defaultdict(list)
     for block in _BLOCK.finditer(text):
         name = f"{block[1]} {block[2]}"
-        own = block[3]
+        own = _INNER.sub("", block[3])
         places = headers.parsed(f"{name} {{\n{own}}}\n").get(name, ())
         found[name].append(Struct(places, _bits("holes", own), _bits("padding", own),
                                   ERROR in own))

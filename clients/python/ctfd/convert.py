@@ -26,7 +26,7 @@ from .merge import merged, named_once
 from .model import Model
 from .records import Table
 from .source import Source
-from .symbols import DYNSYM, NAMES, Symbols
+from .symbols import NAMES, Symbols
 from .text import printable
 from .wire import connected
 from .written import MOST_TYPES
@@ -86,12 +86,8 @@ def convert(words: argparse.Namespace) -> List[str]:
     options = Options(words.model, words.form, words.base, words.debug_folder, words.dictionary,
                       TABLES[words.symbols])
     found = read(words.input, options)
-    if options.symbols == DYNSYM and found.symbols.table == DYNSYM:
-        if not found.symbols.listed:
-            _refuse(f"{words.input}: it has no .dynsym, as a program has that exports something:"
-                    " leave --symbols out")
-        _warn(f"{words.input}: its entries go by the {len(found.symbols.listed)} functions and"
-              " objects of .dynsym, which strip leaves; those that are not exported have none")
+    if found.note:
+        _warn(f"{words.input}: {found.note}")
     made = _made(words, found)
     with connected(words.service) as client:
         outputs.judge(client, words.input, made, words.output)

@@ -15,7 +15,7 @@ from .model import Model
 from .progress import Progress
 from .records import Record, Table
 from .sound import judge
-from .symbols import NAMES, SYMTAB, Symbols, Wanted, considered
+from .symbols import DYNSYM, NAMES, SYMTAB, Symbols, Wanted, considered, table_of
 
 FORMS = ("ctf", "btf", "dwarf", "gnu")
 SECTIONS = {"ctf": source.SECTIONS, "btf": (".BTF",), "gnu": (".ctf",)}
@@ -25,13 +25,14 @@ LONGS = ("long int", "long", "long unsigned int", "unsigned long")
 class Input(NamedTuple):
     """What a file has: its types, those of them that are wanted for themselves, the number of
     types of its base or parent, which come first, and the words for what it was read from. What is
-    told of symbols goes by `symbols`."""
+    told of symbols goes by `symbols`; `note` is what a user should know of that."""
 
     table: Table
     roots: Set[int]
     bases: int
     form: str
     symbols: Symbols = Symbols()
+    note: str = ""
 
 
 class Options(NamedTuple):
@@ -154,10 +155,24 @@ def _strings(file: Elf, link: int) -> Optional[bytes]:
 
 def _of_dwarf(whole: Elf, options: Options) -> Input:
     symbols = considered(whole, options.symbols)
+    if options.symbols == DYNSYM and not symbols.listed:
+        raise Unreadable("it has no .dynsym with functions or objects, as a program has that exports"
+                         " some: leave --symbols out")
     reader = from_dwarf.Reader(Table(whole.model), symbols.listed)
     _take(reader, whole, options)
     reader.tell(whole.kind != elf.RELOCATABLE)
-    return Input(reader.table, reader.roots, 0, "DWARF", symbols)
+    return Input(reader.table, reader.roots, 0, "DWARF", symbols, _note(whole, symbols))
+
+
+def _note(file: Elf, symbols: Symbols) -> str:
+    """What is to be known of the symbols of a program."""
+    if symbols.table == DYNSYM:
+        return (f"its entries go by the {len(symbols.listed)} functions and objects of .dynsym,"
+                " which strip leaves; what is not exported has none")
+    if not symbols.listed and table_of(file, DYNSYM):
+        return ("it has no .symtab, as strip leaves it: nothing is told of its symbols; --symbols"
+                " dynsym tells of those that it exports")
+    return ""
 
 
 def _of_archive(path: str, data: Mapped, options: Options) -> Input:

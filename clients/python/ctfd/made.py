@@ -33,7 +33,7 @@ class Made:
         if self.plain:
             return self.plain
         labels = identity.model_label(self.table.model)
-        if self.has_entries and self.symbols.listed:
+        if self.has_label:
             labels.append(identity.symbols_label(self.symbols))
         self.table.labels = [(label, last) for label, last in self.table.labels
                              if not identity.is_ours(label)]
@@ -54,6 +54,11 @@ class Made:
     def has_entries(self) -> bool:
         """Whether it has entries of functions or objects."""
         return bool(self.table.objects or self.table.functions)
+
+    @property
+    def has_label(self) -> bool:
+        """Whether it says which symbols its entries go by."""
+        return self.has_entries and bool(self.symbols.listed) and not self.plain
 
     @property
     def over(self) -> Optional[bytes]:

@@ -110,7 +110,7 @@ def add_section(path: str, made: Made, output: str) -> None:
         if done.returncode:
             raise Error(f"{output}: objcopy failed: {' '.join(done.stderr.split())}")
         how = source.read(copy).how
-        if how in ("differs", "stripped"):
+        if made.has_label and how in ("differs", "stripped"):
             raise Error(f"{output}: it is not written: {source.WARNINGS[how]}")
         with open(copy, "rb") as file:
             write(output, file.read())
