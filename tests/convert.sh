@@ -28,10 +28,12 @@ failed=0
 if [ "${2:-}" != all ]; then
     "$python" "$tests/convert/run.py" "$program" 16 --gnu 4 || failed=1
     "$python" "$tests/convert/mutants.py" "$program" 600 || failed=1
+    "$python" "$tests/convert/forms.py" "$program" || failed=1
     exit $failed
 fi
 "$python" "$tests/convert/run.py" "$program" 500 --gnu 50 || failed=1
 "$python" "$tests/convert/mutants.py" "$program" 6000 || failed=1
+"$python" "$tests/convert/forms.py" "$program" || failed=1
 if command -v pahole dpkg > /dev/null; then
     "$python" "$tests/convert/headers.py" "$program" || failed=1
 fi

@@ -205,7 +205,7 @@ class Forms:
         ours = beside_pahole.listed(self.service, str(self.folder / made), "")
         for struct, listed in self.expected.structs.items():
             self.tally.structs += 1
-            if ours.get(struct) != listed:
+            if set(ours.get(struct, [])) != set(listed):
                 self.wrong(name, f"{struct}: {ours.get(struct)} and not {listed}")
         with ctfd.Client(self.service) as client:
             types = ctfd.open_file(client.session(), str(self.folder / made))

@@ -7,12 +7,14 @@ from typing import Iterator, List, Optional
 
 from . import identity
 from .faults import Unreadable
+from .records import AGGREGATES
 from .text import printable
 
 BEGINS = b"\xf1\xcf\x02"
 COMPRESSED = 1
 MOST_PADDING = 16
 TOLD = 10
+TELLING = (*AGGREGATES, "enum", "typedef")
 PIECE = 4096
 
 
@@ -73,18 +75,22 @@ def chosen(section: bytes, number: Optional[int], path: str) -> bytes:
 
 
 def told(found: List[bytes]) -> str:
-    """How many there are, each with its number and the first name in it."""
-    listed = [f"{number} ({len(one)} bytes, {_first_name(one)})"
-              for number, one in enumerate(found[:TOLD], 1)]
+    """How many there are, each with its number, its types and the first name of one."""
+    listed = [f"{number} ({_described(one)})" for number, one in enumerate(found[:TOLD], 1)]
     more = f" and {len(found) - TOLD} more" if len(found) > TOLD else ""
     plural = "dictionaries, one behind the other" if len(found) > 1 else "dictionary"
     return f"{len(found)} {plural}: {', '.join(listed)}{more}"
 
 
-def _first_name(ctf: bytes) -> str:
-    """The first name in the strings, which is a type's or the parent's."""
-    if ctf[3] & COMPRESSED or len(ctf) < identity.HEADER:
-        return "compressed"
-    places = identity.sections(ctf)
-    name = ctf[places.strings + 1:places.end].split(b"\0", 1)[0][:60]
-    return f"from `{printable(name.decode('utf-8', 'surrogateescape'))}` on" if name else "no name"
+def _described(ctf: bytes) -> str:
+    from .from_ctf import table_of  # it reads by way of this
+    from .source import inflate
+
+    try:
+        table = table_of(inflate(ctf))
+    except Unreadable:
+        return f"{len(ctf)} bytes, damaged"
+    own = table.records[table.bases:]
+    named = sorted((one for one in own if one.name and one.kind in TELLING),
+                   key=lambda one: one.kind not in AGGREGATES)
+    return f"{len(own)} types" + (f", {printable(named[0].tagged)}" if named else "")
