@@ -13,6 +13,7 @@ from typing import List
 import ctfd
 from ctfd import identity, several, source
 from ctfd.elf import Elf
+from ctfd.program import open_program
 from ctfd.records import Record, Table
 from ctfd.symbols import DYNSYM, SYMTAB, considered
 from ctfd.written import written
@@ -99,6 +100,15 @@ class Symbols(WithPrograms):
         self.assertEqual(whole._replace(listed=moved).identity, whole.identity)
         self.assertNotEqual(considered(file, DYNSYM).identity, whole.identity)
 
+    def test_a_debugger_tells_no_wrong_symbol(self) -> None:
+        made = self.with_section(self.program("program", "-rdynamic"))
+        self.assertIn("add", open_program(self.session, made).symbols)
+        subprocess.run(["strip", made], check=True)
+        program = open_program(self.session, made)
+        self.assertEqual((program.symbols, program.types.how), ({}, "stripped"))
+        with self.assertRaisesRegex(ctfd.Unreadable, "as strip leaves it"):
+            program.types.symbol("add")
+
     def test_differences_of_a_program_that_was_stripped(self) -> None:
         made = self.with_section(self.program("program"))
         shutil.copy(made, f"{made}.stripped")
@@ -158,7 +168,7 @@ class Of(WithPrograms):
     def test_a_dictionary_of_32_bits_says_so(self) -> None:
         out, _ = self.converted(self.compiled("short.o", CODE, "-g", "-m32"), "--lossy")
         self.assertEqual((source.read(out).model, self.types(out).model), ("ilp32", "ilp32"))
-        self.assertEqual(self.types(out).find("struct node").size, 24)
+        self.assertEqual(self.types(out).find("struct node").size, 20)
         said = command("ctfd-types", "--model", "lp64", out).stderr
         self.assertIn("it says that it is of ilp32, and lp64 was asked for: leave the model out",
                       said)
