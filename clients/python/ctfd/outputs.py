@@ -22,6 +22,7 @@ from .wire import Answer, Client, Session
 
 SECTION = ".SUNW_ctf"
 STANDARD_OUTPUT = "-"
+TOOLS = ("objcopy", "llvm-objcopy")  # that of GNU knows the machines that it was built for
 
 
 def parent_name(path: str) -> str:
@@ -97,18 +98,16 @@ def _write_standard(data: bytes) -> None:
 
 def add_section(path: str, made: Made, output: str) -> None:
     """Writes a copy of an ELF file with the dictionary in it, in place of one that it has."""
-    tool = shutil.which("objcopy")
-    if tool is None:
+    tools = [found for found in map(shutil.which, TOOLS) if found]
+    if not tools:
         raise Error("--section needs objcopy, which is not on the PATH: install binutils")
     with tempfile.TemporaryDirectory() as folder:
         section, copy = os.path.join(folder, "section"), os.path.join(folder, "copy")
         with open(section, "wb") as file:
             file.write(made.ctf)
-        done = subprocess.run(
-            [tool, "--remove-section", SECTION, "--add-section", f"{SECTION}={section}",
-             os.path.abspath(path), copy], capture_output=True, text=True, errors="replace")
-        if done.returncode:
-            raise Error(f"{output}: objcopy failed: {' '.join(done.stderr.split())}")
+        said = [_copied(tool, os.path.abspath(path), section, copy) for tool in tools]
+        if all(said):
+            raise Error(f"{output}: objcopy failed: {said[0]}")
         how = source.read(copy).how
         if made.has_label and how in ("differs", "stripped"):
             raise Error(f"{output}: it is not written: {source.WARNINGS[how]}")
@@ -116,6 +115,16 @@ def add_section(path: str, made: Made, output: str) -> None:
             write(output, file.read())
     if output != STANDARD_OUTPUT and os.path.isfile(output):
         shutil.copymode(path, output)
+
+
+def _copied(tool: str, path: str, section: str, copy: str) -> str:
+    """Copies a file with a section in it, if no tool before has; what the tool said in vain."""
+    if os.path.exists(copy):
+        return ""
+    done = subprocess.run([tool, "--remove-section", SECTION, "--add-section",
+                           f"{SECTION}={section}", path, copy],
+                          capture_output=True, text=True, errors="replace")
+    return " ".join(done.stderr.split()) or "no word on why" if done.returncode else ""
 
 
 @contextlib.contextmanager

@@ -33,8 +33,8 @@ WARNINGS = {
                " was linked, stripped or changed behind that: nothing is told of symbols, and"
                " ctfd-convert makes the types anew",
     "stripped": "the symbol table that the types were written for is not in the file, as strip"
-                " leaves it: nothing is told of symbols (ctfd-convert --symbols dynsym writes what"
-                " lasts)",
+                " leaves it: nothing is told of symbols; ctfd-convert --symbols dynsym writes what"
+                " lasts",
     "unread": "the file's symbol table is one of 32 bits, which is not read: nothing is told of"
               " symbols",
 }

@@ -3,6 +3,7 @@ from __future__ import annotations
 
 import random
 import shutil
+import struct
 import subprocess
 import unittest
 from pathlib import Path
@@ -18,6 +19,13 @@ from .test_convert import CODE, WithFiles
 
 MAIN = CODE + "int main(void) { return add(first, 1); }\n"
 OTHER = "#include <stddef.h>\nstruct inner { char c; }; struct own { struct inner i; } own;\n"
+
+
+MACHINES = """
+enum color { RED, GREEN };
+struct point { int x; char letter; struct point *next; short rest[3]; } first;
+int area(struct point *point, enum color color) { return point->x + color; }
+"""
 
 
 @unittest.skipUnless(TOOLS, "no gcc or objcopy here")
@@ -91,6 +99,52 @@ class Forms(WithFiles):
     @unittest.skipUnless(compiles("-gdwarf64"), "a gcc without -gdwarf64 here")
     def test_offsets_of_64_bits(self) -> None:
         self.check("-g", "-gdwarf64")
+
+    def of_clang(self, machine: str, *options: str) -> str:
+        """An object file of another machine."""
+        made = str(self.folder / f"{machine}.o")
+        source = self.file("machine.c", MACHINES.encode())
+        subprocess.run(["clang", f"--target={machine}", "-g", "-O1", "-w", *options, "-c", source,
+                        "-o", made], check=True)
+        return made
+
+    @unittest.skipUnless(shutil.which("clang"), "no clang here")
+    def test_object_files_of_other_machines(self) -> None:
+        for machine in ("aarch64-linux-gnu", "armv7-linux-gnueabihf", "riscv64-linux-gnu",
+                        "powerpc64le-linux-gnu", "i386-linux-gnu", "bpfel"):
+            for version in ("-gdwarf-4", "-gdwarf-5"):
+                with self.subTest(machine, version=version):
+                    out, _ = self.converted(self.of_clang(machine, version), "--section")
+                    types = self.types(out)
+                    point = types.find("struct point")
+                    pointer = types.pointer_size
+                    self.assertEqual(self.members(point), [
+                        ("x", 0, "int"), ("letter", 32, "char"),
+                        ("next", 64, "struct point *"), ("rest", 64 + 8 * pointer, "short [3]")])
+                    self.assertEqual([e.name for e in types.find("enum color").enumerators],
+                                     ["RED", "GREEN"])
+                    if pointer == 8:  # symbols of 32 bits are not read
+                        found = types.symbol("area")
+                        assert isinstance(found, ctfd.Signature)
+                        self.assertEqual([t.spelled for t in found.arguments],
+                                         ["struct point *", "enum color"])
+
+    @unittest.skipUnless(shutil.which("clang"), "no clang here")
+    def test_what_is_not_read_is_told_by_its_cause(self) -> None:
+        big = self.converted(self.of_clang("powerpc64-linux-gnu"), status=2)[1]
+        self.assertIn("a big-endian ELF file, which is not read", big)
+        path = self.compiled("code.o", CODE)
+        data = bytearray(Path(path).read_bytes())
+        data[18:20] = b"\x2b\0"  # SPARC
+        self.assertIn("an object file of machine 43, whose relocations are not known: name the"
+                      " linked program", self.converted(self.file("sparc.o", bytes(data)),
+                                                        status=2)[1])
+        whole = bytearray(Path(self.compiled("packed.o", CODE, "-g", "-gz")).read_bytes())
+        at = whole.index(struct.pack("<IIQ", 1, 0, 0)[:8], 64)
+        whole[at] = 2
+        self.assertRegex(self.converted(self.file("zstd.o", bytes(whole)), status=2)[1],
+                         r"is compressed by zstd, which is not read: objcopy"
+                         r" --decompress-debug-sections")
 
     def test_archives(self) -> None:
         self.linked("program", "-g")
