@@ -98,7 +98,7 @@ def _write_standard(data: bytes) -> None:
 
 def add_section(path: str, made: Made, output: str) -> None:
     """Writes a copy of an ELF file with the dictionary in it, in place of one that it has."""
-    tools = [found for found in map(shutil.which, TOOLS) if found]
+    tools = [found for found in (shutil.which(one) for one in TOOLS) if found]
     if not tools:
         raise Error("--section needs objcopy, which is not on the PATH: install binutils")
     with tempfile.TemporaryDirectory() as folder:
