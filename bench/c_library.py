@@ -12,7 +12,7 @@ Each question is asked of all that it is for, again and again for some 0.2 s of 
 times, and the least counts; instructions are what callgrind counts more for more rounds. Prints a
 table in Markdown. With --profile it prints where callgrind says that a question's instructions go.
 
-Needs gcc, objcopy, valgrind, the Debian packages binutils-dev and python3-pyelftools.
+Needs gcc, objcopy, valgrind, the Debian package binutils-dev.
 """
 from __future__ import annotations
 

@@ -27,10 +27,10 @@ class Part:
 
 
 def with_packages() -> str:
-    """A Python that has what the client reads ELF files and declarations with; else this one."""
+    """A Python that has what the client reads declarations with; else this one."""
     for python in (sys.executable, "/usr/bin/python3"):
         if Path(python).exists() and subprocess.run(
-                [python, "-c", "import elftools, pycparser"], capture_output=True).returncode == 0:
+                [python, "-c", "import pycparser"], capture_output=True).returncode == 0:
             return python
     return sys.executable
 

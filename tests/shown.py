@@ -45,7 +45,7 @@ RECIPE = "/tmp/recipe"
 ARCHIVE = "crates/ctf_c/out/libctfd.a"
 TOOLS = ("cc", "gcc", "gdb", "objcopy", "llvm-objcopy", "jq", "man", "rt")
 # What of the client takes which package of Python.
-LIBRARIES = {"ctfd-convert": "elftools", "build.declare": "pycparser"}
+LIBRARIES = {"build.declare": "pycparser"}
 LONGEST_SECONDS = 900
 
 

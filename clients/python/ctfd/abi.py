@@ -60,6 +60,9 @@ def _floats(model: Model) -> Dict[str, Shape]:
             "_Float64x": "long double"}
     known.update({name: known[other] for name, other in same.items()})
     known.update({name: Shape(16, 16) for name in ("_Float128", "__float128")})
+    known.update({f"_Decimal{8 * size}": Shape(size, size) for size in (4, 8, 16)})
+    if model == "lp64":  # else gcc has it by an option alone
+        known["_Float16"] = Shape(2, 2)
     return known
 
 

@@ -49,6 +49,8 @@ class Catalog:
         self._spans: Dict[int, Span] = {}
         self._layouts: Dict[int, Layout] = {}
         self._read(set(lists))
+        self._visible = {_as_integer(self[number]) for number in self.numbers
+                         if self[number].kind == "integer" and self[number].root}
 
     def __getitem__(self, number: int) -> Record:
         """The record of a number; one that is a parent's, which is not there, is `unknown`."""
@@ -163,9 +165,14 @@ class Catalog:
         record = self[self.resolved(number)]
         lies = record.encoding
         if record.kind == "integer" and lies.bits:
-            if lies.offset or lies.bits != 8 * record.size:
+            if lies.offset or lies.bits != 8 * record.size or self._is_copy(record):
                 return lies.offset, lies.bits, lies.bits
         return 0, 8 * (self.size(number) or 0), None
+
+    def _is_copy(self, record: Record) -> bool:
+        """Whether an integer is a hidden copy of one that is seen: the type of a bit-field that is
+        as wide as that."""
+        return not record.root and _as_integer(record) in self._visible
 
     # Which types there are.
 
@@ -176,6 +183,11 @@ class Catalog:
     def type(self, number: int) -> Type:
         """The type as an object, for what declares it."""
         return self.dictionary.type(number)
+
+
+def _as_integer(record: Record) -> Tuple[str, int, Encoding]:
+    """What an integer is to C."""
+    return record.name, record.size, record.encoding
 
 
 def _members(record: Record, said: Answer) -> Record:

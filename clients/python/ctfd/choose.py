@@ -34,13 +34,14 @@ def named(table: Table, names: Iterable[str]) -> Set[int]:
     return found
 
 
-def fitting(table: Table, roots: Iterable[int]) -> Chosen:
+def fitting(table: Table, roots: Iterable[int], last: Iterable[int] = ()) -> Chosen:
     """As many types as a dictionary holds. Each brings what it holds by value; what it only points
-    to comes behind all that has a name."""
+    to comes behind all that has a name, and behind that what is wanted last."""
     chosen = dict.fromkeys([])  # type: dict[int, None]
     later: List[int] = []
     for root in sorted(roots):
         _take(table, root, chosen, later)
+    later += last
     for number in later:  # it grows as they bring further ones
         _take(table, number, chosen, later)
     left = [n for n in table.numbers() if n not in chosen]

@@ -11,7 +11,7 @@ import argparse
 import sys
 from typing import Iterator, List, Optional, Sequence
 
-from . import commands, compilable, declare, picture, reports, treemap, words
+from . import commands, compilable, declare, picture, reports, source, treemap, words
 from .catalog import ALL_LISTS, LISTS
 from .dictionary import Dictionary
 from .faults import Error, NotFound, Refused, Unreadable
@@ -36,7 +36,7 @@ def main(arguments: Optional[Sequence[str]] = None) -> int:
 def _run(session: Session, wanted: argparse.Namespace) -> int:
     """All files, one after the other; one without what is wanted is passed over if another has it.
     """
-    opener = Opener(session, wanted.model)
+    opener = Opener(session, wanted.model, wanted.dictionary)
     missed: List[Unknown] = []
     for path in wanted.files:
         try:
@@ -56,9 +56,8 @@ def _run(session: Session, wanted: argparse.Namespace) -> int:
 def _lines(opener: Opener, wanted: argparse.Namespace, path: str) -> Iterator[str]:
     """What is told of one file."""
     types = opener.open(path, wanted.parent, _bytes(wanted.symbols), _bytes(wanted.strings))
-    if types.how == "refused":
-        _warn(f"{path}: its symbol table is not the one that the types were written for:"
-              " nothing is told of symbols")
+    if types.how in ("refused", "differs"):
+        _warn(f"{path}: {source.WARNINGS[types.how]}")
     if _asks_all(wanted):
         is_whole = wanted.json or wanted.c  # with arguments and enumerators too
         told = whole(types, path, ALL_LISTS if is_whole else LISTS)
@@ -174,11 +173,10 @@ def _symbol(types: Dictionary, name: str) -> str:
         raise Unknown(f"{name}: neither a type nor a symbol of which something is told"
                       f" ({why}){offered(name, types.names())}") from fault
     if types.how == "guessed":
-        _warn("the section names no symbol table: that of the file is taken, and if it is not the"
-              " one that the types were written for, this is another symbol's")
+        _warn(source.WARNINGS[types.how])
     if isinstance(said, Signature):
         return declare.function(said, name) + ";"
-    return declare.declaration(said, name) + ";"
+    return declare.object_of(said, name) + ";"
 
 
 def _warn(said: str) -> None:

@@ -36,6 +36,9 @@ def run(command: str, program: Optional[str], work: Callable[[Session], int], tr
         warn(command, "memory ran out")
     except (Error, OSError) as error:
         warn(command, str(error))
+    except Exception as error:  # a file that nobody thought of: no user is shown where in the code
+        warn(command, f"a file is damaged, or of a form that is not read"
+             f" ({type(error).__name__}: {' '.join(str(error).split())})")
     finally:
         gc.enable()
     return trouble

@@ -20,7 +20,8 @@ KEYWORDS = frozenset(
     " inline int long register restrict return short signed sizeof static struct switch typedef"
     " union unsigned void volatile while asm typeof _Alignas _Alignof _Atomic _Bool _Complex"
     " _Generic _Imaginary _Noreturn _Static_assert _Thread_local __auto_type __builtin_va_list"
-    " __int128 __float128 _Float128 _Float64 _Float32 _Float64x _Float32x __func__"
+    " __int128 __float128 _Float128 _Float64 _Float32 _Float64x _Float32x _Float16 __bf16 __fp16"
+    " __float80 __ibm128 _Decimal32 _Decimal64 _Decimal128 __func__"
     " linux unix i386".split())
 
 _IDENTIFIER = re.compile(r"[A-Za-z_][A-Za-z0-9_]*\Z")
@@ -206,11 +207,14 @@ class Compilable:
             yield f"{tabs}\tchar ctfd_bytes[{form.shape.size}];"
         names: Set[str] = set()
         for place, said in enumerate(form.members):
-            yield from self._said(said, place, names, depth + 1)
+            is_last = 0 < place == len(form.members) - 1 and self.catalog[number].kind == "struct"
+            yield from self._said(said, place, names, depth + 1, is_last)
         attribute = f" {form.attribute}" if form.attribute else ""
         yield f"{tabs}}}{attribute}{behind}"
 
-    def _said(self, said: Said, place: int, names: Set[str], depth: int) -> Iterator[str]:
+    def _said(self, said: Said, place: int, names: Set[str], depth: int,
+              is_last: bool) -> Iterator[str]:
+        """A member; the last of a struct may be an array whose length is not known."""
         tabs = "\t" * depth
         if said.part is None:
             if said.width is None:
@@ -223,7 +227,7 @@ class Compilable:
             told = f"{self._bit_field(said.part)} {name}".rstrip()
             yield f"{tabs}{told}: {said.width};{why}"
             return
-        said_so = declarator(self.catalog.type(said.part.type), self.called)
+        said_so = declarator(self.catalog.type(said.part.type), self.called, is_last)
         if "*" not in said_so.left and said_so.base.kind in AGGREGATES \
                 and self._is_in_place(said_so.base.number) and depth <= DEEPEST:
             head = " ".join([*said_so.qualifiers, said_so.base.kind, "{"])

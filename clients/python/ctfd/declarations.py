@@ -9,7 +9,8 @@ from .attributes import Attributes, MARK, Plain, plain
 from .build import CType, Member, Types, VOID
 from .faults import Error
 
-FLOATS = ("_Float32", "_Float64", "_Float32x", "_Float64x", "_Float128", "__float128")
+FLOATS = ("_Float16", "_Float32", "_Float64", "_Float32x", "_Float64x", "_Float128", "__float128",
+          "_Decimal32", "_Decimal64", "_Decimal128")
 FILE = "the declarations"
 BINARY: Dict[str, Callable[[int, int], int]] = {
     "+": lambda a, b: a + b, "-": lambda a, b: a - b, "*": lambda a, b: a * b,

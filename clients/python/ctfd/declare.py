@@ -55,32 +55,42 @@ def declaration(declared: Type, name: str = "") -> str:
     return declarator(declared).around(printable(name))
 
 
+def object_of(declared: Type, name: str) -> str:
+    """How C declares an object, which may be an array of a length that is not known."""
+    return declarator(declared, is_open=True).around(printable(name))
+
+
 def function(signature: Signature, name: str) -> str:
     """How C declares a function by a symbol's signature."""
     arguments = _arguments(signature, 0, [STEPS])
     return declarator(signature.returns).around(f"{printable(name)}({arguments})")
 
 
-def declarator(declared: Type, named: Callable[[Type], str] = base) -> Declarator:
-    """The parts of a declaration."""
-    return _declarator(declared, 0, [STEPS], named)
+def declarator(declared: Type, named: Callable[[Type], str] = base,
+               is_open: bool = False) -> Declarator:
+    """The parts of a declaration. With `is_open` an array of no elements is one whose length is
+    not known, where C takes that."""
+    return _declarator(declared, 0, [STEPS], named, is_open)
 
 
 def _declarator(declared: Type, depth: int, budget: List[int],
-                named: Callable[[Type], str] = base) -> Declarator:
+                named: Callable[[Type], str] = base, is_open: bool = False) -> Declarator:
     """`budget` holds the steps that are left, for all declarators of one declaration."""
     left, right = "", ""
     qualifiers: List[str] = []
+    of_pointer: List[str] = []  # the qualifiers of the pointer that comes next
     while True:
         budget[0] -= 1
         kind = declared.kind
         if kind == "pointer":
             declared = declared.reference
             left = "*" + left
+            of_pointer = []
             if declared.stripped.kind in ("array", "function"):
                 left, right = "(" + left, right + ")"
         elif kind == "array":
-            right += f"[{declared.count}]"
+            is_unknown = is_open and not declared.count and not right.endswith("]")
+            right += "[]" if is_unknown else f"[{declared.count}]"
             declared = declared.contents
         elif kind == "function":
             signature = declared.signature
@@ -88,18 +98,31 @@ def _declarator(declared: Type, depth: int, budget: List[int],
             declared = signature.returns
         elif kind in QUALIFIERS:
             declared = declared.reference
-            if declared.stripped.kind == "pointer":
-                left = f"{kind} {left}"
-            else:
+            if _element(declared).kind == "pointer":
+                left = left if kind in of_pointer else f"{kind} {left}"
+                of_pointer.append(kind)
+            elif kind not in qualifiers:
                 qualifiers.append(kind)
         else:
             return Declarator(qualifiers, declared, left, right, named)
+
+
+def _element(declared: Type) -> Type:
+    """What a qualifier of a type is said of: of an array its elements."""
+    for _ in range(STEPS):
+        declared = declared.stripped
+        if declared.kind != "array":
+            break
+        declared = declared.contents
+    return declared
 
 
 def _arguments(signature: Signature, depth: int, budget: List[int],
                named: Callable[[Type], str] = base) -> str:
     if depth >= DEEPEST or budget[0] <= 0:
         return CUT
+    if signature.varargs and not signature.arguments:
+        return ""  # what they are is not said, as by `int f()`
     listed: List[str] = []
     for argument in signature.arguments:
         if budget[0] <= 0:

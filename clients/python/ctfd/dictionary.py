@@ -3,7 +3,7 @@ from __future__ import annotations
 
 from typing import Any, Dict, Iterable, List, Optional, Tuple, Union
 
-from . import source, text
+from . import identity, source, text
 from .faults import BadSymbols, NoMemory, Refused, Unreadable
 from .gather import Gathering
 from .model import Model, POINTER_SIZES
@@ -31,13 +31,19 @@ WORDS = {
 
 
 def open_file(session: Session, path: str, sym: Optional[bytes] = None,
-              strings: Optional[bytes] = None, model: Optional[Model] = None) -> Dictionary:
+              strings: Optional[bytes] = None, model: Optional[Model] = None,
+              number: Optional[int] = None) -> Dictionary:
     """Opens the dictionary of a file (see `ctfd.source`).
 
     Where symbols or strings are given, they stand in place of the file's symbols, and a model in
-    place of the file's.
+    place of the file's. `number` chooses one of several dictionaries that stand behind each other.
+    Raises Unreadable where the dictionary says another model.
     """
-    found = source.read(path)
+    found = source.read(path, number)
+    said = identity.model(found.ctf)
+    if model and said and model != said:
+        raise Unreadable(f"{path}: it says that it is of {said}, and {model} was asked for: leave"
+                         " the model out")
     if sym is not None or strings is not None:
         beside = found.strings if strings is None else strings
         found = found._replace(sym=sym, strings=beside, how="given")
@@ -53,7 +59,7 @@ def open_source(session: Session, found: Source) -> Dictionary:
             raise
         opened = session.open(found.ctf, None, found.strings, found.model)
         found = found._replace(sym=None, how="refused")
-    return Dictionary(session, opened["d"], found.how)
+    return Dictionary(session, opened["d"], found.how, identity.of_types(found.ctf))
 
 
 def taken(session: Session, owner: int, name: str) -> Dictionary:
@@ -70,16 +76,19 @@ class Dictionary:
     """Slot `slot` of a session.
 
     `how` tells where its symbols come from, as in `Source`, or "refused" where guessed ones did
-    not fit. `model` is the data model by which the service sizes and shows pointers. A child
+    not fit; `types_label` is what a child names it by as its parent, where that is known. `model` is the data model by which the service sizes and shows pointers. A child
     shares what its parent was answered, so the parent's slot stays open.
     """
 
-    def __init__(self, session: Session, slot: int, how: str = "none") -> None:
+    def __init__(self, session: Session, slot: int, how: str = "none",
+                 types_label: Optional[str] = None) -> None:
         self.session = session
         self.slot = slot
         self.how = how
+        self.types_label = types_label
         self.parent: Optional[Dictionary] = None
         self._answers: Dict[Tuple[str, int], Outcome] = {}
+        self._copies: Dict[int, bool] = {}
         info = session.ask("info", d=slot)
         self.is_child: bool = info["child"]
         self.own: int = info["types"]
@@ -88,7 +97,11 @@ class Dictionary:
         self.model: Model = session.ask("model", d=slot)["model"]
 
     def import_parent(self, parent: Dictionary) -> None:
-        """Gives a child its parent, a dictionary of the same session."""
+        """Gives a child its parent, a dictionary of the same session. Raises Unreadable where the
+        child says that its parent is another."""
+        why = identity.not_its_parent(self.parent_label, parent.types_label)
+        if why and self.is_child:
+            raise Unreadable(why)
         self.session.ask("import", d=self.slot, parent=parent.slot)
         self.parent = parent
         self._answers.clear()
@@ -204,6 +217,23 @@ class Dictionary:
         self.fetch([("record", t.number) for t in types])
         return [t for t in types if _called(t) in spellings(base)]
 
+    def is_copy(self, integer: Type) -> bool:
+        """Whether an integer is a hidden copy of one that is seen."""
+        known = self._copies.get(integer.number)
+        if known is None:
+            known = self._copies[integer.number] = self._is_copy(integer)
+        return known
+
+    def _is_copy(self, integer: Type) -> bool:
+        if integer.is_root:
+            return False
+        try:
+            seen = self.find(integer.raw_name)
+        except Refused:
+            return False
+        return (seen.kind == "integer" and seen.number != integer.number
+                and (seen.size, seen.encoding) == (integer.size, integer.encoding))
+
     def names(self) -> List[str]:
         """The names by which types are found, those of the parent too."""
         own = self.types() + (self.parent.types() if self.parent else [])
@@ -231,8 +261,8 @@ class Dictionary:
         return self.signature(self._ask_symbols("function", sym=number))
 
     def _ask_symbols(self, op: str, **fields: Any) -> Answer:
-        if self.how == "unread":
-            raise Unreadable("the file's symbol table is one of 32 bits, which is not read")
+        if self.how in ("unread", "differs", "stripped"):
+            raise Unreadable(source.WARNINGS[self.how])
         return self.session.ask(op, d=self.slot, **fields)
 
     def signature(self, said: Answer) -> Signature:

@@ -10,7 +10,7 @@ import argparse
 import sys
 from typing import Iterator, Optional, Sequence
 
-from . import commands, diff, objects, symbol_diff
+from . import commands, diff, objects, source, symbol_diff
 from .catalog import ALL_LISTS
 from .diff import Change
 from .model import POINTER_SIZES
@@ -71,6 +71,10 @@ def _changes(session: Session, words: argparse.Namespace) -> Iterator[Change]:
     for change in diff.compared(old, new):
         if not patterns or meets(change.label, patterns) or meets(_bare(change), patterns):
             yield change
+    for one in (old, new):
+        how = one.catalog.dictionary.how
+        if how in source.WARNINGS and how != "guessed":
+            commands.warn(NAME, f"{one.path}: {source.WARNINGS[how]}")
     told = (symbol_diff.symbols(one.catalog.dictionary, one.path) for one in (old, new))
     for change in symbol_diff.compared(*told):
         if not patterns or meets(_bare(change), patterns):

@@ -6,6 +6,7 @@ from typing import Dict, List, NamedTuple, Optional, Set, Tuple
 
 from .faults import Unreadable
 from .records import BOOLEAN, CHARACTER, Part, Record, SIGNED, Table
+from .strings import Strings
 from .types import Encoding, Enumerator
 
 MAGIC = b"\x9f\xeb"
@@ -19,6 +20,13 @@ CHARACTERS = ("char", "signed char", "unsigned char")
 FLAGS = ((1, SIGNED), (2, CHARACTER), (4, BOOLEAN))
 
 
+class Named(NamedTuple):
+    """A function or a variable, and the number of its type."""
+
+    name: str
+    type: int
+
+
 class Read(NamedTuple):
     """What was read: for each of BTF's numbers that of the table, the strings, and what is told
     of functions and variables by their names."""
@@ -26,8 +34,8 @@ class Read(NamedTuple):
     table: Table
     numbers: List[int]
     strings: bytes
-    functions: Dict[str, int]
-    objects: Dict[str, int]
+    functions: List[Named]
+    objects: List[Named]
     roots: Set[int]
 
 
@@ -38,12 +46,13 @@ class _Reader:
         types, strings = _sections(btf)
         self.types = types
         self.strings = (base.strings if base else b"") + strings
+        self._names = Strings(self.strings)
         self.table = table
         self.numbers = list(base.numbers) if base else [0]
         self.said: List[Tuple[int, Record]] = []
         self.aliases: Dict[int, int] = {}
-        self.functions: Dict[str, int] = {}
-        self.objects: Dict[str, int] = {}
+        self.functions: List[Named] = []
+        self.objects: List[Named] = []
         self.at = 0
 
     def run(self) -> Read:
@@ -55,16 +64,17 @@ class _Reader:
             self.table.put(number, record.renumbered(self._number))
             if record.name or record.kind == "enum":
                 roots.add(number)
-        told = [{name: self._number(n) for name, n in named.items()}
-                for named in (self.functions, self.objects)]
+        told = [[Named(one.name, self._number(one.type)) for one in listed]
+                for listed in (self.functions, self.objects)]
         return Read(self.table, self.numbers, self.strings, told[0], told[1], roots)
 
     def _number(self, n: int) -> int:
         """The table's number of one of BTF's: tags lead on to what they are of."""
-        for _ in range(len(self.aliases) + 1):
-            if n not in self.aliases:
-                break
+        passed: List[int] = []
+        while n in self.aliases and len(passed) <= len(self.aliases):
+            passed.append(n)
             n = self.aliases[n]
+        self.aliases.update(dict.fromkeys(passed, n))
         return self.numbers[n]
 
     def _take(self, form: str) -> Tuple[int, ...]:
@@ -73,8 +83,7 @@ class _Reader:
         return taken
 
     def _name(self, offset: int) -> str:
-        end = self.strings.index(b"\0", offset)
-        return self.strings[offset:end].decode("utf-8", "surrogateescape")
+        return self._names.at(offset)
 
     def _type(self) -> None:
         offset, info, field = self._take("III")
@@ -110,10 +119,10 @@ class _Reader:
     def _other(self, kind: int, length: int, name: str, field: int, own: int) -> None:
         """What is no type itself."""
         if kind == FUNC:
-            self.functions[name] = field
+            self.functions.append(Named(name, field))
         elif kind == VAR:
             self._take("I")
-            self.objects[name] = field
+            self.objects.append(Named(name, field))
         elif kind == DATASEC:
             self.at += 12 * length
         elif kind == DECL_TAG:

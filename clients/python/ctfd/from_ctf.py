@@ -11,6 +11,7 @@ from .faults import Unreadable
 from .model import Model
 from .records import Part, Record, Table
 from .source import HEADER
+from .strings import Strings
 from .types import Encoding, Enumerator
 from .written import CHILD, KINDS, LONG_MEMBERS, LONG_SIZE
 
@@ -24,8 +25,8 @@ class _Reader:
         body = ctf[HEADER:]
         self.labels, self.objects, self.functions, self.types = (
             body[start:end] for start, end in zip(ends, ends[1:]))
-        self.names = body[ends[4]:ends[4] + length]
-        self.strings = strings or b""
+        self.names = Strings(body[ends[4]:ends[4] + length])
+        self.strings = Strings(strings or b"")
         self.has_outer = False
         self.is_child = parent != 0
         self.parent, self.parent_label = self.name(parent), self.name(label)
@@ -80,12 +81,11 @@ class _Reader:
         if not start:
             return ""
         is_outer = bool(reference >> 31)
-        if is_outer and not self.strings:
+        if is_outer and not self.strings.data:
             raise Unreadable("its names stand in the strings of the ELF file that it was taken"
                              " from: name that file in place of the section")
         self.has_outer = self.has_outer or is_outer
-        table = self.strings if is_outer else self.names
-        return table[start:table.index(b"\0", start)].decode("utf-8", "surrogateescape")
+        return (self.strings if is_outer else self.names).at(start)
 
     def number(self, n: int) -> int:
         """The number in the table of a type that a record names."""

@@ -12,6 +12,7 @@ from typing import Dict, List, NamedTuple, Optional, Tuple
 from .faults import Unreadable
 from .records import Part, Record, Table
 from .source import ARCHIVE, LONGEST
+from .strings import Strings
 from .types import Encoding, Enumerator
 
 MAGIC = b"\xf2\xdf"
@@ -40,8 +41,8 @@ class _Dictionary:
                  table: Table) -> None:
         (_, parname, _, *_, types, names, length) = struct.unpack_from("<12I", ctf, 4)
         body = _body(ctf, names + length)
-        self.types, self.names = body[types:names], body[names:names + length]
-        self.strings = strings
+        self.types, self.names = body[types:names], Strings(body[names:names + length])
+        self.strings = Strings(strings)
         self.parent = parent if parname else None
         self.table = table
         self.numbers: List[int] = [0]
@@ -83,7 +84,7 @@ class _Dictionary:
     def _name(self, reference: int) -> str:
         names = self.strings if reference >> 31 else self.names
         start = reference & 0x7FFFFFFF
-        return names[start:names.index(b"\0", start)].decode("utf-8", "surrogateescape")
+        return names.at(start)
 
     def _type(self) -> None:
         name, info, field = self._take("III")

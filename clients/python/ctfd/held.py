@@ -4,7 +4,7 @@ All that stands in place of what can't be held is told by a line in the losses o
 """
 from __future__ import annotations
 
-from typing import List, Optional
+from typing import Dict, List, Optional, Tuple
 
 from .model import POINTER_SIZES
 from .records import AGGREGATES, Part, Record, Table
@@ -24,9 +24,13 @@ FLOATS = {
 def held(table: Table) -> Table:
     """The same types as far as CTF holds them, with the losses told."""
     made = table.kept(table.numbers())
+    widths = _Widths(made)
     for number in table.numbers():
         record = made[number]
-        made.put(number, _HOLD[record.kind](made, record) if record.kind in _HOLD else record)
+        if record.kind in AGGREGATES:
+            made.put(number, _aggregate(made, record, widths))
+        elif record.kind in _HOLD:
+            made.put(number, _HOLD[record.kind](made, record))
     made.functions = [one and _function(made, one) for one in made.functions]
     return made
 
@@ -84,8 +88,8 @@ def _fits(value: int, size: int) -> bool:
     return -1 << 31 <= value < (1 << 32 if size == 4 else 1 << 31)
 
 
-def _aggregate(table: Table, record: Record) -> Record:
-    members = tuple(_member(table, record, part) for part in record.members)
+def _aggregate(table: Table, record: Record, widths: _Widths) -> Record:
+    members = tuple(widths.member(record, part) for part in record.members)
     record = record._replace(members=members)
     if len(members) <= MOST_PARTS:
         return record
@@ -105,38 +109,61 @@ def _nested(table: Table, record: Record) -> Record:
     return record if len(groups) <= MOST_PARTS else _nested(table, record)
 
 
-def _member(table: Table, whole: Record, part: Part) -> Part:
-    """A bit-field gets a type of its width, all others stay."""
-    if part.width is None:
-        return part
-    base = table[table.resolved(part.type)] if table.resolved(part.type) else None
-    if base is None or part.width == 8 * base.size or base.kind not in ("integer", "enum"):
-        return part._replace(width=None)
-    if base.kind == "enum":
-        table.losses.append(f"{whole.tagged}: its bit-field {part.name} is one of"
-                            f" {base.tagged}, and CTF has widths of integers alone; an integer of"
-                            f" {part.width} bits with the enum's name stands there")
-    return part._replace(type=_narrow(table, part.type, part.width), width=None)
+class _Widths:
+    """The types of bit-fields, each made once: typedefs may lie deep, and members are many."""
 
+    def __init__(self, table: Table) -> None:
+        self.table = table
+        self._bases: Dict[int, Optional[Record]] = {}
+        self._narrowed: Dict[Tuple[int, int], int] = {}
 
-def _narrow(table: Table, number: int, width: int) -> int:
-    """A type, its typedefs and qualifiers kept, with an integer of fewer bits at their end."""
-    record = table[number]
-    if record.kind == "enum":
-        flags = 1 if any(one.value < 0 for one in record.enumerators) else 0
-        return table.once(Record("integer", record.tagged, record.size,
-                                 encoding=Encoding(flags, 0, width), root=False))
-    if record.kind == "integer":
-        lies = record.encoding
-        return table.once(record._replace(encoding=lies._replace(bits=width), root=False))
-    if record.kind == "atomic":
-        return _narrow(table, record.type, width)
-    inner = _narrow(table, record.type, width)
-    return table.once(record._replace(type=inner, root=False))
+    def member(self, whole: Record, part: Part) -> Part:
+        """A bit-field gets a type of its width, all others stay. One as wide as its type gets a
+        hidden copy of that, by which it is known."""
+        if part.width is None:
+            return part
+        base = self._base(part.type)
+        is_whole = base is not None and part.width == 8 * base.size
+        if base is None or base.kind not in ("integer", "enum") or is_whole and base.kind == "enum":
+            return part._replace(width=None)
+        if base.kind == "enum":
+            self.table.losses.append(
+                f"{whole.tagged}: its bit-field {part.name} is one of {base.tagged}, and CTF has"
+                f" widths of integers alone; an integer of {part.width} bits with the enum's name"
+                " stands there")
+        return part._replace(type=self._narrow(part.type, part.width), width=None)
+
+    def _base(self, number: int) -> Optional[Record]:
+        """What stands behind typedefs and qualifiers."""
+        if number not in self._bases:
+            end = self.table.resolved(number)
+            self._bases[number] = self.table[end] if end else None
+        return self._bases[number]
+
+    def _narrow(self, number: int, width: int) -> int:
+        """A type, its typedefs and qualifiers kept, with an integer of fewer bits at their end."""
+        known = self._narrowed.get((number, width))
+        if known is None:
+            known = self._narrowed[number, width] = self._new_narrow(number, width)
+        return known
+
+    def _new_narrow(self, number: int, width: int) -> int:
+        record = self.table[number]
+        if record.kind == "enum":
+            flags = 1 if any(one.value < 0 for one in record.enumerators) else 0
+            return self.table.once(Record("integer", record.tagged, record.size,
+                                          encoding=Encoding(flags, 0, width), root=False))
+        if record.kind == "integer":
+            lies = record.encoding
+            return self.table.once(record._replace(encoding=lies._replace(bits=width), root=False))
+        if record.kind == "atomic":
+            return self._narrow(record.type, width)
+        inner = self._narrow(record.type, width)
+        return self.table.once(record._replace(type=inner, root=False))
 
 
 _HOLD = {"float": _float, "atomic": _atomic, "array": _array, "function": _function,
-         "enum": _enum, "struct": _aggregate, "union": _aggregate}
+         "enum": _enum}
 
 
 def size_of(table: Table, number: int) -> Optional[int]:
@@ -174,7 +201,7 @@ def spelled(table: Table, number: int) -> str:
         elif record.kind in ("volatile", "const", "restrict"):
             if inner and inner.kind == "pointer":
                 left = f"{record.kind} {left}"
-            else:
+            elif record.kind not in before:
                 before.append(record.kind)
         else:
             break

@@ -1,15 +1,17 @@
 """Types that say the same become one: each unit of a program brings its own copy of most.
 
-Two types are the same where no walk along their references shows a difference. They are found by
-splitting: all types that look alike are taken for one, until their references tell them apart.
+Two types are the same where no walk along their references shows a difference (`Colors`).
 """
 from __future__ import annotations
 
-from typing import Dict, Hashable, List, Set, Tuple
+from typing import Dict, List, Set, Tuple
 
+from .colors import Colors
 from .records import AGGREGATES, Record, Table
 
 Tag = Tuple[str, str]
+# How often forwards are resolved anew, since those of a tag turned out to be of several types.
+MOST_ROUNDS = 8
 
 
 def merged(table: Table, fixed: int = 0) -> Table:
@@ -19,13 +21,14 @@ def merged(table: Table, fixed: int = 0) -> Table:
     `fixed` types, those of a parent, all stay as they are.
     """
     resolved = {n: to for n, to in _whole(table).items() if n > fixed}
-    while True:
+    for left in range(MOST_ROUNDS, -1, -1):
         joined = table.chosen(table.numbers(), lambda n: resolved.get(n, n))
-        colors = _colors(joined)
+        colors = Colors(joined).colors
         ambiguous = _ambiguous(joined, colors, resolved)
         if not ambiguous:
             break
-        resolved = {n: to for n, to in resolved.items() if _tag(table[n]) not in ambiguous}
+        resolved = {n: to for n, to in resolved.items()
+                    if left > 1 and _tag(table[n]) not in ambiguous}
     return named_once(_one_of_each(joined, colors, set(resolved), fixed), fixed)
 
 
@@ -55,22 +58,6 @@ def _ambiguous(table: Table, colors: List[int], resolved: Dict[int, int]) -> Set
             if seen.setdefault(tag, colors[number]) != colors[number]:
                 several.add(tag)
     return several
-
-
-def _colors(table: Table) -> List[int]:
-    """A color for each number, 0 too, that two have in common just where they are the same."""
-    references: List[List[int]] = [[], *(record.references for record in table.records)]
-    labels: Dict[Hashable, int] = {}
-    blank = [record.renumbered(lambda n: 0)._replace(root=True) for record in table.records]
-    colors = [0] + [labels.setdefault(label, len(labels) + 1) for label in blank]
-    count = len(labels)
-    while True:
-        keys: Dict[Hashable, int] = {}
-        colors = [keys.setdefault((color, *[colors[n] for n in named]), len(keys))
-                  for color, named in zip(colors, references)]
-        if len(keys) - 1 == count:
-            return colors
-        count = len(keys) - 1
 
 
 def _one_of_each(table: Table, colors: List[int], gone: Set[int], fixed: int) -> Table:

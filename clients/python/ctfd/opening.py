@@ -6,7 +6,7 @@ from typing import Dict, Iterable, Iterator, List, NamedTuple, Optional
 
 from .catalog import Catalog, LISTS
 from .dictionary import Dictionary, open_file
-from .faults import Error, Refused
+from .faults import Error, Refused, Unreadable
 from .model import Model
 from .naming import Names
 from .progress import Progress
@@ -26,18 +26,21 @@ class Whole(NamedTuple):
 
 
 class Opener:
-    """Opens files in one session; a parent of several files is opened once."""
+    """Opens files in one session; a parent of several files is opened once. `number` chooses one of
+    several dictionaries that stand behind each other in a file."""
 
-    def __init__(self, session: Session, model: Optional[Model] = None) -> None:
+    def __init__(self, session: Session, model: Optional[Model] = None,
+                 number: Optional[int] = None) -> None:
         self.session = session
         self.model = model
+        self.number = number
         self._parents: Dict[str, Dictionary] = {}
 
     def open(self, path: str, parent: Optional[str] = None, sym: Optional[bytes] = None,
              strings: Optional[bytes] = None) -> Dictionary:
         """The dictionary of a file, over its parent where one is named."""
         with told_of(path):
-            types = open_file(self.session, path, sym, strings, model=self.model)
+            types = open_file(self.session, path, sym, strings, self.model, self.number)
         if parent is not None:
             if parent not in self._parents:
                 with told_of(parent):
@@ -57,6 +60,9 @@ def told_of(what: str) -> Iterator[None]:
     """Refusals of a file are told with its name, and without the request."""
     try:
         yield
+    except Unreadable as error:
+        said = str(error)
+        raise error if said.startswith(what) else Unreadable(f"{what}: {said}") from error
     except Refused as fault:
         place = f" at {fault.place}" if fault.place else ""
         raise Error(f"{what}: {fault.name}{place}: {fault.advice}") from fault

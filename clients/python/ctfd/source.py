@@ -7,29 +7,49 @@ from __future__ import annotations
 
 import struct
 import zlib
-from typing import NamedTuple, Optional, Tuple
+from typing import NamedTuple, Optional
 
-from . import elf
+from . import elf, identity, several
 from .elf import Elf, Section
 from .faults import Unreadable
+from .files import Mapped, contents
 from .model import Model
+from .symbols import NAMES, SYMTAB, Handed, Symbols, considered, handed, table_of
 
-HEADER = 36
+HEADER = identity.HEADER
 LONGEST = 67_108_864
 SECTIONS = (".SUNW_ctf", ".ctf")
 ARCHIVE = struct.pack("<Q", 0x8B47F2A4D7623EEB)
 ADVICE = "ctfd-convert makes CTF of version 2 from the program's debug information"
 DEBUG = (".debug_info", ".zdebug_info", ".gnu_debuglink", ".BTF")
 
+# What is to be known of the symbols of a file, by how they were found.
+WARNINGS = {
+    "guessed": "the section names no symbol table: if the file's .symtab is not the one that the"
+               " types were written for, symbols are told wrongly",
+    "refused": "the file's symbol table is not the one that the types were written for: nothing"
+               " is told of symbols",
+    "differs": "the file's symbol table is not the one that the types were written for, since it"
+               " was linked, stripped or changed behind that: nothing is told of symbols, and"
+               " ctfd-convert makes the types anew",
+    "stripped": "the symbol table that the types were written for is not in the file, as strip"
+                " leaves it: nothing is told of symbols; ctfd-convert --symbols dynsym writes what"
+                " lasts",
+    "unread": "the file's symbol table is one of 32 bits, which is not read: nothing is told of"
+              " symbols",
+}
+
 
 class Source(NamedTuple):
     """The lists of a dictionary, and the data model of its program.
 
-    `how` tells where `sym` and `strings` come from: "linked", named by the section itself;
-    "guessed", the file's symbol table, which may not be the one that the section was written for;
-    "given", handed in by the caller; or "none". It is "unread" where the file's symbol table is
-    one of 32 bits: the service does not read it, and only the strings are there. `model` is None
-    where nothing tells it, as with a section by itself.
+    `how` tells where `sym` and `strings` come from: "named", the table that the dictionary says
+    that it was written for; "linked", that which the section names; "guessed", the file's .symtab,
+    which may not be the one that the section was written for; "given", handed in by the caller; or
+    "none". It is "differs" where the table is not the one that the dictionary says, "stripped"
+    where the file has none, and "unread" where it is one of 32 bits: the service does not read it,
+    and only the strings are there. `model` is None where nothing tells it, as with a section by
+    itself of which the dictionary says nothing.
     """
 
     ctf: bytes
@@ -39,21 +59,21 @@ class Source(NamedTuple):
     model: Optional[Model] = None
 
 
-def read(path: str) -> Source:
-    """What a file has to hand in; Unreadable where the service would not read it."""
-    try:
-        with open(path, "rb") as file:
-            data = file.read()
-    except OSError as error:
-        raise Unreadable(f"{path}: {error.strerror}") from error
-    return of_bytes(data, path)
+def read(path: str, number: Optional[int] = None) -> Source:
+    """What a file has to hand in; Unreadable where the service would not read it. `number` chooses
+    one of several dictionaries that stand behind each other."""
+    return of_bytes(contents(path), path, number)
 
 
-def of_bytes(data: bytes, path: str = "the file") -> Source:
+def of_bytes(data: Mapped, path: str = "the file", number: Optional[int] = None) -> Source:
     """As `read`, of a file's bytes."""
     if data[:4] == elf.MAGIC:
-        return _of_elf(Elf(data, path))
-    return Source(plain(data, path))
+        return _of_elf(Elf(data, path), number)
+    ctf = plain(several.chosen(data[:], number, path), path)
+    names = identity.names(ctf)
+    found = handed(None, names) if names else Handed()
+    return Source(ctf, found.table, found.strings, "named" if names else "none",
+                  identity.model(ctf))
 
 
 def plain(ctf: bytes, path: str = "the file") -> bytes:
@@ -114,27 +134,61 @@ def inflate(ctf: bytes, path: str = "the file") -> bytes:
     return ctf[:3] + bytes([ctf[3] & 0xFE]) + ctf[4:HEADER] + body
 
 
-def _of_elf(file: Elf) -> Source:
+def _of_elf(file: Elf, number: Optional[int]) -> Source:
     section = next((s for s in map(file.named, SECTIONS) if s and s.kind != elf.NOBITS), None)
     if section is None:
         has_debug = any(file.named(name) for name in DEBUG)
         advice = (f"it has debug information: `ctfd-convert {file.path} OUT` makes CTF of it"
                   if has_debug else "compile it with -g, and let ctfd-convert make CTF of that")
         raise Unreadable(f"{file.path}: an ELF file without {' or '.join(SECTIONS)}; {advice}")
-    ctf = plain(file.bytes(section), f"{file.path}, {section.name}")
-    return Source(ctf, *_symbols(file, section), file.model)
+    path = f"{file.path}, {section.name}"
+    ctf = plain(several.chosen(file.bytes(section), number, path), path)
+    model = identity.model(ctf) or file.model
+    if model != file.model:
+        raise Unreadable(f"{path}: it says that it is of {model}, and the file is of {file.model}:"
+                         " it was put into another program")
+    wanted = identity.symbols(ctf)
+    if wanted is None:
+        return Source(ctf, *_unnamed(file, section), model)
+    symbols = symbols_of(file, ctf)
+    found = handed(file, symbols) if symbols else Handed()
+    if symbols is None:
+        how = "differs" if table_of(file, wanted.table) else "stripped"
+    else:
+        how = "named" if found.table is not None else "unread"
+    return Source(ctf, found.table, found.strings, how, model)
 
 
-def _symbols(file: Elf, section: Section) -> Tuple[Optional[bytes], Optional[bytes], str]:
-    """The symbol table and strings that go with a section, and how they were found."""
+def symbols_of(file: Optional[Elf], ctf: bytes) -> Optional[Symbols]:
+    """The symbols that a dictionary says that its entries go by, if they are those of its file."""
+    wanted = identity.symbols(ctf)
+    if wanted is None:
+        return None
+    if wanted.table == NAMES:
+        return identity.names(ctf)
+    found = considered(file, wanted.table) if file else None
+    return found if found and found.identity == wanted else None
+
+
+class _Found(NamedTuple):
+    """A symbol table and strings, and how they were found."""
+
+    table: Optional[bytes]
+    strings: Optional[bytes]
+    how: str
+
+
+def _unnamed(file: Elf, section: Section) -> _Found:
+    """The symbol table and strings of a section whose dictionary says nothing of them. What strip
+    leaves in .dynsym is never taken for .symtab."""
     table, how = file.numbered(section.link), "linked"
     if table is not None and table.kind == elf.STRTAB:
-        return None, file.bytes(table), how
+        return _Found(None, file.bytes(table), how)
     if table is None or table.kind not in (elf.SYMTAB, elf.DYNSYM):
-        table, how = file.named(".symtab") or file.named(".dynsym"), "guessed"
+        table, how = file.named(SYMTAB), "guessed"
     strings = file.numbered(table.link) if table else None
-    if table is None or strings is None:
-        return None, None, "none"
+    if table is None or strings is None or table.kind == elf.NOBITS:
+        return _Found(None, None, "stripped" if how == "guessed" else "none")
     if file.model == "ilp32":
-        return None, file.bytes(strings), "unread"
-    return file.bytes(table), file.bytes(strings), how
+        return _Found(None, file.bytes(strings), "unread")
+    return _Found(file.bytes(table), file.bytes(strings), how)

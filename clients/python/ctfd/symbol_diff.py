@@ -11,7 +11,7 @@ from .faults import Refused
 from .text import printable
 from .wire import Answer, Request
 
-TOLD = ("linked", "guessed", "given")
+TOLD = ("named", "linked", "guessed", "given")
 AT_ONCE = 8192
 
 Told = Dict[str, Tuple[str, str]]

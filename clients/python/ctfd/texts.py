@@ -18,13 +18,15 @@ WRAPS = ("pointer", "array", *QUALIFIERS)
 class Written(NamedTuple):
     """A declaration in its parts: `base left NAME right`, as `const int (*NAME)[2]`.
 
-    `kind` is what stands behind its qualifiers, by which a star is bound.
+    `kind` is what stands behind its qualifiers, by which a star is bound, and `element` the same
+    of what an array holds, which is what a qualifier of the array is said of.
     """
 
     base: str
     left: str
     right: str
     kind: str
+    element: str
 
 
 class Texts:
@@ -39,7 +41,7 @@ class Texts:
         """How C writes a type, without a name."""
         known = self._texts.get(number)
         if known is None:
-            base, left, right, _ = self.written(number)
+            base, left, right, _, _ = self.written(number)
             closed = right.startswith(")")  # as in "(*const)()"
             inner = (left.rstrip() if closed else left) + right
             known = self._texts[number] = f"{base} {inner}".rstrip()
@@ -65,25 +67,35 @@ class Texts:
         record = self.catalog[number]
         if record.kind == "function":
             made = declarator(self.catalog.type(number))
-            return Written(made.spelled, made.left, made.right, "function")
+            return Written(made.spelled, made.left, made.right, "function", "function")
         if record.kind == "void":
-            return Written("void", "", "", "void")
+            return Written("void", "", "", "void", "void")
         word = record.tag if record.kind == "forward" else record.kind
         name = printable(record.name)
         if word in ("struct", "union", "enum"):
-            return Written(f"{word} {name}" if name else f"{word} {{...}}", "", "", record.kind)
-        return Written(name or "(anon)", "", "", record.kind)
+            name = f"{word} {name}" if name else f"{word} {{...}}"
+        return Written(name or "(anon)", "", "", record.kind, record.kind)
 
     def _around(self, number: int, inside: Written) -> Written:
         """A layer round what it leads to."""
-        record = self.catalog[number]
-        base, left, right, kind = inside
-        if record.kind == "array":
-            return Written(base, left, f"[{record.elements}]{right}", "array")
-        if record.kind == "pointer":
+        word, elements = self.catalog[number].kind, self.catalog[number].elements
+        base, left, right, kind, element = inside
+        if word == "array":
+            return Written(base, left, f"[{elements}]{right}", "array", element)
+        if word == "pointer":
             if kind in ("array", "function"):
-                return Written(base, f"{left}(*", f"){right}", "pointer")
-            return Written(base, f"{left}*", right, "pointer")
-        if kind == "pointer":
-            return Written(base, f"{left}{record.kind} ", right, kind)
-        return Written(f"{record.kind} {base}", left, right, kind)
+                return Written(base, f"{left}(*", f"){right}", "pointer", "pointer")
+            return Written(base, f"{left}*", right, "pointer", "pointer")
+        if element == "pointer":
+            stars, own = left[:left.rfind("*") + 1], left[left.rfind("*") + 1:].split()
+            own = [one for one in own if one != word] + [word]
+            return Written(base, f"{stars}{' '.join(own)} ", right, kind, element)
+        return Written(_qualified(word, base), left, right, kind, element)
+
+
+def _qualified(word: str, base: str) -> str:
+    """A base with a qualifier in front, which is said once."""
+    words = base.split(" ")
+    count = next((n for n, one in enumerate(words) if one not in QUALIFIERS), len(words))
+    kept = [one for one in words[:count] if one != word] + words[count:]
+    return " ".join([word, *kept])

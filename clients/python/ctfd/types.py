@@ -176,13 +176,16 @@ class Type:
 
     @property
     def bit_field(self) -> Optional[Encoding]:
-        """Where its value lies, if it is an integer that is narrower than its storage."""
+        """Where its value lies, if it is an integer that is narrower than its storage, or a hidden
+        copy of one that is not: that of a bit-field which is as wide as its type."""
         integer = self.resolved
         if integer.kind != "integer":
             return None
         lies = integer.encoding
         whole = lies.offset == 0 and lies.bits == 8 * (integer.size or 0)
-        return None if whole or lies.bits == 0 else lies
+        if lies.bits == 0 or whole and not self.dictionary.is_copy(integer):
+            return None
+        return lies
 
     def member(self, name: str) -> Member:
         """The member of a name, as C reaches it: through members without a name too.

@@ -85,6 +85,8 @@ def _add_inputs(parser: argparse.ArgumentParser) -> None:
     parser.add_argument("--model", choices=list(POINTER_SIZES),
                         help="whether pointers have 8 bytes or 4, in FILE and in its parent;"
                         " without it an ELF file says so itself, and a section is taken for lp64")
+    parser.add_argument("--dictionary", metavar="N", type=int, help="which of the dictionaries"
+                        " that stand behind each other in a file, as ld leaves them; from 1 on")
     parser.add_argument("--symbols", metavar="FILE", help="the bytes of the program's symbol table")
     parser.add_argument("--strings", metavar="FILE", help="the bytes of the strings of that table")
     parser.add_argument("--service", metavar="CTFD", help="the program to ask (CTFD in the"

@@ -25,6 +25,12 @@ class Names:
         self.bytes = bytearray(b"\0")
         self._known: Dict[bytes, int] = {b"": 0}
 
+    def append(self, names: str) -> int:
+        """Where a label stands with other names behind it, whatever of them stood there before."""
+        start = len(self.bytes)
+        self.bytes += raw(names) + b"\0"
+        return start
+
     def place(self, name: str) -> int:
         """Where a name stands; it ends at its first zero byte, as any does."""
         data = raw(name).split(b"\0")[0]
@@ -46,14 +52,14 @@ def written(table: Table, parent: str = "", parents: int = 0) -> bytes:
     def number(n: int) -> int:
         return n - parents + CHILD if n > parents and parent else n
 
-    labels = b"".join(struct.pack("<II", names.place(label), number(last))
-                      for label, last in table.labels)
     label = names.place(table.parent_label)
     own = [record.renumbered(number) for record in table.records[parents:]]
     types = b"".join(_record(record, names) for record in own)
     objects = b"".join(struct.pack("<H", number(n)) for n in table.objects)
     functions = b"".join(_entry(one and one.renumbered(number)) for one in table.functions)
     functions += bytes(-(len(objects) + len(functions)) % 4)
+    labels = b"".join(struct.pack("<II", names.append(label), number(last))
+                      for label, last in table.labels)
     ends = list(itertools.accumulate(map(len, (labels, objects, functions, types)), initial=0))
     header = struct.pack("<HBB8I", MAGIC, VERSION, 0, label, named, *ends, len(names.bytes))
     return header + labels + objects + functions + types + bytes(names.bytes)

@@ -2,6 +2,7 @@
 import shutil
 import struct
 import subprocess
+import tempfile
 import unittest
 from typing import Iterator
 
@@ -9,9 +10,20 @@ from ctfd.compilable import Compilable, is_identifier
 from ctfd.opening import Whole
 from ctfd.records import AGGREGATES
 
-from .support import (EXAMPLES, STRUCT, WithService, array, dictionary, integer, member, record,
-                      staged)
-from .tools import whole_of, written
+from .support import (CONST, EXAMPLES, STRUCT, WithService, array, dictionary, integer, member,
+                      pointer, record, staged)
+from .tools import CONVERTS, WHY_NOT, converted, whole_of, written
+
+
+FORMS = """
+typedef const char letter;
+struct __attribute__((packed)) odd { unsigned five : 5; unsigned all : 32; unsigned long more : 64; };
+struct forms {
+    void (*unsaid)(); void (*none)(void); int (*some)(int, ...); unsigned whole : 32;
+    const letter *twice; const letter *const *deep; _Float16 half; _Decimal64 money; int tail[];
+} *forms; struct odd odd; struct inside { int none[0]; int end; } inside;
+extern char unknown[]; char *at(void) { return unknown; } char unknown[3];
+"""
 
 
 def asserted(whole: Whole, made: Compilable) -> Iterator[str]:
@@ -89,6 +101,27 @@ class Gcc(WithService):
         records = [integer(1), *(array(t, 2) for t in range(1, 9)),
                    record(STRUCT, 1, 1024, 5, member(5, 9, 0))]
         self.judged(written(self, dictionary(records, b"\0int\0s\0")))
+
+    @unittest.skipUnless(CONVERTS, WHY_NOT)
+    def test_what_a_programmer_wrote(self) -> None:
+        folder = tempfile.mkdtemp()
+        self.addCleanup(shutil.rmtree, folder)
+        code, _ = self.judged(converted(folder, "forms", FORMS))
+        for line in ("void (*unsaid)();", "void (*none)(void);", "int (*some)(int, ...);",
+                     "unsigned int whole: 32;", "letter *twice;", "letter *const *deep;",
+                     "typedef const char letter;", "_Float16 half;", "_Decimal64 money;",
+                     "int tail[];", "int none[0];", "unsigned int all: 32;",
+                     "long unsigned int more: 64;"):
+            self.assertIn(f"{line}\n", code)
+        self.assertNotIn("const const", code)
+
+    def test_a_qualifier_is_said_once(self) -> None:
+        names = b"\0char\0s\0m\0"
+        twice = [integer(1, 8, 1), record(CONST, 0, 1), record(CONST, 0, 2), pointer(3),
+                 record(CONST, 0, 4), record(CONST, 0, 5),
+                 record(STRUCT, 1, 8, 6, member(8, 6, 0))]
+        code, _ = self.judged(written(self, dictionary(twice, names)))
+        self.assertIn("const char *const m;", code)
 
 
 if __name__ == "__main__":

@@ -16,7 +16,7 @@ from ctfd import choose
 from ctfd.records import Part, Record, Table
 from ctfd.written import MOST_TYPES, written
 
-from .support import (EXAMPLES, PROGRAM, TOOLS, WithService, dictionary, has_library, integer,
+from .support import (EXAMPLES, PROGRAM, TOOLS, WithService, dictionary, integer,
                       object_file, pointer)
 
 COMMAND = Path(__file__).resolve().parents[1] / "ctfd-convert"
@@ -85,7 +85,7 @@ class WithFiles(WithService):
         return [(m.name, m.offset, ctfd.declaration(m.type)) for m in t.resolved.members]
 
 
-@unittest.skipUnless(TOOLS and has_library("elftools"), "no gcc, objcopy or pyelftools here")
+@unittest.skipUnless(TOOLS, "no gcc or objcopy here")
 class Dwarf(WithFiles):
     def test_all_that_c_says(self) -> None:
         out, told = self.converted(self.compiled("code", CODE))
@@ -251,8 +251,7 @@ class Sections(WithFiles):
         out, _ = self.converted(module, "--base", base, "--split", parent)
         self.assertEqual(self.types(out).own, 2)
 
-    @unittest.skipUnless(TOOLS and shutil.which("pahole") and has_library("elftools"),
-                         "no gcc, pahole or pyelftools here")
+    @unittest.skipUnless(TOOLS and shutil.which("pahole"), "no gcc or pahole here")
     def test_btf_says_what_dwarf_says(self) -> None:
         file = self.compiled("code", CODE)
         subprocess.run(["pahole", "-J", file], check=True, capture_output=True)

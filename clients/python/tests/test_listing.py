@@ -8,6 +8,7 @@ import unittest
 from typing import List
 
 import ctfd
+from ctfd.types import QUALIFIERS
 
 from .support import (EXAMPLES, STRUCT, TOOLS, WithService, dictionary, integer, object_file,
                       record, staged)
@@ -73,13 +74,30 @@ OTHERS = {"expdesc", "global_State", "inflate_state"}
 
 class Declarations(WithService):
     def test_all_types_are_declared_as_the_service_spells_them(self) -> None:
-        """But for arguments, which the service leaves out."""
+        """But for arguments, which the service leaves out, and for the qualifiers of an array, which
+        C says of what it holds, and the service in front of all, as libctf does."""
         for name in ("lua.ctf", "zlib.ctf"):
             types = self.example(name).types()
             for t in types:
                 said = ctfd.declaration(t).replace("{...}", "(anon)")
-                if "(" not in said.replace("(anon)", "").replace("(*", ""):
+                if "(" not in said.replace("(anon)", "").replace("(*", "") \
+                        and not self.qualifies_an_array(t):
                     self.assertEqual(said, t.spelled)
+
+    def qualifies_an_array(self, t: ctfd.Type) -> bool:
+        while t.kind in ("pointer", "array", *QUALIFIERS):
+            inner = t.contents if t.kind == "array" else t.reference
+            if t.kind in QUALIFIERS and inner.kind == "array":
+                return True
+            t = inner
+        return False
+
+    def test_the_qualifiers_of_an_array_are_those_of_what_it_holds(self) -> None:
+        types = [t for name in ("lua.ctf", "zlib.ctf") for t in self.example(name).types()]
+        told = {ctfd.declaration(t) for t in types if self.qualifies_an_array(t)}
+        self.assertLessEqual({"const luaL_Reg [5]", "const char *const [37]", "const char [0]",
+                              "char *const [10]"}, told)
+        self.assertFalse([text for text in told if "const const" in text])
 
     def test_functions(self) -> None:
         types = self.example("lua.ctf")

@@ -12,7 +12,7 @@ import unittest
 from pathlib import Path
 from typing import List, NamedTuple
 
-from .support import (EXAMPLES, PROGRAM, TOOLS, dictionary, has_library, integer, object_file,
+from .support import (EXAMPLES, PROGRAM, TOOLS, dictionary, integer, object_file,
                       pointer, staged)
 
 FOLDER = Path(__file__).resolve().parents[1]
@@ -171,20 +171,10 @@ class Messages(unittest.TestCase):
         self.objects()
         self.say(OBJECTS)
 
-    @unittest.skipUnless(TOOLS and has_library("elftools"), "no gcc, objcopy or pyelftools here")
+    @unittest.skipUnless(TOOLS, "no gcc or objcopy here")
     def test_debug_information(self) -> None:
         self.objects()
         self.say(DEBUG)
-
-    @unittest.skipUnless(TOOLS, "no gcc or objcopy here")
-    def test_no_pyelftools(self) -> None:
-        self.objects()
-        hidden = Path(self.folder) / "hidden"
-        hidden.mkdir()
-        (hidden / "elftools.py").write_text("raise ImportError\n")
-        words = "PYTHONPATH={}/hidden ctfd-convert {}/debug.o {}/out"
-        self.say([Case("no pyelftools", words, 2,
-                       r"/debug\.o: reading an ELF file needs pyelftools, .*python3-pyelftools")])
 
     def objects(self) -> None:
         """Object files without CTF, with and without debug information."""

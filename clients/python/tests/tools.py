@@ -22,17 +22,8 @@ MAINS = {"ctfd-types": types_main, "ctfd-diff": diff_command.main, "ctfd-explore
 CLIENT = Path(__file__).resolve().parents[1]
 
 
-def can_convert() -> bool:
-    """Whether a dictionary can be made of a C file here."""
-    try:
-        import elftools  # noqa: F401
-    except ImportError:
-        return False
-    return bool(PROGRAM and shutil.which("gcc"))
-
-
-CONVERTS = can_convert()
-WHY_NOT = "no service, gcc or pyelftools here"
+CONVERTS = bool(PROGRAM and shutil.which("gcc"))
+WHY_NOT = "no service or gcc here"
 
 
 def command(name: str, *words: str) -> "subprocess.CompletedProcess[str]":

@@ -136,7 +136,7 @@ class Load(Command):
         try:
             if parent:
                 found.types.import_parent(parent.types)
-        except ctfd.Refused:
+        except ctfd.Error:
             one.close()
             raise
         STATE.forget([old for old in STATE.loaded if old.program.path == found.path])

@@ -7,6 +7,7 @@ from typing import List, Optional, Sequence, Tuple
 import gdb
 
 import ctfd
+from ctfd import source
 from ctfd.model import Model, of_pointers
 from ctfd.operands import BadExpression, Operand, Untold
 from ctfd.quoting import quoted
@@ -74,9 +75,12 @@ class Inferior:
 
     def _why_untold(self) -> str:
         """Why there is no type of a name that gdb knows."""
-        unread = [one.program.path for one in self.loaded if one.program.types.how == "unread"]
-        if unread:
-            return f"the symbol table of {unread[0]} is one of 32 bits, which is not read"
+        for one in self.loaded:
+            how = one.program.types.how
+            if how == "unread":
+                return f"the symbol table of {one.program.path} is one of 32 bits, which is not read"
+            if how in ("differs", "stripped"):
+                return f"{one.program.path}: {source.WARNINGS[how]}"
         return "no dictionary tells its type"
 
     def find(self, name: str) -> ctfd.Type:

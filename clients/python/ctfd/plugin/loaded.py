@@ -8,6 +8,7 @@ from typing import Iterator, Optional
 import gdb
 
 import ctfd
+from ctfd import source
 from ctfd.declare import declaration, function
 from ctfd.elf import Elf
 from ctfd.operands import BadExpression, Code, Located
@@ -16,10 +17,7 @@ from ctfd.text import printable
 
 NAMED = ("struct", "union", "enum", "typedef", "integer", "float", "forward")
 WARNINGS = {
-    "guessed": "the section names no symbol table: if the file's is not the one that the types"
-               " were written for, names are told wrongly",
-    "refused": "the file's symbol table is not the one that the types were written for: nothing"
-               " is told of names",
+    **source.WARNINGS,
     "unread": "the file's symbol table is one of 32 bits, which is not read: a name has gdb's"
               " address and no type, so cast it, as *(TYPE *) &NAME",
 }

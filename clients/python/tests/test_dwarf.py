@@ -1,0 +1,204 @@
+"""Debug information in the forms that compilers, linkers, objcopy, dwz and dwp give it."""
+from __future__ import annotations
+
+import random
+import shutil
+import struct
+import subprocess
+import unittest
+from pathlib import Path
+from typing import List
+
+import ctfd
+from ctfd.merge import merged
+from ctfd.records import Part, Record, Table
+from ctfd.joining import Joiner
+
+from .support import TOOLS, compiles
+from .test_convert import CODE, WithFiles
+
+MAIN = CODE + "int main(void) { return add(first, 1); }\n"
+OTHER = "#include <stddef.h>\nstruct inner { char c; }; struct own { struct inner i; } own;\n"
+
+
+MACHINES = """
+enum color { RED, GREEN };
+struct point { int x; char letter; struct point *next; short rest[3]; } first;
+int area(struct point *point, enum color color) { return point->x + color; }
+"""
+
+
+@unittest.skipUnless(TOOLS, "no gcc or objcopy here")
+class Forms(WithFiles):
+    def linked(self, name: str, *options: str) -> str:
+        """A program of two units, whose object files are beside it."""
+        objects = [self.compiled(f"{name}_{one}.o", code, *options)
+                   for one, code in (("main", MAIN), ("other", OTHER))]
+        made = str(self.folder / name)
+        subprocess.run(["gcc", *options, *objects, "-o", made], check=True)
+        return made
+
+    def listed(self, path: str) -> List[str]:
+        """All types with a name, the symbols, and what was told of them."""
+        out, told = self.converted(path)
+        types = self.types(out)
+        types.gather([t.number for t in types.types()])
+        return sorted(ctfd.listing(t) for t in types.types() if t.name and t.is_root) + [told]
+
+    def check(self, *options: str) -> str:
+        """A program compiled so says what one says that was compiled plainly."""
+        path = self.linked("program", *options)
+        self.assertEqual(self.listed(path), self.listed(self.linked("plain", "-g")))
+        return path
+
+    def test_type_units(self) -> None:
+        for version in ("-gdwarf-4", "-gdwarf-5"):
+            with self.subTest(version):
+                path = self.check("-g", version, "-fdebug-types-section")
+                self.assertEqual(self.listed(f"{path}_main.o")[-1], "")
+
+    def test_files_of_split_units(self) -> None:
+        for options in (["-gdwarf-4"], ["-gdwarf-5"], ["-gdwarf-5", "-fdebug-types-section"]):
+            with self.subTest(options):
+                path = self.check("-g", *options, "-gsplit-dwarf")
+        stale, other = sorted(self.folder.glob("*.dwo"))
+        shutil.copy(other, stale)
+        self.assertIn("is of another build", self.converted(path, status=2)[1])
+        for one in (stale, other):
+            one.unlink()
+        self.assertIn("-gsplit-dwarf), and there is none at", self.converted(path, status=2)[1])
+
+    @unittest.skipUnless(shutil.which("dwp"), "no dwp here")
+    def test_a_package_of_split_units(self) -> None:
+        path = self.linked("program", "-g", "-gdwarf-4", "-gsplit-dwarf")
+        said = self.listed(path)
+        subprocess.run(["dwp", "-e", path, "-o", f"{path}.dwp"], check=True)
+        for one in self.folder.glob("*.dwo"):
+            one.unlink()
+        self.assertEqual(self.listed(path), said)
+
+    def test_compressed_sections(self) -> None:
+        for how in ("zlib", "zlib-gnu"):
+            with self.subTest(how):
+                path = self.linked("program", "-g")
+                said = self.listed(path)
+                subprocess.run(["objcopy", f"--compress-debug-sections={how}", path], check=True)
+                self.assertEqual(self.listed(path), said)
+
+    @unittest.skipUnless(shutil.which("dwz"), "no dwz here")
+    def test_a_file_that_dwz_moved_parts_to(self) -> None:
+        plain = self.listed(self.linked("one", "-g"))
+        shutil.copy(self.folder / "one", self.folder / "two")
+        subprocess.run(["dwz", "-m", "common", "-M", "common", "one", "two"], check=True,
+                       cwd=self.folder)
+        self.assertEqual(self.listed(str(self.folder / "two")), plain)
+        (self.folder / "common").unlink()
+        self.assertIn("a file that dwz made, which is not at",
+                      self.converted(str(self.folder / "two"), status=2)[1])
+
+    @unittest.skipUnless(compiles("-gdwarf64"), "a gcc without -gdwarf64 here")
+    def test_offsets_of_64_bits(self) -> None:
+        self.check("-g", "-gdwarf64")
+
+    def of_clang(self, machine: str, *options: str) -> str:
+        """An object file of another machine."""
+        made = str(self.folder / f"{machine}.o")
+        source = self.file("machine.c", MACHINES.encode())
+        subprocess.run(["clang", f"--target={machine}", "-g", "-O1", "-w", *options, "-c", source,
+                        "-o", made], check=True)
+        return made
+
+    @unittest.skipUnless(shutil.which("clang"), "no clang here")
+    def test_object_files_of_other_machines(self) -> None:
+        for machine in ("aarch64-linux-gnu", "armv7-linux-gnueabihf", "riscv64-linux-gnu",
+                        "powerpc64le-linux-gnu", "i386-linux-gnu", "bpfel"):
+            for version in ("-gdwarf-4", "-gdwarf-5"):
+                with self.subTest(machine, version=version):
+                    out, _ = self.converted(self.of_clang(machine, version), "--section")
+                    types = self.types(out)
+                    point = types.find("struct point")
+                    pointer = types.pointer_size
+                    self.assertEqual(self.members(point), [
+                        ("x", 0, "int"), ("letter", 32, "char"),
+                        ("next", 64, "struct point *"), ("rest", 64 + 8 * pointer, "short [3]")])
+                    self.assertEqual([e.name for e in types.find("enum color").enumerators],
+                                     ["RED", "GREEN"])
+                    if pointer == 8:  # symbols of 32 bits are not read
+                        found = types.symbol("area")
+                        assert isinstance(found, ctfd.Signature)
+                        self.assertEqual([t.spelled for t in found.arguments],
+                                         ["struct point *", "enum color"])
+
+    @unittest.skipUnless(shutil.which("clang"), "no clang here")
+    def test_what_is_not_read_is_told_by_its_cause(self) -> None:
+        big = self.converted(self.of_clang("powerpc64-linux-gnu"), status=2)[1]
+        self.assertIn("a big-endian ELF file, which is not read", big)
+        path = self.compiled("code.o", CODE)
+        data = bytearray(Path(path).read_bytes())
+        data[18:20] = b"\x2b\0"  # SPARC
+        self.assertIn("an object file of machine 43, whose relocations are not known: name the"
+                      " linked program", self.converted(self.file("sparc.o", bytes(data)),
+                                                        status=2)[1])
+        whole = bytearray(Path(self.compiled("packed.o", CODE, "-g", "-gz")).read_bytes())
+        at = whole.index(struct.pack("<IIQ", 1, 0, 0)[:8], 64)
+        whole[at] = 2
+        self.assertRegex(self.converted(self.file("zstd.o", bytes(whole)), status=2)[1],
+                         r"is compressed by zstd, which is not read: objcopy"
+                         r" --decompress-debug-sections")
+
+    def test_archives(self) -> None:
+        self.linked("program", "-g")
+        objects = [f"program_{one}.o" for one in ("main", "other")]
+        for kind in ("rc", "rcT"):
+            with self.subTest(kind):
+                made = str(self.folder / f"{kind}.a")
+                subprocess.run(["ar", kind, made, *objects], check=True, cwd=self.folder)
+                types = self.types(self.converted(made)[0])
+                self.assertEqual([types.find(f"struct {one}").size for one in ("own", "node")],
+                                 [1, 32])
+
+    def test_a_definition_is_told_before_a_declaration(self) -> None:
+        code = "extern int all[]; int all[] = {1, 2, 3}; int *at = all;"
+        whole = self.types(self.converted(self.compiled("code.o", code), "--section")[0])
+        found = whole.symbol("all")
+        assert isinstance(found, ctfd.Type)
+        self.assertEqual(ctfd.declaration(found, "all"), "int all[3]")
+
+
+class Joined(unittest.TestCase):
+    def table(self, seed: int, units: int) -> List[List[Record]]:
+        """Units of a few types that name each other, of which many are the same."""
+        chance = random.Random(seed)
+        made = []
+        for _ in range(units):
+            count = chance.randrange(2, 12)
+            unit = []
+            for _ in range(count):
+                kind = chance.choice(("struct", "struct", "pointer", "const", "forward", "integer"))
+                one = Record(kind, type=chance.randrange(count + 1))
+                if kind == "struct":
+                    parts = [Part("m", chance.randrange(1, count + 1), 0)
+                             for _ in range(chance.randrange(3))]
+                    one = Record(kind, chance.choice(("", "a", "b")), 8, members=tuple(parts))
+                elif kind in ("forward", "integer"):
+                    one = Record(kind, chance.choice("ab"), tag="struct" * (kind == "forward"))
+                unit.append(one)
+            made.append(unit)
+        return made
+
+    def test_what_is_joined_merges_to_what_merges_by_itself(self) -> None:
+        for seed in range(2000):
+            units = self.table(seed, 4)
+            plain, joined = Table(), Table()
+            joiner = Joiner(joined)
+            for unit in units:
+                for table in (plain, joined):
+                    start = len(table)
+                    for one in unit:
+                        table.add(one.renumbered(lambda n: n and n + start))
+                joiner.join()
+            self.assertEqual(merged(joined).records, merged(plain).records, f"seed {seed}")
+
+
+if __name__ == "__main__":
+    unittest.main()

@@ -1,0 +1,286 @@
+"""What a dictionary says that it is of, and what every reader makes of that: symbols, data model,
+parent; several dictionaries in one file; functions and variables of BTF."""
+from __future__ import annotations
+
+import shutil
+import struct
+import subprocess
+import sys
+import unittest
+from pathlib import Path
+from typing import List
+
+import ctfd
+from ctfd import identity, several, source
+from ctfd.elf import Elf
+from ctfd.program import open_program
+from ctfd.records import Record, Table
+from ctfd.symbols import DYNSYM, SYMTAB, considered
+from ctfd.written import written
+
+from .support import PROGRAM as SERVICE, TOOLS, compiles
+from .test_convert import CODE, COMMAND, WithFiles
+from .tools import command
+
+PROGRAM = CODE + "int shown = 3; int main(void) { return add(first, 1) + shown; }\n"
+OTHER = "struct other { long l; } second; long more(struct other *one) { return one->l; }\n"
+STRIPS = ("-g", "-s", "--strip-unneeded", "--only-keep-debug")
+
+
+class WithPrograms(WithFiles):
+    def program(self, name: str, *options: str) -> str:
+        source_file = self.file(f"{name}.c", PROGRAM.encode())
+        made = str(self.folder / name)
+        subprocess.run(["gcc", "-g", "-w", *options, source_file, "-o", made], check=True)
+        return made
+
+    def with_section(self, path: str, *words: str) -> str:
+        """A copy of a file with its dictionary."""
+        out, _ = self.converted(path, "--section", *words)
+        made = f"{path}.made"
+        shutil.copy(out, made)
+        return made
+
+    def declared(self, path: str, name: str, *words: str) -> str:
+        """What ctfd-types says of a symbol, or why it says nothing."""
+        done = command("ctfd-types", *words, path, name)
+        return done.stdout.strip() if done.returncode == 0 else done.stderr.strip()
+
+
+@unittest.skipUnless(TOOLS, "no gcc or objcopy here")
+class Symbols(WithPrograms):
+    def test_a_program_that_was_stripped_tells_no_wrong_symbol(self) -> None:
+        made = self.with_section(self.program("program", "-rdynamic"))
+        right = "int add(struct node *, u32);"
+        self.assertEqual(self.declared(made, "add"), right)
+        for how in STRIPS:
+            with self.subTest(how):
+                stripped = str(self.folder / "stripped")
+                shutil.copy(made, stripped)
+                subprocess.run(["strip", how, stripped], check=True)
+                said = self.declared(stripped, "add")
+                self.assertTrue(said == right or "nothing is told of symbols" in said, said)
+                has_table = considered(Elf(Path(stripped).read_bytes())).listed
+                self.assertEqual(said == right, bool(has_table))
+                listed = command("ctfd-types", stripped, "struct node").stdout
+                self.assertIn("struct node *", listed)
+
+    def test_entries_by_the_exported_symbols_last(self) -> None:
+        made = self.with_section(self.program("program", "-rdynamic"), "--symbols", "dynsym")
+        subprocess.run(["strip", made], check=True)
+        self.assertEqual(self.declared(made, "add"), "int add(struct node *, u32);")
+        self.assertEqual(self.declared(made, "shown"), "int shown;")
+        self.assertIn("NoSymbol", self.declared(made, "both"))
+
+    def test_that_entries_go_by_the_exported_symbols_is_told(self) -> None:
+        told = self.converted(self.program("program", "-rdynamic"), "--symbols", "dynsym")[1]
+        self.assertRegex(told, r"^ctfd-convert: .*entries go by the \d+ functions and objects of"
+                               r" \.dynsym, which strip leaves.*\n\Z")
+        file = self.compiled("code.o", CODE)
+        self.assertIn("no .dynsym", self.converted(file, "--symbols", "dynsym", status=2)[1])
+
+    def test_a_program_without_its_symbol_table(self) -> None:
+        path = self.program("program", "-rdynamic")
+        subprocess.run(["objcopy", "--only-keep-debug", path, f"{path}.debug"], check=True)
+        subprocess.run(["strip", path], check=True)
+        subprocess.run(["objcopy", f"--add-gnu-debuglink={path}.debug", path], check=True)
+        out, told = self.converted(path, "--section")
+        self.assertIn("no .symtab, as strip leaves it: nothing is told of its symbols", told)
+        self.assertIn("nothing is told of symbols", self.declared(out, "add"))
+
+    def test_the_checksum_goes_by_kinds_and_names(self) -> None:
+        file = Elf(Path(self.program("program", "-rdynamic")).read_bytes())
+        whole = considered(file, SYMTAB)
+        for changed in (whole.listed[1:], whole.listed[::-1],
+                        (whole.listed[0]._replace(name="x"), *whole.listed[1:]),
+                        (whole.listed[0]._replace(is_function=not whole.listed[0].is_function),
+                         *whole.listed[1:])):
+            self.assertNotEqual(whole._replace(listed=changed).identity, whole.identity)
+        moved = tuple(one._replace(address=one.address + 1) for one in whole.listed)
+        self.assertEqual(whole._replace(listed=moved).identity, whole.identity)
+        self.assertNotEqual(considered(file, DYNSYM).identity, whole.identity)
+
+    def test_a_debugger_tells_no_wrong_symbol(self) -> None:
+        made = self.with_section(self.program("program", "-rdynamic"))
+        self.assertIn("add", open_program(self.session, made).symbols)
+        subprocess.run(["strip", made], check=True)
+        program = open_program(self.session, made)
+        self.assertEqual((program.symbols, program.types.how), ({}, "stripped"))
+        with self.assertRaisesRegex(ctfd.Unreadable, "as strip leaves it"):
+            program.types.symbol("add")
+
+    def test_differences_of_a_program_that_was_stripped(self) -> None:
+        made = self.with_section(self.program("program"))
+        shutil.copy(made, f"{made}.stripped")
+        subprocess.run(["strip", f"{made}.stripped"], check=True)
+        done = command("ctfd-diff", made, f"{made}.stripped")
+        self.assertEqual((done.returncode, done.stdout), (0, ""))
+        self.assertIn("nothing is told of symbols", done.stderr)
+
+
+@unittest.skipUnless(TOOLS, "no gcc or objcopy here")
+class Several(WithPrograms):
+    def linked(self, *options: str) -> str:
+        """A program of two object files with a dictionary each."""
+        objects = []
+        for name, code in (("one.o", PROGRAM), ("two.o", OTHER)):
+            objects.append(self.with_section(self.compiled(name, code)))
+        made = str(self.folder / "linked")
+        subprocess.run(["gcc", *options, *objects, "-o", made], check=True)
+        return made
+
+    def test_all_are_told_and_one_is_chosen(self) -> None:
+        path = self.linked()
+        said = command("ctfd-types", path).stderr
+        self.assertRegex(said, r"it has 2 dictionaries, one behind the other: 1 \(\d+ types,"
+                               r" struct inner\), 2 \(\d types, struct other\): one is chosen by"
+                               r" --dictionary N")
+        self.assertIn("long int", command("ctfd-types", "--dictionary", "2", path,
+                                          "struct other").stdout)
+        self.assertIn("no number 3", command("ctfd-types", "--dictionary", "3", path).stderr)
+        out, _ = self.converted(path, "--dictionary", "2")
+        self.assertEqual(self.types(out).find("struct other").size, 8)
+
+    def test_symbols_of_an_object_file_are_none_of_the_program_s(self) -> None:
+        said = self.declared(self.linked(), "second", "--dictionary", "2")
+        self.assertIn("not the one that the types were written for", said)
+
+    def test_a_linked_program_is_converted_anew(self) -> None:
+        types = self.types(self.converted(self.linked())[0])
+        self.assertEqual([types.find(f"struct {one}").size for one in ("node", "other")], [32, 8])
+        one = self.with_section(self.compiled("one.o", PROGRAM))
+        other = self.compiled("two.o", OTHER)
+        both = str(self.folder / "both")
+        subprocess.run(["gcc", one, other, "-o", both], check=True)
+        self.assertEqual(self.types(self.converted(both)[0]).find("struct other").size, 8)
+
+    def test_one_by_itself_is_whole(self) -> None:
+        ctf = Path(self.converted(self.compiled("code.o", CODE))[0]).read_bytes()
+        self.assertEqual(several.each(ctf), [ctf])
+        self.assertEqual(several.each(ctf + bytes(3) + ctf), [ctf, ctf])
+        self.assertEqual(several.each(ctf + b"more"), [ctf + b"more"])
+        self.assertEqual(len(several.each(ctf * 3)), 3)
+
+
+@unittest.skipUnless(TOOLS, "no gcc or objcopy here")
+class Of(WithPrograms):
+    @unittest.skipUnless(compiles("-m32"), "no gcc with -m32 here")
+    def test_a_dictionary_of_32_bits_says_so(self) -> None:
+        out, _ = self.converted(self.compiled("short.o", CODE, "-g", "-m32"), "--lossy")
+        self.assertEqual((source.read(out).model, self.types(out).model), ("ilp32", "ilp32"))
+        self.assertEqual(self.types(out).find("struct node").size, 20)
+        said = command("ctfd-types", "--model", "lp64", out).stderr
+        self.assertIn("it says that it is of ilp32, and lp64 was asked for: leave the model out",
+                      said)
+        module = self.compiled("module.o", CODE)
+        kept = self.file("short.ctf", Path(out).read_bytes())
+        told = self.converted(module, "--parent", kept, status=2)[1]
+        self.assertIn("it says that it is of ilp32", told)
+
+    def test_a_parent_is_the_one_that_the_child_was_made_over(self) -> None:
+        parents: List[str] = []
+        for name, code in (("base", CODE), ("other", CODE.replace("char c;", "long c;"))):
+            out, _ = self.converted(self.compiled(f"{name}.o", code))
+            parents.append(self.file(f"{name}.ctf", Path(out).read_bytes()))
+        module = self.compiled("module.o", CODE + "struct own { struct node *node; } *own;\n")
+        child, _ = self.converted(module, "--parent", parents[0])
+        self.assertIn("struct node *", self.declared(child, "struct own", "--parent", parents[0]))
+        said = self.declared(child, "struct own", "--parent", parents[1])
+        self.assertIn("its types are not those that the child was made over", said)
+        kept = self.file("child.ctf", Path(child).read_bytes())
+        self.converted(kept, "--base", parents[0], "--only", "struct own")
+        told = self.converted(kept, "--base", parents[1], "--only", "struct own", status=2)[1]
+        self.assertIn("its types are not those", told)
+
+    def test_labels_of_others_stay(self) -> None:
+        table = Table()
+        table.labels = [("release-7", 1)]
+        table.add(Record("integer", "int", 4))
+        path = self.file("labelled", written(table))
+        out, _ = self.converted(path, "--self-contained")
+        self.assertEqual(self.types(out).labels(), [("release-7", 1)])
+        self.assertEqual(identity.symbols(Path(out).read_bytes()), None)
+
+
+class Btf(WithFiles):
+    def btf(self) -> bytes:
+        """`int`, `int one(int)`, `void two()`, and `int count`."""
+        names = b"\0int\0one\0two\0count\0"
+        types = struct.pack("<IIII", 1, 1 << 24, 4, 1 << 24 | 32)
+        types += struct.pack("<IIIII", 0, 13 << 24 | 1, 1, 0, 1)  # 2, its prototype
+        types += struct.pack("<III", 5, 12 << 24, 2)
+        types += struct.pack("<III", 0, 13 << 24, 0)
+        types += struct.pack("<III", 9, 12 << 24, 4)
+        types += struct.pack("<IIII", 13, 14 << 24, 1, 1)
+        header = struct.pack("<HBBIIIII", 0xEB9F, 1, 0, 24, 0, len(types), len(types), len(names))
+        return header + types + names
+
+    def test_functions_and_variables_of_a_section_by_itself(self) -> None:
+        out, told = self.converted(self.file("plain.btf", self.btf()))
+        self.assertEqual(told, "")
+        for name, wanted in (("one", "int one(int);"), ("two", "void two(void);"),
+                             ("count", "int count;")):
+            self.assertEqual(command("ctfd-types", out, name).stdout.strip(), wanted)
+        again, _ = self.converted(self.file("again.ctf", Path(out).read_bytes()), "--only", "int")
+        self.assertEqual(command("ctfd-types", again, "count").stdout.strip(), "int count;")
+
+    def test_names_that_were_changed_are_not_told(self) -> None:
+        out, _ = self.converted(self.file("plain.btf", self.btf()))
+        data = Path(out).read_bytes()
+        changed = self.file("changed", data.replace(b"\0count\0", b"\0cOunt\0"))
+        self.assertEqual(source.read(changed).sym, None)
+
+    @unittest.skipUnless(TOOLS and shutil.which("pahole"), "no gcc or pahole here")
+    def test_functions_of_a_file_by_its_symbols(self) -> None:
+        file = self.compiled("code.o", CODE)
+        subprocess.run(["pahole", "-J", file], check=True, capture_output=True)
+        out, told = self.converted(file, "--from", "btf", "--section")
+        self.assertEqual(told, "")
+        self.assertEqual(command("ctfd-types", out, "add").stdout.strip(),
+                         "int add(struct node *, u32);")
+
+
+class Statuses(WithFiles):
+    @unittest.skipUnless(TOOLS, "no gcc or objcopy here")
+    def test_an_output_that_can_not_be_written_is_told_first(self) -> None:
+        for out in (str(self.folder), "/nowhere/out"):
+            done = command("ctfd-convert", "/no/such/input", out)
+            self.assertEqual(done.returncode, 2)
+            self.assertRegex(done.stderr, r"\Actfd-convert: \S+: it can't be written: .*\n\Z")
+
+    @unittest.skipUnless(TOOLS, "no gcc or objcopy here")
+    def test_standard_output(self) -> None:
+        file = self.compiled("code.o", CODE)
+        whole = Path(self.converted(file)[0]).read_bytes()
+        with (self.folder / "piped").open("wb") as piped:
+            subprocess.run([sys.executable, str(COMMAND), file, "-", "--service", SERVICE],
+                           stdout=piped, check=True)
+        self.assertEqual((self.folder / "piped").read_bytes(), whole)
+        done = command("ctfd-convert", file, "-", "--report", "-")
+        self.assertEqual((done.returncode, done.stdout), (2, ""))
+        self.assertIn("two outputs are one file", done.stderr)
+
+    @unittest.skipUnless(TOOLS, "no gcc or objcopy here")
+    def test_what_is_lost_often_is_told_once(self) -> None:
+        code = "typedef int four __attribute__((vector_size(16)));" \
+               "typedef short eight __attribute__((vector_size(16))); four a; eight b;"
+        told = self.converted(self.compiled("code.o", code), status=1)[1]
+        self.assertRegex(told, r"\Actfd-convert: a vector: .* \(2 times\)\n\Z")
+
+    @unittest.skipUnless(shutil.which("g++"), "no g++ here")
+    def test_other_languages(self) -> None:
+        plus = self.file("plus.cc", b"struct in_plus { int x; }; in_plus made; int f() { return 0; }")
+        made = str(self.folder / "plus.o")
+        subprocess.run(["g++", "-g", "-c", plus, "-o", made], check=True)
+        self.assertIn("its debug information is of 1 unit in C++: types of C alone are read",
+                      self.converted(made, status=2)[1])
+        both = str(self.folder / "both.o")
+        subprocess.run(["ld", "-r", "-o", both, made, self.compiled("code.o", CODE)], check=True)
+        out, told = self.converted(both, status=1)
+        self.assertIn("1 unit in C++", told)
+        self.assertEqual(self.types(out).find("struct node").size, 32)
+        self.assertFalse(self.types(out).find_all("struct in_plus"))
+
+
+if __name__ == "__main__":
+    unittest.main()

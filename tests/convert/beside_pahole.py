@@ -1,0 +1,178 @@
+#!/usr/bin/env python3
+"""Compares all structs and unions of programs, as ctfd-convert takes them, with pahole's view.
+
+usage: beside_pahole.py SERVICE FILE...
+
+SERVICE is a built ctfd. A FILE is an ELF file with debug information, here or in the debug file of
+its package, or the bytes of BTF, as /sys/kernel/btf/vmlinux. Compared are, of each struct and union
+that pahole lists, its size, the name, place and size of each member, and how many bits lie unused
+between its members and behind them. Of several types of a name one has to be the same.
+
+Prints each that differs, with both views; then, for each file, how many were compared, and the
+processor time of ctfd-convert and its memory. The status is 1 where one differs.
+
+Bits behind a bit-field are counted in bits as they lie, whole bytes of them or not. pahole takes
+all up to the end of the bit-field's declared type for bits of its unit, and the client whole bytes
+for bytes: C says that "an implementation may allocate any addressable storage unit large enough to
+hold a bit-field" (C11, 6.7.2.1), and gcc and clang put a char into those bytes.
+"""
+from __future__ import annotations
+
+import os
+import re
+import subprocess
+import sys
+import tempfile
+from collections import defaultdict
+from pathlib import Path
+from typing import Dict, List, NamedTuple, Tuple
+
+import headers  # noqa: E402  it knows where the client is
+
+import ctfd
+from ctfd.debugfiles import with_debug
+from ctfd.elf import Elf, MAGIC
+from ctfd.files import contents
+
+MOST = 20
+ERROR = "<ERROR("
+TOO_MANY = "that a dictionary holds"
+COMMAND = headers.HERE.parents[1] / "clients/python/ctfd-convert"
+_BLOCK = re.compile(r"^(struct|union) (\w+) \{\n(.*?)^\};?", re.MULTILINE | re.DOTALL)
+# A type that is declared in a struct, which pahole lists a second time in front of its member where
+# clang has it there: it has no place.
+_INNER = re.compile(r"^\t(?:struct|union)(?: \w+)? \{\n(?:\t\t.*\n|\n)*\t\};\n", re.MULTILINE)
+# What a note under a struct says in bytes or bits, and how many bits one of these is.
+_NOTES = {
+    "holes": ((re.compile(r"[ ,] holes: \d+, sum holes: (\d+)"), 8),
+              (re.compile(r"bit holes: \d+, sum bit holes: (\d+)"), 1)),
+    "padding": ((re.compile(r"^\t/\* padding: (\d+)", re.MULTILINE), 8),
+                (re.compile(r"^\t/\* bit_padding: (\d+)", re.MULTILINE), 1)),
+}
+
+
+class Struct(NamedTuple):
+    """What a listing says of one: its places, and how many bits lie unused between its members
+    and behind them."""
+
+    places: Tuple[headers.Place, ...]
+    holes: int
+    padding: int
+    has_error: bool
+
+
+Listed = Dict[str, List[Struct]]
+
+
+class Figures(NamedTuple):
+    """What one run of ctfd-convert took."""
+
+    seconds: float
+    megabytes: int
+    losses: List[str]
+
+
+def parsed(text: str) -> Listed:
+    """The structs and unions of a listing, by their names."""
+    found: Listed = defaultdict(list)
+    for block in _BLOCK.finditer(text):
+        name = f"{block[1]} {block[2]}"
+        own = _INNER.sub("", block[3])
+        places = headers.parsed(f"{name} {{\n{own}}}\n").get(name, ())
+        found[name].append(Struct(places, _bits("holes", own), _bits("padding", own),
+                                  ERROR in own))
+    return found
+
+
+def _bits(what: str, block: str) -> int:
+    """How many bits the notes under a struct say; those of structs in it stand in front."""
+    return sum(bits * int(found[-1]) for pattern, bits in _NOTES[what]
+               for found in [pattern.findall(block)] if found)
+
+
+def converted(service: str, path: str, made: str, *options: str) -> Figures:
+    """Runs ctfd-convert; what it took."""
+    words = [sys.executable, str(COMMAND), "--service", service, *options, path, made]
+    with tempfile.TemporaryFile("w+") as told:
+        child = subprocess.Popen(words, stderr=told)
+        _, status, used = os.wait4(child.pid, 0)
+        told.seek(0)
+        lines = told.read().splitlines()
+    if os.WEXITSTATUS(status) not in (0, 1):
+        sys.exit("\n".join(lines))
+    return Figures(used.ru_utime + used.ru_stime, used.ru_maxrss // 1024, lines)
+
+
+def listed(service: str, made: str, parent: str) -> Listed:
+    """What the client lists of all structs and unions with a name, those of a parent too."""
+    with ctfd.Client(service) as client:
+        session = client.session()
+        types = ctfd.open_file(session, made)
+        own = types.types()
+        if types.is_child:
+            types.import_parent(ctfd.open_file(session, parent))
+            assert types.parent
+            own += types.parent.types()
+        found = [t for t in own if t.kind in ("struct", "union") and t.name]
+        types.gather([t.number for t in found])
+        return parsed("\n".join(ctfd.listing(t) for t in found))
+
+
+def shown(path: str) -> Listed:
+    """What pahole lists."""
+    data = contents(path)
+    form = ["-F", "btf"]
+    if data[:4] == MAGIC:
+        path, form = with_debug(Elf(data, path), []).path, ["-F", "dwarf"]
+    done = subprocess.run(["pahole", *form, path], capture_output=True, text=True,
+                          errors="replace")
+    return parsed(done.stdout)
+
+
+def compare(service: str, path: str) -> int:
+    """How many differ in one file."""
+    with tempfile.TemporaryDirectory() as folder:
+        made, parent = str(Path(folder) / "made.ctf"), str(Path(folder) / "parent.ctf")
+        figures = converted(service, path, made)
+        if any(TOO_MANY in line for line in figures.losses):
+            figures = converted(service, path, made, "--split", parent)
+        ours = listed(service, made, parent)
+    count = wrong = unknown = 0
+    for name, all_of_name in shown(path).items():
+        for one in all_of_name:
+            count += 1
+            if one in ours.get(name, []):
+                continue
+            if any(_is_unknown(one, own) for own in ours.get(name, [])):
+                unknown += 1
+                continue
+            wrong += 1
+            tell(wrong, name, one, ours.get(name, []))
+    print(f"{path}: {count} structs and unions of pahole's view, {wrong} otherwise, {unknown} with"
+          f" members that pahole can't read; {figures.seconds:.1f} s, {figures.megabytes} MB,"
+          f" {len(figures.losses)} lines on what CTF can't hold")
+    return wrong + (not count)
+
+
+def _is_unknown(theirs: Struct, ours: Struct) -> bool:
+    """Whether two differ in members alone that pahole leaves out with a word on its error, or says
+    have no bytes: those of _Atomic types, which it does not know."""
+    if theirs.has_error:
+        return set(theirs.places) <= set(ours.places)
+    return len(theirs.places) == len(ours.places) and all(
+        one == own or one._replace(size=own.size) == own and not one.size
+        for one, own in zip(theirs.places, ours.places))
+
+
+def tell(number: int, name: str, theirs: Struct, ours: List[Struct]) -> None:
+    if number <= MOST:
+        print(name, f"  pahole {theirs}", *(f"  ctfd   {one}" for one in ours or ["none"]), sep="\n")
+
+
+def main(service: str, *paths: str) -> int:
+    wrong = sum([compare(service, path) for path in paths])
+    return 1 if wrong or not paths else 0
+
+
+if __name__ == "__main__":
+    sys.exit(main(*sys.argv[1:]))
