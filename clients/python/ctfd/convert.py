@@ -84,7 +84,7 @@ def convert(words: argparse.Namespace) -> List[str]:
         _refuse(f"{words.input}: --section needs an ELF file, and this is none: leave --section"
                 " out")
     options = Options(words.model, words.form, words.base, words.debug_folder, words.dictionary,
-                      TABLES[words.symbols])
+                      TABLES[words.symbols], _warn)
     found = read(words.input, options)
     if found.note:
         _warn(f"{words.input}: {found.note}")
