@@ -21,8 +21,8 @@ FORMS = ("ctf", "btf", "dwarf", "gnu")
 SECTIONS = {"ctf": source.SECTIONS, "btf": (".BTF",), "gnu": (".ctf",)}
 # Debug information of so many bytes takes minutes, and a line says what is faster.
 LARGE = 100 << 20
-SLOW = ("{} MB of debug information are read, which takes minutes: pahole -J, and --from btf here, are"
-        " faster, without objects, _Atomic types and a part of the functions")
+SLOW = ("{} MB of debug information are read, which takes minutes: pahole -J, and --from btf here,"
+        " are faster, without objects, _Atomic types and a part of the functions")
 LONGS = ("long int", "long", "long unsigned int", "unsigned long")
 
 
@@ -162,8 +162,8 @@ def _strings(file: Elf, link: int) -> Optional[bytes]:
 def _of_dwarf(whole: Elf, options: Options) -> Input:
     symbols = considered(whole, options.symbols)
     if options.symbols == DYNSYM and not symbols.listed:
-        raise Unreadable("it has no .dynsym with functions or objects, as a program has that exports"
-                         " some: leave --symbols out")
+        raise Unreadable("it has no .dynsym with functions or objects, as a program has that"
+                         " exports some: leave --symbols out")
     reader = from_dwarf.Reader(Table(whole.model), symbols.listed)
     _take(reader, whole, options)
     reader.tell(whole.kind != elf.RELOCATABLE)
