@@ -293,6 +293,13 @@ class Choosing(unittest.TestCase):
         self.assertEqual(chosen.kept, [1, 2, 3, 4])
         self.assertEqual(len(chosen.left), MOST_TYPES - 2)
 
+    def test_what_is_wanted_last_comes_last(self) -> None:
+        table = self.chain(MOST_TYPES)
+        for _ in range(2):
+            table.add(Record("pointer", type=1))
+        chosen = choose.fitting(table, range(1, MOST_TYPES), [MOST_TYPES + 2, MOST_TYPES])
+        self.assertEqual(chosen.left, [MOST_TYPES, MOST_TYPES + 1])
+
     def test_the_long_forms(self) -> None:
         table = Table()
         number = table.add(Record("integer", "int", 4))
