@@ -84,7 +84,7 @@ def convert(words: argparse.Namespace) -> List[str]:
         _refuse(f"{words.input}: --section needs an ELF file, and this is none: leave --section"
                 " out")
     options = Options(words.model, words.form, words.base, words.debug_folder, words.dictionary,
-                      TABLES[words.symbols])
+                      TABLES[words.symbols], _warn)
     found = read(words.input, options)
     if found.note:
         _warn(f"{words.input}: {found.note}")
@@ -164,7 +164,8 @@ def _selected(found: Input, names: List[str]) -> "tuple[Table, Set[int]]":
 def _alone(table: Table, symbols: Symbols) -> Made:
     """A dictionary without a parent."""
     if len(table) > MOST_TYPES:
-        chosen = fitting(table, _roots(table), table.symbol_roots())
+        hidden = [n for n in table.numbers() if table[n].name and not table[n].root]
+        chosen = fitting(table, _roots(table), [*hidden, *table.symbol_roots()])
         losses = told_left_out(table, chosen.left, "a dictionary holds (--split writes two)")
         table = table.kept(chosen.kept)
         table.losses += losses

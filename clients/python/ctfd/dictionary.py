@@ -76,8 +76,9 @@ class Dictionary:
     """Slot `slot` of a session.
 
     `how` tells where its symbols come from, as in `Source`, or "refused" where guessed ones did
-    not fit; `types_label` is what a child names it by as its parent, where that is known. `model` is the data model by which the service sizes and shows pointers. A child
-    shares what its parent was answered, so the parent's slot stays open.
+    not fit; `types_label` is what a child names it by as its parent, where that is known. `model`
+    is the data model by which the service sizes and shows pointers. A child shares what its parent
+    was answered, so the parent's slot stays open.
     """
 
     def __init__(self, session: Session, slot: int, how: str = "none",

@@ -19,6 +19,10 @@ from .symbols import DYNSYM, NAMES, SYMTAB, Symbols, Wanted, considered, table_o
 
 FORMS = ("ctf", "btf", "dwarf", "gnu")
 SECTIONS = {"ctf": source.SECTIONS, "btf": (".BTF",), "gnu": (".ctf",)}
+# Debug information of so many bytes takes minutes, and a line says what is faster.
+LARGE = 100 << 20
+SLOW = ("{} MB of debug information are read, which takes minutes: pahole -J, and --from btf here,"
+        " are faster, without objects, _Atomic types and a part of the functions")
 LONGS = ("long int", "long", "long unsigned int", "unsigned long")
 
 
@@ -37,7 +41,8 @@ class Input(NamedTuple):
 
 class Options(NamedTuple):
     """What the caller says of a file: `number` is that of one of several dictionaries in it, and
-    `symbols` names the symbol table that is wanted."""
+    `symbols` names the symbol table that is wanted. `warn` is told what should be known before a
+    file is read."""
 
     model: Optional[Model] = None
     form: Optional[str] = None
@@ -45,6 +50,7 @@ class Options(NamedTuple):
     folders: List[str] = []
     number: Optional[int] = None
     symbols: str = SYMTAB
+    warn: Callable[[str], None] = lambda said: None
 
 
 class Held(NamedTuple):
@@ -156,8 +162,8 @@ def _strings(file: Elf, link: int) -> Optional[bytes]:
 def _of_dwarf(whole: Elf, options: Options) -> Input:
     symbols = considered(whole, options.symbols)
     if options.symbols == DYNSYM and not symbols.listed:
-        raise Unreadable("it has no .dynsym with functions or objects, as a program has that exports"
-                         " some: leave --symbols out")
+        raise Unreadable("it has no .dynsym with functions or objects, as a program has that"
+                         " exports some: leave --symbols out")
     reader = from_dwarf.Reader(Table(whole.model), symbols.listed)
     _take(reader, whole, options)
     reader.tell(whole.kind != elf.RELOCATABLE)
@@ -204,6 +210,8 @@ def _take(reader: from_dwarf.Reader, whole: Elf, options: Options) -> None:
     progress = Progress(f"reading {found.path}")
     try:
         sections = Sections(found, [*options.folders, *FOLDERS])
+        if len(sections.held("info")) > LARGE:
+            options.warn(f"{found.path}: {SLOW.format(len(sections.held('info')) >> 20)}")
         reader.read(Debug(sections, progress.told))
     except Unreadable as error:
         raise Unreadable(f"{found.path}: {error}") from error

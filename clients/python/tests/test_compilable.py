@@ -17,7 +17,9 @@ from .tools import CONVERTS, WHY_NOT, converted, whole_of, written
 
 FORMS = """
 typedef const char letter;
-struct __attribute__((packed)) odd { unsigned five : 5; unsigned all : 32; unsigned long more : 64; };
+struct __attribute__((packed)) odd {
+    unsigned five : 5; unsigned all : 32; unsigned long more : 64;
+};
 struct forms {
     void (*unsaid)(); void (*none)(void); int (*some)(int, ...); unsigned whole : 32;
     const letter *twice; const letter *const *deep; _Float16 half; _Decimal64 money; int tail[];

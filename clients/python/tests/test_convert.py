@@ -10,14 +10,15 @@ import tempfile
 import unittest
 from pathlib import Path
 from typing import List, Sequence, Tuple
+from unittest import mock
 
 import ctfd
-from ctfd import choose
+from ctfd import choose, inputs
 from ctfd.records import Part, Record, Table
 from ctfd.written import MOST_TYPES, written
 
-from .support import (EXAMPLES, PROGRAM, TOOLS, WithService, dictionary, integer,
-                      object_file, pointer)
+from .support import (EXAMPLES, PROGRAM, TOOLS, WithService, dictionary, integer, object_file,
+                      pointer)
 
 COMMAND = Path(__file__).resolve().parents[1] / "ctfd-convert"
 LUA = EXAMPLES / "lua.ctf"
@@ -186,6 +187,16 @@ class Dwarf(WithFiles):
         types.import_parent(self.types(parent))
         self.assertEqual(self.members(types.find("struct own")), [("node", 0, "struct node *")])
 
+    def test_large_debug_information_is_told_before_it_is_read(self) -> None:
+        told: List[str] = []
+        options = inputs.Options(warn=told.append)
+        file = self.compiled("code", CODE)
+        with mock.patch.object(inputs, "LARGE", 10):
+            inputs.read(file, options)
+        inputs.read(file, options)
+        self.assertEqual(len(told), 1)
+        self.assertRegex(told[0], "0 MB of debug information .* takes minutes: pahole -J, and")
+
     def test_older_dwarf_says_the_same(self) -> None:
         told = []
         for version in ("-gdwarf-2", "-gdwarf-3", "-gdwarf-4", "-gdwarf-5"):
@@ -281,6 +292,13 @@ class Choosing(unittest.TestCase):
         chosen = choose.fitting(table, [MOST_TYPES + 1, 4])
         self.assertEqual(chosen.kept, [1, 2, 3, 4])
         self.assertEqual(len(chosen.left), MOST_TYPES - 2)
+
+    def test_what_is_wanted_last_comes_last(self) -> None:
+        table = self.chain(MOST_TYPES)
+        for _ in range(2):
+            table.add(Record("pointer", type=1))
+        chosen = choose.fitting(table, range(1, MOST_TYPES), [MOST_TYPES + 2, MOST_TYPES])
+        self.assertEqual(chosen.left, [MOST_TYPES, MOST_TYPES + 1])
 
     def test_the_long_forms(self) -> None:
         table = Table()

@@ -269,7 +269,7 @@ class Statuses(WithFiles):
 
     @unittest.skipUnless(shutil.which("g++"), "no g++ here")
     def test_other_languages(self) -> None:
-        plus = self.file("plus.cc", b"struct in_plus { int x; }; in_plus made; int f() { return 0; }")
+        plus = self.file("plus.cc", b"struct in_plus { int x; }; in_plus made; int f() {return 0;}")
         made = str(self.folder / "plus.o")
         subprocess.run(["g++", "-g", "-c", plus, "-o", made], check=True)
         self.assertIn("its debug information is of 1 unit in C++: types of C alone are read",

@@ -76,11 +76,11 @@ class Inferior:
     def _why_untold(self) -> str:
         """Why there is no type of a name that gdb knows."""
         for one in self.loaded:
-            how = one.program.types.how
+            how, path = one.program.types.how, one.program.path
             if how == "unread":
-                return f"the symbol table of {one.program.path} is one of 32 bits, which is not read"
+                return f"the symbol table of {path} is one of 32 bits, which is not read"
             if how in ("differs", "stripped"):
-                return f"{one.program.path}: {source.WARNINGS[how]}"
+                return f"{path}: {source.WARNINGS[how]}"
         return "no dictionary tells its type"
 
     def find(self, name: str) -> ctfd.Type:
