@@ -1,14 +1,14 @@
 #!/usr/bin/env bash
 # Checks ctfd-front, with which many clients use one service, over a built ctfd.
 # usage: tests/front.sh PROGRAM [--all]
-# PROGRAM is crates/ctfd/out/ctfd once `rt run` in crates/ctfd has built it. Needs Linux, Python, and
-# Debian's python3-prometheus-client for one test.
+# PROGRAM is crates/ctfd/out/ctfd once `rt run` in crates/ctfd has built it. Needs Linux, Python,
+# and Debian's python3-prometheus-client for one test.
 #
 # Isolation seen from outside (tests/front/isolation.py): 200 clients send 100,000 lines, valid and
 # hostile, and each is replied what a service of its own replies. Attacks on a session's number and
 # on the others' patience and memory (test_attacks.py). Shares of the service's time, and limits for
-# each user (test_shares.py; test_turns.py by a clock of its own). What a line costs (test_costs.py).
-# Beginnings, ends, and processes killed in the middle of a load (test_ends.py); ends at random
+# each user (test_shares.py; test_turns.py by a clock of its own). What a line costs
+# (test_costs.py). Beginnings, ends, and processes killed in the middle of a load (test_ends.py); ends at random
 # moments while clients come and leave (departures.py). Random lines with a number in them
 # (test_tagging.py). Several services behind one front (test_rooms.py). What an operator sees
 # (test_told.py). The client over a socket (test_client.py). The units of docs/SERVING.md, where
