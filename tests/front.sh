@@ -1,19 +1,21 @@
 #!/usr/bin/env bash
 # Checks ctfd-front, with which many clients use one service, over a built ctfd.
 # usage: tests/front.sh PROGRAM [--all]
-# PROGRAM is crates/ctfd/out/ctfd once `rt run` in crates/ctfd has built it. Needs Linux, Python, and
-# Debian's python3-prometheus-client for one test.
+# PROGRAM is crates/ctfd/out/ctfd once `rt run` in crates/ctfd has built it. Needs Linux, Python,
+# and Debian's python3-prometheus-client for one test.
 #
 # Isolation seen from outside (tests/front/isolation.py): 200 clients send 100,000 lines, valid and
 # hostile, and each is replied what a service of its own replies. Attacks on a session's number and
-# on the others' patience and memory (test_attacks.py). Shares of the service's time, and limits for
-# each user (test_shares.py). What a line costs (test_costs.py). Beginnings, ends, and processes
-# killed in the middle of a load (test_ends.py); ends at random moments while clients come and leave
-# (departures.py). Random lines with a number in them (test_tagging.py). Several services behind one
-# front (test_rooms.py). What an operator sees (test_told.py). The client over a socket
-# (test_client.py). The units of docs/SERVING.md, where systemd-analyze is there (units.py).
+# on the others' patience and memory (test_attacks.py). Shares of the service's time, and limits
+# for each user (test_shares.py; test_turns.py by a clock of its own). What a line costs
+# (test_costs.py). Beginnings, ends, and processes killed in the middle of a load (test_ends.py);
+# ends at random moments while clients come and leave (departures.py). Random lines with a number
+# in them (test_tagging.py). Several services behind one front (test_rooms.py). What an operator
+# sees (test_told.py). The client over a socket (test_client.py). The units of docs/SERVING.md,
+# where systemd-analyze is there (units.py).
 # With --all, isolation is tried with other seeds and a million lines, ends 1,000 times, and shares
-# beside the dearest requests that are known. Two run at a time.
+# beside the dearest requests that are known. Two run at a time. PATIENCE in the environment is how
+# many seconds a test waits for anything, 60 where it is absent.
 # Prints what was wrong; the status is 1 where something was wrong.
 set -eu
 CTFD=$(realpath "$1")
@@ -45,7 +47,7 @@ with_prometheus() {
  told attacks python3 -W ignore -m unittest test_attacks; told units python3 units.py) &
 told ends python3 -W ignore -m unittest test_ends
 told departures python3 departures.py
-told shares python3 -W ignore -m unittest test_shares
+told shares python3 -W ignore -m unittest test_turns test_shares
 wait
 told costs python3 -W ignore -m unittest test_costs
 if [ "${2:-}" = --all ]; then

@@ -19,7 +19,7 @@ PROGRAM = os.environ.get("CTFD", "")
 COMMAND = TOP / "clients" / "python" / "ctfd-front"
 LUA = f"lua={TOP / 'examples' / 'lua.ctf'}"
 INT = ("f1cf0200" + 24 * "00" + "0c00000005000000" "01000000000c040020000001" "00696e7400")
-PATIENCE = 60.0
+PATIENCE = float(os.environ.get("PATIENCE", "60"))
 
 
 def ask(op: str, s: int = 1, **fields: Any) -> bytes:

@@ -9,7 +9,7 @@ import sys
 import unittest
 from typing import Dict, Set
 
-from support import HAND_IN, TOP, Front, Talker, WithFront, ask, children, until
+from support import HAND_IN, PATIENCE, TOP, Front, Talker, WithFront, ask, children, until
 
 sys.path.insert(0, str(TOP / "clients" / "python"))
 
@@ -102,7 +102,7 @@ class Rooms(WithFront):
         """The front ends with its status; the others' lines are answered first."""
         front = self.front("--processes", "2").started()
         os.kill(children(front.process.pid)[0], signal.SIGKILL)
-        self.assertEqual(front.process.wait(30), 128 + 9)
+        self.assertEqual(front.process.wait(PATIENCE), 128 + 9)
 
     def test_python_client(self) -> None:
         front = self.front("--processes", str(SERVICES)).started()

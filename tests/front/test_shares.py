@@ -15,7 +15,7 @@ import time
 import unittest
 from typing import Iterator, List
 
-from support import HAND_IN, TOP, Front, Talker, WithFront, ask, until
+from support import HAND_IN, PATIENCE, TOP, Front, Talker, WithFront, ask, until
 
 sys.path.insert(0, str(TOP / "clients" / "python"))
 
@@ -112,7 +112,8 @@ class Shares(WithFront):
         said = f"{len(waits)} waits, median {statistics.median(waits):.4f}," \
                f" worst {max(waits):.4f}, import {took:.4f}"
         print(said, file=sys.stderr)
-        self.assertLess(statistics.median(waits), 0.020, said)
+        # 20 ms; more where other work slows all down, as the dearest requests show
+        self.assertLess(statistics.median(waits), max(0.020, took / 4), said)
         self.assertLess(max(waits), 2 * took, said)
 
     def test_newcomer_is_not_behind_a_queue(self) -> None:
@@ -195,7 +196,7 @@ class OneUser(WithFront):
         front = self.front("--sessions", "2").started()
         for _ in range(3):
             self.talker(front)
-        self.assertEqual(front.process.wait(10), 7)
+        self.assertEqual(front.process.wait(PATIENCE), 7)
 
     def test_memory_of_one_user(self) -> None:
         """Another user's half-lines are not closed for those of one."""
@@ -257,7 +258,7 @@ class OneUser(WithFront):
         with open(f"{path}.lock", "w"):
             os.chmod(f"{path}.lock", 0o644)
         front = self.front()
-        self.assertEqual(front.process.wait(10), 5)
+        self.assertEqual(front.process.wait(PATIENCE), 5)
         self.assertIn("others may open it: remove it", front.said)
 
     def test_lock_is_the_fronts_own(self) -> None:

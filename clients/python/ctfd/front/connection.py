@@ -60,7 +60,7 @@ class Connection:
         self.user = account.number
         self.service: Optional[Service] = None
         self.is_open, self.may_hold = True, False
-        self.tag, self.rests_until, self.in_turn = 0.0, 0.0, False
+        self.tag, self.in_turn, self.rests = 0.0, False, False
         self.held = self.lines = self.refused = 0
         self.seconds = 0.0  # of the service
         self._loop = asyncio.get_running_loop()

@@ -13,7 +13,7 @@ class Farewell:
     """Takes back what a session has published by some names, and then what it holds."""
 
     def __init__(self, session: int, user: int, names: Set[str]) -> None:
-        self.tag, self.rests_until, self.in_turn = 0.0, 0.0, False
+        self.tag, self.in_turn, self.rests = 0.0, False, False
         self.user = user
         withdrawn = [b'{"name":%b,"op":"withdraw","s":%d}\n' % (json.dumps(name).encode(), session)
                      for name in sorted(names)]

@@ -18,7 +18,7 @@ class Limits:
     bytes: int = 2_097_152
     unread: int = 1_048_576
     memory: int = 268_435_456
-    user_memory: int = 134_217_728
+    user_memory: int = 67_108_864
     sessions: int = LAST_SESSION
     user_sessions: int = 20_000
     ahead: int = 256

@@ -7,7 +7,7 @@ from typing import Callable, List, Optional, Sequence
 from .journal import Level, say
 from .limits import Limits
 from .process import PROBE, Process, cause
-from .turns import Turns
+from .turns import Asker, Turns
 
 LIVED = 10.0  # seconds after which a service counts as one that can be started
 LONGEST_PAUSE = 60.0
@@ -22,7 +22,7 @@ class Service:
         self.number = number
         self.connections = 0
         self.is_ready = self.has_served = self.is_ended = False
-        self.turns = Turns(limits.ahead, limits.user_ahead, self._wake)
+        self.turns = Turns(limits.ahead, limits.user_ahead, self._wake, self._rest)
         self._command, self._limits, self._changed = command, limits, changed
         self._loop = asyncio.get_running_loop()
         self._process: Optional[Process] = None
@@ -90,20 +90,19 @@ class Service:
             self._is_awake = True
             self._loop.call_soon(self._ask)
 
+    def _rest(self, asker: Asker, seconds: float) -> None:
+        self._loop.call_later(seconds, self.turns.rested, asker)
+
     def _ask(self) -> None:
         """Gives the process what it may be given."""
         self._is_awake = False
         if self._process and self.is_serving and self._process.has_room:
-            now = self._loop.time()
-            lines, resting = self.turns.take(now)
-            self._process.write(lines)
-            for asker in resting:
-                self._loop.call_at(asker.rests_until, self.turns.offer, asker)
+            self._process.write(self.turns.take())
 
     def _answered(self, replies: List[bytes]) -> None:
         """Gives replies to those who wait for them, and the process new lines."""
         assert self._process
-        before, self._seconds = self._seconds, self._process.seconds
+        before, self._seconds = self._seconds, max(self._seconds, self._process.seconds)
         if not self.is_ready:
             self.is_ready = self.has_served = True
             self._changed()

@@ -50,8 +50,8 @@ class Asker(Protocol):
 
     tag: float
     in_turn: bool
+    rests: bool
     user: int
-    rests_until: float
 
     def next(self) -> Optional[Flight]:
         """What it asks next, and again until `launched`; None where it has to wait or has none."""
@@ -127,13 +127,17 @@ class User:
 
 
 class Turns:
-    """Who asks one service. `wake` is called when somebody has got a turn.
+    """Who asks one service. `wake` is called when somebody has got a turn, and `rest` when an asker
+    is to rest for so many seconds; then `rested` is to be called. `clock` tells seconds.
 
     `ahead` lines are with the service at most, and `user_ahead` of one user.
     """
 
-    def __init__(self, ahead: int, user_ahead: int, wake: Callable[[], None]) -> None:
-        self._ahead, self._user_ahead, self._wake = ahead, user_ahead, wake
+    def __init__(self, ahead: int, user_ahead: int, wake: Callable[[], None],
+                 rest: Callable[[Asker, float], None],
+                 clock: Callable[[], float] = time.monotonic) -> None:
+        self._clock = clock
+        self._ahead, self._user_ahead, self._wake, self._rest = ahead, user_ahead, wake, rest
         self._users: Dict[int, User] = {}
         self._line: Line[User] = Line()
         self._flying: Deque[Flight] = deque()
@@ -142,8 +146,8 @@ class Turns:
         self._recently = self._others_recently = -ABOUT
 
     def offer(self, asker: Asker) -> None:
-        """Gives an asker a turn, where it has none yet."""
-        flight = None if asker.in_turn else asker.next()
+        """Gives an asker a turn, where it has a line and neither a turn yet nor to rest."""
+        flight = None if asker.in_turn or asker.rests else asker.next()
         if flight is None:
             return
         user = self._users.get(asker.user)
@@ -154,16 +158,20 @@ class Turns:
             self._line.offer(user, 0.0)
         self._wake()
 
-    def take(self, now: float) -> Tuple[bytes, Sequence[Asker]]:
-        """The lines that the service is given now, and those who rest instead."""
+    def rested(self, asker: Asker) -> None:
+        """An asker has rested."""
+        asker.rests = False
+        self.offer(asker)
+
+    def take(self) -> bytes:
+        """The lines that the service is given now."""
         given: List[bytes] = []
-        resting: List[Asker] = []
         size = 0
         while size < AT_ONCE:
             user = self._line.first()
             if user is None:
                 break
-            flight = self._next_of(user, now, resting)
+            flight = self._next_of(user)
             if flight is None:
                 self._line.drop()
             elif self._is_full(flight):
@@ -172,7 +180,7 @@ class Turns:
                 self._launch(user, flight)
                 given.append(flight.asked.data)
                 size += len(flight.asked.data)
-        return b"".join(given), resting
+        return b"".join(given)
 
     def answered(self, replies: Sequence[bytes], seconds: float) -> Iterable[Asker]:
         """Gives replies to those who wait, and counts what they have used; who they are.
@@ -204,7 +212,7 @@ class Turns:
         self._flying.clear()
         self._lines, self._expected, self._unshared = 0, 0.0, 0.0
 
-    def _next_of(self, user: User, now: float, resting: List[Asker]) -> Optional[Flight]:
+    def _next_of(self, user: User) -> Optional[Flight]:
         """What a user's first asker asks."""
         if user.flying >= self._user_ahead:
             user.is_full = True
@@ -213,11 +221,7 @@ class Turns:
             asker = user.line.first()
             if asker is None:
                 return None
-            if asker.rests_until > now:
-                resting.append(asker)
-                user.line.drop()
-                continue
-            flight = asker.next()
+            flight = None if asker.rests else asker.next()
             if flight is not None:
                 return flight
             user.line.drop()
@@ -250,7 +254,7 @@ class Turns:
         self._unshared += seconds
         if not done:
             return
-        now = time.monotonic()
+        now = self._clock()
         known, count = 0.0, 0
         for flight in done:
             known += flight.expected
@@ -285,4 +289,5 @@ class Turns:
             self._others_recently, self._recent = self._recently, asker
         self._recently = now
         if took > DEPTH and now - self._others_recently < ABOUT:
-            asker.rests_until = now + min(took, LONGEST_REST)
+            asker.rests = True
+            self._rest(asker, min(took, LONGEST_REST))
