@@ -1,9 +1,10 @@
-"""Where a function finds its arguments, by the calling conventions of x86-64 and i386 (System V).
+"""Where a function finds its arguments, by the calling convention of x86-64 (System V).
 
 CTF tells what a function takes and not where. The convention tells where, as the function begins:
 so the arguments in registers have a place there and up to the end of `endbr64; push %rbp; mov
-%rsp,%rbp`, where a breakpoint stops. Those on the stack, which on i386 are all, have one
-everywhere. CTF has no names of arguments: they are called arg0, arg1, ..
+%rsp,%rbp`, where a breakpoint stops. Those on the stack have one everywhere. On i386 compilers call
+functions that one file has for itself in ways of their own, and options change how others are
+called, so no place is told there. CTF has no names of arguments: they are called arg0, arg1, ..
 """
 from __future__ import annotations
 
@@ -19,7 +20,7 @@ INTEGERS = (5, 4, 1, 2, 8, 9)  # rdi, rsi, rdx, rcx, r8, r9
 VECTORS = tuple(range(17, 25))
 ENDBR, PUSH, MOVES = b"\xf3\x0f\x1e\xfa", b"\x55", (b"\x48\x89\xe5", b"\x48\x8b\xec")
 LONGEST_ENTRY = 8
-WORD, SLOT = 8, 4
+WORD = 8
 LONGEST_IN_REGISTERS = 2 * WORD
 INTEGER, VECTOR, MEMORY = "I", "S", "M"
 STRONGER = VECTOR + INTEGER + MEMORY
@@ -55,7 +56,7 @@ class Places:
         """The attributes of each argument; one whose place is not known has a name alone. `base`
         is that of the function's unit."""
         assert one.function
-        listed = (_located if table.model == "lp64" else _stacked)(table, one.function)
+        listed = _located(table, one.function)
         end = one.address + min(self._entered(one.address), one.size)
         made: List[List[Attribute]] = []
         for number, place in enumerate(listed):
@@ -108,22 +109,6 @@ def _located(table: Table, function: Record) -> List[Optional[bytes]]:
                 stack += (size + WORD - 1) // WORD * WORD
     except Untold:
         pass
-    return made + [None] * (len(function.arguments) - len(made))
-
-
-def _stacked(table: Table, function: Record) -> List[Optional[bytes]]:
-    """The same of i386, where all are on the stack, and so is the place of a struct returned."""
-    made: List[Optional[bytes]] = []
-    end = table.resolved(function.type)
-    stack = SLOT if end and table[end].kind in ("struct", "union") else 0
-    for argument in function.arguments:
-        end = table.resolved(argument)
-        is_pointer = bool(end) and table[end].kind in ("array", "function")
-        size = SLOT if is_pointer else size_of(table, argument)
-        if size is None:
-            break
-        made.append(FRAME_PLACE + signed(stack))
-        stack += (size + SLOT - 1) // SLOT * SLOT
     return made + [None] * (len(function.arguments) - len(made))
 
 
