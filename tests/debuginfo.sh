@@ -193,6 +193,18 @@ done
 count "which is its owner's" [ "$(stat -c %a cache/ctfd)" = 700 ]
 loads -ex 'set ctf-debuginfo off' > seen 2>&1
 count "set ctf-debuginfo off" grep -q 'has unknown type' seen
+# lldb 14 of Debian looks for its package in another folder than it has.
+packages=$(echo /usr/lib/llvm-*/lib/python3*/dist-packages)
+export PYTHONPATH=${packages// /:}
+if lldb -b -o 'script import lldb; print(lldb.SBTarget)' 2>&1 | grep -q "^<class"; then
+    lldb -b -o "command script import $top/clients/lldb/ctfdlldb.py" -o 'target create waits' \
+        -o ctfload -o 'expression sizeof(struct point)' -o 'target variable first' > seen 2>&1
+    count "ctfload in lldb" grep -q '^(unsigned long) \$0 = 16$' seen
+    count "a variable in lldb" grep -q '^  y = 4$' seen
+else
+    echo "not possible here: lldb has no Python"
+fi
+unset PYTHONPATH
 chmod 777 cache/ctfd
 loads > seen 2>&1
 count "a folder of others" grep -q 'is not a folder that its owner alone may write to' seen

@@ -7,6 +7,7 @@ import gdb
 
 import ctfd
 from ctfd import expressions, formats, lists
+from ctfd.debuginfo.keeping import has_types
 from ctfd.declare import declaration, declarator, function
 from ctfd.nearest import offered
 from ctfd.operands import BadExpression, Code, Located, Number, Operand, Steps, Untold
@@ -178,7 +179,7 @@ class Load(Command):
             gdb.events.new_objfile.connect(lambda event: self.follow_one(event.new_objfile))
 
     def follow_one(self, one: gdb.Objfile) -> None:
-        if one.owner is None and one.filename and native.has_types(one.filename):
+        if one.owner is None and one.filename and has_types(one.filename):
             self.give(one.filename)
 
 

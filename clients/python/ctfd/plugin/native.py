@@ -5,20 +5,15 @@ gdb then moves it where the program or library is, now and whenever the program 
 from __future__ import annotations
 
 import os
-import tempfile
-from pathlib import Path
 from typing import Optional
 
 import gdb
 
 import ctfd
-from ctfd.debuginfo import cache
-from ctfd.debuginfo.command import Wanted, make
-from ctfd.debuginfo.image import Image
-from ctfd.elf import MAGIC, Elf
+from ctfd.debuginfo.command import Wanted
+from ctfd.debuginfo.keeping import Writer, has_types
+from ctfd.elf import Elf
 from ctfd.inputs import contents, has_debug
-from ctfd.source import SECTIONS
-from ctfd.text import printable
 
 
 class Given(gdb.Parameter):
@@ -36,36 +31,7 @@ class Given(gdb.Parameter):
         return ""
 
 
-class Writer:
-    """Writes debug files into the user's cache, else into a folder that goes with gdb."""
-
-    def __init__(self) -> None:
-        self._folder: Optional[tempfile.TemporaryDirectory[str]] = None
-
-    def written(self, session: ctfd.Session, wanted: Wanted) -> Path:
-        """The debug file of a program; what is to be known of a new one is printed. Raises Error.
-        """
-        read = [contents(path) for path in (wanted.path, wanted.symbols, wanted.parent) if path]
-        name = cache.key(Image(read[0], wanted.path).build_id, read)
-        place = self.place()
-        if not cache.known(place, name):
-            made = make(session, wanted)
-            for note in made.notes:
-                print(printable(note))
-            cache.keep(place, name, made.data)
-        return place / name
-
-    def place(self) -> Path:
-        try:
-            return cache.folder()
-        except ctfd.Error as error:
-            if self._folder is None:
-                print(printable(str(error)))
-                self._folder = tempfile.TemporaryDirectory(prefix="ctfd-")
-            return Path(self._folder.name)
-
-
-WRITER = Writer()
+WRITER = Writer(print)
 
 
 def objfile_of(path: str) -> Optional[gdb.Objfile]:
@@ -78,27 +44,13 @@ def objfile_of(path: str) -> Optional[gdb.Objfile]:
     return None
 
 
-def has_types(path: str) -> bool:
-    """Whether a file is an ELF file with CTF."""
-    try:
-        data = contents(path)
-        file = Elf(data, path) if data[:4] == MAGIC else None
-    except ctfd.Unreadable:
-        return False
-    return file is not None and any(file.named(name) for name in SECTIONS)
-
-
 def give(client: ctfd.Client, path: str, parent: Optional[str] = None) -> str:
     """Gives gdb the types of a file that it has read; a line on what it has of them, "" where it
     has no such file, or the file has no CTF. Raises Error."""
     one = objfile_of(path)
     if one is None or not has_types(path):
         return ""
-    session = client.session()
-    try:
-        made = WRITER.written(session, Wanted(path, parent))
-    finally:
-        session.ask("reset")
+    made = WRITER.written(client, Wanted(path, parent))
     has_own = has_debug(Elf(contents(path), path))
     try:
         one.add_separate_debug_file(str(made))
