@@ -123,7 +123,7 @@ def make(session: Session, wanted: Wanted) -> Made:
         made.told = _told(wanted, table, image, twin, made.notes)
     places = None
     if wanted.has_arguments and image and image.head.machine == X86_64:
-        places = Places(image.code)
+        places = Places(image.code, table)
     producer = Producer(f"{NAME} {VERSION}", f"{os.path.basename(wanted.path)}.types.c")
     debug = UnitWriter(table, producer, places).sections(made.told)
     is_beside = image and twin and not image.is_relocatable
