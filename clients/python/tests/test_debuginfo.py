@@ -1,9 +1,11 @@
-"""Debug files of hostile dictionaries and damaged files: an end in time, and one line where refused."""
+"""Debug files of hostile dictionaries and damaged files: an end in time, or one line."""
 import random
+import subprocess
 import tempfile
 import time
 import unittest
 from pathlib import Path
+from typing import Dict
 
 import ctfd
 from ctfd import from_ctf
@@ -16,7 +18,7 @@ from .support import STRUCT, WithService, dictionary, integer, member, object_fi
 from .test_hostile import cycles, deep, doubles, many
 
 SECONDS = 20
-DAMAGES = 200
+DAMAGES = 150
 
 
 class HostileDictionaries(unittest.TestCase):
@@ -44,20 +46,32 @@ class DamagedFiles(WithService):
         types = dictionary([integer(1), record(STRUCT, 1, 4, 5, member(7, 1, 0))],
                            b"\0int\0s\0x\0")
         with tempfile.TemporaryDirectory() as folder:
-            data = Path(object_file(folder, types)).read_bytes()
-            path = Path(folder, "damaged")
-            for _ in range(DAMAGES):
-                turned = bytearray(data[:luck.choice((len(data), luck.randrange(len(data))))])
-                for _ in range(luck.randint(1, 8)):
-                    if turned:
-                        turned[luck.randrange(len(turned))] = luck.choice((0, 1, 255, 128))
-                path.write_bytes(turned)
-                session = self.client.session()
-                try:
-                    self.assertTrue(command.make(session, command.Wanted(str(path))).data)
-                except ctfd.Error:
-                    pass
-                session.ask("reset")
+            whole = object_file(folder, types, code="int x; int f(int a) { return a + x; }",
+                                options=["-fPIC"])
+            linked = Path(folder, "linked")
+            subprocess.run(["gcc", "-shared", "-o", str(linked), str(whole)], check=True)
+            for place in range(64):
+                self.judged(folder, linked.read_bytes(), {place: 255})
+            for number in range(DAMAGES):
+                data = (linked if number % 2 else whole).read_bytes()
+                data = data[:luck.choice((len(data), 1 + luck.randrange(len(data) - 1)))]
+                # Headers stand at the end.
+                places = [luck.randrange(len(data)), max(0, len(data) - luck.randrange(2200) - 1)]
+                self.judged(folder, data, {at: luck.choice((0, 1, 255)) for at in places})
+
+    def judged(self, folder: str, data: bytes, turned: Dict[int, int]) -> None:
+        """A file with some bytes turned is written as a debug file, or refused."""
+        damaged = bytearray(data)
+        for place, byte in turned.items():
+            damaged[place] = byte
+        path = Path(folder, "damaged")
+        path.write_bytes(damaged)
+        session = self.client.session()
+        try:
+            self.assertTrue(command.make(session, command.Wanted(str(path))).data)
+        except ctfd.Error:
+            pass
+        session.ask("reset")
 
 
 if __name__ == "__main__":

@@ -95,7 +95,7 @@ class Image:
             self.headers = [SectionHeader(*self.form.section.unpack_from(
                 data, self.head.sections_at + number * self.form.section.size))
                 for number in range(len(self.elf.sections))]
-        except struct.error as error:
+        except (struct.error, OverflowError) as error:
             raise Unreadable(f"{path}: an ELF file that is cut off") from error
 
     @property
