@@ -40,7 +40,8 @@ def key(build_id: bytes, read: Iterable[bytes]) -> str:
     """The name of the file that is made of what was read: of the build's, where one is told."""
     found = hashlib.sha256(VERSION.encode())
     for data in read:
-        found.update(len(data).to_bytes(8, "little") + data)
+        found.update(len(data).to_bytes(8, "little"))
+        found.update(data)
     return f"{build_id.hex() or 'none'}-{found.hexdigest()[:32]}{SUFFIX}"
 
 
