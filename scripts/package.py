@@ -158,7 +158,7 @@ def archived(stage: Path, seconds: int) -> bytes:
     made = io.BytesIO()
     with tarfile.open(fileobj=made, mode="w", format=tarfile.GNU_FORMAT) as out:
         for path in (stage, *files(stage)):
-            out.add(path, arcname=str(path.relative_to(stage.parent)), recursive=False, filter=owned)
+            out.add(path, str(path.relative_to(stage.parent)), recursive=False, filter=owned)
     return made.getvalue()
 
 

@@ -99,7 +99,8 @@ def says_what_is_built(program: Path) -> str:
     stands = built.told() if program == built.PROGRAM else None
     if not stands:
         return f"over {program}"
-    how = {built.How.PROVED: "which the kit built with its proofs", built.How.QUICK: "a quick build"}
+    how = {built.How.PROVED: "which the kit built with its proofs",
+           built.How.QUICK: "a quick build"}
     return f"over {program.relative_to(TOP)}, {how[stands.how]}"
 
 

@@ -9,10 +9,11 @@
 # The programs are what others wrote: the libraries of libstb-dev as one (PIE, of 32 bits, and as a
 # shared library), and pngtest.c of libpng-dev (at fixed addresses). Each is compiled with debug
 # information, its types are converted to CTF, and the debug information is taken away. Then all
-# structs, unions, enums, typedefs, global variables and functions are asked of gdb, running, by both
-# (debuginfo/dump.py, compare.py); what differs is named in debuginfo/known.txt. llvm-dwarfdump
-# verifies what was written, and converted back it has the same types. A process is attached to, and
-# its core file read.
+# structs, unions, enums, typedefs, global variables and functions are asked of gdb, running, by
+# both (debuginfo/dump.py, compare.py); what differs is named in debuginfo/known.txt.
+# llvm-dwarfdump verifies what was written, and converted back it has the same types. A process is
+# attached to, and its core file read. `ctf load` of the plug-in gives gdb the same, by a file that
+# it keeps.
 # Prints what was wrong, and counts; the status is 1 where something was wrong.
 set -eu
 program=$(realpath "$1")
@@ -53,13 +54,15 @@ client() {
     "$python" "$top/clients/python/$1" "${@:2}"
 }
 
-# made NAME WORD..: NAME.g with debug information, NAME without, and NAME.debug; gcc takes the words.
+# made NAME WORD..: NAME.g with debug information, NAME without it, and NAME.debug, of what gcc
+# makes of the words.
 # It has the data model that $model names, lp64 where it names none.
 made() {
     local name=$1 model=${model:-lp64}
     shift
     gcc -g -O1 -w -o "$name.g" "$@"
-    client ctfd-convert --lossy --section "$name.g" "$name.ctf" > said 2>&1 || { cat said; return 1; }
+    client ctfd-convert --lossy --section "$name.g" "$name.ctf" > said 2>&1 ||
+        { cat said; return 1; }
     objcopy --strip-debug "$name.ctf" "$name"
     count "the debug file of $name" client ctfd-debuginfo "$name" "$name.debug"
     count "$name.debug is right" llvm-dwarfdump --verify "$name.debug"
@@ -131,7 +134,8 @@ gcc -o user user.c -L. -l:libstb.so -Wl,-rpath,"$work"
 gdb -batch -nx -iex 'set debug-file-directory /none' -ex 'break *stb_main' -ex run \
     -ex "$(added libstb.so)" -ex 'whatis stbi_load' -ex 'print sizeof(stbtt_fontinfo)' \
     -ex 'info args' user > seen 2>&1
-count "a library's function" grep -Fq 'type = stbi_uc *(const char *, int *, int *, int *, int)' seen
+wanted='type = stbi_uc *(const char *, int *, int *, int *, int)'
+count "a library's function" grep -Fq "$wanted" seen
 count "a library's type" grep -Eq '^\$1 = [1-9]' seen
 count "arguments" grep -q '^arg0 = 1$' seen
 
@@ -160,7 +164,8 @@ fi
 made waits "$tests/waits.c"
 ./waits &
 pid=$!
-questions=(-ex 'print first.next->y' -ex 'print sizeof(struct point)' -ex 'print &last == first.next')
+questions=(-ex 'print first.next->y' -ex 'print sizeof(struct point)'
+    -ex 'print &last == first.next')
 answers=$(printf '$1 = 6\n$2 = 16\n$3 = 1')
 if gdb -batch -nx -iex 'set debug-file-directory /none' -ex "$(added waits)" "${questions[@]}" \
         -ex 'generate-core-file core' -p $pid > seen 2>&1 && [ -f core ]; then
@@ -172,6 +177,38 @@ else
     echo "not possible here: gdb attaches to no process"
 fi
 kill $pid
+
+# The plug-in: made once, then taken from the user's folder; not where others may write to that.
+export XDG_CACHE_HOME=$work/cache
+loads() {
+    gdb -batch -nx -iex 'set debug-file-directory /none' \
+        -ex "source $top/clients/gdb/ctfgdb.py" "$@" -ex 'ctf load' "${questions[@]}" waits
+}
+for time in first second; do
+    loads > seen 2>&1
+    count "ctf load, the $time time" grep -q "^gdb's own commands know these types too" seen
+    count "print after it" [ "$(grep '^\$' seen)" = "$answers" ]
+    count "one file is kept" [ "$(ls cache/ctfd | wc -l)" = 1 ]
+done
+count "which is its owner's" [ "$(stat -c %a cache/ctfd)" = 700 ]
+loads -ex 'set ctf-debuginfo off' > seen 2>&1
+count "set ctf-debuginfo off" grep -q 'has unknown type' seen
+# lldb 14 of Debian looks for its package in another folder than it has.
+packages=$(echo /usr/lib/llvm-*/lib/python3*/dist-packages)
+export PYTHONPATH=${packages// /:}
+if lldb -b -o 'script import lldb; print(lldb.SBTarget)' 2>&1 | grep -q "^<class"; then
+    lldb -b -o "command script import $top/clients/lldb/ctfdlldb.py" -o 'target create waits' \
+        -o ctfload -o 'expression sizeof(struct point)' -o 'target variable first' > seen 2>&1
+    count "ctfload in lldb" grep -q '^(unsigned long) \$0 = 16$' seen
+    count "a variable in lldb" grep -q '^  y = 4$' seen
+else
+    echo "not possible here: lldb has no Python"
+fi
+unset PYTHONPATH
+chmod 777 cache/ctfd
+loads > seen 2>&1
+count "a folder of others" grep -q 'is not a folder that its owner alone may write to' seen
+count "which is not used" [ "$(grep '^\$' seen)" = "$answers" ]
 
 # Stripped whole, the symbols are those of a copy, or nothing is told of them.
 # says TEXT WORD..: ctfd-debuginfo with these words says a text.

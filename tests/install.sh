@@ -143,7 +143,8 @@ END
 chmod +x "$work/python"
 lacks() {
     made install PREFIX="$work/prefix" PYTHON="$work/python" > "$work/lacks" 2>&1 && return 1
-    grep -q "Debian's python3-pip python3-wheel" "$work/lacks" && says "" find "$work/prefix" ! -type d
+    grep -q "Debian's python3-pip python3-wheel" "$work/lacks" &&
+        says "" find "$work/prefix" ! -type d
 }
 count "what a Python lacks" lacks
 count "nothing to install" sh -c "! make -C '$top' install CTFD=/none PREFIX='$work/prefix'"

@@ -1,13 +1,13 @@
 #!/usr/bin/env bash
 # Checks the packages that `make deb` and `make dist` make, and that one version stands everywhere.
 # usage: tests/packages.sh PROGRAM
-# The archive is the one that CTFD_ARCHIVE names, else crates/ctf_c/out/libctfd.a. Needs a C compiler,
-# dpkg, pkg-config, and what builds a wheel.
+# The archive is the one that CTFD_ARCHIVE names, else crates/ctf_c/out/libctfd.a. Needs a C
+# compiler, dpkg, pkg-config, and what builds a wheel.
 #
 # Made twice, in other folders and by another mask, each package has the same bytes. The package for
-# Debian is unpacked by `dpkg-deb -x`, and installed by `dpkg --root`; the tarball is installed by its
-# script; the wheel by pip. Each time the types of a program that gcc made are printed by what was put
-# there, and after it is removed no file is left. All files that a user looks for are in it.
+# Debian is unpacked by `dpkg-deb -x`, and installed by `dpkg --root`; the tarball is installed by
+# its script; the wheel by pip. Each time the types of a program that gcc made are printed by what
+# was put there, and after it is removed no file is left. All files that a user looks for are in it.
 # Prints what was wrong, and counts; the status is 1 where something was wrong.
 set -eu
 program=$(realpath "$1")

@@ -1,8 +1,9 @@
 #!/usr/bin/env bash
 # Builds the program and the library for C without their proofs, and compares them with built ones.
 # usage: tests/quick.sh PROGRAM [LINES]
-# PROGRAM is one that the kit built with its proofs. Both programs answer LINES random lines (1000000)
-# with the same bytes, and the library that was built passes tests/c_library.sh. Needs the kit.
+# PROGRAM is one that the kit built with its proofs. Both programs answer LINES random lines
+# (1000000) with the same bytes, and the library that was built passes tests/c_library.sh. Needs the
+# kit.
 # Prints what was wrong; the status is 1 then.
 set -eu
 program=$(realpath "$1")

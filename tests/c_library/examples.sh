@@ -1,6 +1,6 @@
 #!/usr/bin/env bash
-# Checks in a second that a built libctfd.a answers: the examples by ctfd_line, and a size by libctf's
-# calls. The service of meeting.jsonl has a dictionary of its own, so that one is left out.
+# Checks in a second that a built libctfd.a answers: the examples by ctfd_line, and a size by
+# libctf's calls. The service of meeting.jsonl has a dictionary of its own, so that one is left out.
 # usage: tests/c_library/examples.sh ARCHIVE
 # Needs a C compiler. Prints what was wrong; the status is 1 then.
 set -eu

@@ -72,7 +72,7 @@ class Elf:
         self.form = self._judged()
         try:
             self.sections = self._sections()
-        except (struct.error, IndexError) as error:
+        except (struct.error, IndexError, OverflowError) as error:
             raise Unreadable(f"{path}: an ELF file whose section headers are cut off") from error
 
     def _judged(self) -> Form:

@@ -1,9 +1,10 @@
-"""Where a function finds its arguments, by the calling conventions of x86-64 and i386 (System V).
+"""Where a function finds its arguments, by the calling convention of x86-64 (System V).
 
 CTF tells what a function takes and not where. The convention tells where, as the function begins:
 so the arguments in registers have a place there and up to the end of `endbr64; push %rbp; mov
-%rsp,%rbp`, where a breakpoint stops. Those on the stack, which on i386 are all, have one
-everywhere. CTF has no names of arguments: they are called arg0, arg1, ..
+%rsp,%rbp`, where a breakpoint stops. Those on the stack have one everywhere. On i386 compilers call
+functions that one file has for itself in ways of their own, and options change how others are
+called, so no place is told there. CTF has no names of arguments: they are called arg0, arg1, ..
 """
 from __future__ import annotations
 
@@ -19,13 +20,14 @@ INTEGERS = (5, 4, 1, 2, 8, 9)  # rdi, rsi, rdx, rcx, r8, r9
 VECTORS = tuple(range(17, 25))
 ENDBR, PUSH, MOVES = b"\xf3\x0f\x1e\xfa", b"\x55", (b"\x48\x89\xe5", b"\x48\x8b\xec")
 LONGEST_ENTRY = 8
-WORD, SLOT = 8, 4
+WORD = 8
 LONGEST_IN_REGISTERS = 2 * WORD
 INTEGER, VECTOR, MEMORY = "I", "S", "M"
 STRONGER = VECTOR + INTEGER + MEMORY
 COMPLEX = {3: VECTOR, 4: 2 * VECTOR}
 LONG_DOUBLES = (5, 6)
-DEEPEST = 64
+# A struct of 16 bytes holds no more bit-fields; one of a hostile dictionary may hold any number.
+MOST_PARTS = 1000
 
 Code = Callable[[int, int], bytes]
 
@@ -47,15 +49,16 @@ class Places:
     """Gives attributes with names and places to the arguments of functions. `code` reads a
     program's bytes."""
 
-    def __init__(self, code: Code) -> None:
+    def __init__(self, code: Code, table: Table) -> None:
         self.code = code
+        self.passing = Passing(table)
         self.lists = bytearray()
 
-    def of(self, one: Told, table: Table, base: int) -> List[List[Attribute]]:
+    def of(self, one: Told, base: int) -> List[List[Attribute]]:
         """The attributes of each argument; one whose place is not known has a name alone. `base`
         is that of the function's unit."""
         assert one.function
-        listed = (_located if table.model == "lp64" else _stacked)(table, one.function)
+        listed = self.passing.places(one.function)
         end = one.address + min(self._entered(one.address), one.size)
         made: List[List[Attribute]] = []
         for number, place in enumerate(listed):
@@ -88,43 +91,135 @@ class Places:
         return length + 1
 
 
-def _located(table: Table, function: Record) -> List[Optional[bytes]]:
-    """An expression for each argument; none from the first on of which it can't be told."""
-    made: List[Optional[bytes]] = []
-    integers, vectors = list(INTEGERS), list(VECTORS)
-    stack = 0
-    try:
-        if _is_returned_in_memory(table, function.type):
-            integers.pop(0)
-        for argument in function.arguments:
-            classes, size, align = _passed(table, argument)
-            if classes and len(integers) >= classes.count(INTEGER) and (
-                    len(vectors) >= classes.count(VECTOR)):
-                taken = [(integers if one == INTEGER else vectors).pop(0) for one in classes]
-                made.append(_registers(taken, size))
+class Passing:
+    """How the types of a table are passed. What was found of a type is kept."""
+
+    def __init__(self, table: Table) -> None:
+        self.table = table
+        self._passed: Dict[int, Optional[Passed]] = {}
+
+    def places(self, function: Record) -> List[Optional[bytes]]:
+        """An expression for each argument; none from the first on of which it can't be told."""
+        made: List[Optional[bytes]] = []
+        integers, vectors = list(INTEGERS), list(VECTORS)
+        stack = 0
+        try:
+            if self._is_returned_in_memory(function.type):
+                integers.pop(0)
+            for argument in function.arguments:
+                classes, size, align = self.of(argument)
+                if classes and len(integers) >= classes.count(INTEGER) and (
+                        len(vectors) >= classes.count(VECTOR)):
+                    taken = [(integers if one == INTEGER else vectors).pop(0) for one in classes]
+                    made.append(_registers(taken, size))
+                else:
+                    stack = (stack + align - 1) // align * align
+                    made.append(FRAME_PLACE + signed(stack))
+                    stack += (size + WORD - 1) // WORD * WORD
+        except Untold:
+            pass
+        return made + [None] * (len(function.arguments) - len(made))
+
+    def of(self, number: int) -> Passed:
+        """How a type is passed. Raises Untold."""
+        end = self.table.resolved(number)
+        if end not in self._passed:
+            try:
+                self._passed[end] = self._found(end)
+            except Untold:
+                self._passed[end] = None
+        found = self._passed[end]
+        if found is None:
+            raise Untold
+        return found
+
+    def _is_returned_in_memory(self, returned: int) -> bool:
+        """Whether the caller hands in where the value goes."""
+        end = self.table.resolved(returned)
+        if not end or self.table[end].kind not in ("struct", "union"):
+            return False
+        return not self.of(end).classes
+
+    def _found(self, end: int) -> Passed:
+        record = self.table[end] if end else Record("unknown")
+        if record.kind in ("array", "function", "pointer"):
+            return Passed(INTEGER, WORD, WORD)
+        if record.kind in ("integer", "enum") and 0 < record.size <= WORD:
+            return Passed(INTEGER, record.size, WORD)
+        if record.kind == "integer" and record.size == 2 * WORD:
+            return Passed(2 * INTEGER, record.size, 2 * WORD)
+        if record.kind == "float":
+            return _float(record)
+        if record.kind in ("struct", "union") and record.size:
+            return self._aggregate(end, record)
+        raise Untold
+
+    def _aggregate(self, number: int, record: Record) -> Passed:
+        if record.size <= LONGEST_IN_REGISTERS:
+            classes = self._classes(number)
+            if MEMORY not in classes.values():
+                count = (record.size + WORD - 1) // WORD
+                listed = "".join(classes.get(place, VECTOR) for place in range(count))
+                return Passed(listed, record.size, WORD)
+        return Passed("", record.size, self._align(number))
+
+    def _classes(self, number: int) -> Dict[int, str]:
+        """The class of each eight bytes of a struct, by all that it holds: the stronger of two."""
+        found: Dict[int, str] = {}
+        waiting = [(number, 0)]
+        for _ in range(MOST_PARTS):
+            if not waiting:
+                return found
+            one, offset = waiting.pop()
+            end = self.table.resolved(one)
+            record = self.table[end] if end else Record("unknown")
+            if record.kind in ("struct", "union"):
+                waiting += [(part.type, offset + part.offset // 8) for part in record.members]
+            elif record.kind == "array":
+                size = size_of(self.table, record.type)
+                if size is None or record.elements > LONGEST_IN_REGISTERS:
+                    raise Untold
+                waiting += [(record.type, offset + place * size)
+                            for place in range(record.elements)]
             else:
-                stack = (stack + align - 1) // align * align
-                made.append(FRAME_PLACE + signed(stack))
-                stack += (size + WORD - 1) // WORD * WORD
-    except Untold:
-        pass
-    return made + [None] * (len(function.arguments) - len(made))
+                self._add_classes(end, offset, found)
+        raise Untold
 
+    def _add_classes(self, number: int, offset: int, found: Dict[int, str]) -> None:
+        """Adds those of what holds nothing else."""
+        record = self.table[number] if number else Record("unknown")
+        if record.kind == "float":
+            classes, size, _ = _float(record)
+            classes = classes or MEMORY
+        elif record.kind in ("integer", "enum", "pointer"):
+            size = size_of(self.table, number) or 0
+            classes = INTEGER * min((size + WORD - 1) // WORD, 2)
+            if 0 < record.encoding.bits < 8 * size:  # a bit-field: its own bytes say where it is
+                size = 1
+                offset += record.encoding.offset // 8
+        else:
+            raise Untold
+        if size and offset % min(size, WORD):
+            classes = MEMORY
+        for place, one in enumerate(classes, offset // WORD):
+            found[place] = max(found.get(place, VECTOR), one, key=STRONGER.index)
 
-def _stacked(table: Table, function: Record) -> List[Optional[bytes]]:
-    """The same of i386, where all are on the stack, and so is the place of a struct returned."""
-    made: List[Optional[bytes]] = []
-    end = table.resolved(function.type)
-    stack = SLOT if end and table[end].kind in ("struct", "union") else 0
-    for argument in function.arguments:
-        end = table.resolved(argument)
-        is_pointer = bool(end) and table[end].kind in ("array", "function")
-        size = SLOT if is_pointer else size_of(table, argument)
-        if size is None:
-            break
-        made.append(FRAME_PLACE + signed(stack))
-        stack += (size + SLOT - 1) // SLOT * SLOT
-    return made + [None] * (len(function.arguments) - len(made))
+    def _align(self, number: int) -> int:
+        """How a type is aligned on the stack: to 16 where it holds what is aligned so."""
+        align, seen, waiting = WORD, set(), [number]
+        while waiting and align == WORD:
+            end = self.table.resolved(waiting.pop())
+            if end in seen:
+                continue
+            seen.add(end)
+            record = self.table[end] if end else Record("unknown")
+            if record.kind in ("struct", "union"):
+                waiting += [part.type for part in record.members]
+            elif record.kind == "array":
+                waiting.append(record.type)
+            elif record.kind in ("float", "integer") and record.size == 2 * WORD:
+                align = 2 * WORD
+        return align
 
 
 def _registers(taken: List[int], size: int) -> bytes:
@@ -132,42 +227,6 @@ def _registers(taken: List[int], size: int) -> bytes:
         return bytes([REGISTER + taken[0]])
     return b"".join(bytes([REGISTER + one]) + PIECE + unsigned(min(WORD, size - WORD * place))
                     for place, one in enumerate(taken))
-
-
-def _is_returned_in_memory(table: Table, returned: int) -> bool:
-    """Whether the caller hands in where the value goes."""
-    end = table.resolved(returned)
-    if not end or table[end].kind not in ("struct", "union"):
-        return False
-    return not _passed(table, end).classes
-
-
-def _passed(table: Table, number: int) -> Passed:
-    """How a type is passed. Raises Untold."""
-    end = table.resolved(number)
-    record = table[end] if end else Record("unknown")
-    if record.kind in ("array", "function", "pointer"):
-        return Passed(INTEGER, WORD, WORD)
-    if record.kind in ("integer", "enum") and 0 < record.size <= WORD:
-        return Passed(INTEGER, record.size, WORD)
-    if record.kind == "integer" and record.size == 2 * WORD:
-        return Passed(2 * INTEGER, record.size, 2 * WORD)
-    if record.kind == "float":
-        return _float(record)
-    if record.kind in ("struct", "union") and record.size:
-        return _aggregate(table, end, record)
-    raise Untold
-
-
-def _aggregate(table: Table, number: int, record: Record) -> Passed:
-    if record.size <= LONGEST_IN_REGISTERS:
-        found: Dict[int, str] = {}
-        _flatten(table, number, 0, found, DEEPEST)
-        if MEMORY not in found.values():
-            count = (record.size + WORD - 1) // WORD
-            classes = "".join(found.get(place, VECTOR) for place in range(count))
-            return Passed(classes, record.size, WORD)
-    return Passed("", record.size, _align(table, number, DEEPEST))
 
 
 def _float(record: Record) -> Passed:
@@ -179,55 +238,3 @@ def _float(record: Record) -> Passed:
     if lies in LONG_DOUBLES:
         return Passed("", record.size, 2 * WORD)
     raise Untold
-
-
-def _flatten(table: Table, number: int, offset: int, found: Dict[int, str], left: int) -> None:
-    """Adds the classes of what a type holds at an offset: the stronger one of two wins."""
-    end = table.resolved(number)
-    record = table[end] if end else Record("unknown")
-    if not left:
-        raise Untold
-    if record.kind in ("struct", "union"):
-        for part in record.members:
-            _flatten(table, part.type, offset + part.offset // 8, found, left - 1)
-    elif record.kind == "array":
-        size = size_of(table, record.type)
-        if size is None or record.elements > LONGEST_IN_REGISTERS:
-            raise Untold
-        for place in range(record.elements):
-            _flatten(table, record.type, offset + place * size, found, left - 1)
-    else:
-        _add_classes(table, end, offset, found)
-
-
-def _add_classes(table: Table, number: int, offset: int, found: Dict[int, str]) -> None:
-    """Adds those of what holds nothing else."""
-    record = table[number] if number else Record("unknown")
-    if record.kind == "float":
-        classes, size, _ = _float(record)
-        classes = classes or MEMORY
-    elif record.kind in ("integer", "enum", "pointer"):
-        size = size_of(table, number) or 0
-        classes = INTEGER * ((size + WORD - 1) // WORD)
-        if 0 < record.encoding.bits < 8 * size:  # a bit-field: its own bytes say where it is
-            size = 1
-            offset += record.encoding.offset // 8
-    else:
-        raise Untold
-    if size and offset % min(size, WORD):
-        classes = MEMORY
-    for place, one in enumerate(classes, offset // WORD):
-        found[place] = max(found.get(place, VECTOR), one, key=STRONGER.index)
-
-
-def _align(table: Table, number: int, left: int) -> int:
-    """How a type is aligned on the stack: to 16 where it holds what is aligned so."""
-    end = table.resolved(number)
-    record = table[end] if end else Record("unknown")
-    if not left:
-        raise Untold
-    if record.kind in ("struct", "union"):
-        return max([WORD, *(_align(table, part.type, left - 1) for part in record.members)])
-    if record.kind == "array":
-        return _align(table, record.type, left - 1)
-    return 2 * WORD if record.kind in ("float", "integer") and record.size == 2 * WORD else WORD

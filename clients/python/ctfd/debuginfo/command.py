@@ -26,7 +26,7 @@ from ..version import VERSION
 from ..wire import Session
 from . import debugfile, symbols
 from .arguments import Places
-from .image import MACHINES, Image
+from .image import X86_64, Image
 from .told import Told
 from .units import Producer, UnitWriter
 
@@ -122,8 +122,8 @@ def make(session: Session, wanted: Wanted) -> Made:
     if image and twin:
         made.told = _told(wanted, table, image, twin, made.notes)
     places = None
-    if wanted.has_arguments and image and image.head.machine == MACHINES[table.model]:
-        places = Places(image.code)
+    if wanted.has_arguments and image and image.head.machine == X86_64:
+        places = Places(image.code, table)
     producer = Producer(f"{NAME} {VERSION}", f"{os.path.basename(wanted.path)}.types.c")
     debug = UnitWriter(table, producer, places).sections(made.told)
     is_beside = image and twin and not image.is_relocatable

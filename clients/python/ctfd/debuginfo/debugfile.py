@@ -125,7 +125,7 @@ def _segments(image: Image) -> List[bytes]:
         start = image.head.segments_at + number * image.form.segment.size
         try:
             fields = list(image.form.segment.unpack_from(image.data, start))
-        except struct.error as error:
+        except (struct.error, OverflowError) as error:
             raise Unreadable(f"{image.elf.path}: its segments are cut off") from error
         if fields[0] == LOAD:
             fields[SEGMENT_FILE_SIZE[image.elf.model]] = 0

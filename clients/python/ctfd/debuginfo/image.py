@@ -13,7 +13,8 @@ ABSOLUTE, RESERVED = 0xFFF1, 0xFF00
 SOURCE_FILE, LOCAL = 4, 0
 HIDDEN = (1, 2)  # what has external linkage in C, and is local in a linked file
 MARKS = ("_START_", "_END_")
-MACHINES: Dict[Model, int] = {"lp64": 62, "ilp32": 3}
+X86_64, I386 = 62, 3
+MACHINES: Dict[Model, int] = {"lp64": X86_64, "ilp32": I386}
 RELOCATABLE = 1
 BUILD_ID = ".note.gnu.build-id"
 NOTE_HEAD = 16
@@ -94,7 +95,7 @@ class Image:
             self.headers = [SectionHeader(*self.form.section.unpack_from(
                 data, self.head.sections_at + number * self.form.section.size))
                 for number in range(len(self.elf.sections))]
-        except struct.error as error:
+        except (struct.error, OverflowError) as error:
             raise Unreadable(f"{path}: an ELF file that is cut off") from error
 
     @property

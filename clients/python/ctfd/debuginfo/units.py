@@ -112,7 +112,7 @@ class UnitWriter:
                  Attribute(At.LOW_PC, Form.ADDRESS, one.address), _length(one.size)]
         where: List[List[Attribute]] = []
         if self.places and not one.is_copy:
-            where = self.places.of(one, self.types.table, base)
+            where = self.places.of(one, base)
             said.append(Attribute(At.FRAME_BASE, Form.EXPRESSION, CALL_FRAME_CFA))
         has_arguments = bool(function.arguments) or function.varargs
         self.entries.add(Tag.FUNCTION, said, has_arguments)

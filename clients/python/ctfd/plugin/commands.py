@@ -1,22 +1,25 @@
 """The commands: each is a class whose documentation is its help."""
 from __future__ import annotations
 
-from typing import Union
+from typing import Optional, Union
 
 import gdb
 
 import ctfd
 from ctfd import expressions, formats, lists
+from ctfd.debuginfo.keeping import has_types
 from ctfd.declare import declaration, declarator, function
 from ctfd.nearest import offered
 from ctfd.operands import BadExpression, Code, Located, Number, Operand, Steps, Untold
 from ctfd.text import printable
 
+from . import native
 from .inferior import Inferior
 from .loaded import Loaded
 from .state import STATE, bounds, style
 
 LINES = 500
+GIVEN = native.Given()
 UNTYPED = "<text variable, no type>"
 
 
@@ -116,17 +119,28 @@ class Ctf(gdb.Command):
 
 
 class Load(Command):
-    """ctf load [FILE [PARENT]]: takes the types of a file, that of the program if none is named.
+    """ctf load [--auto] [FILE [PARENT]]: takes the types of a file, that of the program if none is
+    named.
 
     FILE is an ELF file with a section .SUNW_ctf or .ctf, or the bytes of such a section; of an ELF
     file without one the types are made of its debug information, where that is in it or in a debug
     file of its own. PARENT is the file of the dictionary of which FILE's is a child. A file that is
-    loaded already is read anew."""
+    loaded already is read anew.
+
+    Of a program or library that gdb has read, gdb itself is given the types too, so that print,
+    ptype/o, conditions, finish and call work, unless "set ctf-debuginfo off" was said. With --auto
+    so is each file with CTF that gdb reads from then on."""
 
     word = "load"
 
     def run(self, arguments: str) -> None:
-        words = gdb.string_to_argv(arguments) or [gdb.current_progspace().filename or ""]
+        words = gdb.string_to_argv(arguments)
+        if words[:1] == ["--auto"]:
+            self.follow()
+            words = words[1:]
+            if not words and not gdb.current_progspace().filename:
+                return
+        words = words or [gdb.current_progspace().filename or ""]
         if words == [""]:
             raise BadExpression("No executable file specified.  Use the \"file\" command, or"
                                 " \"ctf load FILE\".")
@@ -142,6 +156,31 @@ class Load(Command):
         STATE.forget([old for old in STATE.loaded if old.program.path == found.path])
         STATE.loaded.insert(0, one)
         print("\n".join(filter(None, [one.told(), one.warning()])))
+        if GIVEN.value:
+            self.give(found.path, parent.path if parent else None)
+
+    def give(self, path: str, parent: Optional[str] = None) -> None:
+        """Gives gdb the types of a file, and says so, or why it has none."""
+        try:
+            told = native.give(STATE.client(), path, parent)
+        except ctfd.Gone:
+            raise
+        except ctfd.Error as error:
+            told = f"gdb's own commands don't know these types: {error}"
+        if told:
+            print(printable(told))
+
+    def follow(self) -> None:
+        """Gives gdb the types of the files that it has read, and of each that it reads later."""
+        for one in gdb.objfiles():
+            self.follow_one(one)
+        if not STATE.follows:
+            STATE.follows = True
+            gdb.events.new_objfile.connect(lambda event: self.follow_one(event.new_objfile))
+
+    def follow_one(self, one: gdb.Objfile) -> None:
+        if one.owner is None and one.filename and has_types(one.filename):
+            self.give(one.filename)
 
 
 class Unload(Command):

@@ -29,6 +29,14 @@ class State:
     def __init__(self) -> None:
         self.service: Optional[Tuple[ctfd.Client, ctfd.Session]] = None
         self.loaded: List[Loaded] = []
+        self.follows = False
+
+    def client(self) -> ctfd.Client:
+        """The service, which is started where it does not run."""
+        if self.service is None:
+            client = ctfd.Client()
+            self.service = client, client.session()
+        return self.service[0]
 
     def open(self, path: str) -> Program:
         """A file's dictionary; a section by itself is taken to be of gdb's program.
@@ -40,9 +48,8 @@ class State:
             local = os.path.basename(path)
             raise BadExpression(f"{path} is a file of the remote system.  Use \"remote get"
                                 f" {path[len(REMOTE):]} {local}\", then \"ctf load {local}\".")
-        if self.service is None:
-            client = ctfd.Client()
-            self.service = client, client.session()
+        self.client()
+        assert self.service
         path = os.path.expanduser(path)
         return program.open_program(self.service[1], path, model_of_program(), _converted)
 

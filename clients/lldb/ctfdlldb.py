@@ -1,0 +1,46 @@
+"""A command for lldb that gives it the types of CTF: `command script import` this file, then
+`ctfload`.
+
+`ctfload [FILE]` makes a debug file of the CTF of FILE, of the target's program where none is named,
+and adds it as its symbols. FILE is a program or library of the target.
+"""
+from __future__ import annotations
+
+import pathlib
+import shlex
+import sys
+from typing import Any
+
+import lldb
+
+sys.path.append(str(pathlib.Path(__file__).resolve().parents[1] / "python"))
+
+import ctfd  # noqa: E402
+from ctfd.debuginfo.command import Wanted  # noqa: E402
+from ctfd.debuginfo.keeping import Writer  # noqa: E402
+from ctfd.text import printable  # noqa: E402
+
+WRITER = Writer(print)
+
+
+def load(debugger: lldb.SBDebugger, words: str, result: lldb.SBCommandReturnObject,
+         _: dict[str, Any]) -> None:
+    """ctfload [FILE]: gives lldb the types of a program's CTF."""
+    target = debugger.GetSelectedTarget()
+    named = shlex.split(words)
+    path = named[0] if named else target.GetExecutable().fullpath
+    if not path:
+        result.SetError("there is no target: `target create FILE` first")
+        return
+    try:
+        with ctfd.Client() as client:
+            made = WRITER.written(client, Wanted(path))
+    except ctfd.Error as error:
+        result.SetError(printable(str(error)))
+        return
+    words = f"--shlib {shlex.quote(path)} {shlex.quote(str(made))}"
+    debugger.HandleCommand(f"target symbols add {words}")
+
+
+def __lldb_init_module(debugger: lldb.SBDebugger, _: dict[str, Any]) -> None:
+    debugger.HandleCommand(f"command script add -f {__name__}.load ctfload")

@@ -1,0 +1,62 @@
+"""gdb's own commands by a program's CTF: its debug file, handed over as a separate one.
+
+gdb then moves it where the program or library is, now and whenever the program is run again.
+"""
+from __future__ import annotations
+
+import os
+from typing import Optional
+
+import gdb
+
+import ctfd
+from ctfd.debuginfo.command import Wanted
+from ctfd.debuginfo.keeping import Writer, has_types
+from ctfd.elf import Elf
+from ctfd.inputs import contents, has_debug
+
+
+class Given(gdb.Parameter):
+    """Whether `ctf load` gives gdb itself the types of a program."""
+
+    set_doc = "Set whether `ctf load` gives gdb itself the types of a program."
+    show_doc = "Show whether `ctf load` gives gdb itself the types of a program."
+    value = True
+
+    def __init__(self) -> None:
+        super().__init__("ctf-debuginfo", gdb.COMMAND_FILES, gdb.PARAM_BOOLEAN)
+        self.value = True
+
+    def get_set_string(self) -> str:
+        return ""
+
+
+WRITER = Writer(print)
+
+
+def objfile_of(path: str) -> Optional[gdb.Objfile]:
+    """gdb's file of a path, if it has no separate debug file yet."""
+    for one in gdb.objfiles():
+        if one.owner is None and one.filename and (
+                os.path.realpath(one.filename) == os.path.realpath(path)):
+            has_other = any(other.owner is one for other in gdb.objfiles())
+            return None if has_other else one
+    return None
+
+
+def give(client: ctfd.Client, path: str, parent: Optional[str] = None) -> str:
+    """Gives gdb the types of a file that it has read; a line on what it has of them, "" where it
+    has no such file, or the file has no CTF. Raises Error."""
+    one = objfile_of(path)
+    if one is None or not has_types(path):
+        return ""
+    made = WRITER.written(client, Wanted(path, parent))
+    has_own = has_debug(Elf(contents(path), path))
+    try:
+        one.add_separate_debug_file(str(made))
+    except gdb.error as error:
+        raise ctfd.Error(f"{path}: gdb does not take its debug file: {error}") from error
+    told = "gdb's own commands know these types too: print, ptype/o, break ... if"
+    if has_own:
+        told += "; the program has debug information of its own, which comes first"
+    return told
