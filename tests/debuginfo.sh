@@ -27,11 +27,6 @@ for file in /usr/include/stb/stb_image.h /usr/share/doc/libpng-dev/examples/pngt
 done
 gdb -batch -nx -ex run --args true 2> /dev/null | grep -q 'exited normally' ||
     { echo "not possible here: gdb runs no program"; exit 0; }
-python=
-for one in python3 /usr/bin/python3; do
-    "$one" -c 'import elftools' 2> /dev/null && { python=$one; break; }
-done
-[ -n "$python" ] || { echo "skipped: no Python with pyelftools here"; exit 0; }
 work=$(mktemp -d)
 trap 'rm -r "$work"' EXIT
 cd "$work"
@@ -51,7 +46,7 @@ count() {
 
 # client COMMAND WORD..: a command of the client.
 client() {
-    "$python" "$top/clients/python/$1" "${@:2}"
+    python3 "$top/clients/python/$1" "${@:2}"
 }
 
 # made NAME WORD..: NAME.g with debug information, NAME without it, and NAME.debug, of what gcc

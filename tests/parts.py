@@ -70,6 +70,8 @@ def parts(program: str) -> list[Part]:
         Part("transcripts", ["tests/transcripts.py", program]),
         Part("ilp32", ["tests/ilp32.sh", program]),
         Part("links", ["tests/links.py"]),
+        Part("names", ["tests/names.py"]),
+        Part("faults", ["tests/faults.py"]),
         Part("manual", ["tests/manual.sh"]),
         Part("examples", ["tests/examples.py", program]),
         Part("written_bytes", ["bash", "-c",

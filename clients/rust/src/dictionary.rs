@@ -79,7 +79,7 @@ impl Dictionary {
 
     /// The handle, for one call.
     ///
-    /// A call takes what is open out of the handle and puts it back, so none may begin while
+    /// A call borrows what is open for as long as it runs, to itself, so none may begin while
     /// another runs. None does: this type is neither `Send` nor `Sync`, and no call calls back.
     pub(crate) fn handle(&self) -> *mut raw::Handle {
         self.raw.get()
