@@ -38,7 +38,6 @@ PLACES = (
     Place("clients/c/ctfd.h", '#define CTFD_VERSION "', '"'),
     Place("clients/python/ctfd/version.py", 'VERSION = "', '"'),
     Place("clients/rust/Cargo.toml", 'name = "ctfd"\nversion = "', '"'),
-    Place("clients/rust/Cargo.lock", 'name = "ctfd"\nversion = "', '"'),
     Place("CHANGELOG.md", "# Changes\n\n## ", "\n"),
 )
 
