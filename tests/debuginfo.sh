@@ -186,7 +186,7 @@ for time in first second; do
     count "one file is kept" [ "$(ls cache/ctfd | wc -l)" = 1 ]
 done
 count "which is its owner's" [ "$(stat -c %a cache/ctfd)" = 700 ]
-loads -ex 'set ctf-debuginfo off' > seen 2>&1
+loads -ex 'set ctf-debuginfo off' > seen 2>&1 || true  # gdb's last command fails
 count "set ctf-debuginfo off" grep -q 'has unknown type' seen
 # lldb 14 of Debian looks for its package in another folder than it has.
 packages=$(echo /usr/lib/llvm-*/lib/python3*/dist-packages)
