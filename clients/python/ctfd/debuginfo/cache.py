@@ -14,6 +14,7 @@ from pathlib import Path
 from typing import Iterable
 
 from ..faults import Error
+from ..files import Mapped
 from ..version import VERSION
 
 MOST_FILES, MOST_BYTES = 64, 1 << 30
@@ -36,7 +37,7 @@ def folder() -> Path:
     return place
 
 
-def key(build_id: bytes, read: Iterable[bytes]) -> str:
+def key(build_id: bytes, read: Iterable[Mapped]) -> str:
     """The name of the file that is made of what was read: of the build's, where one is told."""
     found = hashlib.sha256(VERSION.encode())
     for data in read:

@@ -15,7 +15,7 @@ from typing import List, Optional, Sequence
 from .. import commands, elf, from_ctf, outputs, source
 from ..dictionary import open_source
 from ..faults import Error, Unreadable
-from ..inputs import contents
+from ..files import contents
 from ..model import POINTER_SIZES, Model
 from ..opening import told_of as refusals_of
 from ..records import Table

@@ -99,7 +99,7 @@ class Entries:
                 ".debug_str": bytes(self.strings)}
 
 
-_WRITERS: Dict[Form, Callable[..., None]] = {
+_WRITERS: Dict[Form, Callable[..., object]] = {
     Form.ADDRESS: Entries._address,
     Form.DATA1: lambda made, value: made._number("<B", value),
     Form.DATA4: lambda made, value: made._number("<I", value),

@@ -6,6 +6,7 @@ from typing import Dict, Iterator, List, NamedTuple, Optional, Tuple
 
 from ..elf import (DYNSYM, FUNCTION, NOBITS, OBJECT, SYMTAB, Elf, Section)
 from ..faults import Unreadable
+from ..files import Mapped
 from ..model import Model
 
 NOTE, PROGBITS, ALLOCATED = 7, 1, 2
@@ -86,7 +87,7 @@ class Symbol(NamedTuple):
 class Image:
     """A program's file. Raises Unreadable where it is none, or is damaged."""
 
-    def __init__(self, data: bytes, path: str) -> None:
+    def __init__(self, data: Mapped, path: str) -> None:
         self.elf = Elf(data, path)
         self.data = data
         self.form = FORMS[self.elf.model]

@@ -7,7 +7,7 @@ from typing import Callable, Optional
 
 from ..elf import MAGIC, Elf
 from ..faults import Error, Unreadable
-from ..inputs import contents
+from ..files import contents
 from ..source import SECTIONS
 from ..text import printable
 from ..wire import Client
