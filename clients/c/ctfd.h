@@ -36,9 +36,9 @@
  * - Calls take no memory unless it is said. Those that do may answer CTFD_MEMORY.
  *
  * Types are numbered from 1, and those of a child from 32769: in a child, lower numbers are its
- * parent's. 0 stands for no type, as what a pointer to void leads to: its name is "void", it stands
- * for itself, it has no size, and what else is asked of it is refused. Sizes and alignments are in
- * bytes, offsets in bits. Symbols, members, enumerators, arguments and labels count from 0.
+ * parent's. 0 stands for no type, as what a pointer to void leads to: whatever is asked of it is
+ * refused with CTFD_NO_TYPE. Sizes and alignments are in bytes, offsets in bits. Symbols, members,
+ * enumerators, arguments and labels count from 0.
  */
 #ifndef CTFD_H
 #define CTFD_H

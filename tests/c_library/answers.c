@@ -201,7 +201,7 @@ int main(int argc, char **argv)
         &place) != CTFD_OK)
         return 1;
     ctfd_count(&types, &count);
-    for (t = 1; t <= count + 1 + sizeof others / sizeof others[0]; t++) {
+    for (t = 0; t <= count + 1 + sizeof others / sizeof others[0]; t++) {
         uint16_t type = t <= count + 1 ? (uint16_t)t : others[t - count - 2];
         numbers(type);
         figures(type);

@@ -12,7 +12,6 @@ from pathlib import Path
 from typing import Any
 
 PIECE = 200_000
-# 0, of which the library tells more than the service, stands in refusals.c.
 OTHERS = [32767, 32768, 32769, 65535]
 TAGS = {"struct": 6, "union": 7, "enum": 8}
 Reply = dict[str, Any]
@@ -155,7 +154,7 @@ def main() -> None:
     program, *lists = sys.argv[1:]
     service = Service(program, *lists)
     count = service.ask([{"op": "info"}])[0]["types"]
-    lines = of_types(service, [*range(1, count + 2), *OTHERS])
+    lines = of_types(service, [*range(count + 2), *OTHERS])
     lines += of_symbols(service, Path(lists[1]).read_bytes(), Path(lists[2]).read_bytes())
     print(*lines, sep="\n")
 

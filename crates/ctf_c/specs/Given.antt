@@ -15,7 +15,8 @@ use Rattle.ctf_model.specs.rules.Refusals.{placeless, want_of_memory}
 use Rattle.ctf_model.specs.spaces.Kept.{Kept, fault_over, kept_dictionary}
 use Rattle.ctf_model.specs.symbols.Entries.{Signature}
 use Rattle.ctf_model.specs.symbols.SymbolQuestions.{or_refused}
-use Rattle.ctf_c.specs.Served.{Served}
+use Rattle.ctf_model.specs.opened.Open.{Open}
+use Rattle.ctf_model.specs.opened.Steps.{Refuses, import_refusal}
 
 -- ---- statuses
 
@@ -24,7 +25,7 @@ abbrev pub status_of : Fault → ℕ
 status_of fault = fault.code + 1
 
 -- what is asked of what is open, if anything is
-abbrev pub asked : {A : Type 0} → Option Served → (Served → Result A Fault) → Result A Fault
+abbrev pub asked : {A : Type 0} → Option Open → (Open → Result A Fault) → Result A Fault
 asked None answer = Err (placeless NO_SLOT)
 asked (Some s) answer = answer s
 
@@ -92,61 +93,6 @@ number_of_tag struct_tag = 6
 number_of_tag union_tag = 7
 number_of_tag enum_tag = 8
 
--- whether look-ups see a type, if it is there
-abbrev pub root_said : Result Term Fault → Result ℕ Fault
-root_said (Ok x) = Ok (flag x.root)
-root_said (Err fault) = Err fault
-
--- what a type is, if it is there
-abbrev pub shape_of : Result Term Fault → Result Shape Fault
-shape_of (Ok x) = Ok (shape x.body)
-shape_of (Err fault) = Err fault
-
--- what is said of it
-abbrev pub said_of : {A : Type 0} → (Shape → Result A Fault) → Result Shape Fault → Result A Fault
-said_of says (Ok x) = says x
-said_of says (Err fault) = Err fault
-
-abbrev pub kind_said : Shape → Result ℕ Fault
-kind_said x = Ok (number_of_kind x.kind)
-
--- what it declares, if it is a forward
-abbrev pub tag_said : Shape → Result ℕ Fault
-tag_said x = or_refused WRONG_KIND (option_map number_of_tag x.declares)
-
--- how many members, enumerators or arguments it has
-abbrev pub length_said : Shape → Result ℕ Fault
-length_said x = Ok (list_length x.behind)
-
-abbrev pub encoding_said : Shape → Result EncodingParts Fault
-encoding_said x = or_refused WRONG_KIND (encoding_in x.behind)
-
-abbrev pub array_said : Shape → Result ArrayParts Fault
-array_said x = or_refused WRONG_KIND (array_in x.behind)
-
--- what a function returns
-abbrev pub return_said : Shape → Result ℕ Fault
-return_said x = or_refused WRONG_KIND
-    (option_and_then (λ ret. option_map (λ args. ret) (arguments_in x.behind)) x.reference)
-
--- an item of a list by its number, from 0, if there is such a list
-abbrev pub item_of : {A : Type 0} → ℕ → Option (List A) → Result A Fault
-item_of index None = Err (placeless WRONG_KIND)
-item_of index (Some items) = or_refused NO_MEMBER (slice_get items index)
-
-abbrev pub member_said : ℕ → Shape → Result Member Fault
-member_said index x = item_of index (members_in x.behind)
-
-abbrev pub enumerator_said : ℕ → Shape → Result Enumerator Fault
-enumerator_said index x = item_of index (enumerators_in x.behind)
-
-abbrev pub argument_said : ℕ → Shape → Result ℕ Fault
-argument_said index x = item_of index (arguments_in x.behind)
-
--- how many types the parent has
-abbrev pub parent_types : Served → Result ℕ Fault
-parent_types s = or_refused NO_PARENT (option_map (λ p. length (kept_dictionary p).terms) s.parent)
-
 -- ---- functions of a program
 
 -- how many arguments a function names, whether more may follow, and what it returns
@@ -163,17 +109,6 @@ function_said (Ok f) =
       ret = f.ret;
     })
 function_said (Err fault) = Err fault
-
--- one of the arguments that it names, from 0
-abbrev pub named_said : ℕ → Result Signature Fault → Result ℕ Fault
-named_said index (Ok f) = or_refused NO_MEMBER (slice_get (named_arguments f.args) index)
-named_said index (Err fault) = Err fault
-
--- ---- labels
-
--- a label by its number, from 0
-abbrev pub label_at : ℕ → List Label → Result Label Fault
-label_at index labels = or_refused NO_LABEL (slice_get labels index)
 
 -- ---- texts
 
@@ -250,30 +185,21 @@ abbrev pub model_if : Bool → DataModel
 model_if true = Ilp32
 model_if false = Lp64
 
--- why lists were not opened: memory was refused, or it is their first fault
-abbrev pub Refuses : Option Fault → Fault → Type 0
-Refuses fault f = (f ≡ want_of_memory) ⊎ (fault ≡ Some f)
-
 -- a change was made, or why it was not is told, with its place, and what was open stays
-abbrev pub Changes : Option Fault → ℕ → ℕ → ℕ → Option Served → Option Served → Option Served
+abbrev pub Changes : Option Fault → ℕ → ℕ → ℕ → Option Open → Option Open → Option Open
     → Type 0
 Changes fault status was place old changed new =
     ((status ≡ 0) × (fault ≡ None) × (place ≡ was) × (new ≡ changed))
     ⊎ ((f : Fault) × (Refuses fault f × (status ≡ status_of f) × (place ≡ f.place) × (new ≡ old)))
 
 -- a dictionary was opened in place of what was open
-abbrev pub Opens : Kept → ℕ → ℕ → ℕ → Option Served → Option Served → Type 0
+abbrev pub Opens : Kept → ℕ → ℕ → ℕ → Option Open → Option Open → Type 0
 Opens kept status was place old new =
     Changes (first_fault kept.lists) status was place old
     (Some (record { own = kept; parent = None; draft = None })) new
 
--- the parent of a draft is that of its making; else the fault is that of the import
-abbrev pub import_refusal : Served → Served → Option Fault
-import_refusal child parent =
-    if is_some child.draft then Some (placeless FIXED_PARENT) else fault_over child.own parent.own
-
 -- a parent was imported
-abbrev pub Imports : Option Served → Option Served → ℕ → ℕ → ℕ → Option Served → Type 0
+abbrev pub Imports : Option Open → Option Open → ℕ → ℕ → ℕ → Option Open → Type 0
 Imports None parent status was place new =
     (status ≡ status_of (placeless NO_SLOT)) × (place ≡ was) × (new ≡ None)
 Imports (Some child) None status was place new =

@@ -7,7 +7,7 @@ use Rattle.std.specs.Coded.{coded_option}
 use Rattle.std.specs.Global.{Global}
 use Rattle.std_heap.specs.contracts.GlobalAllocator.TheImpl.{ghosts}
 use Rattle.ctf_handle.specs.Owned.{held_owns}
-use Rattle.ctf_c.specs.contracts.session.Session.{the_row}
+use Rattle.ctf_open.specs.contracts.opened.OpenDictionary.{the_row}
 
 abbrev pub place_owns : Global → Ptr → Option the_row.Denot → Fml
 place_owns alloc = held_owns (ghosts.dealloc_token alloc) the_row

@@ -1,18 +1,19 @@
 //! Exports that add to drafts.
 ghost use Rattle.std.specs.Prelude.{◌≡◌, IfOk, map, option_map};
-ghost use Rattle.ctf_c.specs.Drafting.{Adds, Steps, enlarged, enumerator_added, forward_asked, label_added, member_added, number_there, tag_numbered, type_added};
+ghost use Rattle.ctf_c.specs.Drafting.{Adds, Steps, forward_asked, number_there, tag_numbered};
+ghost use Rattle.ctf_model.specs.opened.Steps.{enlarged, enumerator_added, label_added, member_added, type_added};
 ghost use Rattle.ctf_c.specs.Given.{asked};
-ghost use Rattle.ctf_c.specs.PartView.{part_in};
+ghost use Rattle.ctf_open.specs.PartView.{part_in};
 ghost use Rattle.ctf_draft.specs.NewView.{new_body_of};
 ghost use Rattle.ctf_draft.specs.TypeView.{number_of};
 ghost use Rattle.ctf_model.specs.drafts.NewTypes as new;
 ghost use Rattle.ctf_records.specs.RecordView.{tag_of as tag_shown};
 
-use crate::adding::Part;
 use crate::given::{NOT_OPEN, status};
 use crate::handle::Handle;
 use ctf_draft::{AggregateKind, NewBody, ReferenceKind, ScalarKind};
 use ctf_model::{Fault, TypeNum, placeless};
+use ctf_open::Part;
 use ctf_records::Tag;
 use ctf_views::{ArrayInfo, Encoding};
 use std::alloc::{AllocError, Global};

@@ -1,14 +1,14 @@
 //! Exports that make, update and drop drafts, and give the bytes of dictionaries.
 ghost use Rattle.std.specs.Prelude.{◌≡◌, ◌==◌, ◌⊎◌, [], None, Some, Ok, Err, IfOk, IfErr, drop, is_some, length, not, option_copied};
-ghost use Rattle.ctf_c.specs.Drafting.{Creates, Does, StepsAt, created, created_under, dropped, updated};
+ghost use Rattle.ctf_c.specs.Drafting.{Creates, Does, StepsAt, created_under};
+ghost use Rattle.ctf_model.specs.opened.Steps.{created, dropped, updated};
 ghost use Rattle.ctf_c.specs.Given.{GivesBytes, asked, model_if};
 ghost use Rattle.ctf_model.specs.rules.Refusals.{want_of_memory};
 
-use crate::given::{NOT_OPEN, model_of, status, write_front};
+use crate::given::{NOT_OPEN, model_of, session_of, status, write_front};
 use crate::handle::Handle;
-use crate::session::Session;
-use ctf_library::Loaded;
 use ctf_model::{DataModel, Fault, placeless};
+use ctf_open::{Loaded, OpenDictionary};
 use std::alloc::Global;
 
 /// A new draft on the heap.
@@ -18,14 +18,14 @@ fn drafted(
     parname: &[u8],
     parlabel: &[u8],
     model: DataModel,
-) -> Result<Box<Session>, Fault>
+) -> Result<Box<OpenDictionary>, Fault>
     requires { is_some parent ≡ not (length parname.now == 0) }
     ensures ok { IfOk result (λ s.
         created (option_copied parent.entry) parname.now parlabel.now model ≡ Ok s.value) }
     ensures exact_err { IfErr result (λ f. (f ≡ want_of_memory)
         ⊎ (created (option_copied parent.entry) parname.now parlabel.now model ≡ Err f)) }
 {
-    match Session::create(alloc, parent, parname, parlabel, model) {
+    match OpenDictionary::create(alloc, parent, parname, parlabel, model) {
         Ok(session) => match Box::new(alloc, session) {
             Ok(session) => Ok(session),
             Err(_) => Err(placeless(Fault::MEMORY)),
@@ -61,10 +61,10 @@ pub extern "C" fn ctfd_create(
 /// A new draft on the heap, over what is open.
 fn drafted_under(
     alloc: Global,
-    parent: &Session,
+    parent: &OpenDictionary,
     parname: &[u8],
     parlabel: &[u8],
-) -> Result<Box<Session>, Fault>
+) -> Result<Box<OpenDictionary>, Fault>
     ensures ok { IfOk result (λ s.
         created_under (Some parent.now) parname.now parlabel.now ≡ Ok s.value) }
     ensures exact_err { IfErr result (λ f. (f ≡ want_of_memory)
@@ -73,13 +73,7 @@ fn drafted_under(
     if parname.is_empty() {
         return Err(placeless(Fault::BAD_REQUEST));
     }
-    drafted(
-        alloc,
-        Some(&parent.own),
-        parname,
-        parlabel,
-        parent.own.model(),
-    )
+    drafted(alloc, Some(parent.own()), parname, parlabel, parent.model())
 }
 
 /// Makes a draft over what is open in another handle, of that one's data model, in place of what
@@ -175,9 +169,7 @@ pub extern "C" fn ctfd_bytes(handle: &mut Handle, from: u64, bytes: &mut [u8], l
         result (record { text = bytes.old; len = len.old })
         (record { text = bytes.new; len = len.new }) }
 {
-    let Some(session) = handle.slot().get() else {
-        return NOT_OPEN;
-    };
+    let session = session_of!(handle);
     let ctf = session.ctf();
     write_front(behind(ctf, from), bytes);
     *len = ctf.len() as u64;

@@ -1,11 +1,11 @@
 //! Exports that answer several numbers of a type.
 ghost use Rattle.std.specs.Prelude.{◌≡◌, [], ◌∷◌};
-ghost use Rattle.ctf_c.specs.Given.{Gives, array_said, asked, encoding_said, said_of, shape_of};
-ghost use Rattle.ctf_c.specs.Served.{space_in};
-ghost use Rattle.ctf_model.specs.figures.Paths.{path as path_to};
+ghost use Rattle.ctf_c.specs.Given.{Gives, asked};
+ghost use Rattle.ctf_model.specs.opened.Questions.{array_said, encoding_said, path_said, said_of, shape_of};
+ghost use Rattle.ctf_model.specs.opened.Open.{space_in};
 ghost use Rattle.ctf_model.specs.spaces.Space.{space_type};
 
-use crate::given::{NOT_OPEN, status};
+use crate::given::{session_of, status};
 use crate::handle::Handle;
 use ctf_model::TypeNum;
 
@@ -36,9 +36,7 @@ pub extern "C" fn ctfd_encoding(handle: &mut Handle, t: u16, out: &mut GivenEnco
         (record { encoding = out.old.encoding; offset = out.old.offset; bits = out.old.bits })
         (record { encoding = out.new.encoding; offset = out.new.offset; bits = out.new.bits }) }
 {
-    let Some(session) = handle.slot().get() else {
-        return NOT_OPEN;
-    };
+    let session = session_of!(handle);
     match session.encoding(TypeNum(t)) {
         Ok(info) => {
             *out = GivenEncoding {
@@ -61,9 +59,7 @@ pub extern "C" fn ctfd_array(handle: &mut Handle, t: u16, out: &mut GivenArray) 
         (record { contents = out.old.contents; index = out.old.index; count = out.old.count })
         (record { contents = out.new.contents; index = out.new.index; count = out.new.count }) }
 {
-    let Some(session) = handle.slot().get() else {
-        return NOT_OPEN;
-    };
+    let session = session_of!(handle);
     match session.array(TypeNum(t)) {
         Ok(info) => {
             *out = GivenArray {
@@ -88,13 +84,11 @@ pub extern "C" fn ctfd_field(
 ) -> u32
     ensures same { handle.new.held.session ≡ handle.old.held.session }
     ensures answer { Gives (asked handle.old.held.session (λ s.
-        path_to (space_in s) t (name.now ∷ []))) result
+        path_said (space_in s) (name.now ∷ []) t)) result
         (record { offset = offset.old; tnum = to.old })
         (record { offset = offset.new; tnum = to.new }) }
 {
-    let Some(session) = handle.slot().get() else {
-        return NOT_OPEN;
-    };
+    let session = session_of!(handle);
     match session.field(TypeNum(t), name) {
         Ok((at, found)) => {
             *offset = at;

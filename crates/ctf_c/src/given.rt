@@ -1,12 +1,27 @@
 //! Statuses, and what is written through the pointers of a caller.
 ghost use Rattle.std.specs.Prelude.{◌≡◌, ◌+◌, ◌++◌, ◌<◌, Ok, Err, drop, length, min, option_copied, take};
 ghost use Rattle.std.specs.Result.{result_map_both};
-ghost use Rattle.ctf_c.specs.Given.{Gives, GivesText, flag as flag_of, list_if as list_there, model_if, number_of_kind, status_of};
+ghost use Rattle.ctf_c.specs.Given.{Gives, GivesText, flag as flag_of, list_if as list_there, model_if, model_number as number_of_model, number_of_kind, number_of_tag, status_of};
+ghost use Rattle.ctf_model.specs.opened.Questions.{told_of};
+ghost use Rattle.ctf_records.specs.RecordView.{tag_of as tag_shown};
 
 use ctf_model::{DataModel, Fault, Kind, TypeNum};
+use ctf_records::Tag;
 
 /// The status where nothing is open: that of `Fault::NO_SLOT`.
 pub const NOT_OPEN: u32 = 50;
+
+/// What is open behind a handle. Where nothing is, the export that asks is left with that status.
+macro_rules! session_of {
+    ($handle:ident) => {
+        match $handle.slot().get() {
+            Some(session) => session,
+            None => return $crate::given::NOT_OPEN,
+        }
+    };
+}
+
+pub(crate) use session_of;
 
 /// The status of a refusal: 1 and the number of its fault.
 #[inline(always)]
@@ -106,6 +121,49 @@ pub fn kind_number(kind: Kind) -> u32
         Kind::KVolatile => 11,
         Kind::KConst => 12,
         Kind::KRestrict => 13,
+    }
+}
+
+/// The same, where there is a type.
+#[inline(always)]
+pub fn kind_told(kind: Result<Kind, Fault>) -> Result<u32, Fault>
+    ensures { result ≡ told_of number_of_kind kind }
+{
+    match kind {
+        Ok(kind) => Ok(kind_number(kind)),
+        Err(fault) => Err(fault),
+    }
+}
+
+/// The number of what a forward declares, if there is one.
+pub fn tag_told(tag: Result<Tag, Fault>) -> Result<u32, Fault>
+    ensures { result ≡ told_of number_of_tag (result_map_both tag_shown (λ f. f) tag) }
+{
+    match tag {
+        Ok(Tag::Struct) => Ok(6),
+        Ok(Tag::Union) => Ok(7),
+        Ok(Tag::Enum) => Ok(8),
+        Err(fault) => Err(fault),
+    }
+}
+
+/// 1 for what holds, else 0, where there is a type.
+pub fn flag_told(holds: Result<bool, Fault>) -> Result<u32, Fault>
+    ensures { result ≡ told_of flag_of holds }
+{
+    match holds {
+        Ok(holds) => Ok(flag(holds)),
+        Err(fault) => Err(fault),
+    }
+}
+
+/// 1 where a program's pointers have 4 bytes, else 0.
+pub fn model_number(model: DataModel) -> u32
+    ensures { result ≡ number_of_model model }
+{
+    match model {
+        DataModel::Lp64 => 0,
+        DataModel::Ilp32 => 1,
     }
 }
 

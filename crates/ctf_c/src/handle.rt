@@ -1,10 +1,10 @@
 //! A handle, as C has it.
 ghost use Rattle.std.specs.Prelude.{◌≡◌, Option, is_some};
 ghost use Rattle.ctf_c.specs.Owned.{place_coded, place_owns};
-ghost use Rattle.ctf_c.specs.Served.{Served};
+ghost use Rattle.ctf_model.specs.opened.Open.{Open};
 
-use crate::session::Session;
 use ctf_handle::Slot;
+use ctf_open::OpenDictionary;
 use std::alloc::Global;
 use std::marker::Model;
 
@@ -14,7 +14,7 @@ use std::marker::Model;
 pub struct Place {
     at: *mut u8,
     alloc: Global,
-    pub ghost session: { Option Served } by { place_coded },
+    pub ghost session: { Option Open } by { place_coded },
 }
 
 impl Model for Place {
@@ -36,10 +36,10 @@ impl Handle {
 
     /// The slot that it is in memory.
     #[inline(always)]
-    pub fn slot(&mut self) -> &mut Slot<Session>
+    pub fn slot(&mut self) -> &mut Slot<OpenDictionary>
         ensures* writes_back { sem 𝓛 (HandleLends self.entry result) }
         ensures same { result.now.held.value ≡ self.old.held.session }
     {
-        unsafe { &mut *(self as *mut Handle as *mut Slot<Session>) }
+        unsafe { &mut *(self as *mut Handle as *mut Slot<OpenDictionary>) }
     }
 }

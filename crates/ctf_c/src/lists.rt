@@ -1,10 +1,11 @@
 //! Exports that answer an item of a list.
 ghost use Rattle.std.specs.Prelude.{◌≡◌};
-ghost use Rattle.ctf_c.specs.Given.{GivesEnumerator, GivesMember, asked, enumerator_said, member_said, said_of, shape_of};
-ghost use Rattle.ctf_c.specs.Served.{space_in};
+ghost use Rattle.ctf_c.specs.Given.{GivesEnumerator, GivesMember, asked};
+ghost use Rattle.ctf_model.specs.opened.Questions.{enumerator_said, member_said, said_of, shape_of};
+ghost use Rattle.ctf_model.specs.opened.Open.{space_in};
 ghost use Rattle.ctf_model.specs.spaces.Space.{space_type};
 
-use crate::given::{NOT_OPEN, status, write_front};
+use crate::given::{session_of, status, write_front};
 use crate::handle::Handle;
 use ctf_model::TypeNum;
 
@@ -33,9 +34,7 @@ pub extern "C" fn ctfd_member(
         (record { offset = out.old.offset; name_len = out.old.name_len; tnum = out.old.tnum })
         (record { offset = out.new.offset; name_len = out.new.name_len; tnum = out.new.tnum }) }
 {
-    let Some(session) = handle.slot().get() else {
-        return NOT_OPEN;
-    };
+    let session = session_of!(handle);
     match session.member(TypeNum(t), index) {
         Ok(member) => {
             write_front(member.name, name);
@@ -66,9 +65,7 @@ pub extern "C" fn ctfd_enumerator(
         (record { text = name.old; len = len.old }) (record { text = name.new; len = len.new })
         value.old value.new }
 {
-    let Some(session) = handle.slot().get() else {
-        return NOT_OPEN;
-    };
+    let session = session_of!(handle);
     match session.enumerator(TypeNum(t), index) {
         Ok(enumerator) => {
             write_front(enumerator.name, name);

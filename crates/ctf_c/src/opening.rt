@@ -1,12 +1,13 @@
 //! Exports that open, close and import.
 ghost use Rattle.std.specs.Prelude.{◌≡◌, None, IfOk, IfErr, OnOk, option_copied};
-ghost use Rattle.ctf_c.specs.Given.{Imports, Opens, Refuses, list_if as list_there, model_if};
+ghost use Rattle.ctf_c.specs.Given.{Imports, Opens, list_if as list_there, model_if};
+ghost use Rattle.ctf_model.specs.opened.Steps.{Refuses};
 ghost use Rattle.ctf_model.specs.rules.Faults.{first_fault};
 
 use crate::given::{NOT_OPEN, list_if, model_of, status};
 use crate::handle::Handle;
-use crate::session::Session;
 use ctf_model::{DataModel, Fault, placeless};
+use ctf_open::OpenDictionary;
 use std::alloc::Global;
 
 /// A session on the heap.
@@ -16,7 +17,7 @@ fn opened(
     sym: Option<&[u8]>,
     strs: Option<&[u8]>,
     model: DataModel,
-) -> Result<Box<Session>, Fault>
+) -> Result<Box<OpenDictionary>, Fault>
     ensures ok { IfOk result (λ s. s.value ≡ record {
       own = record {
         lists = record {
@@ -40,7 +41,7 @@ fn opened(
       strs = option_copied strs.entry;
     })) f) }
 {
-    match Session::open(alloc, ctf, sym, strs, model) {
+    match OpenDictionary::open(alloc, ctf, sym, strs, model) {
         Ok(session) => match Box::new(alloc, session) {
             Ok(session) => Ok(session),
             Err(_) => Err(placeless(Fault::MEMORY)),

@@ -2,16 +2,15 @@
 ghost use Rattle.std.specs.Prelude.{◌≡◌, ◌⊎◌, Err, IfOk, IfErr, Ok, map};
 ghost use Rattle.ctf_c.specs.Given.{MayGivePath, asked};
 ghost use Rattle.ctf_c.specs.Naming.{names_said};
-ghost use Rattle.ctf_c.specs.Served.{space_in};
+ghost use Rattle.ctf_model.specs.opened.Open.{space_in};
 ghost use Rattle.ctf_layout.specs.Reached.{position_of};
-ghost use Rattle.ctf_model.specs.figures.Paths.{path as path_to};
+ghost use Rattle.ctf_model.specs.opened.Questions.{path_said};
 ghost use Rattle.ctf_model.specs.rules.Refusals.{want_of_memory};
 
 use crate::given::{NOT_OPEN, status};
 use crate::handle::Handle;
-use crate::session::Session;
-use ctf_layout::path;
-use ctf_model::{Fault, TypeNum, placeless};
+use ctf_model::{Fault, TypeNum};
+use ctf_open::OpenDictionary;
 use std::alloc::{AllocError, Global};
 
 /// The names in some bytes, each closed by a zero byte; the last one may stand without it.
@@ -32,19 +31,20 @@ fn names_in(alloc: Global, bytes: &[u8]) -> Result<Vec<&[u8]>, AllocError>
     Ok(names)
 }
 
-impl Session {
-    /// Where the member lies that names lead to, from a type on, and its type.
-    pub fn path(&self, alloc: Global, t: TypeNum, names: &[u8]) -> Result<(u64, TypeNum), Fault>
-        ensures ok { IfOk result (λ at.
-            path_to (space_in self.now) t.0 (names_said names.now) ≡ Ok (position_of at)) }
-        ensures exact_err { IfErr result (λ f. (f ≡ want_of_memory)
-            ⊎ (path_to (space_in self.now) t.0 (names_said names.now) ≡ Err f)) }
-    {
-        match names_in(alloc, names) {
-            Ok(names) => path(&self.space(), t, names.as_slice()),
-            Err(_) => Err(placeless(Fault::MEMORY)),
-        }
-    }
+/// Where the member lies that names lead to, from a type on, and its type.
+fn path_along(
+    alloc: Global,
+    session: &OpenDictionary,
+    t: TypeNum,
+    names: &[u8],
+) -> Result<(u64, TypeNum), Fault>
+    ensures ok { IfOk result (λ at.
+        path_said (space_in session.now) (names_said names.now) t.0 ≡ Ok (position_of at)) }
+    ensures exact_err { IfErr result (λ f. (f ≡ want_of_memory)
+        ⊎ (path_said (space_in session.now) (names_said names.now) t.0 ≡ Err f)) }
+{
+    let names = names_in(alloc, names)?;
+    session.path(t, names.as_slice())
 }
 
 /// Where the member lies that names lead to, from a type on: how many bits lie in front of it, and
@@ -61,7 +61,7 @@ pub extern "C" fn ctfd_path(
 ) -> u32
     ensures same { handle.new.held.session ≡ handle.old.held.session }
     ensures answer { MayGivePath (asked handle.old.held.session (λ s.
-        path_to (space_in s) t (names_said names.now))) result
+        path_said (space_in s) (names_said names.now) t)) result
         (record { offset = offset.old; tnum = to.old; place = place.old })
         (record { offset = offset.new; tnum = to.new; place = place.new }) }
 {
@@ -69,7 +69,7 @@ pub extern "C" fn ctfd_path(
         *place = 0;
         return NOT_OPEN;
     };
-    match session.path(alloc, TypeNum(t), names) {
+    match path_along(alloc, session, TypeNum(t), names) {
         Ok((at, found)) => {
             *offset = at;
             *to = found.0;

@@ -1,12 +1,13 @@
 //! Exports that answer of a program's functions and symbols, and of labels.
 ghost use Rattle.std.specs.Prelude.{◌≡◌, Ok, length};
-ghost use Rattle.ctf_c.specs.Given.{Gives, GivesLabel, GivesText, asked, function_said, label_at, named_said};
-ghost use Rattle.ctf_c.specs.Served.{own_in};
+ghost use Rattle.ctf_c.specs.Given.{Gives, GivesLabel, GivesText, asked, function_said};
+ghost use Rattle.ctf_model.specs.opened.Questions.{label_at, named_said};
+ghost use Rattle.ctf_model.specs.opened.Open.{own_in};
 ghost use Rattle.ctf_model.specs.symbols.SymbolQuestions.{function_of, name_of_symbol};
 
-use crate::given::{NOT_OPEN, flag, give, give_text, give_type, status, write_front};
+use crate::given::{flag, give, give_text, give_type, session_of, status, write_front};
 use crate::handle::Handle;
-use crate::programs::named_count;
+use ctf_open::named_count;
 use ctf_views::is_variadic;
 
 /// A function of the program: `struct ctfd_function`. A last argument 0 is not counted: it says
@@ -41,9 +42,7 @@ pub extern "C" fn ctfd_symbol_name(
         (record { text = text.old; len = len.old })
         (record { text = text.new; len = len.new }) }
 {
-    let Some(session) = handle.slot().get() else {
-        return NOT_OPEN;
-    };
+    let session = session_of!(handle);
     give_text(session.symbol_name(number), text, len)
 }
 
@@ -57,9 +56,7 @@ pub extern "C" fn ctfd_function(handle: &mut Handle, number: u32, out: &mut Give
         (record { arguments = out.old.arguments; varargs = out.old.varargs; ret = out.old.ret })
         (record { arguments = out.new.arguments; varargs = out.new.varargs; ret = out.new.ret }) }
 {
-    let Some(session) = handle.slot().get() else {
-        return NOT_OPEN;
-    };
+    let session = session_of!(handle);
     match session.function(number) {
         Ok(function) => {
             *out = GivenFunction {
@@ -85,9 +82,7 @@ pub extern "C" fn ctfd_function_argument(
     ensures answer { Gives (asked handle.old.held.session (λ s.
         named_said index (function_of (own_in s) number))) result out.old out.new }
 {
-    let Some(session) = handle.slot().get() else {
-        return NOT_OPEN;
-    };
+    let session = session_of!(handle);
     give_type(session.function_argument(number, index), out)
 }
 
@@ -98,9 +93,7 @@ pub extern "C" fn ctfd_label_count(handle: &mut Handle, out: &mut u64) -> u32
     ensures answer { Gives (asked handle.old.held.session (λ s. Ok (length (own_in s).labels)))
         result out.old out.new }
 {
-    let Some(session) = handle.slot().get() else {
-        return NOT_OPEN;
-    };
+    let session = session_of!(handle);
     give(Ok(session.label_count()), out)
 }
 
@@ -118,9 +111,7 @@ pub extern "C" fn ctfd_label(
         (record { name_len = out.old.name_len; last = out.old.last })
         (record { name_len = out.new.name_len; last = out.new.last }) }
 {
-    let Some(session) = handle.slot().get() else {
-        return NOT_OPEN;
-    };
+    let session = session_of!(handle);
     match session.label_numbered(index) {
         Ok(label) => {
             write_front(label.name, name);

@@ -1,13 +1,12 @@
 //! Exports that answer a text.
 ghost use Rattle.std.specs.Prelude.{◌≡◌};
 ghost use Rattle.ctf_c.specs.Given.{GivesText, MayGiveText, asked};
-ghost use Rattle.ctf_c.specs.Served.{space_in};
-ghost use Rattle.ctf_model.specs.names.TypeNames.{spelled_name};
+ghost use Rattle.ctf_model.specs.opened.Open.{space_in};
+ghost use Rattle.ctf_model.specs.opened.Questions.{name_said, value_said};
 ghost use Rattle.ctf_model.specs.spaces.Space.{space_type};
-ghost use Rattle.ctf_model.specs.values.Values.{value_text};
 ghost use Rattle.ctf_space.specs.TypeView.{name_in};
 
-use crate::given::{NOT_OPEN, give_text, status, write_front};
+use crate::given::{give_text, session_of, status, write_front};
 use crate::handle::Handle;
 use ctf_model::TypeNum;
 use std::alloc::Global;
@@ -26,9 +25,7 @@ pub extern "C" fn ctfd_declared_name(
         (record { text = text.old; len = len.old })
         (record { text = text.new; len = len.new }) }
 {
-    let Some(session) = handle.slot().get() else {
-        return NOT_OPEN;
-    };
+    let session = session_of!(handle);
     give_text(session.declared_name(TypeNum(t)), text, len)
 }
 
@@ -43,13 +40,11 @@ pub extern "C" fn ctfd_name(
 ) -> u32
     ensures same { handle.new.held.session ≡ handle.old.held.session }
     ensures answer { MayGiveText
-        (asked handle.old.held.session (λ s. spelled_name (space_in s) t)) result
+        (asked handle.old.held.session (λ s. name_said (space_in s) t)) result
         (record { text = text.old; len = len.old })
         (record { text = text.new; len = len.new }) }
 {
-    let Some(session) = handle.slot().get() else {
-        return NOT_OPEN;
-    };
+    let session = session_of!(handle);
     match session.name(alloc, TypeNum(t)) {
         Ok(said) => {
             write_front(said.as_slice(), text);
@@ -73,13 +68,11 @@ pub extern "C" fn ctfd_show(
 ) -> u32
     ensures same { handle.new.held.session ≡ handle.old.held.session }
     ensures answer { MayGiveText (asked handle.old.held.session (λ s.
-        value_text (space_in s) memory.now t offset)) result
+        value_said (space_in s) memory.now offset t)) result
         (record { text = text.old; len = len.old })
         (record { text = text.new; len = len.new }) }
 {
-    let Some(session) = handle.slot().get() else {
-        return NOT_OPEN;
-    };
+    let session = session_of!(handle);
     match session.show(alloc, TypeNum(t), memory, offset) {
         Ok(said) => {
             write_front(said.as_slice(), text);

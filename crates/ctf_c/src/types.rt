@@ -1,12 +1,12 @@
 //! Exports that answer a number of a type.
 ghost use Rattle.std.specs.Prelude.{◌≡◌};
-ghost use Rattle.ctf_c.specs.Given.{Gives, argument_said, asked, kind_said, length_said, return_said, root_said, said_of, shape_of, tag_said};
-ghost use Rattle.ctf_c.specs.Served.{space_in};
-ghost use Rattle.ctf_model.specs.figures.Figures.{align as align_of, reference as reference_of, resolved, size as size_of};
-ghost use Rattle.ctf_model.specs.names.Found.{pointer_to as pointer_of};
+ghost use Rattle.ctf_c.specs.Given.{Gives, asked, flag as flag_of, number_of_kind, number_of_tag};
+ghost use Rattle.ctf_model.specs.opened.Questions.{align_said, argument_said, kind_said, length_said, pointer_said, resolved_said, return_said, root_said, said_of, shape_of, size_said, tag_said, told_of};
+ghost use Rattle.ctf_model.specs.opened.Open.{space_in};
+ghost use Rattle.ctf_model.specs.figures.Figures.{reference as reference_of};
 ghost use Rattle.ctf_model.specs.spaces.Space.{space_type};
 
-use crate::given::{NOT_OPEN, give, give_short, give_type};
+use crate::given::{flag_told, give, give_short, give_type, kind_told, session_of, tag_told};
 use crate::handle::Handle;
 use ctf_model::TypeNum;
 
@@ -15,13 +15,11 @@ use ctf_model::TypeNum;
 pub extern "C" fn ctfd_kind(handle: &mut Handle, t: u16, out: &mut u32) -> u32
     ensures same { handle.new.held.session ≡ handle.old.held.session }
     ensures answer { Gives (asked handle.old.held.session (λ s.
-        said_of kind_said (shape_of (space_type (space_in s) t))))
+        told_of number_of_kind (said_of kind_said (shape_of (space_type (space_in s) t)))))
         result out.old out.new }
 {
-    let Some(session) = handle.slot().get() else {
-        return NOT_OPEN;
-    };
-    give_short(session.kind(TypeNum(t)), out)
+    let session = session_of!(handle);
+    give_short(kind_told(session.kind(TypeNum(t))), out)
 }
 
 /// 1 where look-ups by name see a type, else 0.
@@ -29,13 +27,11 @@ pub extern "C" fn ctfd_kind(handle: &mut Handle, t: u16, out: &mut u32) -> u32
 pub extern "C" fn ctfd_root(handle: &mut Handle, t: u16, out: &mut u32) -> u32
     ensures same { handle.new.held.session ≡ handle.old.held.session }
     ensures answer { Gives
-        (asked handle.old.held.session (λ s. root_said (space_type (space_in s) t)))
+        (asked handle.old.held.session (λ s. told_of flag_of (root_said (space_type (space_in s) t))))
         result out.old out.new }
 {
-    let Some(session) = handle.slot().get() else {
-        return NOT_OPEN;
-    };
-    give_short(session.root(TypeNum(t)), out)
+    let session = session_of!(handle);
+    give_short(flag_told(session.root(TypeNum(t))), out)
 }
 
 /// The number of the kind that a forward declares: 6 for a struct, 7 for a union, 8 for an enum.
@@ -43,13 +39,11 @@ pub extern "C" fn ctfd_root(handle: &mut Handle, t: u16, out: &mut u32) -> u32
 pub extern "C" fn ctfd_tag(handle: &mut Handle, t: u16, out: &mut u32) -> u32
     ensures same { handle.new.held.session ≡ handle.old.held.session }
     ensures answer { Gives (asked handle.old.held.session (λ s.
-        said_of tag_said (shape_of (space_type (space_in s) t))))
+        told_of number_of_tag (said_of tag_said (shape_of (space_type (space_in s) t)))))
         result out.old out.new }
 {
-    let Some(session) = handle.slot().get() else {
-        return NOT_OPEN;
-    };
-    give_short(session.tag(TypeNum(t)), out)
+    let session = session_of!(handle);
+    give_short(tag_told(session.tag(TypeNum(t))), out)
 }
 
 /// How many members, enumerators or arguments a type has: 0 for kinds without a list.
@@ -60,9 +54,7 @@ pub extern "C" fn ctfd_length(handle: &mut Handle, t: u16, out: &mut u64) -> u32
         said_of length_said (shape_of (space_type (space_in s) t))))
         result out.old out.new }
 {
-    let Some(session) = handle.slot().get() else {
-        return NOT_OPEN;
-    };
+    let session = session_of!(handle);
     give(session.length(TypeNum(t)), out)
 }
 
@@ -70,12 +62,10 @@ pub extern "C" fn ctfd_length(handle: &mut Handle, t: u16, out: &mut u64) -> u32
 #[unsafe(no_mangle)]
 pub extern "C" fn ctfd_size(handle: &mut Handle, t: u16, out: &mut u64) -> u32
     ensures same { handle.new.held.session ≡ handle.old.held.session }
-    ensures answer { Gives (asked handle.old.held.session (λ s. size_of (space_in s) t))
+    ensures answer { Gives (asked handle.old.held.session (λ s. size_said (space_in s) t))
         result out.old out.new }
 {
-    let Some(session) = handle.slot().get() else {
-        return NOT_OPEN;
-    };
+    let session = session_of!(handle);
     give(session.size(TypeNum(t)), out)
 }
 
@@ -83,25 +73,21 @@ pub extern "C" fn ctfd_size(handle: &mut Handle, t: u16, out: &mut u64) -> u32
 #[unsafe(no_mangle)]
 pub extern "C" fn ctfd_align(handle: &mut Handle, t: u16, out: &mut u64) -> u32
     ensures same { handle.new.held.session ≡ handle.old.held.session }
-    ensures answer { Gives (asked handle.old.held.session (λ s. align_of (space_in s) t))
+    ensures answer { Gives (asked handle.old.held.session (λ s. align_said (space_in s) t))
         result out.old out.new }
 {
-    let Some(session) = handle.slot().get() else {
-        return NOT_OPEN;
-    };
+    let session = session_of!(handle);
     give(session.align(TypeNum(t)), out)
 }
 
-/// The type that a type stands for, along typedefs and qualifiers. 0 is no type.
+/// The type that a type stands for, along typedefs and qualifiers: 0 where that is `void`.
 #[unsafe(no_mangle)]
 pub extern "C" fn ctfd_resolve(handle: &mut Handle, t: u16, out: &mut u16) -> u32
     ensures same { handle.new.held.session ≡ handle.old.held.session }
-    ensures answer { Gives (asked handle.old.held.session (λ s. resolved (space_in s) t))
+    ensures answer { Gives (asked handle.old.held.session (λ s. resolved_said (space_in s) t))
         result out.old out.new }
 {
-    let Some(session) = handle.slot().get() else {
-        return NOT_OPEN;
-    };
+    let session = session_of!(handle);
     give_type(session.resolve(TypeNum(t)), out)
 }
 
@@ -112,9 +98,7 @@ pub extern "C" fn ctfd_reference(handle: &mut Handle, t: u16, out: &mut u16) -> 
     ensures answer { Gives (asked handle.old.held.session (λ s. reference_of (space_in s) t))
         result out.old out.new }
 {
-    let Some(session) = handle.slot().get() else {
-        return NOT_OPEN;
-    };
+    let session = session_of!(handle);
     give_type(session.reference(TypeNum(t)), out)
 }
 
@@ -122,12 +106,10 @@ pub extern "C" fn ctfd_reference(handle: &mut Handle, t: u16, out: &mut u16) -> 
 #[unsafe(no_mangle)]
 pub extern "C" fn ctfd_pointer(handle: &mut Handle, t: u16, out: &mut u16) -> u32
     ensures same { handle.new.held.session ≡ handle.old.held.session }
-    ensures answer { Gives (asked handle.old.held.session (λ s. pointer_of (space_in s) t))
+    ensures answer { Gives (asked handle.old.held.session (λ s. pointer_said (space_in s) t))
         result out.old out.new }
 {
-    let Some(session) = handle.slot().get() else {
-        return NOT_OPEN;
-    };
+    let session = session_of!(handle);
     give_type(session.pointer(TypeNum(t)), out)
 }
 
@@ -139,9 +121,7 @@ pub extern "C" fn ctfd_return(handle: &mut Handle, t: u16, out: &mut u16) -> u32
         said_of return_said (shape_of (space_type (space_in s) t))))
         result out.old out.new }
 {
-    let Some(session) = handle.slot().get() else {
-        return NOT_OPEN;
-    };
+    let session = session_of!(handle);
     give_type(session.returned(TypeNum(t)), out)
 }
 
@@ -153,8 +133,6 @@ pub extern "C" fn ctfd_argument(handle: &mut Handle, t: u16, index: usize, out: 
         said_of (argument_said index) (shape_of (space_type (space_in s) t))))
         result out.old out.new }
 {
-    let Some(session) = handle.slot().get() else {
-        return NOT_OPEN;
-    };
+    let session = session_of!(handle);
     give_type(session.argument(TypeNum(t), index), out)
 }

@@ -1,11 +1,12 @@
 //! Exports that answer of a dictionary as a whole, and find by names.
 ghost use Rattle.std.specs.Prelude.{◌≡◌, Ok, length};
-ghost use Rattle.ctf_c.specs.Given.{Gives, GivesText, asked, flag as flag_of, model_number, parent_types};
-ghost use Rattle.ctf_c.specs.Served.{own_in, space_in};
+ghost use Rattle.ctf_c.specs.Given.{Gives, GivesText, asked, flag as flag_of, model_number as number_of_model};
+ghost use Rattle.ctf_model.specs.opened.Questions.{parent_types};
+ghost use Rattle.ctf_model.specs.opened.Open.{own_in, space_in};
 ghost use Rattle.ctf_model.specs.names.Found.{found};
 ghost use Rattle.ctf_model.specs.symbols.SymbolQuestions.{by_name, label_of, object_of};
 
-use crate::given::{NOT_OPEN, flag, give, give_short, give_text, give_type};
+use crate::given::{flag, give, give_short, give_text, give_type, model_number, session_of};
 use crate::handle::Handle;
 
 /// The type that a written name finds, as "struct node *".
@@ -15,9 +16,7 @@ pub extern "C" fn ctfd_find(handle: &mut Handle, text: &[u8], out: &mut u16) -> 
     ensures answer { Gives (asked handle.old.held.session (λ s. found (space_in s) text.now))
         result out.old out.new }
 {
-    let Some(session) = handle.slot().get() else {
-        return NOT_OPEN;
-    };
+    let session = session_of!(handle);
     give_type(session.find(text), out)
 }
 
@@ -28,9 +27,7 @@ pub extern "C" fn ctfd_symbol(handle: &mut Handle, name: &[u8], out: &mut u32) -
     ensures answer { Gives (asked handle.old.held.session (λ s. by_name (own_in s) name.now))
         result out.old out.new }
 {
-    let Some(session) = handle.slot().get() else {
-        return NOT_OPEN;
-    };
+    let session = session_of!(handle);
     give_short(session.symbol(name), out)
 }
 
@@ -41,9 +38,7 @@ pub extern "C" fn ctfd_label_last(handle: &mut Handle, name: &[u8], out: &mut u3
     ensures answer { Gives (asked handle.old.held.session (λ s. label_of (own_in s) name.now))
         result out.old out.new }
 {
-    let Some(session) = handle.slot().get() else {
-        return NOT_OPEN;
-    };
+    let session = session_of!(handle);
     give_short(session.label(name), out)
 }
 
@@ -54,9 +49,7 @@ pub extern "C" fn ctfd_object(handle: &mut Handle, number: u32, out: &mut u16) -
     ensures answer { Gives (asked handle.old.held.session (λ s. object_of (own_in s) number))
         result out.old out.new }
 {
-    let Some(session) = handle.slot().get() else {
-        return NOT_OPEN;
-    };
+    let session = session_of!(handle);
     give_type(session.object(number), out)
 }
 
@@ -67,9 +60,7 @@ pub extern "C" fn ctfd_count(handle: &mut Handle, out: &mut u64) -> u32
     ensures answer { Gives (asked handle.old.held.session (λ s. Ok (length (own_in s).terms)))
         result out.old out.new }
 {
-    let Some(session) = handle.slot().get() else {
-        return NOT_OPEN;
-    };
+    let session = session_of!(handle);
     give(Ok(session.count()), out)
 }
 
@@ -80,9 +71,7 @@ pub extern "C" fn ctfd_child(handle: &mut Handle, out: &mut u32) -> u32
     ensures answer { Gives (asked handle.old.held.session (λ s. Ok (flag_of (own_in s).child)))
         result out.old out.new }
 {
-    let Some(session) = handle.slot().get() else {
-        return NOT_OPEN;
-    };
+    let session = session_of!(handle);
     give_short(Ok(flag(session.child())), out)
 }
 
@@ -93,9 +82,7 @@ pub extern "C" fn ctfd_parent_count(handle: &mut Handle, out: &mut u64) -> u32
     ensures answer { Gives (asked handle.old.held.session (λ s. parent_types s))
         result out.old out.new }
 {
-    let Some(session) = handle.slot().get() else {
-        return NOT_OPEN;
-    };
+    let session = session_of!(handle);
     give(session.parent_count(), out)
 }
 
@@ -107,9 +94,7 @@ pub extern "C" fn ctfd_parent_name(handle: &mut Handle, text: &mut [u8], len: &m
         (record { text = text.old; len = len.old })
         (record { text = text.new; len = len.new }) }
 {
-    let Some(session) = handle.slot().get() else {
-        return NOT_OPEN;
-    };
+    let session = session_of!(handle);
     give_text(Ok(session.parname()), text, len)
 }
 
@@ -121,9 +106,7 @@ pub extern "C" fn ctfd_parent_label(handle: &mut Handle, text: &mut [u8], len: &
         (record { text = text.old; len = len.old })
         (record { text = text.new; len = len.new }) }
 {
-    let Some(session) = handle.slot().get() else {
-        return NOT_OPEN;
-    };
+    let session = session_of!(handle);
     give_text(Ok(session.parlabel()), text, len)
 }
 
@@ -131,11 +114,9 @@ pub extern "C" fn ctfd_parent_label(handle: &mut Handle, text: &mut [u8], len: &
 #[unsafe(no_mangle)]
 pub extern "C" fn ctfd_model(handle: &mut Handle, out: &mut u32) -> u32
     ensures same { handle.new.held.session ≡ handle.old.held.session }
-    ensures answer { Gives (asked handle.old.held.session (λ s. Ok (model_number s.own.model)))
+    ensures answer { Gives (asked handle.old.held.session (λ s. Ok (number_of_model s.own.model)))
         result out.old out.new }
 {
-    let Some(session) = handle.slot().get() else {
-        return NOT_OPEN;
-    };
-    give_short(Ok(session.model_number()), out)
+    let session = session_of!(handle);
+    give_short(Ok(model_number(session.model())), out)
 }

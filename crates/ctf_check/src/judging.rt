@@ -7,7 +7,7 @@ ghost use Rattle.ctf_check.specs.Stages.{IsChainPlace, IsChainsFault, want_of_me
 
 use crate::references::Numbers;
 use ctf_chains::{Chain, Starts, first_deep_type, record_starts};
-use ctf_model::{Fault, placeless};
+use ctf_model::Fault;
 use std::alloc::Global;
 
 /// Judges the chains of one sort: the fault has the code.
@@ -26,13 +26,12 @@ fn judge_chain(
     ensures err { IfErr result (λ f. (f ≡ want_of_memory)
         ⊎ ((f.code ≡ code) × IsChainPlace chain child (records types.now) (Some f.place))) }
 {
-    match first_deep_type(alloc, types, starts, child, chain) {
-        Ok(None) => Ok(()),
-        Ok(Some(i)) => Err(Fault {
+    match first_deep_type(alloc, types, starts, child, chain)? {
+        None => Ok(()),
+        Some(i) => Err(Fault {
             code,
             place: i as u64 + 1,
         }),
-        Err(_) => Err(placeless(Fault::MEMORY)),
     }
 }
 
@@ -49,9 +48,7 @@ pub fn judge_chains(alloc: Global, types: &[u8], numbers: Numbers) -> Result<Sta
     ensures err { IfErr result (λ f. (f ≡ want_of_memory)
         ⊎ IsChainsFault numbers.child (records types.now) (Some f)) }
 {
-    let Ok(starts) = record_starts(alloc, types, numbers.count) else {
-        return Err(placeless(Fault::MEMORY));
-    };
+    let starts = record_starts(alloc, types, numbers.count)?;
     judge_chain(
         alloc,
         types,

@@ -97,9 +97,7 @@ impl Draft {
         if is_of_other(model, &parent) {
             return Err(placeless(Fault::MODEL_DIFFERS));
         }
-        let Ok(parent) = kept(alloc, parent, model) else {
-            return Err(placeless(Fault::MEMORY));
-        };
+        let parent = kept(alloc, parent, model)?;
         Ok(Draft {
             alloc,
             parname,

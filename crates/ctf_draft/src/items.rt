@@ -147,14 +147,8 @@ impl Draft {
         ensures as_before { OnErr result (self.new ≡ self.old) }
         ensures dictionary { self.new.dictionary ≡ self.old.dictionary }
     {
-        let i = match self.aggregate_for(n, name.as_slice(), tnum) {
-            Ok(i) => i,
-            Err(fault) => return Err(fault),
-        };
-        let plan = match self.plan(n, i, tnum, offset) {
-            Ok(plan) => plan,
-            Err(fault) => return Err(fault),
-        };
+        let i = self.aggregate_for(n, name.as_slice(), tnum)?;
+        let plan = self.plan(n, i, tnum, offset)?;
         let offset = plan.offset;
         match self.put_member(n, i, Member { name, tnum, offset }, plan.size) {
             Ok(()) => Ok(offset),
@@ -190,10 +184,7 @@ impl Draft {
         ensures as_before { OnErr result (self.new ≡ self.old) }
         ensures dictionary { self.new.dictionary ≡ self.old.dictionary }
     {
-        let i = match self.enum_for(n, name.as_slice()) {
-            Ok(i) => i,
-            Err(fault) => return Err(fault),
-        };
+        let i = self.enum_for(n, name.as_slice())?;
         self.put_enumerator(n, i, Enumerator { name, value })
     }
 }

@@ -114,10 +114,7 @@ impl Draft {
         let Some(last) = self.pending_body(n, i).stands_behind() else {
             return Ok(0);
         };
-        let bits = match self.bits_filled(last.tnum) {
-            Ok(bits) => bits,
-            Err(fault) => return Err(fault),
-        };
+        let bits = self.bits_filled(last.tnum)?;
         match align {
             Ok(align) => Ok(aligned_from(u128::from(last.offset) + bits, align)),
             Err(fault) => Err(fault),
@@ -157,14 +154,8 @@ impl Draft {
         requires align { align ≡ align_in (space_of self.now.draft) tnum.0 }
         ensures { result ≡ planned_shallow self.now.draft n.0 tnum.0 offset }
     {
-        let bits = match self.bits_filled(tnum) {
-            Ok(bits) => bits,
-            Err(fault) => return Err(fault),
-        };
-        let place = match self.member_place(n, i, align, offset) {
-            Ok(place) => place,
-            Err(fault) => return Err(fault),
-        };
+        let bits = self.bits_filled(tnum)?;
+        let place = self.member_place(n, i, align, offset)?;
         let said = self.pending_body(n, i).said_size();
         held(place, grown(said, place, bits))
     }
@@ -185,9 +176,7 @@ impl Draft {
             ⊎ (planned self.now.draft n.0 tnum.0 offset ≡ Err f)) }
         ensures knows { Knows self.now.draft marks.new }
     {
-        let Ok(found) = self.alignment(marks, tnum) else {
-            return Err(placeless(Fault::MEMORY));
-        };
+        let found = self.alignment(marks, tnum)?;
         match found {
             Some(align) => self.plan_shallow(n, i, tnum, align, offset),
             None => Err(placeless(Fault::DEEP_MEMBER)),

@@ -6,7 +6,7 @@ ghost use Rattle.ctf_model.specs.rules.Refusals.{want_of_memory};
 ghost use Rattle.ctf_model.specs.format.Shown.{enumerators_in, members_in, shown};
 
 use crate::types::{Body, DraftType, Enumerator, Member};
-use ctf_model::{Fault, placeless};
+use ctf_model::Fault;
 use std::alloc::Global;
 
 /// Adds a member behind the others of a struct or union, which then has a size. None has its name.
@@ -25,12 +25,8 @@ pub(crate) fn push_member(
 {
     match &mut to.body {
         Body::Aggregate(_, old, members) => {
-            let Ok(()) = members.reserve(1) else {
-                return Err(placeless(Fault::MEMORY));
-            };
-            let Ok(()) = to.taken.add(alloc, member.name.as_slice()) else {
-                return Err(placeless(Fault::MEMORY));
-            };
+            members.reserve(1)?;
+            to.taken.add(alloc, member.name.as_slice())?;
             members.push_reserved(member);
             *old = size;
             Ok(())
@@ -54,12 +50,8 @@ pub(crate) fn push_enumerator(
 {
     match &mut to.body {
         Body::Enum(_, enumerators) => {
-            let Ok(()) = enumerators.reserve(1) else {
-                return Err(placeless(Fault::MEMORY));
-            };
-            let Ok(()) = to.taken.add(alloc, enumerator.name.as_slice()) else {
-                return Err(placeless(Fault::MEMORY));
-            };
+            enumerators.reserve(1)?;
+            to.taken.add(alloc, enumerator.name.as_slice())?;
             enumerators.push_reserved(enumerator);
             Ok(())
         }

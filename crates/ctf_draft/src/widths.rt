@@ -71,14 +71,8 @@ impl Draft {
         ensures bits { result ≡ bits_filled_in (space_of self.now.draft) n.0 }
         ensures small { IfOk result (λ bits. bits < 2 ^ 67) }
     {
-        let size = match self.size(n) {
-            Ok(size) => size,
-            Err(fault) => return Err(fault),
-        };
-        let at = match self.resolved(n) {
-            Ok(at) => at,
-            Err(fault) => return Err(fault),
-        };
+        let size = self.size(n)?;
+        let at = self.resolved(n)?;
         match self.width_at(at) {
             Ok(width) => Ok(filled(size, width)),
             Err(fault) => Err(fault),

@@ -1,5 +1,5 @@
 -- The members of a type that was found.
-use Rattle.std.proofs.Common.{◌≡◌, List, Option, Some, None, refl, ap, sym}
+use Rattle.std.proofs.Common.{◌≡◌, List, Option, Some, None, refl, ap}
 use Rattle.std.specs.Prelude.{option_map}
 use Rattle.std.proofs.lemmas.Option.{same_Some}
 use Rattle.ctf_model.specs.figures.Paths.{members_found}

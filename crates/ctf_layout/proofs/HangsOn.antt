@@ -1,7 +1,6 @@
 -- What the extent of a type hangs on.
-use Rattle.std.proofs.Common.{◌≡◌, ℕ, zero, suc, ◌+◌, ◌≤◌, ◌<◌, Bool, true, false, cond, ltb, List, [], ◌∷◌, ◌++◌, length, map, take, Option, Some, None, Result, Ok, Err, get_or, refl, sym, ap, subst, ◌∙◌, arith}
-use Rattle.std.specs.Prelude.{min, max, slice_index, if◌then◌else◌}
-use Rattle.std.specs.List.{AllByRecursion}
+use Rattle.std.proofs.Common.{◌≡◌, ℕ, suc, ◌+◌, ◌≤◌, ◌<◌, List, [], ◌∷◌, ◌++◌, length, map, take, Option, Result, Ok, Err, get_or, refl, sym, ap, subst, ◌∙◌, arith}
+use Rattle.std.specs.Prelude.{min, slice_index}
 use Rattle.std.proofs.lemmas.List.{length-map, take_all, take_more}
 use Rattle.ctf_model.specs.rules.Chains.{IsWithin, by_value, longest_chain}
 use Rattle.ctf_model.specs.format.Term.{Term, Body, Member}
@@ -9,7 +8,7 @@ use Rattle.ctf_model.specs.format.Term as term
 use Rattle.ctf_model.specs.declared.faults.Fault.{Fault}
 use Rattle.ctf_layout.specs.Bases.{basis, greatest_of, members_read, row_size}
 use Rattle.ctf_layout.specs.Extents.{IsExtent, amount}
-use Rattle.ctf_model.specs.figures.Figures.{Figure, figure_in, size, align, sizing, aligning, size_body, align_body, greater, greatest, first_of, times, array_size}
+use Rattle.ctf_model.specs.figures.Figures.{size, align, sizing, aligning, size_body, align_body, greater, greatest, first_of}
 use Rattle.ctf_model.specs.figures.FigureLaws.{own_body, value_edges}
 use Rattle.ctf_model.specs.format.Shown.{shape}
 use Rattle.ctf_model.specs.spaces.TypePlaces.{own_number}

@@ -1,7 +1,7 @@
 -- Where types lead, and that none leads to itself.
-use Rattle.std.proofs.Common.{◌≡◌, ℕ, zero, suc, ◌+◌, ◌-◌, ◌≤◌, ◌<◌, List, [], ◌∷◌, Bool, length, Option, Some, None, get_or, refl, sym, ap, subst, ◌∙◌, arith, zero-add}
+use Rattle.std.proofs.Common.{◌≡◌, ℕ, zero, suc, ◌-◌, ◌≤◌, ◌<◌, List, [], ◌∷◌, length, Some, get_or, refl, sym, subst, ◌∙◌, arith}
 use Rattle.std.specs.List.{AllByRecursion, filter_map}
-use Rattle.ctf_model.specs.rules.Chains.{IsWithin, by_value, own_index, targets}
+use Rattle.ctf_model.specs.rules.Chains.{IsWithin, by_value, own_index}
 use Rattle.ctf_model.specs.format.Dictionary.{Dictionary}
 use Rattle.ctf_layout.specs.Table.{LeadsOn}
 use Rattle.ctf_model.specs.figures.FigureLaws.{value_edges, own_body}

@@ -1,5 +1,5 @@
 -- A path, step by step.
-use Rattle.std.proofs.Common.{◌≡◌, ◌+◌, ◌≤◌, ◌<◌, ℕ, List, [], ◌∷◌, drop, map, length, Result, Ok, get_or, refl, sym, ap, ◌∙◌}
+use Rattle.std.proofs.Common.{◌≡◌, ◌+◌, ◌≤◌, ◌<◌, ℕ, List, [], ◌∷◌, drop, map, length, Ok, get_or, refl, sym, ap, ◌∙◌}
 use Rattle.std.proofs.lemmas.List.{drop_more, drop_all}
 use Rattle.ctf_model.specs.figures.Paths.{Position, and_on, path_from, step_to}
 use Rattle.ctf_model.specs.spaces.Space.{Space}

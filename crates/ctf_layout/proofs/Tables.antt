@@ -1,11 +1,11 @@
 -- Tables that are kept, and looking up in them.
-use Rattle.std.proofs.Common.{◌≡◌, ℕ, zero, suc, ◌+◌, ◌≤◌, ◌<◌, Bool, true, false, cond, ltb, get_or, List, length, map, Option, Some, None, refl, sym, ap, subst, ◌∙◌, ◌⊎◌, inl, inr, arith}
-use Rattle.std.specs.Prelude.{IsSome, replicate, slice_get, slice_index_or, unwrap_or}
+use Rattle.std.proofs.Common.{◌≡◌, ℕ, zero, suc, ◌≤◌, ◌<◌, Bool, true, false, cond, ltb, get_or, List, length, Option, Some, None, refl, sym, ap, subst, ◌∙◌, ◌⊎◌, inl, inr, arith}
+use Rattle.std.specs.Prelude.{IsSome, replicate, slice_get, unwrap_or}
 use Rattle.std.specs.Option.{ForSome, is_some, option_map}
 use Rattle.std.proofs.lemmas.Bool.{ltb-true}
-use Rattle.std.proofs.lemmas.List.{get_or-map, length-map}
-use Rattle.std.proofs.lemmas.Option.{get_or_from_slice_get, same_Some, slice_get-map, slice_get_cases, slice_get_within}
-use Rattle.ctf_model.specs.rules.Chains.{own_index, own_index_at}
+use Rattle.std.proofs.lemmas.List.{get_or-map}
+use Rattle.std.proofs.lemmas.Option.{get_or_from_slice_get, same_Some, slice_get-map, slice_get_cases}
+use Rattle.ctf_model.specs.rules.Chains.{own_index}
 use Rattle.ctf_model.specs.format.Dictionary.{Dictionary}
 use Rattle.ctf_model.specs.figures.FigureLaws.{parent_alone}
 use Rattle.ctf_model.specs.spaces.Space.{Space}
@@ -16,10 +16,10 @@ use Rattle.ctf_layout.specs.Extents.{IsExtent, IsParentsExtent, neither}
 use Rattle.ctf_layout.specs.Fitting.{Fits}
 use Rattle.ctf_layout.specs.Kept.{AreExtents, extent_at, extent_kept, or_no_type, table_kept}
 use Rattle.ctf_layout.specs.Over.{OverParent}
-use Rattle.ctf_layout.specs.Table.{IsWhole, Knows, Table, entry}
+use Rattle.ctf_layout.specs.Table.{Knows, Table, entry}
 use Rattle.ctf_layout.specs.declared.entry.Entry.{Entry}
 use Rattle.ctf_layout.specs.declared.extents.Extent.{Extent}
-use Rattle.ctf_layout.specs.declared.extents.Refusal.TheVariants.{Incomplete, NoParent, NoType}
+use Rattle.ctf_layout.specs.declared.extents.Refusal.TheVariants.{NoParent, NoType}
 use Rattle.ctf_layout.specs.declared.layout.Layout.{Layout}
 use Rattle.ctf_layout.proofs.Elsewhere.{extent_of_missing}
 

@@ -1,11 +1,11 @@
 -- The table on the way.
-use Rattle.std.proofs.Common.{◌≡◌, ℕ, zero, suc, ◌+◌, ◌-◌, ◌≤◌, ◌<◌, ◌⊎◌, inl, inr, ◌≢◌, Bool, true, false, List, [], ◌∷◌, length, Option, Some, None, get_or, set, slice_set, slice_index_or, refl, sym, ap, subst, ◌∙◌, arith}
+use Rattle.std.proofs.Common.{◌≡◌, ℕ, zero, suc, ◌+◌, ◌<◌, ◌⊎◌, inl, inr, ◌≢◌, true, false, List, [], ◌∷◌, length, Option, Some, None, get_or, set, slice_set, refl, sym, subst, ◌∙◌, arith}
 use Rattle.std.specs.Prelude.{IsSome}
 use Rattle.std.proofs.lemmas.Grind.{get_or-set_at}
 use Rattle.std.proofs.lemmas.List.{get_or-set_other}
 use Rattle.std.proofs.lemmas.Bool.Decides.{eqb_tells}
 use Rattle.ctf_model.specs.rules.Chains.{IsWithin}
-use Rattle.ctf_model.specs.format.Term.{Term, Body}
+use Rattle.ctf_model.specs.format.Term.{Term}
 use Rattle.ctf_layout.specs.Bases.{members_read}
 use Rattle.ctf_layout.specs.Extents.{IsExtent}
 use Rattle.ctf_layout.specs.Table.{Table, Knows, Keeps, LeadsOn, FillsBelow, FillsFrom, IsUnderway, IsVisited, entry, owed, work_left}

@@ -1,6 +1,5 @@
 -- What the size and the alignment of a type hang on. The words are ours.
 use Rattle.std.specs.Prelude.{ℕ, min, nat_lt, List, [], ◌∷◌, length, Option, Some, None, Result, Ok, unwrap_or, if◌then◌else◌}
-use Rattle.std.specs.Option.{option_map}
 use Rattle.ctf_model.specs.figures.Figures.{enum_size, greater, times}
 use Rattle.ctf_model.specs.format.Shown.{ArrayParts, Shape, array_in, list_length}
 use Rattle.ctf_model.specs.spaces.Space.{pointer_size}

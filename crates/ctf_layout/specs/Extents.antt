@@ -1,6 +1,6 @@
 -- Sizes and alignments as code has them.
-use Rattle.std.specs.Prelude.{◌≡◌, ℕ, nat_lt, Option, Some, None, Result, Ok, Err, if◌then◌else◌}
-use Rattle.ctf_model.specs.figures.Figures.{size, align, sizing, aligning, parents_figure, times}
+use Rattle.std.specs.Prelude.{◌≡◌, ℕ, Result, Ok, Err}
+use Rattle.ctf_model.specs.figures.Figures.{size, align, sizing, aligning, parents_figure}
 use Rattle.ctf_model.specs.rules.Refusals.{placeless}
 use Rattle.ctf_model.specs.spaces.Space.{Space}
 use Rattle.ctf_model.specs.declared.faults.Fault.{Fault}

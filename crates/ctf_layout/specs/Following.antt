@@ -1,5 +1,5 @@
 -- One step of following typedefs and qualifiers. The words are ours.
-use Rattle.std.specs.Prelude.{ℕ, Option, Some, None, Result, Ok, Err}
+use Rattle.std.specs.Prelude.{ℕ, Option, None, Result, Ok, Err}
 use Rattle.ctf_model.specs.format.Dictionary.{Dictionary}
 use Rattle.ctf_model.specs.figures.Figures.{comes_to, most_numbers, resolving}
 use Rattle.ctf_model.specs.format.Shown.{Shape}

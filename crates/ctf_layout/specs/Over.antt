@@ -1,5 +1,5 @@
 -- The extents of a parent's types, beside a child. The words are ours.
-use Rattle.std.specs.Prelude.{◌≡◌, Bool, false, List, Option}
+use Rattle.std.specs.Prelude.{◌≡◌, false, List, Option}
 use Rattle.std.specs.Option.{ForSome, is_some}
 use Rattle.ctf_model.specs.figures.FigureLaws.{parent_alone}
 use Rattle.ctf_model.specs.spaces.Space.{Space}

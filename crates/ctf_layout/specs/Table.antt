@@ -1,10 +1,9 @@
 -- The table of sizes and alignments, on the way and at its end. The words are ours.
-use Rattle.std.specs.Prelude.{◌≡◌, ℕ, ◌+◌, ◌<◌, ◌⊎◌, List, [], ◌∷◌, length, sum_by, Option, Some, None, IsSome, slice_index_or}
+use Rattle.std.specs.Prelude.{◌≡◌, ℕ, ◌+◌, ◌<◌, ◌⊎◌, List, [], ◌∷◌, length, Option, Some, None, IsSome, slice_index_or}
 use Rattle.ctf_model.specs.rules.Chains.{IsWithin}
 use Rattle.ctf_model.specs.figures.FigureLaws.{value_edges}
 use Rattle.ctf_model.specs.spaces.Space.{Space}
 use Rattle.ctf_model.specs.format.Term.{Term, Body}
-use Rattle.ctf_model.specs.format.Term as term
 use Rattle.ctf_model.specs.spaces.TypePlaces.{own_number}
 use Rattle.ctf_layout.specs.Bases.{members_read}
 use Rattle.ctf_layout.specs.Extents.{IsExtent}

@@ -40,10 +40,7 @@ fn follow(space: &Space<'_>, number: TypeNum) -> Result<TypeNum, Fault>
         if let Place::Parents(_) = at.place(space.child()) {
             return Ok(at);
         }
-        let found = match space.term(at) {
-            Ok(found) => found,
-            Err(fault) => return Err(fault),
-        };
+        let found = space.term(at)?;
         match renamed(&found.shape()) {
             Some(next) => at = next,
             None => return Ok(at),

@@ -58,10 +58,7 @@ fn step_to(space: &Space<'_>, step: u64, name: &[u8], at: Reached) -> Result<Rea
     ensures { result_map_both spot (λ f. f) result
         ≡ stepped (space_of space.now) step name.now (spot at) }
 {
-    let number = match resolve(space, at.tnum) {
-        Ok(number) => number,
-        Err(fault) => return Err(fault),
-    };
+    let number = resolve(space, at.tnum)?;
     match members(space, number) {
         Some(members) => behind(step, at.offset, members.named(name)),
         None => Err(Fault {
@@ -87,10 +84,7 @@ pub fn path<N: PathName>(
         tnum: number,
     };
     for step in 0..names.len() {
-        match step_to(space, step as u64, names[step].bytes(), at) {
-            Ok(next) => at = next,
-            Err(fault) => return Err(fault),
-        }
+        at = step_to(space, step as u64, names[step].bytes(), at)?;
     }
     Ok((at.offset, at.tnum))
 }

@@ -7,11 +7,12 @@ use Rattle.ctf_library.specs.Quotas.{IsStaged}
 use Rattle.ctf_library.specs.SlotView.{publication_of, slot_of}
 use Rattle.ctf_library.specs.declared.publications.Publication as own_publication
 use Rattle.ctf_library.specs.declared.slots.Slot as own
-use Rattle.ctf_library.proofs.Quota.{room_le}
+use Rattle.ctf_library.proofs.Rooms.{room_le}
 use Rattle.ctf_model.specs.format.Lists.{Lists}
 use Rattle.ctf_model.specs.declared.faults.Fault.{Fault}
 use Rattle.ctf_protocol.proofs.Charged.{charge_is, staged_more}
-use Rattle.ctf_protocol.specs.sessions.Charges.{charge, kept_bytes, lists_bytes, publication_bytes, slot_bytes}
+use Rattle.ctf_protocol.specs.sessions.Charges.{charge, publication_bytes, slot_bytes}
+use Rattle.ctf_model.specs.opened.Sizes.{kept_bytes, lists_bytes}
 use Rattle.ctf_protocol.specs.sessions.State.{State}
 use Rattle.ctf_protocol.specs.sessions.Steps.{quota}
 use Rattle.ctf_protocol.specs.declared.requests.ListName.{ListName}

@@ -1,47 +1,36 @@
 -- What a create comes to.
 use Rattle.std.proofs.Common.{◌≡◌, ◌+◌, ℕ, List, subst, arith, Option, Some, None, Result, Ok, Err, true, is_some, refl, ap, sym, ◌∙◌, ◌⊎◌, inl, inr}
 use Rattle.std.specs.Prelude.{option_map, option_and_then}
-use Rattle.ctf_library.specs.Drafting.{IsWritten}
-use Rattle.ctf_library.specs.Quotas.{IsUncreated, IsUnwritten}
-use Rattle.ctf_protocol.specs.sessions.Charges.{parent_bytes}
+use Rattle.ctf_library.specs.Quotas.{IsUncreated}
+use Rattle.ctf_protocol.specs.sessions.Opened.{slot_made, slot_with}
+use Rattle.ctf_library.proofs.Rooms.{room_lt}
+use Rattle.ctf_open.specs.Quotas.{IsUncreated as IsUncreatedOpen}
+use Rattle.ctf_model.specs.opened.Open.{Open}
+use Rattle.ctf_model.specs.opened.Steps.{created, settled_as, updated_over}
+use Rattle.ctf_model.specs.opened.Sizes.{kept_bytes, parent_bytes}
+use Rattle.ctf_protocol.proofs.OpenSteps.{created_as}
 use Rattle.ctf_protocol.specs.sessions.Creations.{Created}
 use Rattle.ctf_protocol.specs.sessions.DraftSteps.{created_slot, model_made, slot_of_draft, updated_slot}
-use Rattle.ctf_model.specs.drafts.Drafts.{Draft, held, new_draft, settled}
+use Rattle.ctf_model.specs.drafts.Drafts.{Draft, held, new_draft}
 use Rattle.ctf_model.specs.spaces.Kept.{Kept, modelled_by}
 use Rattle.ctf_protocol.specs.sessions.State.{Slot, State}
-use Rattle.ctf_protocol.specs.sessions.Steps.{adds_created, creates, creates_from, creates_over, has_room, refuses, slot_at}
-use Rattle.ctf_model.specs.writing.Written.{lists_of, written}
+use Rattle.ctf_protocol.specs.sessions.Steps.{adds_created, creates, creates_from, creates_over, has_room, quota, refuses, slot_at}
+use Rattle.ctf_model.specs.writing.Written.{written}
 use Rattle.ctf_model.specs.declared.faults.Fault.{Fault}
 use Rattle.ctf_model.specs.declared.faults.TheConstants.Fault.{NO_SLOT}
 
 -- ---- the slot
 
-abbrev pub MadeOf : Option Kept → Created → Result Draft Fault
-MadeOf above asked = new_draft (option_map modelled_by above) asked.parname asked.parlabel (model_made above asked)
+pub create_made : (n : ℕ) (above : Option Kept) (asked : Created) (o : Open) → created above asked.parname asked.parlabel (model_made above asked) ≡ Ok o → created_slot n above asked ≡ Ok (slot_with n o)
+create_made n above asked o is = created_as n above asked ∙ ap (slot_made n) is
 
-created_done : (n : ℕ) (above : Option Kept) (asked : Created) (d : Draft) (kept : Kept) → MadeOf above asked ≡ Ok d → IsWritten d kept → created_slot n above asked ≡ Ok (record { number = n; kept = kept; parent = above; draft = Some (settled d) })
-unfolding created_slot
-created_done n above asked d kept made w =
-    let written_so : slot_of_draft n above (Ok d) ≡ Ok (record { number = n; kept = record { lists = lists_of kept.lists.ctf; model = d.model }; parent = above; draft = Some (settled d) }) = ap (updated_slot n above d) w.bytes in
-    ap (slot_of_draft n above) made ∙ written_so ∙ ap (λ (k : Kept). Ok (record { number = n; kept = k; parent = above; draft = Some (settled d) })) (sym w.alone)
+uncreated_as : (n others : ℕ) (r : Result Open Fault) (f : Fault) → IsUncreatedOpen r (Some (record { others = others; most = quota })) f → IsUncreated (slot_made n r) others f
+uncreated_as n others (Ok o) f h = (h.0, room_lt (others + (kept_bytes o.own + parent_bytes o.parent)) h.1)
+uncreated_as n others (Err g) f h = h
 
--- the same of a parent and a draft that are known by equations
-pub created_as : (n : ℕ) (above parent : Option Kept) (asked : Created) (d now : Draft) (kept : Kept) → MadeOf above asked ≡ Ok d → IsWritten d kept → parent ≡ above → now ≡ settled d → created_slot n above asked ≡ Ok (record { number = n; kept = kept; parent = parent; draft = Some now })
-created_as n above parent asked d now kept made w same settles = rw (same, settles) (created_done n above asked d kept made w)
-
-unwritten_as : (n others : ℕ) (above : Option Kept) (d : Draft) (f : Fault) (r : Result (List ℕ) Fault) → IsUnwritten r (parent_bytes above) others f → IsUncreated (updated_slot n above d r) others f
-unwritten_as n others above d f (Ok bytes) h = (h.0, let lt = h.1 in omega (arith, lt))
-unwritten_as n others above d f (Err g) h = h
-
-pub created_unwritten : (n others : ℕ) (above : Option Kept) (asked : Created) (d : Draft) (f : Fault) → MadeOf above asked ≡ Ok d → IsUnwritten (written (held d)) (parent_bytes above) others f → IsUncreated (created_slot n above asked) others f
-unfolding created_slot
-created_unwritten n others above asked d f made refused =
-    subst (λ (r : Result Slot Fault). IsUncreated r others f) (sym (ap (slot_of_draft n above) made)) (unwritten_as n others above d f (written (held d)) refused)
-
-pub created_unmade : (n others : ℕ) (above : Option Kept) (asked : Created) (f : Fault) → MadeOf above asked ≡ Err f → IsUncreated (created_slot n above asked) others f
-unfolding created_slot
-created_unmade n others above asked f refused =
-    subst (λ (r : Result Slot Fault). IsUncreated r others f) (sym (ap (slot_of_draft n above) refused)) refl
+pub create_refused : (n others : ℕ) (above : Option Kept) (asked : Created) (f : Fault) → IsUncreatedOpen (created above asked.parname asked.parlabel (model_made above asked)) (Some (record { others = others; most = quota })) f → IsUncreated (created_slot n above asked) others f
+create_refused n others above asked f h =
+    subst (λ (r : Result Slot Fault). IsUncreated r others f) (sym (created_as n above asked)) (uncreated_as n others _ f h)
 
 -- ---- the library
 

@@ -1,11 +1,10 @@
 pub mod SaidOfFacts
 pub mod Numbered
 pub mod Quota
+pub mod Rooms
 pub mod Rising
-pub mod Importing
 pub mod Named
 pub mod Opening
-pub mod DraftParents
 pub mod DraftSteps
 pub mod DraftPlaces
 pub mod Creating

@@ -4,7 +4,7 @@ use Rattle.std.specs.Prelude.{◌&&◌}
 use Rattle.std.proofs.lemmas.Bool.{leb-true, ltb-true}
 use Rattle.ctf_library.specs.Pooling.{have_room, most_bytes, most_held, with_room}
 use Rattle.ctf_model.specs.spaces.Kept.{Kept}
-use Rattle.ctf_protocol.specs.sessions.Charges.{kept_bytes}
+use Rattle.ctf_model.specs.opened.Sizes.{kept_bytes}
 
 -- where there is room, all stay
 pub roomy : (n : ℕ) (held : List Kept) → have_room n held ≡ true → with_room n held ≡ held

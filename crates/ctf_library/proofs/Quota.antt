@@ -2,6 +2,7 @@
 use Rattle.std.proofs.Common.{◌≡◌, ◌≤◌, ◌<◌, ◌+◌, ◌++◌, ◌⊎◌, inl, inr, ℕ, List, [], ◌∷◌, length, Bool, true, false, Option, Some, None, Result, Ok, Err, ltb, refl, ap, subst, sym, ◌∙◌, arith}
 use Rattle.std.specs.Prelude.{codes, is_some, nat_lt, not, option_and_then, option_map}
 use Rattle.ctf_library.proofs.Creating.{creates_done}
+use Rattle.ctf_library.proofs.Rooms.{room_le, room_lt}
 use Rattle.ctf_protocol.specs.sessions.Creations.{Created}
 use Rattle.ctf_protocol.specs.sessions.DraftSteps.{created_slot}
 use Rattle.std.proofs.lemmas.Bool.{le-ltb, lt-ltb, ltb-false, ltb-true}
@@ -12,33 +13,19 @@ use Rattle.ctf_protocol.proofs.Charged.{granted, over, parent_charge, part_charg
 use Rattle.ctf_model.specs.format.Lists.{Lists}
 use Rattle.ctf_protocol.specs.answers.Answers.{Answer, Reply, says}
 use Rattle.ctf_protocol.specs.answers.Answers as answers
-use Rattle.ctf_protocol.specs.sessions.Charges.{charge, kept_bytes, parent_bytes, slot_bytes}
+use Rattle.ctf_protocol.specs.sessions.Charges.{charge, slot_bytes}
+use Rattle.ctf_model.specs.opened.Sizes.{kept_bytes, parent_bytes}
 use Rattle.ctf_answers.specs.Replies.{changed, said}
 use Rattle.ctf_answers.specs.declared.counts.Counts.{Counts}
-use Rattle.ctf_library.specs.Quotas.{IsFull, IsStaged, IsUncreated, IsUnserved}
+use Rattle.ctf_library.specs.Quotas.{IsFull, IsStaged, IsUncreated}
+use Rattle.ctf_open.specs.Quotas.{IsUnserved}
 use Rattle.ctf_library.specs.Stepping.{Makes}
 use Rattle.ctf_model.specs.rules.Refusals.{want_of_memory}
-use Rattle.ctf_protocol.specs.answers.HeldAnswers.{pending_in}
+use Rattle.ctf_model.specs.opened.Open.{pending_in}
 use Rattle.ctf_protocol.specs.sessions.Publications.{published_as}
 use Rattle.ctf_protocol.specs.sessions.State.{Slot, State}
 use Rattle.ctf_protocol.specs.sessions.Steps.{Outcome, adds_created, adds_publication, adds_slot, creates, grants, has_room, imports, imports_unless, publishes, publishes_kept, takes, longest_list, outcome_of, parts, publishes_within, quota, refuses, slot_at, slots_with_parent, staged, takes_found, with_staged, within_quota}
 use Rattle.ctf_protocol.specs.declared.requests.ListName.{ListName}
-
--- so much more has room
-pub room_le : (n : ℕ) → not (nat_lt quota n) ≡ true → n ≤ quota
-room_le n e = at (nat_lt quota n) refl e
-  where
-    at : (b : Bool) → nat_lt quota n ≡ b → not b ≡ true → n ≤ quota
-    at true t h = absurd cc
-    at false t h = ltb-false quota n t
-
--- or has none
-pub room_lt : (n : ℕ) → not (nat_lt quota n) ≡ false → quota < n
-room_lt n e = at (nat_lt quota n) refl e
-  where
-    at : (b : Bool) → nat_lt quota n ≡ b → not b ≡ false → quota < n
-    at true t h = ltb-true quota n t
-    at false t h = absurd cc
 
 -- ---- part
 

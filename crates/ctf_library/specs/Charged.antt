@@ -4,7 +4,8 @@ use Rattle.ctf_model.specs.format.Lists.{Lists}
 use Rattle.ctf_library.specs.SlotView.{publication_of, slot_of}
 use Rattle.ctf_library.specs.declared.publications.Publication.{Publication}
 use Rattle.ctf_library.specs.declared.slots.Slot.{Slot}
-use Rattle.ctf_protocol.specs.sessions.Charges.{lists_bytes, publication_bytes, slot_bytes}
+use Rattle.ctf_protocol.specs.sessions.Charges.{publication_bytes, slot_bytes}
+use Rattle.ctf_model.specs.opened.Sizes.{lists_bytes}
 
 abbrev pub bytes_in : List Slot → ℕ
 bytes_in slots = sum_by slot_bytes (map slot_of slots)

@@ -1,39 +1,16 @@
 -- Drafts in slots. The words are ours.
-use Rattle.std.specs.Prelude.{◌≡◌, ◌⊎◌, ◌+◌, ◌-◌, sum_by, ℕ, List, Option, None, Some, Result, Ok, Err, option_map}
-use Rattle.std.specs.Option.{ForSome}
+use Rattle.std.specs.Prelude.{◌≡◌, ◌⊎◌, ◌+◌, ◌-◌, sum_by, ℕ, List, Option, None, Some, Result, Err}
 use Rattle.ctf_answers.specs.Replies.{changed}
 use Rattle.ctf_answers.specs.declared.counts.Counts.{Counts}
 use Rattle.ctf_library.specs.Quotas.{step_beside}
 use Rattle.ctf_protocol.specs.sessions.Charges.{slot_bytes}
-use Rattle.ctf_protocol.specs.sessions.Additions.{Enlarged}
-use Rattle.ctf_protocol.specs.sessions.DraftSteps.{SlotOutcome, slot_step, slots_with}
-use Rattle.ctf_model.specs.drafts.Drafts.{Draft, held}
-use Rattle.ctf_model.specs.spaces.Kept.{Kept, kept_dictionary}
+use Rattle.ctf_protocol.specs.sessions.DraftSteps.{SlotOutcome, slots_with}
 use Rattle.ctf_model.specs.rules.Refusals.{placeless, want_of_memory}
 use Rattle.ctf_protocol.specs.sessions.State.{Slot}
 use Rattle.ctf_protocol.specs.sessions.Steps.{slot_at}
-use Rattle.ctf_model.specs.writing.Written.{lists_of, written}
 use Rattle.ctf_model.specs.declared.faults.Fault.{Fault}
 use Rattle.ctf_model.specs.declared.faults.TheConstants.Fault.{NO_SLOT}
 use Rattle.ctf_protocol.specs.declared.requests.DraftStep.{DraftStep}
-
--- its parent is kept so, if it has one, for the same data model
-pub record IsUnder (d : Draft) (above : Option Kept) : Type 0 where
-  pub parent : d.parent ≡ option_map kept_dictionary above
-  pub model : ForSome above (λ p. p.model ≡ d.model)
-
--- this is what is kept of all that it holds once that is written
-pub record IsWritten (d : Draft) (kept : Kept) : Type 0 where
-  pub bytes : written (held d) ≡ Ok kept.lists.ctf
-  pub alone : kept ≡ record { lists = lists_of kept.lists.ctf; model = d.model }
-
--- an addition was made, or it or memory for it was refused and the draft is as it was
-abbrev pub IsEnlarged : Result Enlarged Fault → Result Counts Fault → Draft → Draft → Type 0
-IsEnlarged (Ok added) result old new =
-    ((changed result ≡ Ok added.answer) × (new ≡ added.draft))
-    ⊎ ((result ≡ Err want_of_memory) × (new ≡ old))
-IsEnlarged (Err fault) result old new =
-    ((result ≡ Err fault) ⊎ (result ≡ Err want_of_memory)) × (new ≡ old)
 
 -- the step of a slot was made, or memory for it was refused and the slot is as it was
 abbrev pub IsStepped : SlotOutcome → Result Counts Fault → Slot → Slot → Type 0

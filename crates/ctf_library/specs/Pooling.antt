@@ -1,7 +1,7 @@
 -- Dictionaries that were opened lately. Source: ours.
 use Rattle.std.specs.Prelude.{◌≡◌, ◌⊎◌, ℕ, ◌+◌, ◌&&◌, Bool, true, false, List, [], ◌∷◌, ◌++◌, length, nat_le, nat_lt, sum_by, if◌then◌else◌}
 use Rattle.ctf_model.specs.spaces.Kept.{Kept}
-use Rattle.ctf_protocol.specs.sessions.Charges.{kept_bytes}
+use Rattle.ctf_model.specs.opened.Sizes.{kept_bytes}
 
 -- how many are held at most, and how many bytes of them
 abbrev pub most_held : ℕ

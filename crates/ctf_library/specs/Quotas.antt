@@ -24,18 +24,7 @@ pub record IsStaged (list : ListName) (piece : List ℕ) (old new : Lists) (len 
   pub lists : new ≡ with_staged list (staged list old ++ piece) old
   pub long : len ≡ length (staged list old ++ piece)
 
--- an import has a fault, or its parent has no room
-abbrev pub IsUnserved : Bool → Option Fault → Fault → Type 0
-IsUnserved fits fault f =
-    (fault ≡ Some f) ⊎ ((f ≡ placeless QUOTA_FULL) × (fault ≡ None) × (fits ≡ false))
-
 -- ---- drafts
-
--- bytes are not written, or have no room over a parent, beside what all else comes to
-abbrev pub IsUnwritten : Result (List ℕ) Fault → ℕ → ℕ → Fault → Type 0
-IsUnwritten (Ok bytes) parent others f =
-    (f ≡ placeless QUOTA_FULL) × (quota < others + (length bytes + parent))
-IsUnwritten (Err fault) parent others f = f ≡ fault
 
 -- a slot is not made, or has no room
 abbrev pub IsUncreated : Result Slot Fault → ℕ → Fault → Type 0

@@ -1,18 +1,25 @@
 //! What requests add to drafts.
-ghost use Rattle.std.specs.Prelude.{◌≡◌, IfOk, codes, map};
-ghost use Rattle.ctf_draft.specs.NewView.{new_body_of, new_of};
-ghost use Rattle.ctf_library.specs.Drafting.{IsEnlarged};
-ghost use Rattle.ctf_protocol.specs.sessions.Additions.{array_of, body_of, enlarged, numbered, scalar_of, silent, tag_declared};
-ghost use Rattle.ctf_model.specs.drafts.Adders.{add_enumerator as add_enumerator_to, add_label as add_label_to, add_member as add_member_to, add_type as add_type_to};
-ghost use Rattle.ctf_draft.specs.NewView.{new_scalar};
+ghost use Rattle.std.specs.Prelude.{◌≡◌, [], ◌∷◌, IfOk, codes, map};
+ghost use Rattle.ctf_draft.specs.NewView.{new_body_of, new_scalar};
+ghost use Rattle.ctf_library.specs.Drafting.{IsStepped};
+ghost use Rattle.ctf_protocol.specs.sessions.Opened.{slot_stepped};
+ghost use Rattle.ctf_library.specs.SlotView.{slot_of};
+ghost use Rattle.ctf_protocol.specs.sessions.Opened.{open_of};
 ghost use Rattle.ctf_model.specs.drafts.NewTypes as new;
+ghost use Rattle.ctf_model.specs.opened.Steps.{enumerator_added, label_added, member_added, type_added};
+ghost use Rattle.ctf_protocol.specs.answers.Answers.{number, says};
+ghost use Rattle.ctf_protocol.specs.sessions.Additions.{array_of, body_of, scalar_of, tag_declared};
+ghost use Rattle.ctf_protocol.specs.sessions.Charges.{slot_bytes};
+ghost use Rattle.ctf_protocol.specs.sessions.DraftSteps.{step_if_draft};
+ghost use Rattle.ctf_protocol.specs.declared.requests.DraftStep.TheVariants.{Add};
 ghost use Rattle.ctf_records.specs.RecordView.{tag_of};
 
+use crate::slots::Slot;
 use ctf_answers::Counts;
-use ctf_draft::{AggregateKind, Draft, NewBody, NewType, ReferenceKind, ScalarKind};
+use ctf_draft::{AggregateKind, NewBody, ReferenceKind, ScalarKind};
+use ctf_open::Part;
 use ctf_protocol::{
-    Addition, Bytes, Declared, Fault, NewArray, NewKind, NewScalar, Piece, TypeNum, TypeNums,
-    placeless,
+    Addition, Declared, Fault, NewArray, NewKind, NewScalar, Piece, TypeNum, TypeNums, placeless,
 };
 use ctf_records::Tag;
 use ctf_views::{ArrayInfo, Encoding};
@@ -81,115 +88,108 @@ fn body(alloc: Global, kind: &NewKind) -> Result<NewBody, AllocError>
     Ok(body)
 }
 
-/// A new type, as a draft takes it.
-fn new_type(alloc: Global, name: &Piece, root: bool, kind: &NewKind) -> Result<NewType, AllocError>
-    ensures { IfOk result (λ x. new_of x
-        ≡ record { name = name.now; root = root; body = body_of kind.now }) }
-{
-    Ok(NewType {
-        name: Bytes::from_slice(alloc, name.as_slice())?,
-        root,
-        body: body(alloc, kind)?,
-    })
-}
-
-fn add_type(
-    alloc: Global,
-    draft: &mut Draft,
-    name: &Piece,
-    root: bool,
-    kind: &NewKind,
-) -> Result<Counts, Fault>
-    ensures step { IsEnlarged (numbered (codes "t") (add_type_to draft.old.draft
-        (record { name = name.now; root = root; body = body_of kind.now }))) result
-        draft.old.draft draft.new.draft }
-    ensures dictionary { draft.new.dictionary ≡ draft.old.dictionary }
-{
-    let Ok(new) = new_type(alloc, name, root, kind) else {
-        return Err(placeless(Fault::MEMORY));
-    };
-    match draft.add(new) {
-        Ok(t) => Ok(Counts::one("t", u64::from(t.0))),
-        Err(fault) => Err(fault),
+impl Slot {
+    fn add_type(
+        &mut self,
+        alloc: Global,
+        name: &Piece,
+        root: bool,
+        kind: &NewKind,
+    ) -> Result<Counts, Fault>
+        ensures step { IsStepped (slot_stepped (λ n. says (codes "t") (number n) ∷ [])
+            (slot_of self.old) (type_added (record {
+              name = name.now;
+              root = root;
+              body = body_of kind.now;
+            }) (open_of (slot_of self.old)))) result (slot_of self.old) (slot_of self.new) }
+        ensures number { self.new.number ≡ self.old.number }
+        ensures same { slot_bytes (slot_of self.new) ≡ slot_bytes (slot_of self.old) }
+    {
+        let Ok(body) = body(alloc, kind) else {
+            return Err(placeless(Fault::MEMORY));
+        };
+        match self.dictionary.add(alloc, name.as_slice(), root, body) {
+            Ok(t) => Ok(Counts::one("t", u64::from(t.0))),
+            Err(fault) => Err(fault),
+        }
     }
-}
 
-fn add_member(
-    alloc: Global,
-    draft: &mut Draft,
-    t: TypeNum,
-    name: &Piece,
-    tnum: TypeNum,
-    offset: Option<u64>,
-) -> Result<Counts, Fault>
-    ensures step { IsEnlarged (numbered (codes "offset") (add_member_to draft.old.draft
-        t.0 name.now tnum.0 offset)) result draft.old.draft draft.new.draft }
-    ensures dictionary { draft.new.dictionary ≡ draft.old.dictionary }
-{
-    let Ok(name) = Bytes::from_slice(alloc, name.as_slice()) else {
-        return Err(placeless(Fault::MEMORY));
-    };
-    match draft.member(t, name, tnum, offset) {
-        Ok(offset) => Ok(Counts::one("offset", offset)),
-        Err(fault) => Err(fault),
+    fn add_member(
+        &mut self,
+        alloc: Global,
+        t: TypeNum,
+        name: &Piece,
+        tnum: TypeNum,
+        offset: Option<u64>,
+    ) -> Result<Counts, Fault>
+        ensures step { IsStepped (slot_stepped (λ n. says (codes "offset") (number n) ∷ [])
+            (slot_of self.old) (member_added t.0 name.now tnum.0 offset
+            (open_of (slot_of self.old)))) result (slot_of self.old) (slot_of self.new) }
+        ensures number { self.new.number ≡ self.old.number }
+        ensures same { slot_bytes (slot_of self.new) ≡ slot_bytes (slot_of self.old) }
+    {
+        let part = Part::Member(t, name.as_slice(), tnum, offset);
+        match self.dictionary.add_part(alloc, part) {
+            Ok(offset) => Ok(Counts::one("offset", offset)),
+            Err(fault) => Err(fault),
+        }
     }
-}
 
-fn add_enumerator(
-    alloc: Global,
-    draft: &mut Draft,
-    t: TypeNum,
-    name: &Piece,
-    value: i32,
-) -> Result<Counts, Fault>
-    ensures step { IsEnlarged (silent (add_enumerator_to draft.old.draft
-        t.0 (record { name = name.now; value = value }))) result
-        draft.old.draft draft.new.draft }
-    ensures dictionary { draft.new.dictionary ≡ draft.old.dictionary }
-{
-    let Ok(name) = Bytes::from_slice(alloc, name.as_slice()) else {
-        return Err(placeless(Fault::MEMORY));
-    };
-    match draft.enumerator(t, name, value) {
-        Ok(()) => Ok(Counts::done()),
-        Err(fault) => Err(fault),
+    fn add_enumerator(
+        &mut self,
+        alloc: Global,
+        t: TypeNum,
+        name: &Piece,
+        value: i32,
+    ) -> Result<Counts, Fault>
+        ensures step { IsStepped (slot_stepped (λ n. []) (slot_of self.old)
+            (enumerator_added t.0 (record { name = name.now; value = value })
+            (open_of (slot_of self.old)))) result (slot_of self.old) (slot_of self.new) }
+        ensures number { self.new.number ≡ self.old.number }
+        ensures same { slot_bytes (slot_of self.new) ≡ slot_bytes (slot_of self.old) }
+    {
+        let part = Part::Enumerator(t, name.as_slice(), value);
+        match self.dictionary.add_part(alloc, part) {
+            Ok(_) => Ok(Counts::done()),
+            Err(fault) => Err(fault),
+        }
     }
-}
 
-fn add_label(alloc: Global, draft: &mut Draft, name: &Piece, last: u32) -> Result<Counts, Fault>
-    ensures step { IsEnlarged (silent (add_label_to draft.old.draft
-        (record { name = name.now; last = last }))) result draft.old.draft draft.new.draft }
-    ensures dictionary { draft.new.dictionary ≡ draft.old.dictionary }
-{
-    let Ok(name) = Bytes::from_slice(alloc, name.as_slice()) else {
-        return Err(placeless(Fault::MEMORY));
-    };
-    match draft.label(name, last) {
-        Ok(()) => Ok(Counts::done()),
-        Err(fault) => Err(fault),
+    fn add_label(&mut self, alloc: Global, name: &Piece, last: u32) -> Result<Counts, Fault>
+        ensures step { IsStepped (slot_stepped (λ n. []) (slot_of self.old)
+            (label_added (record { name = name.now; last = last })
+            (open_of (slot_of self.old)))) result (slot_of self.old) (slot_of self.new) }
+        ensures number { self.new.number ≡ self.old.number }
+        ensures same { slot_bytes (slot_of self.new) ≡ slot_bytes (slot_of self.old) }
+    {
+        let part = Part::Label(name.as_slice(), last);
+        match self.dictionary.add_part(alloc, part) {
+            Ok(_) => Ok(Counts::done()),
+            Err(fault) => Err(fault),
+        }
     }
-}
 
-/// Adds to a draft; the number of a type or the offset of a member is answered.
-#[tactic(auto, unfolding(ctf_protocol::specs::sessions::Additions::enlarged))]
-pub(crate) fn enlarge(
-    alloc: Global,
-    draft: &mut Draft,
-    addition: &Addition,
-) -> Result<Counts, Fault>
-    ensures step { IsEnlarged (enlarged draft.old.draft addition.now) result
-        draft.old.draft draft.new.draft }
-    ensures dictionary { draft.new.dictionary ≡ draft.old.dictionary }
-{
-    match addition {
-        Addition::Type { name, root, kind } => add_type(alloc, draft, name, *root, kind),
-        Addition::Member {
-            t,
-            name,
-            tnum,
-            offset,
-        } => add_member(alloc, draft, *t, name, *tnum, *offset),
-        Addition::Enumerator { t, name, value } => add_enumerator(alloc, draft, *t, name, *value),
-        Addition::Label { name, last } => add_label(alloc, draft, name, *last),
+    /// Adds to its draft; the number of a type or the offset of a member is answered.
+    #[tactic(auto, using(crate::proofs::DraftSteps::enumerator_as))]
+    pub(crate) fn add(&mut self, alloc: Global, addition: &Addition) -> Result<Counts, Fault>
+        ensures step { IsStepped
+            (step_if_draft (Add addition.now) (slot_of self.old) (slot_of self.old).draft) result
+            (slot_of self.old) (slot_of self.new) }
+        ensures number { self.new.number ≡ self.old.number }
+        ensures same { slot_bytes (slot_of self.new) ≡ slot_bytes (slot_of self.old) }
+    {
+        match addition {
+            Addition::Type { name, root, kind } => self.add_type(alloc, name, *root, kind),
+            Addition::Member {
+                t,
+                name,
+                tnum,
+                offset,
+            } => self.add_member(alloc, *t, name, *tnum, *offset),
+            Addition::Enumerator { t, name, value } => {
+                self.add_enumerator(alloc, *t, name, *value)
+            }
+            Addition::Label { name, last } => self.add_label(alloc, name, *last),
+        }
     }
 }

@@ -2,40 +2,45 @@
 ghost use Rattle.std.specs.Prelude.{◌≡◌, ◌≤◌, [], ◌∷◌, codes, length, map, take, true, false, None, Some, Ok, Err, IfOk, IfSome, IfNone, IsNone, option_map, option_and_then};
 ghost use Rattle.ctf_protocol.specs.answers.Answers.{number, says, word};
 ghost use Rattle.ctf_model.specs.names.KindNames.{name_of_kind, name_of_tag};
-ghost use Rattle.ctf_protocol.specs.answers.Questions.{or_wrong_kind, list_fields, said_of, type_said, record_fields, member_fields, enumerator_fields, argument_fields, array_fields, encoding_fields, as_fields, type_fields, name_fields, position_fields, value_fields, number_item};
-ghost use Rattle.ctf_model.specs.format.Shown.{kind_of, members_in, enumerators_in, arguments_in, array_in, encoding_in, list_length, named_arguments};
-ghost use Rattle.ctf_protocol.specs.sessions.Steps.{is_quiet, is_quiet_on, slot_said, slot_space, MayAnswer};
+ghost use Rattle.ctf_protocol.specs.answers.Questions.{list_fields, said_of, type_said, record_fields, member_fields, enumerator_fields, argument_fields, signature_fields, array_fields, encoding_fields, as_fields, type_fields, name_fields, position_fields, value_fields, number_item};
+ghost use Rattle.ctf_model.specs.format.Shown.{kind_of, members_in, enumerators_in, list_length, named_arguments};
+ghost use Rattle.ctf_protocol.specs.sessions.Steps.{is_quiet, is_quiet_on, slot_said, MayAnswer};
 ghost use Rattle.ctf_model.specs.names.TypeNames.{spelled_name};
 ghost use Rattle.ctf_model.specs.values.Values.{value_text};
 ghost use Rattle.ctf_layout.specs.Fitting.{Fits};
 ghost use Rattle.ctf_library.specs.Telling.{IsTold, makes_text, makes_text_on};
 ghost use Rattle.std.specs.Result.{result_map_both};
-ghost use Rattle.ctf_library.specs.Fitting.{AreTablesOf, Serve};
+ghost use Rattle.ctf_open.specs.Fitting.{Serve};
 ghost use Rattle.ctf_layout.specs.Reached.{position_of};
 ghost use Rattle.ctf_answers.specs.Items.{items_of};
 ghost use Rattle.ctf_answers.specs.Singles.{single_of};
-ghost use Rattle.ctf_check.specs.FactsView.{facts_seen, shape_seen};
+ghost use Rattle.ctf_check.specs.FactsView.{facts_seen};
+ghost use Rattle.ctf_entries.specs.FunctionView.{signature};
+ghost use Rattle.ctf_model.specs.symbols.SymbolQuestions.{or_refused};
+ghost use Rattle.ctf_model.specs.declared.faults.TheConstants.Fault.{WRONG_KIND};
+ghost use Rattle.ctf_views.specs.PartsView.{array_info, encoding_info};
 ghost use Rattle.ctf_check.specs.TypedView.{spelled};
 ghost use Rattle.ctf_records.specs.RecordView.{tag_of};
 ghost use Rattle.ctf_views.specs.VariantView.{seen};
-ghost use Rattle.ctf_space.specs.SpaceView.{own_lists, parent_lists, space_of};
+ghost use Rattle.ctf_space.specs.SpaceView.{space_of};
 ghost use Rattle.ctf_protocol.specs.declared.questions.PlainQuestion.TheVariants as plain;
 ghost use Rattle.ctf_protocol.specs.declared.questions.TypeQuestion.TheVariants as about;
 ghost use Rattle.ctf_model.specs.spaces.TypeNumbers.{or_no_type};
 
 use crate::slots::Slot;
-use crate::tables::Tables;
 use crate::whole::whole_answer;
 use ctf_answers::{Answer, Items, Listed, RecordTold, Single, kind_name};
-use ctf_check::{Facts, Shape, Typed};
+use ctf_check::{Facts, Typed};
+use ctf_entries::Signature;
 use ctf_layout::{Layout, path, referred, resolve};
 use ctf_names::{pointer_to, spell};
+use ctf_open::{Tables, array_of, encoding_of, signature_of};
 use ctf_print::show;
 use ctf_protocol::{
     Bytes, Fault, Kind, PlainQuestion, Question, TypeNum, TypeQuestion, Window, placeless,
 };
 use ctf_space::Space;
-use ctf_views::{Args, Variant, is_variadic};
+use ctf_views::{Args, ArrayInfo, Encoding, Variant, is_variadic};
 use std::alloc::Global;
 
 /// What a list answers that a type may have.
@@ -48,7 +53,7 @@ pub(crate) fn listed<'a>(key: &'static str, items: Items<'a>, window: Window) ->
 
 fn members<'a>(behind: Variant<'a>, window: Window) -> Result<Answer<'a>, Fault>
     ensures { result
-        ≡ or_wrong_kind (option_map (member_fields window) (members_in (seen behind.entry))) }
+        ≡ as_fields (member_fields window) (or_refused WRONG_KIND (members_in (seen behind.entry))) }
 {
     match behind {
         Variant::Members(members) => Ok(listed("members", Items::Members(members), window)),
@@ -57,9 +62,8 @@ fn members<'a>(behind: Variant<'a>, window: Window) -> Result<Answer<'a>, Fault>
 }
 
 fn enumerators<'a>(behind: Variant<'a>, window: Window) -> Result<Answer<'a>, Fault>
-    ensures { result
-        ≡ or_wrong_kind (option_map (enumerator_fields window)
-        (enumerators_in (seen behind.entry))) }
+    ensures { result ≡ as_fields (enumerator_fields window)
+        (or_refused WRONG_KIND (enumerators_in (seen behind.entry))) }
 {
     match behind {
         Variant::Enumerators(enumerators) => {
@@ -96,14 +100,13 @@ pub(crate) fn signed<'a>(args: Args<'a>, ret: TypeNum) -> Answer<'a>
     )
 }
 
-fn arguments<'a>(x: Shape<'a>) -> Result<Answer<'a>, Fault>
-    ensures { let said = shape_seen x.entry in let args = arguments_in said.behind in
-        result ≡ or_wrong_kind
-        (option_and_then (λ ret. option_map (argument_fields ret) args) said.reference) }
+/// What a function is answered as.
+pub(crate) fn signature_answer<'a>(found: Result<Signature<'a>, Fault>) -> Result<Answer<'a>, Fault>
+    ensures { result ≡ as_fields signature_fields (result_map_both signature (λ f. f) found.entry) }
 {
-    match (x.behind, x.reference) {
-        (Variant::Args(args), Some(ret)) => Ok(signed(args, ret)),
-        _ => Err(placeless(Fault::WRONG_KIND)),
+    match found {
+        Ok(signature) => Ok(signed(signature.args, signature.ret)),
+        Err(fault) => Err(fault),
     }
 }
 
@@ -153,11 +156,11 @@ fn list_len(behind: &Variant<'_>) -> usize
     }
 }
 
-fn array<'a>(behind: Variant<'a>) -> Result<Answer<'a>, Fault>
-    ensures { result ≡ or_wrong_kind (option_map array_fields (array_in (seen behind.entry))) }
+fn array_answer<'a>(found: Result<ArrayInfo, Fault>) -> Result<Answer<'a>, Fault>
+    ensures { result ≡ as_fields array_fields (result_map_both array_info (λ f. f) found) }
 {
-    match behind {
-        Variant::Array(info) => Ok(Answer::three(
+    match found {
+        Ok(info) => Ok(Answer::three(
             "contents",
             Single::Number(u64::from(info.contents.0)),
             "count",
@@ -165,16 +168,15 @@ fn array<'a>(behind: Variant<'a>) -> Result<Answer<'a>, Fault>
             "index",
             Single::Number(u64::from(info.index.0)),
         )),
-        _ => Err(placeless(Fault::WRONG_KIND)),
+        Err(fault) => Err(fault),
     }
 }
 
-fn encoding<'a>(behind: Variant<'a>) -> Result<Answer<'a>, Fault>
-    ensures { result
-        ≡ or_wrong_kind (option_map encoding_fields (encoding_in (seen behind.entry))) }
+fn encoding_answer<'a>(found: Result<Encoding, Fault>) -> Result<Answer<'a>, Fault>
+    ensures { result ≡ as_fields encoding_fields (result_map_both encoding_info (λ f. f) found) }
 {
-    match behind {
-        Variant::Encoding(info) => Ok(Answer::three(
+    match found {
+        Ok(info) => Ok(Answer::three(
             "bits",
             Single::Number(u64::from(info.bits)),
             "encoding",
@@ -182,7 +184,7 @@ fn encoding<'a>(behind: Variant<'a>) -> Result<Answer<'a>, Fault>
             "offset",
             Single::Number(u64::from(info.offset)),
         )),
-        _ => Err(placeless(Fault::WRONG_KIND)),
+        Err(fault) => Err(fault),
     }
 }
 
@@ -265,9 +267,9 @@ fn plain_answer<'a>(
     match question {
         PlainQuestion::Kind => Some(Ok(kind_answer(kind))),
         PlainQuestion::Record => Some(Ok(record_of(x.facts()))),
-        PlainQuestion::Args => Some(arguments(x.shape())),
-        PlainQuestion::Array => Some(array(x.variant())),
-        PlainQuestion::Encoding => Some(encoding(x.variant())),
+        PlainQuestion::Args => Some(signature_answer(signature_of(x.shape()))),
+        PlainQuestion::Array => Some(array_answer(array_of(x.shape()))),
+        PlainQuestion::Encoding => Some(encoding_answer(encoding_of(x.shape()))),
         PlainQuestion::Reference => Some(type_answer(referred(x.shape()))),
         PlainQuestion::Resolve => Some(type_answer(resolve(space, t))),
         PlainQuestion::Size => Some(number_answer("size", tables.layout.size(t))),
@@ -335,32 +337,6 @@ fn answer_on<'a>(
 impl Slot {
     ghost use Rattle.ctf_library.specs.SlotView.{slot_of};
 
-    /// What its questions see.
-    fn space(&self) -> Space<'_>
-        ensures space { space_of result ≡ slot_space (slot_of self.now) }
-        ensures lists { own_lists result ≡ self.now.own.lists }
-        ensures parent { parent_lists result
-            ≡ option_map (λ p. p.lists) (option_map (λ i. i.parent) self.now.imported) }
-    {
-        let own = self.own.view();
-        let model = self.own.model();
-        match &self.imported {
-            Some(imported) => Space::again(own, imported.parent.view(), model),
-            None => Space::own(own, model),
-        }
-    }
-
-    /// The tables of what its questions see.
-    fn tables(&self) -> &Tables
-        ensures { AreTablesOf self.now.own
-            (option_map (λ i. i.parent) self.now.imported) result.now }
-    {
-        match &self.imported {
-            Some(imported) => &imported.tables,
-            None => self.own.tables(),
-        }
-    }
-
     /// What a question is answered.
     pub(crate) fn answer<'a>(
         &'a self,
@@ -373,13 +349,18 @@ impl Slot {
         ensures lent { makes_text question.now ≡ false
             → result ≡ slot_said question.now (slot_of self.now) }
     {
-        let space = self.space();
+        let space = self.dictionary.space();
         match question {
             Question::OfType { t, question } => {
-                answer_on(alloc, &space, self.tables(), *t, question)
+                answer_on(alloc, &space, self.dictionary.tables(), *t, question)
             }
             Question::OfSlot(question) => {
-                whole_answer(&space, self.tables(), self.own.symbols(), question)
+                whole_answer(
+                    &space,
+                    self.dictionary.tables(),
+                    self.dictionary.symbols(),
+                    question,
+                )
             }
             Question::OfHeld(question) => Ok(self.held(*question)),
         }

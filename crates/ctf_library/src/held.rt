@@ -1,13 +1,12 @@
 //! What questions on what a slot holds are answered.
-ghost use Rattle.std.specs.Prelude.{◌≡◌, is_some, take, drop, option_map};
-ghost use Rattle.ctf_check.specs.CheckedView.{dictionary_of, lists_of};
+ghost use Rattle.std.specs.Prelude.{◌≡◌, take, drop};
+ghost use Rattle.ctf_check.specs.CheckedView.{dictionary_of};
 ghost use Rattle.ctf_library.specs.SlotView.{slot_of};
-ghost use Rattle.ctf_protocol.specs.answers.HeldAnswers.{bytes_fields, held_said, info_fields, pending_in};
+ghost use Rattle.ctf_protocol.specs.answers.HeldAnswers.{bytes_fields, held_said, info_fields};
 
 use crate::slots::Slot;
 use ctf_answers::{Answer, InfoTold, Single, model_name};
 use ctf_check::Checked;
-use ctf_draft::Draft;
 use ctf_protocol::HeldQuestion;
 
 /// What a dictionary is as a whole, and how much its draft has pending.
@@ -46,31 +45,23 @@ fn bytes<'a>(ctf: &'a [u8], from: u32, count: u32) -> Answer<'a>
     )
 }
 
-/// How many types and labels a draft has pending, if there is a draft.
-pub(crate) fn pending(draft: &Option<Draft>) -> usize
-    ensures { result ≡ pending_in (option_map (λ d. d.draft) draft.now) }
-{
-    match draft {
-        Some(draft) => draft.pending(),
-        None => 0,
-    }
-}
-
 impl Slot {
     /// What a question on what it holds is answered, without memory.
     pub(crate) fn held<'a>(&'a self, question: HeldQuestion) -> Answer<'a>
         ensures { result ≡ held_said question (slot_of self.now) }
     {
-        let own = self.own.view();
+        let own = self.dictionary.dictionary();
         match question {
-            HeldQuestion::Info => {
-                let imported = self.imported.is_some();
-                info(&own, self.draft.is_some(), imported, pending(&self.draft))
-            }
+            HeldQuestion::Info => info(
+                &own,
+                self.dictionary.is_drafted(),
+                self.dictionary.is_imported(),
+                self.dictionary.pending(),
+            ),
             HeldQuestion::Model => {
-                Answer::one("model", Single::Word(model_name(self.own.model())))
+                Answer::one("model", Single::Word(model_name(self.dictionary.model())))
             }
-            HeldQuestion::Bytes { from, count } => bytes(own.lists().ctf, from, count),
+            HeldQuestion::Bytes { from, count } => bytes(self.dictionary.ctf(), from, count),
         }
     }
 }

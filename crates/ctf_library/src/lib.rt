@@ -7,16 +7,13 @@ mod charges;
 mod drafting;
 mod held;
 mod library;
-mod loaded;
 mod places;
 mod pool;
 mod publications;
 mod slots;
 mod staging;
-mod tables;
 mod whole;
 
+pub use ctf_open::{Loaded, MODEL_UNSAID};
 pub use library::Library;
-pub use loaded::{Loaded, MODEL_UNSAID};
 pub use pool::Pool;
-pub use tables::{Tables, tables_over};

@@ -11,16 +11,14 @@ ghost use Rattle.ctf_protocol.specs.sessions.Steps.{adds_created, answer_to, cha
 ghost use Rattle.ctf_library.specs.Stepping.{Does, Makes};
 ghost use Rattle.ctf_library.specs.Telling.{makes_text};
 
-use crate::charges::{fits, owned_bytes, published_bytes};
-use crate::held::pending;
-use crate::loaded::Loaded;
+use crate::charges::{fits, published_bytes};
 use crate::places::{find_slot, push_slot, remove_slot, set_parent, step_draft};
 use crate::pool::Pool;
 use crate::publications::{Publication, find_published, remove_published};
-use crate::slots::{Imported, Slot};
+use crate::slots::Slot;
 use crate::staging::{judge, stage_piece};
-use crate::tables::tables_over;
 use ctf_answers::{Answer, Counts};
+use ctf_open::{Imported, Loaded, owned_bytes, tables_over};
 use ctf_protocol::{
     Change, Creation, DataModel, DraftStep, Fault, ListName, Parts, PublicationName, Question,
     SlotNumber, no_parts, placeless,
@@ -218,17 +216,22 @@ impl Library {
         let Some(source) = find_slot(&self.slots, parent) else {
             return Err(placeless(Fault::NO_SLOT));
         };
-        if child.draft.is_some() {
+        if child.dictionary.is_drafted() {
             return Err(placeless(Fault::FIXED_PARENT));
         }
         let old = child.parent_bytes();
-        let new = source.own.bytes();
+        let new = source.dictionary.own().bytes();
         let has_room = fits(self.charge() - old, new);
-        let tables = match tables_over(self.alloc, &child.own, &source.own, has_room) {
+        let tables = match tables_over(
+            self.alloc,
+            child.dictionary.own(),
+            source.dictionary.own(),
+            has_room,
+        ) {
             Ok(tables) => tables,
             Err(fault) => return Err(fault),
         };
-        let Ok(parent) = source.own.share() else {
+        let Ok(parent) = source.dictionary.own().share() else {
             return Err(placeless(Fault::MEMORY));
         };
         set_parent(&mut self.slots, d, Imported { parent, tables });
@@ -242,16 +245,16 @@ impl Library {
         let Some(slot) = find_slot(&self.slots, d) else {
             return Err(placeless(Fault::NO_SLOT));
         };
-        if pending(&slot.draft) > 0 {
+        if slot.dictionary.pending() > 0 {
             return Err(placeless(Fault::NOT_UPDATED));
         }
         if self.published(name.as_slice()).is_some() {
             return Err(placeless(Fault::NAME_TAKEN));
         }
-        if !fits(self.charge(), slot.own.bytes()) {
+        if !fits(self.charge(), slot.dictionary.own().bytes()) {
             return Err(placeless(Fault::QUOTA_FULL));
         }
-        let Ok(loaded) = slot.own.share() else {
+        let Ok(loaded) = slot.dictionary.own().share() else {
             return Err(placeless(Fault::MEMORY));
         };
         self.publish_loaded(name, loaded)
@@ -332,7 +335,7 @@ impl Library {
             return Ok(None);
         };
         match find_slot(&self.slots, d.get()) {
-            Some(slot) => Ok(Some(&slot.own)),
+            Some(slot) => Ok(Some(slot.dictionary.own())),
             None => Err(placeless(Fault::NO_SLOT)),
         }
     }

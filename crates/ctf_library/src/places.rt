@@ -2,7 +2,8 @@
 ghost use Rattle.std.specs.Prelude.{◌≡◌, ◌≢◌, Err, ◌<◌, ◌+◌, ◌^◌, ◌++◌, ◌∷◌, [], ℕ, true, map, option_map, option_copied, IfNone, IfSome, None, Some, vec_len, vec_capacity};
 ghost use Rattle.ctf_library.specs.Charged.{bytes_in};
 ghost use Rattle.ctf_library.specs.Drafting.{HaveStepped};
-ghost use Rattle.ctf_protocol.specs.sessions.Charges.{kept_bytes, parent_bytes, slot_bytes};
+ghost use Rattle.ctf_protocol.specs.sessions.Charges.{slot_bytes};
+ghost use Rattle.ctf_model.specs.opened.Sizes.{kept_bytes, parent_bytes};
 ghost use Rattle.ctf_model.specs.rules.Refusals.{want_of_memory};
 ghost use Rattle.ctf_protocol.specs.declared.requests.DraftStep.TheVariants.{Discard};
 ghost use Rattle.ctf_model.specs.spaces.Kept.{fault_over};
@@ -10,11 +11,12 @@ ghost use Rattle.ctf_protocol.specs.sessions.Steps.{slot_at, slots_with_parent, 
 ghost use Rattle.std.specs.List.Sorted.{IsNonDecreasingBy};
 ghost use Rattle.ctf_library.specs.SlotOrder.{rise_between};
 ghost use Rattle.ctf_library.specs.SlotPlaces.{place_of};
-ghost use Rattle.ctf_library.specs.Fitting.{AreTablesOf};
+ghost use Rattle.ctf_open.specs.Fitting.{AreTablesOf};
 ghost use Rattle.ctf_library.specs.SlotView.{slot_of};
 
-use crate::slots::{Imported, Slot};
+use crate::slots::Slot;
 use ctf_answers::Counts;
+use ctf_open::Imported;
 use ctf_protocol::{DraftStep, Fault, placeless};
 use std::alloc::Global;
 
@@ -93,7 +95,7 @@ pub fn set_parent(slots: &mut Vec<Slot>, number: u32, imported: Imported)
 {
     if let Some(place) = find_place(slots, number) {
         let slot = &mut slots[place];
-        slot.imported = Some(imported);
+        slot.dictionary.adopt(imported);
     }
 }
 

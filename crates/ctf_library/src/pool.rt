@@ -2,13 +2,13 @@
 ghost use Rattle.std.specs.Prelude.{◌≡◌, ◌⊎◌, ◌≤◌, ◌<◌, ◌^◌, [], IfOk, IfErr, IfSome, OnOk, Some, None, sum_by, true};
 ghost use Rattle.ctf_check.specs.ListsView.{lists_in};
 ghost use Rattle.ctf_library.specs.Pooling.{Holds, have_room, most_bytes, with_room};
-ghost use Rattle.ctf_protocol.specs.sessions.Charges.{kept_bytes};
+ghost use Rattle.ctf_model.specs.opened.Sizes.{kept_bytes};
 ghost use Rattle.ctf_model.specs.rules.Faults.{first_fault};
 ghost use Rattle.ctf_model.specs.format.OwnedLists.{lists_owned};
 ghost use Rattle.ctf_model.specs.rules.Refusals.{want_of_memory};
 
-use crate::loaded::Loaded;
 use ctf_check::{LentLists, lent};
+use ctf_open::Loaded;
 use ctf_protocol::{DataModel, Fault, Parts, placeless};
 use std::alloc::Global;
 use std::marker::Model;
@@ -35,7 +35,7 @@ impl Model for Pool {
     ghost use Rattle.std.specs.Prelude.{◌≤◌, List, length, sum_by};
     ghost use Rattle.ctf_library.specs.Pooling.{most_bytes, most_held};
     ghost use Rattle.ctf_model.specs.spaces.Kept.{Kept};
-    ghost use Rattle.ctf_protocol.specs.sessions.Charges.{kept_bytes};
+    ghost use Rattle.ctf_model.specs.opened.Sizes.{kept_bytes};
 
     ghost Value = { List Kept };
 

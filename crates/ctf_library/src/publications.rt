@@ -3,7 +3,7 @@ ghost use Rattle.std.specs.Prelude.{◌≡◌, map, option_map};
 ghost use Rattle.ctf_library.specs.SlotView.{publication_of};
 ghost use Rattle.ctf_protocol.specs.sessions.Publications.{published_as, published_without};
 
-use crate::loaded::Loaded;
+use ctf_open::Loaded;
 use ctf_protocol::PublicationName;
 
 /// A dictionary under the name that it was published by.

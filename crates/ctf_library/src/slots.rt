@@ -1,33 +1,14 @@
-//! A slot of a session: a dictionary under its number.
-ghost use Rattle.std.specs.Prelude.{◌≡◌, None, Some, option_map};
-ghost use Rattle.std.specs.Option.{ForSome};
-ghost use Rattle.ctf_library.specs.Drafting.{IsUnder};
-ghost use Rattle.ctf_library.specs.Fitting.{AreTablesOf};
-ghost use Rattle.ctf_model.specs.spaces.Kept.{fault_over};
+//! A slot of a session: an open dictionary under its number.
+ghost use Rattle.std.specs.Prelude.{◌≡◌, None};
 
-use crate::loaded::Loaded;
-use crate::tables::Tables;
-use ctf_draft::Draft;
+use ctf_open::{Loaded, OpenDictionary};
 
-/// The parent that a slot imported, and the tables of the slot's dictionary over it.
-#[derive(Drop)]
-pub struct Imported {
-    pub(crate) parent: Loaded,
-    pub(crate) tables: Tables,
-}
-
-/// A dictionary under its number, and the parent that it imported, if it did. Both may be shared
-/// with other slots, of other sessions too. Where the slot has a draft, the dictionary is what the
-/// draft's last update made, and the parent is the draft's.
+/// An open dictionary under its number. Its parts may be shared with other slots, of other sessions
+/// too.
 #[derive(Drop)]
 pub struct Slot {
     pub(crate) number: u32,
-    pub(crate) own: Loaded,
-    pub(crate) imported: Option<Imported>,
-    pub(crate) draft: Option<Draft>,
-    ghost fits: { ForSome imported (λ i. fault_over own i.parent ≡ None) },
-    ghost made: { ForSome imported (λ i. AreTablesOf own (Some i.parent) i.tables) },
-    ghost drafted: { ForSome draft (λ d. IsUnder d.draft (option_map (λ i. i.parent) imported)) },
+    pub(crate) dictionary: OpenDictionary,
 }
 
 impl Slot {
@@ -40,9 +21,7 @@ impl Slot {
     {
         Slot {
             number,
-            own,
-            imported: None,
-            draft: None,
+            dictionary: OpenDictionary::of(own),
         }
     }
 }

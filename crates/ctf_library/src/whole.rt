@@ -1,23 +1,20 @@
 //! What questions on a slot as a whole are answered.
 ghost use Rattle.std.specs.Prelude.{◌≡◌, ℕ, List};
 ghost use Rattle.std.specs.Option.{option_map};
-ghost use Rattle.std.specs.Result.{result_map_both};
-ghost use Rattle.ctf_entries.specs.FunctionView.{signature};
-ghost use Rattle.ctf_library.specs.Fitting.{Serve};
+ghost use Rattle.ctf_open.specs.Fitting.{Serve};
 ghost use Rattle.ctf_model.specs.symbols.Entries.{owner_of};
 ghost use Rattle.ctf_protocol.specs.answers.Questions.{as_fields};
-ghost use Rattle.ctf_protocol.specs.answers.SlotAnswers.{last_fields, signature_fields, symbol_fields, whole_said};
+ghost use Rattle.ctf_protocol.specs.answers.SlotAnswers.{last_fields, symbol_fields, whole_said};
 ghost use Rattle.ctf_model.specs.symbols.SymbolQuestions.{or_refused};
 ghost use Rattle.ctf_model.specs.declared.faults.TheConstants.Fault.{NO_SYMBOL};
 ghost use Rattle.ctf_space.specs.SpaceView.{own_lists, space_of};
 ghost use Rattle.ctf_symbols.specs.Fitting.{Fits};
 ghost use Rattle.ctf_symbols.specs.NamedView.{owner_named};
 
-use crate::answering::{listed, signed, type_answer};
-use crate::tables::Tables;
+use crate::answering::{listed, signature_answer, type_answer};
 use ctf_answers::{Answer, Items, Single, class_name};
-use ctf_entries::Signature;
 use ctf_names::find;
+use ctf_open::Tables;
 use ctf_protocol::{Fault, SlotQuestion, placeless};
 use ctf_space::Space;
 use ctf_symbols::{NamedSymbol, SymbolMap};
@@ -34,15 +31,6 @@ fn symbol_answer<'a>(found: Option<NamedSymbol>) -> Result<Answer<'a>, Fault>
             Single::Number(u64::from(symbol.number)),
         )),
         None => Err(placeless(Fault::NO_SYMBOL)),
-    }
-}
-
-fn function_answer<'a>(found: Result<Signature<'a>, Fault>) -> Result<Answer<'a>, Fault>
-    ensures { result ≡ as_fields signature_fields (result_map_both signature (λ f. f) found.entry) }
-{
-    match found {
-        Ok(signature) => Ok(signed(signature.args, signature.ret)),
-        Err(fault) => Err(fault),
     }
 }
 
@@ -71,7 +59,7 @@ pub(crate) fn whole_answer<'a>(
         SlotQuestion::Find(text) => type_answer(find(space, &tables.index, text.as_slice())),
         SlotQuestion::Symbol(name) => symbol_answer(symbols.named(&own, name.as_slice())),
         SlotQuestion::Object(number) => type_answer(symbols.object(&own, *number)),
-        SlotQuestion::Function(number) => function_answer(symbols.function(&own, *number)),
+        SlotQuestion::Function(number) => signature_answer(symbols.function(&own, *number)),
         SlotQuestion::Labels(window) => Ok(listed("labels", Items::Labels(own.labels()), *window)),
         SlotQuestion::Label(name) => last_answer(symbols.label(&own, name.as_slice())),
     }

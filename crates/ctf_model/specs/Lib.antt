@@ -8,3 +8,4 @@ pub mod values
 pub mod drafts
 pub mod writing
 pub mod dumps
+pub mod opened

@@ -2,6 +2,8 @@
 ghost use Rattle.std.specs.Prelude.{◌≡◌};
 ghost use Rattle.ctf_model.specs.rules.FaultNames.{name_of_fault};
 
+use std::alloc::AllocError;
+
 /// A refusal: which one, and at which place (0 where none is said).
 ///
 /// What the place counts depends on the code; docs/FAULTS.md has the table.
@@ -217,4 +219,16 @@ pub fn placeless(code: u16) -> Fault
     ensures { result ≡ record { code = code; place = 0 } }
 {
     Fault { code, place: 0 }
+}
+
+/// Memory was refused.
+impl From<AllocError> for Fault {
+    ghost use Rattle.std.specs.Prelude.{◌≡◌};
+    ghost use Rattle.ctf_model.specs.rules.Refusals.{want_of_memory};
+
+    ghost from_gives = { λ _ f. f ≡ want_of_memory };
+
+    fn from(_: AllocError) -> Fault {
+        placeless(Fault::MEMORY)
+    }
 }

@@ -63,10 +63,7 @@ fn pointed(
 {
     let mut at = from;
     for _star in 0..count {
-        at = match pointer_to(space, index, at) {
-            Ok(next) => next,
-            Err(fault) => return Err(fault),
-        };
+        at = pointer_to(space, index, at)?;
     }
     Ok(at)
 }

@@ -59,16 +59,12 @@ pub fn spell(
     ensures kept { OnErr result (out.new.items ≡ out.old.items) }
 {
     let unrolled = unroll(alloc, space, number)?;
-    let Ok(marks) = marked(alloc, unrolled.layers.as_slice()) else {
-        return Err(placeless(Fault::MEMORY));
-    };
+    let marks = marked(alloc, unrolled.layers.as_slice())?;
     let len = text_len(marks.as_slice(), unrolled.base);
     if len > LONGEST_TEXT {
         return Err(placeless(Fault::TOO_LONG));
     }
-    if out.reserve_exact(len).is_err() {
-        return Err(placeless(Fault::MEMORY));
-    }
+    out.reserve_exact(len)?;
     put_text(out, marks.as_slice(), unrolled.base);
     Ok(())
 }

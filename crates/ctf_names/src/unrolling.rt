@@ -45,10 +45,7 @@ pub fn unroll<'a>(alloc: Global, space: &Space<'a>, number: TypeNum) -> Result<U
                 base: void(),
             });
         }
-        let found = match space.term(at) {
-            Ok(found) => found,
-            Err(fault) => return Err(fault),
-        };
+        let found = space.term(at)?;
         match found_inside(&found.shape()) {
             Inside::Name(tag) => {
                 let name = or_anon(found.name());

@@ -11,7 +11,7 @@ use crate::known::Known;
 use crate::text::Text;
 use crate::values::show_value;
 use ctf_layout::Layout;
-use ctf_model::{Fault, TypeNum, placeless};
+use ctf_model::{Fault, TypeNum};
 use ctf_space::Space;
 use std::alloc::Global;
 
@@ -51,8 +51,6 @@ pub fn show(
         &mut known,
         &mut text,
     )?;
-    match out.extend_from_slice(text.as_slice()) {
-        Ok(()) => Ok(()),
-        Err(_) => Err(placeless(Fault::MEMORY)),
-    }
+    out.extend_from_slice(text.as_slice())?;
+    Ok(())
 }

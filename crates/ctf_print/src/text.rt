@@ -74,10 +74,8 @@ impl Text {
         if LONGEST_TEXT - self.bytes.len() < bytes.len() {
             return Err(placeless(Fault::TOO_LONG));
         }
-        match self.bytes.extend_from_slice(bytes) {
-            Ok(()) => Ok(()),
-            Err(_) => Err(placeless(Fault::MEMORY)),
-        }
+        self.bytes.extend_from_slice(bytes)?;
+        Ok(())
     }
 
     /// The same for a piece of a few bytes, for which there mostly is memory.

@@ -7,7 +7,8 @@ use Rattle.std.proofs.lemmas.List.Sums.{sum_by-cons, sum_by_push}
 use Rattle.ctf_model.specs.format.Lists.{Lists}
 use Rattle.ctf_model.specs.spaces.Kept.{Kept}
 use Rattle.ctf_model.specs.declared.faults.TheConstants.Fault.{QUOTA_FULL}
-use Rattle.ctf_protocol.specs.sessions.Charges.{charge, kept_bytes, lists_bytes, parent_bytes, publication_bytes, slot_bytes}
+use Rattle.ctf_protocol.specs.sessions.Charges.{charge, publication_bytes, slot_bytes}
+use Rattle.ctf_model.specs.opened.Sizes.{kept_bytes, lists_bytes, parent_bytes}
 use Rattle.ctf_protocol.specs.sessions.DraftSteps.{slots_with}
 use Rattle.ctf_protocol.specs.sessions.State.{Publication, Slot, State}
 use Rattle.ctf_protocol.specs.sessions.Steps.{Outcome, quota, refuses, slot_at, slots_with_parent, slots_without, staged, with_staged, within_quota}

@@ -1,17 +1,17 @@
 -- The keys of each answer stand in byte order.
 use Rattle.std.proofs.Common.{◌≡◌, ℕ, Bool, true, false, List, [], ◌∷◌, ◌++◌, map, take, drop, Option, None, Some, Result, Ok, Err, codes, refl, sym, ap, ◌∙◌}
-use Rattle.std.specs.Prelude.{◌&&◌, is_some, nat_lt, length, option_and_then}
+use Rattle.std.specs.Prelude.{◌&&◌, is_some, nat_lt, length}
 use Rattle.std.specs.List.{list_all}
-use Rattle.std.specs.Option.{option_map}
 use Rattle.std.specs.Cmp.Derive.{both_true}
 use Rattle.std.proofs.lemmas.List.{take-append-drop}
 use Rattle.std.proofs.lemmas.List.Folds.{list_all-append}
 use Rattle.ctf_model.specs.drafts.Adders.{Added}
+use Rattle.ctf_model.specs.opened.Questions.{array_said, encoding_said, enumerators_said, members_said, signature_said}
 use Rattle.ctf_protocol.specs.sessions.Additions.{enlarged, numbered, silent}
 use Rattle.ctf_protocol.specs.sessions.Creations.{Created}
 use Rattle.ctf_protocol.specs.sessions.DraftSteps.{SlotOutcome, created_slot, draft_step, enlarges, slot_step, step_if_draft, updates_to}
 use Rattle.ctf_model.specs.drafts.Drafts.{Draft, held}
-use Rattle.ctf_protocol.specs.answers.HeldAnswers.{pending_in}
+use Rattle.ctf_model.specs.opened.Open.{pending_in}
 use Rattle.ctf_model.specs.writing.Written.{written}
 use Rattle.ctf_protocol.specs.declared.additions.Addition.{Addition}
 use Rattle.ctf_protocol.specs.declared.additions.Addition.TheVariants as add
@@ -20,17 +20,17 @@ use Rattle.ctf_model.specs.rules.Faults.{first_fault}
 use Rattle.ctf_model.specs.names.Found.{found, pointer_to}
 use Rattle.ctf_model.specs.names.KindNames.{name_of_kind}
 use Rattle.ctf_model.specs.figures.Figures.{align, referred, resolved, size}
-use Rattle.ctf_protocol.specs.answers.KeyOrder.{item_in_order, in_order, IsInOrder, KeysRise}
+use Rattle.ctf_protocol.specs.answers.KeyOrder.{item_in_order, in_order, IsInOrder}
 use Rattle.ctf_model.specs.spaces.Kept.{Kept, fault_over}
 use Rattle.ctf_model.specs.figures.Paths.{path}
 use Rattle.ctf_protocol.specs.sessions.Publications.{published_as}
-use Rattle.ctf_protocol.specs.answers.Questions.{at_most, windowed, or_wrong_kind, as_fields, member_fields, member_item, enumerator_fields, enumerator_item, number_item, argument_fields, array_fields, encoding_fields, type_fields, size_fields, align_fields, name_fields, position_fields, value_fields, plain_said, said_on, said_of}
-use Rattle.ctf_protocol.specs.answers.SlotAnswers.{symbol_fields, signature_fields, label_item, last_fields, whole_said}
+use Rattle.ctf_protocol.specs.answers.Questions.{at_most, windowed, as_fields, member_fields, member_item, enumerator_fields, enumerator_item, number_item, argument_fields, array_fields, encoding_fields, signature_fields, type_fields, size_fields, align_fields, name_fields, position_fields, value_fields, plain_said, said_on, said_of}
+use Rattle.ctf_protocol.specs.answers.SlotAnswers.{symbol_fields, label_item, last_fields, whole_said}
 use Rattle.ctf_model.specs.symbols.SymbolQuestions.{symbol_found, object_of, function_of, label_of}
-use Rattle.ctf_model.specs.format.Shown.{Facts, facts, members_in, enumerators_in, arguments_in, array_in, encoding_in, list_length, named_arguments}
+use Rattle.ctf_model.specs.format.Shown.{Facts, facts, list_length, named_arguments}
 use Rattle.ctf_protocol.specs.sessions.Charges.{charge}
 use Rattle.ctf_protocol.specs.sessions.State.{State, Slot}
-use Rattle.ctf_protocol.specs.sessions.Steps.{change_step, with_slot, grants, slots_without, imports_unless, publishes_kept, publishes_within, publishes_slot, within_quota, quota, becomes_by, updates_within, Outcome, withdraws, imports_into, takes, takes_found, adds_created, creates_over, creates_from, stages, opens, opens_unless, has_room, accepts_unless, longest_list, slot_at, slot_space, said_by_slot}
+use Rattle.ctf_protocol.specs.sessions.Steps.{with_slot, grants, slots_without, imports_unless, publishes_kept, publishes_within, publishes_slot, within_quota, quota, becomes_by, updates_within, Outcome, withdraws, imports_into, takes, takes_found, adds_created, creates_over, creates_from, stages, opens, opens_unless, has_room, accepts_unless, longest_list, slot_at, slot_space, said_by_slot}
 use Rattle.ctf_model.specs.spaces.Space.{Space, space_type}
 use Rattle.ctf_model.specs.format.Term.{Term}
 use Rattle.ctf_model.specs.names.TypeNames.{spelled_name}
@@ -48,10 +48,8 @@ use Rattle.ctf_protocol.specs.declared.questions.TypeQuestion.TheVariants as ask
 use Rattle.ctf_protocol.specs.declared.questions.Question.{Question}
 use Rattle.ctf_protocol.specs.declared.questions.Window.{Window}
 use Rattle.ctf_protocol.specs.declared.requests.ListName.{ListName}
-use Rattle.ctf_protocol.specs.declared.requests.Change.TheVariants as change
 use Rattle.ctf_protocol.specs.declared.requests.DraftStep.{DraftStep}
 use Rattle.ctf_protocol.specs.declared.requests.DraftStep.TheVariants as steps
-use Rattle.ctf_protocol.specs.declared.requests.Request.TheVariants.{Changes, Asks}
 
 -- ---- items
 
@@ -77,10 +75,6 @@ each item one (x ∷ xs) = both_true (one x) (each item one xs)
 -- ---- questions on types
 
 -- an answer that is there or refused
-from : {A : Type 0} (say : A → Answer) → ((a : A) → in_order (say a) ≡ true) → (o : Option A) → IsInOrder (or_wrong_kind (option_map say o))
-from say good None = tt
-from say good (Some a) = good a
-
 figure : {A : Type 0} (say : A → Answer) → ((a : A) → in_order (say a) ≡ true) → (r : Result A Fault) → IsInOrder (as_fields say r)
 figure say good (Ok a) = good a
 figure say good (Err fault) = tt
@@ -90,11 +84,6 @@ listed items rest h r = both_true h r
 
 arguments_rise : (ret : ℕ) (args : List ℕ) → in_order (argument_fields ret args) ≡ true
 arguments_rise ret args = listed (map number_item (named_arguments args)) true (each number_item (λ n. refl) (named_arguments args)) refl
-
-function : (ret : Option ℕ) (args : Option (List ℕ)) → IsInOrder (or_wrong_kind (option_and_then (λ t. option_map (argument_fields t) args) ret))
-function None args = tt
-function (Some t) None = tt
-function (Some t) (Some args) = arguments_rise t args
 
 -- a head with each choice of size, tag and type
 head : (k n r v : Single) (size tag t : Option Single) → in_order (says (codes "kind") k ∷ says (codes "name") n ∷ says (codes "root") r ∷ (may_say (codes "size") size ++ (may_say (codes "tag") tag ++ (may_say (codes "type") t ++ says (codes "vlen") v ∷ [])))) ≡ true
@@ -110,9 +99,9 @@ head k n r v (Some size) (Some tag) (Some t) = refl
 on_plain : (question : PlainQuestion) (s : Space) (t : ℕ) (x : Facts) → IsInOrder (plain_said question s t x)
 on_plain plain.Kind s t x = refl
 on_plain plain.Record s t x = head (word (name_of_kind x.shape.kind)) (text x.name) (truth x.root) (number (list_length x.shape.behind)) _ _ _
-on_plain plain.Args s t x = function x.shape.reference (arguments_in x.shape.behind)
-on_plain plain.Array s t x = from array_fields (λ a. refl) (array_in x.shape.behind)
-on_plain plain.Encoding s t x = from encoding_fields (λ a. refl) (encoding_in x.shape.behind)
+on_plain plain.Args s t x = figure signature_fields (λ f. arguments_rise f.ret f.args) (signature_said x.shape)
+on_plain plain.Array s t x = figure array_fields (λ a. refl) (array_said x.shape)
+on_plain plain.Encoding s t x = figure encoding_fields (λ a. refl) (encoding_said x.shape)
 on_plain plain.Reference s t x = figure type_fields (λ n. refl) (referred x.shape)
 on_plain plain.Resolve s t x = figure type_fields (λ n. refl) (resolved s t)
 on_plain plain.Size s t x = figure size_fields (λ n. refl) (size s t)
@@ -122,8 +111,8 @@ on_plain plain.Pointer s t x = figure type_fields (λ n. refl) (pointer_to s t)
 
 on_type : (question : TypeQuestion) (s : Space) (t : ℕ) (x : Facts) → IsInOrder (said_on question s t x)
 on_type (ask.Plain question) s t x = on_plain question s t x
-on_type (ask.Members window) s t x = from (member_fields window) (λ ms. listed (windowed window (map member_item ms)) true (in_window window (map member_item ms) (each member_item (λ m. refl) ms)) refl) (members_in x.shape.behind)
-on_type (ask.Enumerators window) s t x = from (enumerator_fields window) (λ es. listed (windowed window (map enumerator_item es)) true (in_window window (map enumerator_item es) (each enumerator_item (λ e. refl) es)) refl) (enumerators_in x.shape.behind)
+on_type (ask.Members window) s t x = figure (member_fields window) (λ ms. listed (windowed window (map member_item ms)) true (in_window window (map member_item ms) (each member_item (λ m. refl) ms)) refl) (members_said x.shape)
+on_type (ask.Enumerators window) s t x = figure (enumerator_fields window) (λ es. listed (windowed window (map enumerator_item es)) true (in_window window (map enumerator_item es) (each enumerator_item (λ e. refl) es)) refl) (enumerators_said x.shape)
 on_type (ask.Path names) s t x = figure position_fields (λ at. refl) (path s t names)
 on_type (ask.Show memory offset) s t x = figure value_fields (λ shown. refl) (value_text s memory t offset)
 

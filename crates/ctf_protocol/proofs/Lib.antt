@@ -11,3 +11,5 @@ pub mod Asking
 pub mod SessionRuns
 pub mod TextReading
 pub mod WithinQuota
+pub mod OpenQuestions
+pub mod OpenSteps

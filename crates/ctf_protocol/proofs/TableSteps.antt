@@ -1,14 +1,14 @@
 -- What a request is refused with has a row in the table.
 use Rattle.std.proofs.Common.{◌≡◌, ℕ, List, length, Bool, true, false, Option, Some, None, Result, Ok, Err, refl}
 use Rattle.std.specs.Prelude.{is_some, nat_lt, slice_get, if◌then◌else◌}
-use Rattle.std.specs.Option.{option_and_then, option_map}
+use Rattle.std.specs.Option.{option_map}
 use Rattle.serde_json.specs.Data.{Data}
 use Rattle.ctf_model.specs.drafts.Adders.{Added, add_enumerator, add_label, add_member, add_type}
 use Rattle.ctf_model.specs.drafts.Drafts.{Draft, held, new_draft}
 use Rattle.ctf_model.specs.figures.Figures.{align, referred, resolved, size}
 use Rattle.ctf_model.specs.figures.Paths.{path}
 use Rattle.ctf_model.specs.format.Dictionary.{Dictionary}
-use Rattle.ctf_model.specs.format.Shown.{Facts, arguments_in, array_in, encoding_in, enumerators_in, facts, members_in}
+use Rattle.ctf_model.specs.format.Shown.{Facts, array_in, encoding_in, enumerators_in, facts, members_in}
 use Rattle.ctf_model.specs.format.Term.{Term}
 use Rattle.ctf_model.specs.names.Found.{found, pointer_to}
 use Rattle.ctf_model.specs.names.TypeNames.{spelled_name}
@@ -22,24 +22,24 @@ use Rattle.ctf_model.specs.values.Values.{value_text}
 use Rattle.ctf_model.specs.writing.Written.{written}
 use Rattle.ctf_model.specs.declared.data_model.DataModel.{DataModel}
 use Rattle.ctf_model.specs.declared.faults.Fault.{Fault}
-use Rattle.ctf_model.specs.declared.faults.TheConstants.Fault.{LONG_LINE, NO_INFO, NO_LABEL, NO_SYMBOL, NOT_DATA, NOT_FUNCTION}
-use Rattle.ctf_protocol.proofs.TableCodes.{either, good, good_fault, refused, told}
+use Rattle.ctf_model.specs.declared.faults.TheConstants.Fault.{LONG_LINE, NO_INFO, NO_LABEL, NO_SYMBOL, NOT_DATA, NOT_FUNCTION, WRONG_KIND}
+use Rattle.ctf_protocol.proofs.TableCodes.{either, good, good_fault, refused}
 use Rattle.ctf_protocol.proofs.TableDrafts.{dictionary_good, enumerator_added, import_good, label_added, member_added, new_good, type_added, written_good}
 use Rattle.ctf_protocol.proofs.TableFigures.{align_good, path_good, referred_good, resolved_good, size_good, type_good}
 use Rattle.ctf_protocol.proofs.TableTexts.{lookup_good, name_good, pointer_good, value_good}
 use Rattle.ctf_protocol.specs.answers.Answers.{Answer}
-use Rattle.ctf_protocol.specs.answers.HeldAnswers.{pending_in}
-use Rattle.ctf_protocol.specs.answers.Questions.{align_fields, argument_fields, array_fields, as_fields, encoding_fields, enumerator_fields, member_fields, name_fields, or_wrong_kind, plain_said, position_fields, said_of, said_on, size_fields, type_fields, type_said, value_fields}
-use Rattle.ctf_protocol.specs.answers.SlotAnswers.{last_fields, signature_fields, symbol_fields, whole_said}
+use Rattle.ctf_model.specs.opened.Open.{pending_in}
+use Rattle.ctf_protocol.specs.answers.Questions.{align_fields, array_fields, as_fields, encoding_fields, enumerator_fields, member_fields, name_fields, plain_said, position_fields, said_of, said_on, signature_fields, size_fields, type_fields, type_said, value_fields}
+use Rattle.ctf_protocol.specs.answers.SlotAnswers.{last_fields, symbol_fields, whole_said}
 use Rattle.ctf_protocol.specs.lines.Ask.{ask, asked_by, json, or_bad_request, request_asked, value_asked}
 use Rattle.ctf_protocol.specs.sessions.Additions.{Enlarged, enlarged, numbered, silent}
 use Rattle.ctf_protocol.specs.sessions.Charges.{charge}
 use Rattle.ctf_protocol.specs.sessions.Creations.{Created}
 use Rattle.ctf_protocol.specs.sessions.DraftSteps.{created_slot, draft_step, enlarges, model_made, slot_of_draft, slot_step, step_if_draft, updated_slot, updates_to}
 use Rattle.ctf_protocol.specs.sessions.Publications.{published_as}
-use Rattle.ctf_protocol.specs.sessions.RefusalLaws.{BadLinesAreInTheTable, RefusalsAreInTheTable}
+use Rattle.ctf_protocol.specs.sessions.RefusalLaws.{BadLinesAreInTheTable}
 use Rattle.ctf_protocol.specs.sessions.State.{Slot, State}
-use Rattle.ctf_protocol.specs.sessions.Steps.{Outcome, accepts_unless, adds_created, adds_slot, becomes_by, change_step, creates_from, creates_over, has_room, imports_into, imports_unless, longest_list, opens, opens_unless, publishes_slot, publishes_within, quota, said_by_slot, slot_at, slot_becomes, slot_said, slot_space, stages, step, takes, takes_found, updates_within, with_slot, withdraws, within_quota}
+use Rattle.ctf_protocol.specs.sessions.Steps.{Outcome, accepts_unless, adds_created, adds_slot, becomes_by, creates_from, creates_over, has_room, imports_into, imports_unless, longest_list, opens, opens_unless, publishes_slot, publishes_within, quota, said_by_slot, slot_at, slot_becomes, slot_said, slot_space, stages, takes, takes_found, updates_within, with_slot, withdraws, within_quota}
 use Rattle.ctf_protocol.specs.declared.additions.Addition.{Addition}
 use Rattle.ctf_protocol.specs.declared.additions.Addition.TheVariants as add
 use Rattle.ctf_protocol.specs.declared.questions.PlainQuestion.{PlainQuestion}
@@ -50,12 +50,10 @@ use Rattle.ctf_protocol.specs.declared.questions.SlotQuestion.{SlotQuestion}
 use Rattle.ctf_protocol.specs.declared.questions.SlotQuestion.TheVariants as whole
 use Rattle.ctf_protocol.specs.declared.questions.TypeQuestion.{TypeQuestion}
 use Rattle.ctf_protocol.specs.declared.questions.TypeQuestion.TheVariants as about
-use Rattle.ctf_protocol.specs.declared.requests.Change.TheVariants as change
 use Rattle.ctf_protocol.specs.declared.requests.DraftStep.{DraftStep}
 use Rattle.ctf_protocol.specs.declared.requests.DraftStep.TheVariants as steps
 use Rattle.ctf_protocol.specs.declared.requests.ListName.{ListName}
 use Rattle.ctf_protocol.specs.declared.requests.Request.{Request}
-use Rattle.ctf_protocol.specs.declared.requests.Request.TheVariants.{Changes, Asks}
 
 -- ---- questions
 
@@ -63,16 +61,16 @@ fields_good : {A : Type 0} → (say : A → Answer) (r : Result A Fault) → goo
 fields_good say (Err f) g = g
 fields_good say (Ok a) g = refl
 
-kind_good : (answer : Option Answer) → good (or_wrong_kind answer) ≡ true
-kind_good None = refl
-kind_good (Some answer) = refl
+kind_good : {A : Type 0} → (say : A → Answer) (o : Option A) → good (as_fields say (or_refused WRONG_KIND o)) ≡ true
+kind_good say None = refl
+kind_good say (Some a) = refl
 
 plain_good : (q : PlainQuestion) (s : Space) (t : ℕ) (x : Facts) → good (plain_said q s t x) ≡ true
 plain_good plain.Kind s t x = refl
 plain_good plain.Record s t x = refl
-plain_good plain.Args s t x = kind_good (option_and_then (λ ret. option_map (argument_fields ret) (arguments_in x.shape.behind)) x.shape.reference)
-plain_good plain.Array s t x = kind_good (option_map array_fields (array_in x.shape.behind))
-plain_good plain.Encoding s t x = kind_good (option_map encoding_fields (encoding_in x.shape.behind))
+plain_good plain.Args s t x = kind_good signature_fields _
+plain_good plain.Array s t x = kind_good array_fields (array_in x.shape.behind)
+plain_good plain.Encoding s t x = kind_good encoding_fields (encoding_in x.shape.behind)
 plain_good plain.Reference s t x = fields_good type_fields (referred x.shape) (referred_good x.shape)
 plain_good plain.Resolve s t x = fields_good type_fields (resolved s t) (resolved_good s t)
 plain_good plain.Size s t x = fields_good size_fields (size s t) (size_good s t)
@@ -82,8 +80,8 @@ plain_good plain.Pointer s t x = fields_good type_fields (pointer_to s t) (point
 
 on_good : (q : TypeQuestion) (s : Space) (t : ℕ) (x : Facts) → good (said_on q s t x) ≡ true
 on_good (about.Plain q) s t x = plain_good q s t x
-on_good (about.Members window) s t x = kind_good (option_map (member_fields window) (members_in x.shape.behind))
-on_good (about.Enumerators window) s t x = kind_good (option_map (enumerator_fields window) (enumerators_in x.shape.behind))
+on_good (about.Members window) s t x = kind_good (member_fields window) (members_in x.shape.behind)
+on_good (about.Enumerators window) s t x = kind_good (enumerator_fields window) (enumerators_in x.shape.behind)
 on_good (about.Path names) s t x = fields_good position_fields (path s t names) (path_good s t names)
 on_good (about.Show memory offset) s t x = fields_good value_fields (value_text s memory t offset) (value_good s memory t offset)
 

@@ -12,10 +12,9 @@ use Rattle.ctf_model.specs.declared.data_model.DataModel.{DataModel}
 use Rattle.ctf_model.specs.declared.faults.Fault.{Fault}
 use Rattle.ctf_protocol.proofs.Charged.{charge_is, filter_bytes, with_bytes, without_bytes}
 use Rattle.ctf_protocol.specs.answers.Answers.{Answer}
-use Rattle.ctf_protocol.specs.answers.HeldAnswers.{pending_in}
+use Rattle.ctf_model.specs.opened.Open.{pending_in}
 use Rattle.ctf_protocol.specs.sessions.Additions.{Enlarged, enlarged}
 use Rattle.ctf_protocol.specs.sessions.Charges.{charge, slot_bytes}
-use Rattle.ctf_protocol.specs.sessions.ChargeLaws.{RequestsStayWithinQuota}
 use Rattle.ctf_protocol.specs.sessions.Creations.{Created}
 use Rattle.ctf_protocol.specs.sessions.DraftSteps.{SlotOutcome, created_slot, draft_step, enlarges, slot_step, step_if_draft, updates_to}
 use Rattle.ctf_protocol.specs.sessions.Publications.{published_as, published_without}
@@ -25,7 +24,6 @@ use Rattle.ctf_protocol.specs.declared.requests.Change.TheVariants as change
 use Rattle.ctf_protocol.specs.declared.requests.DraftStep.{DraftStep}
 use Rattle.ctf_protocol.specs.declared.requests.DraftStep.TheVariants as steps
 use Rattle.ctf_protocol.specs.declared.requests.ListName.{ListName}
-use Rattle.ctf_protocol.specs.declared.requests.Request.TheVariants.{Changes, Asks}
 
 abbrev pub Stays : Outcome → Type 0
 Stays outcome = charge outcome.state ≤ quota

@@ -3,8 +3,10 @@ pub mod Publications
 pub mod Creations
 pub mod Additions
 pub mod DraftSteps
+pub mod Opened
 pub mod Charges
 pub mod Steps
+pub mod OpenLaws
 pub mod ChargeLaws
 pub mod RefusalLaws
 pub mod Runs

@@ -2,6 +2,7 @@
 //! nothing.
 ghost use Rattle.ctf_protocol.specs.answers.KeyOrder.{KeysRise};
 ghost use Rattle.ctf_protocol.specs.lines.TextLaws.{LinesHaveTheText, TextsAreReadBack};
+ghost use Rattle.ctf_protocol.specs.sessions.OpenLaws.{FiguresAreAsked, StepsAreMade, TypesAreAsked, WholesAreAsked};
 
 /// The keys of each answer, and of each object in it, stand in byte order, whatever was asked of
 /// which library.
@@ -13,4 +14,13 @@ pub fn keys_rise()
 pub fn texts_are_read_back()
     ensures line { LinesHaveTheText }
     ensures read { TextsAreReadBack }
+{}
+
+/// A word answers of a slot what is asked of the open dictionary in it, under the word's keys, and
+/// a step of the slot's draft is that of the open dictionary. A call in process answers the same.
+pub fn words_ask_what_is_open()
+    ensures types { TypesAreAsked }
+    ensures figures { FiguresAreAsked }
+    ensures wholes { WholesAreAsked }
+    ensures steps { StepsAreMade }
 {}

@@ -17,7 +17,7 @@ mod words;
 pub use addables::Addable;
 pub use additions::{Addition, Declared, NewArray, NewKind, NewScalar, TypeNums};
 pub use creations::Creation;
-pub use laws::{keys_rise, texts_are_read_back};
+pub use laws::{keys_rise, texts_are_read_back, words_ask_what_is_open};
 pub use names::Names;
 pub use publications::{LONGEST_NAME, PublicationName};
 pub use questions::{HeldQuestion, PlainQuestion, Question, SlotQuestion, TypeQuestion, Window};

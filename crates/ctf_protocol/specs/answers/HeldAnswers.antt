@@ -1,18 +1,13 @@
 -- What a question on what a slot holds is answered. Source: ours.
-use Rattle.std.specs.Prelude.{ℕ, Bool, List, [], ◌∷◌, length, take, drop, is_some, codes, Option, Some, None}
+use Rattle.std.specs.Prelude.{ℕ, Bool, List, [], ◌∷◌, length, take, drop, is_some, codes}
 use Rattle.ctf_protocol.specs.answers.Answers.{Answer, says, number, truth, word, text, bytes}
 use Rattle.ctf_model.specs.format.Dictionary.{Dictionary, said_by}
-use Rattle.ctf_model.specs.drafts.Drafts.{Draft, pending_count}
+use Rattle.ctf_model.specs.opened.Open.{pending_in}
 use Rattle.ctf_protocol.specs.words.ModelNames.{name_of_model}
 use Rattle.ctf_protocol.specs.sessions.State.{Slot}
 use Rattle.ctf_model.specs.declared.data_model.DataModel.{DataModel}
 use Rattle.ctf_protocol.specs.declared.questions.HeldQuestion.{HeldQuestion}
 use Rattle.ctf_protocol.specs.declared.questions.HeldQuestion.TheVariants as held
-
--- how many types and labels a draft has pending, if there is a draft
-abbrev pub pending_in : Option Draft → ℕ
-pending_in None = 0
-pending_in (Some draft) = pending_count draft
 
 -- a dictionary as a whole, whether it is that of a draft, and whether it has a parent
 abbrev pub info_fields : Dictionary → Bool → Bool → ℕ → Answer

@@ -1,21 +1,22 @@
 -- What a question is answered. Source: libctf(3LIB), ctf_type_kind, ctf_member_iter, ctf_enum_iter,
 -- ctf_func_args, ctf_array_info, ctf_type_encoding, ctf_type_reference, ctf_type_resolve,
 -- ctf_type_size, ctf_type_align, ctf_type_lname, ctf_type_pointer; the form of answers is ours.
-use Rattle.std.specs.Prelude.{ℕ, ◌++◌, Bool, List, [], ◌∷◌, length, map, take, drop, option_and_then, Option, Some, None, Result, Ok, Err, codes, if◌then◌else◌}
+use Rattle.std.specs.Prelude.{ℕ, ◌++◌, List, [], ◌∷◌, length, map, take, drop, Option, Some, None, Result, Ok, Err, codes}
 use Rattle.std.specs.Option.{option_map}
 use Rattle.ctf_protocol.specs.answers.Answers.{Answer, Item, says, may_say, lists, entry, number, signed, truth, word, text, bare, object}
 use Rattle.ctf_model.specs.figures.Figures.{align, referred, resolved, size}
 use Rattle.ctf_model.specs.names.Found.{pointer_to}
 use Rattle.ctf_model.specs.names.KindNames.{name_of_kind, name_of_tag}
 use Rattle.ctf_model.specs.figures.Paths.{Position, path}
-use Rattle.ctf_model.specs.rules.Refusals.{placeless}
-use Rattle.ctf_model.specs.format.Shown.{ArrayParts, EncodingParts, Facts, Shape, facts, members_in, enumerators_in, arguments_in, array_in, encoding_in, is_variadic, list_length, named_arguments}
+use Rattle.ctf_model.specs.format.Shown.{ArrayParts, EncodingParts, Facts, facts, is_variadic, list_length, named_arguments}
 use Rattle.ctf_model.specs.spaces.Space.{Space, space_type}
 use Rattle.ctf_model.specs.format.Term.{Member, Enumerator, Term}
 use Rattle.ctf_model.specs.names.TypeNames.{spelled_name}
 use Rattle.ctf_model.specs.values.Values.{value_text}
 use Rattle.ctf_model.specs.declared.faults.Fault.{Fault}
-use Rattle.ctf_model.specs.declared.faults.TheConstants.Fault.{WRONG_KIND}
+use Rattle.ctf_model.specs.declared.kinds.Kind.{Kind}
+use Rattle.ctf_model.specs.symbols.Entries.{Signature}
+use Rattle.ctf_model.specs.opened.Questions.{array_said, encoding_said, enumerators_said, kind_said, members_said, signature_said}
 use Rattle.ctf_protocol.specs.declared.questions.PlainQuestion.{PlainQuestion}
 use Rattle.ctf_protocol.specs.declared.questions.PlainQuestion.TheVariants as plain
 use Rattle.ctf_protocol.specs.declared.questions.TypeQuestion.{TypeQuestion}
@@ -24,8 +25,8 @@ use Rattle.ctf_protocol.specs.declared.questions.Window.{Window}
 
 -- ---- answers, field by field
 
-abbrev pub kind_fields : Shape → Answer
-kind_fields x = says (codes "kind") (word (name_of_kind x.kind)) ∷ []
+abbrev pub kind_fields : Kind → Answer
+kind_fields kind = says (codes "kind") (word (name_of_kind kind)) ∷ []
 
 -- a type without its list
 abbrev pub record_fields : Facts → Answer
@@ -71,10 +72,14 @@ enumerator_fields window items =
 abbrev pub number_item : ℕ → Item
 number_item n = bare (number n)
 
+-- what a function returns and takes
 abbrev pub argument_fields : ℕ → List ℕ → Answer
 argument_fields ret args =
     lists (codes "args") (map number_item (named_arguments args))
     ∷ says (codes "return") (number ret) ∷ says (codes "varargs") (truth (is_variadic args)) ∷ []
+
+abbrev pub signature_fields : Signature → Answer
+signature_fields f = argument_fields f.ret f.args
 
 abbrev pub array_fields : ArrayParts → Answer
 array_fields a =
@@ -112,11 +117,6 @@ position_fields at =
 
 -- ---- questions on types
 
--- what a part is answered as, if the kind has it
-abbrev pub or_wrong_kind : Option Answer → Result Answer Fault
-or_wrong_kind None = Err (placeless WRONG_KIND)
-or_wrong_kind (Some answer) = Ok answer
-
 -- what a figure is answered as, or its fault
 abbrev pub as_fields : {A : Type 0} → (A → Answer) → Result A Fault → Result Answer Fault
 as_fields say (Err fault) = Err fault
@@ -125,14 +125,11 @@ as_fields say (Ok a) = Ok (say a)
 -- each question that brings no more than the type, which a number names in a space,
 -- and which says this of itself
 abbrev pub plain_said : PlainQuestion → Space → ℕ → Facts → Result Answer Fault
-plain_said plain.Kind s t x = Ok (kind_fields x.shape)
+plain_said plain.Kind s t x = as_fields kind_fields (kind_said x.shape)
 plain_said plain.Record s t x = Ok (record_fields x)
-plain_said plain.Args s t x =
-    or_wrong_kind (option_and_then
-    (λ ret. option_map (argument_fields ret) (arguments_in x.shape.behind)) x.shape.reference)
-plain_said plain.Array s t x = or_wrong_kind (option_map array_fields (array_in x.shape.behind))
-plain_said plain.Encoding s t x =
-    or_wrong_kind (option_map encoding_fields (encoding_in x.shape.behind))
+plain_said plain.Args s t x = as_fields signature_fields (signature_said x.shape)
+plain_said plain.Array s t x = as_fields array_fields (array_said x.shape)
+plain_said plain.Encoding s t x = as_fields encoding_fields (encoding_said x.shape)
 plain_said plain.Reference s t x = as_fields type_fields (referred x.shape)
 plain_said plain.Resolve s t x = as_fields type_fields (resolved s t)
 plain_said plain.Size s t x = as_fields size_fields (size s t)
@@ -144,9 +141,9 @@ plain_said plain.Pointer s t x = as_fields type_fields (pointer_to s t)
 abbrev pub said_on : TypeQuestion → Space → ℕ → Facts → Result Answer Fault
 said_on (ask.Plain question) s t x = plain_said question s t x
 said_on (ask.Members window) s t x =
-    or_wrong_kind (option_map (member_fields window) (members_in x.shape.behind))
+    as_fields (member_fields window) (members_said x.shape)
 said_on (ask.Enumerators window) s t x =
-    or_wrong_kind (option_map (enumerator_fields window) (enumerators_in x.shape.behind))
+    as_fields (enumerator_fields window) (enumerators_said x.shape)
 said_on (ask.Path names) s t x = as_fields position_fields (path s t names)
 said_on (ask.Show memory offset) s t x = as_fields value_fields (value_text s memory t offset)
 

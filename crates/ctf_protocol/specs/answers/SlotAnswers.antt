@@ -4,10 +4,10 @@
 use Rattle.std.specs.Prelude.{ℕ, List, [], ◌∷◌, map, Result, Ok, codes}
 use Rattle.ctf_protocol.specs.answers.Answers.{Answer, Item, says, entry, number, word, text, object}
 use Rattle.ctf_model.specs.format.Dictionary.{Label}
-use Rattle.ctf_model.specs.symbols.Entries.{Owner, Signature}
+use Rattle.ctf_model.specs.symbols.Entries.{Owner}
 use Rattle.ctf_model.specs.names.Found.{found}
 use Rattle.ctf_model.specs.names.KindNames.{name_of_class}
-use Rattle.ctf_protocol.specs.answers.Questions.{argument_fields, as_fields, list_fields, type_fields}
+use Rattle.ctf_protocol.specs.answers.Questions.{as_fields, list_fields, signature_fields, type_fields}
 use Rattle.ctf_model.specs.spaces.Space.{Space}
 use Rattle.ctf_model.specs.symbols.SymbolQuestions.{function_of, label_of, object_of, symbol_found}
 use Rattle.ctf_model.specs.declared.faults.Fault.{Fault}
@@ -21,9 +21,6 @@ use Rattle.ctf_protocol.specs.declared.questions.Window.{Window}
 abbrev pub symbol_fields : Owner → Answer
 symbol_fields x =
     says (codes "class") (word (name_of_class x.class)) ∷ says (codes "sym") (number x.number) ∷ []
-
-abbrev pub signature_fields : Signature → Answer
-signature_fields f = argument_fields f.ret f.args
 
 abbrev pub label_item : Label → Item
 label_item x =

@@ -7,7 +7,8 @@ use Rattle.ctf_protocol.specs.sessions.Creations.{Created}
 use Rattle.ctf_model.specs.format.Dictionary.{said_by}
 use Rattle.ctf_protocol.specs.sessions.DraftSteps.{SlotOutcome, created_slot, slot_step, slots_with}
 use Rattle.ctf_model.specs.rules.Faults.{first_fault}
-use Rattle.ctf_protocol.specs.answers.HeldAnswers.{held_said, pending_in}
+use Rattle.ctf_protocol.specs.answers.HeldAnswers.{held_said}
+use Rattle.ctf_model.specs.opened.Open.{pending_in}
 use Rattle.ctf_model.specs.format.Lists.{Lists}
 use Rattle.ctf_model.specs.spaces.Kept.{Kept, fault_over, kept_space}
 use Rattle.ctf_protocol.specs.sessions.Publications.{published_as, published_without}

@@ -1,5 +1,5 @@
 use Rattle.std.proofs.Common.{sym, ◌∙◌}
-use Rattle.ctf_c.specs.Drafting.{type_added}
+use Rattle.ctf_model.specs.opened.Steps.{type_added}
 use Rattle.ctf_draft.specs.NewView.{new_body_of}
 use Rattle.ctf_c.proofs.NotOpen.{no_step}
 use Rattle.ctf_c.proofs.additions.add.Goals as goal

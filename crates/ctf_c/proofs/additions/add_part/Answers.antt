@@ -1,6 +1,6 @@
 use Rattle.std.proofs.Common.{sym, ◌∙◌}
-use Rattle.ctf_c.specs.Drafting.{enlarged}
-use Rattle.ctf_c.specs.PartView.{part_in}
+use Rattle.ctf_model.specs.opened.Steps.{enlarged}
+use Rattle.ctf_open.specs.PartView.{part_in}
 use Rattle.ctf_c.proofs.NotOpen.{no_step}
 use Rattle.ctf_c.proofs.additions.add_part.Goals as goal
 

@@ -1,6 +1,7 @@
 use Rattle.std.proofs.Common.{ℤ, subst, w32}
 use Rattle.std.proofs.Math.Facts.{to_z-of_z}
-use Rattle.ctf_c.specs.Drafting.{Steps, enumerator_added}
+use Rattle.ctf_c.specs.Drafting.{Steps}
+use Rattle.ctf_model.specs.opened.Steps.{enumerator_added}
 use Rattle.ctf_c.specs.Given.{asked}
 use Rattle.ctf_c.proofs.additions.ctfd_add_enumerator.Goals as goal
 

@@ -1,5 +1,5 @@
 use Rattle.std.proofs.Common.{sym, ◌∙◌}
-use Rattle.ctf_c.specs.Drafting.{updated}
+use Rattle.ctf_model.specs.opened.Steps.{updated}
 use Rattle.ctf_c.proofs.NotOpen.{no_step_at}
 use Rattle.ctf_c.proofs.drafts.ctfd_update.Goals as goal
 

@@ -1,10 +1,10 @@
-use Rattle.std.proofs.Common.{◌≡◌, ◌≤◌, ◌<◌, ◌+◌, ◌-◌, length, take, ap, sym, refl, ◌∙◌, rules, arith}
-use Rattle.std.specs.Prelude.{slice_index_or, None, Some, slice_index}
-use Rattle.ctf_layout.specs.Bases.{greatest_of, members_read}
+use Rattle.std.proofs.Common.{◌≡◌, ◌≤◌, ◌+◌, ap, sym, refl, ◌∙◌, arith}
+use Rattle.std.specs.Prelude.{slice_index_or, None, slice_index}
+use Rattle.ctf_layout.specs.Bases.{members_read}
 use Rattle.ctf_layout.specs.Extents.{IsExtent, amount}
 use Rattle.std.proofs.lemmas.List.{length-map}
 use Rattle.ctf_layout.specs.Kept.{extent_kept, table_kept}
-use Rattle.ctf_layout.specs.Table.{IsUnderway, IsVisited}
+use Rattle.ctf_layout.specs.Table.{IsUnderway}
 use Rattle.ctf_layout.specs.declared.bases.Basis.TheVariants.{Itself, One, Members}
 use Rattle.ctf_layout.specs.declared.extents.Amount.TheVariants.{Known}
 use Rattle.ctf_layout.specs.declared.extents.Extent.{Extent}

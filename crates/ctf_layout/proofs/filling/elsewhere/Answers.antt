@@ -1,5 +1,4 @@
-use Rattle.std.proofs.Common.{◌≡◌, sym, ap, ◌∙◌, arith}
-use Rattle.ctf_model.specs.spaces.TypePlaces.{place}
+use Rattle.std.proofs.Common.{sym, ◌∙◌, arith}
 use Rattle.ctf_layout.proofs.Elsewhere.{extent_of_none, extent_of_missing, extent_of_parents}
 use Rattle.ctf_layout.proofs.filling.elsewhere.Goals as goal
 

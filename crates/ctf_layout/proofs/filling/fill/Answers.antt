@@ -1,7 +1,6 @@
-use Rattle.std.proofs.Common.{◌≡◌, ◌+◌, arith, sym, ap, ◌∙◌}
+use Rattle.std.proofs.Common.{arith, ◌∙◌}
 use Rattle.std.proofs.lemmas.List.{length-map}
 use Rattle.ctf_layout.specs.Kept.{extent_kept, table_kept}
-use Rattle.ctf_layout.specs.Table.{work_left}
 use Rattle.ctf_layout.proofs.Filled.{all_left, none_left, knows_nothing}
 use Rattle.ctf_layout.proofs.filling.fill.Goals as goal
 

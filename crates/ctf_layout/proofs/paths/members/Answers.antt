@@ -1,4 +1,4 @@
-use Rattle.std.proofs.Common.{◌≡◌, sym, ap, ◌∙◌}
+use Rattle.std.proofs.Common.{sym, ap, ◌∙◌}
 use Rattle.ctf_model.specs.figures.Paths.{members_found}
 use Rattle.ctf_model.specs.format.Shown.{members_in}
 use Rattle.ctf_check.specs.TypedView.{spelled}

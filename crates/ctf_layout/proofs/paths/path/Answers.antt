@@ -1,24 +1,26 @@
-use Rattle.std.proofs.Common.{◌≡◌, ◌+◌, drop, map, sym, ap, ◌∙◌, rules, arith}
+use Rattle.std.proofs.Common.{◌+◌, drop, map, sym, ap, ◌∙◌, arith}
+use Rattle.std.proofs.lemmas.Result.{err_from_is_err_and}
 use Rattle.ctf_model.specs.figures.Paths.{and_on, path_from}
 use Rattle.ctf_space.specs.SpaceView.{space_of}
 use Rattle.ctf_layout.specs.Reached.{spot}
 use Rattle.ctf_layout.proofs.PathSteps.{path_end, path_next}
 use Rattle.ctf_layout.proofs.paths.path.Goals as goal
 
-pub returns-in-Err : goal.returns-in-Err
-returns-in-Err g c =
+pub returns-in_err-at : goal.returns-in_err-at
+returns-in_err-at g c =
+    let p = err_from_is_err_and c.from_residual.result c.from_residual.ensures.1 in
     let s = space_of c.args.space.now in
     let f = g.N.PathName.bytes_of in
     let next = path_next f s c.loop-step.step c.args.names.now c.index-names-step.result c.bytes.result.now (spot c.loop-step.at) (omega arith) (sym c.index-names-step.is) c.bytes.ensures in
-    let refused = sym (rw c.in-Err.is at c.step_to.ensures) in
-    sym (c.loop-step.invariant ∙ next ∙ ap (λ r. and_on r (path_from s (c.loop-step.step + 1) (map f (drop (c.loop-step.step + 1) c.args.names.now)))) refused)
+    let refused = sym (rw c.in_err-at.was at c.step_to.ensures) in
+    rw (p.1, p.2) (sym (c.loop-step.invariant ∙ next ∙ ap (λ r. and_on r (path_from s (c.loop-step.step + 1) (map f (drop (c.loop-step.step + 1) c.args.names.now)))) refused))
 
 pub loop-step-preserved : goal.loop-step-preserved
 loop-step-preserved g c =
     let s = space_of c.args.space.now in
     let f = g.N.PathName.bytes_of in
     let next = path_next f s c.loop-step.step c.args.names.now c.index-names-step.result c.bytes.result.now (spot c.loop-step.at) (omega arith) (sym c.index-names-step.is) c.bytes.ensures in
-    let granted = sym (rw c.in-Ok.is at c.step_to.ensures) in
+    let granted = sym (rw c.in_ok-at.was at c.step_to.ensures) in
     c.loop-step.invariant ∙ next ∙ ap (λ r. and_on r (path_from s (c.loop-step.step + 1) (map f (drop (c.loop-step.step + 1) c.args.names.now)))) granted
 
 pub returns : goal.returns

@@ -1,4 +1,4 @@
-use Rattle.std.proofs.Common.{◌≡◌, ◌+◌, drop, map}
+use Rattle.std.proofs.Common.{◌≡◌, drop, map}
 use Rattle.ctf_model.specs.figures.Paths.{path, path_from}
 use Rattle.ctf_space.specs.SpaceView.{space_of}
 use Rattle.ctf_layout.specs.Reached.{spot}

@@ -1,12 +1,13 @@
 use Rattle.std.proofs.Common.{Ok, [], ◌∷◌, ap, refl, ◌∙◌}
-use Rattle.std.specs.Prelude.{codes, option_map, option_and_then}
+use Rattle.std.specs.Prelude.{codes}
 use Rattle.ctf_check.specs.TypedView.{spelled}
 use Rattle.ctf_model.specs.figures.Figures.{align, referred, resolved, size}
-use Rattle.ctf_model.specs.format.Shown.{array_in, arguments_in, encoding_in, kind_of, shape, shown}
+use Rattle.ctf_model.specs.format.Shown.{kind_of, shape}
 use Rattle.ctf_model.specs.names.Found.{pointer_to}
 use Rattle.ctf_model.specs.names.KindNames.{name_of_kind}
+use Rattle.ctf_model.specs.opened.Questions.{array_said, encoding_said, signature_said}
 use Rattle.ctf_protocol.specs.answers.Answers.{says, word}
-use Rattle.ctf_protocol.specs.answers.Questions.{align_fields, argument_fields, array_fields, as_fields, encoding_fields, or_wrong_kind, size_fields, type_fields}
+use Rattle.ctf_protocol.specs.answers.Questions.{align_fields, array_fields, as_fields, encoding_fields, signature_fields, size_fields, type_fields}
 use Rattle.ctf_protocol.specs.declared.questions.PlainQuestion.TheVariants as plain
 use Rattle.ctf_protocol.specs.declared.questions.TypeQuestion.TheVariants as about
 use Rattle.ctf_space.specs.SpaceView.{space_of}
@@ -20,13 +21,13 @@ pub returns-in-Record-clause-some : goal.returns-in-Record-clause-some
 returns-in-Record-clause-some c = rw c.in-Record.is (told_whole (about.Plain plain.Record) (space_of c.args.space.now) c.args.t.0 (spelled c.args.x.now) _ _ c.facts.ensures (ap (λ z. Ok z) c.record_of.ensures))
 
 pub returns-in-Args-clause-some : goal.returns-in-Args-clause-some
-returns-in-Args-clause-some c = rw c.in-Args.is (told (λ b. shape b) (λ z. or_wrong_kind (option_and_then (λ ret. option_map (argument_fields ret) (arguments_in z.behind)) z.reference)) (about.Plain plain.Args) (space_of c.args.space.now) c.args.t.0 (spelled c.args.x.now) _ _ c.shape.ensures c.arguments.ensures (λ x. refl))
+returns-in-Args-clause-some c = rw c.in-Args.is (told (λ b. shape b) (λ z. as_fields signature_fields (signature_said z)) (about.Plain plain.Args) (space_of c.args.space.now) c.args.t.0 (spelled c.args.x.now) _ _ c.shape.ensures (c.signature_answer.ensures ∙ ap (as_fields signature_fields) c.signature_of.ensures) (λ x. refl))
 
 pub returns-in-Array-clause-some : goal.returns-in-Array-clause-some
-returns-in-Array-clause-some c = rw c.in-Array.is (told shown (λ z. or_wrong_kind (option_map array_fields (array_in z))) (about.Plain plain.Array) (space_of c.args.space.now) c.args.t.0 (spelled c.args.x.now) _ _ c.variant.ensures c.array.ensures (λ x. refl))
+returns-in-Array-clause-some c = rw c.in-Array.is (told (λ b. shape b) (λ z. as_fields array_fields (array_said z)) (about.Plain plain.Array) (space_of c.args.space.now) c.args.t.0 (spelled c.args.x.now) _ _ c.shape-in-Array.ensures (c.array_answer.ensures ∙ ap (as_fields array_fields) c.array_of.ensures) (λ x. refl))
 
 pub returns-in-Encoding-clause-some : goal.returns-in-Encoding-clause-some
-returns-in-Encoding-clause-some c = rw c.in-Encoding.is (told shown (λ z. or_wrong_kind (option_map encoding_fields (encoding_in z))) (about.Plain plain.Encoding) (space_of c.args.space.now) c.args.t.0 (spelled c.args.x.now) _ _ c.variant-in-Encoding.ensures c.encoding.ensures (λ x. refl))
+returns-in-Encoding-clause-some c = rw c.in-Encoding.is (told (λ b. shape b) (λ z. as_fields encoding_fields (encoding_said z)) (about.Plain plain.Encoding) (space_of c.args.space.now) c.args.t.0 (spelled c.args.x.now) _ _ c.shape-in-Encoding.ensures (c.encoding_answer.ensures ∙ ap (as_fields encoding_fields) c.encoding_of.ensures) (λ x. refl))
 
 pub returns-in-Reference-clause-some : goal.returns-in-Reference-clause-some
 returns-in-Reference-clause-some c = rw c.in-Reference.is (told (λ b. shape b) (λ z. as_fields type_fields (referred z)) (about.Plain plain.Reference) (space_of c.args.space.now) c.args.t.0 (spelled c.args.x.now) _ _ c.shape-in-Reference.ensures (c.type_answer.ensures ∙ ap (as_fields type_fields) c.referred.ensures) (λ x. refl))

@@ -1,20 +1,21 @@
 use Rattle.std.proofs.Common.{ap, refl, ◌∙◌}
 use Rattle.std.proofs.lemmas.List.{map-id}
-use Rattle.std.specs.Prelude.{option_map}
 use Rattle.ctf_check.specs.TypedView.{spelled}
 use Rattle.ctf_model.specs.figures.Paths.{path}
 use Rattle.ctf_model.specs.format.Shown.{enumerators_in, kind_of, members_in, shown}
-use Rattle.ctf_protocol.specs.answers.Questions.{as_fields, enumerator_fields, member_fields, or_wrong_kind, position_fields}
+use Rattle.ctf_protocol.specs.answers.Questions.{as_fields, enumerator_fields, member_fields, position_fields}
+use Rattle.ctf_model.specs.symbols.SymbolQuestions.{or_refused}
+use Rattle.ctf_model.specs.declared.faults.TheConstants.Fault.{WRONG_KIND}
 use Rattle.ctf_protocol.specs.declared.questions.TypeQuestion.TheVariants as about
 use Rattle.ctf_space.specs.SpaceView.{space_of}
 use Rattle.ctf_library.proofs.SaidOfFacts.{told}
 use Rattle.ctf_library.proofs.answering.tell.Goals as goal
 
 pub returns-in-Members : goal.returns-in-Members
-returns-in-Members c = rw c.in-Members.is (told shown (λ z. or_wrong_kind (option_map (member_fields c.in-Members.window) (members_in z))) (about.Members c.in-Members.window) (space_of c.args.space.now) c.args.t.0 (spelled c.args.x.now) _ _ c.variant.ensures c.members.ensures (λ x. refl))
+returns-in-Members c = rw c.in-Members.is (told shown (λ z. as_fields (member_fields c.in-Members.window) (or_refused WRONG_KIND (members_in z))) (about.Members c.in-Members.window) (space_of c.args.space.now) c.args.t.0 (spelled c.args.x.now) _ _ c.variant.ensures c.members.ensures (λ x. refl))
 
 pub returns-in-Enumerators : goal.returns-in-Enumerators
-returns-in-Enumerators c = rw c.in-Enumerators.is (told shown (λ z. or_wrong_kind (option_map (enumerator_fields c.in-Enumerators.window) (enumerators_in z))) (about.Enumerators c.in-Enumerators.window) (space_of c.args.space.now) c.args.t.0 (spelled c.args.x.now) _ _ c.variant-in-Enumerators.ensures c.enumerators.ensures (λ x. refl))
+returns-in-Enumerators c = rw c.in-Enumerators.is (told shown (λ z. as_fields (enumerator_fields c.in-Enumerators.window) (or_refused WRONG_KIND (enumerators_in z))) (about.Enumerators c.in-Enumerators.window) (space_of c.args.space.now) c.args.t.0 (spelled c.args.x.now) _ _ c.variant-in-Enumerators.ensures c.enumerators.ensures (λ x. refl))
 
 pub returns-in-Path : goal.returns-in-Path
 returns-in-Path c =

@@ -1,14 +1,15 @@
-use Rattle.std.specs.Prelude.{option_map}
-use Rattle.ctf_draft.specs.declared.draft.Draft.{Draft}
+use Rattle.ctf_model.specs.drafts.Drafts.{Draft}
 use Rattle.std.proofs.Common.{◌≡◌, ◌+◌, ℕ, List, sum_by, refl, map, Some, None, Option, IfSome, ap, sym, subst, ◌∙◌, arith}
 use Rattle.ctf_protocol.specs.sessions.State.{Slot}
 use Rattle.ctf_model.specs.spaces.Kept.{Kept, fault_over}
 use Rattle.ctf_protocol.proofs.Charged.{parent_more}
-use Rattle.ctf_protocol.specs.sessions.Charges.{kept_bytes, parent_bytes, slot_bytes}
+use Rattle.ctf_protocol.specs.sessions.Charges.{slot_bytes}
+use Rattle.ctf_model.specs.opened.Sizes.{kept_bytes, parent_bytes}
 use Rattle.ctf_protocol.specs.sessions.Steps.{slot_at, slots_with_parent}
-use Rattle.ctf_library.specs.Fitting.{AreTablesOf}
+use Rattle.ctf_open.specs.Fitting.{AreTablesOf}
 use Rattle.ctf_library.specs.SlotPlaces.{place_of}
 use Rattle.ctf_library.specs.SlotView.{slot_of}
+use Rattle.ctf_protocol.specs.sessions.Opened.{slot_with}
 use Rattle.ctf_library.specs.declared.slots.Slot as own
 use Rattle.ctf_library.proofs.Numbered.{is_place, is_nowhere}
 use Rattle.ctf_library.proofs.Rising.{rise_set}
@@ -20,30 +21,35 @@ index_mut-slot-requires c =
     let inside = (is_place c.args.number c.args.slots.now.items c.in-Some.place placed).inside in
     grind (arith, inside)
 
-not_there : (o : Option Draft) (x : Draft) → option_map (λ d. d.draft) o ≡ None → o ≡ Some x → ⊥
-not_there None x h e = cc
-not_there (Some y) x h e = cc
+pub adopt-requires-clause-undrafted : goal.adopt-requires-clause-undrafted
+adopt-requires-clause-undrafted c =
+    let placed = ap (λ (xs : List own.Slot). place_of c.args.number (map slot_of xs)) (sym c.deref.ensures.value) ∙ sym c.in-Some.ensures in
+    let here = (is_place c.args.number c.args.slots.now.items c.in-Some.place placed).found c.index_mut-slot.result.now ∙ ap (λ (s : own.Slot). Some (slot_of s)) (sym c.index_mut-slot.ensures.value) in
+    let D : Option Slot → Type 0 = λ o. IfSome o (λ slot. slot.draft ≡ None) in
+    subst D here c.requires.undrafted
 
-pub invariant_of-slot : goal.invariant_of-slot
-invariant_of-slot c =
+pub adopt-requires-clause-fits : goal.adopt-requires-clause-fits
+adopt-requires-clause-fits c =
     let placed = ap (λ (xs : List own.Slot). place_of c.args.number (map slot_of xs)) (sym c.deref.ensures.value) ∙ sym c.in-Some.ensures in
     let here = (is_place c.args.number c.args.slots.now.items c.in-Some.place placed).found c.index_mut-slot.result.now ∙ ap (λ (s : own.Slot). Some (slot_of s)) (sym c.index_mut-slot.ensures.value) in
     let P : Option Slot → Type 0 = λ o. IfSome o (λ slot. fault_over slot.kept c.args.imported.parent ≡ None) in
+    subst P here c.requires.fits
+
+pub adopt-requires-clause-made : goal.adopt-requires-clause-made
+adopt-requires-clause-made c =
+    let placed = ap (λ (xs : List own.Slot). place_of c.args.number (map slot_of xs)) (sym c.deref.ensures.value) ∙ sym c.in-Some.ensures in
+    let here = (is_place c.args.number c.args.slots.now.items c.in-Some.place placed).found c.index_mut-slot.result.now ∙ ap (λ (s : own.Slot). Some (slot_of s)) (sym c.index_mut-slot.ensures.value) in
     let L : Option Slot → Type 0 = λ o. IfSome o (λ slot. AreTablesOf slot.kept (Some c.args.imported.parent) c.args.imported.tables) in
-    let D : Option Slot → Type 0 = λ o. IfSome o (λ slot. slot.draft ≡ None) in
-    let fits = subst P here c.requires.fits in
-    let undrafted = subst D here c.requires.undrafted in
-    let made = subst L here c.requires.made in
-    record {
-      fits = λ x e. let same : c.args.imported ≡ x = cc in subst (λ i. fault_over c.index_mut-slot.result.now.own i.parent ≡ None) same fits;
-      made = λ x e. let same : c.args.imported ≡ x = cc in subst (λ i. AreTablesOf c.index_mut-slot.result.now.own (Some i.parent) i.tables) same made;
-      drafted = λ x e. absurd (not_there c.index_mut-slot.result.now.draft x undrafted e);
-    }
+    subst L here c.requires.made
 
 pub returns-in-Some-clause-slots : goal.returns-in-Some-clause-slots
 returns-in-Some-clause-slots c =
     let placed = ap (λ (xs : List own.Slot). place_of c.args.number (map slot_of xs)) (sym c.deref.ensures.value) ∙ sym c.in-Some.ensures in
-    sym ((is_place c.args.number c.args.slots.now.items c.in-Some.place placed).with_parent c.args.imported.parent c.index_mut-slot.result.now _ (ap (λ (s : own.Slot). record (slot_of s) { parent = Some c.args.imported.parent }) c.index_mut-slot.ensures.value))
+    let here = (is_place c.args.number c.args.slots.now.items c.in-Some.place placed).found c.index_mut-slot.result.now ∙ ap (λ (s : own.Slot). Some (slot_of s)) (sym c.index_mut-slot.ensures.value) in
+    let D : Option Slot → Type 0 = λ o. IfSome o (λ slot. slot.draft ≡ None) in
+    let undrafted : c.index_mut-slot.result.now.dictionary.draft ≡ None = subst D here c.requires.undrafted in
+    let new = ap (slot_with c.index_mut-slot.result.now.number) c.adopt.ensures ∙ ap (λ (o : Option Draft). record (slot_of c.index_mut-slot.result.now) { parent = Some c.args.imported.parent; draft = o }) (sym undrafted) in
+    sym ((is_place c.args.number c.args.slots.now.items c.in-Some.place placed).with_parent c.args.imported.parent c.index_mut-slot.result.now _ (new ∙ ap (λ (s : own.Slot). record (slot_of s) { parent = Some c.args.imported.parent }) c.index_mut-slot.ensures.value))
 
 pub returns-in_default-clause-slots : goal.returns-in_default-clause-slots
 returns-in_default-clause-slots c =

@@ -1,6 +1,6 @@
 use Rattle.std.proofs.Common.{◌≡◌, take}
 use Rattle.std.specs.Prelude.{sum_by}
-use Rattle.ctf_protocol.specs.sessions.Charges.{kept_bytes}
+use Rattle.ctf_model.specs.opened.Sizes.{kept_bytes}
 use Rattle.ctf_library.proofs.pool.bytes_held.Given as goal
 
 abbrev pub invariant-loop-loaded : goal.invariant-loop-loaded

@@ -8,14 +8,14 @@ use Rattle.ctf_names.proofs.spelling.spell.Goals as goal
 
 pub returns-then-len-gt-LONGEST_TEXT-clause-exact_err : goal.returns-then-len-gt-LONGEST_TEXT-clause-exact_err
 returns-then-len-gt-LONGEST_TEXT-clause-exact_err c =
-    let same : c.as_slice-2.result.now ≡ marks true c.in_ok-unrolled.unrolled.layers.items = c.as_slice-2.ensures.value ∙ (c.in-Ok.ensures ∙ ap (marks true) c.as_slice.ensures.value) in
+    let same : c.as_slice-2.result.now ≡ marks true c.in_ok-unrolled.unrolled.layers.items = c.as_slice-2.ensures.value ∙ (c.in_ok-marks.ensures ∙ ap (marks true) c.as_slice.ensures.value) in
     let long : spelled_name (space_of c.args.space.now) c.args.number.0 ≡ Err too_long =
     long_text (space_of c.args.space.now) c.args.number.0 c.in_ok-unrolled.unrolled.layers.items c.as_slice-2.result.now (base_text c.in_ok-unrolled.unrolled.base) c.in_ok-unrolled.ensures.ok same (omega (arith, c.text_len-len.ensures)) in
-    rw c.placeless-then-len-gt-LONGEST_TEXT.ensures (inr long)
+    rw c.placeless.ensures (inr long)
 
 pub returns-clause-exact_ok : goal.returns-clause-exact_ok
 returns-clause-exact_ok c =
-    let same : c.as_slice-3.result.now ≡ marks true c.in_ok-unrolled.unrolled.layers.items = c.as_slice-3.ensures.value ∙ (c.in-Ok.ensures ∙ ap (marks true) c.as_slice.ensures.value) in
+    let same : c.as_slice-3.result.now ≡ marks true c.in_ok-unrolled.unrolled.layers.items = c.as_slice-3.ensures.value ∙ (c.in_ok-marks.ensures ∙ ap (marks true) c.as_slice.ensures.value) in
     let again : c.as_slice-2.result.now ≡ c.as_slice-3.result.now = c.as_slice-2.ensures.value ∙ sym c.as_slice-3.ensures.value in
     let fits = rw again at c.text_len-len.ensures in
     let short : spelled_name (space_of c.args.space.now) c.args.number.0 ≡ Ok (marked_text c.as_slice-3.result.now (base_text c.in_ok-unrolled.unrolled.base)) =

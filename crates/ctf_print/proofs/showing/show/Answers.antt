@@ -11,9 +11,9 @@ returns-in_err-show_value-clause-exact_err c =
     let refused = rw (c.new-text.ensures, c.from.ensures) at c.in_err-show_value.ensures.err in
     rw (p.1, p.2) (alone_refused (space_of c.args.space.now) c.args.memory.now c.args.number.0 c.args.offset _ refused)
 
-pub returns-in-Ok-clause-exact_ok : goal.returns-in-Ok-clause-exact_ok
-returns-in-Ok-clause-exact_ok c =
+pub returns-clause-exact_ok : goal.returns-clause-exact_ok
+returns-clause-exact_ok c =
     let alone = rw (c.new-text.ensures, c.from.ensures) at c.in_ok-show_value.ensures.ok in
     let same : value_text (space_of c.args.space.now) c.args.memory.now c.args.number.0 c.args.offset ≡ Ok c.show_value.new.out = sym (alone_is (space_of c.args.space.now) c.args.memory.now c.args.number.0 c.args.offset) ∙ alone in
-    let all = c.in-Ok.ensures.items in
+    let all = c.in_ok-extend_from_slice.ensures.items in
     rw (same, all, c.as_slice.ensures) refl

@@ -14,8 +14,8 @@ invariant_of-result c =
       omega arith,
       omega arith,
       omega (arith, c.new.ensures.len),
-      c.in-Ok.ensures.fits,
-      rw (c.new.ensures.items, c.new-2.ensures, c.in-Ok.ensures.same ∙ same_above (λ p. p.value) c.args.parent)
+      c.in_ok-parent.ensures.fits,
+      rw (c.new.ensures.items, c.new-2.ensures, c.in_ok-parent.ensures.same ∙ same_above (λ p. p.value) c.args.parent)
           (empty_sound parent c.args.parname c.args.parlabel c.args.model (same_some (λ p. modelled_by p.value) c.args.parent ∙ c.requires.named) clean clean_label (sym c.is_childs.ensures ∙ c.if-is_childs.false) (sym c.is_of_other.ensures ∙ c.if-is_of_other.false)),
       none_known _ c.new-3.result (λ j. ap (λ known. slice_index_or known j None) c.new-3.ensures),
     )

@@ -1,10 +1,6 @@
-use Rattle.std.proofs.Common.{◌≡◌, ℕ, length, drop, replicate, subst, sym, ◌∙◌, ap, arith, rules}
-use Rattle.std.specs.Prelude.{None}
+use Rattle.std.proofs.Common.{◌≡◌, length, drop, replicate, ◌∙◌, rules}
 use Rattle.std.proofs.Math.Seq.{take-append_seam}
-use Rattle.std.proofs.lemmas.List.{length-map}
-use Rattle.ctf_layout.specs.Kept.{AreExtents, table_kept}
-use Rattle.ctf_layout.specs.Table.{entry}
-use Rattle.ctf_layout.specs.declared.entry.Entry.{Entry}
+use Rattle.ctf_layout.specs.Kept.{AreExtents}
 use Rattle.ctf_layout.proofs.Tables.{all_open}
 use Rattle.ctf_layout.proofs.kept.Extents.build.Goals as goal
 

@@ -1,6 +1,4 @@
-use Rattle.std.proofs.Common.{◌≡◌, sym, ap, ◌∙◌, arith}
-use Rattle.std.specs.Prelude.{None, Some}
-use Rattle.ctf_layout.specs.Over.{OverParent}
+use Rattle.std.proofs.Common.{sym, ◌∙◌, arith}
 use Rattle.ctf_layout.proofs.Elsewhere.{extent_of_none, extent_of_nowhere, extent_of_parents}
 use Rattle.ctf_layout.proofs.Tables.{own_extent, in_parents_table, in_no_table}
 use Rattle.ctf_layout.proofs.layout.Layout.extent.Goals as goal

@@ -1,4 +1,4 @@
-use Rattle.std.proofs.Common.{◌≡◌, ◌≤◌, true, false, sym, ap, ◌∙◌, arith}
+use Rattle.std.proofs.Common.{◌≡◌, true, false, sym, ap, ◌∙◌}
 use Rattle.std.specs.Option.{is_some}
 use Rattle.ctf_space.specs.SpaceView.{space_of}
 use Rattle.ctf_layout.proofs.Few.{in_few}

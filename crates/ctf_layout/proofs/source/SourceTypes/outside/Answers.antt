@@ -1,4 +1,3 @@
-use Rattle.std.proofs.Common.{◌≡◌, sym, ap, ◌∙◌}
 use Rattle.ctf_space.specs.SpaceView.{space_of}
 use Rattle.ctf_layout.proofs.Tables.{in_no_table, in_parents_table}
 use Rattle.ctf_layout.proofs.source.SourceTypes.outside.Goals as goal

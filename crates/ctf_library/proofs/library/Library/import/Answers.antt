@@ -1,14 +1,17 @@
 use Rattle.std.proofs.Common.{◌≡◌, ◌≤◌, ◌<◌, ◌+◌, ◌-◌, ◌++◌, ◌⊎◌, ℕ, List, [], ◌∷◌, map, sum_by, Option, Some, None, IfSome, Result, Ok, Err, Bool, true, false, is_some, rules, refl, inl, inr, ap, sym, subst, ◌∙◌, arith}
-use Rattle.ctf_draft.specs.declared.draft.Draft.{Draft}
 use Rattle.ctf_library.specs.Charged.{bytes_in}
 use Rattle.ctf_library.specs.SlotView.{slot_of}
 use Rattle.ctf_library.specs.declared.slots.Slot as own
 use Rattle.ctf_library.proofs.Counting.{counted_charge}
-use Rattle.ctf_library.proofs.Creating.{map_there}
-use Rattle.ctf_library.proofs.Quota.{imports_done, imports_refused, room_le, room_lt}
+use Rattle.ctf_library.proofs.Quota.{imports_done, imports_refused}
+use Rattle.ctf_library.proofs.Rooms.{room_le, room_lt}
 use Rattle.ctf_library.proofs.Rising.{in_order, non_decreasing}
 use Rattle.ctf_protocol.proofs.Charged.{slot_counts, without_bytes}
-use Rattle.ctf_protocol.specs.sessions.Charges.{charge, kept_bytes, parent_bytes, slot_bytes}
+use Rattle.ctf_protocol.specs.sessions.Charges.{charge, slot_bytes}
+use Rattle.ctf_model.specs.rules.Refusals.{want_of_memory}
+use Rattle.ctf_model.specs.spaces.Kept.{Kept, fault_over}
+use Rattle.ctf_open.specs.Quotas.{IsUnserved}
+use Rattle.ctf_model.specs.opened.Sizes.{kept_bytes, parent_bytes}
 use Rattle.ctf_protocol.specs.sessions.State.{Slot, State}
 use Rattle.ctf_protocol.specs.sessions.Steps.{quota, slot_at}
 use Rattle.ctf_library.proofs.library.Library.import.Goals as goal
@@ -27,7 +30,7 @@ overflow_sub-charge c =
     let own_child = ap (λ (xs : List own.Slot). slot_at c.args.d (map slot_of xs)) (sym c.deref.ensures.value) ∙ sym c.in-Some.ensures in
     let child_at = ap (λ (s : State). slot_at c.args.d s.slots) (sym c.self.view_is) ∙ own_child in
     let old = c.parent_bytes-old.ensures.count in
-    let new = c.bytes-new.ensures.count in
+    let new = c.bytes-new.ensures.count ∙ ap kept_bytes c.own.ensures in
     let known = c.charge.ensures in
     let counts = slot_counts c.args.d (slot_of c.in-Some.child.now) c.args.self.now child_at in
     omega (arith, old, known, counts)
@@ -37,15 +40,16 @@ returns-in-Err c =
     let own_child = ap (λ (xs : List own.Slot). slot_at c.args.d (map slot_of xs)) (sym c.deref.ensures.value) ∙ sym c.in-Some.ensures in
     let child_at = ap (λ (s : State). slot_at c.args.d s.slots) (sym c.self.view_is) ∙ own_child in
     let parent_at = ap (λ (s : State). slot_at c.args.parent s.slots) (sym c.self.view_is) ∙ ap (λ (xs : List own.Slot). slot_at c.args.parent (map slot_of xs)) (sym c.deref-2.ensures.value) ∙ sym c.in-Some-find_slot.ensures in
-    let plain = map_there (λ (d : Draft). d.draft) c.in-Some.child.now.draft ∙ sym c.is_some.ensures ∙ c.if-is_some.false in
+    let plain = sym c.is_drafted.ensures ∙ c.if-is_drafted.false in
     let child = slot_of c.in-Some.child.now in
     let parent = slot_of c.in-Some-find_slot.source.now in
     let old = c.parent_bytes-old.ensures.count in
-    let new = c.bytes-new.ensures.count in
+    let new = c.bytes-new.ensures.count ∙ ap kept_bytes c.own.ensures in
     let known = c.charge.ensures in
     let counts = slot_counts c.args.d child c.args.self.now child_at in
     let over : c.fits-has_room.result ≡ false → quota + parent_bytes child.parent < charge c.args.self.now + kept_bytes parent.kept = λ e. let lt = room_lt ((c.charge.result - c.parent_bytes-old.result) + c.bytes-new.result) (sym c.fits-has_room.ensures ∙ e) in omega (arith, lt, old, new, known, counts) in
-    imports_refused c.args.d c.args.parent child parent c.args.self.now c.in-Err.fault c.fits-has_room.result child_at parent_at plain over c.in-Err.ensures.exact_err
+    let refused = subst (λ (k : Kept). (c.in-Err.fault ≡ want_of_memory) ⊎ IsUnserved c.fits-has_room.result (fault_over child.kept k) c.in-Err.fault) c.own-3.ensures (subst (λ (k : Kept). (c.in-Err.fault ≡ want_of_memory) ⊎ IsUnserved c.fits-has_room.result (fault_over k c.own-3.result.now) c.in-Err.fault) c.own-2.ensures c.in-Err.ensures.exact_err) in
+    imports_refused c.args.d c.args.parent child parent c.args.self.now c.in-Err.fault c.fits-has_room.result child_at parent_at plain over refused
 
 pub overflow_sub-self : goal.overflow_sub-self
 overflow_sub-self c =
@@ -67,13 +71,13 @@ invariant_of-self c =
     let own_child = ap (λ (xs : List own.Slot). slot_at c.args.d (map slot_of xs)) (sym c.deref.ensures.value) ∙ sym c.in-Some.ensures in
     let child_at = ap (λ (s : State). slot_at c.args.d s.slots) (sym c.self.view_is) ∙ own_child in
     let old = c.parent_bytes-old.ensures.count in
-    let new = c.bytes-new.ensures.count in
+    let new = c.bytes-new.ensures.count ∙ ap kept_bytes c.own.ensures in
     let known = c.charge.ensures in
     let le = room_le ((c.charge.result - c.parent_bytes-old.result) + c.bytes-new.result) (sym c.fits-has_room.ensures ∙ c.in-Ok.ensures.fits) in
     let charged = c.charge.ensures ∙ counted_charge _ _ _ _ _ _ _ c.self.view_is c.self.invariant.2 in
     let child = slot_of c.in-Some.child.now in
     let moved : bytes_in c.set_parent.new.slots.items + parent_bytes child.parent ≡ bytes_in c.self.inside.slots.items + kept_bytes c.in-Ok-share.parent = subst (λ (o : Option Slot). IfSome o (λ slot. bytes_in c.set_parent.new.slots.items + parent_bytes slot.parent ≡ bytes_in c.self.inside.slots.items + kept_bytes c.in-Ok-share.parent)) own_child c.set_parent.ensures.bytes in
-    let shared = ap kept_bytes c.in-Ok-share.ensures in
+    let shared = ap kept_bytes (c.in-Ok-share.ensures ∙ c.own-4.ensures) in
     let less = without_bytes c.args.d child (map slot_of c.self.inside.slots.items) own_child in
     let slots = c.self.invariant.2.slots in
     let counts = slot_counts c.args.d child c.args.self.now child_at in
@@ -84,13 +88,14 @@ returns c =
     let own_child = ap (λ (xs : List own.Slot). slot_at c.args.d (map slot_of xs)) (sym c.deref.ensures.value) ∙ sym c.in-Some.ensures in
     let child_at = ap (λ (s : State). slot_at c.args.d s.slots) (sym c.self.view_is) ∙ own_child in
     let parent_at = ap (λ (s : State). slot_at c.args.parent s.slots) (sym c.self.view_is) ∙ ap (λ (xs : List own.Slot). slot_at c.args.parent (map slot_of xs)) (sym c.deref-2.ensures.value) ∙ sym c.in-Some-find_slot.ensures in
-    let plain = map_there (λ (d : Draft). d.draft) c.in-Some.child.now.draft ∙ sym c.is_some.ensures ∙ c.if-is_some.false in
+    let plain = sym c.is_drafted.ensures ∙ c.if-is_drafted.false in
     let child = slot_of c.in-Some.child.now in
     let parent = slot_of c.in-Some-find_slot.source.now in
     let old = c.parent_bytes-old.ensures.count in
-    let new = c.bytes-new.ensures.count in
+    let new = c.bytes-new.ensures.count ∙ ap kept_bytes c.own.ensures in
     let known = c.charge.ensures in
     let counts = slot_counts c.args.d child c.args.self.now child_at in
     let le = room_le ((c.charge.result - c.parent_bytes-old.result) + c.bytes-new.result) (sym c.fits-has_room.ensures ∙ c.in-Ok.ensures.fits) in
-    let to = imports_done c.args.d c.args.parent child parent c.args.self.now child_at parent_at plain c.in-Ok.ensures.exact_ok (omega (arith, le, old, new, known, counts)) in
+    let served = subst (λ (k : Kept). fault_over child.kept k ≡ None) c.own-3.ensures (subst (λ (k : Kept). fault_over k c.own-3.result.now ≡ None) c.own-2.ensures c.in-Ok.ensures.exact_ok) in
+    let to = imports_done c.args.d c.args.parent child parent c.args.self.now child_at parent_at plain served (omega (arith, le, old, new, known, counts)) in
     rw to (inl (search rules, search rules))

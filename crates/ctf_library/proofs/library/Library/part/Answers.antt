@@ -1,6 +1,7 @@
 use Rattle.std.proofs.Common.{◌≡◌, ◌≤◌, ◌<◌, ◌+◌, ◌-◌, ◌++◌, ℕ, List, [], ◌∷◌, Option, Some, None, Result, Ok, Err, Bool, true, false, rules, refl, inl, inr, ap, sym, subst, ◌∙◌, arith}
 use Rattle.ctf_library.proofs.Counting.{counted_charge, staged_counted}
-use Rattle.ctf_library.proofs.Quota.{part_makes, part_refused, room_le, room_lt}
+use Rattle.ctf_library.proofs.Quota.{part_makes, part_refused}
+use Rattle.ctf_library.proofs.Rooms.{room_le, room_lt}
 use Rattle.std.proofs.Common.{length, map}
 use Rattle.ctf_answers.specs.Replies.{changed}
 use Rattle.ctf_library.specs.SlotView.{publication_of, slot_of}

@@ -3,15 +3,17 @@ use Rattle.std.proofs.lemmas.Bool.{le-ltb}
 use Rattle.ctf_library.proofs.Creating.{map_there}
 use Rattle.ctf_library.specs.SlotView.{slot_of}
 use Rattle.ctf_library.specs.declared.slots.Slot as own
-use Rattle.ctf_protocol.specs.answers.HeldAnswers.{pending_in}
+use Rattle.ctf_model.specs.opened.Open.{pending_in}
 use Rattle.ctf_protocol.specs.sessions.Publications.{published_as}
 use Rattle.ctf_protocol.specs.sessions.State.{Slot, State}
 use Rattle.std.proofs.Common.{map, ◌≡◌, ◌≤◌, ◌<◌, ◌+◌, ◌-◌, ◌++◌, ℕ, List, [], ◌∷◌, Option, Some, None, Result, Ok, Err, Bool, true, false, rules, refl, inl, inr, ap, sym, subst, ◌∙◌, arith}
 use Rattle.ctf_library.proofs.Rising.{in_order}
-use Rattle.ctf_library.proofs.Quota.{publishes_done, publishes_over, room_le, room_lt}
+use Rattle.ctf_library.proofs.Quota.{publishes_done, publishes_over}
+use Rattle.ctf_library.proofs.Rooms.{room_le, room_lt}
 use Rattle.ctf_protocol.specs.sessions.Steps.{publishes_kept, slot_at}
 use Rattle.ctf_library.specs.Stepping.{Makes}
 use Rattle.ctf_model.specs.spaces.Kept.{Kept}
+use Rattle.ctf_model.specs.opened.Sizes.{kept_bytes}
 use Rattle.ctf_library.proofs.library.Library.publish.Goals as goal
 
 pub find_slot-requires : goal.find_slot-requires
@@ -28,7 +30,7 @@ returns-then-not-fits c =
     let free = ap (λ (n : List ℕ). is_some (published_as n c.args.self.now.published)) (sym c.as_slice.ensures) ∙ ap is_some (sym c.published.ensures) ∙ map_there _ c.published.result ∙ sym c.is_some.ensures ∙ c.if-is_some.false in
     let lt = room_lt (c.charge.result + c.bytes.result) (sym c.fits.ensures ∙ c.if-not-fits.true) in
     let charged = c.charge.ensures in
-    let count = c.bytes.ensures.count in
+    let count = c.bytes.ensures.count ∙ ap kept_bytes c.own.ensures in
     let to = publishes_over c.args.d c.args.name.now (slot_of c.in-Some.slot.now) c.args.self.now slot_at_d none free (omega (arith, lt, charged, count)) in
     rw to (inl (search rules, refl))
 
@@ -39,6 +41,6 @@ returns c =
     let free = ap (λ (n : List ℕ). is_some (published_as n c.args.self.now.published)) (sym c.as_slice.ensures) ∙ ap is_some (sym c.published.ensures) ∙ map_there _ c.published.result ∙ sym c.is_some.ensures ∙ c.if-is_some.false in
     let le = room_le (c.charge.result + c.bytes.result) (sym c.fits.ensures ∙ c.if-not-fits.false) in
     let charged = c.charge.ensures in
-    let count = c.bytes.ensures.count in
+    let count = c.bytes.ensures.count ∙ ap kept_bytes c.own.ensures in
     let to = publishes_done c.args.d c.args.name.now (slot_of c.in-Some.slot.now) c.args.self.now slot_at_d none free (omega (arith, le, charged, count)) in
-    rw to (subst (λ (k : Kept). Makes c.args.self.now (publishes_kept c.args.name.now k c.args.self.now) c.publish_loaded.result c.publish_loaded.new.self) c.in-Ok.ensures c.publish_loaded.ensures)
+    rw to (subst (λ (k : Kept). Makes c.args.self.now (publishes_kept c.args.name.now k c.args.self.now) c.publish_loaded.result c.publish_loaded.new.self) (c.in-Ok.ensures ∙ c.own-2.ensures) c.publish_loaded.ensures)

@@ -1,9 +1,11 @@
 use Rattle.std.proofs.Common.{◌≡◌, ◌≤◌, ◌<◌, ◌+◌, ◌-◌, ◌++◌, ℕ, List, [], ◌∷◌, Option, Some, None, Result, Ok, Err, Bool, true, false, rules, refl, inl, inr, ap, sym, subst, ◌∙◌, arith}
 use Rattle.ctf_library.specs.Charged.{bytes_in}
-use Rattle.ctf_protocol.specs.sessions.Charges.{kept_bytes, slot_bytes}
+use Rattle.ctf_protocol.specs.sessions.Charges.{slot_bytes}
+use Rattle.ctf_model.specs.opened.Sizes.{kept_bytes}
 use Rattle.ctf_library.specs.SlotView.{slot_of}
 use Rattle.ctf_library.proofs.Counting.{counted_charge}
-use Rattle.ctf_library.proofs.Quota.{room_le, room_lt, takes_done, takes_over}
+use Rattle.ctf_library.proofs.Quota.{takes_done, takes_over}
+use Rattle.ctf_library.proofs.Rooms.{room_le, room_lt}
 use Rattle.ctf_library.proofs.library.Library.take.Goals as goal
 
 pub returns-then-not-fits : goal.returns-then-not-fits

@@ -4,7 +4,7 @@ use Rattle.std.proofs.lemmas.List.Sums.{sum_by_push}
 use Rattle.ctf_library.specs.Pooling.{most_bytes, with_room}
 use Rattle.ctf_library.proofs.Pooled.{IsRoomy, is_roomy}
 use Rattle.ctf_model.specs.spaces.Kept.{Kept}
-use Rattle.ctf_protocol.specs.sessions.Charges.{kept_bytes}
+use Rattle.ctf_model.specs.opened.Sizes.{kept_bytes}
 use Rattle.ctf_library.proofs.pool.Pool.hold.Goals as goal
 
 pub invariant_of-self : goal.invariant_of-self

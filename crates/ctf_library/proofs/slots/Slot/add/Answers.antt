@@ -1,21 +1,25 @@
-use Rattle.std.proofs.Common.{◌≡◌, ap, subst}
-use Rattle.std.specs.Prelude.{option_map}
-use Rattle.ctf_draft.specs.declared.draft.Draft.{Draft}
-use Rattle.ctf_library.specs.Drafting.{IsUnder}
+use Rattle.std.proofs.Common.{◌≡◌, ℤ, [], ap, sym, subst, w32}
+use Rattle.std.proofs.Math.Facts.{to_z-of_z}
+use Rattle.ctf_protocol.specs.declared.additions.Addition.{Addition}
+use Rattle.ctf_protocol.specs.declared.requests.DraftStep.TheVariants.{Add}
+use Rattle.ctf_library.specs.Drafting.{IsStepped}
+use Rattle.ctf_protocol.specs.sessions.Opened.{slot_stepped}
 use Rattle.ctf_library.specs.SlotView.{slot_of}
-use Rattle.ctf_library.proofs.DraftParents.{still_under}
-use Rattle.ctf_library.proofs.DraftSteps.{add_step}
+use Rattle.ctf_protocol.specs.sessions.Opened.{open_of}
+use Rattle.ctf_model.specs.opened.Steps.{enumerator_added}
+use Rattle.ctf_protocol.specs.sessions.State.{Slot}
+use Rattle.ctf_library.proofs.DraftSteps.{enumerator_as, label_as, member_as, type_as}
+use Rattle.ctf_protocol.specs.sessions.DraftSteps.{SlotOutcome, step_if_draft}
 use Rattle.ctf_library.proofs.slots.Slot.add.Goals as goal
 
-pub invariant_of-self : goal.invariant_of-self
-invariant_of-self c =
-    let under = still_under c.in-Some.draft.draft c.enlarge.new.draft.draft c.args.addition.now _ _ c.enlarge.ensures.step (c.args.self.now.drafted c.in-Some.draft c.in-Some.is) in
-    record {
-      fits = c.args.self.now.fits;
-      made = c.args.self.now.made;
-      drafted = λ x e. let same : c.enlarge.new.draft ≡ x = cc in subst (λ (d : Draft). IsUnder d.draft (option_map (λ i. i.parent) c.args.self.now.imported)) same under;
-    }
+pub returns-in-Type-clause-step : goal.returns-in-Type-clause-step
+returns-in-Type-clause-step c =
+    subst (λ (a : Addition). IsStepped (step_if_draft (Add a) (slot_of c.args.self.now) (slot_of c.args.self.now).draft) c.add_type.result (slot_of c.args.self.now) (slot_of c.add_type.new.self)) (sym c.in-Type.is) (subst (λ (o : SlotOutcome). IsStepped o c.add_type.result (slot_of c.args.self.now) (slot_of c.add_type.new.self)) (sym (type_as (slot_of c.args.self.now) _ c.in-Type.name c.in-Type.root c.in-Type.kind)) c.add_type.ensures.step)
 
-pub returns-in-Some-clause-step : goal.returns-in-Some-clause-step
-returns-in-Some-clause-step c =
-    add_step (slot_of c.args.self.now) c.in-Some.draft.draft c.enlarge.new.draft.draft c.args.addition.now _ (ap (option_map (λ (d : Draft). d.draft)) c.in-Some.is) c.enlarge.ensures.step
+pub returns-in-Member-clause-step : goal.returns-in-Member-clause-step
+returns-in-Member-clause-step c =
+    subst (λ (a : Addition). IsStepped (step_if_draft (Add a) (slot_of c.args.self.now) (slot_of c.args.self.now).draft) c.add_member.result (slot_of c.args.self.now) (slot_of c.add_member.new.self)) (sym c.in-Member.is) (subst (λ (o : SlotOutcome). IsStepped o c.add_member.result (slot_of c.args.self.now) (slot_of c.add_member.new.self)) (sym (member_as (slot_of c.args.self.now) _ c.in-Member.t c.in-Member.name c.in-Member.tnum c.in-Member.offset)) c.add_member.ensures.step)
+
+pub returns-in-Label-clause-step : goal.returns-in-Label-clause-step
+returns-in-Label-clause-step c =
+    subst (λ (a : Addition). IsStepped (step_if_draft (Add a) (slot_of c.args.self.now) (slot_of c.args.self.now).draft) c.add_label.result (slot_of c.args.self.now) (slot_of c.add_label.new.self)) (sym c.in-Label.is) (subst (λ (o : SlotOutcome). IsStepped o c.add_label.result (slot_of c.args.self.now) (slot_of c.add_label.new.self)) (sym (label_as (slot_of c.args.self.now) _ c.in-Label.name c.in-Label.last)) c.add_label.ensures.step)

@@ -1,0 +1,4 @@
+pub mod Open
+pub mod Questions
+pub mod Sizes
+pub mod Steps

@@ -1,0 +1,143 @@
+-- What is asked of an open dictionary: the value, or the fault. What it is answered as is for who
+-- asks. Source: libctf(3LIB), ctf_type_encoding, ctf_array_info, ctf_func_info, ctf_member_iter,
+-- ctf_enum_iter, ctf_type_size, ctf_type_align, ctf_type_resolve, ctf_type_pointer, ctf_type_lname,
+-- ctf_member_info, ctf_label_iter.
+use Rattle.std.specs.Prelude.{ℕ, Bool, List, length, Result, Ok, Err, slice_get, option_map, option_and_then}
+use Rattle.ctf_model.specs.declared.faults.Fault.{Fault}
+use Rattle.ctf_model.specs.declared.faults.TheConstants.Fault.{NO_LABEL, NO_MEMBER, NO_PARENT, WRONG_KIND}
+use Rattle.ctf_model.specs.declared.kinds.Kind.{Kind}
+use Rattle.ctf_model.specs.figures.Figures.{align, resolved, size}
+use Rattle.ctf_model.specs.figures.Paths.{Position, path}
+use Rattle.ctf_model.specs.format.Dictionary.{Label}
+use Rattle.ctf_model.specs.format.Shown.{ArrayParts, EncodingParts, Shape, arguments_in, array_in, encoding_in, enumerators_in, list_length, members_in, named_arguments, shape}
+use Rattle.ctf_model.specs.format.Term.{Enumerator, Member, Tag, Term}
+use Rattle.ctf_model.specs.names.Found.{pointer_to}
+use Rattle.ctf_model.specs.names.TypeNames.{spelled_name}
+use Rattle.ctf_model.specs.spaces.Kept.{kept_dictionary}
+use Rattle.ctf_model.specs.spaces.Space.{Space, space_type}
+use Rattle.ctf_model.specs.symbols.Entries.{Signature}
+use Rattle.ctf_model.specs.symbols.SymbolQuestions.{or_refused}
+use Rattle.ctf_model.specs.values.Values.{value_text}
+use Rattle.ctf_model.specs.opened.Open.{Open}
+
+-- ---- types
+
+-- what a type is, if it is there
+abbrev pub shape_of : Result Term Fault → Result Shape Fault
+shape_of (Ok x) = Ok (shape x.body)
+shape_of (Err fault) = Err fault
+
+-- what is said of it
+abbrev pub said_of : {A : Type 0} → (Shape → Result A Fault) → Result Shape Fault → Result A Fault
+said_of says (Ok x) = says x
+said_of says (Err fault) = Err fault
+
+abbrev pub kind_said : Shape → Result Kind Fault
+kind_said x = Ok x.kind
+
+-- whether look-ups see a type, if it is there
+abbrev pub root_said : Result Term Fault → Result Bool Fault
+root_said (Ok x) = Ok x.root
+root_said (Err fault) = Err fault
+
+-- what it declares, if it is a forward
+abbrev pub tag_said : Shape → Result Tag Fault
+tag_said x = or_refused WRONG_KIND x.declares
+
+-- how many members, enumerators or arguments it has
+abbrev pub length_said : Shape → Result ℕ Fault
+length_said x = Ok (list_length x.behind)
+
+abbrev pub encoding_said : Shape → Result EncodingParts Fault
+encoding_said x = or_refused WRONG_KIND (encoding_in x.behind)
+
+abbrev pub array_said : Shape → Result ArrayParts Fault
+array_said x = or_refused WRONG_KIND (array_in x.behind)
+
+-- what a function returns and takes
+abbrev pub signature_said : Shape → Result Signature Fault
+signature_said x = or_refused WRONG_KIND
+    (option_and_then (λ ret. option_map (λ args. record { ret = ret; args = args })
+    (arguments_in x.behind)) x.reference)
+
+abbrev pub members_said : Shape → Result (List Member) Fault
+members_said x = or_refused WRONG_KIND (members_in x.behind)
+
+abbrev pub enumerators_said : Shape → Result (List Enumerator) Fault
+enumerators_said x = or_refused WRONG_KIND (enumerators_in x.behind)
+
+-- what is told of something that may not be
+abbrev pub told_of : {A B : Type 0} → (A → B) → Result A Fault → Result B Fault
+told_of told (Ok a) = Ok (told a)
+told_of told (Err fault) = Err fault
+
+-- what a function returns
+abbrev pub return_said : Shape → Result ℕ Fault
+return_said x = told_of (λ f. f.ret) (signature_said x)
+
+-- an item of a list by its number, from 0, if there is such a list
+abbrev pub item_of : {A : Type 0} → ℕ → Result (List A) Fault → Result A Fault
+item_of index (Ok items) = or_refused NO_MEMBER (slice_get items index)
+item_of index (Err fault) = Err fault
+
+abbrev pub member_said : ℕ → Shape → Result Member Fault
+member_said index x = item_of index (members_said x)
+
+abbrev pub enumerator_said : ℕ → Shape → Result Enumerator Fault
+enumerator_said index x = item_of index (enumerators_said x)
+
+abbrev pub argument_said : ℕ → Shape → Result ℕ Fault
+argument_said index x = item_of index (or_refused WRONG_KIND (arguments_in x.behind))
+
+-- ---- what a type comes to
+
+-- what is said of a number's type, if that is there: of the number 0 nothing is
+abbrev pub if_there : {A : Type 0} → Result A Fault → Result Term Fault → Result A Fault
+if_there said (Ok x) = said
+if_there said (Err fault) = Err fault
+
+-- in bytes
+abbrev pub size_said : Space → ℕ → Result ℕ Fault
+size_said s t = if_there (size s t) (space_type s t)
+
+abbrev pub align_said : Space → ℕ → Result ℕ Fault
+align_said s t = if_there (align s t) (space_type s t)
+
+-- the type that it stands for
+abbrev pub resolved_said : Space → ℕ → Result ℕ Fault
+resolved_said s t = if_there (resolved s t) (space_type s t)
+
+-- the least pointer to it, or to what it stands for
+abbrev pub pointer_said : Space → ℕ → Result ℕ Fault
+pointer_said s t = if_there (pointer_to s t) (space_type s t)
+
+-- as C spells it
+abbrev pub name_said : Space → ℕ → Result (List ℕ) Fault
+name_said s t = if_there (spelled_name s t) (space_type s t)
+
+-- where the member of a member lies
+abbrev pub path_said : Space → List (List ℕ) → ℕ → Result Position Fault
+path_said s names t = if_there (path s t names) (space_type s t)
+
+-- what a value of it shows, in memory and from a bit on
+abbrev pub value_said : Space → List ℕ → ℕ → ℕ → Result (List ℕ) Fault
+value_said s memory offset t = if_there (value_text s memory t offset) (space_type s t)
+
+-- ---- the dictionary as a whole
+
+-- how many types the parent has
+abbrev pub parent_types : Open → Result ℕ Fault
+parent_types s = or_refused NO_PARENT (option_map (λ p. length (kept_dictionary p).terms) s.parent)
+
+-- ---- functions of a program
+
+-- one of the arguments that it names, from 0
+abbrev pub named_said : ℕ → Result Signature Fault → Result ℕ Fault
+named_said index (Ok f) = or_refused NO_MEMBER (slice_get (named_arguments f.args) index)
+named_said index (Err fault) = Err fault
+
+-- ---- labels
+
+-- a label by its number, from 0
+abbrev pub label_at : ℕ → List Label → Result Label Fault
+label_at index labels = or_refused NO_LABEL (slice_get labels index)

@@ -1,0 +1,33 @@
+-- What is added to a draft changes neither its parent nor its data model.
+use Rattle.std.proofs.Common.{◌≡◌, ℕ, Option, Result, Ok, Err, refl, sym, subst, ◌∙◌}
+use Rattle.std.specs.Prelude.{IfOk, OnErr}
+use Rattle.ctf_model.specs.opened.Steps.{silent}
+use Rattle.ctf_open.specs.PartView.{part_in}
+use Rattle.ctf_open.specs.declared.adding.Part.{Part}
+use Rattle.ctf_open.specs.declared.adding.Part.TheVariants as part
+use Rattle.ctf_draft.specs.DraftView.{Owned}
+use Rattle.ctf_open.proofs.DraftParents.{AreAlike, enumerator_alike, label_alike, member_alike}
+use Rattle.ctf_open.specs.Drafting.{IsUnder}
+use Rattle.ctf_model.specs.drafts.Adders.{Added, add_enumerator, add_label}
+use Rattle.ctf_model.specs.drafts.Drafts.{Draft}
+use Rattle.ctf_model.specs.spaces.Kept.{Kept}
+use Rattle.ctf_model.specs.declared.faults.Fault.{Fault}
+
+silent_alike : (d : Draft) (r : Result Draft Fault) (a : Added) → ((b : Draft) → r ≡ Ok b → AreAlike d b) → silent r ≡ Ok a → AreAlike d a.draft
+silent_alike d (Ok b) a alike e =
+    let is : b ≡ a.draft = cc in
+    subst (λ (x : Draft). AreAlike d x) is (alike b refl)
+silent_alike d (Err f) a alike e = absurd cc
+
+pub part_alike : (d : Draft) (x : Part) (a : Added) → part_in x d ≡ Ok a → AreAlike d a.draft
+part_alike d (part.Member t name tnum offset) a e = member_alike d t.0 name.now tnum.0 offset a e
+part_alike d (part.Enumerator t name value) a e = silent_alike d (add_enumerator d t.0 (record { name = name.now; value = value })) a (λ b h. enumerator_alike d t.0 (record { name = name.now; value = value }) b h) e
+part_alike d (part.Label name last) a e = silent_alike d (add_label d (record { name = name.now; last = last })) a (λ b h. label_alike d (record { name = name.now; last = last }) b h) e
+
+-- so it stays under what it was under
+pub still_under : {A : Type 0} (number : A → ℕ) (result : Result A Fault) (adds : Draft → Result Added Fault) (old new : Owned) (above : Option Kept) → ((a : Added) → adds old.draft ≡ Ok a → AreAlike old.draft a.draft) → IfOk result (λ n. adds old.draft ≡ Ok (record { draft = new.draft; answer = number n })) → OnErr result (new ≡ old) → IsUnder old.draft above → IsUnder new.draft above
+still_under number (Ok n) adds old new above alike ok err under =
+    let same = alike (record { draft = new.draft; answer = number n }) ok in
+    record { parent = same.parent ∙ under.parent; model = λ p h. under.model p h ∙ sym same.model }
+still_under number (Err f) adds old new above alike ok err under =
+    subst (λ (d : Owned). IsUnder d.draft above) (sym err) under

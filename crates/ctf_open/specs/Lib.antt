@@ -1,0 +1,4 @@
+pub mod Drafting
+pub mod Fitting
+pub mod PartView
+pub mod Quotas

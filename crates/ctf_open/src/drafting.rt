@@ -1,0 +1,260 @@
+//! Drafts of sessions: how they are made, updated and dropped.
+ghost use Rattle.std.specs.Prelude.{◌≡◌, ◌==◌, ◌⊎◌, ◌+◌, ◌<◌, ◌^◌, true, not, length, is_some, IfErr, IfOk, OnErr, Ok, Err, None, Some, option_map, option_copied, option_and_then};
+ghost use Rattle.std.specs.Option.{ForSome};
+ghost use Rattle.ctf_model.specs.opened.Steps.{created, dropped, updated};
+ghost use Rattle.ctf_open.specs.Drafting.{IsUnder, IsWritten};
+ghost use Rattle.ctf_open.specs.Fitting.{AreTablesOf};
+ghost use Rattle.ctf_open.specs.Quotas.{IsRefused, IsUncreated, IsUnwritten, fits_in};
+ghost use Rattle.ctf_model.specs.opened.Sizes.{kept_bytes, parent_bytes};
+ghost use Rattle.ctf_model.specs.drafts.Drafts.{held, new_draft as new_draft_of};
+ghost use Rattle.ctf_model.specs.format.Dictionary.{Denotes};
+ghost use Rattle.ctf_model.specs.rules.Refusals.{want_of_memory};
+ghost use Rattle.ctf_model.specs.spaces.Kept.{Kept, fault_over, kept_dictionary, modelled_by};
+ghost use Rattle.ctf_model.specs.writing.Written.{written};
+
+use crate::bytes::bytes_above;
+use crate::loaded::Loaded;
+use crate::opened::{Imported, OpenDictionary};
+use crate::rooms::{Room, has_room};
+use crate::tables::tables_over;
+use ctf_draft::Draft;
+use ctf_model::{Bytes, DataModel, Fault, Parts, placeless};
+use ctf_space::Opened;
+use ctf_writer::write;
+use std::alloc::{AllocError, Global};
+use std::rc::Rc;
+
+/// A dictionary over its parent, if it has one, with the tables of the one over the other.
+fn imported_over(
+    alloc: Global,
+    own: &Loaded,
+    parent: Option<&Loaded>,
+) -> Result<Option<Imported>, Fault>
+    ensures parent { IfOk result (λ i. option_map (λ i. i.parent) i ≡ option_copied parent.entry) }
+    ensures fits { IfOk result (λ i. ForSome i (λ i. fault_over own.now i.parent ≡ None)) }
+    ensures made { IfOk result (λ i. ForSome i
+        (λ i. AreTablesOf own.now (Some i.parent) i.tables)) }
+    ensures exact_err { IfErr result (λ f. (f ≡ want_of_memory)
+        ⊎ (option_and_then (λ p. fault_over own.now p) (option_copied parent.entry) ≡ Some f)) }
+{
+    let Some(parent) = parent else {
+        return Ok(None);
+    };
+    let tables = tables_over(alloc, own, parent, true)?;
+    let parent = parent.share()?;
+    Ok(Some(Imported { parent, tables }))
+}
+
+/// The bytes of a draft as a dictionary, which is kept for its draft as well.
+#[derive(Drop)]
+struct Updated {
+    own: Loaded,
+    opened: Rc<Opened>,
+    imported: Option<Imported>,
+}
+
+/// The dictionary that a draft's bytes make, where there is room for it over a parent of so many.
+fn loaded(alloc: Global, draft: &Draft, parent: u128, room: Option<Room>) -> Result<Loaded, Fault>
+    requires { parent < 2 ^ 66 }
+    ensures written { IfOk result (λ l. IsWritten draft.now.draft l) }
+    ensures denotes { IfOk result (λ l. Denotes l.lists (held draft.now.draft)) }
+    ensures under { IfOk result
+        (λ l. (p : Kept) → draft.now.draft.parent ≡ Some (kept_dictionary p)
+        → p.model ≡ draft.now.draft.model → fault_over l p ≡ None) }
+    ensures room { IfOk result (λ l. fits_in room (length l.lists.ctf + parent) ≡ true) }
+    ensures exact_err { IfErr result (λ f. (f ≡ want_of_memory)
+        ⊎ IsUnwritten (written (held draft.now.draft)) parent room f) }
+{
+    let bytes = write(alloc, draft)?;
+    if !has_room(room, bytes.len() as u128 + parent) {
+        return Err(placeless(Fault::QUOTA_FULL));
+    }
+    let parts = Parts {
+        ctf: Bytes::from(bytes),
+        sym: None,
+        strs: None,
+    };
+    match Loaded::build(alloc, parts, draft.model()) {
+        Ok(loaded) => Ok(loaded),
+        Err((fault, _)) => Err(fault),
+    }
+}
+
+/// What a draft's dictionary becomes by an update, over the draft's parent, where there is room for
+/// the two.
+fn updated_over(
+    alloc: Global,
+    draft: &Draft,
+    parent: Option<&Loaded>,
+    room: Option<Room>,
+) -> Result<Updated, Fault>
+    requires { IsUnder draft.now.draft (option_copied parent) }
+    ensures written { IfOk result (λ u. IsWritten draft.now.draft u.own) }
+    ensures denotes { IfOk result (λ u. Denotes u.own.lists (held draft.now.draft)) }
+    ensures opened { IfOk result (λ u. u.opened.value ≡ u.own) }
+    ensures parent { IfOk result (λ u. option_map (λ i. i.parent) u.imported
+        ≡ option_copied parent.entry) }
+    ensures fits { IfOk result (λ u. ForSome u.imported (λ i. fault_over u.own i.parent ≡ None)) }
+    ensures made { IfOk result (λ u. ForSome u.imported
+        (λ i. AreTablesOf u.own (Some i.parent) i.tables)) }
+    ensures room { IfOk result (λ u. fits_in room (length u.own.lists.ctf
+        + parent_bytes (option_copied parent.entry)) ≡ true) }
+    ensures exact_err { IfErr result (λ f. (f ≡ want_of_memory)
+        ⊎ IsUnwritten (written (held draft.now.draft))
+        (parent_bytes (option_copied parent.entry)) room f) }
+{
+    let own = loaded(alloc, draft, bytes_above(parent), room)?;
+    let imported = imported_over(alloc, &own, parent)?;
+    let opened = own.opened()?;
+    Ok(Updated {
+        own,
+        opened,
+        imported,
+    })
+}
+
+/// The parent of a session, if it has one.
+fn parent_of(imported: &Option<Imported>) -> Option<&Loaded>
+    ensures { option_copied result ≡ option_map (λ i. i.parent) imported.now }
+{
+    match imported {
+        Some(imported) => Some(&imported.parent),
+        None => None,
+    }
+}
+
+/// A dictionary, if there is one, to be the parent of a draft.
+fn opened(parent: Option<&Loaded>) -> Result<Option<Rc<Opened>>, AllocError>
+    ensures { IfOk result (λ o. option_map (λ p. p.value) o ≡ option_copied parent.entry) }
+{
+    match parent {
+        Some(parent) => Ok(Some(parent.opened()?)),
+        None => Ok(None),
+    }
+}
+
+/// A draft with nothing in it.
+fn new_draft(
+    alloc: Global,
+    parent: Option<&Loaded>,
+    parname: &[u8],
+    parlabel: &[u8],
+    model: DataModel,
+) -> Result<Draft, Fault>
+    requires { is_some parent ≡ not (length parname.now == 0) }
+    ensures ok { IfOk result (λ d.
+        new_draft_of (option_map modelled_by (option_copied parent.entry)) parname.now
+        parlabel.now model ≡ Ok d.draft) }
+    ensures under { IfOk result (λ d. IsUnder d.draft (option_copied parent.entry)) }
+    ensures exact_err { IfErr result (λ f. (f ≡ want_of_memory)
+        ⊎ (new_draft_of (option_map modelled_by (option_copied parent.entry)) parname.now
+        parlabel.now model ≡ Err f)) }
+{
+    let parname = Bytes::from_slice(alloc, parname)?;
+    let parlabel = Bytes::from_slice(alloc, parlabel)?;
+    let parent = opened(parent)?;
+    Draft::new(alloc, parent, parname, parlabel, model)
+}
+
+/// How many types a dictionary has.
+fn types_of(own: &Loaded) -> u64
+    ensures { result ≡ length (kept_dictionary own.now).terms }
+{
+    own.view().count() as u64
+}
+
+impl OpenDictionary {
+    /// A new draft, over a parent if there is one, updated with nothing in it.
+    pub fn create(
+        alloc: Global,
+        parent: Option<&Loaded>,
+        parname: &[u8],
+        parlabel: &[u8],
+        model: DataModel,
+    ) -> Result<OpenDictionary, Fault>
+        requires { is_some parent ≡ not (length parname.now == 0) }
+        ensures ok { IfOk result (λ s.
+            created (option_copied parent.entry) parname.now parlabel.now model ≡ Ok s) }
+        ensures exact_err { IfErr result (λ f. (f ≡ want_of_memory)
+            ⊎ (created (option_copied parent.entry) parname.now parlabel.now model ≡ Err f)) }
+    {
+        OpenDictionary::create_within(alloc, parent, parname, parlabel, model, None)
+    }
+
+    /// The same where there is room for it.
+    pub fn create_within(
+        alloc: Global,
+        parent: Option<&Loaded>,
+        parname: &[u8],
+        parlabel: &[u8],
+        model: DataModel,
+        room: Option<Room>,
+    ) -> Result<OpenDictionary, Fault>
+        requires { is_some parent ≡ not (length parname.now == 0) }
+        ensures ok { IfOk result (λ s.
+            created (option_copied parent.entry) parname.now parlabel.now model ≡ Ok s) }
+        ensures room { IfOk result (λ s. fits_in room (kept_bytes s.own
+            + parent_bytes (option_copied parent.entry)) ≡ true) }
+        ensures above { IfOk result (λ s. s.parent ≡ option_copied parent.entry) }
+        ensures exact_err { IfErr result (λ f. (f ≡ want_of_memory) ⊎ IsUncreated
+            (created (option_copied parent.entry) parname.now parlabel.now model) room f) }
+    {
+        let mut draft = new_draft(alloc, parent, parname, parlabel, model)?;
+        let update = updated_over(alloc, &draft, parent, room)?;
+        draft.settle(update.opened);
+        Ok(OpenDictionary {
+            own: update.own,
+            imported: update.imported,
+            draft: Some(draft),
+        })
+    }
+
+    /// Makes all that was added to its draft part of the dictionary, and answers how many types
+    /// that has. A refusal changes nothing.
+    pub fn update(&mut self, alloc: Global) -> Result<u64, Fault>
+        ensures ok { IfOk result (λ n.
+            updated self.old ≡ Ok (record { served = self.new; answer = n })) }
+        ensures exact_err { IfErr result (λ f. (f ≡ want_of_memory) ⊎ (updated self.old ≡ Err f)) }
+        ensures as_before { OnErr result (self.new ≡ self.old) }
+    {
+        self.update_within(alloc, None)
+    }
+
+    /// The same where there is room for what it makes.
+    pub fn update_within(&mut self, alloc: Global, room: Option<Room>) -> Result<u64, Fault>
+        ensures ok { IfOk result (λ n.
+            updated self.old ≡ Ok (record { served = self.new; answer = n })) }
+        ensures room { IfOk result (λ n. fits_in room (kept_bytes self.new.own
+            + parent_bytes self.old.parent) ≡ true) }
+        ensures parent { self.new.parent ≡ self.old.parent }
+        ensures exact_err { IfErr result (λ f. (f ≡ want_of_memory)
+            ⊎ IsRefused (updated self.old) room f) }
+        ensures as_before { OnErr result (self.new ≡ self.old) }
+    {
+        let Some(draft) = &mut self.draft else {
+            return Err(placeless(Fault::READ_ONLY));
+        };
+        let update = updated_over(alloc, draft, parent_of(&self.imported), room)?;
+        draft.settle(update.opened);
+        self.own = update.own;
+        self.imported = update.imported;
+        Ok(types_of(&self.own))
+    }
+
+    /// Drops what was added to its draft since the last update, and answers how many types the
+    /// dictionary has.
+    pub fn discard(&mut self) -> Result<u64, Fault>
+        ensures ok { IfOk result (λ n.
+            dropped self.old ≡ Ok (record { served = self.new; answer = n })) }
+        ensures err { IfErr result (λ f. dropped self.old ≡ Err f) }
+        ensures as_before { OnErr result (self.new ≡ self.old) }
+        ensures own { self.new.own ≡ self.old.own }
+        ensures parent { self.new.parent ≡ self.old.parent }
+    {
+        let Some(draft) = &mut self.draft else {
+            return Err(placeless(Fault::READ_ONLY));
+        };
+        draft.discard();
+        Ok(types_of(&self.own))
+    }
+}

@@ -1,0 +1,22 @@
+//! A dictionary that is open: with its parent if it has one, its draft if it has one, and the tables
+//! over these; what it answers, and the steps of its draft.
+#![tactic(auto)]
+
+mod adding;
+mod bytes;
+mod drafting;
+mod loaded;
+mod opened;
+mod programs;
+mod questions;
+mod rooms;
+mod tables;
+
+pub use adding::Part;
+pub use bytes::owned_bytes;
+pub use loaded::{Loaded, MODEL_UNSAID};
+pub use opened::{Imported, OpenDictionary, parts_of};
+pub use programs::named_count;
+pub use questions::{array_of, encoding_of, signature_of};
+pub use rooms::Room;
+pub use tables::{Tables, tables_over};

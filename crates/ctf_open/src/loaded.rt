@@ -1,0 +1,143 @@
+//! A dictionary with all that is kept of it by itself.
+ghost use Rattle.std.specs.Prelude.{◌≡◌, ◌⊎◌, None, Some, IfOk, IfErr, OnOk};
+ghost use Rattle.ctf_check.specs.CheckedView.{lists_of};
+ghost use Rattle.ctf_open.specs.Fitting.{AreTablesOf};
+ghost use Rattle.ctf_model.specs.rules.Faults.{first_fault};
+ghost use Rattle.ctf_model.specs.format.OwnedLists.{lists_owned};
+ghost use Rattle.ctf_model.specs.rules.Refusals.{want_of_memory};
+ghost use Rattle.ctf_symbols.specs.Fitting.{Fits};
+
+use crate::tables::Tables;
+use ctf_check::Checked;
+use ctf_model::{DataModel, Fault, Parts, placeless};
+use ctf_space::Opened;
+use ctf_symbols::SymbolMap;
+use std::alloc::{AllocError, Global};
+use std::marker::Model;
+use std::rc::Rc;
+
+/// The data model of a dictionary where none is said.
+pub const MODEL_UNSAID: DataModel = DataModel::Lp64;
+
+/// What is kept of a dictionary beside it: the map of its symbols, and the tables that it has
+/// without a parent.
+#[derive(Drop)]
+pub(crate) struct Beside {
+    symbols: SymbolMap,
+    tables: Tables,
+}
+
+/// A dictionary that was opened, and what is kept beside it.
+///
+/// None of it ever changes, so slots of any sessions, publications and the slots that imported it
+/// share it. A contract sees its lists and its data model alone.
+#[derive(Drop)]
+pub struct Loaded {
+    dictionary: Rc<Opened>,
+    beside: Rc<Beside>,
+}
+
+impl Model for Loaded {
+    ghost use Rattle.std.specs.Prelude.{None};
+    ghost use Rattle.ctf_open.specs.Fitting.{AreTablesOf};
+    ghost use Rattle.ctf_model.specs.spaces.Kept.{Kept};
+    ghost use Rattle.ctf_symbols.specs.Fitting.{Fits};
+
+    ghost Value = { Kept };
+
+    ghost view = { λ l. l.dictionary.value };
+
+    ghost invariant = { λ l. Fits l.dictionary.value.lists l.beside.value.symbols
+        × AreTablesOf l.dictionary.value None l.beside.value.tables };
+}
+
+/// What is kept beside a dictionary.
+fn kept(alloc: Global, dictionary: &Opened) -> Result<Rc<Beside>, AllocError>
+    ensures mapped { IfOk result (λ k. Fits dictionary.now.lists k.value.symbols) }
+    ensures made { IfOk result (λ k. AreTablesOf dictionary.now None k.value.tables) }
+{
+    let symbols = SymbolMap::build(alloc, &dictionary.view())?;
+    let tables = Tables::build(alloc, dictionary)?;
+    match Rc::new(alloc, Beside { symbols, tables }) {
+        Ok(kept) => Ok(kept),
+        Err(_) => Err(AllocError),
+    }
+}
+
+impl Loaded {
+    /// A dictionary that was opened, or the same again where memory was refused.
+    pub fn of(alloc: Global, dictionary: Opened) -> Result<Loaded, Opened>
+        ensures ok { IfOk result (λ l. l ≡ dictionary) }
+        ensures back { IfErr result (λ d. d ≡ dictionary) }
+    {
+        let Ok(beside) = kept(alloc, &dictionary) else {
+            return Err(dictionary);
+        };
+        match Rc::new(alloc, dictionary) {
+            Ok(dictionary) => Ok(Loaded { dictionary, beside }),
+            Err(failed) => Err(failed.value),
+        }
+    }
+
+    /// The dictionary of lists, for programs of a data model, or its first fault with the lists.
+    pub fn build(alloc: Global, parts: Parts, model: DataModel) -> Result<Loaded, (Fault, Parts)>
+        ensures ok { IfOk result (λ l. l ≡ record { lists = lists_owned parts; model = model }) }
+        ensures exact_ok { OnOk result (first_fault (lists_owned parts) ≡ None) }
+        ensures exact_err { IfErr result (λ e. (e.0 ≡ want_of_memory)
+            ⊎ (first_fault (lists_owned parts) ≡ Some e.0)) }
+        ensures back { IfErr result (λ e. lists_owned e.1 ≡ lists_owned parts) }
+    {
+        let dictionary = match Opened::build(alloc, parts, model) {
+            Ok(dictionary) => dictionary,
+            Err(refused) => return Err(refused),
+        };
+        match Loaded::of(alloc, dictionary) {
+            Ok(loaded) => Ok(loaded),
+            Err(dictionary) => Err((placeless(Fault::MEMORY), dictionary.into_parts())),
+        }
+    }
+
+    /// The same dictionary, shared once more.
+    pub fn share(&self) -> Result<Loaded, AllocError>
+        ensures { IfOk result (λ l. l ≡ self.now) }
+    {
+        let dictionary = self.dictionary.clone()?;
+        let beside = self.beside.clone()?;
+        Ok(Loaded { dictionary, beside })
+    }
+
+    /// The dictionary, shared once more, to be kept by a draft over it or by its own draft.
+    pub fn opened(&self) -> Result<Rc<Opened>, AllocError>
+        ensures { IfOk result (λ o. o.value ≡ self.now) }
+    {
+        self.dictionary.clone()
+    }
+
+    /// The dictionary, lent.
+    pub fn view(&self) -> Checked<'_>
+        ensures { lists_of result ≡ self.now.lists }
+    {
+        self.dictionary.view()
+    }
+
+    /// The data model of its program.
+    pub fn model(&self) -> DataModel
+        ensures { result ≡ self.now.model }
+    {
+        self.dictionary.model()
+    }
+
+    /// The map of its symbols.
+    pub fn symbols(&self) -> &SymbolMap
+        ensures { Fits self.now.lists result.now }
+    {
+        &self.beside.symbols
+    }
+
+    /// Its tables without a parent.
+    pub fn tables(&self) -> &Tables
+        ensures { AreTablesOf self.now None result.now }
+    {
+        &self.beside.tables
+    }
+}

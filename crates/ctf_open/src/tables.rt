@@ -1,0 +1,66 @@
+//! What a slot keeps beside its dictionary, so that its questions are answered by looking up.
+ghost use Rattle.std.specs.Prelude.{◌≡◌, ◌⊎◌, None, Some, IfOk, IfErr, OnOk, true};
+ghost use Rattle.std.specs.Option.{ForSome};
+ghost use Rattle.ctf_open.specs.Quotas.{IsUnserved};
+ghost use Rattle.ctf_open.specs.Fitting.{AreTablesOf, Serve, ServeParent};
+ghost use Rattle.ctf_model.specs.rules.Refusals.{want_of_memory};
+ghost use Rattle.ctf_model.specs.spaces.Kept.{fault_over};
+
+use crate::loaded::Loaded;
+use ctf_layout::Layout;
+use ctf_model::{Fault, placeless};
+use ctf_names::NameIndex;
+use ctf_space::{Opened, Space};
+use std::alloc::{AllocError, Global};
+
+/// What the types of a dictionary come to, and its names, with those of its parent if it has one.
+#[derive(Drop)]
+pub struct Tables {
+    pub layout: Layout,
+    pub index: NameIndex,
+}
+
+impl Tables {
+    /// The tables of a dictionary without a parent.
+    pub(crate) fn build(alloc: Global, dictionary: &Opened) -> Result<Tables, AllocError>
+        ensures { IfOk result (λ t. AreTablesOf dictionary.now None t) }
+    {
+        let space = Space::own(dictionary.view(), dictionary.model());
+        Ok(Tables {
+            layout: Layout::build(alloc, &space)?,
+            index: NameIndex::build(alloc, &space)?,
+        })
+    }
+
+    /// The tables of a space over the parent whose own tables these are, which it shares.
+    fn over(alloc: Global, space: &Space<'_>, parent: &Tables) -> Result<Tables, AllocError>
+        requires { ServeParent space.now parent.now }
+        ensures { IfOk result (λ t. Serve space.now t) }
+    {
+        Ok(Tables {
+            layout: Layout::over(alloc, space, &parent.layout)?,
+            index: NameIndex::over(alloc, space, &parent.index)?,
+        })
+    }
+}
+
+/// The tables of a dictionary over another as its parent, or the fault of such an import. Whether
+/// the session has room for the parent is said; where it has not, none are built.
+pub fn tables_over(
+    alloc: Global,
+    child: &Loaded,
+    parent: &Loaded,
+    fits: bool,
+) -> Result<Tables, Fault>
+    ensures ok { IfOk result (λ t. AreTablesOf child.now (Some parent.now) t) }
+    ensures exact_ok { OnOk result (fault_over child.now parent.now ≡ None) }
+    ensures fits { OnOk result (fits ≡ true) }
+    ensures exact_err { IfErr result (λ f. (f ≡ want_of_memory)
+        ⊎ IsUnserved fits (fault_over child.now parent.now) f) }
+{
+    let space = Space::over(child.view(), child.model(), parent.view(), parent.model())?;
+    if !fits {
+        return Err(placeless(Fault::QUOTA_FULL));
+    }
+    Ok(Tables::over(alloc, &space, parent.tables())?)
+}

@@ -1,0 +1,113 @@
+-- What a word answers of a slot is what is asked of the open dictionary in it, under the word's
+-- keys; a call in process answers the same value. Each record is a law of src/session_laws.rt.
+use Rattle.std.specs.Prelude.{◌≡◌, ℕ, ℤ, Bool, List, codes, Option, Result}
+use Rattle.ctf_model.specs.declared.faults.Fault.{Fault}
+use Rattle.ctf_model.specs.declared.numbers.TypeNum.{TypeNum}
+use Rattle.ctf_model.specs.figures.Figures.{reference}
+use Rattle.ctf_model.specs.format.Shown.{Shape}
+use Rattle.ctf_model.specs.names.Found.{found}
+use Rattle.ctf_model.specs.opened.Open.{own_in, space_in}
+use Rattle.ctf_model.specs.opened.Questions.{align_said, array_said, encoding_said, enumerators_said, kind_said, members_said, name_said, path_said, pointer_said, resolved_said, said_of, shape_of, signature_said, size_said, value_said}
+use Rattle.ctf_model.specs.opened.Steps.{created, dropped, enumerator_added, import_refusal, label_added, member_added, type_added, updated}
+use Rattle.ctf_model.specs.spaces.Kept.{Kept}
+use Rattle.ctf_model.specs.spaces.Space.{space_type}
+use Rattle.ctf_model.specs.symbols.SymbolQuestions.{function_of, label_of, object_of, symbol_found}
+use Rattle.ctf_protocol.specs.answers.Answers.{Answer}
+use Rattle.ctf_protocol.specs.answers.Questions.{align_fields, array_fields, as_fields, encoding_fields, enumerator_fields, kind_fields, member_fields, name_fields, position_fields, signature_fields, size_fields, type_fields, value_fields}
+use Rattle.ctf_protocol.specs.answers.SlotAnswers.{last_fields, symbol_fields}
+use Rattle.ctf_protocol.specs.sessions.Additions.{body_of}
+use Rattle.ctf_protocol.specs.sessions.Creations.{Created}
+use Rattle.ctf_protocol.specs.sessions.DraftSteps.{created_slot, model_made, slot_step}
+use Rattle.ctf_protocol.specs.sessions.Opened.{open_of, slot_made, slot_stepped, under, unsaid}
+use Rattle.ctf_protocol.specs.sessions.State.{Slot, State}
+use Rattle.ctf_protocol.specs.sessions.Steps.{imports_into, imports_unless, slot_said}
+use Rattle.ctf_protocol.specs.declared.additions.Addition.TheVariants as add
+use Rattle.ctf_protocol.specs.declared.additions.NewKind.{NewKind}
+use Rattle.ctf_protocol.specs.declared.questions.PlainQuestion.{PlainQuestion}
+use Rattle.ctf_protocol.specs.declared.questions.PlainQuestion.TheVariants as plain
+use Rattle.ctf_protocol.specs.declared.questions.Question.TheVariants.{OfSlot, OfType}
+use Rattle.ctf_protocol.specs.declared.questions.SlotQuestion.TheVariants as whole
+use Rattle.ctf_protocol.specs.declared.questions.TypeQuestion.TheVariants as ask
+use Rattle.ctf_protocol.specs.declared.questions.Window.{Window}
+use Rattle.ctf_protocol.specs.declared.requests.DraftStep.TheVariants.{Add, Update, Discard}
+
+-- what the type of a number is in a slot, if it is there
+abbrev pub shape_in : Slot → TypeNum → Result Shape Fault
+shape_in s t = shape_of (space_type (space_in (open_of s)) t.0)
+
+-- a word that brings no more than the number of a type
+abbrev pub of_type : PlainQuestion → TypeNum → Slot → Result Answer Fault
+of_type question t s = slot_said (OfType t (ask.Plain question)) s
+
+-- what a type says of itself
+pub record TypesAreAsked : Type 0 where
+  pub kind : (s : Slot) (t : TypeNum) → of_type plain.Kind t s
+      ≡ as_fields kind_fields (said_of kind_said (shape_in s t))
+  pub args : (s : Slot) (t : TypeNum) → of_type plain.Args t s
+      ≡ as_fields signature_fields (said_of signature_said (shape_in s t))
+  pub array : (s : Slot) (t : TypeNum) → of_type plain.Array t s
+      ≡ as_fields array_fields (said_of array_said (shape_in s t))
+  pub encoding : (s : Slot) (t : TypeNum) → of_type plain.Encoding t s
+      ≡ as_fields encoding_fields (said_of encoding_said (shape_in s t))
+  pub members : (s : Slot) (t : TypeNum) (w : Window) → slot_said (OfType t (ask.Members w)) s
+      ≡ as_fields (member_fields w) (said_of members_said (shape_in s t))
+  pub enumerators : (s : Slot) (t : TypeNum) (w : Window)
+      → slot_said (OfType t (ask.Enumerators w)) s
+      ≡ as_fields (enumerator_fields w) (said_of enumerators_said (shape_in s t))
+
+-- what a type comes to: of a number that names none, 0 among them, nothing is said
+pub record FiguresAreAsked : Type 0 where
+  pub reference_is : (s : Slot) (t : TypeNum) → of_type plain.Reference t s
+      ≡ as_fields type_fields (reference (space_in (open_of s)) t.0)
+  pub resolve : (s : Slot) (t : TypeNum) → of_type plain.Resolve t s
+      ≡ as_fields type_fields (resolved_said (space_in (open_of s)) t.0)
+  pub size : (s : Slot) (t : TypeNum) → of_type plain.Size t s
+      ≡ as_fields size_fields (size_said (space_in (open_of s)) t.0)
+  pub align : (s : Slot) (t : TypeNum) → of_type plain.Align t s
+      ≡ as_fields align_fields (align_said (space_in (open_of s)) t.0)
+  pub name : (s : Slot) (t : TypeNum) → of_type plain.Name t s
+      ≡ as_fields name_fields (name_said (space_in (open_of s)) t.0)
+  pub pointer : (s : Slot) (t : TypeNum) → of_type plain.Pointer t s
+      ≡ as_fields type_fields (pointer_said (space_in (open_of s)) t.0)
+  pub path : (s : Slot) (t : TypeNum) (names : List (List ℕ))
+      → slot_said (OfType t (ask.Path names)) s
+      ≡ as_fields position_fields (path_said (space_in (open_of s)) names t.0)
+  pub show : (s : Slot) (t : TypeNum) (memory : List ℕ) (offset : ℕ)
+      → slot_said (OfType t (ask.Show memory offset)) s
+      ≡ as_fields value_fields (value_said (space_in (open_of s)) memory offset t.0)
+
+-- look-ups, symbols and labels
+pub record WholesAreAsked : Type 0 where
+  pub find : (s : Slot) (text : List ℕ) → slot_said (OfSlot (whole.Find text)) s
+      ≡ as_fields type_fields (found (space_in (open_of s)) text)
+  pub symbol : (s : Slot) (name : List ℕ) → slot_said (OfSlot (whole.Symbol name)) s
+      ≡ as_fields symbol_fields (symbol_found (own_in (open_of s)) name)
+  pub object : (s : Slot) (n : ℕ) → slot_said (OfSlot (whole.Object n)) s
+      ≡ as_fields type_fields (object_of (own_in (open_of s)) n)
+  pub function : (s : Slot) (n : ℕ) → slot_said (OfSlot (whole.Function n)) s
+      ≡ as_fields signature_fields (function_of (own_in (open_of s)) n)
+  pub label : (s : Slot) (name : List ℕ) → slot_said (OfSlot (whole.Label name)) s
+      ≡ as_fields last_fields (label_of (own_in (open_of s)) name)
+
+-- steps of a draft, new drafts, and the refusals of an import
+pub record StepsAreMade : Type 0 where
+  pub type : (s : Slot) (name : List ℕ) (root : Bool) (kind : NewKind)
+      → slot_step (Add (add.Type name root kind)) s ≡ slot_stepped (under (codes "t")) s
+      (type_added (record { name = name; root = root; body = body_of kind }) (open_of s))
+  pub member : (s : Slot) (t : TypeNum) (name : List ℕ) (tnum : TypeNum) (offset : Option ℕ)
+      → slot_step (Add (add.Member t name tnum offset)) s
+      ≡ slot_stepped (under (codes "offset")) s (member_added t.0 name tnum.0 offset (open_of s))
+  pub enumerator : (s : Slot) (t : TypeNum) (name : List ℕ) (value : ℤ)
+      → slot_step (Add (add.Enumerator t name value)) s ≡ slot_stepped unsaid s
+      (enumerator_added t.0 (record { name = name; value = value }) (open_of s))
+  pub label : (s : Slot) (name : List ℕ) (last : ℕ) → slot_step (Add (add.Label name last)) s
+      ≡ slot_stepped unsaid s (label_added (record { name = name; last = last }) (open_of s))
+  pub update : (s : Slot) → slot_step Update s
+      ≡ slot_stepped (under (codes "types")) s (updated (open_of s))
+  pub discard : (s : Slot) → slot_step Discard s
+      ≡ slot_stepped (under (codes "types")) s (dropped (open_of s))
+  pub create : (n : ℕ) (above : Option Kept) (asked : Created) → created_slot n above asked
+      ≡ slot_made n (created above asked.parname asked.parlabel (model_made above asked))
+  pub import : (child parent : Slot) (d : ℕ) (state : State)
+      → imports_into child d parent.kept state
+      ≡ imports_unless (import_refusal (open_of child) (open_of parent)) d parent.kept state
