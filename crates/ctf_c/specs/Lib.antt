@@ -3,3 +3,5 @@ pub mod Given
 pub mod Naming
 pub mod Owned
 pub mod Slots
+pub mod handles
+pub mod service

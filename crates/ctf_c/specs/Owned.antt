@@ -6,7 +6,7 @@ use Rattle.std.specs.Prelude.{Option}
 use Rattle.std.specs.Coded.{coded_option}
 use Rattle.std.specs.Global.{Global}
 use Rattle.std_heap.specs.contracts.GlobalAllocator.TheImpl.{ghosts}
-use Rattle.ctf_handle.specs.Owned.{held_owns}
+use Rattle.ctf_c.specs.handles.Owned.{held_owns}
 use Rattle.ctf_open.specs.contracts.opened.OpenDictionary.{the_row}
 
 abbrev pub place_owns : Global → Ptr → Option the_row.Denot → Fml

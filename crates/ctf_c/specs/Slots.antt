@@ -1,8 +1,8 @@
 -- A handle is a slot for a session.
 use denote.RattleType.{RattleType}
 use Rattle.std.specs.Borrow.{Fml, Lends, MutBor}
-use Rattle.ctf_handle.specs.declared.slot.Slot.{Slot}
-use Rattle.ctf_handle.specs.contracts.slot.Slot as Slots
+use Rattle.ctf_c.specs.declared.handles.slot.Slot.{Slot}
+use Rattle.ctf_c.specs.contracts.handles.slot.Slot as Slots
 use Rattle.ctf_model.specs.opened.Open.{Open}
 use Rattle.ctf_c.specs.declared.handle.Handle.{Handle}
 use Rattle.ctf_c.specs.contracts.handle.Handle as Handles

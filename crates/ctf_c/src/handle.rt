@@ -3,7 +3,7 @@ ghost use Rattle.std.specs.Prelude.{◌≡◌, Option, is_some};
 ghost use Rattle.ctf_c.specs.Owned.{place_coded, place_owns};
 ghost use Rattle.ctf_model.specs.opened.Open.{Open};
 
-use ctf_handle::Slot;
+use crate::handles::Slot;
 use ctf_open::OpenDictionary;
 use std::alloc::Global;
 use std::marker::Model;

@@ -1,4 +1,4 @@
-//! What C asks of dictionaries in process. The header is clients/c/ctfd.h.
+//! What C asks in process, of dictionaries and of a whole service. The header is clients/c/ctfd.h.
 #![tactic(auto)]
 
 mod additions;
@@ -6,9 +6,11 @@ mod drafts;
 mod figures;
 mod given;
 mod handle;
+mod handles;
 mod lists;
 mod opening;
 mod paths;
+mod service;
 mod symbols;
 mod texts;
 mod types;

@@ -4,7 +4,7 @@ use prog.Wp.{Tables}
 use contract.Running.{tables, tables_of}
 use denote.Triple.Spec.{triple_of}
 use denote.Triple.Table.{entered}
-use Rattle.ctf_handle.proofs.Casting.{meets}
+use Rattle.ctf_c.proofs.handles.Casting.{meets}
 use Rattle.ctf_c.specs.Slots.{slot_row, as_slot, as_handle}
 use Rattle.ctf_c.specs.contracts.handle.Handle.{the_row}
 use Rattle.ctf_c.specs.contracts.handle.Handle.slot as F

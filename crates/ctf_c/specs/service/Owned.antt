@@ -1,0 +1,16 @@
+-- What is held for C: nothing, or the same as a box of a service owns.
+use base.Fml.{Fml}
+use base.Stored.{Coded}
+use denote.RawPtr.{Ptr}
+use Rattle.std.specs.Prelude.{Option}
+use Rattle.std.specs.Coded.{coded_option}
+use Rattle.std.specs.Global.{Global}
+use Rattle.std_heap.specs.contracts.GlobalAllocator.TheImpl.{ghosts}
+use Rattle.ctf_c.specs.handles.Owned.{held_owns}
+use Rattle.ctf_c.specs.contracts.service.state.Service.{the_row}
+
+abbrev pub place_owns : Global → Ptr → Option the_row.Denot → Fml
+place_owns alloc = held_owns (ghosts.dealloc_token alloc) the_row
+
+abbrev pub place_coded : Coded (Option the_row.Denot)
+place_coded = coded_option the_row.coded

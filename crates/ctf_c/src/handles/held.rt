@@ -1,0 +1,87 @@
+//! A box as its pointer, or nothing.
+ghost use Rattle.std.specs.Prelude.{◌≡◌, None, Some, Option, is_some, true};
+ghost use Rattle.std.specs.Coded.{coded_option};
+ghost use Rattle.ctf_c.specs.handles.Owned.{held_lent, held_owns};
+
+use std::alloc::Allocator;
+use std::marker::Model;
+
+/// A value on the heap, or nothing.
+#[repr(C)]
+#[derive(Drop)]
+pub struct Held<T, A: Allocator> {
+    at: *mut T,
+    alloc: A,
+    pub ghost value: { Option T } by { coded_option T.code },
+}
+
+impl<T, A: Allocator> Model for Held<T, A> {
+    ghost also_owns = { λ h. held_owns (A.dealloc_token h.alloc) T.row h.at h.value };
+
+    ghost also_shares = { λ h _ κ. held_lent T.row h.at h.value κ };
+}
+
+/// A pointer to nothing.
+fn no_place<T>() -> *mut T {
+    std::ptr::null_mut()
+}
+
+impl<T, A: Allocator> Held<T, A> {
+    /// Nothing, at any place.
+    fn none_at(at: *mut T, alloc: A) -> Held<T, A>
+        ensures { result.value ≡ None }
+    {
+        Held { at, alloc }
+    }
+
+    /// Nothing.
+    pub fn none(alloc: A) -> Held<T, A>
+        ensures { result.value ≡ None }
+    {
+        let at = no_place();
+        Held::none_at(at, alloc)
+    }
+
+    /// Holds the value of a box.
+    pub fn of(value: Box<T, A>) -> Held<T, A>
+    where
+        T: Drop,
+        ensures { result.value ≡ Some value.value }
+    {
+        let (at, alloc) = Box::into_raw_with_allocator(value);
+        Held { at, alloc }
+    }
+
+    /// The box of the value that is held.
+    pub fn into_box(self) -> Box<T, A>
+        requires { is_some self.value ≡ true }
+        ensures { Some result.value ≡ self.value }
+    {
+        let Held { at, alloc } = self;
+        unsafe { Box::from_raw(alloc, at) }
+    }
+}
+
+impl<T, A: Allocator> Held<T, A> {
+    ghost use Rattle.std.specs.Borrow.{sem};
+    ghost use Rattle.ctf_c.specs.handles.Lent.{HeldLends};
+
+    /// The value that is held.
+    #[inline(always)]
+    pub fn get(&self) -> &T
+        requires { is_some self.now.value ≡ true }
+        ensures { Some result.now ≡ self.now.value }
+    {
+        unsafe { &*self.at }
+    }
+
+    /// The value that is held, to change it.
+    #[inline(always)]
+    pub fn get_mut(&mut self) -> &mut T
+        requires { is_some self.old.value ≡ true }
+        ensures* writes_back { sem 𝓛 (HeldLends T.row A.row A.Allocator self.entry result) }
+        ensures value { Some result.now ≡ self.old.value }
+    {
+        unsafe { &mut *self.at }
+    }
+}

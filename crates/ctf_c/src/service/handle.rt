@@ -1,0 +1,45 @@
+//! A handle, as C has it.
+ghost use Rattle.std.specs.Prelude.{◌≡◌, Option, is_some};
+ghost use Rattle.ctf_c.specs.service.Owned.{place_coded, place_owns};
+ghost use Rattle.ctf_c.specs.service.Served.{Served};
+
+use crate::handles::Slot;
+use crate::service::state::Service;
+use std::alloc::Global;
+use std::marker::Model;
+
+/// A service on the heap, or nothing: `Held` without type parameters, since C is given none.
+#[repr(C)]
+#[derive(Drop)]
+pub struct Place {
+    at: *mut u8,
+    alloc: Global,
+    pub ghost service: { Option Served } by { place_coded },
+}
+
+impl Model for Place {
+    ghost also_owns = { λ p. place_owns p.alloc p.at p.service };
+}
+
+/// What is open, if anything is: a `Slot` without type parameters.
+#[repr(C)]
+#[derive(Drop)]
+pub struct Handle {
+    full: bool,
+    pub held: Place,
+    ghost tells: { full ≡ is_some held.service },
+}
+
+impl Handle {
+    ghost use Rattle.std.specs.Borrow.{sem};
+    ghost use Rattle.ctf_c.specs.service.Slots.{HandleLends};
+
+    /// The slot that it is in memory.
+    #[inline(always)]
+    pub fn slot(&mut self) -> &mut Slot<Service>
+        ensures* writes_back { sem 𝓛 (HandleLends self.entry result) }
+        ensures same { result.now.held.value ≡ self.old.held.service }
+    {
+        unsafe { &mut *(self as *mut Handle as *mut Slot<Service>) }
+    }
+}

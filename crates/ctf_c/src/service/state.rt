@@ -1,0 +1,60 @@
+//! A service: what all sessions hold, and the last reply.
+ghost use Rattle.std.specs.Prelude.{◌≡◌, ◌≤◌, [], IfOk, Some, ℕ};
+ghost use Rattle.ctf_broker.specs.Table.{library_at};
+ghost use Rattle.ctf_protocol.specs.sessions.State.{empty_state};
+ghost use Rattle.ctf_wire.specs.Serving.{BrokerStep};
+
+use ctf_lines::{SHORT_LINE, Scratch};
+use ctf_wire::{Broker, Machine};
+use std::alloc::{AllocError, Global};
+use std::marker::Model;
+
+/// All sessions of a service, with the memory that is kept from line to line.
+#[derive(Drop)]
+pub struct Service {
+    broker: Broker,
+    scratch: Scratch,
+    reply: Vec<u8>,
+}
+
+impl Model for Service {
+    ghost use Rattle.std.specs.Prelude.{◌≤◌, vec_capacity};
+    ghost use Rattle.ctf_c.specs.service.Served.{Served};
+
+    ghost Value = { Served };
+
+    ghost view = { λ s. record { libraries = s.broker; reply = s.reply.items } };
+
+    ghost invariant = { λ s. 96 ≤ vec_capacity s.reply };
+}
+
+impl Service {
+    /// A service in which no session holds anything.
+    pub fn new(alloc: Global) -> Result<Service, AllocError>
+        ensures empty { IfOk result (λ s. (session : ℕ)
+            → library_at s.libraries session ≡ empty_state) }
+        ensures silent { IfOk result (λ s. s.reply ≡ []) }
+    {
+        let reply = Vec::with_capacity(alloc, SHORT_LINE)?;
+        Ok(Service {
+            broker: Broker::new(alloc),
+            scratch: Scratch::new(alloc),
+            reply,
+        })
+    }
+
+    /// Answers a line, and keeps the reply.
+    pub fn answer(&mut self, line: &[u8])
+        ensures { BrokerStep self.old.libraries (Some line.now) self.new.reply self.new.libraries }
+    {
+        self.reply.clear();
+        Machine::step(&mut self.broker, &mut self.scratch, line, &mut self.reply);
+    }
+
+    /// The last reply.
+    pub fn reply(&self) -> &[u8]
+        ensures { result.now ≡ self.now.reply }
+    {
+        self.reply.as_slice()
+    }
+}

@@ -1,8 +1,0 @@
-//! What C holds of a value on the heap: a pointer to it, or nothing.
-#![tactic(auto)]
-
-mod held;
-mod slot;
-
-pub use held::Held;
-pub use slot::Slot;

@@ -1,0 +1,49 @@
+//! Replays transcripts of sessions: the lines of each run go to a service of their own, and what it
+//! writes is compared with the replies that stand beside them; then once more between the lines of
+//! other sessions, where the replies have to be the same.
+
+mod marks;
+mod runs;
+mod told;
+
+use crate::transcripts::runs::{Others, are_answered, runs_of};
+use std::{env, fs, io};
+
+/// Prints the title of a run and, where the replies are others, that they are. Answers whether they
+/// are those of the run.
+fn replay(rt: &HostRuntime, run: &str, others: &Others) -> io::Result<bool> {
+    let title = run.lines().next().unwrap_or("");
+    let alone = are_answered(rt.alloc(), run, &Others::none(rt.alloc()))?;
+    let between = are_answered(rt.alloc(), run, others)?;
+    let said = match (alone, between) {
+        (true, true) => "",
+        (true, false) => ": answered otherwise between others",
+        (false, _) => ": answered otherwise",
+    };
+    println!(rt; "{title}{said}")?;
+    Ok(alone && between)
+}
+
+/// Whether all runs of a file are answered as it says.
+fn replay_file(rt: &HostRuntime, name: &str, others: &Others) -> io::Result<bool> {
+    let text = fs::read_to_string(rt, name)?;
+    let mut same = true;
+    for run in runs_of(&text) {
+        same &= replay(rt, run, others)?;
+    }
+    Ok(same)
+}
+
+/// The words name a file of what others say, and then the transcripts.
+pub fn replay_all(rt: &HostRuntime) -> io::Result<bool> {
+    let mut names = env::args(rt)?.skip(1);
+    let Some(name) = names.next() else {
+        return Ok(true);
+    };
+    let others = Others::read(rt.alloc(), &fs::read_to_string(rt, &name)?)?;
+    let mut same = true;
+    for name in names {
+        same &= replay_file(rt, &name, &others)?;
+    }
+    Ok(same)
+}
