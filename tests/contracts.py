@@ -11,7 +11,7 @@ import pathlib
 import re
 import sys
 
-PASSED_OVER = re.compile(r"(_rows|ctf_runs|ctf_transcripts|ctfd)$")
+PASSED_OVER = re.compile(r"(_rows|ctf_runs|ctf_transcripts|ctfd|test_format|test_service)$")
 BLOCK = re.compile(r"^(?:pub )?(?:impl|trait)\b(.*)\{\s*$")
 FUNCTION = re.compile(r"^(\s*)(pub )?fn (\w+)")
 

@@ -4,7 +4,7 @@
 # PROGRAM is crates/ctfd/out/ctfd once `rt run` in crates/ctfd has built it; one that `rt try`
 # builds does not do: it has an allocator of its own. Needs a C compiler and Python, and glibc.
 #
-# The runs are those of crates/ctf_transcripts/data and examples/*.jsonl, and two longer ones of all
+# The runs are those of crates/test_service/data and examples/*.jsonl, and two longer ones of all
 # words; behind each stand questions on what it leaves. At each call for memory in turn, from the
 # first read of standard input on, that call is refused, and in another run that one and the 39
 # behind it. Wanted is

@@ -1,7 +1,7 @@
 """Runs of requests that stand in this repository, and a service that is given them.
 
-A run is the lines that go in. Those of `crates/ctf_transcripts/data` are written as
-`crates/ctf_transcripts` reads them: a title behind `# `, requests behind `> ` and replies behind
+A run is the lines that go in. Those of `crates/test_service/data` are written as
+`crates/test_service` reads them: a title behind `# `, requests behind `> ` and replies behind
 `< `; what stands below `* 1..=255` is passed once for each of these numbers, up to the next `* `.
 In a line `«3 ab»` stands for `ababab`, and `«8n+1»` for eight times the number of the pass, and
 one.
@@ -17,7 +17,7 @@ from pathlib import Path
 from typing import BinaryIO, Iterable, Iterator
 
 TOP = Path(__file__).resolve().parents[1]
-TRANSCRIPTS = TOP / "crates" / "ctf_transcripts" / "data"
+TRANSCRIPTS = TOP / "crates" / "test_service" / "data"
 # What others say meanwhile, which is no run of its own.
 OTHERS = "others.transcript"
 MARK = re.compile("«(?:(?P<times>[0-9]+) (?P<text>[^»]*)|(?P<factor>[0-9]*)n(?P<plus>\\+[0-9]+)?)»")

@@ -10,7 +10,7 @@
 # 3. A line of 2 GiB from a pipe is answered LongLine, in no more memory than one of 2 MiB.
 #
 # Not reached are the bound on reads, which the program sets to 2^40, and a flush that fails, since
-# flushing standard output calls nothing. crates/ctf_session_rows has tests of both.
+# flushing standard output calls nothing. crates/test_service has tests of both.
 # Prints what was wrong, and counts; the status is 1 where something was wrong.
 set -eu
 program=$(realpath "$1")

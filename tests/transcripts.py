@@ -4,7 +4,7 @@
 usage: tests/transcripts.py PROGRAM
 
 Each run is given to a service of its own twice: alone, and between the lines of other sessions,
-where its replies have to be the same (crates/ctf_transcripts says how runs are written, and replays
+where its replies have to be the same (crates/test_service says how runs are written, and replays
 them too). Prints the title of each run that is replied to otherwise, with the first reply that
 differs; the status is 1 then.
 """

@@ -4,13 +4,13 @@
 usage: tests/written_bytes.py > examples/written.ctf
 
 The bytes are those of the run "each kind is written" in
-crates/ctf_transcripts/data/draft_calls.transcript, which the gate compares with what is written.
+crates/test_service/data/draft_calls.transcript, which the gate compares with what is written.
 """
 import json
 import pathlib
 import sys
 
-SOURCE = pathlib.Path(__file__).parent.parent / "crates/ctf_transcripts/data/draft_calls.transcript"
+SOURCE = pathlib.Path(__file__).parent.parent / "crates/test_service/data/draft_calls.transcript"
 
 
 def kinds():

@@ -23,7 +23,8 @@ from dataclasses import dataclass, field
 from pathlib import Path
 
 TOP = Path(__file__).resolve().parents[2]
-HANDLES = {"ctf_c": "struct ctfd", "ctf_line": "struct ctfd_service"}
+# The struct of C that each handle is, and the files below crates/ctf_c/src that take it.
+HANDLES = {"struct ctfd": ["*.rt"], "struct ctfd_service": ["service.rt", "service/*.rt"]}
 NUMBERS = {"uint8_t": "u8", "uint16_t": "u16", "uint32_t": "u32", "uint64_t": "u64",
            "int32_t": "i32", "size_t": "usize", "bool": "bool", "char": "u8", "void": "u8"}
 RESULTS = {"enum ctfd_status": "u32", "void": "nothing"}
@@ -81,13 +82,16 @@ def fields(name: str, source: str) -> list[tuple[str, str]]:
 def of_crates(crates: Path) -> Api:
     """What the crates export."""
     api = Api()
-    for crate, handle in HANDLES.items():
-        source = "\n".join(file.read_text(encoding="utf-8")
-                           for file in sorted((crates / crate / "src").glob("*.rt")))
+    sources = crates / "ctf_c" / "src"
+    taken: set[Path] = set()
+    for handle, patterns in reversed(HANDLES.items()):
+        files = {file for pattern in patterns for file in sources.glob(pattern)} - taken
+        taken |= files
+        source = "\n".join(file.read_text(encoding="utf-8") for file in sorted(files))
         source = re.sub(r"//.*", "", source)
         exports = re.findall(r'#\[unsafe\(no_mangle\)\]\s*pub extern "C" fn (\w+)\((.*?)\)'
                              r"\s*(?:-> (\w+))?\s*(?:ensures|requires|\{)", source, re.DOTALL)
-        assert len(exports) == source.count('extern "C" fn'), crate
+        assert len(exports) == source.count('extern "C" fn'), handle
         structs = {"Handle"}
         for name, text, result in exports:
             parameters: list[tuple[str, str]] = []
@@ -159,7 +163,7 @@ def of_rust(source: str) -> Api:
 
 def for_rust(api: Api) -> Api:
     """The same with one struct for both handles, which Rust has."""
-    both = {*HANDLES.values()}
+    both = {*HANDLES}
 
     def alike(kind: str) -> str:
         base, _, to = kind.partition(" ")
