@@ -8,9 +8,8 @@ use Rattle.ctf_open.specs.Quotas.{IsUncreated as IsUncreatedOpen}
 use Rattle.ctf_model.specs.opened.Open.{Open}
 use Rattle.ctf_model.specs.opened.Steps.{created, settled_as, updated_over}
 use Rattle.ctf_model.specs.opened.Sizes.{kept_bytes, parent_bytes}
-use Rattle.ctf_protocol.proofs.OpenSteps.{created_as}
 use Rattle.ctf_protocol.specs.sessions.Creations.{Created}
-use Rattle.ctf_protocol.specs.sessions.DraftSteps.{created_slot, model_made, slot_of_draft, updated_slot}
+use Rattle.ctf_protocol.specs.sessions.DraftSteps.{created_slot, model_made}
 use Rattle.ctf_model.specs.drafts.Drafts.{Draft, held, new_draft}
 use Rattle.ctf_model.specs.spaces.Kept.{Kept, modelled_by}
 use Rattle.ctf_protocol.specs.sessions.State.{Slot, State}
@@ -22,15 +21,16 @@ use Rattle.ctf_model.specs.declared.faults.TheConstants.Fault.{NO_SLOT}
 -- ---- the slot
 
 pub create_made : (n : ℕ) (above : Option Kept) (asked : Created) (o : Open) → created above asked.parname asked.parlabel (model_made above asked) ≡ Ok o → created_slot n above asked ≡ Ok (slot_with n o)
-create_made n above asked o is = created_as n above asked ∙ ap (slot_made n) is
+unfolding created_slot
+create_made n above asked o is = ap (slot_made n) is
 
 uncreated_as : (n others : ℕ) (r : Result Open Fault) (f : Fault) → IsUncreatedOpen r (Some (record { others = others; most = quota })) f → IsUncreated (slot_made n r) others f
 uncreated_as n others (Ok o) f h = (h.0, room_lt (others + (kept_bytes o.own + parent_bytes o.parent)) h.1)
 uncreated_as n others (Err g) f h = h
 
 pub create_refused : (n others : ℕ) (above : Option Kept) (asked : Created) (f : Fault) → IsUncreatedOpen (created above asked.parname asked.parlabel (model_made above asked)) (Some (record { others = others; most = quota })) f → IsUncreated (created_slot n above asked) others f
-create_refused n others above asked f h =
-    subst (λ (r : Result Slot Fault). IsUncreated r others f) (sym (created_as n above asked)) (uncreated_as n others _ f h)
+unfolding created_slot
+create_refused n others above asked f h = uncreated_as n others _ f h
 
 -- ---- the library
 

@@ -1,5 +1,5 @@
 -- The step of the draft in the slot at a place.
-use Rattle.std.proofs.Common.{◌≡◌, ℕ, ◌+◌, ◌-◌, sum_by, subst, List, [], ◌∷◌, map, set, Bool, true, false, Option, Some, None, Result, Ok, Err, eqb, refl, ap, sym, ◌∙◌, ◌⊎◌, inl, inr, arith}
+use Rattle.std.proofs.Common.{◌≡◌, ℕ, ◌+◌, ◌-◌, sum_by, subst, List, [], ◌∷◌, map, set, Bool, true, false, Option, Some, None, Result, Ok, Err, codes, eqb, refl, ap, sym, ◌∙◌, ◌⊎◌, inl, inr, arith}
 use Rattle.ctf_answers.specs.Replies.{changed}
 use Rattle.ctf_answers.specs.declared.counts.Counts.{Counts}
 use Rattle.ctf_library.proofs.Numbered.{IsPlace}
@@ -9,7 +9,9 @@ use Rattle.ctf_protocol.specs.sessions.Charges.{slot_bytes}
 use Rattle.ctf_library.specs.SlotView.{slot_of}
 use Rattle.ctf_library.specs.declared.slots.Slot as own
 use Rattle.ctf_protocol.specs.answers.Answers.{Answer}
-use Rattle.ctf_protocol.specs.sessions.DraftSteps.{SlotOutcome, draft_step, slot_step, slots_with, step_if_draft}
+use Rattle.ctf_protocol.specs.sessions.DraftSteps.{slot_step, slots_with}
+use Rattle.ctf_protocol.specs.sessions.Opened.{SlotOutcome, open_of, slot_stepped, under}
+use Rattle.ctf_model.specs.opened.Steps.{discarded_if}
 use Rattle.ctf_model.specs.drafts.Drafts.{Draft}
 use Rattle.ctf_model.specs.rules.Refusals.{want_of_memory}
 use Rattle.ctf_protocol.specs.sessions.State.{Slot}
@@ -54,12 +56,12 @@ abbrev code_of : Result Answer Fault → ℕ
 code_of (Ok answer) = 1
 code_of (Err fault) = fault.code
 
-discard_answers : (s : Slot) (d : Option Draft) → (Err want_of_memory ≡ (step_if_draft Discard s d).said) → ⊥
-unfolding draft_step
-discard_answers s None e = let codes : 0 ≡ 52 = ap code_of e in absurd (omega (arith, codes))
-discard_answers s (Some d) e = let codes : 0 ≡ 1 = ap code_of e in absurd (omega (arith, codes))
+discard_answers : (s : Slot) (d : Option Draft) → (Err want_of_memory ≡ (slot_stepped (under (codes "types")) s (discarded_if (open_of s) d)).said) → ⊥
+discard_answers s None e = let numbers : 0 ≡ 52 = ap code_of e in absurd (omega (arith, numbers))
+discard_answers s (Some d) e = let numbers : 0 ≡ 1 = ap code_of e in absurd (omega (arith, numbers))
 
 pub discard_is_quiet : (s : Slot) (step : DraftStep) (result : Result Counts Fault) → step ≡ Discard → changed result ≡ (slot_step step s).said → result ≡ Err want_of_memory → ⊥
+unfolding slot_step
 discard_is_quiet s step result is said want =
     let told : changed result ≡ (slot_step Discard s).said = rw is at said in
     discard_answers s s.draft (sym (ap changed want) ∙ told)

@@ -13,7 +13,8 @@ use Rattle.ctf_model.specs.declared.faults.TheConstants.Fault.{NO_SLOT, QUOTA_FU
 use Rattle.ctf_protocol.proofs.Charged.{slot_becomes_charge, slot_counts, without_bytes}
 use Rattle.ctf_protocol.specs.answers.Answers.{Answer, Reply}
 use Rattle.ctf_protocol.specs.sessions.Charges.{charge, slot_bytes}
-use Rattle.ctf_protocol.specs.sessions.DraftSteps.{SlotOutcome, slot_refused, slot_step, slots_with}
+use Rattle.ctf_protocol.specs.sessions.DraftSteps.{slot_step, slots_with}
+use Rattle.ctf_protocol.specs.sessions.Opened.{SlotOutcome, slot_refused}
 use Rattle.ctf_protocol.specs.sessions.State.{Slot, State}
 use Rattle.ctf_protocol.specs.sessions.Steps.{Outcome, becomes_by, outcome_of, quota, refuses, slot_at, slot_becomes, steps_draft, updates_within, with_slot, within_quota}
 use Rattle.ctf_protocol.specs.declared.requests.DraftStep.{DraftStep}

@@ -1,5 +1,4 @@
 -- Steps of the draft in a slot are those of the open dictionary that stands there.
-pub use Rattle.ctf_protocol.proofs.OpenSteps.{discard_as, enumerator_as, label_as, member_as, type_as, update_as}
 pub use Rattle.ctf_protocol.specs.sessions.Opened.{under}
 use Rattle.std.proofs.Common.{◌≡◌, ◌≤◌, ◌<◌, ◌+◌, ℕ, ◌∷◌, true, false, Some, Result, Ok, Err, codes, refl, ap, sym, subst, ◌∙◌, ◌⊎◌, inl, inr, arith}
 use Rattle.std.specs.Prelude.{nat_lt, not}
@@ -10,7 +9,7 @@ use Rattle.ctf_library.proofs.Rooms.{room_le, room_lt}
 use Rattle.ctf_library.specs.Drafting.{IsStepped}
 use Rattle.ctf_protocol.specs.sessions.Opened.{slot_stepped}
 use Rattle.ctf_library.specs.Quotas.{within}
-use Rattle.ctf_protocol.specs.sessions.Opened.{open_of, slot_with}
+use Rattle.ctf_protocol.specs.sessions.Opened.{SlotOutcome, open_of, slot_with}
 use Rattle.ctf_model.specs.rules.Refusals.{want_of_memory}
 use Rattle.ctf_model.specs.declared.faults.Fault.{Fault}
 use Rattle.ctf_open.specs.Quotas.{IsRefused}
@@ -18,7 +17,7 @@ use Rattle.ctf_model.specs.opened.Open.{Open}
 use Rattle.ctf_model.specs.opened.Sizes.{kept_bytes, parent_bytes}
 use Rattle.ctf_model.specs.opened.Steps.{Stepped, dropped, updated}
 use Rattle.ctf_protocol.specs.answers.Answers.{Answer, number}
-use Rattle.ctf_protocol.specs.sessions.DraftSteps.{SlotOutcome, step_if_draft}
+use Rattle.ctf_protocol.specs.sessions.DraftSteps.{slot_step}
 use Rattle.ctf_protocol.specs.sessions.State.{Slot}
 use Rattle.ctf_protocol.specs.sessions.Steps.{quota}
 use Rattle.ctf_protocol.specs.declared.requests.DraftStep.TheVariants.{Update, Discard}
@@ -36,21 +35,22 @@ refused_step say s r new f counts (inr e) same is =
 
 -- ---- updates
 
-updates_as : (s : Slot) (r : Result Stepped Fault) → updated (open_of s) ≡ r → step_if_draft Update s s.draft ≡ slot_stepped (under (codes "types")) s r
-updates_as s r e = update_as s s.draft ∙ ap (slot_stepped (under (codes "types")) s) e
+updates_as : (s : Slot) (r : Result Stepped Fault) → updated (open_of s) ≡ r → slot_step Update s ≡ slot_stepped (under (codes "types")) s r
+unfolding slot_step
+updates_as s r e = ap (slot_stepped (under (codes "types")) s) e
 
-pub update_done : (others : ℕ) (s : Slot) (new : Open) (n : ℕ) (counts : Result Counts Fault) → updated (open_of s) ≡ Ok (record { served = new; answer = n }) → not (nat_lt quota (others + (kept_bytes new.own + parent_bytes s.parent))) ≡ true → new.parent ≡ s.parent → changed counts ≡ Ok (under (codes "types") n) → IsStepped (within others (step_if_draft Update s s.draft) s) counts s (slot_with s.number new)
+pub update_done : (others : ℕ) (s : Slot) (new : Open) (n : ℕ) (counts : Result Counts Fault) → updated (open_of s) ≡ Ok (record { served = new; answer = n }) → not (nat_lt quota (others + (kept_bytes new.own + parent_bytes s.parent))) ≡ true → new.parent ≡ s.parent → changed counts ≡ Ok (under (codes "types") n) → IsStepped (within others (slot_step Update s) s) counts s (slot_with s.number new)
 update_done others s new n counts is fits same said =
     let le = room_le (others + (kept_bytes new.own + parent_bytes s.parent)) fits in
     let alike : parent_bytes new.parent ≡ parent_bytes s.parent = ap parent_bytes same in
     let none : nat_lt quota (others + (kept_bytes new.own + parent_bytes new.parent)) ≡ false = le-ltb quota (others + (kept_bytes new.own + parent_bytes new.parent)) (omega (arith, le, alike)) in
     subst (λ (o : SlotOutcome). IsStepped (within others o s) counts s (slot_with s.number new)) (sym (updates_as s _ is)) (rw none (inl (said, refl)))
 
-pub update_refused : (others : ℕ) (s : Slot) (new : Open) (f : Fault) (counts : Result Counts Fault) → (f ≡ want_of_memory) ⊎ IsRefused (updated (open_of s)) (Some (record { others = others; most = quota })) f → new ≡ open_of s → counts ≡ Err f → IsStepped (within others (step_if_draft Update s s.draft) s) counts s (slot_with s.number new)
+pub update_refused : (others : ℕ) (s : Slot) (new : Open) (f : Fault) (counts : Result Counts Fault) → (f ≡ want_of_memory) ⊎ IsRefused (updated (open_of s)) (Some (record { others = others; most = quota })) f → new ≡ open_of s → counts ≡ Err f → IsStepped (within others (slot_step Update s) s) counts s (slot_with s.number new)
 update_refused others s new f counts (inl want) same is = inr (is ∙ ap Err want, ap (slot_with s.number) same)
 update_refused others s new f counts (inr refused) same is = at (updated (open_of s)) refl refused
   where
-    at : (r : Result Stepped Fault) → updated (open_of s) ≡ r → IsRefused r (Some (record { others = others; most = quota })) f → IsStepped (within others (step_if_draft Update s s.draft) s) counts s (slot_with s.number new)
+    at : (r : Result Stepped Fault) → updated (open_of s) ≡ r → IsRefused r (Some (record { others = others; most = quota })) f → IsStepped (within others (slot_step Update s) s) counts s (slot_with s.number new)
     at (Ok step) e h =
         let lt = room_lt (others + (kept_bytes step.served.own + parent_bytes step.served.parent)) h.1 in
         let over : nat_lt quota (others + (kept_bytes step.served.own + parent_bytes step.served.parent)) ≡ true = lt-ltb quota (others + (kept_bytes step.served.own + parent_bytes step.served.parent)) lt in
@@ -60,5 +60,6 @@ update_refused others s new f counts (inr refused) same is = at (updated (open_o
 
 -- ---- discards
 
-pub discards_as : (s : Slot) (r : Result Stepped Fault) → dropped (open_of s) ≡ r → step_if_draft Discard s s.draft ≡ slot_stepped (under (codes "types")) s r
-discards_as s r e = discard_as s s.draft ∙ ap (slot_stepped (under (codes "types")) s) e
+pub discards_as : (s : Slot) (r : Result Stepped Fault) → dropped (open_of s) ≡ r → slot_step Discard s ≡ slot_stepped (under (codes "types")) s r
+unfolding slot_step
+discards_as s r e = ap (slot_stepped (under (codes "types")) s) e

@@ -10,7 +10,7 @@ ghost use Rattle.ctf_model.specs.opened.Steps.{enumerator_added, label_added, me
 ghost use Rattle.ctf_protocol.specs.answers.Answers.{number, says};
 ghost use Rattle.ctf_protocol.specs.sessions.Additions.{array_of, body_of, scalar_of, tag_declared};
 ghost use Rattle.ctf_protocol.specs.sessions.Charges.{slot_bytes};
-ghost use Rattle.ctf_protocol.specs.sessions.DraftSteps.{step_if_draft};
+ghost use Rattle.ctf_protocol.specs.sessions.DraftSteps.{slot_step};
 ghost use Rattle.ctf_protocol.specs.declared.requests.DraftStep.TheVariants.{Add};
 ghost use Rattle.ctf_records.specs.RecordView.{tag_of};
 
@@ -170,10 +170,8 @@ impl Slot {
     }
 
     /// Adds to its draft; the number of a type or the offset of a member is answered.
-    #[tactic(auto, using(crate::proofs::DraftSteps::enumerator_as))]
     pub(crate) fn add(&mut self, alloc: Global, addition: &Addition) -> Result<Counts, Fault>
-        ensures step { IsStepped
-            (step_if_draft (Add addition.now) (slot_of self.old) (slot_of self.old).draft) result
+        ensures step { IsStepped (slot_step (Add addition.now) (slot_of self.old)) result
             (slot_of self.old) (slot_of self.new) }
         ensures number { self.new.number ≡ self.old.number }
         ensures same { slot_bytes (slot_of self.new) ≡ slot_bytes (slot_of self.old) }

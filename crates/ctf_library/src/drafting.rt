@@ -7,7 +7,7 @@ ghost use Rattle.ctf_answers.specs.Replies.{changed};
 ghost use Rattle.ctf_model.specs.rules.Refusals.{want_of_memory};
 ghost use Rattle.ctf_model.specs.spaces.Kept.{model_over as parents_model};
 ghost use Rattle.ctf_protocol.specs.sessions.Charges.{slot_bytes};
-ghost use Rattle.ctf_protocol.specs.sessions.DraftSteps.{created_slot, model_made, slot_step, step_if_draft};
+ghost use Rattle.ctf_protocol.specs.sessions.DraftSteps.{created_slot, model_made, slot_step};
 ghost use Rattle.ctf_protocol.specs.sessions.Steps.{quota};
 ghost use Rattle.ctf_protocol.specs.declared.requests.DraftStep.TheVariants.{Update as Updates, Discard};
 
@@ -64,8 +64,7 @@ impl Slot {
     }
 
     fn update(&mut self, alloc: Global, others: u128) -> Result<Counts, Fault>
-        ensures step { IsStepped (within others
-            (step_if_draft Updates (slot_of self.old) (slot_of self.old).draft)
+        ensures step { IsStepped (within others (slot_step Updates (slot_of self.old))
             (slot_of self.old)) result (slot_of self.old) (slot_of self.new) }
         ensures number { self.new.number ≡ self.old.number }
         ensures room { (slot_bytes (slot_of self.new) ≡ slot_bytes (slot_of self.old))
@@ -82,10 +81,8 @@ impl Slot {
     }
 
     fn discard(&mut self) -> Result<Counts, Fault>
-        ensures said { changed result
-            ≡ (step_if_draft Discard (slot_of self.old) (slot_of self.old).draft).said }
-        ensures slot { slot_of self.new
-            ≡ (step_if_draft Discard (slot_of self.old) (slot_of self.old).draft).slot }
+        ensures said { changed result ≡ (slot_step Discard (slot_of self.old)).said }
+        ensures slot { slot_of self.new ≡ (slot_step Discard (slot_of self.old)).slot }
         ensures number { self.new.number ≡ self.old.number }
         ensures same { slot_bytes (slot_of self.new) ≡ slot_bytes (slot_of self.old) }
     {

@@ -67,7 +67,7 @@ each_change state (change.Close d) found = record {
 }
 each_change state (change.Import d p) found = record {
   in_order = keys.importing d (slot_at d state.slots) (slot_at p state.slots) state;
-  has_row = table.at_slot _ (slot_at d state.slots) state (λ child. table.at_slot _ (slot_at p state.slots) state (λ parent. table.import_right child d parent.kept state));
+  has_row = table.at_slot _ (slot_at d state.slots) state (λ child. table.at_slot _ (slot_at p state.slots) state (λ parent. table.import_right child d parent state));
   stays = kept.importing d (slot_at d state.slots) (slot_at p state.slots) state;
   within = λ h. bounded.importing d (slot_at d state.slots) (slot_at p state.slots) state h;
 }

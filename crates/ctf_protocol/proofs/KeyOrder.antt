@@ -5,14 +5,13 @@ use Rattle.std.specs.List.{list_all}
 use Rattle.std.specs.Cmp.Derive.{both_true}
 use Rattle.std.proofs.lemmas.List.{take-append-drop}
 use Rattle.std.proofs.lemmas.List.Folds.{list_all-append}
-use Rattle.ctf_model.specs.drafts.Adders.{Added}
 use Rattle.ctf_model.specs.opened.Questions.{array_said, encoding_said, enumerators_said, members_said, signature_said}
-use Rattle.ctf_protocol.specs.sessions.Additions.{enlarged, numbered, silent}
+use Rattle.ctf_protocol.specs.sessions.Additions.{added, answered}
 use Rattle.ctf_protocol.specs.sessions.Creations.{Created}
-use Rattle.ctf_protocol.specs.sessions.DraftSteps.{SlotOutcome, created_slot, draft_step, enlarges, slot_step, step_if_draft, updates_to}
-use Rattle.ctf_model.specs.drafts.Drafts.{Draft, held}
+use Rattle.ctf_protocol.specs.sessions.DraftSteps.{created_slot, slot_step}
+use Rattle.ctf_protocol.specs.sessions.Opened.{SlotOutcome, open_of, slot_stepped}
 use Rattle.ctf_model.specs.opened.Open.{pending_in}
-use Rattle.ctf_model.specs.writing.Written.{written}
+use Rattle.ctf_model.specs.opened.Steps.{Stepped, dropped, import_refusal, updated}
 use Rattle.ctf_protocol.specs.declared.additions.Addition.{Addition}
 use Rattle.ctf_protocol.specs.declared.additions.Addition.TheVariants as add
 use Rattle.ctf_protocol.specs.answers.Answers.{Answer, Item, Single, number, truth, word, text, says, may_say}
@@ -21,7 +20,7 @@ use Rattle.ctf_model.specs.names.Found.{found, pointer_to}
 use Rattle.ctf_model.specs.names.KindNames.{name_of_kind}
 use Rattle.ctf_model.specs.figures.Figures.{align, referred, resolved, size}
 use Rattle.ctf_protocol.specs.answers.KeyOrder.{item_in_order, in_order, IsInOrder}
-use Rattle.ctf_model.specs.spaces.Kept.{Kept, fault_over}
+use Rattle.ctf_model.specs.spaces.Kept.{Kept}
 use Rattle.ctf_model.specs.figures.Paths.{path}
 use Rattle.ctf_protocol.specs.sessions.Publications.{published_as}
 use Rattle.ctf_protocol.specs.answers.Questions.{at_most, windowed, as_fields, member_fields, member_item, enumerator_fields, enumerator_item, number_item, argument_fields, array_fields, encoding_fields, signature_fields, type_fields, size_fields, align_fields, name_fields, position_fields, value_fields, plain_said, said_on, said_of}
@@ -166,14 +165,10 @@ imported : (fault : Option Fault) (d : ℕ) (parent : Kept) (state : State) → 
 imported None d parent state = quoted _ _ state refl refl
 imported (Some fault) d parent state = tt
 
-import_of : (drafted : Bool) (child : Slot) (d : ℕ) (parent : Kept) (state : State) → is_some child.draft ≡ drafted → IsInOrder (imports_into child d parent state).reply.outcome
-import_of true child d parent state e = rw e tt
-import_of false child d parent state e = rw e (imported (fault_over child.kept parent) d parent state)
-
-pub importing : (d : ℕ) (child parent : Option Slot) (state : State) → IsInOrder (with_slot (λ c. with_slot (λ p. imports_into c d p.kept state) parent state) child state).reply.outcome
+pub importing : (d : ℕ) (child parent : Option Slot) (state : State) → IsInOrder (with_slot (λ c. with_slot (λ p. imports_into c d p state) parent state) child state).reply.outcome
 importing d None parent state = tt
 importing d (Some c) None state = tt
-importing d (Some c) (Some p) state = import_of _ c d p.kept state refl
+importing d (Some c) (Some p) state = imported (import_refusal (open_of c) (open_of p)) d p.kept state
 
 published : (taken : Bool) (name : List ℕ) (kept : Kept) (state : State) → is_some (published_as name state.published) ≡ taken → IsInOrder (publishes_kept name kept state).reply.outcome
 published true name kept state e = rw e tt
@@ -221,35 +216,21 @@ pub created_from : (parent : Option ℕ) (asked : Created) (state : State) → I
 created_from None asked state = created_over _ None asked state refl
 created_from (Some p) asked state = created_on (slot_at p state.slots) asked state
 
-offset_said : (slot : Slot) (added : Result Added Fault) → IsInOrder (enlarges slot (numbered (codes "offset") added)).said
-offset_said slot (Ok added) = refl
-offset_said slot (Err fault) = tt
+stepped : (say : ℕ → Answer) (slot : Slot) → ((n : ℕ) → in_order (say n) ≡ true) → (r : Result Stepped Fault) → IsInOrder (slot_stepped say slot r).said
+stepped say slot good (Ok step) = good step.answer
+stepped say slot good (Err fault) = tt
 
-number_said : (slot : Slot) (added : Result Added Fault) → IsInOrder (enlarges slot (numbered (codes "t") added)).said
-number_said slot (Ok added) = refl
-number_said slot (Err fault) = tt
+adding : (addition : Addition) (n : ℕ) → in_order (answered addition n) ≡ true
+adding (add.Type name root kind) n = refl
+adding (add.Member t name tnum offset) n = refl
+adding (add.Enumerator t name value) n = refl
+adding (add.Label name last) n = refl
 
-nothing_said : (slot : Slot) (draft : Result Draft Fault) → IsInOrder (enlarges slot (silent draft)).said
-nothing_said slot (Ok draft) = refl
-nothing_said slot (Err fault) = tt
-
-enlarging : (slot : Slot) (draft : Draft) (addition : Addition) → IsInOrder (enlarges slot (enlarged draft addition)).said
-unfolding enlarged
-enlarging slot draft (add.Type name root kind) = number_said slot _
-enlarging slot draft (add.Member t name tnum offset) = offset_said slot _
-enlarging slot draft (add.Enumerator t name value) = nothing_said slot _
-enlarging slot draft (add.Label name last) = nothing_said slot _
-
-updating : (slot : Slot) (draft : Draft) (bytes : Result (List ℕ) Fault) → IsInOrder (updates_to slot draft bytes).said
-updating slot draft (Ok bytes) = refl
-updating slot draft (Err fault) = tt
-
-of_draft : (step : DraftStep) (slot : Slot) (draft : Option Draft) → IsInOrder (step_if_draft step slot draft).said
-unfolding draft_step
-of_draft step slot None = tt
-of_draft (steps.Add addition) slot (Some draft) = enlarging slot draft addition
-of_draft steps.Update slot (Some draft) = updating slot draft (written (held draft))
-of_draft steps.Discard slot (Some draft) = refl
+of_draft : (step : DraftStep) (slot : Slot) → IsInOrder (slot_step step slot).said
+unfolding slot_step
+of_draft (steps.Add addition) slot = stepped (answered addition) slot (adding addition) (added addition (open_of slot))
+of_draft steps.Update slot = stepped _ slot (λ n. refl) (updated (open_of slot))
+of_draft steps.Discard slot = stepped _ slot (λ n. refl) (dropped (open_of slot))
 
 updated_within : (said : Result Answer Fault) (outcome : Outcome) (state : State) → IsInOrder outcome.reply.outcome → IsInOrder (updates_within said outcome state).reply.outcome
 updated_within (Ok answer) outcome state h = quoted _ outcome state refl h
@@ -262,4 +243,4 @@ becoming d steps.Discard outcome state h = h
 
 pub stepping : (d : ℕ) (step : DraftStep) (slot : Option Slot) (state : State) → IsInOrder (with_slot (λ s. becomes_by step d (slot_step step s) state) slot state).reply.outcome
 stepping d step None state = tt
-stepping d step (Some slot) state = becoming d step (slot_step step slot) state (of_draft step slot slot.draft)
+stepping d step (Some slot) state = becoming d step (slot_step step slot) state (of_draft step slot)

@@ -1,18 +1,18 @@
 -- A refused request leaves the library as it was.
 use Rattle.std.proofs.Common.{◌≡◌, ℕ, List, [], ◌∷◌, length, Bool, true, false, Option, Some, None, Result, Ok, Err, eqb, refl, ap, sym, ◌∙◌}
 use Rattle.std.specs.Prelude.{is_some, nat_lt}
-use Rattle.ctf_model.specs.drafts.Drafts.{Draft, held}
 use Rattle.ctf_model.specs.rules.Faults.{first_fault}
-use Rattle.ctf_model.specs.spaces.Kept.{Kept, fault_over}
-use Rattle.ctf_model.specs.writing.Written.{written}
+use Rattle.ctf_model.specs.spaces.Kept.{Kept}
 use Rattle.ctf_model.specs.declared.data_model.DataModel.{DataModel}
 use Rattle.ctf_model.specs.declared.faults.Fault.{Fault}
 use Rattle.ctf_protocol.specs.answers.Answers.{Answer}
 use Rattle.ctf_model.specs.opened.Open.{pending_in}
-use Rattle.ctf_protocol.specs.sessions.Additions.{Enlarged, enlarged}
+use Rattle.ctf_model.specs.opened.Steps.{Stepped, dropped, import_refusal, updated}
+use Rattle.ctf_protocol.specs.sessions.Additions.{added, answered}
 use Rattle.ctf_protocol.specs.sessions.Charges.{charge}
 use Rattle.ctf_protocol.specs.sessions.Creations.{Created}
-use Rattle.ctf_protocol.specs.sessions.DraftSteps.{SlotOutcome, created_slot, draft_step, enlarges, slot_step, slots_with, step_if_draft, updates_to}
+use Rattle.ctf_protocol.specs.sessions.DraftSteps.{created_slot, slot_step, slots_with}
+use Rattle.ctf_protocol.specs.sessions.Opened.{SlotOutcome, open_of, slot_stepped}
 use Rattle.ctf_protocol.specs.sessions.Publications.{published_as}
 use Rattle.ctf_protocol.specs.sessions.State.{Slot, State}
 use Rattle.ctf_protocol.specs.sessions.Steps.{Outcome, accepts_unless, adds_created, becomes_by, creates_from, creates_over, grants, has_room, imports_into, imports_unless, longest_list, opens, opens_unless, publishes_slot, publishes_within, quota, slot_at, slot_becomes, slots_without, stages, takes, takes_found, updates_within, with_slot, withdraws, within_quota}
@@ -62,14 +62,10 @@ imported : (fault : Option Fault) (d : ℕ) (parent : Kept) (state : State) → 
 imported None d parent state = within _ _ state
 imported (Some fault) d parent state = λ f h. refl
 
-import_of : (drafted : Bool) (child : Slot) (d : ℕ) (parent : Kept) (state : State) → is_some child.draft ≡ drafted → Stays (imports_into child d parent state) state
-import_of true child d parent state e = rw e (λ f h. refl)
-import_of false child d parent state e = rw e (imported (fault_over child.kept parent) d parent state)
-
-pub importing : (d : ℕ) (child parent : Option Slot) (state : State) → Stays (with_slot (λ c. with_slot (λ p. imports_into c d p.kept state) parent state) child state) state
+pub importing : (d : ℕ) (child parent : Option Slot) (state : State) → Stays (with_slot (λ c. with_slot (λ p. imports_into c d p state) parent state) child state) state
 importing d None parent state = λ f h. refl
 importing d (Some c) None state = λ f h. refl
-importing d (Some c) (Some p) state = import_of _ c d p.kept state refl
+importing d (Some c) (Some p) state = imported (import_refusal (open_of c) (open_of p)) d p.kept state
 
 -- ---- publications
 
@@ -119,23 +115,15 @@ created_from (Some p) asked state = created_on (slot_at p state.slots) asked sta
 abbrev Same : Slot → SlotOutcome → Type 0
 Same slot outcome = (f : Fault) → outcome.said ≡ Err f → outcome.slot ≡ slot
 
-enlarging : (slot : Slot) (r : Result Enlarged Fault) → Same slot (enlarges slot r)
-enlarging slot (Ok added) f e = absurd cc
-enlarging slot (Err fault) f e = refl
+stepped : (say : ℕ → Answer) (slot : Slot) (r : Result Stepped Fault) → Same slot (slot_stepped say slot r)
+stepped say slot (Ok step) f e = absurd cc
+stepped say slot (Err fault) f e = refl
 
-updating : (slot : Slot) (draft : Draft) (r : Result (List ℕ) Fault) → Same slot (updates_to slot draft r)
-updating slot draft (Ok bytes) f e = absurd cc
-updating slot draft (Err fault) f e = refl
-
-drafted : (x : DraftStep) (slot : Slot) (draft : Draft) → Same slot (draft_step x slot draft)
-unfolding draft_step
-drafted (steps.Add addition) slot draft = enlarging slot (enlarged draft addition)
-drafted steps.Update slot draft = updating slot draft (written (held draft))
-drafted steps.Discard slot draft = λ f e. absurd cc
-
-if_draft : (x : DraftStep) (slot : Slot) (draft : Option Draft) → Same slot (step_if_draft x slot draft)
-if_draft x slot None = λ f e. refl
-if_draft x slot (Some draft) = drafted x slot draft
+of_slot : (x : DraftStep) (slot : Slot) → Same slot (slot_step x slot)
+unfolding slot_step
+of_slot (steps.Add addition) slot = stepped (answered addition) slot (added addition (open_of slot))
+of_slot steps.Update slot = stepped _ slot (updated (open_of slot))
+of_slot steps.Discard slot = stepped _ slot (dropped (open_of slot))
 
 -- a slot that takes its own place changes nothing
 with_case : (d : ℕ) (slot first : Slot) (rest : List Slot) → (slot_at d rest ≡ Some slot → slots_with d slot rest ≡ rest) → (t : Bool) → eqb first.number d ≡ t → slot_at d (first ∷ rest) ≡ Some slot → slots_with d slot (first ∷ rest) ≡ first ∷ rest
@@ -159,9 +147,9 @@ update_within (Ok answer) d slot outcome state e at same = rw e (within answer _
 update_within (Err fault) d slot outcome state e at same = becomes d slot outcome state at same
 
 becoming : (x : DraftStep) (d : ℕ) (slot : Slot) (state : State) → slot_at d state.slots ≡ Some slot → Stays (becomes_by x d (slot_step x slot) state) state
-becoming (steps.Add addition) d slot state at = becomes d slot _ state at (if_draft (steps.Add addition) slot slot.draft)
-becoming steps.Update d slot state at = update_within _ d slot _ state refl at (if_draft steps.Update slot slot.draft)
-becoming steps.Discard d slot state at = becomes d slot _ state at (if_draft steps.Discard slot slot.draft)
+becoming (steps.Add addition) d slot state at = becomes d slot _ state at (of_slot (steps.Add addition) slot)
+becoming steps.Update d slot state at = update_within _ d slot _ state refl at (of_slot steps.Update slot)
+becoming steps.Discard d slot state at = becomes d slot _ state at (of_slot steps.Discard slot)
 
 pub stepping : (x : DraftStep) (d : ℕ) (slot : Option Slot) (state : State) → slot_at d state.slots ≡ slot → Stays (with_slot (λ s. becomes_by x d (slot_step x s) state) slot state) state
 stepping x d None state at = λ f h. refl

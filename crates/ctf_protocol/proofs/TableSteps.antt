@@ -3,7 +3,7 @@ use Rattle.std.proofs.Common.{◌≡◌, ℕ, List, length, Bool, true, false, O
 use Rattle.std.specs.Prelude.{is_some, nat_lt, slice_get, if◌then◌else◌}
 use Rattle.std.specs.Option.{option_map}
 use Rattle.serde_json.specs.Data.{Data}
-use Rattle.ctf_model.specs.drafts.Adders.{Added, add_enumerator, add_label, add_member, add_type}
+use Rattle.ctf_model.specs.drafts.Adders.{Added, add_enumerator, add_label}
 use Rattle.ctf_model.specs.drafts.Drafts.{Draft, held, new_draft}
 use Rattle.ctf_model.specs.figures.Figures.{align, referred, resolved, size}
 use Rattle.ctf_model.specs.figures.Paths.{path}
@@ -22,20 +22,22 @@ use Rattle.ctf_model.specs.values.Values.{value_text}
 use Rattle.ctf_model.specs.writing.Written.{written}
 use Rattle.ctf_model.specs.declared.data_model.DataModel.{DataModel}
 use Rattle.ctf_model.specs.declared.faults.Fault.{Fault}
-use Rattle.ctf_model.specs.declared.faults.TheConstants.Fault.{LONG_LINE, NO_INFO, NO_LABEL, NO_SYMBOL, NOT_DATA, NOT_FUNCTION, WRONG_KIND}
+use Rattle.ctf_model.specs.declared.faults.TheConstants.Fault.{FIXED_PARENT, LONG_LINE, NO_INFO, NO_LABEL, NO_SYMBOL, NOT_DATA, NOT_FUNCTION, WRONG_KIND}
 use Rattle.ctf_protocol.proofs.TableCodes.{either, good, good_fault, refused}
 use Rattle.ctf_protocol.proofs.TableDrafts.{dictionary_good, enumerator_added, import_good, label_added, member_added, new_good, type_added, written_good}
 use Rattle.ctf_protocol.proofs.TableFigures.{align_good, path_good, referred_good, resolved_good, size_good, type_good}
 use Rattle.ctf_protocol.proofs.TableTexts.{lookup_good, name_good, pointer_good, value_good}
 use Rattle.ctf_protocol.specs.answers.Answers.{Answer}
-use Rattle.ctf_model.specs.opened.Open.{pending_in}
+use Rattle.ctf_model.specs.opened.Open.{Open, pending_in}
+use Rattle.ctf_model.specs.opened.Steps.{Stepped, counted, created, discarded_if, dropped, enlarged_as, enlarged_if, import_refusal, settled_as, silent, updated, updated_if, updated_over}
 use Rattle.ctf_protocol.specs.answers.Questions.{align_fields, array_fields, as_fields, encoding_fields, enumerator_fields, member_fields, name_fields, plain_said, position_fields, said_of, said_on, signature_fields, size_fields, type_fields, type_said, value_fields}
 use Rattle.ctf_protocol.specs.answers.SlotAnswers.{last_fields, symbol_fields, whole_said}
 use Rattle.ctf_protocol.specs.lines.Ask.{ask, asked_by, json, or_bad_request, request_asked, value_asked}
-use Rattle.ctf_protocol.specs.sessions.Additions.{Enlarged, enlarged, numbered, silent}
+use Rattle.ctf_protocol.specs.sessions.Additions.{added}
 use Rattle.ctf_protocol.specs.sessions.Charges.{charge}
 use Rattle.ctf_protocol.specs.sessions.Creations.{Created}
-use Rattle.ctf_protocol.specs.sessions.DraftSteps.{created_slot, draft_step, enlarges, model_made, slot_of_draft, slot_step, step_if_draft, updated_slot, updates_to}
+use Rattle.ctf_protocol.specs.sessions.DraftSteps.{created_slot, model_made, slot_step}
+use Rattle.ctf_protocol.specs.sessions.Opened.{open_of, slot_made, slot_stepped}
 use Rattle.ctf_protocol.specs.sessions.Publications.{published_as}
 use Rattle.ctf_protocol.specs.sessions.RefusalLaws.{BadLinesAreInTheTable}
 use Rattle.ctf_protocol.specs.sessions.State.{Slot, State}
@@ -151,8 +153,12 @@ imported : (fault : Option Fault) (d : ℕ) (parent : Kept) (state : State) → 
 imported None d parent state g = within _ state refl
 imported (Some f) d parent state g = g
 
-pub import_right : (child : Slot) (d : ℕ) (parent : Kept) (state : State) → right (imports_into child d parent state) ≡ true
-import_right child d parent state = either_right (is_some child.draft) _ (imports_unless (fault_over child.kept parent) d parent state) refl (imported (fault_over child.kept parent) d parent state (import_good (record { child = modelled_by child.kept; parent = modelled_by parent })))
+refusal_good : (drafted : Bool) (fault : Option Fault) → good_fault fault ≡ true → good_fault (if drafted then Some (placeless FIXED_PARENT) else fault) ≡ true
+refusal_good true fault g = refl
+refusal_good false fault g = g
+
+pub import_right : (child : Slot) (d : ℕ) (parent : Slot) (state : State) → right (imports_into child d parent state) ≡ true
+import_right child d parent state = imported (import_refusal (open_of child) (open_of parent)) d parent.kept state (refusal_good (is_some child.draft) (fault_over child.kept parent.kept) (import_good (record { child = modelled_by child.kept; parent = modelled_by parent.kept })))
 
 publish_right : (name : List ℕ) (kept : Kept) (state : State) → right (publishes_within name kept state) ≡ true
 publish_right name kept state = either_right (is_some (published_as name state.published)) _ _ refl (within _ state refl)
@@ -172,17 +178,21 @@ takes_right found state = either_right (has_room state) (takes_found found state
 
 -- ---- drafts
 
-updated_good : (number : ℕ) (parent : Option Kept) (draft : Draft) (r : Result (List ℕ) Fault) → good r ≡ true → good (updated_slot number parent draft r) ≡ true
-updated_good number parent draft (Ok bytes) g = refl
-updated_good number parent draft (Err f) g = g
+settled_good : (parent : Option Kept) (d : Draft) (r : Result (List ℕ) Fault) → good r ≡ true → good (settled_as parent d r) ≡ true
+settled_good parent d (Ok bytes) g = refl
+settled_good parent d (Err f) g = g
 
-of_draft : (number : ℕ) (parent : Option Kept) (r : Result Draft Fault) → good r ≡ true → good (slot_of_draft number parent r) ≡ true
-of_draft number parent (Ok draft) g = updated_good number parent draft (written (held draft)) (written_good (held draft))
-of_draft number parent (Err f) g = g
+over_good : (parent : Option Kept) (r : Result Draft Fault) → good r ≡ true → good (updated_over parent r) ≡ true
+over_good parent (Ok d) g = settled_good parent d (written (held d)) (written_good (held d))
+over_good parent (Err f) g = g
+
+made_good : (number : ℕ) (r : Result Open Fault) → good r ≡ true → good (slot_made number r) ≡ true
+made_good number (Ok o) g = refl
+made_good number (Err f) g = g
 
 created_good : (number : ℕ) (parent : Option Kept) (asked : Created) → good (created_slot number parent asked) ≡ true
-unfolding created_slot
-created_good number parent asked = of_draft number parent (new_draft (option_map modelled_by parent) asked.parname asked.parlabel (model_made parent asked)) (new_good (option_map modelled_by parent) asked.parname asked.parlabel (model_made parent asked))
+unfolding created_slot created
+created_good number parent asked = made_good number (updated_over parent (new_draft (option_map modelled_by parent) asked.parname asked.parlabel (model_made parent asked))) (over_good parent (new_draft (option_map modelled_by parent) asked.parname asked.parlabel (model_made parent asked)) (new_good (option_map modelled_by parent) asked.parname asked.parlabel (model_made parent asked)))
 
 adds_right : (r : Result Slot Fault) (state : State) → good r ≡ true → right (adds_created r state) ≡ true
 adds_right (Ok slot) state g = within _ state refl
@@ -195,47 +205,54 @@ pub from_right : (parent : Option ℕ) (asked : Created) (state : State) → rig
 from_right None asked state = over_right None asked state
 from_right (Some p) asked state = at_slot (λ slot. creates_over (Some slot.kept) asked state) (slot_at p state.slots) state (λ slot. over_right (Some slot.kept) asked state)
 
-numbered_good : (key : List ℕ) (r : Result Added Fault) → good r ≡ true → good (numbered key r) ≡ true
-numbered_good key (Ok added) g = refl
-numbered_good key (Err f) g = g
-
 silent_good : (r : Result Draft Fault) → good r ≡ true → good (silent r) ≡ true
 silent_good (Ok draft) g = refl
 silent_good (Err f) g = g
 
-enlarged_good : (d : Draft) (x : Addition) → good (enlarged d x) ≡ true
-unfolding enlarged
-enlarged_good d (add.Type name root kind) = numbered_good _ (add_type d _) (type_added d _)
-enlarged_good d (add.Member t name tnum offset) = numbered_good _ (add_member d t.0 name tnum.0 offset) (member_added d t.0 name tnum.0 offset)
-enlarged_good d (add.Enumerator t name value) = silent_good (add_enumerator d t.0 _) (enumerator_added d t.0 _)
-enlarged_good d (add.Label name last) = silent_good (add_label d _) (label_added d _)
+enlarged_good : (o : Open) (adds : Draft → Result Added Fault) (draft : Option Draft) → ((d : Draft) → good (adds d) ≡ true) → good (enlarged_if o adds draft) ≡ true
+enlarged_good o adds None g = refl
+enlarged_good o adds (Some d) g = by (adds d) (g d)
+  where
+    by : (r : Result Added Fault) → good r ≡ true → good (enlarged_as o r) ≡ true
+    by (Ok added) h = refl
+    by (Err f) h = h
 
-enlarges_good : (slot : Slot) (r : Result Enlarged Fault) → good r ≡ true → good (enlarges slot r).said ≡ true
-enlarges_good slot (Ok added) g = refl
-enlarges_good slot (Err f) g = g
+added_good : (o : Open) (x : Addition) → good (added x o) ≡ true
+added_good o (add.Type name root kind) = enlarged_good o _ o.draft (λ d. type_added d _)
+added_good o (add.Member t name tnum offset) = enlarged_good o _ o.draft (λ d. member_added d t.0 name tnum.0 offset)
+added_good o (add.Enumerator t name value) = enlarged_good o _ o.draft (λ d. silent_good (add_enumerator d t.0 _) (enumerator_added d t.0 _))
+added_good o (add.Label name last) = enlarged_good o _ o.draft (λ d. silent_good (add_label d _) (label_added d _))
 
-updates_good : (slot : Slot) (draft : Draft) (r : Result (List ℕ) Fault) → good r ≡ true → good (updates_to slot draft r).said ≡ true
-updates_good slot draft (Ok bytes) g = refl
-updates_good slot draft (Err f) g = g
+counted_good : (r : Result Open Fault) → good r ≡ true → good (counted r) ≡ true
+counted_good (Ok o) g = refl
+counted_good (Err f) g = g
 
-draft_good : (x : DraftStep) (slot : Slot) (draft : Draft) → good (draft_step x slot draft).said ≡ true
-unfolding draft_step
-draft_good (steps.Add addition) slot draft = enlarges_good slot (enlarged draft addition) (enlarged_good draft addition)
-draft_good steps.Update slot draft = updates_good slot draft (written (held draft)) (written_good (held draft))
-draft_good steps.Discard slot draft = refl
+updated_good : (parent : Option Kept) (draft : Option Draft) → good (updated_if parent draft) ≡ true
+updated_good parent None = refl
+updated_good parent (Some d) = counted_good (settled_as parent d (written (held d))) (settled_good parent d (written (held d)) (written_good (held d)))
 
-if_draft : (x : DraftStep) (slot : Slot) (draft : Option Draft) → good (step_if_draft x slot draft).said ≡ true
-if_draft x slot None = refl
-if_draft x slot (Some draft) = draft_good x slot draft
+dropped_good : (o : Open) (draft : Option Draft) → good (discarded_if o draft) ≡ true
+dropped_good o None = refl
+dropped_good o (Some d) = refl
+
+stepped_good : (say : ℕ → Answer) (slot : Slot) (r : Result Stepped Fault) → good r ≡ true → good (slot_stepped say slot r).said ≡ true
+stepped_good say slot (Ok step) g = refl
+stepped_good say slot (Err f) g = g
+
+step_good : (x : DraftStep) (slot : Slot) → good (slot_step x slot).said ≡ true
+unfolding slot_step
+step_good (steps.Add addition) slot = stepped_good _ slot (added addition (open_of slot)) (added_good (open_of slot) addition)
+step_good steps.Update slot = stepped_good _ slot (updated (open_of slot)) (updated_good slot.parent slot.draft)
+step_good steps.Discard slot = stepped_good _ slot (dropped (open_of slot)) (dropped_good (open_of slot) slot.draft)
 
 updates_right : (said : Result Answer Fault) (outcome : Outcome) (state : State) → right outcome ≡ true → right (updates_within said outcome state) ≡ true
 updates_right (Ok answer) outcome state g = within outcome state g
 updates_right (Err f) outcome state g = g
 
 pub becomes_right : (x : DraftStep) (d : ℕ) (slot : Slot) (state : State) → right (becomes_by x d (slot_step x slot) state) ≡ true
-becomes_right (steps.Add addition) d slot state = if_draft (steps.Add addition) slot slot.draft
-becomes_right steps.Update d slot state = updates_right (slot_step steps.Update slot).said (slot_becomes d (slot_step steps.Update slot) state) state (if_draft steps.Update slot slot.draft)
-becomes_right steps.Discard d slot state = if_draft steps.Discard slot slot.draft
+becomes_right (steps.Add addition) d slot state = step_good (steps.Add addition) slot
+becomes_right steps.Update d slot state = updates_right (slot_step steps.Update slot).said (slot_becomes d (slot_step steps.Update slot) state) state (step_good steps.Update slot)
+becomes_right steps.Discard d slot state = step_good steps.Discard slot
 
 -- ---- lines
 

@@ -1,25 +1,29 @@
 -- No request takes a library over its quota.
-use Rattle.std.proofs.Common.{◌≡◌, ◌≤◌, ℕ, List, [], length, Bool, true, false, Option, Some, None, Result, Ok, Err, refl, arith}
+use Rattle.std.proofs.Common.{◌≡◌, ◌≤◌, ℕ, List, [], length, Bool, true, false, Option, Some, None, Result, Ok, Err, codes, refl, arith}
 use Rattle.std.specs.Prelude.{is_some, nat_eq, nat_lt, not}
 use Rattle.std.specs.Cmp.Lexicographic.{pointwise}
 use Rattle.std.proofs.lemmas.Bool.{ltb-false}
 use Rattle.std.proofs.lemmas.List.Sums.{sum_by_push}
-use Rattle.ctf_model.specs.drafts.Drafts.{Draft, held}
+use Rattle.ctf_model.specs.drafts.Adders.{Added}
+use Rattle.ctf_model.specs.drafts.Drafts.{Draft}
 use Rattle.ctf_model.specs.rules.Faults.{first_fault}
-use Rattle.ctf_model.specs.spaces.Kept.{Kept, fault_over}
-use Rattle.ctf_model.specs.writing.Written.{written}
+use Rattle.ctf_model.specs.spaces.Kept.{Kept}
 use Rattle.ctf_model.specs.declared.data_model.DataModel.{DataModel}
 use Rattle.ctf_model.specs.declared.faults.Fault.{Fault}
 use Rattle.ctf_protocol.proofs.Charged.{charge_is, filter_bytes, with_bytes, without_bytes}
 use Rattle.ctf_protocol.specs.answers.Answers.{Answer}
 use Rattle.ctf_model.specs.opened.Open.{pending_in}
-use Rattle.ctf_protocol.specs.sessions.Additions.{Enlarged, enlarged}
+use Rattle.ctf_model.specs.opened.Steps.{Stepped, discarded_if, enlarged_as, enlarged_if, import_refusal, updated}
+use Rattle.ctf_protocol.specs.sessions.Additions.{added, answered}
 use Rattle.ctf_protocol.specs.sessions.Charges.{charge, slot_bytes}
 use Rattle.ctf_protocol.specs.sessions.Creations.{Created}
-use Rattle.ctf_protocol.specs.sessions.DraftSteps.{SlotOutcome, created_slot, draft_step, enlarges, slot_step, step_if_draft, updates_to}
+use Rattle.ctf_protocol.specs.sessions.DraftSteps.{created_slot, slot_step}
+use Rattle.ctf_protocol.specs.sessions.Opened.{SlotOutcome, open_of, slot_stepped, under}
 use Rattle.ctf_protocol.specs.sessions.Publications.{published_as, published_without}
 use Rattle.ctf_protocol.specs.sessions.State.{Publication, Slot, State}
 use Rattle.ctf_protocol.specs.sessions.Steps.{Outcome, accepts_unless, adds_created, becomes_by, change_step, creates_from, creates_over, grants, has_room, imports_into, imports_unless, longest_list, opens, opens_unless, publishes_slot, publishes_within, quota, slot_at, slot_becomes, slots_without, stages, takes, takes_found, updates_within, with_slot, withdraws, within_quota}
+use Rattle.ctf_protocol.specs.declared.additions.Addition.{Addition}
+use Rattle.ctf_protocol.specs.declared.additions.Addition.TheVariants as add
 use Rattle.ctf_protocol.specs.declared.requests.Change.TheVariants as change
 use Rattle.ctf_protocol.specs.declared.requests.DraftStep.{DraftStep}
 use Rattle.ctf_protocol.specs.declared.requests.DraftStep.TheVariants as steps
@@ -88,14 +92,10 @@ imported : (fault : Option Fault) (d : ℕ) (parent : Kept) (state : State) → 
 imported None d parent state h = within _ state h
 imported (Some fault) d parent state h = h
 
-import_of : (drafted : Bool) (child : Slot) (d : ℕ) (parent : Kept) (state : State) → is_some child.draft ≡ drafted → charge state ≤ quota → Stays (imports_into child d parent state)
-import_of true child d parent state e h = rw e h
-import_of false child d parent state e h = rw e (imported (fault_over child.kept parent) d parent state h)
-
-pub importing : (d : ℕ) (child parent : Option Slot) (state : State) → charge state ≤ quota → Stays (with_slot (λ c. with_slot (λ p. imports_into c d p.kept state) parent state) child state)
+pub importing : (d : ℕ) (child parent : Option Slot) (state : State) → charge state ≤ quota → Stays (with_slot (λ c. with_slot (λ p. imports_into c d p state) parent state) child state)
 importing d None parent state h = h
 importing d (Some c) None state h = h
-importing d (Some c) (Some p) state h = import_of _ c d p.kept state refl h
+importing d (Some c) (Some p) state h = imported (import_refusal (open_of c) (open_of p)) d p.kept state h
 
 -- ---- publications
 
@@ -149,21 +149,31 @@ created_from (Some p) asked state h = created_on (slot_at p state.slots) asked s
 abbrev SameBytes : Slot → SlotOutcome → Type 0
 SameBytes slot outcome = slot_bytes outcome.slot ≡ slot_bytes slot
 
-enlarging : (slot : Slot) (r : Result Enlarged Fault) → SameBytes slot (enlarges slot r)
-enlarging slot (Ok added) = refl
-enlarging slot (Err fault) = refl
+enlarging : (say : ℕ → Answer) (slot : Slot) (r : Result Added Fault) → SameBytes slot (slot_stepped say slot (enlarged_as (open_of slot) r))
+enlarging say slot (Ok added) = refl
+enlarging say slot (Err fault) = refl
 
-added : (x : DraftStep) (slot : Slot) (draft : Option Draft) → ((d : Draft) → SameBytes slot (draft_step x slot d)) → SameBytes slot (step_if_draft x slot draft)
-added x slot None h = refl
-added x slot (Some draft) h = h draft
+enlarging_if : (say : ℕ → Answer) (slot : Slot) (adds : Draft → Result Added Fault) (draft : Option Draft) → SameBytes slot (slot_stepped say slot (enlarged_if (open_of slot) adds draft))
+enlarging_if say slot adds None = refl
+enlarging_if say slot adds (Some d) = enlarging say slot (adds d)
 
-add_same : (slot : Slot) (x : _) → SameBytes slot (slot_step (steps.Add x) slot)
-unfolding draft_step
-add_same slot x = added (steps.Add x) slot slot.draft (λ d. enlarging slot (enlarged d x))
+adding : (slot : Slot) (x : Addition) → SameBytes slot (slot_stepped (answered x) slot (added x (open_of slot)))
+adding slot (add.Type name root kind) = enlarging_if _ slot _ slot.draft
+adding slot (add.Member t name tnum offset) = enlarging_if _ slot _ slot.draft
+adding slot (add.Enumerator t name value) = enlarging_if _ slot _ slot.draft
+adding slot (add.Label name last) = enlarging_if _ slot _ slot.draft
+
+add_same : (slot : Slot) (x : Addition) → SameBytes slot (slot_step (steps.Add x) slot)
+unfolding slot_step
+add_same slot x = adding slot x
+
+dropping : (slot : Slot) (draft : Option Draft) → SameBytes slot (slot_stepped (under (codes "types")) slot (discarded_if (open_of slot) draft))
+dropping slot None = refl
+dropping slot (Some d) = refl
 
 discard_same : (slot : Slot) → SameBytes slot (slot_step steps.Discard slot)
-unfolding draft_step
-discard_same slot = added steps.Discard slot slot.draft (λ d. refl)
+unfolding slot_step
+discard_same slot = dropping slot slot.draft
 
 same_slot : (d : ℕ) (slot : Slot) (outcome : SlotOutcome) (state : State) → slot_at d state.slots ≡ Some slot → SameBytes slot outcome → charge state ≤ quota → Stays (slot_becomes d outcome state)
 same_slot d slot outcome state at same h =
@@ -172,18 +182,17 @@ same_slot d slot outcome state at same h =
     let moved = with_bytes d slot outcome.slot state.slots at in
     omega (arith, h, before, after, moved, same)
 
-refused_same : (slot : Slot) (draft : Draft) (bytes : Result (List ℕ) Fault) (f : Fault) → (updates_to slot draft bytes).said ≡ Err f → SameBytes slot (updates_to slot draft bytes)
-refused_same slot draft (Ok bytes) f e = absurd cc
-refused_same slot draft (Err fault) f e = refl
+refused_same : (say : ℕ → Answer) (slot : Slot) (r : Result Stepped Fault) (f : Fault) → (slot_stepped say slot r).said ≡ Err f → SameBytes slot (slot_stepped say slot r)
+refused_same say slot (Ok step) f e = absurd cc
+refused_same say slot (Err fault) f e = refl
 
-refused_if : (slot : Slot) (draft : Option Draft) (f : Fault) → (step_if_draft steps.Update slot draft).said ≡ Err f → SameBytes slot (step_if_draft steps.Update slot draft)
-unfolding draft_step
-refused_if slot None f e = refl
-refused_if slot (Some draft) f e = refused_same slot draft (written (held draft)) f e
+refused : (slot : Slot) (f : Fault) → (slot_step steps.Update slot).said ≡ Err f → SameBytes slot (slot_step steps.Update slot)
+unfolding slot_step
+refused slot f e = refused_same _ slot (updated (open_of slot)) f e
 
 updating : (said : Result Answer Fault) (d : ℕ) (slot : Slot) (state : State) → (slot_step steps.Update slot).said ≡ said → slot_at d state.slots ≡ Some slot → charge state ≤ quota → Stays (updates_within said (slot_becomes d (slot_step steps.Update slot) state) state)
 updating (Ok answer) d slot state e at h = within _ state h
-updating (Err fault) d slot state e at h = same_slot d slot (slot_step steps.Update slot) state at (refused_if slot slot.draft fault e) h
+updating (Err fault) d slot state e at h = same_slot d slot (slot_step steps.Update slot) state at (refused slot fault e) h
 
 becoming : (x : DraftStep) (d : ℕ) (slot : Slot) (state : State) → slot_at d state.slots ≡ Some slot → charge state ≤ quota → Stays (becomes_by x d (slot_step x slot) state)
 becoming (steps.Add addition) d slot state at h = same_slot d slot (slot_step (steps.Add addition) slot) state at (add_same slot addition) h

@@ -1,9 +1,9 @@
 pub mod State
 pub mod Publications
 pub mod Creations
+pub mod Opened
 pub mod Additions
 pub mod DraftSteps
-pub mod Opened
 pub mod Charges
 pub mod Steps
 pub mod OpenLaws

@@ -1,10 +1,9 @@
--- What a question on what a slot holds is answered. Source: ours.
+-- What a question on an open dictionary as a whole is answered. Source: ours.
 use Rattle.std.specs.Prelude.{ℕ, Bool, List, [], ◌∷◌, length, take, drop, is_some, codes}
 use Rattle.ctf_protocol.specs.answers.Answers.{Answer, says, number, truth, word, text, bytes}
-use Rattle.ctf_model.specs.format.Dictionary.{Dictionary, said_by}
-use Rattle.ctf_model.specs.opened.Open.{pending_in}
+use Rattle.ctf_model.specs.format.Dictionary.{Dictionary}
+use Rattle.ctf_model.specs.opened.Open.{Open, own_in, pending_in}
 use Rattle.ctf_protocol.specs.words.ModelNames.{name_of_model}
-use Rattle.ctf_protocol.specs.sessions.State.{Slot}
 use Rattle.ctf_model.specs.declared.data_model.DataModel.{DataModel}
 use Rattle.ctf_protocol.specs.declared.questions.HeldQuestion.{HeldQuestion}
 use Rattle.ctf_protocol.specs.declared.questions.HeldQuestion.TheVariants as held
@@ -30,9 +29,8 @@ bytes_fields from count ctf =
 abbrev pub model_fields : DataModel → Answer
 model_fields model = says (codes "model") (word (name_of_model model)) ∷ []
 
-abbrev pub held_said : HeldQuestion → Slot → Answer
-held_said held.Info slot =
-    info_fields (said_by slot.kept.lists) (is_some slot.draft) (is_some slot.parent)
-    (pending_in slot.draft)
-held_said held.Model slot = model_fields slot.kept.model
-held_said (held.Bytes from count) slot = bytes_fields from count slot.kept.lists.ctf
+abbrev pub held_said : HeldQuestion → Open → Answer
+held_said held.Info o =
+    info_fields (own_in o) (is_some o.draft) (is_some o.parent) (pending_in o.draft)
+held_said held.Model o = model_fields o.own.model
+held_said (held.Bytes from count) o = bytes_fields from count o.own.lists.ctf

@@ -1,9 +1,10 @@
 -- What is added to a draft, as a request says it.
 -- Source: libctf(3LIB), ctf_add_type and its kin; the form of answers is ours.
-use Rattle.std.specs.Prelude.{ℕ, List, [], ◌∷◌, map, Result, Ok, Err, codes}
-use Rattle.ctf_model.specs.drafts.Adders.{Added, add_enumerator, add_label, add_member, add_type}
-use Rattle.ctf_protocol.specs.answers.Answers.{Answer, number, says}
-use Rattle.ctf_model.specs.drafts.Drafts.{Draft}
+use Rattle.std.specs.Prelude.{ℕ, map, Result, codes}
+use Rattle.ctf_protocol.specs.answers.Answers.{Answer}
+use Rattle.ctf_protocol.specs.sessions.Opened.{under, unsaid}
+use Rattle.ctf_model.specs.opened.Open.{Open}
+use Rattle.ctf_model.specs.opened.Steps.{Stepped, enumerator_added, label_added, member_added, type_added}
 use Rattle.ctf_model.specs.drafts.NewTypes.{NewBody}
 use Rattle.ctf_model.specs.drafts.NewTypes as new
 use Rattle.ctf_model.specs.format.Shown.{ArrayParts}
@@ -49,26 +50,17 @@ body_of (kind.Restrict t) = new.restrict t.0
 
 -- ---- additions
 
--- a draft that something was added to, and what is answered
-pub record Enlarged : Type 0 where
-  pub draft : Draft
-  pub answer : Answer
+-- what is added, to an open dictionary
+abbrev pub added : Addition → Open → Result Stepped Fault
+added (add.Type name root kind) =
+    type_added (record { name = name; root = root; body = body_of kind })
+added (add.Member t name tnum offset) = member_added t.0 name tnum.0 offset
+added (add.Enumerator t name value) = enumerator_added t.0 (record { name = name; value = value })
+added (add.Label name last) = label_added (record { name = name; last = last })
 
--- the number of a type or an offset is answered under a key
-abbrev pub numbered : List ℕ → Result Added Fault → Result Enlarged Fault
-numbered key (Ok added) =
-    Ok (record { draft = added.draft; answer = says key (number added.answer) ∷ [] })
-numbered key (Err fault) = Err fault
-
-abbrev pub silent : Result Draft Fault → Result Enlarged Fault
-silent (Ok draft) = Ok (record { draft = draft; answer = [] })
-silent (Err fault) = Err fault
-
-unfoldable pub enlarged : Draft → Addition → Result Enlarged Fault
-enlarged d (add.Type name root kind) =
-    numbered (codes "t") (add_type d (record { name = name; root = root; body = body_of kind }))
-enlarged d (add.Member t name tnum offset) =
-    numbered (codes "offset") (add_member d t.0 name tnum.0 offset)
-enlarged d (add.Enumerator t name value) =
-    silent (add_enumerator d t.0 (record { name = name; value = value }))
-enlarged d (add.Label name last) = silent (add_label d (record { name = name; last = last }))
+-- the number of a type or an offset is answered
+abbrev pub answered : Addition → ℕ → Answer
+answered (add.Type name root kind) = under (codes "t")
+answered (add.Member t name tnum offset) = under (codes "offset")
+answered (add.Enumerator t name value) = unsaid
+answered (add.Label name last) = unsaid

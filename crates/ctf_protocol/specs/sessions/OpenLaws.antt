@@ -109,5 +109,5 @@ pub record StepsAreMade : Type 0 where
   pub create : (n : ℕ) (above : Option Kept) (asked : Created) → created_slot n above asked
       ≡ slot_made n (created above asked.parname asked.parlabel (model_made above asked))
   pub import : (child parent : Slot) (d : ℕ) (state : State)
-      → imports_into child d parent.kept state
+      → imports_into child d parent state
       ≡ imports_unless (import_refusal (open_of child) (open_of parent)) d parent.kept state

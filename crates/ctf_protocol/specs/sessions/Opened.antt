@@ -1,10 +1,10 @@
--- A slot is an open dictionary under a number. The words are ours.
+-- A slot is an open dictionary under a number: what is done to the one is done to the other. The
+-- words are ours.
 use Rattle.std.specs.Prelude.{ℕ, List, [], ◌∷◌, Result, Ok, Err}
 use Rattle.ctf_model.specs.opened.Open.{Open}
 use Rattle.ctf_model.specs.opened.Steps.{Stepped}
 use Rattle.ctf_model.specs.declared.faults.Fault.{Fault}
 use Rattle.ctf_protocol.specs.answers.Answers.{Answer, number, says}
-use Rattle.ctf_protocol.specs.sessions.DraftSteps.{SlotOutcome, slot_granted, slot_refused}
 use Rattle.ctf_protocol.specs.sessions.State.{Slot}
 
 abbrev pub slot_with : ℕ → Open → Slot
@@ -18,7 +18,19 @@ abbrev pub slot_made : ℕ → Result Open Fault → Result Slot Fault
 slot_made n (Ok o) = Ok (slot_with n o)
 slot_made n (Err fault) = Err fault
 
--- the step of an open dictionary, as that of the slot that it stands in
+-- what is answered, and what the slot is then
+pub record SlotOutcome : Type 0 where
+  pub said : Result Answer Fault
+  pub slot : Slot
+
+abbrev pub slot_granted : Answer → Slot → SlotOutcome
+slot_granted answer slot = record { said = Ok answer; slot = slot }
+
+-- a refusal leaves the slot as it was
+abbrev pub slot_refused : Fault → Slot → SlotOutcome
+slot_refused fault slot = record { said = Err fault; slot = slot }
+
+-- the step of the open dictionary in a slot, and what is answered of the number that it gives
 abbrev pub slot_stepped : (ℕ → Answer) → Slot → Result Stepped Fault → SlotOutcome
 slot_stepped say slot (Ok step) =
     slot_granted (say step.answer) (slot_with slot.number step.served)

@@ -5,12 +5,14 @@ use Rattle.ctf_protocol.specs.answers.Answers as answers
 use Rattle.ctf_protocol.specs.sessions.Charges.{charge}
 use Rattle.ctf_protocol.specs.sessions.Creations.{Created}
 use Rattle.ctf_model.specs.format.Dictionary.{said_by}
-use Rattle.ctf_protocol.specs.sessions.DraftSteps.{SlotOutcome, created_slot, slot_step, slots_with}
+use Rattle.ctf_protocol.specs.sessions.DraftSteps.{created_slot, slot_step, slots_with}
+use Rattle.ctf_protocol.specs.sessions.Opened.{SlotOutcome, open_of}
 use Rattle.ctf_model.specs.rules.Faults.{first_fault}
 use Rattle.ctf_protocol.specs.answers.HeldAnswers.{held_said}
-use Rattle.ctf_model.specs.opened.Open.{pending_in}
+use Rattle.ctf_model.specs.opened.Open.{pending_in, space_in}
+use Rattle.ctf_model.specs.opened.Steps.{import_refusal}
 use Rattle.ctf_model.specs.format.Lists.{Lists}
-use Rattle.ctf_model.specs.spaces.Kept.{Kept, fault_over, kept_space}
+use Rattle.ctf_model.specs.spaces.Kept.{Kept}
 use Rattle.ctf_protocol.specs.sessions.Publications.{published_as, published_without}
 use Rattle.ctf_model.specs.rules.Refusals.{placeless, want_of_memory}
 use Rattle.ctf_protocol.specs.sessions.State.{State, Slot, empty_state, empty_stage}
@@ -19,7 +21,7 @@ use Rattle.ctf_protocol.specs.answers.SlotAnswers.{whole_said}
 use Rattle.ctf_model.specs.spaces.Space.{Space}
 use Rattle.ctf_model.specs.declared.data_model.DataModel.{DataModel}
 use Rattle.ctf_model.specs.declared.faults.Fault.{Fault}
-use Rattle.ctf_model.specs.declared.faults.TheConstants.Fault.{NO_SLOT, SLOTS_FULL, STAGE_FULL, NAME_TAKEN, NOT_PUBLISHED, NOT_UPDATED, FIXED_PARENT, QUOTA_FULL}
+use Rattle.ctf_model.specs.declared.faults.TheConstants.Fault.{NO_SLOT, SLOTS_FULL, STAGE_FULL, NAME_TAKEN, NOT_PUBLISHED, NOT_UPDATED, QUOTA_FULL}
 use Rattle.ctf_protocol.specs.declared.requests.ListName.{ListName}
 use Rattle.ctf_protocol.specs.declared.requests.ListName.TheVariants.{Ctf, Sym, Str}
 use Rattle.ctf_protocol.specs.declared.requests.Request.{Request}
@@ -148,13 +150,13 @@ slot_at number (slot ∷ slots) = if slot.number == number then Some slot else s
 
 -- what the questions of a slot see
 abbrev pub slot_space : Slot → Space
-slot_space slot = kept_space slot.kept slot.parent
+slot_space slot = space_in (open_of slot)
 
 -- what a slot answers
 abbrev pub slot_said : Question → Slot → Result Answer Fault
 slot_said (OfType t question) slot = type_said question (slot_space slot) t.0
 slot_said (OfSlot question) slot = whole_said question (slot_space slot)
-slot_said (OfHeld question) slot = Ok (held_said question slot)
+slot_said (OfHeld question) slot = Ok (held_said question (open_of slot))
 
 abbrev pub said_by_slot : Question → Option Slot → Result Answer Fault
 said_by_slot question None = Err (placeless NO_SLOT)
@@ -235,17 +237,16 @@ imports_unless None d parent state =
 imports_unless (Some fault) d parent state = outcome_of (Err fault) state
 
 -- the parent of a draft is that of its making
-abbrev pub imports_into : Slot → ℕ → Kept → State → Outcome
+abbrev pub imports_into : Slot → ℕ → Slot → State → Outcome
 imports_into child d parent state =
-    if is_some child.draft then refuses FIXED_PARENT state
-    else imports_unless (fault_over child.kept parent) d parent state
+    imports_unless (import_refusal (open_of child) (open_of parent)) d parent.kept state
 
 -- both slots have to be there, and then the dictionary of the second has to
 -- serve as the parent of the first
 abbrev pub imports : ℕ → ℕ → State → Outcome
 imports d p state =
     with_slot
-    (λ child. with_slot (λ parent. imports_into child d parent.kept state)
+    (λ child. with_slot (λ parent. imports_into child d parent state)
     (slot_at p state.slots) state)
     (slot_at d state.slots) state
 
