@@ -1,6 +1,6 @@
 -- Steps of the draft in a slot are those of the open dictionary that stands there.
 pub use Rattle.ctf_protocol.specs.sessions.Opened.{under}
-use Rattle.std.proofs.Common.{◌≡◌, ◌≤◌, ◌<◌, ◌+◌, ℕ, ◌∷◌, true, false, Some, Result, Ok, Err, codes, refl, ap, sym, subst, ◌∙◌, ◌⊎◌, inl, inr, arith}
+use Rattle.std.proofs.Common.{◌≡◌, ◌≤◌, ◌<◌, ◌+◌, ℕ, ℤ, List, ◌∷◌, true, false, Some, Result, Ok, Err, codes, refl, ap, sym, subst, ◌∙◌, ◌⊎◌, inl, inr, arith}
 use Rattle.std.specs.Prelude.{nat_lt, not}
 use Rattle.std.proofs.lemmas.Bool.{le-ltb, lt-ltb}
 use Rattle.ctf_answers.specs.Replies.{changed}
@@ -9,18 +9,20 @@ use Rattle.ctf_library.proofs.Rooms.{room_le, room_lt}
 use Rattle.ctf_library.specs.Drafting.{IsStepped}
 use Rattle.ctf_protocol.specs.sessions.Opened.{slot_stepped}
 use Rattle.ctf_library.specs.Quotas.{within}
-use Rattle.ctf_protocol.specs.sessions.Opened.{SlotOutcome, open_of, slot_with}
+use Rattle.ctf_protocol.specs.sessions.Opened.{SlotOutcome, open_of, slot_with, unsaid}
 use Rattle.ctf_model.specs.rules.Refusals.{want_of_memory}
 use Rattle.ctf_model.specs.declared.faults.Fault.{Fault}
 use Rattle.ctf_open.specs.Quotas.{IsRefused}
 use Rattle.ctf_model.specs.opened.Open.{Open}
 use Rattle.ctf_model.specs.opened.Sizes.{kept_bytes, parent_bytes}
-use Rattle.ctf_model.specs.opened.Steps.{Stepped, dropped, updated}
+use Rattle.ctf_model.specs.opened.Steps.{Stepped, dropped, enumerator_added, updated}
+use Rattle.ctf_model.specs.declared.numbers.TypeNum.{TypeNum}
 use Rattle.ctf_protocol.specs.answers.Answers.{Answer, number}
 use Rattle.ctf_protocol.specs.sessions.DraftSteps.{slot_step}
 use Rattle.ctf_protocol.specs.sessions.State.{Slot}
 use Rattle.ctf_protocol.specs.sessions.Steps.{quota}
-use Rattle.ctf_protocol.specs.declared.requests.DraftStep.TheVariants.{Update, Discard}
+use Rattle.ctf_protocol.specs.declared.additions.Addition.TheVariants as add
+use Rattle.ctf_protocol.specs.declared.requests.DraftStep.TheVariants.{Add, Update, Discard}
 
 -- ---- a step that was made, and one that was not
 
@@ -32,6 +34,12 @@ pub refused_step : (say : ℕ → Answer) (s : Slot) (r : Result Stepped Fault) 
 refused_step say s r new f counts (inl want) same is = inr (is ∙ ap Err want, ap (slot_with s.number) same)
 refused_step say s r new f counts (inr e) same is =
     subst (λ (x : Result Stepped Fault). IsStepped (slot_stepped say s x) counts s (slot_with s.number new)) (sym e) (inl (ap changed is, ap (slot_with s.number) same))
+
+-- ---- an enumerator
+
+pub enumerator_as : (s : Slot) (t : TypeNum) (name : List ℕ) (value : ℤ) → slot_step (Add (add.Enumerator t name value)) s ≡ slot_stepped unsaid s (enumerator_added t.0 (record { name = name; value = value }) (open_of s))
+unfolding slot_step
+enumerator_as s t name value = refl
 
 -- ---- updates
 

@@ -170,6 +170,7 @@ impl Slot {
     }
 
     /// Adds to its draft; the number of a type or the offset of a member is answered.
+    #[tactic(auto, using(crate::proofs::DraftSteps::enumerator_as))]
     pub(crate) fn add(&mut self, alloc: Global, addition: &Addition) -> Result<Counts, Fault>
         ensures step { IsStepped (slot_step (Add addition.now) (slot_of self.old)) result
             (slot_of self.old) (slot_of self.new) }

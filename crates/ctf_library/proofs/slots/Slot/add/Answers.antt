@@ -16,11 +16,6 @@ unfolding slot_step
 returns-in-Member-clause-step c =
     subst (λ (a : Addition). IsStepped (slot_step (Add a) (slot_of c.args.self.now)) c.add_member.result (slot_of c.args.self.now) (slot_of c.add_member.new.self)) (sym c.in-Member.is) c.add_member.ensures.step
 
-pub returns-in-Enumerator-clause-step : goal.returns-in-Enumerator-clause-step
-unfolding slot_step
-returns-in-Enumerator-clause-step c =
-    subst (λ (a : Addition). IsStepped (slot_step (Add a) (slot_of c.args.self.now)) c.add_enumerator.result (slot_of c.args.self.now) (slot_of c.add_enumerator.new.self)) (sym c.in-Enumerator.is) c.add_enumerator.ensures.step
-
 pub returns-in-Label-clause-step : goal.returns-in-Label-clause-step
 unfolding slot_step
 returns-in-Label-clause-step c =

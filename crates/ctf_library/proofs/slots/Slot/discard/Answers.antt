@@ -1,9 +1,8 @@
 use Rattle.std.proofs.Common.{Ok, ap, sym, ◌∙◌}
 use Rattle.ctf_library.specs.SlotView.{slot_of}
-use Rattle.ctf_protocol.specs.sessions.Opened.{slot_with}
+use Rattle.ctf_protocol.specs.sessions.Opened.{SlotOutcome, slot_with}
 use Rattle.ctf_library.proofs.DraftSteps.{discards_as}
 use Rattle.ctf_protocol.specs.answers.Answers.{Answer}
-use Rattle.ctf_protocol.specs.sessions.DraftSteps.{SlotOutcome}
 use Rattle.ctf_library.proofs.slots.Slot.discard.Goals as goal
 
 pub returns-in-Ok-clause-said : goal.returns-in-Ok-clause-said
