@@ -1,0 +1,5 @@
+mod Slots
+mod Drafted
+mod Steps
+mod Runs
+mod Answered

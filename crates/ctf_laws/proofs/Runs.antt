@@ -1,0 +1,42 @@
+-- Libraries stay good in every run: by induction on the events.
+use Rattle.std.proofs.Common.{◌≡◌, ◌≢◌, ℕ, List, [], ◌∷◌, Bool, true, false, Option, Some, None, eqb, option_and_then, refl, sym, subst, arith}
+use Rattle.std.specs.List.{AllByRecursion}
+use Rattle.std.specs.Option.{ForSome}
+use Rattle.std.proofs.lemmas.Bool.Decides.{nat_tests}
+use Rattle.ctf_protocol.specs.sessions.Publications.{published_as}
+use Rattle.ctf_protocol.specs.sessions.Runs.{found_in, taken_by}
+use Rattle.ctf_protocol.specs.sessions.SessionLaws.{Event, Happens, IsReplied, Run}
+use Rattle.ctf_protocol.specs.sessions.State.{State}
+use Rattle.ctf_laws.proofs.Slots.{published_good}
+use Rattle.ctf_laws.proofs.Steps.{steps_keep_good}
+use Rattle.ctf_laws.specs.Good.{AreGood, FitsRequest, IsFaultless, IsGood}
+use Rattle.ctf_laws.specs.GoodLaws.{FoundIsFaultless, RunsKeepGood}
+
+found_at : (libraries : ℕ → State) → AreGood libraries → (taken : Option (ℕ × List ℕ)) → ForSome (option_and_then (λ t. published_as t.1 (libraries t.0).published) taken) IsFaultless
+found_at libraries g None = λ k e. absurd cc
+found_at libraries g (Some t) = λ k e. published_good t.1 k (libraries t.0).published (g t.0).published e
+
+pub found_is_faultless : FoundIsFaultless
+found_is_faultless libraries request g = found_at libraries g (taken_by request)
+
+own_good : (old new : ℕ → State) (event : Event) → AreGood old → FitsRequest event.request → (refused : Bool) → IsReplied old event new refused → IsGood (new event.session)
+own_good old new event g fits true own = subst IsGood (sym own.1) (g event.session)
+own_good old new event g fits false own = subst IsGood (sym own.1) (steps_keep_good (old event.session) event.request (found_in old event.request) (g event.session) fits (found_is_faultless old event.request g))
+
+-- every session's library is as it was but for one
+pub other_stays : (old new : ℕ → State) (event : Event) → Happens old event new → (s : ℕ) → eqb event.session s ≡ false → new s ≡ old s
+other_stays old new event happens s h =
+    let other : s ≢ event.session = λ e. let hit : eqb event.session event.session ≡ false = subst (λ (x : ℕ). eqb event.session x ≡ false) e h in grind (arith, nat_tests, hit) in
+    happens.others s other
+
+pub own_session : (event : Event) (s : ℕ) → eqb event.session s ≡ true → event.session ≡ s
+own_session event s h = grind (arith, nat_tests, h)
+
+one_good : (old new : ℕ → State) (event : Event) → Happens old event new → AreGood old → FitsRequest event.request → (s : ℕ) (t : Bool) → eqb event.session s ≡ t → IsGood (new s)
+one_good old new event happens g fits s true h = subst (λ (x : ℕ). IsGood (new x)) (own_session event s h) (own_good old new event g fits event.refused happens.own)
+one_good old new event happens g fits s false h = subst IsGood (sym (other_stays old new event happens s h)) (g s)
+
+pub runs_keep_good : RunsKeepGood
+runs_keep_good start new [] g fits run = λ s. subst IsGood (sym (run s)) (g s)
+runs_keep_good start new (event ∷ earlier) g fits run = λ s.
+    one_good run.0 new event run.2 (runs_keep_good start run.0 earlier g fits.1 run.1) fits.0 s (eqb event.session s) refl

@@ -1,0 +1,125 @@
+-- Laws of good libraries. Each is the contract of a function of src/lib.rt.
+use Rattle.std.specs.Prelude.{◌≡◌, ◌⊎◌, ◌==◌, ℕ, List, length, not, is_some, Option, None, Some, Result, Ok, Err}
+use Rattle.std.specs.List.{AllByRecursion}
+use Rattle.std.specs.Option.{ForSome}
+use Rattle.ctf_model.specs.drafts.DraftChanges.{DraftChange, after}
+use Rattle.ctf_model.specs.drafts.DraftLaws.{FitsChange as FitsDraftChange}
+use Rattle.ctf_model.specs.drafts.Drafts.{Draft, held, new_draft}
+use Rattle.ctf_model.specs.format.Dictionary.{Denotes, Dictionary}
+use Rattle.ctf_model.specs.format.Laws.{KeepsEveryRule}
+use Rattle.ctf_model.specs.rules.Refusals.{placeless}
+use Rattle.ctf_model.specs.rules.Rules.{IsFirstFault}
+use Rattle.ctf_model.specs.spaces.Imports.{Modelled}
+use Rattle.ctf_model.specs.spaces.Kept.{Kept}
+use Rattle.ctf_model.specs.spaces.Space.{Space}
+use Rattle.ctf_model.specs.writing.Written.{lists_of, written}
+use Rattle.ctf_model.specs.declared.data_model.DataModel.{DataModel}
+use Rattle.ctf_model.specs.declared.faults.Fault.{Fault}
+use Rattle.ctf_model.specs.declared.faults.TheConstants.Fault.{SLOTS_FULL}
+use Rattle.ctf_protocol.specs.answers.Answers.{Answer}
+use Rattle.ctf_protocol.specs.answers.Questions.{type_said}
+use Rattle.ctf_protocol.specs.answers.SlotAnswers.{whole_said}
+use Rattle.ctf_protocol.specs.sessions.DraftSteps.{slot_step}
+use Rattle.ctf_protocol.specs.sessions.Runs.{found_in}
+use Rattle.ctf_protocol.specs.sessions.SessionLaws.{Event, Run}
+use Rattle.ctf_protocol.specs.sessions.State.{Slot, State, empty_state}
+use Rattle.ctf_protocol.specs.sessions.Steps.{checks, opens, slot_said, slot_space, step}
+use Rattle.ctf_protocol.specs.declared.questions.Question.TheVariants.{OfSlot, OfType}
+use Rattle.ctf_protocol.specs.declared.questions.SlotQuestion.{SlotQuestion}
+use Rattle.ctf_protocol.specs.declared.questions.TypeQuestion.{TypeQuestion}
+use Rattle.ctf_model.specs.declared.numbers.TypeNum.{TypeNum}
+use Rattle.ctf_protocol.specs.declared.requests.DraftStep.TheVariants.{Update}
+use Rattle.ctf_protocol.specs.declared.requests.Request.{Request}
+use Rattle.ctf_laws.specs.Good.{AreGood, FitsRequest, IsFaultless, IsGood, IsGoodSlot}
+
+-- ---- libraries stay good
+
+abbrev pub NothingIsGood : Type 0
+NothingIsGood = IsGood empty_state
+
+abbrev pub StepsKeepGood : Type 0
+StepsKeepGood =
+    (state : State) (request : Request) (found : Option Kept) → IsGood state → FitsRequest request
+    → ForSome found IsFaultless → IsGood (step state request found).state
+
+-- what a take finds among good libraries breaks no rule
+abbrev pub FoundIsFaultless : Type 0
+FoundIsFaultless =
+    (libraries : ℕ → State) (request : Request) → AreGood libraries
+    → ForSome (found_in libraries request) IsFaultless
+
+-- whatever is asked of whom, in any order, and wherever memory is refused
+abbrev pub RunsKeepGood : Type 0
+RunsKeepGood =
+    (start new : ℕ → State) (events : List Event) → AreGood start
+    → AllByRecursion (λ event. FitsRequest event.request) events → Run start events new
+    → AreGood new
+
+-- ---- what a good slot answers
+
+-- the lists of a parent denote this dictionary, if there is one
+abbrev pub AreDenoted : Option Kept → Option Dictionary → Type 0
+AreDenoted None None = Unit {0}
+AreDenoted (Some parent) (Some d) = Denotes parent.lists d
+AreDenoted None (Some d) = ⊥
+AreDenoted (Some parent) None = ⊥
+
+-- a dictionary over its parent, as the lists of a slot denote them
+pub record IsDenoted (slot : Slot) (s : Space) : Type 0 where
+  pub own : Denotes slot.kept.lists s.own
+  pub parent : AreDenoted slot.parent s.parent
+  pub model : s.model ≡ slot.kept.model
+
+-- there is one
+abbrev pub SlotsDenote : Type 0
+SlotsDenote = (slot : Slot) → IsGoodSlot slot → IsDenoted slot (slot_space slot)
+
+-- there is no other, and questions are answered of it
+pub record AnswersOf (slot : Slot) (s : Space) : Type 0 where
+  pub types : (question : TypeQuestion) (t : TypeNum)
+      → slot_said (OfType t question) slot ≡ type_said question s t.0
+  pub wholes : (question : SlotQuestion) → slot_said (OfSlot question) slot ≡ whole_said question s
+
+abbrev pub AnswersAreOfWhatIsDenoted : Type 0
+AnswersAreOfWhatIsDenoted = (slot : Slot) (s : Space) → IsDenoted slot s → AnswersOf slot s
+
+-- ---- what is judged
+
+-- a check refuses by the first rule that the staged lists break, and by nothing else
+abbrev pub ChecksRefuseByTheFirstRule : Type 0
+ChecksRefuseByTheFirstRule =
+    (state : State) (f : Fault) → (checks state).reply.outcome ≡ Err f → IsFirstFault state.stage f
+
+abbrev pub ChecksAcceptWhatKeepsEveryRule : Type 0
+ChecksAcceptWhatKeepsEveryRule =
+    (state : State) (a : Answer) → (checks state).reply.outcome ≡ Ok a → KeepsEveryRule state.stage
+
+-- an open does too, where there is a slot for it
+abbrev pub OpensRefuseByTheFirstRule : Type 0
+OpensRefuseByTheFirstRule =
+    (model : DataModel) (state : State) (f : Fault) → (opens model state).reply.outcome ≡ Err f
+    → (f ≡ placeless SLOTS_FULL) ⊎ IsFirstFault state.stage f
+
+abbrev pub OpensAcceptWhatKeepsEveryRule : Type 0
+OpensAcceptWhatKeepsEveryRule =
+    (model : DataModel) (state : State) (a : Answer) → (opens model state).reply.outcome ≡ Ok a
+    → KeepsEveryRule state.stage
+
+-- ---- what is written
+
+-- once a slot was updated, its lists denote all that its draft holds
+abbrev pub UpdatesDenoteTheDraft : Type 0
+UpdatesDenoteTheDraft =
+    (slot : Slot) (d : Draft) (a : Answer) → IsGoodSlot slot → slot.draft ≡ Some d
+    → (slot_step Update slot).said ≡ Ok a
+    → Denotes (slot_step Update slot).slot.kept.lists (held d)
+
+-- whatever adders make of a new draft: its bytes denote the types, members, labels and names that
+-- were added and not discarded, in their order
+abbrev pub BytesDenoteWhatWasAdded : Type 0
+BytesDenoteWhatWasAdded =
+    (parent : Option Modelled) (parname parlabel : List ℕ) (model : DataModel) (d : Draft)
+    (changes : List DraftChange) (bytes : List ℕ) → is_some parent ≡ not (length parname == 0)
+    → new_draft parent parname parlabel model ≡ Ok d → AllByRecursion FitsDraftChange changes
+    → written (held (after d changes)) ≡ Ok bytes
+    → Denotes (lists_of bytes) (held (after d changes))

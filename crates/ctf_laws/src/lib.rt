@@ -1,0 +1,10 @@
+//! Laws over whole runs of a service: what each library keeps, whatever is asked, and what follows
+//! from that. Each is the contract of a function that does nothing.
+#![tactic(auto)]
+
+mod good;
+
+pub use good::{
+    answers_are_of_what_is_denoted, bytes_denote_what_was_added, libraries_stay_good,
+    stages_are_judged,
+};
