@@ -3,3 +3,6 @@ mod Drafted
 mod Steps
 mod Runs
 mod Answered
+mod Effects
+mod Staying
+mod Numbers

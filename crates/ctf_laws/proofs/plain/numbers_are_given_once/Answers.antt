@@ -1,0 +1,5 @@
+use Rattle.ctf_laws.proofs.Numbers.{numbers_are_given_once}
+use Rattle.ctf_laws.proofs.plain.numbers_are_given_once.Goals as goal
+
+pub returns : goal.returns
+returns c = numbers_are_given_once

@@ -1,0 +1,17 @@
+//! Laws that a user of sessions counts on.
+ghost use Rattle.ctf_laws.specs.PlainLaws.{NumbersAreGivenOnce, ParentsStay, PublicationsStay};
+
+/// No number of a slot is given twice before a reset.
+pub fn numbers_are_given_once()
+    ensures { NumbersAreGivenOnce }
+{}
+
+/// A publication stays as it was until its owner withdraws it, whatever anyone does.
+pub fn publications_stay()
+    ensures { PublicationsStay }
+{}
+
+/// A slot's parent is what it was when it was imported, until another is.
+pub fn parents_stay()
+    ensures { ParentsStay }
+{}
