@@ -1,6 +1,6 @@
 -- What good slots answer, what is judged, and what is written.
-use Rattle.std.proofs.Common.{◌≡◌, ◌⊎◌, inl, inr, ℕ, List, [], ◌∷◌, Bool, true, false, Option, Some, None, Result, Ok, Err, refl, ap, sym, subst, ◌∙◌, codes}
-use Rattle.std.specs.Prelude.{MatchOption, if◌then◌else◌}
+use Rattle.std.proofs.Common.{◌≡◌, ◌⊎◌, inl, inr, ℕ, List, Bool, true, false, Option, Some, None, Result, Ok, Err, refl, ap, sym, subst, ◌∙◌, codes}
+use Rattle.std.specs.Prelude.{MatchOption}
 use Rattle.std.specs.Option.{ForSome, option_map}
 use Rattle.ctf_model.proofs.Denoted.{denotes_said, one_dictionary}
 use Rattle.ctf_model.proofs.Judge.{least_fault}
@@ -18,7 +18,7 @@ use Rattle.ctf_model.specs.rules.Refusals.{placeless}
 use Rattle.ctf_model.specs.rules.Rules.{IsFirstFault}
 use Rattle.ctf_model.specs.spaces.Kept.{Kept, kept_dictionary}
 use Rattle.ctf_model.specs.spaces.Space.{Space}
-use Rattle.ctf_model.specs.writing.Written.{lists_of, written}
+use Rattle.ctf_model.specs.writing.Written.{written}
 use Rattle.ctf_model.specs.declared.data_model.DataModel.{DataModel}
 use Rattle.ctf_model.specs.declared.faults.Fault.{Fault}
 use Rattle.ctf_model.specs.declared.faults.TheConstants.Fault.{SLOTS_FULL}
@@ -28,9 +28,8 @@ use Rattle.ctf_protocol.specs.answers.SlotAnswers.{whole_said}
 use Rattle.ctf_protocol.specs.sessions.DraftSteps.{slot_step}
 use Rattle.ctf_protocol.specs.sessions.Opened.{slot_stepped, under}
 use Rattle.ctf_protocol.specs.sessions.State.{Slot, State}
-use Rattle.ctf_protocol.specs.sessions.Steps.{accepts_unless, checks, has_room, opens, opens_unless, slot_space}
-use Rattle.ctf_protocol.specs.declared.requests.DraftStep.TheVariants.{Update}
-use Rattle.ctf_laws.specs.Good.{IsFaultless, IsGoodSlot}
+use Rattle.ctf_protocol.specs.sessions.Steps.{accepts_unless, has_room, opens, opens_unless, slot_space}
+use Rattle.ctf_laws.specs.Good.{IsFaultless}
 use Rattle.ctf_laws.specs.GoodLaws.{AnswersAreOfWhatIsDenoted, AreDenoted, BytesDenoteWhatWasAdded, ChecksAcceptWhatKeepsEveryRule, ChecksRefuseByTheFirstRule, IsDenoted, OpensAcceptWhatKeepsEveryRule, OpensRefuseByTheFirstRule, SlotsDenote, UpdatesDenoteTheDraft}
 
 -- ---- what the lists of a slot denote

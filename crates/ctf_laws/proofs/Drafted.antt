@@ -4,20 +4,18 @@ use Rattle.std.specs.Prelude.{◌||◌, not}
 use Rattle.std.specs.Option.{ForSome, option_map}
 use Rattle.std.proofs.lemmas.List.{append-nil}
 use Rattle.ctf_model.proofs.Denoted.{denotes_said}
-use Rattle.ctf_model.proofs.SoundDrafts.{enumerator_sound, label_sound, life_sound, member_sound, new_sound, type_sound}
+use Rattle.ctf_model.proofs.SoundDrafts.{life_sound, new_sound}
 use Rattle.ctf_model.proofs.WrittenDrafts.{draft_denoted, draft_imported}
 use Rattle.ctf_model.specs.drafts.Adders.{Added, add_enumerator, add_label, add_member, add_type, against_enumerator, against_label, against_member, against_place, against_type, body_at, place_member, put_member, replaced_at, size_with, with_enumerator, with_label, with_member, with_type}
 use Rattle.ctf_model.specs.drafts.DraftLaws.{IsSound}
 use Rattle.ctf_model.specs.drafts.Drafts.{Contents, Draft, above, all_of, discarded, empty_draft, followed_by, has_zero, held, is_childs, is_of_other, new_draft, no_contents, pending_place, settled, space_of}
-use Rattle.ctf_model.specs.drafts.Fitting.{FitsNew}
 use Rattle.ctf_model.specs.drafts.NewTypes.{NewType, new_term}
 use Rattle.ctf_model.specs.drafts.Placement.{bits_filled, member_place}
 use Rattle.ctf_model.specs.format.Dictionary.{Label, said_by}
 use Rattle.ctf_model.specs.format.Term.{Body, Enumerator, Member, Term}
 use Rattle.ctf_model.specs.opened.Open.{Open}
-use Rattle.ctf_model.specs.opened.Steps.{Stepped, created, enlarged_as, enlarged_if, settled_as, silent, updated_over, with_draft}
+use Rattle.ctf_model.specs.opened.Steps.{created, settled_as, updated_over, with_draft}
 use Rattle.ctf_model.specs.rules.Judgements.{first_met, unless, ◌then◌}
-use Rattle.ctf_model.specs.rules.Refusals.{placeless}
 use Rattle.ctf_model.specs.spaces.Imports.{Modelled, import_fault, same_model}
 use Rattle.ctf_model.specs.spaces.Kept.{Kept, kept_dictionary, modelled_by}
 use Rattle.ctf_model.specs.spaces.Space.{space_type}

@@ -1,6 +1,6 @@
 -- What a change does to a library, in one of nine ways.
 use Rattle.std.proofs.Common.{◌≡◌, ◌+◌, ℕ, List, [], ◌∷◌, ◌++◌, Bool, true, false, Option, Some, None, Result, Ok, Err, refl, ap, ◌∙◌, length, is_some}
-use Rattle.std.specs.Prelude.{codes, nat_lt, if◌then◌else◌}
+use Rattle.std.specs.Prelude.{nat_lt, if◌then◌else◌}
 use Rattle.ctf_model.specs.drafts.Adders.{Added}
 use Rattle.ctf_model.specs.drafts.Drafts.{Draft, discarded, held, settled}
 use Rattle.ctf_model.specs.opened.Open.{Open, own_in, pending_in}
@@ -10,11 +10,11 @@ use Rattle.ctf_model.specs.spaces.Kept.{Kept}
 use Rattle.ctf_model.specs.writing.Written.{lists_of, written}
 use Rattle.ctf_model.specs.declared.faults.Fault.{Fault}
 use Rattle.ctf_protocol.specs.answers.Answers.{Answer}
-use Rattle.ctf_protocol.specs.sessions.Additions.{added, answered}
+use Rattle.ctf_protocol.specs.sessions.Additions.{added}
 use Rattle.ctf_protocol.specs.sessions.Charges.{charge}
 use Rattle.ctf_protocol.specs.sessions.Creations.{Created}
-use Rattle.ctf_protocol.specs.sessions.DraftSteps.{created_slot, model_made, slot_step, slots_with}
-use Rattle.ctf_protocol.specs.sessions.Opened.{SlotOutcome, open_of, slot_made, slot_stepped, slot_with, under}
+use Rattle.ctf_protocol.specs.sessions.DraftSteps.{created_slot, slot_step, slots_with}
+use Rattle.ctf_protocol.specs.sessions.Opened.{SlotOutcome, open_of, slot_made, slot_stepped, slot_with}
 use Rattle.ctf_protocol.specs.sessions.Publications.{published_as, published_without}
 use Rattle.ctf_protocol.specs.sessions.State.{Publication, Slot, State}
 use Rattle.ctf_protocol.specs.sessions.Steps.{Outcome, accepts_unless, adds_created, becomes_by, change_step, creates_from, creates_over, has_room, imports_unless, longest_list, opens_unless, publishes_slot, publishes_within, quota, slot_at, slot_becomes, slots_with_parent, slots_without, stages, takes_found, updates_within, with_slot, withdraws, within_quota}

@@ -6,3 +6,4 @@ mod Answered
 mod Effects
 mod Staying
 mod Numbers
+mod Asked

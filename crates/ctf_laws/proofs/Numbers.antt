@@ -1,5 +1,5 @@
 -- No number of a slot is given twice, from what each change may do.
-use Rattle.std.proofs.Common.{◌≡◌, ◌≢◌, ◌⊎◌, inl, inr, ◌+◌, ◌<◌, ◌≤◌, ℕ, List, [], ◌∷◌, ◌++◌, Bool, true, false, Option, Some, None, eqb, refl, ap, sym, subst, ◌∙◌, is_some, arith}
+use Rattle.std.proofs.Common.{◌≡◌, ◌≢◌, ◌⊎◌, inl, inr, ◌+◌, ◌<◌, ◌≤◌, ℕ, List, [], ◌∷◌, ◌++◌, Bool, true, false, Some, eqb, refl, ap, sym, subst, ◌∙◌, is_some, arith}
 use Rattle.std.specs.List.{AllByRecursion}
 use Rattle.std.proofs.lemmas.Bool.{eqb-true}
 use Rattle.ctf_model.proofs.Alls.{all_joined}
@@ -13,8 +13,8 @@ use Rattle.ctf_protocol.specs.declared.requests.Change.{Change}
 use Rattle.ctf_protocol.specs.declared.requests.Change.TheVariants as change
 use Rattle.ctf_protocol.specs.declared.requests.Request.{Request}
 use Rattle.ctf_protocol.specs.declared.requests.Request.TheVariants.{Asks, Changes}
-use Rattle.ctf_laws.proofs.Effects.{Effect, OfSlots, a_parent, a_step, effect, none, one_less, one_more, stay}
-use Rattle.ctf_laws.specs.PlainLaws.{Gives, IsNoReset, NumbersAreGivenOnce}
+use Rattle.ctf_laws.proofs.Effects.{OfSlots, a_parent, a_step, effect, none, one_less, one_more, stay}
+use Rattle.ctf_laws.specs.PlainLaws.{IsNoReset, NumbersAreGivenOnce}
 
 -- every slot's number is below this one
 abbrev Below : ℕ → List Slot → Type 0

@@ -1,11 +1,10 @@
 -- Libraries stay good in every run: by induction on the events.
 use Rattle.std.proofs.Common.{◌≡◌, ◌≢◌, ℕ, List, [], ◌∷◌, Bool, true, false, Option, Some, None, eqb, option_and_then, refl, sym, subst, arith}
-use Rattle.std.specs.List.{AllByRecursion}
 use Rattle.std.specs.Option.{ForSome}
 use Rattle.std.proofs.lemmas.Bool.Decides.{nat_tests}
 use Rattle.ctf_protocol.specs.sessions.Publications.{published_as}
 use Rattle.ctf_protocol.specs.sessions.Runs.{found_in, taken_by}
-use Rattle.ctf_protocol.specs.sessions.SessionLaws.{Event, Happens, IsReplied, Run}
+use Rattle.ctf_protocol.specs.sessions.SessionLaws.{Event, Happens, IsReplied}
 use Rattle.ctf_protocol.specs.sessions.State.{State}
 use Rattle.ctf_laws.proofs.Slots.{published_good}
 use Rattle.ctf_laws.proofs.Steps.{steps_keep_good}

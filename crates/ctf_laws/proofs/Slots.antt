@@ -1,15 +1,14 @@
 -- Lists of good slots and of faultless publications.
-use Rattle.std.proofs.Common.{◌≡◌, ℕ, List, [], ◌∷◌, Bool, true, false, Option, Some, None, eqb, refl, ap, sym, subst}
+use Rattle.std.proofs.Common.{◌≡◌, ℕ, List, [], ◌∷◌, Bool, true, false, Some, None, eqb, refl, subst}
 use Rattle.std.specs.Prelude.{nat_eq, not}
 use Rattle.std.specs.Cmp.Lexicographic.{pointwise}
 use Rattle.std.specs.List.{AllByRecursion}
-use Rattle.std.specs.Option.{ForSome}
 use Rattle.ctf_model.specs.spaces.Kept.{Kept, fault_over}
 use Rattle.ctf_protocol.specs.sessions.DraftSteps.{slots_with}
 use Rattle.ctf_protocol.specs.sessions.Publications.{published_as, published_without}
 use Rattle.ctf_protocol.specs.sessions.State.{Publication, Slot}
 use Rattle.ctf_protocol.specs.sessions.Steps.{slot_at, slots_with_parent, slots_without}
-use Rattle.ctf_laws.specs.Good.{IsDraftOf, IsFaultless, IsGoodSlot, Serves}
+use Rattle.ctf_laws.specs.Good.{IsFaultless, IsGoodSlot, Serves}
 
 abbrev pub AllGood : List Slot → Type 0
 AllGood slots = AllByRecursion IsGoodSlot slots

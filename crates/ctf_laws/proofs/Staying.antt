@@ -1,5 +1,5 @@
 -- Publications and parents stay, from what each change may do.
-use Rattle.std.proofs.Common.{◌≡◌, ◌≢◌, ℕ, List, [], ◌∷◌, ◌++◌, Bool, true, false, Option, Some, None, eqb, refl, ap, sym, subst, ◌∙◌, option_and_then}
+use Rattle.std.proofs.Common.{◌≡◌, ◌≢◌, ℕ, List, [], ◌∷◌, ◌++◌, Bool, true, false, Option, Some, eqb, refl, ap, sym, subst, ◌∙◌, option_and_then}
 use Rattle.std.specs.Prelude.{nat_eq}
 use Rattle.std.specs.Cmp.Lexicographic.{pointwise, same_text}
 use Rattle.std.specs.List.{AllByRecursion}
@@ -8,14 +8,14 @@ use Rattle.ctf_model.specs.spaces.Kept.{Kept}
 use Rattle.ctf_protocol.specs.sessions.DraftSteps.{slots_with}
 use Rattle.ctf_protocol.specs.sessions.Publications.{published_as, published_without}
 use Rattle.ctf_protocol.specs.sessions.Runs.{found_in}
-use Rattle.ctf_protocol.specs.sessions.SessionLaws.{Event, Happens, IsReplied, Run}
+use Rattle.ctf_protocol.specs.sessions.SessionLaws.{Event, IsReplied, Run}
 use Rattle.ctf_protocol.specs.sessions.State.{Publication, Slot, State}
 use Rattle.ctf_protocol.specs.sessions.Steps.{change_step, slot_at, slots_with_parent, slots_without, step}
 use Rattle.ctf_protocol.specs.declared.requests.Change.{Change}
 use Rattle.ctf_protocol.specs.declared.requests.Change.TheVariants as change
 use Rattle.ctf_protocol.specs.declared.requests.Request.{Request}
 use Rattle.ctf_protocol.specs.declared.requests.Request.TheVariants.{Asks, Changes}
-use Rattle.ctf_laws.proofs.Effects.{Effect, OfPublished, OfSlots, a_parent, a_step, all_stay, another, effect, none, one_less, one_more, stay, withdrawn}
+use Rattle.ctf_laws.proofs.Effects.{OfPublished, OfSlots, a_parent, a_step, all_stay, another, effect, none, one_less, one_more, stay, withdrawn}
 use Rattle.ctf_laws.proofs.Runs.{other_stays, own_session}
 use Rattle.ctf_laws.specs.PlainLaws.{ParentsStay, PublicationsStay, Spares, parent_of}
 

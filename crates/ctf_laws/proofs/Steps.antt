@@ -4,26 +4,25 @@ use Rattle.std.specs.Prelude.{codes, nat_lt, not, if◌then◌else◌}
 use Rattle.std.specs.Option.{ForSome}
 use Rattle.ctf_model.proofs.Alls.{all_joined}
 use Rattle.ctf_model.proofs.SoundDrafts.{enumerator_sound, label_sound, life_sound, member_sound, type_sound}
-use Rattle.ctf_model.specs.drafts.Adders.{Added, add_enumerator, add_label, add_member, add_type}
+use Rattle.ctf_model.specs.drafts.Adders.{Added, add_enumerator, add_label}
 use Rattle.ctf_model.specs.drafts.Drafts.{Draft, discarded, held}
-use Rattle.ctf_model.specs.opened.Open.{Open, pending_in}
-use Rattle.ctf_model.specs.opened.Steps.{Stepped, counted, created, discarded_if, dropped, enlarged_as, enlarged_if, import_refusal, settled_as, silent, updated, updated_if}
+use Rattle.ctf_model.specs.opened.Open.{pending_in}
+use Rattle.ctf_model.specs.opened.Steps.{counted, discarded_if, enlarged_as, enlarged_if, import_refusal, settled_as, silent, updated_if}
 use Rattle.ctf_model.specs.rules.Faults.{first_fault}
 use Rattle.ctf_model.specs.rules.Refusals.{placeless}
 use Rattle.ctf_model.specs.spaces.Kept.{Kept, fault_over}
 use Rattle.ctf_model.specs.writing.Written.{written}
-use Rattle.ctf_model.specs.declared.data_model.DataModel.{DataModel}
 use Rattle.ctf_model.specs.declared.faults.Fault.{Fault}
 use Rattle.ctf_model.specs.declared.faults.TheConstants.Fault.{FIXED_PARENT}
 use Rattle.ctf_protocol.specs.answers.Answers.{Answer}
 use Rattle.ctf_protocol.specs.sessions.Additions.{added, answered}
 use Rattle.ctf_protocol.specs.sessions.Charges.{charge}
 use Rattle.ctf_protocol.specs.sessions.Creations.{Created}
-use Rattle.ctf_protocol.specs.sessions.DraftSteps.{created_slot, model_made, slot_step, slots_with}
-use Rattle.ctf_protocol.specs.sessions.Opened.{SlotOutcome, open_of, slot_made, slot_stepped, slot_with, under}
+use Rattle.ctf_protocol.specs.sessions.DraftSteps.{created_slot, model_made, slot_step}
+use Rattle.ctf_protocol.specs.sessions.Opened.{SlotOutcome, open_of, slot_stepped, slot_with, under}
 use Rattle.ctf_protocol.specs.sessions.Publications.{published_as}
 use Rattle.ctf_protocol.specs.sessions.State.{Publication, Slot, State}
-use Rattle.ctf_protocol.specs.sessions.Steps.{Outcome, accepts_unless, adds_created, becomes_by, change_step, creates_from, creates_over, has_room, imports_unless, longest_list, opens_unless, publishes_slot, publishes_within, quota, slot_at, slot_becomes, slots_with_parent, stages, step, takes_found, updates_within, with_slot, withdraws, within_quota}
+use Rattle.ctf_protocol.specs.sessions.Steps.{Outcome, accepts_unless, adds_created, becomes_by, change_step, creates_from, creates_over, has_room, imports_unless, longest_list, opens_unless, publishes_slot, publishes_within, quota, slot_at, slot_becomes, slots_with_parent, stages, takes_found, updates_within, with_slot, withdraws, within_quota}
 use Rattle.ctf_protocol.specs.declared.additions.Addition.{Addition}
 use Rattle.ctf_protocol.specs.declared.additions.Addition.TheVariants as add
 use Rattle.ctf_protocol.specs.declared.requests.Change.{Change}
@@ -31,11 +30,10 @@ use Rattle.ctf_protocol.specs.declared.requests.Change.TheVariants as change
 use Rattle.ctf_protocol.specs.declared.requests.DraftStep.{DraftStep}
 use Rattle.ctf_protocol.specs.declared.requests.DraftStep.TheVariants as steps
 use Rattle.ctf_protocol.specs.declared.requests.ListName.{ListName}
-use Rattle.ctf_protocol.specs.declared.requests.Request.{Request}
 use Rattle.ctf_protocol.specs.declared.requests.Request.TheVariants.{Asks, Changes}
 use Rattle.ctf_laws.proofs.Drafted.{created_good, redrafted, settled_good, type_leaves, member_leaves, enumerator_leaves, label_leaves}
-use Rattle.ctf_laws.proofs.Slots.{AllFaultless, AllGood, child_good, found_good, new_good, parents_good, published_good, with_good, withdrawn_good, without_good}
-use Rattle.ctf_laws.specs.Good.{FitsAddition, FitsChange, FitsRequest, FitsStep, IsDraftOf, IsFaultless, IsGood, IsGoodSlot}
+use Rattle.ctf_laws.proofs.Slots.{AllGood, child_good, found_good, new_good, parents_good, with_good, withdrawn_good, without_good}
+use Rattle.ctf_laws.specs.Good.{FitsAddition, FitsChange, FitsStep, IsFaultless, IsGood, IsGoodSlot}
 use Rattle.ctf_laws.specs.GoodLaws.{StepsKeepGood}
 
 -- a step leaves a good library

@@ -1,5 +1,5 @@
 -- Laws of good libraries. Each is the contract of a function of src/lib.rt.
-use Rattle.std.specs.Prelude.{◌≡◌, ◌⊎◌, ◌==◌, ℕ, List, length, not, is_some, Option, None, Some, Result, Ok, Err}
+use Rattle.std.specs.Prelude.{◌≡◌, ◌⊎◌, ◌==◌, ℕ, List, length, not, is_some, Option, None, Some, Ok, Err}
 use Rattle.std.specs.List.{AllByRecursion}
 use Rattle.std.specs.Option.{ForSome}
 use Rattle.ctf_model.specs.drafts.DraftChanges.{DraftChange, after}
@@ -19,6 +19,7 @@ use Rattle.ctf_model.specs.declared.faults.TheConstants.Fault.{SLOTS_FULL}
 use Rattle.ctf_protocol.specs.answers.Answers.{Answer}
 use Rattle.ctf_protocol.specs.answers.Questions.{type_said}
 use Rattle.ctf_protocol.specs.answers.SlotAnswers.{whole_said}
+use Rattle.ctf_protocol.specs.lines.Ask.{ask}
 use Rattle.ctf_protocol.specs.sessions.DraftSteps.{slot_step}
 use Rattle.ctf_protocol.specs.sessions.Runs.{found_in}
 use Rattle.ctf_protocol.specs.sessions.SessionLaws.{Event, Run}
@@ -54,6 +55,11 @@ RunsKeepGood =
     (start new : ℕ → State) (events : List Event) → AreGood start
     → AllByRecursion (λ event. FitsRequest event.request) events → Run start events new
     → AreGood new
+
+-- whatever a line asks has numbers of its fields' widths
+abbrev pub LinesFit : Type 0
+LinesFit =
+    (line : List ℕ) (asked : ℕ × Request) → ask line ≡ Ok asked → FitsRequest asked.1
 
 -- ---- what a good slot answers
 

@@ -1,5 +1,5 @@
 -- Plain laws of sessions. Each is the contract of a function of src/plain.rt.
-use Rattle.std.specs.Prelude.{◌≡◌, ◌≢◌, ℕ, List, ◌∷◌, ◌++◌, Option, None, Some, is_some, true, false, option_and_then}
+use Rattle.std.specs.Prelude.{◌≡◌, ◌≢◌, ℕ, List, ◌∷◌, ◌++◌, Option, Some, is_some, true, false, option_and_then}
 use Rattle.std.specs.List.{AllByRecursion}
 use Rattle.ctf_model.specs.spaces.Kept.{Kept}
 use Rattle.ctf_protocol.specs.sessions.Publications.{published_as}

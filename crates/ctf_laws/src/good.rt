@@ -6,6 +6,7 @@ ghost use Rattle.ctf_laws.specs.GoodLaws.{
   ChecksAcceptWhatKeepsEveryRule,
   ChecksRefuseByTheFirstRule,
   FoundIsFaultless,
+  LinesFit,
   NothingIsGood,
   OpensAcceptWhatKeepsEveryRule,
   OpensRefuseByTheFirstRule,
@@ -22,6 +23,7 @@ pub fn libraries_stay_good()
     ensures step { StepsKeepGood }
     ensures found { FoundIsFaultless }
     ensures runs { RunsKeepGood }
+    ensures lines { LinesFit }
 {}
 
 /// The lists of a good slot denote one dictionary, and those of its parent one; each question is
