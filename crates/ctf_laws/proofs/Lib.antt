@@ -7,3 +7,4 @@ mod Effects
 mod Staying
 mod Numbers
 mod Asked
+pub mod Promises

@@ -1,5 +1,5 @@
 -- Laws of good libraries. Each is the contract of a function of src/lib.rt.
-use Rattle.std.specs.Prelude.{◌≡◌, ◌⊎◌, ◌==◌, ℕ, List, length, not, is_some, Option, None, Some, Ok, Err}
+use Rattle.std.specs.Prelude.{◌≡◌, ◌⊎◌, ◌==◌, ℕ, List, [], length, not, is_some, Option, None, Some, Ok, Err}
 use Rattle.std.specs.List.{AllByRecursion}
 use Rattle.std.specs.Option.{ForSome}
 use Rattle.ctf_model.specs.drafts.DraftChanges.{DraftChange, after}
@@ -21,7 +21,8 @@ use Rattle.ctf_protocol.specs.answers.Questions.{type_said}
 use Rattle.ctf_protocol.specs.answers.SlotAnswers.{whole_said}
 use Rattle.ctf_protocol.specs.lines.Ask.{ask}
 use Rattle.ctf_protocol.specs.sessions.DraftSteps.{slot_step}
-use Rattle.ctf_protocol.specs.sessions.Runs.{found_in}
+use Rattle.ctf_protocol.specs.lines.Output.{Mark, calls_made}
+use Rattle.ctf_protocol.specs.sessions.Runs.{found_in, own_state}
 use Rattle.ctf_protocol.specs.sessions.SessionLaws.{Event, Run}
 use Rattle.ctf_protocol.specs.sessions.State.{Slot, State, empty_state}
 use Rattle.ctf_protocol.specs.sessions.Steps.{checks, opens, slot_said, slot_space, step}
@@ -55,6 +56,12 @@ RunsKeepGood =
     (start new : ℕ → State) (events : List Event) → AreGood start
     → AllByRecursion (λ event. FitsRequest event.request) events → Run start events new
     → AreGood new
+
+-- after any lines, wherever memory was refused, each session's own run leaves it a good library
+abbrev pub OwnRunsStayGood : Type 0
+OwnRunsStayGood =
+    (start : ℕ → State) (lines : List (List ℕ)) (marks : List Mark) → AreGood start
+    → AreGood (own_state start (calls_made [] lines marks))
 
 -- whatever a line asks has numbers of its fields' widths
 abbrev pub LinesFit : Type 0
@@ -129,3 +136,22 @@ BytesDenoteWhatWasAdded =
     → new_draft parent parname parlabel model ≡ Ok d → AllByRecursion FitsDraftChange changes
     → written (held (after d changes)) ≡ Ok bytes
     → Denotes (lists_of bytes) (held (after d changes))
+
+-- ---- all of it
+
+-- what is promised of every run over libraries that are good at its beginning
+pub record Promised (start : ℕ → State) : Type 0 where
+  -- after any of its lines each session's library is good
+  pub good : (lines : List (List ℕ)) (marks : List Mark)
+      → AreGood (own_state start (calls_made [] lines marks))
+  -- so the lists of each slot and of its parent denote one dictionary, and answers are of these
+  pub denoted : SlotsDenote
+  pub answered : AnswersAreOfWhatIsDenoted
+  -- what is staged is refused by the first rule that it breaks, and by nothing else
+  pub checked : ChecksRefuseByTheFirstRule
+  pub opened : OpensRefuseByTheFirstRule
+  -- the bytes of an updated dictionary denote all that its draft holds
+  pub written : UpdatesDenoteTheDraft
+
+abbrev pub RunsKeepWhatIsPromised : Type 0
+RunsKeepWhatIsPromised = (start : ℕ → State) → AreGood start → Promised start

@@ -10,7 +10,9 @@ ghost use Rattle.ctf_laws.specs.GoodLaws.{
   NothingIsGood,
   OpensAcceptWhatKeepsEveryRule,
   OpensRefuseByTheFirstRule,
+  OwnRunsStayGood,
   RunsKeepGood,
+  RunsKeepWhatIsPromised,
   SlotsDenote,
   StepsKeepGood,
   UpdatesDenoteTheDraft,
@@ -23,6 +25,7 @@ pub fn libraries_stay_good()
     ensures step { StepsKeepGood }
     ensures found { FoundIsFaultless }
     ensures runs { RunsKeepGood }
+    ensures own { OwnRunsStayGood }
     ensures lines { LinesFit }
 {}
 
@@ -46,4 +49,9 @@ pub fn stages_are_judged()
 pub fn bytes_denote_what_was_added()
     ensures updates { UpdatesDenoteTheDraft }
     ensures added { BytesDenoteWhatWasAdded }
+{}
+
+/// All of it in one word: what each run promises that begins with good libraries.
+pub fn runs_keep_what_is_promised()
+    ensures { RunsKeepWhatIsPromised }
 {}

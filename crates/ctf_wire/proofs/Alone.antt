@@ -15,6 +15,7 @@ use Rattle.ctf_protocol.specs.declared.requests.Request.{Request}
 use Rattle.ctf_protocol.proofs.Asking.{ask-long}
 use Rattle.ctf_protocol.proofs.SessionRuns.{found_same}
 use Rattle.ctf_wire.specs.Served.{Answers}
+use Rattle.ctf_laws.proofs.Promises.{runs_promise}
 use Rattle.ctf_wire.specs.Serving.{ask_stored, LineSteps, BrokerStep, ServesAlone}
 use Rattle.ctf_broker.specs.Table.{Libraries, library_at}
 
@@ -104,4 +105,9 @@ runs_on start calls old new (line ∷ lines) (reply ∷ replies) held a =
 pub serves_alone : ServesAlone
 serves_alone old new lines replies a =
     let runs = runs_on (library_at old) [] old new lines replies (λ s. refl) a in
-    record { marks = runs.marks; replies_are = runs.replies_are; libraries_are = runs.libraries_are }
+    record {
+      marks = runs.marks;
+      replies_are = runs.replies_are;
+      libraries_are = runs.libraries_are;
+      promised = runs_promise (library_at old);
+    }

@@ -10,6 +10,8 @@ use Rattle.ctf_model.specs.declared.faults.Fault.{Fault}
 use Rattle.ctf_model.specs.declared.faults.TheConstants.Fault.{LONG_LINE}
 use Rattle.ctf_protocol.specs.answers.Answers.{Reply}
 use Rattle.ctf_protocol.specs.declared.requests.Request.{Request}
+use Rattle.ctf_laws.specs.Good.{AreGood}
+use Rattle.ctf_laws.specs.GoodLaws.{Promised}
 use Rattle.ctf_wire.specs.Endings.{EndsBy}
 use Rattle.ctf_wire.specs.Served.{Answers, BeginsWith, Sent, SentFront}
 use Rattle.ctf_wire.specs.Streams.{Pulled, Pushed}
@@ -43,14 +45,17 @@ abbrev pub BrokerStep : Libraries → Option (List ℕ) → List ℕ → Librari
 BrokerStep old line written new =
     LineSteps (library_at old) (ask_stored line) written (library_at new)
 
--- these lines are served: each has the reply that its session's own run gives,
--- and each session's library is that of its own run
+-- these lines are served: each has the reply that its session's own run gives, each session's
+-- library is that of its own run, and where all libraries were good, all is kept that is promised
+-- of such a run: what is answered is what the format says, malformed bytes are refused by the first
+-- rule that they break, and what an update wrote denotes what it held
 pub record RunsAlone (old : Libraries) (lines replies : List (List ℕ))
     (new : Libraries) : Type 0 where
   pub marks : List Mark
   pub replies_are : replies ≡ out (library_at old) [] lines marks
   pub libraries_are : (s : ℕ)
       → library_at new s ≡ own_state (library_at old) (calls_made [] lines marks) s
+  pub promised : AreGood (library_at old) → Promised (library_at old)
 
 -- whatever a broker answers to lines is what each session's own run answers
 abbrev pub ServesAlone : Type 0

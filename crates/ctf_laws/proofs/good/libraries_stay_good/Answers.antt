@@ -1,3 +1,4 @@
+use Rattle.ctf_laws.proofs.Promises.{own_runs_stay_good}
 use Rattle.ctf_laws.proofs.Asked.{lines_fit}
 use Rattle.ctf_laws.proofs.Runs.{found_is_faultless, runs_keep_good}
 use Rattle.ctf_laws.proofs.Steps.{steps_keep_good}
@@ -9,5 +10,6 @@ returns c = record {
   step = steps_keep_good;
   found = found_is_faultless;
   runs = runs_keep_good;
+  own = own_runs_stay_good;
   lines = lines_fit;
 }
