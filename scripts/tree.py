@@ -127,7 +127,10 @@ class Places:
         if source.name in COMMANDS:
             return self.command(path, text)
         libraries = os.path.relpath(self.libraries, self.prefix)
+        # The system's loader looks below /usr by itself.
+        run_path = "" if self.prefix == Path("/usr") else "-Wl,-rpath,${libdir} "
         return (text.replace("@PREFIX@", str(self.prefix)).replace("@LIBRARIES@", libraries)
+                .replace("@RUNPATH@", run_path)
                 .replace("@VERSION@", version()).replace("@BIN@", str(self.prefix / "bin")))
 
     def command(self, path: Path, text: str) -> str:

@@ -85,11 +85,11 @@ def words() -> dict[str, dict[str, str]]:
     """What each list that has words says is wrong, by the fault's name."""
     rust = re.findall(r"/// ([^\n]*)\n +(\w+) = \d+,", read("clients/rust/src/faults.rs"))
     header = re.findall(r"CTFD_([A-Z_]+) = [1-9]\d*,? /\* (.*?) \*/", read("clients/c/ctfd.h"))
-    messages = quoted(part(read("clients/c/ctfd_libctf.h"), "const messages[] = {", "};"))
+    messages = quoted(part(read("clients/c/libctf/errors.c"), "const messages[] = {", "};"))
     return {
         "ctfd.h": {pascal(name): said for name, said in header},
         "faults.rs": {name: said for said, name in rust},
-        "ctfd_libctf.h": dict(it.split(": ", 1) for it in messages[1:]),
+        "libctf/errors.c": dict(it.split(": ", 1) for it in messages[1:]),
     }
 
 

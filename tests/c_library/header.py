@@ -9,7 +9,8 @@ each struct behind a pointer; the names and numbers of statuses, against those o
 numbers of kinds. With an archive, the names that it defines are compared too: those of the
 crates, and those of clients/c/ctfd_libctf.h. Of libctfd.so beside it nothing else is seen.
 
-clients/rust/src/raw.rs, which declares the same for Rust, is compared in the same way.
+clients/rust/src/raw.rs, which declares the same for Rust, is compared in the same way. Each call of
+illumos' libctf and of GNU's (illumos_calls.txt, gnu_calls.txt) has a row in docs/C.md.
 
 Then the header is broken on purpose, in a dozen ways, and each has to be found. Prints what
 differs, and counts; the status is 1 where something does.
@@ -199,6 +200,16 @@ def of_libctf() -> set[str]:
     return set(re.findall(r"^(?!typedef)(?:\w+ )+\*?(ctf_\w+)\(", text, re.MULTILINE))
 
 
+def without_a_row(page: str) -> list[str]:
+    """The calls of both libctfs that docs/C.md does not tell of, in the part for each."""
+    illumos, gnu = page.split("### Each call of GNU's libctf")
+    lists = Path(__file__).parent
+    return [f"docs/C.md has no row for {name}, which {of} has"
+            for of, part in (("illumos", illumos), ("gnu", gnu))
+            for name in (lists / f"{of}_calls.txt").read_text(encoding="utf-8").split()
+            if f"`{name}`" not in part]
+
+
 def not_as_declared(archive: Path, calls: set[str]) -> list[str]:
     """What an archive and the shared library beside it define otherwise than the headers say, but
     for the names by which the archive takes memory, and what its own objects share."""
@@ -264,6 +275,7 @@ def main() -> int:
     wrong += differences(for_rust(wanted), for_rust(of_rust(rust)))
     if asked.archive:
         wrong += not_as_declared(Path(asked.archive), set(wanted.calls))
+    wrong += without_a_row((TOP / "docs" / "C.md").read_text(encoding="utf-8"))
     wrong += not_found(wanted, header)
     print(*wrong, sep="\n", end="\n" if wrong else "")
     print(f"header: {len(wanted.calls)} calls, {len(wanted.structs)} structs and "
