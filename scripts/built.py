@@ -18,6 +18,7 @@ from typing import Iterator, Optional
 TOP = Path(__file__).resolve().parents[1]
 PROGRAM = TOP / "crates" / "ctfd" / "out" / "ctfd"
 ARCHIVE = TOP / "crates" / "ctf_c" / "out" / "libctfd.a"
+CALLS = TOP / "clients" / "c"
 TOLD = PROGRAM.with_name("built.json")
 READ = ("src", "specs", "proofs")
 
@@ -31,12 +32,14 @@ class How(enum.Enum):
 
 @dataclass(frozen=True)
 class Built:
-    """How the program was built, and the sums of its sources, of itself and of the library."""
+    """How the program was built, and the sums of its sources, of itself and of the library; of
+    libctf's calls in that it has the sum of their sources, "" where they are not in it."""
 
     how: How
     sources: str
     program: str
     archive: str
+    calls: str
 
 
 def sum_of(path: Path) -> str:
@@ -64,15 +67,23 @@ def told() -> Optional[Built]:
     try:
         said = json.loads(TOLD.read_text(encoding="utf-8"))
         built = Built(How(said.pop("how")), **said)
-        stands = Built(built.how, built.sources, sum_of(PROGRAM), sum_of(ARCHIVE))
+        stands = Built(built.how, built.sources, sum_of(PROGRAM), sum_of(ARCHIVE), built.calls)
     except (OSError, ValueError, KeyError, TypeError):
         return None
     return built if built == stands else None
 
 
-def tell(how: How, sources: str) -> None:
+def sum_of_calls() -> str:
+    """The sum of the sources of libctf's calls."""
+    found = hashlib.sha256()
+    for path in sorted(CALLS.glob("**/*.[ch]")):
+        found.update(f"{path.relative_to(CALLS)} {sum_of(path)}\n".encode())
+    return found.hexdigest()
+
+
+def tell(how: How, sources: str, calls: str) -> None:
     """Says how what stands in `out` was built."""
-    built = Built(how, sources, sum_of(PROGRAM), sum_of(ARCHIVE))
+    built = Built(how, sources, sum_of(PROGRAM), sum_of(ARCHIVE), calls)
     TOLD.write_text(json.dumps({**asdict(built), "how": how.value}) + "\n", encoding="utf-8")
 
 

@@ -60,7 +60,7 @@ def at_one_time(folder: Path, seconds: int) -> None:
     for path in (folder, *files(folder)):
         if path.is_dir():
             path.chmod(0o755)
-        os.utime(path, (seconds, seconds))
+        os.utime(path, (seconds, seconds), follow_symlinks=False)
 
 
 def packed(data: bytes) -> bytes:
@@ -77,11 +77,12 @@ def how_built(made: Made) -> str:
     return HOW[stands.how] if stands else "in a way that nobody told"
 
 
-def libc(program: Path) -> str:
-    """The least version of the C library that a program runs with."""
-    found = {(int(major), int(minor)) for major, minor in LIBC.findall(program.read_bytes())}
+def libc(*files_of_libc: Path) -> str:
+    """The least version of the C library that a program and libraries run with."""
+    found = {(int(major), int(minor)) for path in files_of_libc if path.exists()
+             for major, minor in LIBC.findall(path.read_bytes())}
     if not found:
-        raise Lacking(f"{program} names no version of the C library")
+        raise Lacking(f"{files_of_libc[0]} names no version of the C library")
     return "{}.{}".format(*max(found))
 
 
@@ -93,10 +94,10 @@ def write(path: Path, data: bytes, mode: int = 0o644) -> None:
 
 def describe(stage: Path, made: Made) -> None:
     """Writes what dpkg reads of a package whose files stand in a folder."""
-    listed = [path for path in files(stage) if path.is_file()]
+    listed = [path for path in files(stage) if path.is_file() and not path.is_symlink()]
     size = sum(-(-path.stat().st_size // 1024) for path in listed)
     control = (DEBIAN / "control").read_text(encoding="utf-8").format(
-        version=version(), size=size, libc=libc(made.program), how=how_built(made))
+        version=version(), size=size, libc=libc(made.program, *made.shared), how=how_built(made))
     sums = "".join(f"{hashlib.md5(path.read_bytes()).hexdigest()}  {path.relative_to(stage)}\n"
                    for path in listed)
     write(stage / "DEBIAN" / "control", control.encode())

@@ -22,7 +22,7 @@ mkdir -p "$prefix"
 prefix=$(cd "$prefix" && pwd)
 while read -r file; do
     mkdir -p "$prefix/$(dirname "$file")"
-    cp -f "$file" "$prefix/$file"
+    cp -fP "$file" "$prefix/$file"
 done < FILES
 # Two kinds of files name where things stand.
 pc=$prefix/lib/pkgconfig/ctfd.pc

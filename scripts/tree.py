@@ -4,8 +4,8 @@
 usage: scripts/tree.py --prefix PREFIX [--root FOLDER] [--program PROGRAM] [--archive ARCHIVE]
                        [--packages FOLDER] [--remove]
 
-That is the program, the library for C with its headers and a file for pkg-config, the manual pages,
-the units for systemd, the Python package and its commands. FOLDER of --root, if it is given, goes
+That is the program, the libraries for C with their headers and a file for pkg-config, the manual
+pages, the units for systemd, the Python package and its commands. FOLDER of --root, if it is given, goes
 in front of all, as DESTDIR does.
 
 pip installs the package. It and setuptools and wheel are those of the Python that PYTHON in the
@@ -27,6 +27,7 @@ from pathlib import Path
 from typing import Iterator, Optional
 
 import built
+import libctf
 from version import TOP, differing, version
 
 CLIENT = TOP / "clients" / "python"
@@ -75,11 +76,17 @@ class Made:
     program: Path
     archive: Path
 
+    @property
+    def shared(self) -> list[Path]:
+        """The shared libraries beside the archive."""
+        beside = (self.archive.with_name(name) for name in (libctf.SHARED, libctf.ELF_SHARED))
+        return [path for path in beside if path.exists()]
+
     def judge(self) -> None:
         """Raises Lacking where something is not there, or tells another version."""
         for place in differing():
             raise Lacking(f"{place} does not tell the version {version()}, which VERSION has")
-        for path in (self.program, self.archive):
+        for path in (self.program, self.archive, self.archive.with_name(libctf.SHARED)):
             if not path.exists():
                 raise Lacking(f"there is no {path}: `make` builds it")
         said = subprocess.run([self.program, "--version"], stdout=subprocess.PIPE, text=True,
@@ -120,7 +127,10 @@ class Places:
         if source.name in COMMANDS:
             return self.command(path, text)
         libraries = os.path.relpath(self.libraries, self.prefix)
+        # The system's loader looks below /usr by itself.
+        run_path = "" if self.prefix == Path("/usr") else "-Wl,-rpath,${libdir} "
         return (text.replace("@PREFIX@", str(self.prefix)).replace("@LIBRARIES@", libraries)
+                .replace("@RUNPATH@", run_path)
                 .replace("@VERSION@", version()).replace("@BIN@", str(self.prefix / "bin")))
 
     def command(self, path: Path, text: str) -> str:
@@ -215,11 +225,37 @@ def put(made: Made, places: Places) -> None:
                                (places.libraries / "libctfd.a", made.archive, 0o644)):
         built.put(source, places.real(path))
         places.real(path).chmod(mode)
+    put_shared(made, places.real(places.libraries))
     for path, source, mode in places.texts():
         real = places.real(path)
         real.parent.mkdir(parents=True, exist_ok=True)
         real.write_text(places.text(path, source), encoding="utf-8")
         real.chmod(mode)
+
+
+def put_shared(made: Made, folder: Path) -> None:
+    """Puts the shared libraries beside the archive: each under its version, with the links by which
+    programs find it, and linkers."""
+    for source in made.shared:
+        whole = folder / f"{source.name}.{version()}"
+        built.put(source, whole)
+        whole.chmod(0o644)
+        soname = libctf.soname(source.name)
+        for link, to in ((soname, whole.name), (source.name, soname)):
+            folder.joinpath(link).unlink(missing_ok=True)
+            folder.joinpath(link).symlink_to(to)
+    part = made.archive.with_name(libctf.ELF_ARCHIVE)
+    if part.exists():
+        built.put(part, folder / part.name)
+        (folder / part.name).chmod(0o644)
+
+
+def shared(places: Places) -> Iterator[Path]:
+    """All that `put_shared` may have put."""
+    for name in (libctf.SHARED, libctf.ELF_SHARED):
+        for file in (name, libctf.soname(name), f"{name}.{version()}"):
+            yield places.libraries / file
+    yield places.libraries / libctf.ELF_ARCHIVE
 
 
 def remove_package(places: Places) -> None:
@@ -231,7 +267,7 @@ def remove_package(places: Places) -> None:
 def remove(places: Places) -> None:
     """Takes every file away, and the package's own folders."""
     remove_package(places)
-    for path in (places.prefix / "bin" / "ctfd", places.libraries / "libctfd.a",
+    for path in (places.prefix / "bin" / "ctfd", places.libraries / "libctfd.a", *shared(places),
                  *(path for path, _, _ in places.texts())):
         places.real(path).unlink(missing_ok=True)
 

@@ -91,7 +91,7 @@ def proved(tally: Tally, run: Lanes) -> None:
     for well in made:
         tally.add(well)
     if before and is_proved and all(made) and before == sources():
-        built.tell(built.How.PROVED, before)
+        built.tell(built.How.PROVED, before, built.sum_of_calls())
 
 
 def says_what_is_built(program: Path) -> str:

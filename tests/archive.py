@@ -13,7 +13,8 @@ alone. Where that can't be done it makes all crates anew, which takes as long as
 
 The archive has what both crates export, and the three functions by which the library takes memory,
 from the kit: over malloc, realloc and free. A program that defines these itself is linked with its
-own. Needs ar and nm, and objcopy where both crates define a name that is not for C.
+own. Then scripts/libctf.py adds libctf's calls, and makes libctfd.so beside it. Needs ar, nm and a C
+compiler, and objcopy where both crates define a name that is not for C.
 """
 from __future__ import annotations
 
@@ -27,9 +28,12 @@ import sys
 from pathlib import Path
 
 TOP = Path(__file__).resolve().parents[1]
+sys.path.insert(0, str(TOP / "scripts"))
+import libctf  # noqa: E402
+
 CRATES = [TOP / "crates" / name for name in ("ctf_c", "ctf_line")]
 ARCHIVE = CRATES[0] / "out" / "libctfd.a"
-TOOLS = ("ar", "nm", "objcopy")
+TOOLS = ("ar", "cc", "nm", "objcopy")
 
 
 def skip(why: str) -> None:
@@ -119,6 +123,7 @@ def make(kit: Path) -> None:
     keep_exports_apart(objects)
     objects += extracted(kit / "c" / "liblibc_c.a", CRATES[0] / "out" / "heap", "heap.pic.o")
     subprocess.run(["ar", "rcsD", ARCHIVE, *objects], check=True)
+    libctf.make(ARCHIVE)
 
 
 def main() -> None:

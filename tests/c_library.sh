@@ -6,14 +6,18 @@
 # it is.
 #
 # - The header says what the crates export, and broken headers are found (c_library/header.py).
+#   libctfd.so beside the archive exports what both headers declare, and nothing else.
 # - Both headers are C11 and C++11 without a warning.
+# - An object file that has seen no header of ours, and ctypes, use libctfd.so.
 # - Dumps by the calls of ctfd.h and by those of libctf are those of `ctfd dump`: of programs, of a
 #   child with its parent, and with pointers of 4 bytes.
 # - What is asked of each type, member, enumerator, name and symbol is answered as by the service.
 # - Lines are answered as by the service.
 # - What is refused writes no result and closes nothing; so does each allocation that is refused.
-# - Damaged dictionaries, lines and random calls, under AddressSanitizer and
-#   UndefinedBehaviorSanitizer: N rounds of them (10000).
+# - ELF files are opened, by libelf and zlib where these are here (c_library/elf.sh).
+# - Damaged dictionaries, lines and random calls, and walks of libctf's calls over random
+#   dictionaries, under AddressSanitizer and UndefinedBehaviorSanitizer: N rounds of them (10000;
+#   walks have a tenth).
 # Prints what was wrong, and counts; the status is 1 where something was wrong.
 set -eu
 program=$(realpath "$1")
@@ -31,6 +35,11 @@ work=$(mktemp -d)
 trap 'rm -r "$work"' EXIT
 cd "$work"
 checks=0 wrong=0
+libraries=$(dirname "$archive")
+# The part for ELF files, for programs that link the archive.
+elf=()
+[ ! -f "$libraries/libctfd_elf.a" ] ||
+    elf=(-Wl,-u,ctfd_elf_read "$libraries/libctfd_elf.a" -lelf -lz)
 
 # count WHAT COMMAND..: runs it, and shows what it said where it failed.
 count() {
@@ -48,7 +57,7 @@ compile() {
     local source=$1 out=$2
     shift 2
     cc -std=gnu11 -O2 -Wall -Wextra -Wpedantic -Werror -I"$top/clients/c" "$@" "$source" \
-        "$archive" -o "$out"
+        "$archive" "${elf[@]}" -o "$out"
 }
 
 # same WANTED SEEN: two files are the same, or the first lines in which they differ.
@@ -62,7 +71,7 @@ for header in ctfd ctfd_libctf; do
     printf '#include "%s.h"\nint main(void) { return ctfd_status_name(CTFD_OK)[0] != 79; }\n' \
         $header > $header.c
     cp $header.c $header.cc
-    flags=(-Wall -Wextra -Wpedantic -Werror -I"$top/clients/c" -D_GNU_SOURCE)
+    flags=(-Wall -Wextra -Wpedantic -Werror -I"$top/clients/c")
     count "$header.h in C" cc -std=c11 -Wconversion -Wshadow "${flags[@]}" $header.c -o $header
     count "$header.h names its statuses" ./$header
     command -v clang > /dev/null && count "$header.h by clang" \
@@ -80,6 +89,37 @@ done
 for name in ctfdump first; do
     count "compile $name.c" compile "$top/examples/c/$name.c" $name
 done
+
+# What links libctfd.so.
+shared=(-L"$libraries" -lctfd "-Wl,-rpath,$libraries")
+count "an object without our headers" cc -std=c11 -D_DEFAULT_SOURCE -O2 -Wall -Wextra -Werror \
+    -c "$tests/unchanged.c" -o unchanged.o
+echo '200 bytes, 24 members' > wanted
+count "link it with libctfd.so" cc unchanged.o "${shared[@]}" -o unchanged
+./unchanged "$top/examples/lua.ctf" > seen || true
+count "run it" same wanted seen
+count "link it with the archive" cc unchanged.o "$archive" -o unchanged
+./unchanged "$top/examples/lua.ctf" > seen || true
+count "run it again" same wanted seen
+python3 "$tests/foreign.py" "$libraries/libctfd.so" "$top/examples/lua.ctf" > seen || true
+count "the same by ctypes" same wanted seen
+cc -std=gnu11 -O2 -I"$top/clients/c" "$tests/libctf.c" "${shared[@]}" -o libctf_shared
+mkdir shared
+count "libctf's calls of libctfd.so" ./libctf_shared "$top/examples" shared
+
+if [ ${#elf[@]} = 0 ]; then
+    echo "skipped: no part for ELF files was made here (Debian: libelf-dev zlib1g-dev)"
+else
+    count "compile elf.c" compile "$tests/elf.c" elf
+    count "compile elf.c with libctfd.so" cc -std=gnu11 -I"$top/clients/c" "$tests/elf.c" \
+        "${shared[@]}" -o elf_shared
+    mkdir elf_files
+    elves=("$work/elf" "$work/elf_shared")
+    count "ELF files" sh -c "cd elf_files && '$tests/elf.sh' '$program' ${elves[*]}"
+    cc -std=gnu11 -I"$top/clients/c" "$tests/elf.c" "$archive" -o elf_less
+    ./elf_less "$work/elf" int > seen || true
+    count "without the part for ELF files" grep -q 'link libctfd_elf' seen
+fi
 
 # A child and its parent, as the service writes them.
 "$program" serve > made << 'END'
@@ -164,6 +204,17 @@ if cc "${sanitize[@]}" none.c -o none 2> said && ./none 2>> said; then
     cat said
     count "refusals under sanitizers" ./refusals "$top/examples"
     count "libctf's calls under sanitizers" ./libctf "$top/examples" "$work"
+    # The calls are compiled anew, so that these are looked into too.
+    for source in "$top"/clients/c/libctf/*.c; do
+        case $source in */elf.c | */loading.c) continue ;; esac
+        cc -std=c11 "${sanitize[@]}" -I"$top/clients/c" -c "$source" \
+            -o "looked_$(basename "$source" .c).o"
+    done
+    count "compile walks.c" cc -std=gnu11 -Wall -Wextra -Wpedantic -Werror "${sanitize[@]}" \
+        -I"$top/clients/c" "$tests/walks.c" looked_*.o "$archive" -o walks \
+        -Wl,--wrap=malloc,--wrap=calloc,--wrap=realloc
+    count "walks under sanitizers" ./walks $((rounds / 10))
+    cat said
 else
     echo "skipped: no sanitizers here"
 fi

@@ -61,7 +61,7 @@ def of_code() -> Names:
 def lists() -> dict[str, Names]:
     """The names of each list, by where it stands."""
     header, rust = read("clients/c/ctfd.h"), read("clients/rust/src/faults.rs")
-    libctf, manual = read("clients/c/ctfd_libctf.h"), read("docs/man/ctfd-protocol.5")
+    libctf, manual = read("clients/c/libctf/errors.c"), read("docs/man/ctfd-protocol.5")
     messages = quoted(part(libctf, "const messages[] = {", "};"))
     faults = part(manual, ".Sh FAULTS", ".Sh EXAMPLES")
     return {
@@ -73,7 +73,7 @@ def lists() -> dict[str, Names]:
             part(header, "enum ctfd_status {", "};"), pascal, less=1),
         "ctfd.h, ctfd_status_name": listed(
             quoted(part(header, "const names[] = {", "};"))[1:]),
-        "ctfd_libctf.h, ctf_errmsg": listed([it.split(":")[0] for it in messages[1:]]),
+        "libctf/errors.c, ctf_errmsg": listed([it.split(":")[0] for it in messages[1:]]),
         "faults.rs, enum Fault": numbered(r"^ +(?P<name>\w+) = (?P<number>\d+),$", rust),
         "faults.rs, FAULTS": listed(re.findall(r"^    Fault::(\w+),$", rust, re.MULTILINE)),
         "FAULTS.md": numbered(r"^\| (?P<number>\d+) \| (?P<name>\w+) \|", read("docs/FAULTS.md")),
@@ -85,11 +85,11 @@ def words() -> dict[str, dict[str, str]]:
     """What each list that has words says is wrong, by the fault's name."""
     rust = re.findall(r"/// ([^\n]*)\n +(\w+) = \d+,", read("clients/rust/src/faults.rs"))
     header = re.findall(r"CTFD_([A-Z_]+) = [1-9]\d*,? /\* (.*?) \*/", read("clients/c/ctfd.h"))
-    messages = quoted(part(read("clients/c/ctfd_libctf.h"), "const messages[] = {", "};"))
+    messages = quoted(part(read("clients/c/libctf/errors.c"), "const messages[] = {", "};"))
     return {
         "ctfd.h": {pascal(name): said for name, said in header},
         "faults.rs": {name: said for said, name in rust},
-        "ctfd_libctf.h": dict(it.split(": ", 1) for it in messages[1:]),
+        "libctf/errors.c": dict(it.split(": ", 1) for it in messages[1:]),
     }
 
 

@@ -105,6 +105,8 @@ used() {
 count "install with DESTDIR" made install DESTDIR="$work/root" PREFIX=/opt/ctfd
 (
     export PKG_CONFIG_PATH=$work/root/opt/ctfd/lib/pkgconfig PKG_CONFIG_SYSROOT_DIR=$work/root
+    # Where it is installed is not yet where it will stand.
+    export LD_LIBRARY_PATH=$work/root/opt/ctfd/lib
     used "$work/root/opt/ctfd"
     echo "$checks $wrong" > "$work/counts"
 )

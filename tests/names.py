@@ -21,15 +21,12 @@ QUOTED = re.compile(r"`([^`\n]+)`")
 # A word of several parts, or a path through types and modules, as code has them.
 CODE = re.compile(r"(?=.*(_|::|[a-z][A-Z]))[A-Za-z_][A-Za-z0-9_:{}, ]*(\(\))?")
 FILE = re.compile(r"[\w./-]+\.(rt|antt|edit|py|sh|rs|c|h)")
-# libctf's calls, fields and header that we do not have; a part of an address; a unit's option of
+# Fields and a header of libctf that we do not have; a part of an address; a unit's option of
 # systemd; files that stand for the reader's own; what each statistic of the front begins with.
 FOREIGN = {
     "ctfd_front_",
     "own.c", "specs/TOPIC.antt", "sys/ctf.h",
-    "ADDR", "MemoryMax", "ctb_type", "ctf_add_funcinfo", "ctf_add_label", "ctf_add_object",
-    "ctf_delete_type", "ctf_elffdwrite", "ctf_elfwrite", "ctf_fdconvert", "ctf_fdcreate",
-    "ctf_set_array", "ctf_set_root", "ctf_set_size", "ctf_string_iter", "ctf_type_cname",
-    "ctf_type_qlname",
+    "ADDR", "MemoryMax", "ctb_type",
 }
 
 

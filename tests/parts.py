@@ -1,6 +1,7 @@
 """The parts of the tests: commands that end with status 0 where all is well."""
 from __future__ import annotations
 
+import os
 import subprocess
 import sys
 from dataclasses import dataclass, field
@@ -35,6 +36,12 @@ def with_packages() -> str:
     return sys.executable
 
 
+def library() -> Path:
+    """The shared library, which stands beside the archive."""
+    named = os.environ.get("CTFD_ARCHIVE", TOP / "crates" / "ctf_c" / "out" / "libctfd.a")
+    return Path(named).resolve().with_name("libctfd.so")
+
+
 def archive(is_made: bool) -> Part:
     """The library for C: made of what the kit has proved, or the one that is there."""
     return Part("archive", ["tests/archive.py", *([] if is_made else ["--kept"])])
@@ -56,6 +63,10 @@ def parts(program: str) -> list[Part]:
         Part("lending", ["tests/lending.sh"], after=of_library),
         Part("client", [python, "-m", "unittest", "discover", "-v", "-s", "tests", "-t", "."],
              CLIENT, over),
+        # The same tests over the library in process, where the parts above ask a `ctfd serve`.
+        Part("client_in_process",
+             [python, "-m", "unittest", "discover", "-v", "-s", "tests", "-t", "."], CLIENT,
+             {**over, "CTFD_LIBRARY": str(library())}, of_library),
         Part("front", ["tests/front.sh", program]),
         Part("gdb", ["tests/gdb.sh", program]),
         Part("debuginfo", ["tests/debuginfo.sh", program]),

@@ -18,6 +18,12 @@ trap 'rm -r "$work"' EXIT
 cd "$top/clients/rust"
 export CTFD_ARCHIVE=$archive CARGO_TARGET_DIR=$work RUSTFLAGS="-D warnings"
 cargo test --offline --quiet
+# The same over libctfd.so, which the loader finds by its so-name.
+shared=$(dirname "$archive")
+CTFD_LIBRARY=$shared/libctfd.so LD_LIBRARY_PATH=$shared cargo test --offline --quiet \
+    --features shared --tests
+# As docs.rs makes pages: where there is no library to link.
+env -u CTFD_ARCHIVE DOCS_RS=1 RUSTDOCFLAGS="-D warnings" cargo doc --offline --quiet --no-deps
 # The example is what the documentation shows.
 cargo run --offline --quiet --example members -- ../../examples/lua.ctf "struct luaL_Reg" \
     > "$work/seen"

@@ -7,7 +7,13 @@
  */
 #include <ctfd_libctf.h>
 
+#include <errno.h>
+#include <fcntl.h>
 #include <stdio.h>
+#include <stdlib.h>
+#include <string.h>
+#include <sys/stat.h>
+#include <unistd.h>
 
 static ctf_file_t *types;
 

@@ -6,9 +6,11 @@ usage: tests/c_library/header.py [--crates FOLDER] [ARCHIVE]
 Nothing proves that a header says what a crate exports. So each declaration is compared with the
 export of its name: its parameters, in order, by their names and widths; its result; the fields of
 each struct behind a pointer; the names and numbers of statuses, against those of faults; the
-numbers of kinds. With an archive, the names that it defines are compared too.
+numbers of kinds. With an archive, the names that it defines are compared too: those of the
+crates, and those of clients/c/ctfd_libctf.h. Of libctfd.so beside it nothing else is seen.
 
-clients/rust/src/raw.rs, which declares the same for Rust, is compared in the same way.
+clients/rust/src/raw.rs, which declares the same for Rust, is compared in the same way. Each call of
+illumos' libctf and of GNU's (illumos_calls.txt, gnu_calls.txt) has a row in docs/C.md.
 
 Then the header is broken on purpose, in a dozen ways, and each has to be found. Prints what
 differs, and counts; the status is 1 where something does.
@@ -189,12 +191,42 @@ def differences(wanted: Api, seen: Api) -> list[str]:
     return found
 
 
-def defined(archive: str) -> set[str]:
-    """The names that an archive defines for C, but for those by which it takes memory."""
-    said = subprocess.run(["nm", "-g", "--defined-only", archive], check=True, text=True,
+def named(*words: str) -> set[str]:
+    """The names that nm prints."""
+    said = subprocess.run(["nm", "-g", "--defined-only", *words], check=True, text=True,
                           capture_output=True).stdout
-    return {line.split()[2] for line in said.splitlines()
-            if len(line.split()) == 3 and not line.split()[2].startswith("rattle_")}
+    return {line.split()[2] for line in said.splitlines() if len(line.split()) == 3}
+
+
+def of_libctf() -> set[str]:
+    """The calls that ctfd_libctf.h declares."""
+    text = (TOP / "clients" / "c" / "ctfd_libctf.h").read_text(encoding="utf-8")
+    return set(re.findall(r"^(?!typedef)(?:\w+ )+\*?(ctf_\w+)\(", text, re.MULTILINE))
+
+
+def without_a_row(page: str) -> list[str]:
+    """The calls of both libctfs that docs/C.md does not tell of, in the part for each."""
+    illumos, gnu = page.split("### Each call of GNU's libctf")
+    lists = Path(__file__).parent
+    return [f"docs/C.md has no row for {name}, which {of} has"
+            for of, part in (("illumos", illumos), ("gnu", gnu))
+            for name in (lists / f"{of}_calls.txt").read_text(encoding="utf-8").split()
+            if f"`{name}`" not in part]
+
+
+def not_as_declared(archive: Path, calls: set[str]) -> list[str]:
+    """What an archive and the shared library beside it define otherwise than the headers say, but
+    for the names by which the archive takes memory, and what its own objects share."""
+    wanted, found = calls | of_libctf(), []
+    inside = {name for name in named(str(archive)) if not re.match("rattle_|ctfd__", name)}
+    if inside != wanted:
+        found.append(f"declared, or defined by the archive: {sorted(inside ^ wanted)}")
+    shared = archive.with_name("libctfd.so")
+    if not shared.exists():
+        return [*found, f"there is no {shared}: scripts/libctf.py makes it"]
+    if (seen := named("-D", str(shared))) != wanted:
+        found.append(f"declared, or seen of libctfd.so: {sorted(seen ^ wanted)}")
+    return found
 
 
 BROKEN = [
@@ -245,8 +277,9 @@ def main() -> int:
     wrong = differences(wanted, of_header(header))
     rust = (TOP / "clients" / "rust" / "src" / "raw.rs").read_text(encoding="utf-8")
     wrong += differences(for_rust(wanted), for_rust(of_rust(rust)))
-    if asked.archive and (other := defined(asked.archive) ^ set(wanted.calls)):
-        wrong.append(f"defined by the archive or exported by the crates: {sorted(other)}")
+    if asked.archive:
+        wrong += not_as_declared(Path(asked.archive), set(wanted.calls))
+    wrong += without_a_row((TOP / "docs" / "C.md").read_text(encoding="utf-8"))
     wrong += not_found(wanted, header)
     print(*wrong, sep="\n", end="\n" if wrong else "")
     print(f"header: {len(wanted.calls)} calls, {len(wanted.structs)} structs and "

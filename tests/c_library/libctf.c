@@ -6,6 +6,12 @@
 
 #include "common.h"
 
+#include <errno.h>
+#include <fcntl.h>
+#include <limits.h>
+#include <sys/stat.h>
+#include <unistd.h>
+
 static ctf_file_t *lua;
 
 /* What callbacks were given. */
@@ -236,13 +242,120 @@ static void models(const char *file)
     ctf_close(NULL);
 }
 
+/* Names as programs write them, and what they become. */
+static void names(void)
+{
+    ctf_id_t state = ctf_lookup_by_name(lua, "struct lua_State");
+    ctf_id_t pointer = ctf_lookup_by_name(lua, "struct lua_State *"), t;
+    char text[256], again[256];
+    CHECK(ctf_lookup_by_name(lua, "const struct  lua_State") == state);
+    CHECK(ctf_lookup_by_name(lua, "  struct\tlua_State  ") == state);
+    CHECK(ctf_lookup_by_name(lua, "volatile struct lua_State*const restrict") == pointer);
+    CHECK(ctf_lookup_by_name(lua, "struct lua_State const *") == pointer);
+    CHECK(ctf_lookup_by_name(lua, "static const char *") == ctf_lookup_by_name(lua, "char *"));
+    CHECK(ctf_lookup_by_name(lua, "unsigned  int") == ctf_lookup_by_name(lua, "unsigned int"));
+    CHECK(ctf_lookup_by_name(lua, "const") == CTF_ERR && ctf_errno(lua) == ECTF_SYNTAX);
+    CHECK(ctf_lookup_by_name(lua, "") == CTF_ERR && ctf_errno(lua) == ECTF_SYNTAX);
+    CHECK(ctf_lookup_by_name(lua, "constable") == CTF_ERR && ctf_errno(lua) == ECTF_NOTYPE);
+    CHECK(is(ctf_type_cname(lua, pointer, text, sizeof text, "L"), "struct lua_State *L"));
+    CHECK(is(ctf_type_cname(lua, state, text, sizeof text, "s"), "struct lua_State s"));
+    CHECK(ctf_type_cname(lua, state, text, 18, "s") == NULL && ctf_errno(lua) == ECTF_NAMELEN);
+    CHECK(ctf_type_qlname(lua, pointer, text, 8, "m") == 20 && is(text, "struct "));
+    CHECK(ctf_type_qlname(lua, pointer, text, 0, NULL) == 18);
+    CHECK(is(ctf_kind_name(lua, CTF_K_RESTRICT), "restrict") && ctf_kind_name(lua, 14) == NULL);
+    for (t = 1; t <= 526; t++) {
+        const char *name = ctf_type_name(lua, t, text, sizeof text);
+        CHECK(name != NULL && is(ctf_type_cname(lua, t, again, sizeof again, ""), name));
+    }
+}
+
+/* The declarations of a chain of declarators, by the types of a draft. */
+static void declarations(void)
+{
+    static const ctf_encoding_t signed_int = { CTF_INT_SIGNED, 0, 32 };
+    int error = 0;
+    ctf_file_t *fp = ctf_create(&error);
+    ctf_arinfo_t info = { 1, 1, 10 };
+    ctf_funcinfo_t signature = { 0, 0, 0 };
+    ctf_id_t array, to_array, function, handler, unalterable, nothing;
+    char text[64];
+    CHECK(fp != NULL);
+    if (fp == NULL)
+        return;
+    CHECK(ctf_add_integer(fp, CTF_ADD_ROOT, "int", &signed_int) == 1);
+    array = ctf_add_array(fp, CTF_ADD_ROOT, &info);
+    to_array = ctf_add_pointer(fp, CTF_ADD_ROOT, NULL, array);
+    signature.ctc_return = to_array;
+    function = ctf_add_function(fp, CTF_ADD_ROOT, NULL, &signature, NULL);
+    handler = ctf_add_pointer(fp, CTF_ADD_ROOT, NULL, function);
+    unalterable = ctf_add_const(fp, CTF_ADD_ROOT, NULL, handler);
+    nothing = ctf_add_pointer(fp, CTF_ADD_ROOT, NULL, 0);
+    CHECK(ctf_update(fp) == 0);
+    CHECK(is(ctf_type_cname(fp, array, text, sizeof text, "a"), "int a[10]"));
+    CHECK(is(ctf_type_cname(fp, to_array, text, sizeof text, "p"), "int (*p)[10]"));
+    CHECK(is(ctf_type_cname(fp, function, text, sizeof text, "f"), "int (*f())[10]"));
+    CHECK(is(ctf_type_cname(fp, handler, text, sizeof text, "h"), "int (*(*h)())[10]"));
+    CHECK(is(ctf_type_cname(fp, unalterable, text, sizeof text, "h"), "int (*(*const h)())[10]"));
+    CHECK(is(ctf_type_qname(fp, unalterable, text, sizeof text, "m"), "m`int (*(*const)())[10]"));
+    CHECK(is(ctf_type_cname(fp, nothing, text, sizeof text, "v"), "void *v"));
+    ctf_close(fp);
+}
+
+static int on_string(const char *text, void *arg)
+{
+    CHECK(arg == &seen && (*text == '\0') == (seen.calls == 0));
+    return told("", 0);
+}
+
+/* Labels of a draft, its bytes and its strings. */
+static void bytes(void)
+{
+    static const ctf_encoding_t signed_int = { CTF_INT_SIGNED, 0, 32 };
+    const void *data = NULL;
+    size_t size = 0;
+    int error = 0;
+    ctf_lblinfo_t label = { 0 };
+    ctf_file_t *fp = ctf_create(&error);
+    CHECK(fp != NULL);
+    if (fp == NULL)
+        return;
+    CHECK(ctf_add_integer(fp, CTF_ADD_ROOT, "int", &signed_int) == 1);
+    CHECK(ctf_add_label(fp, "one", 1, 0) == 0);
+    CHECK(ctf_add_label(fp, "two", 1, 0) == -1 && ctf_errno(fp) == CTF_SYSTEM_ERROR + ENOTSUP);
+    CHECK(ctf_add_label(fp, "two", 1, (uint_t)CTF_LABEL_LASTIDX) == 0);
+    CHECK(ctf_add_label(fp, NULL, 1, 2) == -1 && ctf_update(fp) == 0);
+    CHECK(is(ctf_label_topmost(fp), "two"));
+    CHECK(ctf_label_info(fp, "one", &label) == 0 && label.ctb_typeidx == 1);
+    ctf_dataptr(fp, &data, &size);
+    CHECK(size > 36 && memcmp(data, "\xf1\xcf\x02", 3) == 0);
+    begin(0);
+    CHECK(ctf_string_iter(fp, on_string, &seen) == 0);
+    CHECK(seen.calls == 4);
+    begin(2);
+    CHECK(ctf_string_iter(lua, on_string, &seen) == 7 && seen.calls == 2);
+    ctf_dataptr(lua, &data, &size);
+    CHECK(size > 20000 && memcmp(data, "\xf1\xcf\x02", 3) == 0);
+    ctf_dataptr(lua, NULL, NULL);
+    ctf_close(fp);
+}
+
 static void refused_files(const char *folder)
 {
     int error = 0;
+    char fifo[4096];
+    snprintf(fifo, sizeof fifo, "%s/fifo", folder);
+    CHECK(mkfifo(fifo, 0600) == 0);
+    alarm(60);
+    CHECK(ctf_open(fifo, &error) == NULL && error == CTF_SYSTEM_ERROR + EINVAL);
+    CHECK(ctf_open("/dev/zero", &error) == NULL && error == CTF_SYSTEM_ERROR + EINVAL);
+    alarm(0);
+    CHECK(unlink(fifo) == 0);
     CHECK(ctf_open("/no/such/file", &error) == NULL && error == CTF_SYSTEM_ERROR + ENOENT);
     CHECK(is(ctf_errmsg(error), strerror(ENOENT)));
     CHECK(ctf_open(folder, &error) == NULL && error == CTF_SYSTEM_ERROR + EINVAL);
-    CHECK(ctf_open("/proc/self/exe", &error) == NULL && error == ECTF_FMT);
+    CHECK(ctf_open("/proc/self/exe", &error) == NULL);
+    CHECK(error == ECTF_NOCTFDATA || error == ECTF_ZMISSING);
+    CHECK(strstr(ctf_errmsg(ECTF_ZMISSING), "libctfd_elf") != NULL);
     CHECK(ctf_bufopen(NULL, NULL, NULL, &error) == NULL && error == CTF_SYSTEM_ERROR + EINVAL);
     CHECK(ctf_version(0) == 2 && ctf_version(3) == -1);
 }
@@ -342,9 +455,12 @@ int main(int argc, char **argv)
     all();
     symbols();
     functions();
+    names();
+    bytes();
     ctf_close(lua);
     snprintf(file, sizeof file, "%s/lua.ctf", argv[1]);
     models(file);
+    declarations();
     refused_files(argv[2]);
     drafts(argv[2]);
     free_bytes(&ctf);

@@ -24,11 +24,11 @@ PATIENCE = 10
 _SAYS = re.compile(r"ctfd (\d+)\.(\d+)\.(\d+)\s*\Z")
 
 
-def find(named: Optional[str] = None) -> str:
+def find(name: Optional[str] = None) -> str:
     """The program to start, once it has told a version that this client speaks. Raises Error."""
-    program = named or os.environ.get("CTFD")
+    program = name or named()
     if program:
-        why = "named by --service" if named else "named by CTFD in the environment"
+        why = "named by --service" if name else "named by CTFD in the environment"
         found = shutil.which(os.path.expanduser(program))
         if found is None:
             raise Gone(f"{program}, {why}, is no program: name the built ctfd")
@@ -38,6 +38,11 @@ def find(named: Optional[str] = None) -> str:
         raise Gone("the service ctfd is not found: name it by --service or by CTFD in the"
                    " environment, put it on the PATH, or build it (`make`)")
     return _judged(found)
+
+
+def named() -> Optional[str]:
+    """The program that CTFD in the environment names."""
+    return os.environ.get("CTFD") or None
 
 
 def socket() -> Optional[str]:

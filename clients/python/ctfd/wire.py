@@ -14,9 +14,10 @@ from types import TracebackType
 from typing import (Any, Deque, Dict, Iterable, List, NoReturn, Optional, Sequence, Tuple, Type,
                     Union)
 
-from . import service, text
-from .channel import Channel, Pipes, Socket
+from . import library, service, text
+from .channel import Channel, Inside, Pipes, Socket
 from .faults import Error, Gone, Refused, refused
+from .library import Library
 from .model import Model
 from .text import Name
 
@@ -40,7 +41,8 @@ class Owed:
 
 
 class Client:
-    """One service. It is started here, and the program looked for where none is named.
+    """One service. Where none is named it is libctfd.so in this process, if that is found (library.py
+    tells where); else the program is looked for, and started.
 
     With `socket` it is one that others use too: the path of a socket where ctfd-front listens, in
     which each session is a connection. Where neither is named, CTFD_SOCKET in the environment may
@@ -59,8 +61,13 @@ class Client:
         if program is None and socket is None and arguments == SERVE:
             socket = service.socket()
         self._socket, self._room = socket, service.room() if room is None else room
+        self._library: Optional[Library] = None
+        if program is None and socket is None and arguments == SERVE:
+            self._library = in_process()
         self._channel: Channel
-        if socket is None:
+        if self._library is not None:
+            self._channel = Inside(self._library)
+        elif socket is None:
             self._channel = Pipes([program or service.find(), *arguments])
         else:
             self._channel = Socket(socket, patience, self._room)
@@ -112,6 +119,10 @@ class Client:
         if self._gone:
             raise Gone(self._gone)
         lines = [_line(session, op, fields) for op, fields in requests]
+        if self._library is not None:
+            self.requests += len(lines)
+            self.rounds += 1
+            return [_DECODED(one.decode("utf-8")) for one in self._library.answers(lines)]
         mine = [Owed() for _ in lines]
         written = b"".join(lines)
         self._torn = True
@@ -261,12 +272,18 @@ class Session:
         return self.ask("create", **named, **_given(parent=parent, model=model))
 
 
+def in_process() -> Optional[Library]:
+    """The library in place of a program: where CTFD_LIBRARY names it, or where CTFD names no program
+    and it is found."""
+    if library.named() is None and service.named() is not None:
+        return None
+    return library.find()
+
+
 def connected(program: Optional[str]) -> Client:
     """The client of a command: of the program that is named, else of the socket that CTFD_SOCKET
-    names, else of the program that is found. Raises Error."""
-    if program is None and service.socket() is not None:
-        return Client()
-    return Client(service.find(program))
+    names, else of the library or the program that is found. Raises Error."""
+    return Client() if program is None else Client(service.find(program))
 
 
 def _line(session: int, op: str, fields: Answer) -> bytes:

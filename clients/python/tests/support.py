@@ -17,6 +17,7 @@ from ctfd.model import Model
 EXAMPLES = Path(__file__).resolve().parents[3] / "examples"
 COMMAND = Path(__file__).resolve().parents[1] / "ctfd-types"
 PROGRAM = os.environ.get("CTFD", "")
+LIBRARY = os.environ.get("CTFD_LIBRARY", "")  # asked in place of the program, where it is named
 TOOLS = all(shutil.which(tool) for tool in ("gcc", "objcopy"))
 
 INTEGER, POINTER, ARRAY, FUNCTION, STRUCT, UNION, ENUM, CONST = 1, 3, 4, 5, 6, 7, 8, 12
@@ -39,7 +40,7 @@ class WithService(unittest.TestCase):
     def setUp(self) -> None:
         if not PROGRAM:
             self.skipTest("CTFD names no built service")
-        self.client = ctfd.Client(PROGRAM)
+        self.client = ctfd.Client(None if LIBRARY else PROGRAM)
         self.addCleanup(self.client.close)
         self.session = self.client.session()
 
@@ -107,4 +108,6 @@ def object_file(folder: str, ctf: bytes, section: str = ".SUNW_ctf", code: str =
 def run(*words: str, program: Optional[str] = None) -> "subprocess.CompletedProcess[str]":
     """The command, run as a user would."""
     environment = {**os.environ, "CTFD": PROGRAM if program is None else program}
+    if program is not None:
+        environment.pop("CTFD_LIBRARY", None)
     return subprocess.run([str(COMMAND), *words], capture_output=True, text=True, env=environment)

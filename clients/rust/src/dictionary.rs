@@ -1,5 +1,6 @@
 //! Dictionaries that are open.
 
+use crate::apart::apart;
 use crate::faults::{told, told_at, Refusal};
 use crate::names::{text, Name};
 use crate::raw;
@@ -44,12 +45,12 @@ impl Dictionary {
 
     /// Opens the CTF section of a program with what stands beside it.
     pub fn open_with(ctf: &[u8], options: Options<'_>) -> Result<Dictionary, Refusal> {
-        let symbols = options.symbols.unwrap_or_default();
-        let strings = options.strings.unwrap_or_default();
+        let symbols = apart(options.symbols.unwrap_or_default(), &[ctf]);
+        let strings = apart(options.strings.unwrap_or_default(), &[ctf, &symbols]);
         let made = Dictionary::none();
         let mut place = 0;
         // SAFETY: the handle is this function's own and begins empty. The slices live for the call,
-        // which copies them; a slice's pointer is never null.
+        // which copies them, and share no byte; a slice's pointer is never null.
         let status = unsafe {
             raw::ctfd_open(
                 made.handle(),

@@ -1,5 +1,6 @@
 //! Dictionaries in the making.
 
+use crate::apart::apart;
 use crate::dictionary::{Dictionary, Model};
 use crate::faults::{told, told_at, Refusal};
 use crate::raw;
@@ -119,6 +120,7 @@ impl Draft {
     /// have for that and for its label.
     pub fn child(parent: &Dictionary, name: &str, label: &str) -> Result<Draft, Refusal> {
         let (made, mut place) = (Dictionary::none(), 0);
+        let label = apart(label.as_bytes(), &[name.as_bytes()]);
         let status = unsafe {
             raw::ctfd_create_child(
                 made.handle(),

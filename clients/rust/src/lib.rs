@@ -46,6 +46,7 @@
 //! std::thread::spawn(move || types.count());
 //! ```
 
+mod apart;
 mod declaration;
 mod dictionary;
 mod draft;

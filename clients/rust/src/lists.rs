@@ -7,7 +7,8 @@ use crate::raw;
 use crate::types::{Kind, Type};
 use std::fmt;
 
-/// A member of a struct or union. Shown, it is its declaration: `struct point *next`.
+/// A member of a struct or union. Shown, it is its declaration: `struct point *next`, or
+/// `unsigned int flags:3` of a bit-field.
 #[derive(Clone, Copy, Debug, PartialEq, Eq)]
 pub struct Member<'d, N = Name> {
     /// Its name, empty for a member without one.
@@ -20,7 +21,11 @@ pub struct Member<'d, N = Name> {
 
 impl<N: AsRef<[u8]>> fmt::Display for Member<'_, N> {
     fn fmt(&self, to: &mut fmt::Formatter<'_>) -> fmt::Result {
-        Declaration::new(self.kind, self.name.as_ref()).fmt(to)
+        Declaration::new(self.kind, self.name.as_ref()).fmt(to)?;
+        match self.kind.and_then(Type::bit_field) {
+            Some(lies) => write!(to, ":{}", lies.bits),
+            None => Ok(()),
+        }
     }
 }
 

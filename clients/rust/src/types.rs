@@ -176,6 +176,27 @@ impl<'d> Type<'d> {
         Declaration::new(Some(self), name.as_ref())
     }
 
+    /// Where a value of it lies and how wide it is, where it is the type of a bit-field: an integer
+    /// narrower than its storage, or a hidden copy of one that is not.
+    pub fn bit_field(self) -> Option<Encoding> {
+        let integer = self.resolve().ok().flatten()?;
+        let (lies, size) = (integer.encoding().ok()?, integer.size().ok()?);
+        let is_whole = lies.offset == 0 && u64::from(lies.bits) == 8 * size;
+        let is_integer = integer.kind() == Kind::Integer && lies.bits != 0;
+        (is_integer && (!is_whole || integer.is_copy(lies))).then_some(lies)
+    }
+
+    /// Whether it is a hidden integer, and one that look-ups see is the same but for that.
+    fn is_copy(self, lies: Encoding) -> bool {
+        let seen = self.declared_name().ok().and_then(|name| self.of.find(&name).ok());
+        matches!(self.is_root(), Ok(false))
+            && seen.is_some_and(|other| {
+                other.kind() == Kind::Integer
+                    && other.encoding() == Ok(lies)
+                    && other.size() == self.size()
+            })
+    }
+
     /// Whether it is visible to look-ups by name.
     pub fn is_root(self) -> Result<bool, Refusal> {
         let mut root = 0;

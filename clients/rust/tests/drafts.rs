@@ -140,3 +140,35 @@ fn a_refused_import_changes_nothing() {
     let mut alone = nodes().into_dictionary().unwrap();
     assert_eq!(alone.import(&base).unwrap_err().fault, Fault::NotChild);
 }
+
+#[test]
+fn a_bit_field_keeps_its_width() {
+    let mut draft = nodes();
+    let narrow = Encoding { bits: 3, ..INT };
+    let three = draft.integer(Named::hidden(b"int"), narrow, 4).unwrap();
+    let copy = draft.integer(Named::hidden(b"int"), INT, 4).unwrap();
+    let other = draft.integer(Named::hidden(b"other"), INT, 4).unwrap();
+    let alias = draft.typedef("alias", three).unwrap();
+    let flags = draft.structure("flags", 0).unwrap();
+    for (name, of) in [("a", three), ("b", alias), ("c", copy), ("d", other), ("e", 1)] {
+        draft.member(flags, name, of, None).unwrap();
+    }
+    draft.update().unwrap();
+    let flags = draft.find("struct flags").unwrap();
+    let shown: Vec<String> = flags.members().unwrap().map(|one| one.to_string()).collect();
+    let wanted = ["int a:3", "alias b:3", "int c:32", "other d", "int e"];
+    assert_eq!(shown, wanted);
+}
+
+#[test]
+fn one_list_may_be_given_as_several() {
+    let parent = nodes();
+    assert!(Draft::child(&parent, "same", "same").is_ok());
+    let bytes = parent.bytes();
+    let options = ctfd::Options {
+        symbols: Some(&bytes[..48]),
+        strings: Some(&bytes[24..]),
+        model: Model::Lp64,
+    };
+    assert!(Dictionary::open_with(&bytes, options).is_ok());
+}

@@ -1,0 +1,333 @@
+/* elf.c - the part for ELF files, over elfutils' libelf and zlib: finds the dictionary in a file,
+ * inflates it, and finds the symbol table that its entries go by.
+ *
+ * That table is the one that the dictionary names by a label of ctfd-convert, if it is still the
+ * one that was there then; else the one that the section names; else .symtab. What strip leaves in
+ * .dynsym is never taken for it.
+ */
+#include "private.h"
+
+#include <fcntl.h>
+#include <gelf.h>
+#include <libelf.h>
+#include <stdlib.h>
+#include <string.h>
+#include <zlib.h>
+
+#define HEADER 36
+#define COMPRESSED 1
+#define LONGEST 67108864
+#define LABEL "ctfd.symbols="
+
+struct file {
+    Elf *elf;
+    size_t names; /* the number of the section that has the names of sections */
+};
+
+/* ---- inflating */
+
+static uint64_t number_at(const unsigned char *bytes)
+{
+    return bytes[0] | (uint64_t)bytes[1] << 8 | (uint64_t)bytes[2] << 16 | (uint64_t)bytes[3] << 24;
+}
+
+static int zlib_error(int said)
+{
+    return said == Z_MEM_ERROR ? (int)CTFD_MEMORY : ECTF_DECOMPRESS;
+}
+
+/* The header says how long the body is: it has to be just that. */
+int ctfd_elf_inflate(const void *bytes, size_t len, struct ctfd_elf_list *made)
+{
+    const unsigned char *from = (const unsigned char *)bytes;
+    uint64_t wanted;
+    unsigned char *to;
+    uLongf body;
+    uLong given;
+    int said;
+    if (len < HEADER)
+        return CTFD_SHORT_HEADER;
+    wanted = number_at(from + 28) + number_at(from + 32);
+    if (HEADER + wanted > LONGEST || len > LONGEST)
+        return CTFD_DICT_TOO_BIG;
+    to = (unsigned char *)malloc(HEADER + (size_t)wanted + 1);
+    if (to == NULL)
+        return CTFD_MEMORY;
+    memcpy(to, from, HEADER);
+    to[3] &= (unsigned char)~COMPRESSED;
+    body = (uLongf)wanted + 1;
+    given = (uLong)(len - HEADER);
+    said = uncompress2(to + HEADER, &body, from + HEADER, &given);
+    if (said != Z_OK || body != wanted) {
+        free(to);
+        return said != Z_OK ? zlib_error(said) : ECTF_DECOMPRESS;
+    }
+    made->at = to;
+    made->len = HEADER + (size_t)wanted;
+    return 0;
+}
+
+/* ---- sections */
+
+static const char *name_of(const struct file *file, Elf_Scn *section, GElf_Shdr *header)
+{
+    if (gelf_getshdr(section, header) == NULL)
+        return NULL;
+    return elf_strptr(file->elf, file->names, header->sh_name);
+}
+
+/* The first section of a name that has bytes in the file. */
+static Elf_Scn *named(const struct file *file, const char *name)
+{
+    Elf_Scn *section = NULL;
+    while ((section = elf_nextscn(file->elf, section)) != NULL) {
+        GElf_Shdr header;
+        const char *found = name_of(file, section, &header);
+        if (found != NULL && strcmp(found, name) == 0 && header.sh_type != SHT_NOBITS)
+            return section;
+    }
+    return NULL;
+}
+
+/* The bytes of a section, as long as a list may be; ELF's own compression is undone. */
+static Elf_Data *data_of(Elf_Scn *section, int *error)
+{
+    GElf_Shdr header;
+    Elf_Data *data;
+    *error = ECTF_ELFVERS;
+    if (gelf_getshdr(section, &header) == NULL)
+        return NULL;
+    if ((header.sh_flags & SHF_COMPRESSED) != 0) {
+        GElf_Chdr compressed;
+        if (gelf_getchdr(section, &compressed) == NULL)
+            return NULL;
+        if (compressed.ch_size > LONGEST) {
+            *error = CTFD_DICT_TOO_BIG;
+            return NULL;
+        }
+        if (elf_compress(section, 0, 0) < 0)
+            return NULL;
+    } else if (header.sh_size > LONGEST) {
+        *error = CTFD_DICT_TOO_BIG;
+        return NULL;
+    }
+    data = elf_getdata(section, NULL);
+    return data;
+}
+
+static int copied(const void *bytes, size_t len, struct ctfd_elf_list *made)
+{
+    made->at = malloc(len + 1);
+    if (made->at == NULL)
+        return CTFD_MEMORY;
+    if (len != 0)
+        memcpy(made->at, bytes, len);
+    made->len = len;
+    return 0;
+}
+
+/* The dictionary of a section, inflated where its header says that it is not. */
+static int take_dictionary(Elf_Scn *section, struct ctfd_elf_list *made)
+{
+    int error;
+    Elf_Data *data = data_of(section, &error);
+    const unsigned char *bytes;
+    if (data == NULL)
+        return error;
+    bytes = (const unsigned char *)data->d_buf;
+    if (data->d_size >= HEADER && bytes[2] == CTF_VERSION && (bytes[3] & COMPRESSED) != 0)
+        return ctfd_elf_inflate(bytes, data->d_size, made);
+    return copied(bytes, data->d_size, made);
+}
+
+/* ---- symbols */
+
+/* Writes the symbols of a table as ELF64 of this machine has them. */
+static int take_symbols(Elf_Data *data, size_t count, struct ctfd_elf_list *made)
+{
+    Elf64_Sym *to = (Elf64_Sym *)malloc((count + 1) * sizeof *to);
+    size_t i;
+    if (to == NULL)
+        return CTFD_MEMORY;
+    for (i = 0; i < count; i++) {
+        GElf_Sym symbol;
+        if (gelf_getsym(data, (int)i, &symbol) == NULL) {
+            free(to);
+            return CTFD_BAD_SYMTAB;
+        }
+        to[i] = symbol;
+    }
+    made->at = to;
+    made->len = count * sizeof *to;
+    return 0;
+}
+
+/* Takes a symbol table and the strings that it names. */
+static int take_table(const struct file *file, Elf_Scn *section, struct ctfd_elf_lists *lists)
+{
+    GElf_Shdr header;
+    Elf_Data *table, *strings;
+    Elf_Scn *named_strings;
+    int error;
+    if (gelf_getshdr(section, &header) == NULL || header.sh_entsize == 0 ||
+        (named_strings = elf_getscn(file->elf, header.sh_link)) == NULL)
+        return CTFD_BAD_SYMTAB;
+    table = data_of(section, &error);
+    if (table == NULL)
+        return error;
+    strings = data_of(named_strings, &error);
+    if (strings == NULL)
+        return error;
+    error = copied(strings->d_buf, strings->d_size, &lists->strings);
+    if (error == 0)
+        error = take_symbols(table, table->d_size / (size_t)header.sh_entsize, &lists->symbols);
+    return error;
+}
+
+static void drop_table(struct ctfd_elf_lists *lists)
+{
+    free(lists->symbols.at);
+    free(lists->strings.at);
+    memset(&lists->symbols, 0, sizeof lists->symbols);
+    memset(&lists->strings, 0, sizeof lists->strings);
+}
+
+/* What a label of ctfd-convert says of the symbols that the dictionary's entries go by. */
+struct told {
+    char table[16];
+    unsigned long checksum;
+};
+
+/* The name of a symbol that a dictionary can tell of, else NULL. */
+static const char *considered(const Elf64_Sym *symbol, const struct ctfd_elf_list *strings)
+{
+    int kind = ELF64_ST_TYPE(symbol->st_info);
+    const char *name;
+    if ((kind != STT_OBJECT && kind != STT_FUNC) || symbol->st_shndx == SHN_UNDEF ||
+        symbol->st_name == 0 || symbol->st_name >= strings->len)
+        return NULL;
+    name = (const char *)strings->at + symbol->st_name;
+    if (memchr(name, '\0', strings->len - symbol->st_name) == NULL || *name == '\0' ||
+        strcmp(name, "_START_") == 0 || strcmp(name, "_END_") == 0 ||
+        (kind == STT_OBJECT && symbol->st_shndx == SHN_ABS && symbol->st_value == 0))
+        return NULL;
+    return name;
+}
+
+/* The checksum that ctfd-convert writes: of the kinds and names of those, in their order. */
+static unsigned long checksum_of(const struct ctfd_elf_lists *lists)
+{
+    const Elf64_Sym *symbols = (const Elf64_Sym *)lists->symbols.at;
+    size_t i, count = lists->symbols.len / sizeof *symbols;
+    uLong sum = crc32(0, NULL, 0);
+    for (i = 0; i < count; i++) {
+        const char *name = considered(&symbols[i], &lists->strings);
+        unsigned char kind = ELF64_ST_TYPE(symbols[i].st_info);
+        if (name == NULL)
+            continue;
+        sum = crc32(sum, &kind, 1);
+        sum = crc32(sum, (const unsigned char *)name, (uInt)strlen(name) + 1);
+    }
+    return sum;
+}
+
+/* Reads "TABLE,OBJECTS,FUNCTIONS,CHECKSUM"; false where it is something else. */
+static bool read_label(const char *text, struct told *told)
+{
+    const char *comma = strchr(text, ',');
+    char *end;
+    if (comma == NULL || (size_t)(comma - text) >= sizeof told->table)
+        return false;
+    memcpy(told->table, text, (size_t)(comma - text));
+    told->table[comma - text] = '\0';
+    comma = strrchr(text, ',');
+    told->checksum = strtoul(comma + 1, &end, 16);
+    return end != comma + 1 && *end == '\0';
+}
+
+/* Looks for the label in bytes that nobody has judged yet: what is damaged has none. */
+static bool find_label(const struct ctfd_elf_list *ctf, struct told *told)
+{
+    const unsigned char *bytes = (const unsigned char *)ctf->at;
+    uint64_t at, end, strings, strings_end;
+    if (ctf->len < HEADER)
+        return false;
+    at = HEADER + number_at(bytes + 12);
+    end = HEADER + number_at(bytes + 16);
+    strings = HEADER + number_at(bytes + 28);
+    strings_end = strings + number_at(bytes + 32);
+    for (; at + 8 <= end && end <= ctf->len && strings_end <= ctf->len; at += 8) {
+        uint64_t name = strings + number_at(bytes + at);
+        const char *text = (const char *)bytes + name;
+        if (name + sizeof LABEL > strings_end || memcmp(text, LABEL, sizeof LABEL - 1) != 0)
+            continue;
+        if (memchr(text, '\0', (size_t)(strings_end - name)) != NULL)
+            return read_label(text + sizeof LABEL - 1, told);
+    }
+    return false;
+}
+
+/* The table that the section names, else .symtab, else none. */
+static Elf_Scn *linked_table(const struct file *file, Elf_Scn *section)
+{
+    GElf_Shdr header;
+    Elf_Scn *table;
+    if (gelf_getshdr(section, &header) == NULL)
+        return NULL;
+    table = header.sh_link == 0 ? NULL : elf_getscn(file->elf, header.sh_link);
+    if (table != NULL && gelf_getshdr(table, &header) != NULL &&
+        (header.sh_type == SHT_SYMTAB || header.sh_type == SHT_DYNSYM))
+        return table;
+    return named(file, ".symtab");
+}
+
+/* A file whose symbols are others than the dictionary's has none that could be told of. */
+static int find_symbols(const struct file *file, Elf_Scn *section, struct ctfd_elf_lists *lists)
+{
+    struct told told;
+    bool is_told = find_label(&lists->ctf, &told);
+    Elf_Scn *table = is_told ? named(file, told.table) : linked_table(file, section);
+    int error;
+    if (table == NULL)
+        return 0;
+    error = take_table(file, table, lists);
+    if (error == 0 && is_told && checksum_of(lists) != told.checksum)
+        drop_table(lists);
+    return error;
+}
+
+/* ---- files */
+
+static int read_elf(const struct file *file, struct ctfd_elf_lists *lists)
+{
+    Elf_Scn *section = named(file, ".SUNW_ctf");
+    int error;
+    if (section == NULL)
+        section = named(file, ".ctf");
+    if (section == NULL)
+        return ECTF_NOCTFDATA;
+    lists->ilp32 = gelf_getclass(file->elf) == ELFCLASS32;
+    error = take_dictionary(section, &lists->ctf);
+    return error != 0 ? error : find_symbols(file, section, lists);
+}
+
+int ctfd_elf_read(int fd, struct ctfd_elf_lists *lists)
+{
+    struct file file;
+    int error = ECTF_ELFVERS;
+    memset(lists, 0, sizeof *lists);
+    if (elf_version(EV_CURRENT) == EV_NONE)
+        return error;
+    file.elf = elf_begin(fd, ELF_C_READ, NULL);
+    if (file.elf == NULL)
+        return error;
+    if (elf_kind(file.elf) == ELF_K_ELF && elf_getshdrstrndx(file.elf, &file.names) == 0)
+        error = read_elf(&file, lists);
+    elf_end(file.elf);
+    if (error == 0)
+        return 0;
+    free(lists->ctf.at);
+    drop_table(lists);
+    memset(lists, 0, sizeof *lists);
+    return error;
+}

@@ -1,0 +1,372 @@
+/* files.c - what is open: a dictionary of sections in memory, its data model, its parent. */
+#include "private.h"
+
+#include <errno.h>
+#include <stdlib.h>
+#include <string.h>
+
+/* Not linked where a program leaves the part for ELF files out. */
+#pragma weak ctfd_elf_inflate
+
+ctf_file_t *ctfd__refused(int *error, int why)
+{
+    if (error != NULL)
+        *error = why;
+    return NULL;
+}
+
+void ctfd__free(ctf_file_t *fp)
+{
+    size_t i;
+    ctfd__forget(fp);
+    ctfd__free_texts(&fp->texts);
+    for (i = 0; i < 3; i++)
+        free(fp->owned[i]);
+    free(fp->bytes);
+    free(fp->room);
+    free(fp);
+}
+
+ctf_file_t *ctfd__new(int *error)
+{
+    ctf_file_t *fp = (ctf_file_t *)calloc(1, sizeof *fp);
+    if (fp != NULL) {
+        fp->uses = 1;
+        fp->model = CTF_MODEL_LP64;
+        if (ctfd__make_room(fp, 255))
+            return fp;
+        ctfd__free(fp);
+    }
+    return ctfd__refused(error, CTFD_MEMORY);
+}
+
+void ctf_close(ctf_file_t *fp)
+{
+    while (fp != NULL && --fp->uses == 0) {
+        ctf_file_t *parent = fp->parent;
+        ctfd_close(&fp->types);
+        ctfd__free(fp);
+        fp = parent;
+    }
+}
+
+/* ---- sections */
+
+/* Opens the lists that were handed in, behind a handle that has nothing open. */
+static enum ctfd_status open_lists(const struct ctfd__lists *lists, int model, struct ctfd *types)
+{
+    uint64_t place;
+    return ctfd_open(types, lists->data[0], lists->len[0], lists->data[1], lists->len[1],
+        lists->data[2], lists->len[2], lists->has[1], lists->has[2], model == CTF_MODEL_ILP32,
+        &place);
+}
+
+/* Opens them again, for another model or another parent; a refusal leaves all as it was. */
+static int reopen(ctf_file_t *fp, int model, ctf_file_t *parent)
+{
+    struct ctfd types = CTFD_NONE;
+    uint64_t place;
+    enum ctfd_status status = open_lists(&fp->lists, model, &types);
+    if (status == CTFD_OK && parent != NULL)
+        status = ctfd_import(&types, &parent->types, &place);
+    if (status != CTFD_OK) {
+        ctfd_close(&types);
+        return ctfd__done(fp, status);
+    }
+    ctfd_close(&fp->types);
+    ctfd__forget(fp);
+    fp->types = types;
+    fp->model = model;
+    return 0;
+}
+
+static void take_list(struct ctfd__lists *lists, int i, const ctf_sect_t *section)
+{
+    bool there = section != NULL && section->cts_data != NULL;
+    lists->has[i] = section != NULL;
+    lists->data[i] = there ? section->cts_data : "";
+    lists->len[i] = there ? section->cts_size : 0;
+}
+
+/* A file keeps a block as one of its lists. */
+static void own_list(ctf_file_t *fp, int i, void *block, size_t len)
+{
+    free(fp->owned[i]);
+    fp->owned[i] = block;
+    fp->lists.data[i] = block;
+    fp->lists.len[i] = len;
+    fp->lists.has[i] = true;
+}
+
+/* Writes symbols of ELF32 as ELF64 has them: name, value and size, kind, other, section. */
+static void widen(const unsigned char *from, size_t count, unsigned char *to)
+{
+    for (; count > 0; count--, from += CTFD_SYMBOL_32, to += CTFD_SYMBOL) {
+        memcpy(to, from, 4);
+        memcpy(to + 4, from + 12, 4);
+        memcpy(to + 8, from + 4, 4);
+        memcpy(to + 16, from + 8, 4);
+    }
+}
+
+/* Symbols that are told to have 16 bytes become ones of 24, and the program's pointers have 4. */
+static enum ctfd_status take_symbols(ctf_file_t *fp, const ctf_sect_t *symbols)
+{
+    size_t count;
+    void *made;
+    take_list(&fp->lists, 1, symbols);
+    if (symbols == NULL || symbols->cts_entsize != CTFD_SYMBOL_32)
+        return CTFD_OK;
+    fp->model = CTF_MODEL_ILP32;
+    count = fp->lists.len[1] / CTFD_SYMBOL_32;
+    if (fp->lists.len[1] % CTFD_SYMBOL_32 != 0)
+        return CTFD_BAD_SYMTAB;
+    made = calloc(count + 1, CTFD_SYMBOL);
+    if (made == NULL)
+        return CTFD_MEMORY;
+    widen((const unsigned char *)fp->lists.data[1], count, (unsigned char *)made);
+    own_list(fp, 1, made, count * CTFD_SYMBOL);
+    return CTFD_OK;
+}
+
+/* Inflates the dictionary, and opens that; 0 or an error. */
+static int open_inflated(ctf_file_t *fp)
+{
+    struct ctfd_elf_list made = { NULL, 0 };
+    int error;
+    if (ctfd_elf_inflate == NULL)
+        return ECTF_ZMISSING;
+    error = ctfd_elf_inflate(fp->lists.data[0], fp->lists.len[0], &made);
+    if (error != 0)
+        return error;
+    own_list(fp, 0, made.at, made.len);
+    return (int)open_lists(&fp->lists, fp->model, &fp->types);
+}
+
+ctf_file_t *ctf_bufopen(const ctf_sect_t *ctf, const ctf_sect_t *symbols,
+    const ctf_sect_t *strings, int *error)
+{
+    int failed;
+    ctf_file_t *fp;
+    if (ctf == NULL || (symbols == NULL) != (strings == NULL))
+        return ctfd__refused(error, CTF_SYSTEM_ERROR + EINVAL);
+    fp = ctfd__new(error);
+    if (fp == NULL)
+        return NULL;
+    take_list(&fp->lists, 0, ctf);
+    take_list(&fp->lists, 2, strings);
+    failed = (int)take_symbols(fp, symbols);
+    if (failed == CTFD_OK)
+        failed = (int)open_lists(&fp->lists, fp->model, &fp->types);
+    if (failed == CTFD_COMPRESSED)
+        failed = open_inflated(fp);
+    if (failed == CTFD_OK)
+        return fp;
+    ctf_close(fp);
+    return ctfd__refused(error, failed);
+}
+
+/* ---- the data model, what a caller keeps with a file, its bytes */
+
+int ctf_setmodel(ctf_file_t *fp, int model)
+{
+    uint64_t place;
+    if (model != CTF_MODEL_ILP32 && model != CTF_MODEL_LP64)
+        return (int)ctfd__system(fp, EINVAL);
+    if (model == fp->model)
+        return 0;
+    if (!fp->is_draft)
+        return reopen(fp, model, fp->parent);
+    if (fp->is_touched)
+        return ctfd__done(fp, CTFD_MODEL_DIFFERS);
+    if (ctfd__done(fp, ctfd_create(&fp->types, model == CTF_MODEL_ILP32, &place)) != 0)
+        return (int)CTF_ERR;
+    ctfd__forget(fp);
+    fp->model = model;
+    return 0;
+}
+
+int ctf_getmodel(ctf_file_t *fp)
+{
+    return fp->model;
+}
+
+void ctf_setspecific(ctf_file_t *fp, void *data)
+{
+    fp->specific = data;
+}
+
+void *ctf_getspecific(ctf_file_t *fp)
+{
+    return fp->specific;
+}
+
+/* The bytes of what the last update of a draft made, in a block that the file keeps. */
+static const void *draft_bytes(ctf_file_t *fp, size_t *size)
+{
+    uint64_t len = 0;
+    char none;
+    void *made;
+    if (ctfd__done(fp, ctfd_bytes(&fp->types, 0, &none, 0, &len)) != 0)
+        return NULL;
+    made = malloc((size_t)len + 1);
+    if (made == NULL) {
+        (void)ctfd__fail(fp, CTFD_MEMORY);
+        return NULL;
+    }
+    if (ctfd__done(fp, ctfd_bytes(&fp->types, 0, made, (size_t)len, &len)) != 0) {
+        free(made);
+        return NULL;
+    }
+    free(fp->bytes);
+    fp->bytes = made;
+    *size = (size_t)len;
+    return made;
+}
+
+void ctf_dataptr(ctf_file_t *fp, const void **bytes, size_t *size)
+{
+    size_t len = fp->is_draft ? 0 : fp->lists.len[0];
+    const void *data = fp->is_draft ? draft_bytes(fp, &len) : fp->lists.data[0];
+    if (bytes != NULL)
+        *bytes = data;
+    if (size != NULL)
+        *size = len;
+}
+
+/* A number of four bytes in a dictionary. */
+static size_t number_at(const unsigned char *bytes)
+{
+    return bytes[0] | (size_t)bytes[1] << 8 | (size_t)bytes[2] << 16 | (size_t)bytes[3] << 24;
+}
+
+/* The rules have seen that the strings end where the bytes end, or before; the last may lack its
+ * zero byte, and is no name then. */
+int ctf_string_iter(ctf_file_t *fp, ctf_string_f *each, void *arg)
+{
+    const void *data = NULL;
+    void *own;
+    const char *at, *end;
+    size_t size = 0;
+    int said = 0;
+    ctf_dataptr(fp, &data, &size);
+    if (data == NULL)
+        return (int)CTF_ERR;
+    /* Those of a draft are taken, since a callback may ask for newer ones. */
+    own = fp->bytes;
+    fp->bytes = NULL;
+    at = (const char *)data + 36 + number_at((const unsigned char *)data + 28);
+    end = at + number_at((const unsigned char *)data + 32);
+    while (at < end && said == 0) {
+        const char *stop = (const char *)memchr(at, '\0', (size_t)(end - at));
+        if (stop == NULL)
+            break;
+        said = each(at, arg);
+        at = stop + 1;
+    }
+    free(own);
+    return said;
+}
+
+/* ---- parents */
+
+/* Why a dictionary is not its own parent. */
+static enum ctfd_status own_parent(ctf_file_t *fp)
+{
+    uint32_t child = 0;
+    enum ctfd_status status = ctfd_child(&fp->types, &child);
+    if (status != CTFD_OK)
+        return status;
+    return child != 0 ? CTFD_PARENT_IS_CHILD : CTFD_NOT_CHILD;
+}
+
+static enum ctfd_status import_parent(ctf_file_t *fp, ctf_file_t *parent)
+{
+    uint64_t place;
+    if (fp == parent)
+        return own_parent(fp);
+    if (fp->is_draft && !fp->is_touched)
+        return ctfd_create_child(&fp->types, &parent->types, "PARENT", 6, "", 0, &place);
+    return ctfd_import(&fp->types, &parent->types, &place);
+}
+
+int ctf_import(ctf_file_t *fp, ctf_file_t *parent)
+{
+    if (parent == NULL) {
+        if (fp->is_draft && fp->parent != NULL)
+            return ctfd__done(fp, CTFD_FIXED_PARENT);
+        if (fp->parent != NULL && reopen(fp, fp->model, NULL) != 0)
+            return (int)CTF_ERR;
+    } else {
+        if (ctfd__done(fp, import_parent(fp, parent)) != 0)
+            return (int)CTF_ERR;
+        parent->uses++;
+        fp->is_touched = true;
+        fp->model = parent->model;
+    }
+    ctfd__forget(fp);
+    ctf_close(fp->parent);
+    fp->parent = parent;
+    return 0;
+}
+
+ctf_file_t *ctf_parent_file(ctf_file_t *fp)
+{
+    return fp->parent;
+}
+
+const char *ctf_parent_name(ctf_file_t *fp)
+{
+    const char *name = ctfd__told(fp, ctfd_parent_name);
+    return name != NULL && *name != '\0' ? name : NULL;
+}
+
+const char *ctf_parent_label(ctf_file_t *fp)
+{
+    const char *name = ctfd__told(fp, ctfd_parent_label);
+    return name != NULL && *name != '\0' ? name : NULL;
+}
+
+/* ---- a second file of the same dictionary */
+
+/* Copies what a file keeps of its lists itself; false where there is no memory. */
+static bool copy_owned(ctf_file_t *made, const ctf_file_t *fp)
+{
+    int i;
+    for (i = 0; i < 3; i++) {
+        void *block;
+        if (fp->owned[i] == NULL)
+            continue;
+        block = malloc(fp->lists.len[i] + 1);
+        if (block == NULL)
+            return false;
+        memcpy(block, fp->owned[i], fp->lists.len[i]);
+        own_list(made, i, block, fp->lists.len[i]);
+    }
+    return true;
+}
+
+ctf_file_t *ctf_dup(ctf_file_t *fp)
+{
+    ctf_file_t *made;
+    int error = 0;
+    if (fp->is_draft) {
+        (void)ctfd__system(fp, ENOTSUP);
+        return NULL;
+    }
+    made = ctfd__new(&error);
+    if (made == NULL) {
+        (void)ctfd__fail(fp, error);
+        return NULL;
+    }
+    made->lists = fp->lists;
+    if (!copy_owned(made, fp) || reopen(made, fp->model, fp->parent) != 0) {
+        (void)ctfd__fail(fp, made->error != 0 ? made->error : CTFD_MEMORY);
+        ctf_close(made);
+        return NULL;
+    }
+    made->parent = fp->parent;
+    if (made->parent != NULL)
+        made->parent->uses++;
+    return made;
+}

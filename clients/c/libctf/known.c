@@ -1,0 +1,94 @@
+/* known.c - what was asked of a type before is answered from memory: its kind, whether look-ups see
+ * it, what it resolves to, and the pointer to it. Only answers are kept, no refusals, and none past
+ * a change of what is open. */
+#include "private.h"
+
+#include <stdlib.h>
+
+enum {
+    KNOWS_KIND = 1,
+    KNOWS_ROOT = 2,
+    IS_ROOT = 4,
+    KNOWS_RESOLVED = 8,
+    KNOWS_POINTER = 16
+};
+
+void ctfd__forget(ctf_file_t *fp)
+{
+    size_t i;
+    for (i = 0; i < sizeof fp->pages / sizeof fp->pages[0]; i++) {
+        free(fp->pages[i]);
+        fp->pages[i] = NULL;
+    }
+}
+
+/* The page of a type, or NULL: then nothing is kept. */
+static struct ctfd__page *page_of(ctf_file_t *fp, uint16_t t)
+{
+    struct ctfd__page *page = fp->pages[t >> 8];
+    if (page == NULL)
+        page = fp->pages[t >> 8] = (struct ctfd__page *)calloc(1, sizeof *page);
+    return page;
+}
+
+enum ctfd_status ctfd__kind(ctf_file_t *fp, uint16_t t, uint32_t *kind)
+{
+    struct ctfd__page *page = fp->pages[t >> 8];
+    enum ctfd_status status;
+    if (page != NULL && (page->known[t & 255] & KNOWS_KIND) != 0) {
+        *kind = page->kinds[t & 255];
+        return CTFD_OK;
+    }
+    status = ctfd_kind(&fp->types, t, kind);
+    if (status == CTFD_OK && (page = page_of(fp, t)) != NULL) {
+        page->kinds[t & 255] = (uint8_t)*kind;
+        page->known[t & 255] |= KNOWS_KIND;
+    }
+    return status;
+}
+
+enum ctfd_status ctfd__root(ctf_file_t *fp, uint16_t t, uint32_t *root)
+{
+    struct ctfd__page *page = fp->pages[t >> 8];
+    enum ctfd_status status;
+    if (page != NULL && (page->known[t & 255] & KNOWS_ROOT) != 0) {
+        *root = (page->known[t & 255] & IS_ROOT) != 0;
+        return CTFD_OK;
+    }
+    status = ctfd_root(&fp->types, t, root);
+    if (status == CTFD_OK && (page = page_of(fp, t)) != NULL)
+        page->known[t & 255] |= (uint8_t)(KNOWS_ROOT | (*root != 0 ? IS_ROOT : 0));
+    return status;
+}
+
+enum ctfd_status ctfd__resolve(ctf_file_t *fp, uint16_t t, uint16_t *to)
+{
+    struct ctfd__page *page = fp->pages[t >> 8];
+    enum ctfd_status status;
+    if (page != NULL && (page->known[t & 255] & KNOWS_RESOLVED) != 0) {
+        *to = page->resolved[t & 255];
+        return CTFD_OK;
+    }
+    status = ctfd_resolve(&fp->types, t, to);
+    if (status == CTFD_OK && (page = page_of(fp, t)) != NULL) {
+        page->resolved[t & 255] = *to;
+        page->known[t & 255] |= KNOWS_RESOLVED;
+    }
+    return status;
+}
+
+enum ctfd_status ctfd__pointer(ctf_file_t *fp, uint16_t t, uint16_t *to)
+{
+    struct ctfd__page *page = fp->pages[t >> 8];
+    enum ctfd_status status;
+    if (page != NULL && (page->known[t & 255] & KNOWS_POINTER) != 0) {
+        *to = page->pointers[t & 255];
+        return CTFD_OK;
+    }
+    status = ctfd_pointer(&fp->types, t, to);
+    if (status == CTFD_OK && (page = page_of(fp, t)) != NULL) {
+        page->pointers[t & 255] = *to;
+        page->known[t & 255] |= KNOWS_POINTER;
+    }
+    return status;
+}

@@ -1,0 +1,37 @@
+/* loading.c - stands in libctfd.so for the part for ELF files, and loads it where it is needed: the
+ * library then asks for no other to be there. */
+#include "private.h"
+
+#include <dlfcn.h>
+#include <string.h>
+
+HIDDEN int ctfd_elf_read(int fd, struct ctfd_elf_lists *lists);
+HIDDEN int ctfd_elf_inflate(const void *bytes, size_t len, struct ctfd_elf_list *made);
+
+/* Looks up a call of the part, which stands beside this library or where the system has it. The
+ * part stays loaded, so it is loaded once. */
+static bool found(const char *name, void *call, size_t size)
+{
+    void *part = dlopen(CTFD_ELF_PART, RTLD_NOW | RTLD_LOCAL);
+    void *at = part != NULL ? dlsym(part, name) : NULL;
+    if (at == NULL)
+        return false;
+    memcpy(call, &at, size);
+    return true;
+}
+
+int ctfd_elf_read(int fd, struct ctfd_elf_lists *lists)
+{
+    int (*call)(int, struct ctfd_elf_lists *);
+    if (!found("ctfd_elf_read", &call, sizeof call))
+        return ECTF_ZMISSING;
+    return call(fd, lists);
+}
+
+int ctfd_elf_inflate(const void *bytes, size_t len, struct ctfd_elf_list *made)
+{
+    int (*call)(const void *, size_t, struct ctfd_elf_list *);
+    if (!found("ctfd_elf_inflate", &call, sizeof call))
+        return ECTF_ZMISSING;
+    return call(bytes, len, made);
+}

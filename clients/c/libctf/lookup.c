@@ -1,0 +1,74 @@
+/* lookup.c - types by their names, as programs write them: with qualifiers and blanks. */
+#include "private.h"
+
+#include <string.h>
+
+static bool is_blank(char byte)
+{
+    return byte == ' ' || (byte >= '\t' && byte <= '\r');
+}
+
+/* What libctf passes over in a name. */
+static bool is_qualifier(const char *word, size_t len)
+{
+    static const char *const words[] = { "const", "volatile", "restrict", "_Restrict", "static",
+        "auto", "extern", "register" };
+    size_t i;
+    for (i = 0; i < sizeof words / sizeof words[0]; i++) {
+        if (strlen(words[i]) == len && memcmp(words[i], word, len) == 0)
+            return true;
+    }
+    return false;
+}
+
+static size_t blanks(const char *text)
+{
+    size_t len = 0;
+    while (is_blank(text[len]))
+        len++;
+    return len;
+}
+
+/* A word ends before a blank, a star or the end; a star is a word by itself. */
+static size_t word_at(const char *text)
+{
+    size_t len = 0;
+    if (*text == '*')
+        return 1;
+    while (text[len] != '\0' && text[len] != '*' && !is_blank(text[len]))
+        len++;
+    return len;
+}
+
+/* Writes the words of a name without qualifiers, one blank between two, to a place of at least its
+ * length, and answers how many bytes that are. */
+static size_t plain(const char *name, char *made)
+{
+    size_t len = 0, word;
+    for (name += blanks(name); (word = word_at(name)) != 0; name += word, name += blanks(name)) {
+        if (is_qualifier(name, word))
+            continue;
+        if (len != 0 && *name != '*')
+            made[len++] = ' ';
+        memcpy(made + len, name, word);
+        len += word;
+    }
+    return len;
+}
+
+/* The name as it stands comes first: it may be one of a type that has blanks in it. */
+ctf_id_t ctf_lookup_by_name(ctf_file_t *fp, const char *name)
+{
+    size_t len = strlen(name), plain_len;
+    uint16_t t = 0;
+    enum ctfd_status status = ctfd_find(&fp->types, name, len, &t);
+    if (status == CTFD_NOT_FOUND || status == CTFD_BAD_SYNTAX) {
+        /* A star in front of a word gains a blank at most where it lost none. */
+        if (!ctfd__make_room(fp, 2 * (uint64_t)len))
+            return CTF_ERR;
+        plain_len = plain(name, fp->room);
+        if (plain_len != len || memcmp(fp->room, name, len) != 0)
+            status = ctfd_find(&fp->types, fp->room, plain_len, &t);
+    }
+    return ctfd__done(fp, status) == 0 ? (ctf_id_t)t : CTF_ERR;
+}

@@ -1,0 +1,136 @@
+/* reading.c - opens files: those of a CTF section alone, and ELF files by the part for these. */
+#define _DEFAULT_SOURCE
+
+#include "private.h"
+
+#include <errno.h>
+#include <fcntl.h>
+#include <stdlib.h>
+#include <string.h>
+#include <sys/stat.h>
+#include <unistd.h>
+
+/* The most bytes that a dictionary has. */
+#define LONGEST 67108864
+
+/* Not linked where a program leaves the part for ELF files out. */
+#pragma weak ctfd_elf_read
+
+/* Reads so many bytes from the front of a file, fewer where it ends; 0 or a number of errno. */
+static int read_front(int fd, char *bytes, size_t wanted, size_t *got)
+{
+    *got = 0;
+    while (*got < wanted) {
+        ssize_t more = pread(fd, bytes + *got, wanted - *got, (off_t)*got);
+        if (more < 0 && errno == EINTR)
+            continue;
+        if (more < 0)
+            return errno;
+        if (more == 0)
+            break;
+        *got += (size_t)more;
+    }
+    return 0;
+}
+
+/* A section that has a list of the part for ELF files. */
+static ctf_sect_t section_of(const struct ctfd_elf_list *list)
+{
+    ctf_sect_t made;
+    memset(&made, 0, sizeof made);
+    made.cts_data = list->at;
+    made.cts_size = list->len;
+    return made;
+}
+
+/* Opens lists, which the file then keeps; else they are freed. */
+static ctf_file_t *open_owned(struct ctfd_elf_lists *lists, int *error)
+{
+    ctf_sect_t ctf = section_of(&lists->ctf), symbols = section_of(&lists->symbols),
+        strings = section_of(&lists->strings);
+    bool has_symbols = lists->symbols.at != NULL && lists->strings.at != NULL;
+    ctf_file_t *fp;
+    symbols.cts_entsize = CTFD_SYMBOL;
+    fp = ctf_bufopen(&ctf, has_symbols ? &symbols : NULL, has_symbols ? &strings : NULL, error);
+    if (fp != NULL && fp->owned[0] == NULL) {
+        fp->owned[0] = lists->ctf.at;
+        lists->ctf.at = NULL;
+    }
+    if (fp != NULL && has_symbols) {
+        fp->owned[1] = lists->symbols.at;
+        fp->owned[2] = lists->strings.at;
+        lists->symbols.at = lists->strings.at = NULL;
+    }
+    free(lists->ctf.at);
+    free(lists->symbols.at);
+    free(lists->strings.at);
+    if (fp != NULL && lists->ilp32 && ctf_setmodel(fp, CTF_MODEL_ILP32) != 0) {
+        int why = fp->error;
+        ctf_close(fp);
+        return ctfd__refused(error, why);
+    }
+    return fp;
+}
+
+/* Opens a file that is a section and nothing else. */
+static ctf_file_t *open_section(int fd, size_t size, int *error)
+{
+    struct ctfd_elf_lists lists;
+    int failed;
+    if (size > LONGEST)
+        return ctfd__refused(error, CTFD_DICT_TOO_BIG);
+    memset(&lists, 0, sizeof lists);
+    lists.ctf.at = malloc(size + 1);
+    if (lists.ctf.at == NULL)
+        return ctfd__refused(error, CTFD_MEMORY);
+    failed = read_front(fd, (char *)lists.ctf.at, size, &lists.ctf.len);
+    if (failed != 0) {
+        free(lists.ctf.at);
+        return ctfd__refused(error, CTF_SYSTEM_ERROR + failed);
+    }
+    return open_owned(&lists, error);
+}
+
+static ctf_file_t *open_elf(int fd, int *error)
+{
+    struct ctfd_elf_lists lists;
+    int failed;
+    memset(&lists, 0, sizeof lists);
+    failed = ctfd_elf_read == NULL ? ECTF_ZMISSING : ctfd_elf_read(fd, &lists);
+    return failed != 0 ? ctfd__refused(error, failed) : open_owned(&lists, error);
+}
+
+ctf_file_t *ctf_fdopen(int fd, int *error)
+{
+    struct stat about;
+    char magic[4];
+    size_t got;
+    int failed;
+    if (fstat(fd, &about) != 0)
+        return ctfd__refused(error, CTF_SYSTEM_ERROR + errno);
+    if (!S_ISREG(about.st_mode))
+        return ctfd__refused(error, CTF_SYSTEM_ERROR + EINVAL);
+    failed = read_front(fd, magic, sizeof magic, &got);
+    if (failed != 0)
+        return ctfd__refused(error, CTF_SYSTEM_ERROR + failed);
+    if (got == sizeof magic && memcmp(magic, "\177ELF", sizeof magic) == 0)
+        return open_elf(fd, error);
+    return open_section(fd, (size_t)about.st_size, error);
+}
+
+/* What is no regular file is refused before it is opened, which might wait or set something off;
+ * and after it too, since it may have become another meanwhile. */
+ctf_file_t *ctf_open(const char *name, int *error)
+{
+    struct stat about;
+    ctf_file_t *fp;
+    int fd;
+    if (stat(name, &about) == 0 && !S_ISREG(about.st_mode))
+        return ctfd__refused(error, CTF_SYSTEM_ERROR + EINVAL);
+    fd = open(name, O_RDONLY | O_NONBLOCK | O_NOCTTY | O_CLOEXEC);
+    if (fd < 0)
+        return ctfd__refused(error, CTF_SYSTEM_ERROR + errno);
+    fp = ctf_fdopen(fd, error);
+    (void)close(fd);
+    return fp;
+}

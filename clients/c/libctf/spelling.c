@@ -1,0 +1,285 @@
+/* spelling.c - names of types as C spells them, with a qualifier in them or round a name. */
+#include "private.h"
+
+#include <stdio.h>
+#include <stdlib.h>
+#include <string.h>
+
+ssize_t ctf_type_lname(ctf_file_t *fp, ctf_id_t type, char *text, size_t size)
+{
+    char none;
+    uint64_t len = 0;
+    enum ctfd_status status;
+    if (!ctfd__is_type(fp, type))
+        return (ssize_t)CTF_ERR;
+    status = ctfd_name(&fp->types, (uint16_t)type, size == 0 ? &none : text, size, &len);
+    if (ctfd__done(fp, status) != 0)
+        return (ssize_t)CTF_ERR;
+    if (size > 0)
+        text[len < size ? len : size - 1] = '\0';
+    if (len >= size)
+        (void)ctfd__fail(fp, CTFD_TOO_LONG);
+    return (ssize_t)len;
+}
+
+/* NULL where it does not fit. */
+static char *fitting(ssize_t len, char *text, size_t size)
+{
+    return len >= 0 && (size_t)len < size ? text : NULL;
+}
+
+char *ctf_type_name(ctf_file_t *fp, ctf_id_t type, char *text, size_t size)
+{
+    return fitting(ctf_type_lname(fp, type, text, size), text, size);
+}
+
+/* ---- declarations
+ *
+ * One begins with a type that has a name of its own. Around what is declared stand stars, brackets
+ * and qualifiers, which are found from the outermost type to that one: those to the left of the
+ * name from behind, those to the right from the front.
+ */
+
+/* A text that grows to its front or to its end; `is_full` where it should have grown and did not. */
+struct grown {
+    char *at;
+    size_t len, room;
+    bool is_full;
+};
+
+/* Room for more bytes, at the end. */
+static char *more(struct grown *text, size_t len)
+{
+    if (text->len + len > text->room) {
+        size_t room = 2 * (text->len + len) + 64;
+        char *made = (char *)realloc(text->at, room);
+        if (made == NULL) {
+            text->is_full = true;
+            return NULL;
+        }
+        text->at = made;
+        text->room = room;
+    }
+    text->len += len;
+    return text->at + text->len - len;
+}
+
+static void append(struct grown *text, const char *piece, size_t len)
+{
+    char *at = more(text, len);
+    if (at != NULL && len != 0)
+        memcpy(at, piece, len);
+}
+
+/* Appends a piece from behind, for a text that is turned in the end. */
+static void append_turned(struct grown *text, const char *piece)
+{
+    size_t i, len = strlen(piece);
+    char *at = more(text, len);
+    for (i = 0; at != NULL && i < len; i++)
+        at[i] = piece[len - 1 - i];
+}
+
+/* What is put around a name, and the type that the declaration begins with: 0 for void. */
+struct declaration {
+    struct grown front, left, right;
+    bool is_named;
+    uint16_t base;
+};
+
+static uint32_t kind_of(ctf_file_t *fp, uint16_t t)
+{
+    uint32_t kind = CTFD_UNKNOWN;
+    return t != 0 && ctfd__kind(fp, t, &kind) == CTFD_OK ? kind : CTFD_UNKNOWN;
+}
+
+static const char *qualifier_of(uint32_t kind)
+{
+    switch (kind) {
+    case CTFD_VOLATILE:
+        return "volatile";
+    case CTFD_CONST:
+        return "const";
+    case CTFD_RESTRICT:
+        return "restrict";
+    default:
+        return NULL;
+    }
+}
+
+/* The kind of what qualifiers stand around. */
+static uint32_t qualified(ctf_file_t *fp, uint16_t t)
+{
+    uint32_t kind = kind_of(fp, t);
+    int steps = 0;
+    while (qualifier_of(kind) != NULL && steps++ < 2 * CTFD_DEEPEST) {
+        uint16_t to = 0;
+        if (ctfd_reference(&fp->types, t, &to) != CTFD_OK)
+            return CTFD_UNKNOWN;
+        t = to;
+        kind = kind_of(fp, t);
+    }
+    return kind;
+}
+
+/* A star, in brackets where an array or a function stands behind it. */
+static void put_star(ctf_file_t *fp, struct declaration *made, uint16_t to)
+{
+    uint32_t kind = qualified(fp, to);
+    append_turned(&made->left, "*");
+    if (kind == CTFD_ARRAY || kind == CTFD_FUNCTION) {
+        append_turned(&made->left, "(");
+        append(&made->right, ")", 1);
+    }
+}
+
+/* A qualifier of a pointer stands behind its star, and any other in front of all. */
+static void put_qualifier(ctf_file_t *fp, struct declaration *made, const char *word, uint16_t of)
+{
+    if (qualified(fp, of) != CTFD_POINTER) {
+        append(&made->front, word, strlen(word));
+        append(&made->front, " ", 1);
+        return;
+    }
+    if (made->is_named || made->left.len != 0 || made->right.len != 0)
+        append_turned(&made->left, " ");
+    append_turned(&made->left, word);
+}
+
+/* Puts what a type adds, and answers whether it leads on. */
+static bool put_step(ctf_file_t *fp, struct declaration *made, uint16_t t, uint16_t *to)
+{
+    uint32_t kind = kind_of(fp, t);
+    struct ctfd_array array;
+    char count[16];
+    if (kind == CTFD_POINTER && ctfd_reference(&fp->types, t, to) == CTFD_OK) {
+        put_star(fp, made, *to);
+    } else if (kind == CTFD_ARRAY && ctfd_array(&fp->types, t, &array) == CTFD_OK) {
+        append(&made->right, count, (size_t)sprintf(count, "[%u]", array.count));
+        *to = array.contents;
+    } else if (kind == CTFD_FUNCTION && ctfd_return(&fp->types, t, to) == CTFD_OK) {
+        append(&made->right, "()", 2);
+    } else if (qualifier_of(kind) != NULL && ctfd_reference(&fp->types, t, to) == CTFD_OK) {
+        put_qualifier(fp, made, qualifier_of(kind), *to);
+    } else {
+        return false;
+    }
+    return true;
+}
+
+static void declare(ctf_file_t *fp, struct declaration *made, uint16_t t)
+{
+    uint16_t to = 0;
+    int steps = 0;
+    while (t != 0 && steps++ < 2 * CTFD_DEEPEST && put_step(fp, made, t, &to))
+        t = to;
+    made->base = t;
+}
+
+/* Appends the name that a declaration begins with, a qualifier in front of the type's own name. */
+static bool append_base(ctf_file_t *fp, struct grown *text, uint16_t base, const char *qualifier)
+{
+    uint32_t kind = kind_of(fp, base);
+    size_t word = 0;
+    ssize_t len;
+    if (base == 0) {
+        append(text, "void", 4);
+        return true;
+    }
+    while ((len = ctf_type_lname(fp, base, fp->room, fp->room_len)) >= (ssize_t)fp->room_len) {
+        if (!ctfd__make_room(fp, (uint64_t)len))
+            return false;
+    }
+    if (len < 0)
+        return false;
+    if (kind == CTFD_STRUCT || kind == CTFD_UNION || kind == CTFD_ENUM || kind == CTFD_FORWARD) {
+        const char *blank = (const char *)memchr(fp->room, ' ', (size_t)len);
+        word = blank != NULL ? (size_t)(blank - fp->room) + 1 : 0;
+    }
+    append(text, fp->room, word);
+    if (qualifier != NULL) {
+        append(text, qualifier, strlen(qualifier));
+        append(text, "`", 1);
+    }
+    append(text, fp->room + word, (size_t)len - word);
+    return true;
+}
+
+/* Puts all of a declaration together. */
+static bool assemble(ctf_file_t *fp, struct declaration *made, struct grown *text,
+    const char *qualifier, const char *name)
+{
+    size_t i;
+    char *at;
+    append(text, made->front.at, made->front.len);
+    if (!append_base(fp, text, made->base, qualifier))
+        return false;
+    if (made->left.len + made->right.len + strlen(name) != 0)
+        append(text, " ", 1);
+    at = more(text, made->left.len);
+    for (i = 0; at != NULL && i < made->left.len; i++)
+        at[i] = made->left.at[made->left.len - 1 - i];
+    append(text, name, strlen(name));
+    append(text, made->right.at, made->right.len);
+    if (text->is_full || made->front.is_full || made->left.is_full || made->right.is_full) {
+        (void)ctfd__fail(fp, CTFD_MEMORY);
+        return false;
+    }
+    return true;
+}
+
+/* Writes as much as fits, and a zero byte; the length of all of it. */
+static ssize_t put(ctf_file_t *fp, const struct grown *made, char *text, size_t size)
+{
+    size_t len = made->len < size ? made->len : size - (size != 0);
+    if (size != 0) {
+        memcpy(text, made->at, len);
+        text[len] = '\0';
+    }
+    if (made->len >= size)
+        (void)ctfd__fail(fp, CTFD_TOO_LONG);
+    return (ssize_t)made->len;
+}
+
+static ssize_t spell(ctf_file_t *fp, ctf_id_t type, char *text, size_t size,
+    const char *qualifier, const char *name)
+{
+    struct declaration made;
+    struct grown whole = { NULL, 0, 0, false };
+    uint32_t kind = CTFD_UNKNOWN;
+    ssize_t len = (ssize_t)CTF_ERR;
+    if (!ctfd__is_type(fp, type) ||
+        ctfd__done(fp, ctfd__kind(fp, (uint16_t)type, &kind)) != 0)
+        return (ssize_t)CTF_ERR;
+    memset(&made, 0, sizeof made);
+    made.is_named = *name != '\0';
+    declare(fp, &made, (uint16_t)type);
+    if (assemble(fp, &made, &whole, qualifier, name))
+        len = put(fp, &whole, text, size);
+    free(made.front.at);
+    free(made.left.at);
+    free(made.right.at);
+    free(whole.at);
+    return len;
+}
+
+ssize_t ctf_type_qlname(ctf_file_t *fp, ctf_id_t type, char *text, size_t size,
+    const char *qualifier)
+{
+    if (qualifier == NULL)
+        return ctf_type_lname(fp, type, text, size);
+    return spell(fp, type, text, size, qualifier, "");
+}
+
+char *ctf_type_qname(ctf_file_t *fp, ctf_id_t type, char *text, size_t size,
+    const char *qualifier)
+{
+    return fitting(ctf_type_qlname(fp, type, text, size, qualifier), text, size);
+}
+
+char *ctf_type_cname(ctf_file_t *fp, ctf_id_t type, char *text, size_t size, const char *name)
+{
+    ssize_t len = name != NULL ? spell(fp, type, text, size, NULL, name)
+                               : ctf_type_lname(fp, type, text, size);
+    return fitting(len, text, size);
+}

@@ -1,0 +1,421 @@
+/* Walks of libctf's calls over random dictionaries that pass every rule, as many as are asked for:
+ * indexes of arrays lead in circles, callbacks make calls themselves, and each allocation of the
+ * calls is refused in turn.
+ *
+ * usage: walks ROUNDS [SEED]
+ *
+ * Whether two types are compatible is compared with a definition that is computed otherwise: all
+ * pairs are the same at first, and those that differ are taken out until none is left to take.
+ * Linked with --wrap for malloc, calloc and realloc.
+ */
+#include "ctfd_libctf.h"
+
+#include "common.h"
+
+#include <limits.h>
+
+#define MOST 24
+
+void *__real_malloc(size_t size);
+void *__real_calloc(size_t count, size_t size);
+void *__real_realloc(void *old, size_t size);
+
+static unsigned long allocations, refused_at;
+
+static bool is_refused(void)
+{
+    return ++allocations == refused_at;
+}
+
+void *__wrap_malloc(size_t size)
+{
+    return is_refused() ? NULL : __real_malloc(size);
+}
+
+void *__wrap_calloc(size_t count, size_t size)
+{
+    return is_refused() ? NULL : __real_calloc(count, size);
+}
+
+void *__wrap_realloc(void *old, size_t size)
+{
+    return is_refused() ? NULL : __real_realloc(old, size);
+}
+
+static uint64_t state;
+
+static uint32_t next(void)
+{
+    state ^= state << 13;
+    state ^= state >> 7;
+    state ^= state << 17;
+    return (uint32_t)(state >> 16);
+}
+
+static uint32_t below(uint32_t n)
+{
+    return n == 0 ? 0 : next() % n;
+}
+
+/* ---- dictionaries, by their bytes */
+
+struct made {
+    uint8_t at[8192];
+    size_t len;
+    unsigned types;
+};
+
+static void put16(struct made *made, unsigned value)
+{
+    made->at[made->len++] = (uint8_t)value;
+    made->at[made->len++] = (uint8_t)(value >> 8);
+}
+
+static void put32(struct made *made, uint32_t value)
+{
+    put16(made, value & 0xffff);
+    put16(made, value >> 16);
+}
+
+/* The strings of each: "", "a", "b" and "c", by where they begin. */
+static const char strings[] = "\0a\0b\0c";
+
+static unsigned some_name(void)
+{
+    static const unsigned names[] = { 0, 1, 1, 3, 5 };
+    return names[below(5)];
+}
+
+static void put_record(struct made *made, unsigned kind, unsigned vlen, unsigned size)
+{
+    put32(made, kind == CTF_K_ARRAY || kind == CTF_K_POINTER ? 0 : some_name());
+    put16(made, kind << 11 | (below(4) != 0) << 10 | vlen);
+    put16(made, size);
+}
+
+/* A type of a number: what it holds or leads to comes before it; an index may be any type. */
+static void put_type(struct made *made, unsigned number)
+{
+    unsigned i, members, earlier = number - 1;
+    switch (number == 1 ? 0 : below(9)) {
+    case 1:
+    case 2:
+    case 3:
+        put_record(made, CTF_K_ARRAY, 0, 0);
+        put16(made, 1 + below(earlier));
+        put16(made, 1 + below(made->types));
+        put32(made, 1 + below(2));
+        break;
+    case 4:
+        put_record(made, CTF_K_POINTER, 0, below(number));
+        break;
+    case 5:
+        put_record(made, CTF_K_TYPEDEF + below(4), 0, 1 + below(earlier));
+        break;
+    case 6:
+        members = below(4);
+        put_record(made, below(2) == 0 ? CTF_K_STRUCT : CTF_K_UNION, members, 8);
+        for (i = 0; i < members; i++) {
+            put32(made, some_name());
+            put16(made, 1 + below(earlier));
+            put16(made, 8 * i);
+        }
+        break;
+    case 7:
+        put_record(made, CTF_K_ENUM, 2, 4);
+        for (i = 0; i < 2; i++) {
+            put32(made, some_name());
+            put32(made, below(3));
+        }
+        break;
+    case 8:
+        put_record(made, CTF_K_FUNCTION, 2, below(number));
+        put16(made, below(number));
+        put16(made, 1 + below(earlier));
+        break;
+    default:
+        put_record(made, CTF_K_INTEGER, 0, 4);
+        put32(made, (1 + below(2)) << 24 | 32);
+    }
+}
+
+static void make_dictionary(struct made *made)
+{
+    unsigned i;
+    size_t end;
+    made->len = 0;
+    made->types = 1 + below(MOST);
+    put32(made, 0x0002cff1);
+    for (i = 0; i < 8; i++)
+        put32(made, 0);
+    for (i = 1; i <= made->types; i++)
+        put_type(made, i);
+    end = made->len;
+    memcpy(made->at + end, strings, sizeof strings);
+    made->len = 28;
+    put32(made, (uint32_t)(end - 36));
+    put32(made, sizeof strings);
+    made->len = end + sizeof strings;
+}
+
+static ctf_file_t *opened(struct made *made, int *error)
+{
+    ctf_sect_t section;
+    memset(&section, 0, sizeof section);
+    section.cts_data = made->at;
+    section.cts_size = made->len;
+    return ctf_bufopen(&section, NULL, NULL, error);
+}
+
+/* ---- whether types are compatible, by taking out those that are not */
+
+struct shape {
+    int kind;
+    char name[32];
+    ctf_encoding_t encoding;
+    ctf_arinfo_t array;
+    ctf_id_t to;
+    ssize_t size;
+};
+
+/* What stands behind typedefs and qualifiers: 0 for void. */
+static struct shape shape_of(ctf_file_t *fp, ctf_id_t type)
+{
+    struct shape shape;
+    memset(&shape, 0, sizeof shape);
+    type = type == 0 ? 0 : ctf_type_resolve(fp, type);
+    shape.to = type;
+    if (type == 0)
+        return shape;
+    shape.kind = ctf_type_kind(fp, type);
+    if (shape.kind != CTF_K_ARRAY && shape.kind != CTF_K_POINTER && shape.kind != CTF_K_FUNCTION)
+        CHECK(ctf_type_name(fp, type, shape.name, sizeof shape.name) != NULL);
+    if (shape.kind == CTF_K_INTEGER)
+        CHECK(ctf_type_encoding(fp, type, &shape.encoding) == 0);
+    if (shape.kind == CTF_K_ARRAY)
+        CHECK(ctf_array_info(fp, type, &shape.array) == 0);
+    if (shape.kind == CTF_K_POINTER)
+        shape.array.ctr_contents = ctf_type_reference(fp, type);
+    if (shape.kind == CTF_K_STRUCT || shape.kind == CTF_K_UNION)
+        shape.size = ctf_type_size(fp, type);
+    return shape;
+}
+
+static bool alike(const struct shape *l, const struct shape *r, bool is_one_file)
+{
+    if (is_one_file && l->to == r->to)
+        return true;
+    if (l->to == 0 || r->to == 0)
+        return l->to == r->to;
+    return l->kind == r->kind && strcmp(l->name, r->name) == 0 && l->kind != CTF_K_FUNCTION &&
+        memcmp(&l->encoding, &r->encoding, sizeof l->encoding) == 0 &&
+        l->array.ctr_nelems == r->array.ctr_nelems && l->size == r->size;
+}
+
+static struct shape lefts[MOST + 1], rights[MOST + 1];
+static bool same[MOST + 1][MOST + 1];
+
+/* What a pair leads to: `same` of both. Two that are one type need no more. */
+static bool holds(int l, int r, bool is_one_file)
+{
+    const struct shape *left = &lefts[l], *right = &rights[r];
+    if ((is_one_file && left->to == right->to) || left->to == 0 ||
+        (left->kind != CTF_K_ARRAY && left->kind != CTF_K_POINTER))
+        return true;
+    return same[left->array.ctr_contents][right->array.ctr_contents] &&
+        (left->kind == CTF_K_POINTER || same[left->array.ctr_index][right->array.ctr_index]);
+}
+
+static void compare_all(ctf_file_t *lfp, int lcount, ctf_file_t *rfp, int rcount)
+{
+    bool is_one = lfp == rfp, is_changed = true;
+    int l, r;
+    for (l = 0; l <= lcount; l++)
+        lefts[l] = shape_of(lfp, l);
+    for (r = 0; r <= rcount; r++)
+        rights[r] = shape_of(rfp, r);
+    for (l = 0; l <= lcount; l++)
+        for (r = 0; r <= rcount; r++)
+            same[l][r] = alike(&lefts[l], &rights[r], is_one);
+    while (is_changed) {
+        is_changed = false;
+        for (l = 0; l <= lcount; l++)
+            for (r = 0; r <= rcount; r++)
+                if (same[l][r] && !holds(l, r, is_one)) {
+                    same[l][r] = false;
+                    is_changed = true;
+                }
+    }
+    for (l = 1; l <= lcount; l++)
+        for (r = 1; r <= rcount; r++)
+            CHECK(ctf_type_compat(lfp, l, rfp, r) == same[l][r]);
+}
+
+/* ---- callbacks that make calls */
+
+struct inside {
+    ctf_file_t *fp;
+    int types, depth, left;
+};
+
+static void walk(struct inside *in);
+
+static int again(const char *name, struct inside *in)
+{
+    char text[64];
+    ctf_id_t type = (ctf_id_t)below((uint32_t)in->types + 2);
+    CHECK(name != NULL && strlen(name) <= 1);
+    switch (below(8)) {
+    case 0:
+        (void)ctf_setmodel(in->fp, below(2) == 0 ? CTF_MODEL_ILP32 : CTF_MODEL_LP64);
+        break;
+    case 1:
+        (void)ctf_type_qname(in->fp, type, text, sizeof text, "m");
+        break;
+    case 2:
+        (void)ctf_import(in->fp, NULL);
+        break;
+    case 3:
+        ctf_close(ctf_dup(in->fp));
+        break;
+    case 4:
+        (void)ctf_type_compat(in->fp, type, in->fp, 1);
+        break;
+    default:
+        if (in->depth < 3) {
+            in->depth++;
+            walk(in);
+            in->depth--;
+        }
+    }
+    return --in->left <= 0;
+}
+
+static int on_member(const char *name, ctf_id_t type, ulong_t offset, void *arg)
+{
+    (void)type;
+    (void)offset;
+    return again(name, (struct inside *)arg);
+}
+
+static int on_visit(const char *name, ctf_id_t type, ulong_t offset, int depth, void *arg)
+{
+    CHECK(depth <= MOST);
+    return on_member(name, type, offset, arg);
+}
+
+static int on_enumerator(const char *name, int value, void *arg)
+{
+    (void)value;
+    return again(name, (struct inside *)arg);
+}
+
+static int on_type(ctf_id_t type, boolean_t root, void *arg)
+{
+    (void)type;
+    (void)root;
+    return again("", (struct inside *)arg);
+}
+
+static int on_string(const char *text, void *arg)
+{
+    return again(text, (struct inside *)arg);
+}
+
+/* Some walk of some type. */
+static void walk(struct inside *in)
+{
+    ctf_id_t type = (ctf_id_t)below((uint32_t)in->types + 2);
+    char text[64];
+    int value = 0;
+    switch (below(7)) {
+    case 0: (void)ctf_member_iter(in->fp, type, on_member, in); break;
+    case 1: (void)ctf_enum_iter(in->fp, type, on_enumerator, in); break;
+    case 2: (void)ctf_type_visit(in->fp, type, on_visit, in); break;
+    case 3: (void)ctf_type_iter(in->fp, B_TRUE, on_type, in); break;
+    case 4: (void)ctf_string_iter(in->fp, on_string, in); break;
+    case 5: (void)ctf_type_cname(in->fp, type, text, below(sizeof text), "v"); break;
+    default: (void)ctf_enum_value(in->fp, type, "a", &value);
+    }
+}
+
+/* ---- allocations that are refused */
+
+/* The same calls each time; whatever is refused, what is answered is right or an error. */
+static void some_calls(struct made *made)
+{
+    char text[64];
+    int error = 0;
+    unsigned t;
+    ctf_file_t *fp = opened(made, &error), *more;
+    struct inside in = { fp, (int)made->types, 3, 20 };
+    if (fp == NULL) {
+        CHECK(error == CTFD_MEMORY);
+        return;
+    }
+    for (t = 1; t <= made->types; t++) {
+        CHECK(ctf_type_kind(fp, t) > 0 && ctf_type_resolve(fp, t) >= 0);
+        if (ctf_type_cname(fp, t, text, sizeof text, "v") == NULL)
+            CHECK(ctf_errno(fp) == CTFD_MEMORY || ctf_errno(fp) == CTFD_TOO_LONG);
+        (void)ctf_member_iter(fp, t, on_member, &in);
+        (void)ctf_enum_iter(fp, t, on_enumerator, &in);
+        (void)ctf_type_compat(fp, t, fp, 1);
+    }
+    more = ctf_dup(fp);
+    if (more == NULL)
+        CHECK(ctf_errno(fp) == CTFD_MEMORY);
+    else if (ctf_type_compat(fp, 1, more, 1) == 0)
+        CHECK(ctf_errno(fp) == CTFD_MEMORY || ctf_errno(more) == CTFD_MEMORY);
+    ctf_close(more);
+    (void)ctf_setmodel(fp, CTF_MODEL_ILP32);
+    (void)ctf_lookup_by_name(fp, "const  struct a");
+    ctf_close(fp);
+}
+
+static void refuse_each(struct made *made)
+{
+    uint64_t was = state;
+    for (refused_at = 1;; refused_at++) {
+        state = was;
+        allocations = 0;
+        some_calls(made);
+        if (allocations < refused_at)
+            break;
+    }
+    refused_at = 0;
+}
+
+int main(int argc, char **argv)
+{
+    unsigned i, rounds, accepted = 0;
+    static struct made left, right;
+    if (argc < 2)
+        return 2;
+    rounds = (unsigned)strtoul(argv[1], NULL, 10);
+    state = (argc > 2 ? strtoull(argv[2], NULL, 10) : 1) * 0x9e3779b97f4a7c15 + 1;
+    for (i = 0; i < rounds; i++) {
+        int error = 0, calls;
+        ctf_file_t *lfp, *rfp;
+        struct inside in = { NULL, 0, 0, 60 };
+        make_dictionary(&left);
+        make_dictionary(&right);
+        lfp = opened(&left, &error);
+        rfp = opened(&right, &error);
+        if (lfp != NULL && rfp != NULL) {
+            accepted++;
+            compare_all(lfp, (int)left.types, lfp, (int)left.types);
+            compare_all(lfp, (int)left.types, rfp, (int)right.types);
+            in.fp = lfp;
+            in.types = (int)left.types;
+            for (calls = 0; calls < 10; calls++)
+                walk(&in);
+            if (i % 8 == 0)
+                refuse_each(&left);
+        }
+        ctf_close(lfp);
+        ctf_close(rfp);
+    }
+    CHECK(accepted == rounds);
+    printf("%u of %u pairs of dictionaries accepted\n", accepted, rounds);
+    return counted("walks");
+}
