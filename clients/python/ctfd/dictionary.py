@@ -39,7 +39,12 @@ def open_file(session: Session, path: str, sym: Optional[bytes] = None,
     place of the file's. `number` chooses one of several dictionaries that stand behind each other.
     Raises Unreadable where the dictionary says another model.
     """
-    found = source.read(path, number)
+    return open_found(session, source.read(path, number), path, sym, strings, model)
+
+
+def open_found(session: Session, found: Source, path: str, sym: Optional[bytes] = None,
+               strings: Optional[bytes] = None, model: Optional[Model] = None) -> Dictionary:
+    """As `open_file`, of what was found in a file."""
     said = identity.model(found.ctf)
     if model and said and model != said:
         raise Unreadable(f"{path}: it says that it is of {said}, and {model} was asked for: leave"
