@@ -10,20 +10,22 @@ import os
 import stat
 import tempfile
 from dataclasses import dataclass, field
-from typing import Callable, List, NamedTuple, Optional
+from typing import TYPE_CHECKING, Callable, List, NamedTuple, Optional, Tuple
 
 from . import archives, elf, from_btf, from_gnu, identity, source
 from .cache import Cache, Kept, key, user_cache
-from .convert import converted
 from .elf import Elf
 from .faults import Unreadable
 from .files import Mapped, contents
-from .inputs import FORMS, Options
 from .model import Model
 from .source import Source
 from .symbols import DYNSYM, SYMTAB, Handed, considered, handed, made_table
 
+if TYPE_CHECKING:
+    from .inputs import Options
+
 FEW = 3
+FORMS = ("ctf", "btf", "dwarf", "gnu")  # those of `inputs`
 CONVERTED = (elf.MAGIC, from_btf.MAGIC, from_btf.BIG_ENDIAN, from_gnu.MAGIC, source.ARCHIVE)
 
 
@@ -123,8 +125,18 @@ class _Place:
             raise Unreadable(str(error).replace(self.path, self.named)) from error
 
 
+def converted(path: str, options: Options) -> Tuple[Source, List[str]]:
+    """What is handed in for a file that is converted, and what was lost. What converts is imported
+    here, since who has a dictionary waits for nothing else."""
+    from . import convert
+
+    return convert.converted(path, options.model, options)
+
+
 def _made(path: str, data: Mapped, asked: Asked) -> Source:
     """The dictionary of a file that is converted, or that was."""
+    from .inputs import Options
+
     options = Options(asked.model, asked.form, asked.base, asked.folders, asked.number,
                       _table(path, data), asked.warn)
     cache = asked.cache if data[:len(archives.THIN)] != archives.THIN else None
@@ -135,7 +147,7 @@ def _made(path: str, data: Mapped, asked: Asked) -> Source:
         kept = cache.get(named)
         found = _attached(path, data, kept) if kept else None
     if kept is None or found is None:
-        made, losses = converted(path, asked.model, options)
+        made, losses = converted(path, options)
         kept = Kept(made.ctf, made.model, losses)
         found = _attached(path, data, kept) or made
         if cache is not None:

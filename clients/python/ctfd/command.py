@@ -164,7 +164,7 @@ def _listing(told: Type, wanted: argparse.Namespace) -> str:
 def _all(types: Dictionary) -> Iterator[str]:
     """A line for each type: its number, its size in bytes ("-" where it has none), its name."""
     own = types.types()
-    types.fetch([(op, t.number) for t in own for op in ("record", "size", "name")])
+    types.fetch([(op, t.number) for t in own for op in ("size", "name")])
     for t in own:
         yield f"{t.number:>6} {_size(t):>8}  {_spelled(t)}"
 

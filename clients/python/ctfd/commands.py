@@ -20,6 +20,11 @@ def add_words(parser: argparse.ArgumentParser) -> None:
     """The options of every command."""
     parser.add_argument("--service", metavar="CTFD", help="the program to ask (CTFD in the"
                         " environment, or ctfd beside this command or on the path)")
+    add_version(parser)
+
+
+def add_version(parser: argparse.ArgumentParser) -> None:
+    """The option that tells the version."""
     parser.add_argument("--version", action="version", version=f"%(prog)s {VERSION}")
 
 

@@ -1,8 +1,8 @@
 """The pieces of which pictures are made: boxes and texts of SVG, in colors for light and dark."""
 from __future__ import annotations
 
+from html import escape
 from typing import Iterable, Tuple
-from xml.sax.saxutils import escape
 
 from .text import printable
 
@@ -47,7 +47,7 @@ TEXTS = {"title": ' font-size="14" font-weight="bold"', "offset": ' text-anchor=
 def clean(said: str) -> str:
     """Text within SVG: no name of a dictionary or of a file is a tag or ends an attribute, and none
     has a character that XML has not."""
-    return escape(printable(said), {'"': "&quot;"})
+    return escape(printable(said))
 
 
 def page(wide: float, high: float, title: str, parts: Iterable[str]) -> str:

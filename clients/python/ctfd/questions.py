@@ -1,7 +1,7 @@
 """Questions on all types of a file: which member is at an offset, who takes a type, and others."""
 from __future__ import annotations
 
-from typing import Any, Iterator, List, NamedTuple, Sequence, Set, Tuple
+from typing import Any, Iterable, Iterator, List, NamedTuple, Sequence, Set, Tuple
 
 from . import declare, elf, objects
 from .catalog import Catalog, RENAMES
@@ -19,6 +19,7 @@ from .wire import Request
 
 AT_ONCE = 8192
 MOST_AT = 1000
+MOST_TEXT = 1 << 25
 
 
 # Which member is at an offset.
@@ -47,6 +48,10 @@ def offset(written: str) -> int:
 
 def at(whole: Whole, name: str, written: str) -> Iterator[str]:
     """Lines on what a struct or union has at an offset: each member, the innermost last."""
+    return _bounded(whole, _all_at(whole, name, written))
+
+
+def _all_at(whole: Whole, name: str, written: str) -> Iterator[str]:
     bit = offset(written)
     is_bit = ":" in written
     for number in sorted(_aggregates(whole, name)):
@@ -132,8 +137,18 @@ def members(whole: Whole, name: str, is_json: bool) -> Iterator[str]:
              for held in embeds.walked(number) if held.path and meets(held.path[-1], pattern)]
     if not found:
         raise Unknown(printable(f"no member is called {name}"))
-    for held in found:
-        yield _held(whole, held, is_json)
+    yield from _bounded(whole, (_held(whole, held, is_json) for held in found))
+
+
+def _bounded(whole: Whole, lines: Iterable[str]) -> Iterator[str]:
+    """As many lines as a reader may want: a hostile type has members of members without end."""
+    told = 0
+    for line in lines:
+        told += len(line)
+        if told > MOST_TEXT:
+            whole.cut.append(f"more than {MOST_TEXT} bytes are told of members: ask for fewer")
+            return
+        yield line
 
 
 def _held(whole: Whole, held: Held, is_json: bool) -> str:

@@ -7,7 +7,7 @@ import unittest
 from pathlib import Path
 from unittest import mock
 
-from ctfd import anyfile
+from ctfd import anyfile, inputs
 from ctfd.anyfile import Asked
 from ctfd.cache import Cache, Kept, key, user_cache
 
@@ -141,6 +141,9 @@ class Caches(Folder):
         self.assertEqual(list(self.cache.iterdir()), [])
         self.assertIsNone(Cache(Path("/proc/nowhere")).get("name"))
         Cache(Path("/proc/nowhere")).put("name", Kept(b"x"))
+
+    def test_the_forms_are_those_of_the_converter(self) -> None:
+        self.assertEqual(anyfile.FORMS, inputs.FORMS)
 
     def test_a_key_is_of_the_bytes_and_of_what_was_asked(self) -> None:
         keys = {key(b"a", "a"), key(b"b", "a"), key(b"a", "a", ["dwarf"]), key(b"", "a")}
