@@ -31,6 +31,7 @@ import libctf
 from version import TOP, differing, version
 
 CLIENT = TOP / "clients" / "python"
+COMPLETIONS = TOP / "clients" / "completions"
 COMMANDS = sorted(path.name for path in CLIENT.glob("ctfd-*"))
 HEADERS = ("ctfd.h", "ctfd_libctf.h")
 DEBIANS = "/usr/bin/python3"
@@ -120,6 +121,9 @@ class Places:
             yield self.prefix / "lib/systemd/system" / unit.name, unit, 0o644
         for name in COMMANDS:
             yield self.prefix / "bin" / name, CLIENT / name, 0o755
+            completions = self.prefix / "share/bash-completion/completions"
+            yield completions / name, COMPLETIONS / "ctfd.bash", 0o644
+        yield self.prefix / "share/zsh/site-functions/_ctfd", COMPLETIONS / "_ctfd", 0o644
 
     def text(self, path: Path, source: Path) -> str:
         """What a file has in its place."""

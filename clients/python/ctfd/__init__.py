@@ -1,8 +1,7 @@
 """A client of ctfd, the service for CTF dictionaries: types of C programs as Python objects.
 
-    with ctfd.Client("crates/ctfd/out/ctfd") as client:
-        types = ctfd.open_file(client.session(), "examples/lua.ctf")
-        print(ctfd.listing(types.find("struct lua_State")))
+    with ctfd.open("examples/lua.ctf") as types:
+        print(ctfd.listing(types["struct lua_State"]))
 """
 import sys
 
@@ -12,8 +11,9 @@ if sys.version_info < (3, 9):
 
 from .declare import declaration
 from .dictionary import Dictionary, open_file, open_source, taken, withdraw
+from .easy import open_path as open
 from .faults import (BadDictionary, BadSymbols, Error, Gone, Incomplete, NoMemory, NoParent,
-                     NotFound, Refused, Unreadable)
+                     NoSuchType, NotFound, Refused, Unreadable)
 from .layout import Layout, Place, layout
 from .listing import definition, listing
 from .model import Model
@@ -24,8 +24,8 @@ from .wire import Client, Session
 
 __all__ = [
     "BadDictionary", "BadSymbols", "Client", "Dictionary", "Encoding", "Enumerator", "Error",
-    "Gone", "Incomplete", "Layout", "Member", "Model", "NoMemory", "NoParent", "NotFound", "Place",
-    "PointerTo", "Refused", "Session", "Signature", "Source", "Type", "Unreadable", "__version__",
-    "declaration", "definition", "layout", "listing", "open_file", "open_source", "read", "taken",
-    "withdraw",
+    "Gone", "Incomplete", "Layout", "Member", "Model", "NoMemory", "NoParent", "NoSuchType",
+    "NotFound", "Place", "PointerTo", "Refused", "Session", "Signature", "Source", "Type",
+    "Unreadable", "__version__", "declaration", "definition", "layout", "listing", "open",
+    "open_file", "open_source", "read", "taken", "withdraw",
 ]

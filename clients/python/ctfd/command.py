@@ -1,9 +1,10 @@
 """Prints the types of a program: one as pahole does, with places and holes, or a list of all;
-or tells their sizes and holes, who holds or points to one, and draws them.
+or tells their sizes and holes, who holds, points to or takes one, and draws them.
 
-FILE is an ELF file with a section .SUNW_ctf or .ctf, or the bytes of such a section. NAME is a
-type as C names it ("struct lua_State", "TValue"), or a function or object of the program. The
-status is 1 where something is refused or not found.
+FILE is what ctfd-convert takes: a program, library or object file with debug information, an
+archive, or a section of CTF or BTF. What is converted is kept in a cache. NAME is a type as C names
+it ("struct lua_State", "TValue"), or a function or object of the program. The status is 1 where
+something is refused or not found.
 """
 from __future__ import annotations
 
@@ -11,7 +12,8 @@ import argparse
 import sys
 from typing import Iterator, List, Optional, Sequence
 
-from . import commands, compilable, declare, picture, reports, source, treemap, words
+from . import (anyfile, commands, compilable, declare, picture, questions, reorganize, repeated,
+               reports, source, treemap, words)
 from .catalog import ALL_LISTS, LISTS
 from .dictionary import Dictionary
 from .faults import Error, NotFound, Refused, Unreadable
@@ -19,6 +21,7 @@ from .listing import definition, listing
 from .naming import Unknown, is_pattern
 from .nearest import offered
 from .opening import Opener, Whole, whole
+from .source import Source
 from .text import printable
 from .types import Signature, Type
 from .wire import Session
@@ -36,7 +39,7 @@ def main(arguments: Optional[Sequence[str]] = None) -> int:
 def _run(session: Session, wanted: argparse.Namespace) -> int:
     """All files, one after the other; one without what is wanted is passed over if another has it.
     """
-    opener = Opener(session, wanted.model, wanted.dictionary)
+    opener = Opener(session, anyfile.asked(wanted, _warn))
     missed: List[Unknown] = []
     for path in wanted.files:
         try:
@@ -61,16 +64,19 @@ def _lines(opener: Opener, wanted: argparse.Namespace, path: str) -> Iterator[st
     if _asks_all(wanted):
         is_whole = wanted.json or wanted.c  # with arguments and enumerators too
         told = whole(types, path, ALL_LISTS if is_whole else LISTS)
-        yield from _reported(told, wanted)
+        yield from _reported(told, opener.read[path].source, wanted)
         for cut in told.cut:
             _warn(f"{path}: {cut}")
         return
     if types.is_child and not wanted.parent:
         _warn(f"{path} is a child of {types.parent_name or 'a parent without a name'}, whose types"
               " it names: name the parent's file by --parent")
-    if wanted.names:
+    if wanted.number is not None:
+        yield _listing(_numbered(types, wanted.number).gather(), wanted)
+    elif wanted.names:
+        ctf = opener.read[path].source.ctf
         for name in wanted.names:
-            yield _named(types, name, wanted)
+            yield _named(types, name, wanted, ctf)
     else:
         yield from _all(types)
 
@@ -78,11 +84,41 @@ def _lines(opener: Opener, wanted: argparse.Namespace, path: str) -> Iterator[st
 def _asks_all(wanted: argparse.Namespace) -> bool:
     """Whether all types of a file are read for the answer."""
     asked = (wanted.sizes, wanted.holes is not None, wanted.contains, wanted.uses, wanted.c,
-             wanted.svg, wanted.svg_sizes, wanted.json, *map(is_pattern, wanted.names))
+             wanted.svg, wanted.svg_sizes, wanted.json, wanted.functions, wanted.members,
+             wanted.at, wanted.reorganize, wanted.show, *map(is_pattern, wanted.names))
     return any(asked)
 
 
-def _reported(told: Whole, wanted: argparse.Namespace) -> Iterator[str]:
+def _reported(told: Whole, found: Source, wanted: argparse.Namespace) -> Iterator[str]:
+    asked = _asked(told, found, wanted)
+    yield from asked if asked is not None else _of_all(told, wanted)
+
+
+def _asked(told: Whole, found: Source, wanted: argparse.Namespace) -> Optional[Iterator[str]]:
+    """The answer to a question on all types, where one is asked."""
+    if wanted.at:
+        return questions.at(told, *wanted.at)
+    if wanted.members:
+        return questions.members(told, wanted.members, wanted.json)
+    if wanted.functions:
+        return questions.functions(told, found, wanted.functions, wanted.json)
+    if wanted.show:
+        return questions.records(told, wanted.show, wanted.hex)
+    return _reorganized(told, wanted) if wanted.reorganize else None
+
+
+def _reorganized(told: Whole, wanted: argparse.Namespace) -> Iterator[str]:
+    numbers = told.names.matching(wanted.names or ["*"], told.catalog.own)
+    structs = dict.fromkeys(told.catalog.resolved(n) for n in numbers)
+    kept = [n for n in structs if told.catalog[n].kind == "struct"]
+    if not kept:
+        raise Error(f"{' or '.join(map(printable, wanted.names))}: no struct, and only the members"
+                    " of a struct have an order")
+    for number in kept:
+        yield from reorganize.reorganized(told, number)
+
+
+def _of_all(told: Whole, wanted: argparse.Namespace) -> Iterator[str]:
     held = wanted.contains or wanted.uses
     if held:
         tell = reports.holders_as_json if wanted.json else reports.holders
@@ -122,13 +158,13 @@ def _listings(told: Whole, numbers: Sequence[int], wanted: argparse.Namespace) -
 def _listing(told: Type, wanted: argparse.Namespace) -> str:
     if wanted.plain:
         return definition(told, wanted.expand)
-    return listing(told, wanted.cachelines, wanted.expand)
+    return listing(told, wanted.cachelines, wanted.expand, wanted.hex)
 
 
 def _all(types: Dictionary) -> Iterator[str]:
     """A line for each type: its number, its size in bytes ("-" where it has none), its name."""
     own = types.types()
-    types.fetch([(op, t.number) for t in own for op in ("record", "size", "name")])
+    types.fetch([(op, t.number) for t in own for op in ("size", "name")])
     for t in own:
         yield f"{t.number:>6} {_size(t):>8}  {_spelled(t)}"
 
@@ -148,9 +184,22 @@ def _spelled(t: Type) -> str:
         return f"({fault.name})"
 
 
-def _named(types: Dictionary, name: str, wanted: argparse.Namespace) -> str:
+def _numbered(types: Dictionary, number: int) -> Type:
+    own = [one.number for one in types.types()]
+    if types.parent is not None:
+        own += [one.number for one in types.parent.types()]
+    if number not in own:
+        raise Error(f"no type has the number {number}: they go from {own[0]} to"
+                    f" {own[types.own - 1]}" if own else "it has no types")
+    return types.type(number)
+
+
+def _named(types: Dictionary, name: str, wanted: argparse.Namespace, ctf: bytes) -> str:
     """A type of a name, all of them, or a symbol."""
     found = types.find_all(name) if wanted.all else []
+    more = "" if wanted.all else questions.others(repeated.of_name(ctf, name), name)
+    if more:
+        _warn(more)
     try:
         found = found or [types.find(name)]
     except NotFound:
@@ -171,12 +220,20 @@ def _symbol(types: Dictionary, name: str) -> str:
     except (NotFound, Unreadable) as fault:
         why = fault.name if isinstance(fault, NotFound) else str(fault)
         raise Unknown(f"{name}: neither a type nor a symbol of which something is told"
-                      f" ({why}){offered(name, types.names())}") from fault
+                      f" ({why}){_advice(types, name)}") from fault
     if types.how == "guessed":
         _warn(source.WARNINGS[types.how])
     if isinstance(said, Signature):
         return declare.function(said, name) + ";"
     return declare.object_of(said, name) + ";"
+
+
+def _advice(types: Dictionary, name: str) -> str:
+    """What may have been meant: stars behind a blank are a pointer's, and no pattern."""
+    words = name.replace("*", " ").split()
+    if "*" in name and words in (["struct"], ["union"], ["enum"]):
+        return f"; a star behind a blank is a pointer's: '{words[0]} ?*' is the pattern of all"
+    return offered(name, types.names())
 
 
 def _warn(said: str) -> None:

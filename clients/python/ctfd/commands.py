@@ -1,6 +1,7 @@
 """How the commands run and end: errors as one line, quietly where the reader has left."""
 from __future__ import annotations
 
+import argparse
 import gc
 import io
 import os
@@ -9,9 +10,22 @@ from typing import Callable, Optional
 
 from .faults import Error
 from .text import printable
+from .version import VERSION
 from .wire import Session, connected
 
-INTERRUPTED = 130
+INTERRUPTED, UNREAD = 130, 141  # as a shell has it of SIGINT and SIGPIPE
+
+
+def add_words(parser: argparse.ArgumentParser) -> None:
+    """The options of every command."""
+    parser.add_argument("--service", metavar="CTFD", help="the program to ask (CTFD in the"
+                        " environment, or ctfd beside this command or on the path)")
+    add_version(parser)
+
+
+def add_version(parser: argparse.ArgumentParser) -> None:
+    """The option that tells the version."""
+    parser.add_argument("--version", action="version", version=f"%(prog)s {VERSION}")
 
 
 def run(command: str, program: Optional[str], work: Callable[[Session], int], trouble: int) -> int:
@@ -29,7 +43,7 @@ def run(command: str, program: Optional[str], work: Callable[[Session], int], tr
         return status
     except BrokenPipeError:  # a reader such as head has left
         os.dup2(os.open(os.devnull, os.O_WRONLY), sys.stdout.fileno())
-        return 0
+        return UNREAD
     except KeyboardInterrupt:
         return INTERRUPTED
     except MemoryError:

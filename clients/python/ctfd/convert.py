@@ -106,10 +106,11 @@ def _write(words: argparse.Namespace, found: Input, made: Made) -> None:
         outputs.report(words.report, words.input, found, made)
 
 
-def converted(path: str, model: Optional[Model] = None) -> Tuple[Source, List[str]]:
+def converted(path: str, model: Optional[Model] = None, options: Optional[Options] = None
+              ) -> Tuple[Source, List[str]]:
     """What is handed in for a file whose types are not CTF of version 2: its dictionary, made here,
-    and its symbols; and what was lost. Raises Error."""
-    found = read(path, Options(model=model))
+    and its symbols; and what was lost. `options` says more of it. Raises Error."""
+    found = read(path, options or Options(model=model))
     made = _alone(_selected(found, [])[0], found.symbols)
     table, strings = outputs.symbols(path, made)
     how = "named" if table else "none"

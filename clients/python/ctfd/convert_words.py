@@ -5,6 +5,7 @@ import argparse
 import os
 from typing import Iterator, Optional, Sequence
 
+from .commands import add_version
 from .faults import Error
 from .inputs import FORMS
 from .model import POINTER_SIZES
@@ -62,6 +63,7 @@ def _add_outputs(parser: argparse.ArgumentParser) -> None:
                         " what was lost; - is standard output")
     parser.add_argument("--lossy", action="store_true",
                         help="accepts what CTF of version 2 can't hold: the status is 0")
+    add_version(parser)
     parser.add_argument("--service", metavar="CTFD", help="the program that judges (CTFD in the"
                         " environment, or ctfd on the path)")
 

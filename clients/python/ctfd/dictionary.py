@@ -1,12 +1,13 @@
 """An open dictionary: its types, names and symbols, with what was answered kept."""
 from __future__ import annotations
 
-from typing import Any, Dict, Iterable, List, Optional, Tuple, Union
+from typing import Any, Callable, Dict, Iterable, Iterator, List, Optional, Tuple, Union
 
 from . import identity, source, text
-from .faults import BadSymbols, NoMemory, Refused, Unreadable
+from .faults import BadSymbols, NoMemory, NoSuchType, NotFound, Refused, Unreadable
 from .gather import Gathering
 from .model import Model, POINTER_SIZES
+from .nearest import offered
 from .source import Source
 from .text import Name
 from .types import PointerTo, QUALIFIERS, Signature, Type
@@ -39,7 +40,12 @@ def open_file(session: Session, path: str, sym: Optional[bytes] = None,
     place of the file's. `number` chooses one of several dictionaries that stand behind each other.
     Raises Unreadable where the dictionary says another model.
     """
-    found = source.read(path, number)
+    return open_found(session, source.read(path, number), path, sym, strings, model)
+
+
+def open_found(session: Session, found: Source, path: str, sym: Optional[bytes] = None,
+               strings: Optional[bytes] = None, model: Optional[Model] = None) -> Dictionary:
+    """As `open_file`, of what was found in a file."""
     said = identity.model(found.ctf)
     if model and said and model != said:
         raise Unreadable(f"{path}: it says that it is of {said}, and {model} was asked for: leave"
@@ -88,6 +94,7 @@ class Dictionary:
         self.how = how
         self.types_label = types_label
         self.parent: Optional[Dictionary] = None
+        self.ends: Optional[Callable[[], object]] = None
         self._answers: Dict[Tuple[str, int], Outcome] = {}
         self._copies: Dict[int, bool] = {}
         info = session.ask("info", d=slot)
@@ -121,7 +128,59 @@ class Dictionary:
         self.session.ask("publish", d=self.slot, name=name)
 
     def close(self) -> None:
-        self.session.ask("close", d=self.slot)
+        """Gives the slot back, and ends a service that was started for this dictionary alone."""
+        if self.ends is None:
+            self.session.ask("close", d=self.slot)
+        else:
+            self.ends()
+
+    def __enter__(self) -> Dictionary:
+        return self
+
+    def __exit__(self, *_: object) -> None:
+        self.close()
+
+    def __repr__(self) -> str:
+        child = f", a child of {self.parent_name}" if self.is_child else ""
+        return f"<Dictionary of {self.own} types, {self.model}{child}>"
+
+    def __len__(self) -> int:
+        return self.own
+
+    def __bool__(self) -> bool:
+        return True
+
+    def __iter__(self) -> Iterator[Type]:
+        return iter(self.types())
+
+    def __getitem__(self, name: Union[Name, int]) -> Type:
+        """The type that C's name says, or that of a number. Raises NoSuchType, which is a KeyError
+        too, and says which names are near."""
+        if isinstance(name, int):
+            if name not in range(self.first, self.first + self.own) and not self._is_parents(name):
+                raise NoSuchType(f"no type has the number {name}")
+            return self.type(name).gather()
+        try:
+            return self.find(name).gather()
+        except NotFound as fault:
+            told = text.name(text.escape(name))
+            raise NoSuchType(text.printable(
+                f"no type is called {told}{offered(told, self.names())}")) from fault
+
+    def __contains__(self, name: Name) -> bool:
+        try:
+            self.find(name)
+        except Refused:
+            return False
+        return True
+
+    @property
+    def first(self) -> int:
+        """The number of its first type."""
+        return OWN_OF_CHILD + 1 if self.is_child else 1
+
+    def _is_parents(self, number: int) -> bool:
+        return self.parent is not None and 0 < number <= self.parent.own
 
     # Questions, and what is known of their answers.
 
@@ -153,7 +212,8 @@ class Dictionary:
             self.fetch([(op, t)])
         outcome = home._answers.get((op, t))
         if outcome is None:
-            return self.session.ask(op, d=home.slot, t=t)
+            said: Answer = self.session.ask(op, d=home.slot, t=t)
+            return said
         if isinstance(outcome, Refused):
             raise outcome.with_traceback(None)
         return outcome
@@ -183,8 +243,7 @@ class Dictionary:
 
     def types(self) -> List[Type]:
         """The dictionary's own types, in order."""
-        first = OWN_OF_CHILD + 1 if self.is_child else 1
-        return [self.type(t) for t in range(first, first + self.own)]
+        return [self.type(t) for t in range(self.first, self.first + self.own)]
 
     def find(self, name: Name) -> Type:
         """The type that C's name says, as "struct x **"; the least, where several have the name.
@@ -264,7 +323,8 @@ class Dictionary:
     def _ask_symbols(self, op: str, **fields: Any) -> Answer:
         if self.how in ("unread", "differs", "stripped"):
             raise Unreadable(source.WARNINGS[self.how])
-        return self.session.ask(op, d=self.slot, **fields)
+        said: Answer = self.session.ask(op, d=self.slot, **fields)
+        return said
 
     def signature(self, said: Answer) -> Signature:
         """What `args` or `function` answered, with types."""

@@ -9,6 +9,7 @@ from __future__ import annotations
 from typing import Any, Callable, Dict, Iterator, List, NamedTuple, Optional, Tuple
 
 from .catalog import RENAMES
+from .dictionary import WORDS
 from .embeds import Embeds
 from .opening import Whole
 from .records import AGGREGATES, Record
@@ -18,7 +19,14 @@ from .texts import Texts
 RUN = 4
 NAMED = (*AGGREGATES, "enum", "typedef", "integer", "float", "forward")
 
+BASE = ("integer", "float")
+
 Key = Tuple[str, str]
+
+
+def usual(name: str) -> str:
+    """The name of a base type that gcc gives it: other compilers spell it otherwise."""
+    return WORDS.get(name, name)
 
 
 class Said(NamedTuple):
@@ -32,13 +40,25 @@ class Said(NamedTuple):
     new: Any = None
 
 
+class Reach(NamedTuple):
+    """Symbols that lead to a type by the same steps."""
+
+    symbols: Tuple[str, ...]
+    steps: Tuple[str, ...]
+
+    def __str__(self) -> str:
+        return f"{', '.join(map(printable, self.symbols))}: {', '.join(self.steps)}"
+
+
 class Change(NamedTuple):
-    """All that differs of one type or symbol; `how` is added, removed or changed."""
+    """All that differs of one type or symbol; `how` is added, removed or changed. `reached` tells
+    which exported symbols lead to a type."""
 
     label: str
     kind: str
     how: str
     said: Tuple[Said, ...]
+    reached: Tuple[Reach, ...] = ()
 
     @property
     def breaks(self) -> bool:
@@ -75,7 +95,7 @@ class Side:
         self.whole = whole
         self.catalog = whole.catalog
         self.embeds = Embeds(whole.catalog, whole.names)
-        self._texts = Texts(whole.catalog)
+        self._texts = Texts(whole.catalog, usual)
         self._types: Dict[int, Tuple[int, int, str, Tuple[Any, ...]]] = {}
         self.own = self._by_key(self.catalog.own)
         self.all = self.own if self.catalog.own == self.catalog.numbers else \
@@ -100,7 +120,8 @@ class Side:
         if record.kind == "integer" and not self._is_plain(record):
             return None
         if self.whole.names.has_name(number):
-            return word, self.whole.names.label(number)
+            label = self.whole.names.label(number)
+            return word, usual(label) if word in BASE else label
         if record.kind == "enum" and record.enumerators:
             return word, f"enum {{ {printable(record.enumerators[0].name)}, .. }}"
         return None
@@ -136,10 +157,14 @@ class Side:
 
     def places(self, number: int) -> List[Place]:
         """The members of a struct or union, those of unnamed parts too."""
+        return [place for place, _ in self.parts(number)]
+
+    def parts(self, number: int) -> List[Tuple[Place, int]]:
+        """The same, each with the number of its type."""
         parts = self.catalog[number].members
         if not any(self.embeds.is_walked_through(part.type) for part in parts):
-            return [self._place(part.name, part.type, part.offset) for part in parts]
-        return [self._place(held.name, held.type, held.offset)
+            return [(self._place(part.name, part.type, part.offset), part.type) for part in parts]
+        return [(self._place(held.name, held.type, held.offset), held.type)
                 for held in self.embeds.walked(number)]
 
     def _place(self, name: str, number: int, offset: int) -> Place:
@@ -160,10 +185,12 @@ def compared(old: Whole, new: Whole) -> Iterator[Change]:
     """All changes: of the old types in their order, then what was added."""
     before, after = Side(old), Side(new)
     for key, numbers in before.own.items():
+        if key[0] in BASE and key not in after.all:
+            continue  # what was of it is of another now, which is told
         others = after.own if key in after.own else after.all
         yield from _matched(before, after, key, numbers, others.get(key, []))
     for key, numbers in after.own.items():
-        if key not in before.all:
+        if key not in before.all and key[0] not in BASE:
             yield from (_added(after, key, number) for number in numbers[:1])
     old.cut.extend(f"{old.names.label(n)} has more members of members than are compared"
                    for n in before.embeds.cut)
@@ -212,12 +239,13 @@ def _other_kind(one: Record, other: Record) -> List[Said]:
     return [Said("kind", f"{one.kind} -> {other.kind}", True, old=one.kind, new=other.kind)]
 
 
-def _size(old: Optional[int], new: Optional[int]) -> List[Said]:
+def size(old: Optional[int], new: Optional[int]) -> List[Said]:
+    """A change of how many bytes there are."""
     return [] if old == new else [Said("size", f"size {old} -> {new}", True, old=old, new=new)]
 
 
 def _aggregates(before: Side, after: Side, old: int, new: int) -> Iterator[Said]:
-    yield from _size(before.catalog.size(old), after.catalog.size(new))
+    yield from size(before.catalog.size(old), after.catalog.size(new))
     yield from members(before.places(old), after.places(new))
 
 
@@ -279,8 +307,9 @@ def _wide(bits: int) -> str:
     return f"{bits} bits" if bits % 8 else f"{bits // 8} bytes"
 
 
-def _enums(before: Side, after: Side, old: int, new: int) -> Iterator[Said]:
-    yield from _size(before.catalog.size(old), after.catalog.size(new))
+def enums(before: Side, after: Side, old: int, new: int) -> Iterator[Said]:
+    """What differs in the enumerators, matched by name."""
+    yield from size(before.catalog.size(old), after.catalog.size(new))
     here = dict(before.catalog[old].enumerators)
     there = dict(after.catalog[new].enumerators)
     for name, value in here.items():
@@ -314,7 +343,7 @@ def _is_told(side: Side, number: int) -> bool:
 
 def _numbers(before: Side, after: Side, old: int, new: int) -> Iterator[Said]:
     one, other = before.catalog[old], after.catalog[new]
-    yield from _size(one.size, other.size)
+    yield from size(one.size, other.size)
     if one.encoding.flags != other.encoding.flags:
         yield Said("encoding", f"encoding {one.encoding.flags} -> {other.encoding.flags}", True,
                    "", one.encoding.flags, other.encoding.flags)
@@ -325,6 +354,6 @@ def _forwards(before: Side, after: Side, old: int, new: int) -> Iterator[Said]:
 
 
 _COMPARED: Dict[str, Callable[[Side, Side, int, int], Iterator[Said]]] = {
-    "struct": _aggregates, "union": _aggregates, "enum": _enums, "typedef": _typedefs,
+    "struct": _aggregates, "union": _aggregates, "enum": enums, "typedef": _typedefs,
     "integer": _numbers, "float": _numbers, "forward": _forwards,
 }

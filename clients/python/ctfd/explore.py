@@ -11,7 +11,7 @@ import sys
 from pathlib import Path
 from typing import Any, Callable, Dict, List, Optional, Sequence
 
-from . import commands
+from . import anyfile, commands
 from .catalog import ALL_LISTS, Catalog
 from .faults import Error
 from .model import POINTER_SIZES
@@ -47,13 +47,13 @@ def _parser() -> argparse.ArgumentParser:
                         " child; it is on the page too")
     parser.add_argument("--model", choices=list(POINTER_SIZES),
                         help="whether pointers have 8 bytes or 4; an ELF file says so itself")
-    parser.add_argument("--service", metavar="CTFD", help="the program to ask (CTFD in the"
-                        " environment, or ctfd on the path)")
+    anyfile.add_words(parser)
+    commands.add_words(parser)
     return parser
 
 
 def _run(session: Session, words: argparse.Namespace) -> int:
-    opener = Opener(session, words.model)
+    opener = Opener(session, anyfile.asked(words, _warn))
     files = [opener.whole(path, words.parent, ALL_LISTS) for path in words.files]
     made = page(files, words.parent)
     if len(made) > BIGGEST:
@@ -66,6 +66,10 @@ def _run(session: Session, words: argparse.Namespace) -> int:
     except OSError as error:
         raise Error(f"{words.output}: {error.strerror}") from error
     return 0
+
+
+def _warn(said: str) -> None:
+    commands.warn(NAME, said)
 
 
 def page(files: Sequence[Whole], parent: Optional[str] = None) -> str:

@@ -55,6 +55,13 @@ class NotFound(Refused):
     """Nothing has the name, or nothing is told of the symbol."""
 
 
+class NoSuchType(Error, KeyError):
+    """No type has the name, or no member; the text says which are near."""
+
+    def __str__(self) -> str:
+        return str(self.args[0]) if self.args else ""
+
+
 class Incomplete(Refused):
     """The type has no size."""
 

@@ -19,12 +19,13 @@ def definition(listed: Type, is_expanded: bool = False) -> str:
     return "\n".join(Listing(False, LINE, is_expanded).definition(listed))
 
 
-def listing(listed: Type, cache_line: int = LINE, is_expanded: bool = False) -> str:
+def listing(listed: Type, cache_line: int = LINE, is_expanded: bool = False,
+            is_hexadecimal: bool = False) -> str:
     """A type in full with the place and size of each member in bytes, as pahole prints it.
 
     Expanded, the structs and unions that it holds by value are written in place.
     """
-    return "\n".join(Listing(True, cache_line, is_expanded).definition(listed))
+    return "\n".join(Listing(True, cache_line, is_expanded, is_hexadecimal).definition(listed))
 
 
 class Listing:
@@ -34,8 +35,10 @@ class Listing:
     at a depth and at a number of lines: a hostile type doubles at each level.
     """
 
-    def __init__(self, places: bool, cache_line: int = LINE, is_expanded: bool = False) -> None:
+    def __init__(self, places: bool, cache_line: int = LINE, is_expanded: bool = False,
+                 is_hexadecimal: bool = False) -> None:
         self.places = places
+        self.is_hexadecimal = is_hexadecimal
         self.cache_line = cache_line
         self.is_expanded = is_expanded
         self.line = 0
@@ -58,11 +61,16 @@ class Listing:
             self.lines.append(f"{declaration(listed)};")
         return self.lines
 
+    def ordered(self, places: List[Place]) -> List[str]:
+        """The lines of some members, in this order."""
+        self._members(Layout(0, places, 0), 1, 0)
+        return self.lines
+
     def _enumerators(self, listed: Type) -> None:
         self.lines.append(f"{base(listed) if listed.name else 'enum'} {{")
         listed_width = max((len(printable(e.name)) for e in listed.enumerators), default=0)
         for name, value in listed.enumerators:
-            self.lines.append(f"\t{printable(name):<{listed_width}} = {value},")
+            self.lines.append(f"\t{printable(name):<{listed_width}} = {self._number(value, 0)},")
         self.lines.append("};")
 
     def _members(self, whole: Layout, depth: int, start: int) -> None:
@@ -120,12 +128,19 @@ class Listing:
         size = place.member.type.size
         byte = start + place.start // 8
         if place.width is None:
-            lies = f"/* {byte:5} {'?' if size is None else size:>5} */"
+            lies = f"/* {self._number(byte, 5)} {'    ?' if size is None else self._number(size, 5)} */"
         else:
             unit = 8 * (size or 1)
             first, bit = divmod(place.start, unit)
-            lies = f"/* {start + first * unit // 8:5}:{bit:2} {size or 0:2} */"
+            begins = start + first * unit // 8
+            lies = (f"/* {self._number(begins, 5)}:{self._number(bit, 2)}"
+                    f" {self._number(size or 0, 2)} */")
         self.lines.append("\t" * depth + f"{written:<{column - 1}} {lies}")
+
+    def _number(self, number: int, width: int) -> str:
+        """A place, a size or a value, as pahole has it: 0 is 0 in hexadecimal too."""
+        written = f"{number:#x}" if self.is_hexadecimal and number else str(number)
+        return written.rjust(width)
 
     def _gap(self, place: Place, depth: int) -> None:
         told = [(place.bit_hole, "bit"), (place.hole, "byte")]

@@ -4,15 +4,19 @@ from __future__ import annotations
 import contextlib
 from typing import Dict, Iterable, Iterator, List, NamedTuple, Optional
 
+from . import anyfile
+from .anyfile import Asked, Read
 from .catalog import Catalog, LISTS
-from .dictionary import Dictionary, open_file
-from .faults import Error, Refused, Unreadable
-from .model import Model
+from .dictionary import Dictionary, open_file, open_found, open_source
+from .faults import BadSymbols, Error, Refused, Unreadable
 from .naming import Names
 from .progress import Progress
 from .sizes import Sizes
 from .text import printable
 from .wire import Session
+
+ALONE = ("--parent, --symbols and --strings go with a dictionary, and this file's types are converted"
+         " first: leave them out, or make the dictionary by ctfd-convert (--parent makes a child)")
 
 
 class Whole(NamedTuple):
@@ -26,28 +30,46 @@ class Whole(NamedTuple):
 
 
 class Opener:
-    """Opens files in one session; a parent of several files is opened once. `number` chooses one of
-    several dictionaries that stand behind each other in a file."""
+    """Opens files in one session, as a user asked for them; a parent of several files is opened
+    once."""
 
-    def __init__(self, session: Session, model: Optional[Model] = None,
-                 number: Optional[int] = None) -> None:
+    def __init__(self, session: Session, asked: Asked = Asked()) -> None:
         self.session = session
-        self.model = model
-        self.number = number
+        self.asked = asked
+        self.read: Dict[str, Read] = {}
         self._parents: Dict[str, Dictionary] = {}
 
     def open(self, path: str, parent: Optional[str] = None, sym: Optional[bytes] = None,
              strings: Optional[bytes] = None) -> Dictionary:
         """The dictionary of a file, over its parent where one is named."""
         with told_of(path):
-            types = open_file(self.session, path, sym, strings, self.model, self.number)
+            found = anyfile.read(path, self.asked)
+            self.read[path] = found
+            if found.is_made and (sym, strings, parent) != (None, None, None):
+                raise Unreadable(f"{path}: {ALONE}")
+            types = self._opened(found, path, sym, strings)
         if parent is not None:
             if parent not in self._parents:
                 with told_of(parent):
-                    self._parents[parent] = open_file(self.session, parent, model=self.model)
+                    self._parents[parent] = open_file(self.session, parent, model=self.asked.model)
             with told_of(f"{parent}, as the parent of {path}"):
                 types.import_parent(self._parents[parent])
         return types
+
+    def _opened(self, found: Read, path: str, sym: Optional[bytes], strings: Optional[bytes]
+                ) -> Dictionary:
+        """The dictionary of a file; one that was converted without what does not fit its symbols.
+        """
+        try:
+            return open_found(self.session, found.source, path, sym, strings, self.asked.model)
+        except BadSymbols:
+            if not found.is_made:
+                raise
+            self.asked.warn(f"{path}: what is told of its symbols does not fit its symbol table;"
+                            " nothing is told of them")
+            bare = found.source._replace(sym=None, strings=None, how="none")
+            self.read[path] = found._replace(source=bare)
+            return open_source(self.session, bare)
 
     def whole(self, path: str, parent: Optional[str] = None,
               lists: Iterable[str] = LISTS) -> Whole:

@@ -16,9 +16,10 @@ from .faults import BadSymbols, Error, Refused
 from .files import contents
 from .inputs import Input
 from .made import Made
+from .replies import Opened
 from .symbols import Handed, handed
 from .text import printable
-from .wire import Answer, Client, Session
+from .wire import Client, Session
 
 SECTION = ".SUNW_ctf"
 STANDARD_OUTPUT = "-"
@@ -43,7 +44,7 @@ def judge(client: Client, path: str, made: Made, output: str) -> None:
                     ) from fault
 
 
-def _opened(session: Session, path: str, made: Made) -> Answer:
+def _opened(session: Session, path: str, made: Made) -> Opened:
     """The dictionary in a slot, with the symbols of the file where these are read."""
     if not made.has_entries or made.plain:
         return session.open(made.ctf, model=made.table.model)

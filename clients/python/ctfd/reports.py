@@ -31,7 +31,7 @@ def table(told: Sequence[Figures]) -> Iterator[str]:
 
 def holders(whole: Whole, name: str, pointers: bool, is_deep: bool) -> Iterator[str]:
     """Who holds a type, or points to it: a line for each member."""
-    return (_place(whole, held) for held in _found(whole, name, pointers, is_deep))
+    return (held_line(whole, held) for held in _found(whole, name, pointers, is_deep))
 
 
 def holders_as_json(whole: Whole, name: str, pointers: bool, is_deep: bool) -> Iterator[str]:
@@ -49,7 +49,7 @@ def _found(whole: Whole, name: str, pointers: bool, is_deep: bool) -> List[Held]
     return found
 
 
-def _place(whole: Whole, held: Held) -> str:
+def held_line(whole: Whole, held: Held) -> str:
     """`offset  owner  declaration`."""
     byte, bit = divmod(held.offset, 8)
     at = f"{byte}:{bit}" if bit else str(byte)

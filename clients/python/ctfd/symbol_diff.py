@@ -1,25 +1,28 @@
 """What differs in the functions and objects of two programs."""
 from __future__ import annotations
 
+import re
 from typing import Dict, Iterator, List, Tuple
 
-from . import declare, elf, source
-from .diff import Change, Said
+from . import declare, elf
+from .diff import Change, Said, usual
 from .dictionary import Dictionary
 from .elf import Symbol
 from .faults import Refused
+from .source import Source
 from .text import printable
 from .wire import Answer, Request
 
 TOLD = ("named", "linked", "guessed", "given")
 AT_ONCE = 8192
 
+_BASE = re.compile(r"\b(?:unsigned|signed|long|short)\b(?: (?:unsigned|signed|long|short|int)\b)*")
+
 Told = Dict[str, Tuple[str, str]]
 
 
-def symbols(types: Dictionary, path: str) -> Told:
+def symbols(types: Dictionary, found: Source) -> Told:
     """How C declares each symbol of which something is told, with its kind, by name."""
-    found = source.read(path)
     if types.how not in TOLD or found.sym is None or found.strings is None:
         return {}
     listed = list(elf.symbols(found.sym, found.strings))
@@ -36,8 +39,10 @@ def symbols(types: Dictionary, path: str) -> Told:
 
 def _declared(types: Dictionary, symbol: Symbol, answer: Answer) -> str:
     if symbol.is_function:
-        return declare.function(types.signature(answer), symbol.name)
-    return declare.declaration(types.type(answer["t"]), symbol.name)
+        said = declare.function(types.signature(answer), symbol.name)
+    else:
+        said = declare.declaration(types.type(answer["t"]), symbol.name)
+    return _BASE.sub(lambda found: usual(found[0]), said)
 
 
 def compared(old: Told, new: Told) -> Iterator[Change]:

@@ -5,7 +5,7 @@ looks at all types writes most of them again and again.
 """
 from __future__ import annotations
 
-from typing import Dict, List, NamedTuple
+from typing import Callable, Dict, List, NamedTuple
 
 from .catalog import Catalog
 from .declare import declarator
@@ -30,10 +30,11 @@ class Written(NamedTuple):
 
 
 class Texts:
-    """The types of a catalog as C writes them."""
+    """The types of a catalog as C writes them; `usual` tells the name of a base type."""
 
-    def __init__(self, catalog: Catalog) -> None:
+    def __init__(self, catalog: Catalog, usual: Callable[[str], str] = str) -> None:
         self.catalog = catalog
+        self.usual = usual
         self._written: Dict[int, Written] = {}
         self._texts: Dict[int, str] = {}
 
@@ -72,6 +73,8 @@ class Texts:
             return Written("void", "", "", "void", "void")
         word = record.tag if record.kind == "forward" else record.kind
         name = printable(record.name)
+        if word in ("integer", "float"):
+            name = self.usual(name)
         if word in ("struct", "union", "enum"):
             name = f"{word} {name}" if name else f"{word} {{...}}"
         return Written(name or "(anon)", "", "", record.kind, record.kind)

@@ -4,7 +4,8 @@ from __future__ import annotations
 from typing import TYPE_CHECKING, Any, List, NamedTuple, Optional, Tuple
 
 from . import text
-from .faults import Incomplete, Refused
+from .faults import Error, Incomplete, NoSuchType, Refused
+from .nearest import offered
 
 if TYPE_CHECKING:
     from .dictionary import Dictionary
@@ -109,6 +110,34 @@ class Type:
             return self._ask("size")["size"] if self.number else None
         except Incomplete:
             return None
+
+    @property
+    def sizeof(self) -> int:
+        """Bytes of a value, as C's sizeof. Raises Error where it has none."""
+        size = self.size
+        if size is None:
+            raise Error(f"{self.spelled} has no size: it is only declared, or is void")
+        return size
+
+    def offsetof(self, path: str) -> int:
+        """Where a member, or a member of members as `a.b`, begins in bytes, as C's offsetof.
+        Raises NoSuchType for one that is not there, and Error for a bit-field."""
+        here, bits = self, 0
+        for name in path.split("."):
+            whole = here.resolved
+            try:
+                found = whole.member(name)
+            except Refused as fault:
+                raise Error(f"{here.spelled} has no members") from fault
+            except KeyError:
+                named = [member.name for member in whole.members if member.name]
+                raise NoSuchType(f"{here.spelled} has no member {text.printable(name)}"
+                                 f"{offered(name, named)}") from None
+            here, bits = found.type, bits + found.offset
+        if here.bit_field is not None or bits % 8:
+            raise Error(f"{text.printable(path)} of {self.spelled} is a bit-field, which has no"
+                        " offset in bytes")
+        return bits // 8
 
     @property
     def align(self) -> Optional[int]:

@@ -11,10 +11,10 @@ import json
 import os
 import selectors
 from types import TracebackType
-from typing import (Any, Deque, Dict, Iterable, List, NoReturn, Optional, Sequence, Tuple, Type,
-                    Union)
+from typing import (Any, Deque, Dict, Iterable, List, Literal, NoReturn, Optional, Sequence, Tuple,
+                    Type, Union, overload)
 
-from . import library, service, text
+from . import library, replies, service, text
 from .channel import Channel, Inside, Pipes, Socket
 from .faults import Error, Gone, Refused, refused
 from .library import Library
@@ -234,7 +234,74 @@ class Session:
         replies = self.client.replies(self.number, requests)
         return [_outcome(reply, op, fields) for (op, fields), reply in zip(requests, replies)]
 
-    def ask(self, op: str, **fields: Any) -> Answer:
+    @overload
+    def ask(self, op: Literal["open", "take"], **fields: Any) -> replies.Opened: ...
+
+    @overload
+    def ask(self, op: Literal["create"], **fields: Any) -> replies.Made: ...
+
+    @overload
+    def ask(self, op: Literal["kind"], **fields: Any) -> replies.Kind: ...
+
+    @overload
+    def ask(self, op: Literal["record"], **fields: Any) -> replies.Record: ...
+
+    @overload
+    def ask(self, op: Literal["members"], **fields: Any) -> replies.Members: ...
+
+    @overload
+    def ask(self, op: Literal["enumerators"], **fields: Any) -> replies.Enumerators: ...
+
+    @overload
+    def ask(self, op: Literal["args", "function"], **fields: Any) -> replies.Arguments: ...
+
+    @overload
+    def ask(self, op: Literal["array"], **fields: Any) -> replies.Array: ...
+
+    @overload
+    def ask(self, op: Literal["encoding"], **fields: Any) -> replies.Encoded: ...
+
+    @overload
+    def ask(self, op: Literal["size"], **fields: Any) -> replies.Size: ...
+
+    @overload
+    def ask(self, op: Literal["align"], **fields: Any) -> replies.Align: ...
+
+    @overload
+    def ask(self, op: Literal["name"], **fields: Any) -> replies.Name: ...
+
+    @overload
+    def ask(self, op: Literal["path"], **fields: Any) -> replies.Path: ...
+
+    @overload
+    def ask(self, op: Literal["show"], **fields: Any) -> replies.Shown: ...
+
+    @overload
+    def ask(self, op: Literal["symbol"], **fields: Any) -> replies.Symbol: ...
+
+    @overload
+    def ask(self, op: Literal["labels"], **fields: Any) -> replies.Labels: ...
+
+    @overload
+    def ask(self, op: Literal["label"], **fields: Any) -> replies.Last: ...
+
+    @overload
+    def ask(self, op: Literal["info"], **fields: Any) -> replies.Info: ...
+
+    @overload
+    def ask(self, op: Literal["model"], **fields: Any) -> replies.ModelOf: ...
+
+    @overload
+    def ask(self, op: Literal["bytes"], **fields: Any) -> replies.Bytes: ...
+
+    @overload
+    def ask(self, op: Literal["reference", "resolve", "pointer", "find", "object"],
+            **fields: Any) -> replies.Number: ...
+
+    @overload
+    def ask(self, op: str, **fields: Any) -> Any: ...
+
+    def ask(self, op: str, **fields: Any) -> Any:
         """What one request is answered; raises its refusal."""
         outcome = self.ask_all([(op, fields)])[0]
         if isinstance(outcome, Refused):
@@ -242,7 +309,7 @@ class Session:
         return outcome
 
     def open(self, ctf: bytes, sym: Optional[bytes] = None, strings: Optional[bytes] = None,
-             model: Optional[Model] = None) -> Answer:
+             model: Optional[Model] = None) -> replies.Opened:
         """Hands in the lists of a dictionary and opens it, in one round: `d` and `types`.
 
         Without a model it is "lp64". The stage is cleared first, and once more where the
@@ -259,10 +326,10 @@ class Session:
                 self.ask("close", d=opened["d"])
             self.ask("clear")
             raise fault or Error("open was refused")
-        return opened
+        return {"d": opened["d"], "types": opened["types"]}
 
     def create(self, parent: Optional[int] = None, parname: Name = "", parlabel: Name = "",
-               model: Optional[Model] = None) -> Answer:
+               model: Optional[Model] = None) -> replies.Made:
         """Makes a slot of a new draft: `d`.
 
         A draft over the dictionary of a slot `parent` needs a `parname`. Without a model it is

@@ -3,27 +3,44 @@ from __future__ import annotations
 
 import argparse
 import os
-from typing import List, Optional, Sequence
+import re
+from typing import List, Optional, Sequence, Tuple
 
+from . import anyfile, commands
 from .model import POINTER_SIZES
 from .naming import is_pattern
 from .sizes import SORTED
 
 CACHE_LINE = 64
 
+_NAME = re.compile(r"[\w\s*?\[\]{}()-]+\Z")
+
 
 def parsed(arguments: Sequence[str], description: Optional[str]) -> argparse.Namespace:
     """The words, with `files` and `names` told apart."""
     parser = _parser(description)
-    words = parser.parse_args(_with_counts(arguments))
-    words.files, words.names = words.words[:1], [*words.called]
-    for word in words.words[1:]:
-        (words.files if os.path.isfile(word) and not is_pattern(word) else words.names).append(word)
+    words = parser.parse_intermixed_args(_with_counts(arguments))
+    words.files, words.names = _told_apart(words.words)
+    words.names += words.called
     if len(words.files) > 1 and (words.c or words.svg or words.svg_sizes):
         parser.error("--c, --svg and --svg-sizes are of one file")
+    if words.show and not 2 <= len(words.show) <= 4:
+        parser.error("argument --show: TYPE FILE [OFFSET] [COUNT]")
     if words.cachelines < 1:
         parser.error("argument --cachelines: a cache line has at least 1 byte")
     return words
+
+
+def _told_apart(words: Sequence[str]) -> Tuple[List[str], List[str]]:
+    """The files and the names: where no word is a file, the first is one that is not there. So is
+    the first where it is no name of C."""
+    files: List[str] = []
+    names: List[str] = []
+    are_files = [os.path.exists(word) and not is_pattern(word) for word in words]
+    for place, word in enumerate(words):
+        is_first = place == 0 and not (any(are_files) and _NAME.match(word))
+        (files if are_files[place] or is_first else names).append(word)
+    return files, names
 
 
 def _with_counts(arguments: Sequence[str]) -> List[str]:
@@ -40,14 +57,20 @@ def _parser(description: Optional[str]) -> argparse.ArgumentParser:
         prog="ctfd-types", description=description,
         formatter_class=argparse.RawDescriptionHelpFormatter)
     parser.add_argument("words", metavar="FILE", nargs="+",
-                        help="ELF files or CTF sections; words behind the first that are no files"
-                        " are names of types or symbols, or patterns of them, as 'lua_*'")
+                        help="programs, libraries, object files, archives, or sections of CTF or"
+                        " BTF; words that are no files are names of types or symbols, or patterns"
+                        " of them, as 'lua_*'")
     parser.add_argument("-C", "--name", metavar="NAME", dest="called", action="append", default=[],
                         help="a name or a pattern, wherever it stands")
     _add_reports(parser.add_mutually_exclusive_group())
     _add_manners(parser)
     _add_inputs(parser)
+    anyfile.add_words(parser)
     return parser
+
+
+def _number(written: str) -> int:
+    return int(written, 0)
 
 
 def _add_reports(group: "argparse._MutuallyExclusiveGroup") -> None:
@@ -58,6 +81,17 @@ def _add_reports(group: "argparse._MutuallyExclusiveGroup") -> None:
                        help="the same of those with at least N bytes of holes (1)")
     group.add_argument("--contains", metavar="TYPE", help="who holds a type by value, and where")
     group.add_argument("--uses", metavar="TYPE", help="who has a pointer to a type, and where")
+    group.add_argument("--functions", metavar="TYPE", help="the functions that take or return a"
+                       " type, or a pointer to it")
+    group.add_argument("--members", metavar="NAME", help="the members of a name or a pattern, in"
+                       " all structs and unions")
+    group.add_argument("--at", metavar=("TYPE", "OFFSET"), nargs=2, help="what a struct has at an"
+                       " offset in bytes, as 56, 0x38, or 56:3 for a bit")
+    group.add_argument("--number", metavar="N", type=_number, help="the type of a number")
+    group.add_argument("--reorganize", action="store_true", help="the named structs with their"
+                       " members in an order without holes, where one is smaller")
+    group.add_argument("--show", metavar="WORD", nargs="+", help="TYPE FILE [OFFSET] [COUNT]: the"
+                       " records of a file as values of a type, from an offset on; give it last")
     group.add_argument("--c", action="store_true",
                        help="declarations that a C compiler takes, of all types or of the named"
                        " ones with what they need")
@@ -75,6 +109,8 @@ def _add_manners(parser: argparse.ArgumentParser) -> None:
     parser.add_argument("--cachelines", metavar="N", type=int, default=CACHE_LINE,
                         help="the bytes of a cache line (64)")
     parser.add_argument("--json", action="store_true", help="an object of JSON a line")
+    parser.add_argument("--hex", action="store_true", help="places, sizes and values in"
+                        " hexadecimal")
     parser.add_argument("--all", action="store_true",
                         help="all types of the name, hidden ones too, and not the first alone")
     parser.add_argument("--plain", action="store_true", help="C alone, without places")
@@ -89,5 +125,4 @@ def _add_inputs(parser: argparse.ArgumentParser) -> None:
                         " that stand behind each other in a file, as ld leaves them; from 1 on")
     parser.add_argument("--symbols", metavar="FILE", help="the bytes of the program's symbol table")
     parser.add_argument("--strings", metavar="FILE", help="the bytes of the strings of that table")
-    parser.add_argument("--service", metavar="CTFD", help="the program to ask (CTFD in the"
-                        " environment, or ctfd on the path)")
+    commands.add_words(parser)

@@ -32,7 +32,9 @@ class Command(unittest.TestCase):
         with tempfile.NamedTemporaryFile() as file:
             file.write(two)
             file.flush()
-            self.assertEqual(self.told(file.name, "int"), "int;\n")
+            first = run(file.name, "int")
+            self.assertEqual((first.returncode, first.stdout), (0, "int;\n"))
+            self.assertIn("2 types are called int, and this is the first", first.stderr)
             self.assertEqual(self.told("--all", file.name, "int"), "int;\nint;\n")
             self.assertEqual(self.told("--all", file.name, "int *"), "int *;\n")
 

@@ -124,8 +124,9 @@ class Pair(unittest.TestCase):
         cls.old = converted(cls.folder, "old", OLD)
         cls.new = converted(cls.folder, "new", edited(OLD))
 
-    def lines(self, *words: str, status: int = 1) -> "dict[str, str]":
-        done = command("ctfd-diff", *words)
+    def lines(self, *words: str, status: int = 4) -> "dict[str, str]":
+        """What is told of all types and symbols, whatever is exported."""
+        done = command("ctfd-diff", "--all", *words)
         self.assertEqual((done.returncode, done.stderr), (status, ""))
         told = dict(line.split(": ", 1) for line in done.stdout.splitlines())
         self.assertEqual(len(told), len(done.stdout.splitlines()))
@@ -145,7 +146,7 @@ class Pair(unittest.TestCase):
         self.assertEqual(self.lines(*only, status=0), {})
 
     def test_objects_of_json(self) -> None:
-        done = command("ctfd-diff", "--json", "-C", "struct loses", self.old, self.new)
+        done = command("ctfd-diff", "--all", "--json", "-C", "struct loses", self.old, self.new)
         (told,) = map(json.loads, done.stdout.splitlines())
         self.assertEqual(told["said"], [
             {"what": "size", "breaks": True, "name": "", "old": 8, "new": 4},

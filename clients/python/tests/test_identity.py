@@ -131,7 +131,8 @@ class Several(WithPrograms):
 
     def test_all_are_told_and_one_is_chosen(self) -> None:
         path = self.linked()
-        said = command("ctfd-types", path).stderr
+        self.assertIn("struct other", command("ctfd-types", path).stdout)
+        said = command("ctfd-types", "--from", "ctf", path).stderr
         self.assertRegex(said, r"it has 2 dictionaries, one behind the other: 1 \(\d+ types,"
                                r" struct inner\), 2 \(\d types, struct other\): one is chosen by"
                                r" --dictionary N")

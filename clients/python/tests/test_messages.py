@@ -40,7 +40,7 @@ FILES = [
     Case("big-endian ELF", "ctfd-convert {}/bigelf {}/out", 2, r"/bigelf: a big-endian ELF file"),
     Case("version 3", "ctfd-types {}/three", 1, r"/three: CTF version 3, .*; ctfd-convert makes"),
     Case("version 3", "ctfd-convert {}/three {}/out", 2, r"/three: CTF version 3"),
-    Case("GNU's CTF", "ctfd-types {}/gnu", 1, r"/gnu: GNU CTF .*; ctfd-convert makes CTF"),
+    Case("GNU's CTF", "ctfd-types {}/gnu", 1, r"/gnu: its GNU CTF is damaged"),
     Case("damaged GNU CTF", "ctfd-convert {}/gnu {}/out", 2, r"/gnu: its GNU CTF is damaged"),
     Case("damaged BTF", "ctfd-convert {}/btf {}/out", 2, r"/btf: its BTF is damaged or cut off"),
     Case("a cut off dictionary", "ctfd-types {}/cut", 1, r"/cut: PastEnd.*: the list is cut off"),
@@ -81,9 +81,11 @@ FILES = [
 
 OBJECTS = [
     Case("an ELF file without CTF", "ctfd-types {}/bare.o", 1,
-         r"/bare\.o: an ELF file without \.SUNW_ctf or \.ctf; compile it with -g, and let ctfd-"),
-    Case("an ELF file with DWARF", "ctfd-types {}/debug.o", 1,
-         r"/debug\.o: an ELF file without .*: `ctfd-convert \S*/debug\.o OUT` makes CTF of it"),
+         r"/bare\.o: it has no debug information: compile it with -g, or install"),
+    Case("the model of another program", "ctfd-types --model ilp32 {}/debug.o", 1,
+         r"/debug\.o: its program is of lp64, and ilp32 was asked for"),
+    Case("a parent of what is converted", "ctfd-types --parent {}/lua {}/debug.o", 1,
+         r"/debug\.o: --parent, .* go with a dictionary, .*: leave them out, or make"),
     Case("a compressed section", "ctfd-types {}/squeezed.o", 1,
          r"SUNW_ctf is compressed as ELF has it, .*: objcopy --decompress-debug-sections"),
     Case("CTF that is not there", "ctfd-convert --from gnu {}/debug.o {}/out", 2,

@@ -13,6 +13,7 @@ from dataclasses import dataclass, field
 from typing import List, Optional, Sequence
 
 from .. import commands, elf, from_ctf, outputs, source
+from ..commands import add_version
 from ..dictionary import open_source
 from ..faults import Error, Unreadable
 from ..files import contents
@@ -89,6 +90,7 @@ def _parser() -> argparse.ArgumentParser:
     parser.add_argument("--model", choices=list(POINTER_SIZES), help="whether pointers have 8 bytes"
                         " or 4; without it an ELF file says so itself, and a section is taken for"
                         " lp64")
+    add_version(parser)
     parser.add_argument("--service", metavar="CTFD", help="the program that judges (CTFD in the"
                         " environment, or ctfd on the path)")
     return parser

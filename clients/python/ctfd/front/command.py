@@ -14,6 +14,7 @@ import sys
 from typing import Callable, Optional, Sequence
 
 from .. import service
+from ..commands import add_version
 from ..faults import Error
 from . import listening
 from .front import TROUBLE, Front, Options
@@ -85,6 +86,7 @@ def _parser() -> argparse.ArgumentParser:
     parser = argparse.ArgumentParser(prog=NAME, description=__doc__, epilog=STATUSES,
                                      formatter_class=argparse.RawDescriptionHelpFormatter)
     parser.add_argument("files", metavar="NAME=FILE", nargs="*", help="as for `ctfd serve`")
+    add_version(parser)
     parser.add_argument("--service", metavar="CTFD", help="the program that serves (CTFD in the"
                         " environment, or ctfd on the path)")
     _add_socket(parser)

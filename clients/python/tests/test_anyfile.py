@@ -1,0 +1,154 @@
+"""Any program: its types are converted on the way, and kept."""
+import os
+import shutil
+import subprocess
+import tempfile
+import unittest
+from pathlib import Path
+from unittest import mock
+
+from ctfd import anyfile, inputs
+from ctfd.anyfile import Asked
+from ctfd.cache import Cache, Kept, key, user_cache
+
+from .support import EXAMPLES, compiles
+from .tools import CONVERTS, WHY_NOT, command, compiled
+
+CODE = """
+struct point { int x, y; struct point *next; } first;
+int moved(struct point *from, long by) { return from->x + by; }
+int main(void) { return moved(&first, 1); }
+"""
+PLAIN = "struct point {\n\tint x;\n\tint y;\n\tstruct point *next;\n};\n"
+
+
+class Folder(unittest.TestCase):
+    """A test with a folder, and a cache of its own in it."""
+
+    def setUp(self) -> None:
+        self.folder = tempfile.mkdtemp()
+        self.addCleanup(shutil.rmtree, self.folder)
+        told = mock.patch.dict(os.environ, {"XDG_CACHE_HOME": f"{self.folder}/cache"})
+        told.start()
+        self.addCleanup(told.stop)
+        self.cache = Path(self.folder, "cache", "ctfd")
+
+    def told(self, *words: str) -> str:
+        done = command("ctfd-types", *words)
+        self.assertEqual((done.returncode, done.stderr), (0, ""))
+        return done.stdout
+
+
+@unittest.skipUnless(CONVERTS, WHY_NOT)
+class Programs(Folder):
+    def program(self, *options: str) -> str:
+        source, made = Path(self.folder, "code.c"), f"{self.folder}/program"
+        source.write_text(CODE)
+        subprocess.run(["gcc", "-g", *options, str(source), "-o", made], check=True)
+        return made
+
+    def test_a_program_is_read_as_it_is(self) -> None:
+        made = self.program()
+        for _ in range(2):
+            self.assertEqual(self.told("--plain", made, "struct point"), PLAIN)
+            self.assertEqual(len(list(self.cache.iterdir())), 1)
+        self.assertEqual(self.told(made, "moved"), "int moved(struct point *, long int);\n")
+        self.assertIn('"point"', command("ctfd-explore", made).stdout)
+
+    def test_a_kept_one_is_taken(self) -> None:
+        made = self.program()
+        self.told(made)
+        with mock.patch.object(anyfile, "converted", side_effect=AssertionError):
+            kept = anyfile.read(made, Asked(cache=user_cache()))
+        self.assertTrue(kept.is_made and kept.source.sym)
+        self.assertEqual(kept.source.how, "named")
+
+    def test_nothing_is_kept_where_nothing_is_to_be(self) -> None:
+        self.told("--no-cache", self.program())
+        self.assertFalse(self.cache.exists())
+
+    def test_another_program_by_the_same_build_id_is_another(self) -> None:
+        made = self.program("-Wl,--build-id=0x1234")
+        self.told(made)
+        Path(self.folder, "code.c").write_text(CODE.replace("int x, y;", "int x, y, z;"))
+        subprocess.run(["gcc", "-g", "-Wl,--build-id=0x1234", f"{self.folder}/code.c", "-o", made],
+                       check=True)
+        self.assertIn("int z;", self.told("--plain", made, "struct point"))
+
+    def test_one_that_was_stripped_tells_what_it_exports(self) -> None:
+        made = self.program("-shared", "-fPIC")
+        shutil.copy(made, f"{self.folder}/whole")
+        subprocess.run(["objcopy", "--only-keep-debug", made, f"{made}.debug"], check=True)
+        subprocess.run(["strip", made], check=True)
+        subprocess.run(["objcopy", f"--add-gnu-debuglink={made}.debug", made], check=True)
+        self.assertEqual(self.told(made, "moved"), "int moved(struct point *, long int);\n")
+
+    def test_a_pipe_and_an_archive(self) -> None:
+        made = compiled(self.folder, "code", CODE)
+        subprocess.run(["ar", "rc", f"{self.folder}/libcode.a", made], check=True)
+        self.assertEqual(self.told("--plain", f"{self.folder}/libcode.a", "struct point"), PLAIN)
+        os.mkfifo(f"{self.folder}/pipe")
+        with subprocess.Popen(["sh", "-c", f"cat {made} > {self.folder}/pipe"]):
+            self.assertEqual(self.told("--plain", f"{self.folder}/pipe", "struct point"), PLAIN)
+
+    @unittest.skipUnless(compiles("-m32"), "no gcc with -m32 here")
+    def test_a_program_of_32_bits_tells_its_symbols(self) -> None:
+        made = compiled(self.folder, "code", CODE, "-m32")
+        self.assertEqual(self.told(made, "moved"), "int moved(struct point *, long int);\n")
+        self.assertEqual(self.told(made, "moved"), "int moved(struct point *, long int);\n")
+
+    def test_words_in_any_order(self) -> None:
+        made = self.program()
+        for words in ((made, "--plain", "struct point"), ("struct point", made, "--plain")):
+            self.assertEqual(self.told(*words), PLAIN)
+
+    def test_what_goes_with_a_dictionary_alone(self) -> None:
+        done = command("ctfd-types", "--symbols", str(EXAMPLES / "lua.sym"), self.program())
+        self.assertEqual((done.returncode, done.stderr.count("\n")), (1, 1))
+        self.assertIn("--symbols and --strings go with a dictionary", done.stderr)
+
+
+class Caches(Folder):
+    def test_what_was_kept_comes_back(self) -> None:
+        cache = Cache(self.cache)
+        kept = Kept(b"\xf1\xcf\x02\n\n", "lp64", ["a loss"])
+        self.assertIsNone(cache.get("name"))
+        cache.put("name", kept)
+        self.assertEqual(cache.get("name"), kept)
+
+    def test_a_damaged_one_counts_as_none(self) -> None:
+        cache = Cache(self.cache)
+        for data in (b"", b"\n", b"{}\nx", b'{"sum":"0"}\nx', b"[]\n", b'{"sum":1,"x":2}\n'):
+            cache.put("name", Kept(b"x"))
+            (self.cache / "name.ctf").write_bytes(data)
+            self.assertIsNone(cache.get("name"))
+
+    def test_the_oldest_go(self) -> None:
+        cache = Cache(self.cache, 10_000)
+        for number in range(8):
+            cache.put(f"name{number}", Kept(bytes(3000)))
+            os.utime(self.cache / f"name{number}.ctf", (number, number))
+        names = sorted(path.name for path in self.cache.iterdir())
+        self.assertEqual(names, ["name5.ctf", "name6.ctf", "name7.ctf"])
+        cache.put("large", Kept(bytes(20_000)))
+        self.assertIsNone(cache.get("large"))
+
+    def test_a_folder_of_others_is_not_used(self) -> None:
+        self.cache.mkdir(parents=True)
+        self.cache.chmod(0o777)
+        cache = Cache(self.cache)
+        cache.put("name", Kept(b"x"))
+        self.assertEqual(list(self.cache.iterdir()), [])
+        self.assertIsNone(Cache(Path("/proc/nowhere")).get("name"))
+        Cache(Path("/proc/nowhere")).put("name", Kept(b"x"))
+
+    def test_the_forms_are_those_of_the_converter(self) -> None:
+        self.assertEqual(anyfile.FORMS, inputs.FORMS)
+
+    def test_a_key_is_of_the_bytes_and_of_what_was_asked(self) -> None:
+        keys = {key(b"a", "a"), key(b"b", "a"), key(b"a", "a", ["dwarf"]), key(b"", "a")}
+        self.assertEqual(len(keys), 4)
+
+
+if __name__ == "__main__":
+    unittest.main()

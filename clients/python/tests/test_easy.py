@@ -1,0 +1,86 @@
+"""The package for people: `ctfd.open`, and dictionaries as Python's own containers."""
+import gc
+import subprocess
+import tempfile
+import unittest
+from pathlib import Path
+
+import ctfd
+
+from .support import EXAMPLES, PROGRAM
+from .tools import CONVERTS, WHY_NOT, compiled
+
+LUA = str(EXAMPLES / "lua.ctf")
+CODE = """
+struct inner { short a, b; };
+struct outer { char first; struct inner in; union { int number; float real; }; unsigned low : 3;
+  struct gone *gone; } outer;
+"""
+
+
+@unittest.skipUnless(PROGRAM, "CTFD names no built service")
+class Easy(unittest.TestCase):
+    def test_a_dictionary_is_a_container(self) -> None:
+        with ctfd.open(LUA) as types:
+            self.assertEqual(repr(types), "<Dictionary of 526 types, lp64>")
+            self.assertEqual((len(types), len(list(types))), (526, 526))
+            state = types["struct lua_State"]
+            self.assertEqual((state.sizeof, state.offsetof("openupval")), (200, 56))
+            self.assertEqual(state.members[0].name, "next")
+            self.assertEqual(types[218].spelled, "struct luaL_Reg")
+            self.assertTrue("TValue" in types and "nothing" not in types)
+            self.assertEqual(types["char *"].sizeof, 8)
+
+    def test_what_is_not_there_is_told_with_what_is_near(self) -> None:
+        with ctfd.open(LUA) as types:
+            with self.assertRaisesRegex(ctfd.NoSuchType, "no type is called luaL_reg; the nearest"):
+                types["luaL_reg"]
+            with self.assertRaisesRegex(KeyError, "no type has the number 527"):
+                types[527]
+            with self.assertRaisesRegex(ctfd.NoSuchType, "lua_State has no member statis; the near"):
+                types["struct lua_State"].offsetof("statis")
+            with self.assertRaisesRegex(ctfd.Error, "int has no members"):
+                types["int"].offsetof("a")
+
+    @unittest.skipUnless(CONVERTS, WHY_NOT)
+    def test_a_program_is_converted(self) -> None:
+        with tempfile.TemporaryDirectory() as folder:
+            made = compiled(folder, "code", CODE)
+            with ctfd.open(made, is_kept=False) as types:
+                outer = types["struct outer"]
+                self.assertEqual(outer.offsetof("in.b"), 4)
+                self.assertEqual(outer.offsetof("real"), 8)
+                with self.assertRaisesRegex(ctfd.Error, "low of struct outer is a bit-field"):
+                    outer.offsetof("low")
+                with self.assertRaisesRegex(ctfd.Error, "struct gone has no size"):
+                    print(types["struct gone"].sizeof)
+
+    def test_a_service_of_its_own_ends_with_the_dictionary(self) -> None:
+        types = ctfd.open(LUA)
+        client = types.session.client
+        del types
+        gc.collect()
+        with self.assertRaises(ctfd.Gone):
+            client.session().ask("reset")
+        with self.assertRaises(ctfd.Error):
+            ctfd.open("/nowhere")
+
+
+class Checked(unittest.TestCase):
+    def test_what_a_reply_holds_is_checked(self) -> None:
+        mypy = Path("/usr/bin/mypy")
+        if not mypy.exists():
+            self.skipTest("no mypy of Debian here")
+        code = ("import ctfd\n\ndef size(session: ctfd.Session) -> str:\n"
+                "    return session.ask('size', d=1, t=1)['size']\n")
+        with tempfile.TemporaryDirectory() as folder:
+            made = Path(folder, "user.py")
+            made.write_text(code)
+            done = subprocess.run([str(mypy), "--strict", "--cache-dir", folder, str(made)],
+                                  capture_output=True, text=True, env={"MYPYPATH": str(
+                                      Path(__file__).resolve().parents[1])})
+            self.assertIn('got "int", expected "str"', done.stdout + done.stderr)
+
+
+if __name__ == "__main__":
+    unittest.main()
