@@ -169,7 +169,7 @@ for name in statics.g statics; do
     gdb -batch -nx -iex 'set debug-file-directory /none' "${debug[@]}" \
         -ex 'break *one' -ex 'break *main' -ex run -ex 'print &count' -ex 'print touch' \
         -ex 'print count.number' -ex continue -ex 'print &count' -ex 'print touch' \
-        -ex 'print count.number' $name 2>&1 | sed -n '/^\$/s/statics.g/statics/p' > seen.$name
+        -ex 'print count.number' $name 2>&1 | grep '^\$' > seen.$name
 done
 count "statics of two files" diff seen.statics.g seen.statics
 count "which are two" [ "$(grep -c '^\$[14] = (struct counted \*)' seen.statics)" = 2 ]
@@ -280,7 +280,7 @@ count "a section beside its program" says ' [1-9][0-9]* objects, [1-9][0-9]* fun
     stb.types x.debug --program stb
 count "beside another program" says 'its .symtab are not those that the types were written for' \
     stb.types x.debug --program png
-count "a program that is none" says 'stb.types: types of a section by itself .* by --program' \
+count "a program that is none" says 'stb.types is no ELF file: name the program .* by --program' \
     stb.types --symbols stb.g x.debug
 count "two programs" says 'stb is an ELF file itself' stb --program png x.debug
 client ctfd-convert --lossy statics.g parent.types > said 2>&1 || true

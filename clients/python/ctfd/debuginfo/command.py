@@ -140,9 +140,11 @@ def _image(wanted: Wanted) -> Optional[Image]:
     path = wanted.program or wanted.path
     data = contents(path)
     if data[:4] != elf.MAGIC:
-        if wanted.program or wanted.symbols:
-            raise Error(f"{wanted.symbols or path}: types of a section by itself are put beside a"
-                        " program, an ELF file: name that by --program")
+        if wanted.program:
+            raise Error(f"{path} is no ELF file: --program names the program that the types are of")
+        if wanted.symbols:
+            raise Error(f"{path} is no ELF file: name the program that its types are of by"
+                        " --program, in place of --symbols")
         return None
     if wanted.program and contents(wanted.path)[:4] == elf.MAGIC:
         raise Error(f"{wanted.path} is an ELF file itself: --program is for a section without one,"
