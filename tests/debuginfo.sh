@@ -104,6 +104,15 @@ compared() {
     "$tests/compare.py" "$tests/known.txt" first again ours
 }
 
+# compared_as_is NAME: both kinds of debug information, of a file that does not run.
+compared_as_is() {
+    local name=$1
+    rm -f names
+    for out in first first again; do asked $out "$name.g"; done
+    asked ours "$name" -ex "$(added "$name")"
+    "$tests/compare.py" "$tests/known.txt" first again ours
+}
+
 made stb "$tests/stb.c" -lm
 count "stb" compared stb
 grep same said
@@ -118,9 +127,52 @@ if echo 'int main(void) { return 0; }' | gcc -m32 -x c - -o none 2> said; then
     else
         echo "not possible here: a program of 32 bits does not run"
     fi
+    model=ilp32 made object32 -m32 -c "$tests/stb.c"
+    count "an object file of 32 bits" compared_as_is object32
+    grep same said
 else
     echo "skipped: gcc -m32 makes no program here (Debian: gcc-multilib)"
 fi
+
+# Object files, whose addresses are filled in as the file is loaded. With a section for each
+# function and object one can't be taken for the other.
+made object -ffunction-sections -fdata-sections -c "$tests/stb.c"
+count "an object file" compared_as_is object
+grep same said
+placed="-s .text.stbi_load 0x100000 -s .bss.stbi__de_iphone_flag_global 0x200000"
+gdb -batch -nx -ex "add-symbol-file object.debug $placed" -ex 'info address stbi_load' \
+    -ex 'print &stbi__de_iphone_flag_global' > seen 2>&1
+count "a function where a module is" grep -q 'is a function at address 0x100000\.$' seen
+count "an object where a module is" grep -q '(int \*) 0x200000 <stbi' seen
+if command -v clang > /dev/null; then
+    for target in aarch64 riscv64 armv7; do
+        clang --target=$target-linux-gnu -g -w -c -o other.g "$tests/waits.c" -I. 2> said &&
+            client ctfd-convert --lossy --section other.g other > said 2>&1 ||
+            { cat said; continue; }
+        count "an object file of $target" client ctfd-debuginfo other other.debug
+        count "which is right" llvm-dwarfdump --verify other.debug
+        count "and has relocations" sh -c "llvm-readobj -r other.debug | grep -q 'ABS\|R_RISCV_64'"
+    done
+fi
+
+# Two files with functions, a variable and a struct of the same names: gdb takes those of the file
+# in which the program stands. Which file that is tells the whole symbol table, and not what is left
+# of it without debug information.
+gcc -g -O0 -w -o statics.g "$tests/statics_one.c" "$tests/statics_two.c"
+client ctfd-convert --lossy --section statics.g statics.ctf > said 2>&1
+objcopy --strip-debug statics.ctf statics
+count "the debug file of statics" client ctfd-debuginfo statics --symbols statics.g statics.debug
+count "statics.debug is right" llvm-dwarfdump --verify statics.debug
+for name in statics.g statics; do
+    debug=()
+    [ $name = statics.g ] || debug=(-ex "$(added statics)")
+    gdb -batch -nx -iex 'set debug-file-directory /none' "${debug[@]}" \
+        -ex 'break *one' -ex 'break *main' -ex run -ex 'print &count' -ex 'print touch' \
+        -ex 'print count.number' -ex continue -ex 'print &count' -ex 'print touch' \
+        -ex 'print count.number' $name 2>&1 | grep '^\$' > seen.$name
+done
+count "statics of two files" diff seen.statics.g seen.statics
+count "which are two" [ "$(grep -c '^\$[14] = (struct counted \*)' seen.statics)" = 2 ]
 
 # A library, in a program that has no types.
 made libstb.so -shared -fPIC -Dmain=stb_main "$tests/stb.c" -lm
@@ -222,6 +274,30 @@ rm x.debug
 count "another build" says '^ctfd-debuginfo: png is of another build than bare' \
     bare --symbols png x.debug
 count "which leaves no file" [ ! -e x.debug ]
+# Types by themselves, beside their program; and a child of a parent's types.
+client ctfd-convert --lossy stb.g stb.types > said 2>&1 || true
+count "a section beside its program" says ' [1-9][0-9]* objects, [1-9][0-9]* functions' \
+    stb.types x.debug --program stb
+count "beside another program" says 'its .symtab are not those that the types were written for' \
+    stb.types x.debug --program png
+count "a program that is none" says 'stb.types is no ELF file: name the program .* by --program' \
+    stb.types --symbols stb.g x.debug
+count "two programs" says 'stb is an ELF file itself' stb --program png x.debug
+client ctfd-convert --lossy statics.g parent.types > said 2>&1 || true
+client ctfd-convert --lossy --parent parent.types --section stb.g child.ctf > said 2>&1 || true
+objcopy --strip-debug child.ctf child
+count "a child without its parent" says 'child is a child of parent: name .* by --parent' \
+    child x.debug
+count "of another parent" says 'stb.types, as its parent|its types are not those that the child' \
+    child --parent stb.types x.debug
+count "a child" client ctfd-debuginfo child --parent parent.types child.debug
+count "which is right" llvm-dwarfdump --verify child.debug
+gdb -batch -nx -iex 'set debug-file-directory /none' -ex "$(added child)" \
+    -ex 'print sizeof(stbtt_fontinfo)' -ex 'print sizeof(struct counted)' -ex 'whatis stbi_load' \
+    child > seen 2>&1
+count "the child's type" grep -q '^\$1 = 160$' seen
+count "the parent's type" grep -Eq '^\$2 = (4|16)$' seen
+count "the child's symbol" grep -Fq "$wanted" seen
 client ctfd-debuginfo stb --no-arguments stb.debug > said
 count "--no-arguments" sh -c "! llvm-dwarfdump stb.debug | grep -q '\"arg0\"'"
 echo "debuginfo: $checks checks, $wrong wrong"

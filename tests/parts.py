@@ -70,6 +70,7 @@ def parts(program: str) -> list[Part]:
         Part("front", ["tests/front.sh", program]),
         Part("gdb", ["tests/gdb.sh", program]),
         Part("debuginfo", ["tests/debuginfo.sh", program]),
+        Part("show", ["tests/show.sh", program]),
         Part("convert", ["tests/convert.sh", program]),
         Part("c_library", ["tests/c_library.sh", program], after=of_library),
         Part("packages", ["tests/packages.sh", program], after=of_library),

@@ -2,9 +2,10 @@
 from __future__ import annotations
 
 from dataclasses import dataclass
-from typing import Dict, List, NamedTuple, Optional
+from typing import Dict, Iterator, List, NamedTuple, Optional
 
 from .faults import Error
+from .formats import Formatter
 from .operands import BadExpression, Located, Operand, Steps
 from .parse import Value
 from .types import Type
@@ -30,6 +31,18 @@ class Followed(NamedTuple):
     back: Optional[int]
     more: bool
     lost: Optional[int]
+
+
+    def lines(self, printer: Formatter) -> Iterator[str]:
+        """A line for each node, and one on how it ended where that is not its end."""
+        for number, (address, value) in enumerate(self.nodes):
+            yield f"[{number}] 0x{address:x} {printer.value(self.type, value, address)}"
+        if self.back is not None:
+            yield f"back to [{self.back}]"
+        if self.lost is not None:
+            yield f"the link at 0x{self.lost:x} can't be read"
+        if self.more:
+            yield "..."
 
 
 @dataclass(frozen=True)

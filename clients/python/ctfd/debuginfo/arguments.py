@@ -14,6 +14,7 @@ from typing import Callable, Dict, List, NamedTuple, Optional
 from ..held import size_of
 from ..records import Record, Table
 from .dwarf import FRAME_PLACE, PIECE, REGISTER, At, Attribute, Form, signed, unsigned
+from .relocations import Relocation
 from .told import Told
 
 INTEGERS = (5, 4, 1, 2, 8, 9)  # rdi, rsi, rdx, rcx, r8, r9
@@ -29,7 +30,7 @@ LONG_DOUBLES = (5, 6)
 # A struct of 16 bytes holds no more bit-fields; one of a hostile dictionary may hold any number.
 MOST_PARTS = 1000
 
-Code = Callable[[int, int], bytes]
+Code = Callable[[int, int, int], bytes]
 
 
 class Untold(Exception):
@@ -47,26 +48,27 @@ class Passed(NamedTuple):
 
 class Places:
     """Gives attributes with names and places to the arguments of functions. `code` reads a
-    program's bytes."""
+    program's bytes: so many at an address, which counts in a section of an object file."""
 
     def __init__(self, code: Code, table: Table) -> None:
         self.code = code
         self.passing = Passing(table)
         self.lists = bytearray()
+        self.relocations: List[Relocation] = []
 
     def of(self, one: Told, base: int) -> List[List[Attribute]]:
         """The attributes of each argument; one whose place is not known has a name alone. `base`
         is that of the function's unit."""
         assert one.function
         listed = self.passing.places(one.function)
-        end = one.address + min(self._entered(one.address), one.size)
+        length = min(self._entered(one), one.size)
         made: List[List[Attribute]] = []
         for number, place in enumerate(listed):
             said = [Attribute(At.NAME, Form.STRING, f"arg{number}")]
             if place is not None and place.startswith(FRAME_PLACE):
                 said.append(Attribute(At.LOCATION, Form.EXPRESSION, place))
             elif place is not None:
-                at = self._list(one.address - base, end - base, place)
+                at = self._list(one, length, base, place)
                 said.append(Attribute(At.LOCATION, Form.SECTION_OFFSET, at))
             made.append(said)
         return made
@@ -74,15 +76,21 @@ class Places:
     def sections(self) -> Dict[str, bytes]:
         return {".debug_loc": bytes(self.lists)} if self.lists else {}
 
-    def _list(self, low: int, end: int, place: bytes) -> int:
-        """Where the list of an argument's places begins, which is one place here."""
+    def _list(self, one: Told, length: int, base: int, place: bytes) -> int:
+        """Where the list of an argument's places begins, which is one place here, for the first
+        bytes of a function."""
         at = len(self.lists)
+        low, end = one.address - base, one.address - base + length
+        if one.symbol:
+            self.relocations += [Relocation(at, one.symbol, 0),
+                                 Relocation(at + WORD, one.symbol, length)]
+            low = end = 0
         self.lists += struct.pack("<QQH", low, end, len(place)) + place + b"\0" * 16
         return at
 
-    def _entered(self, address: int) -> int:
+    def _entered(self, one: Told) -> int:
         """How many bytes behind a function's start its arguments are where they were."""
-        code = self.code(address, LONGEST_ENTRY)
+        code = self.code(one.address, LONGEST_ENTRY, one.section)
         length = len(ENDBR) if code.startswith(ENDBR) else 0
         if code[length:length + 1] == PUSH:
             length += 1

@@ -12,7 +12,7 @@ import sys
 from dataclasses import dataclass, field
 from typing import List, Optional, Sequence
 
-from .. import commands, elf, from_ctf, outputs, source
+from .. import commands, elf, from_ctf, identity, outputs, source
 from ..commands import add_version
 from ..dictionary import open_source
 from ..faults import Error, Unreadable
@@ -22,12 +22,14 @@ from ..opening import told_of as refusals_of
 from ..records import Table
 from ..sound import judge
 from ..source import Source
+from ..symbols import Handed, handed
 from ..text import printable
 from ..version import VERSION
 from ..wire import Session
 from . import debugfile, symbols
 from .arguments import Places
 from .image import X86_64, Image
+from .relocations import kind_of
 from .told import Told
 from .units import Producer, UnitWriter
 
@@ -109,29 +111,47 @@ def _run(session: Session, said: argparse.Namespace) -> int:
 
 def make(session: Session, wanted: Wanted) -> Made:
     """Makes a debug file, once the service has accepted what it is made of. Raises Error."""
-    path = wanted.program or wanted.path
-    data = contents(path)
-    image = Image(data, path) if data[:4] == elf.MAGIC else None
+    image = _image(wanted)
     twin = _twin(wanted, image)
     found = source.read(wanted.path)
     if wanted.symbols and twin:
         found = _with_symbols(found, twin)
-    model = wanted.model or (image.elf.model if image else None)
+    if image and identity.model(found.ctf) not in (None, image.elf.model):
+        raise Error(f"{wanted.path} is of {identity.model(found.ctf)}, and {image.elf.path} of"
+                    f" {image.elf.model}: name the program that the types are of")
+    model = wanted.model or found.model or (image.elf.model if image else None)
     found = found._replace(model=found.model or model)
     _judge(session, wanted, found, model)
     table = _table(wanted, found, model or "lp64")
     made = Made(b"", len(table), [], image.build_id if image else b"")
     if image and twin:
-        made.told = _told(wanted, table, image, twin, made.notes)
+        made.told = _told(wanted, found, table, twin, made.notes)
     places = None
     if wanted.has_arguments and image and image.head.machine == X86_64:
         places = Places(image.code, table)
     producer = Producer(f"{NAME} {VERSION}", f"{os.path.basename(wanted.path)}.types.c")
-    debug = UnitWriter(table, producer, places).sections(made.told)
-    is_beside = image and twin and not image.is_relocatable
-    made.data = (debugfile.beside(image, twin, debug) if is_beside and image and twin
+    writer = UnitWriter(table, producer, places)
+    debug = debugfile.Debug(writer.sections(made.told), writer.relocations())
+    made.data = (debugfile.beside(image, twin, debug) if image and twin
                  else debugfile.of_types(table.model, debug))
     return made
+
+
+def _image(wanted: Wanted) -> Optional[Image]:
+    """The program's file; none for a section by itself. Raises Error."""
+    path = wanted.program or wanted.path
+    data = contents(path)
+    if data[:4] != elf.MAGIC:
+        if wanted.program:
+            raise Error(f"{path} is no ELF file: --program names the program that the types are of")
+        if wanted.symbols:
+            raise Error(f"{path} is no ELF file: name the program that its types are of by"
+                        " --program, in place of --symbols")
+        return None
+    if wanted.program and contents(wanted.path)[:4] == elf.MAGIC:
+        raise Error(f"{wanted.path} is an ELF file itself: --program is for a section without one,"
+                    " and --symbols names a copy that has more symbols")
+    return Image(data, path)
 
 
 def _twin(wanted: Wanted, image: Optional[Image]) -> Optional[Image]:
@@ -146,7 +166,11 @@ def _twin(wanted: Wanted, image: Optional[Image]) -> Optional[Image]:
 
 
 def _with_symbols(found: Source, twin: Image) -> Source:
-    """What is handed in, with the symbols of another copy."""
+    """What is handed in, with the symbols of another copy, if the types were written for these."""
+    if identity.symbols(found.ctf) is not None:
+        known = source.symbols_of(twin.elf, found.ctf)
+        handed_in = handed(twin.elf, known) if known else Handed()
+        return found._replace(sym=handed_in.table, strings=handed_in.strings, how="named")
     table = twin.table(0)
     if table is None or twin.elf.model != "lp64":  # the service reads no symbols of 32 bits
         return found
@@ -177,22 +201,20 @@ def _table(wanted: Wanted, found: Source, model: Model) -> Table:
     return made
 
 
-def _told(wanted: Wanted, table: Table, image: Image, twin: Image, notes: List[str]) -> List[Told]:
+def _told(wanted: Wanted, found: Source, table: Table, twin: Image, notes: List[str]) -> List[Told]:
     """What is told of the program's symbols, or nothing, and why."""
-    if image.is_relocatable:
-        notes.append(f"{image.elf.path}: an object file or a kernel's module, whose sections have"
-                     " no addresses yet: the types are written, and nothing of its symbols")
+    if twin.is_relocatable and kind_of(twin.elf) is None:
+        notes.append(f"{twin.elf.path}: an object file of machine {twin.head.machine}, whose"
+                     " relocations are not known: the types are written, and nothing of its"
+                     " symbols")
         return []
-    is_other = wanted.symbols or wanted.program
-    found = twin.symbols(twin.table(0 if is_other else symbols.linked_table(image)))
-    told = symbols.told_of(table, found)
-    if told is None:
-        functions = sum(one.is_function for one in found)
-        notes.append(f"{twin.elf.path}: its {len(found) - functions} objects and {functions}"
-                     f" functions are not the {len(table.objects)} and {len(table.functions)} that"
-                     " the types were written for, so the types are written, and nothing of its"
-                     " symbols: name the program before it was stripped by --symbols")
-    return told or []
+    link = 0 if wanted.symbols or wanted.program else symbols.linked_table(twin)
+    try:
+        return symbols.told_of(found.ctf, table, twin, link)
+    except symbols.Others as why:
+        notes.append(f"{twin.elf.path}: {why}, so the types are written, and nothing of its"
+                     f" symbols: {symbols.NAME_IT}")
+        return []
 
 
 def _in_folder(folder: str, build_id: bytes) -> str:

@@ -12,8 +12,11 @@ from typing import Dict, List, NamedTuple, Optional
 from ..elf import MAGIC, NOBITS, STRTAB, SYMTAB, Section
 from ..faults import Unreadable
 from ..model import Model
+from . import relocations
 from .image import (ABSOLUTE, ALLOCATED, FORMS, MACHINES, NOTE, PROGBITS, RESERVED, Image)
+from .relocations import Relocation
 
+INFO_LINK = 0x40
 LOAD, EXECUTABLE = 1, 2
 SEGMENT_FILE_SIZE: Dict[Model, int] = {"lp64": 5, "ilp32": 4}
 LONGEST_ALIGN = 16
@@ -38,8 +41,17 @@ class Written(NamedTuple):
 NONE = Written("", 0, 0, 0, b"", 0, align=0)
 
 
-def beside(image: Image, symbols: Image, debug: Dict[str, bytes]) -> bytes:
+class Debug(NamedTuple):
+    """Sections of DWARF, and of an object file the places in them that get addresses."""
+
+    sections: Dict[str, bytes]
+    relocations: Dict[str, List[Relocation]] = {}
+
+
+def beside(image: Image, symbols: Image, debug: Debug) -> bytes:
     """A file beside a program. The symbols may come from another copy of it."""
+    if len(image.elf.sections) > RESERVED:
+        raise Unreadable(f"{image.elf.path}: more than {RESERVED} sections, which is not read")
     made = [NONE]
     numbers = {0: 0}
     for number, (section, header) in enumerate(zip(image.elf.sections, image.headers)):
@@ -50,18 +62,41 @@ def beside(image: Image, symbols: Image, debug: Dict[str, bytes]) -> bytes:
             made.append(Written(section.name, NOTE if is_note else NOBITS, section.flags,
                                 section.address, data, section.size, align=header.align))
     table = symbols.elf.named(".symtab")
+    at = len(made)
     if table is not None:
-        made += _symbol_table(image, symbols, table, len(made), numbers)
-    return _file(image.elf.model, [*made, *_sections(debug)], image)
+        made += _symbol_table(image, symbols, table, at, numbers)
+    kind = relocations.kind_of(image.elf)
+    if kind is None or not debug.relocations:
+        return _file(image.elf.model, [*made, *_sections(debug.sections)], image)
+    return _file(image.elf.model, [*made, *_relocated(image.elf.model, debug, kind, at, len(made))],
+                 image)
 
 
-def of_types(model: Model, debug: Dict[str, bytes]) -> bytes:
+def of_types(model: Model, debug: Debug) -> bytes:
     """A file of types alone."""
-    return _file(model, [NONE, *_sections(debug)], None)
+    return _file(model, [NONE, *_sections(debug.sections)], None)
 
 
 def _sections(debug: Dict[str, bytes]) -> List[Written]:
     return [Written(name, PROGBITS, 0, 0, data, len(data)) for name, data in debug.items()]
+
+
+def _relocated(model: Model, debug: Debug, kind: relocations.Kind, symbols: int,
+               place: int) -> List[Written]:
+    """The sections of an object file's, of which the first has the number `place`, and behind them
+    the tables of the places that get addresses."""
+    tables = []
+    sections = dict(debug.sections)
+    prefix = ".rela" if kind.table == relocations.RELA else ".rel"
+    align = 8 if model == "lp64" else 4
+    for number, name in enumerate(debug.sections, place):
+        listed = debug.relocations.get(name)
+        if listed:
+            sections[name] = relocations.filled(kind, model, sections[name], listed)
+            data = relocations.table(kind, model, listed)
+            tables.append(Written(prefix + name, kind.table, INFO_LINK, 0, data, len(data), symbols,
+                                  number, align, len(data) // len(listed)))
+    return _sections(sections) + tables
 
 
 def _symbol_table(image: Image, symbols: Image, table: Section, place: int,

@@ -90,12 +90,20 @@ class Encoding(enum.IntEnum):
     IMAGINARY_FLOAT = 0x09
 
 
+class Address(NamedTuple):
+    """An address of the program; in an object file so many bytes behind a symbol, by its number.
+    """
+
+    number: int
+    symbol: int = 0
+
+
 class Attribute(NamedTuple):
-    """An attribute of an entry, with its value."""
+    """An attribute of an entry, with its value. An address as an expression is that of a place."""
 
     at: At
     form: Form
-    value: Union[int, str, bytes, None]
+    value: Union[int, str, bytes, Address, None]
 
 
 def unsigned(number: int) -> bytes:

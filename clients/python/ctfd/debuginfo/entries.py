@@ -2,10 +2,11 @@
 from __future__ import annotations
 
 import struct
-from typing import Callable, Dict, Iterable, List, NamedTuple, Optional, Tuple
+from typing import Callable, Dict, Iterable, List, NamedTuple, Optional, Tuple, Union
 
 from ..text import raw
-from .dwarf import VERSION, At, Attribute, Form, Tag, signed, unsigned
+from .dwarf import ADDRESS, VERSION, Address, At, Attribute, Form, Tag, signed, unsigned
+from .relocations import Relocation
 
 _Shape = Tuple[Tag, bool, Tuple[Tuple[At, Form], ...]]
 
@@ -30,6 +31,7 @@ class Entries:
         self._types: Dict[int, int] = {}
         self._references: List[Reference] = []
         self._unit: Optional[int] = None
+        self.relocations: List[Relocation] = []
 
     def begin_unit(self) -> None:
         """Begins a unit; its entry comes next."""
@@ -72,8 +74,12 @@ class Entries:
     def _number(self, form: str, value: int) -> None:
         self.info += struct.pack(form, value)
 
-    def _address(self, value: int) -> None:
-        self.info += value.to_bytes(self.address_size, "little")
+    def _address(self, value: Address) -> None:
+        number = value.number
+        if value.symbol:
+            self.relocations.append(Relocation(len(self.info), value.symbol, number))
+            number = 0
+        self.info += number.to_bytes(self.address_size, "little")
 
     def _type(self, number: int) -> None:
         self._references.append(Reference(len(self.info), number))
@@ -87,8 +93,12 @@ class Entries:
             self.strings += data + b"\0"
         self._number("<I", place)
 
-    def _expression(self, code: bytes) -> None:
-        self.info += unsigned(len(code)) + code
+    def _expression(self, code: Union[bytes, Address]) -> None:
+        if isinstance(code, Address):
+            self.info += unsigned(1 + self.address_size) + ADDRESS
+            self._address(code)
+        else:
+            self.info += unsigned(len(code)) + code
 
     def sections(self) -> Dict[str, bytes]:
         """What was written, by the names of sections."""

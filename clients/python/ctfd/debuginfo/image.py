@@ -17,6 +17,7 @@ MARKS = ("_START_", "_END_")
 X86_64, I386 = 62, 3
 MACHINES: Dict[Model, int] = {"lp64": X86_64, "ilp32": I386}
 RELOCATABLE = 1
+WRITABLE = 2
 BUILD_ID = ".note.gnu.build-id"
 NOTE_HEAD = 16
 
@@ -72,9 +73,21 @@ class SectionHeader(NamedTuple):
     entry: int
 
 
+class Segment(NamedTuple):
+    """A part of a file that is put into memory: so many bytes in the file, and there."""
+
+    kind: int
+    offset: int
+    address: int
+    in_file: int
+    in_memory: int
+    is_writable: bool
+
+
 class Symbol(NamedTuple):
     """A symbol of which a dictionary may tell something. `source` is the source file of one that
-    is local, where the table tells it."""
+    is local, where the table tells it. Of an object file `section` is that in which the address
+    counts, and `number` is the symbol's in the table."""
 
     name: str
     address: int
@@ -82,6 +95,8 @@ class Symbol(NamedTuple):
     is_function: bool
     is_global: bool
     source: str
+    section: int
+    number: int
 
 
 class Image:
@@ -91,6 +106,7 @@ class Image:
         self.elf = Elf(data, path)
         self.data = data
         self.form = FORMS[self.elf.model]
+        self._segments: Optional[List[Segment]] = None
         try:
             self.head = Head(*self.form.head.unpack_from(data, 16))
             self.headers = [SectionHeader(*self.form.section.unpack_from(
@@ -110,6 +126,24 @@ class Image:
         note = self.elf.named(BUILD_ID)
         return self.elf.bytes(note)[NOTE_HEAD:] if note else b""
 
+    def segments(self) -> List[Segment]:
+        """What is put into memory. Raises Unreadable where that is cut off."""
+        if self._segments is None:
+            try:
+                self._segments = [self._segment(number) for number in range(self.head.segments)]
+            except (struct.error, OverflowError) as error:
+                raise Unreadable(f"{self.elf.path}: its segments are cut off") from error
+        return self._segments
+
+    def _segment(self, number: int) -> Segment:
+        fields = self.form.segment.unpack_from(
+            self.data, self.head.segments_at + number * self.form.segment.size)
+        if self.elf.model == "lp64":
+            kind, flags, offset, address, _, in_file, in_memory, _ = fields
+        else:
+            kind, offset, address, _, in_file, in_memory, flags, _ = fields
+        return Segment(kind, offset, address, in_file, in_memory, bool(flags & WRITABLE))
+
     def is_same_build(self, other: Image) -> bool:
         """Whether another file is of the same build: by the build ids, where both have one, and by
         what is loaded and where."""
@@ -123,11 +157,12 @@ class Image:
                 if one.flags & ALLOCATED]
 
     def table(self, link: int) -> Optional[Section]:
-        """The symbol table that a section names, else the file's."""
+        """The symbol table that a section names, else the file's; .dynsym is never taken for that.
+        """
         linked = self.elf.numbered(link)
         if linked is not None and linked.kind in (SYMTAB, DYNSYM):
             return linked
-        return self.elf.named(".symtab") or self.elf.named(".dynsym")
+        return self.elf.named(".symtab")
 
     def strings(self, table: Section) -> bytes:
         """The names of a symbol table."""
@@ -144,7 +179,7 @@ class Image:
         strings, data = self.strings(table), self.elf.bytes(table)
         whole = len(data) // self.form.symbol.size * self.form.symbol.size
         source = ""
-        for fields in self.form.symbol.iter_unpack(data[:whole]):
+        for number, fields in enumerate(self.form.symbol.iter_unpack(data[:whole])):
             if self.elf.model == "lp64":
                 name, info, other, section, value, size = fields
             else:
@@ -156,12 +191,14 @@ class Image:
             if not is_told or kind == OBJECT and section == ABSOLUTE and not value:
                 continue
             is_local = info >> 4 == LOCAL
+            at = (section, number) if self.is_relocatable else (0, 0)
             yield Symbol(text.split("@")[0], value, size, kind == FUNCTION,
-                         not is_local or other & 3 in HIDDEN, source if is_local else "")
+                         not is_local or other & 3 in HIDDEN, source if is_local else "", *at)
 
-    def code(self, address: int, length: int) -> bytes:
-        """Bytes of the program's file, b"" where they are not in it."""
-        for one in self.headers:
+    def code(self, address: int, length: int, section: int = 0) -> bytes:
+        """Bytes of the program's file, b"" where they are not in it. In an object file the address
+        counts in a section."""
+        for one in self.headers[section:section + 1] if section else self.headers:
             if one.flags & ALLOCATED and one.kind != NOBITS and (
                     one.address <= address < one.address + one.size):
                 at = one.offset + address - one.address

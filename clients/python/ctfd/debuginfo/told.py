@@ -5,6 +5,7 @@ import re
 from typing import NamedTuple, Optional
 
 from ..records import Record
+from .dwarf import Address
 
 # What compilers append to the names of copies of functions.
 COPIES = (".isra.", ".constprop.", ".part.", ".cold", ".lto_priv.", ".localalias")
@@ -14,7 +15,9 @@ _OF_FUNCTION = re.compile(r"(.+)\.\d+\Z")
 class Told(NamedTuple):
     """A symbol: an object with its type's number, or a function with its record.
 
-    `source` is the source file of a symbol that no other file sees, where that is known.
+    `source` is the source file of a symbol that no other file sees, where that is known. Of an
+    object file `section` is that of the symbol, in which the address counts, and `symbol` its
+    number in the table.
     """
 
     name: str
@@ -24,6 +27,12 @@ class Told(NamedTuple):
     source: str = ""
     type: int = 0
     function: Optional[Record] = None
+    section: int = 0
+    symbol: int = 0
+
+    def behind(self, count: int) -> Address:
+        """The address so many bytes behind it."""
+        return Address(count if self.symbol else self.address + count, self.symbol)
 
     @property
     def is_copy(self) -> bool:

@@ -1,27 +1,26 @@
 """The units of a debug file: the types and symbols of a program as DWARF.
 
-The first unit has the types that look-ups by name see, and the symbols. A name that several source
-files have each for itself stands in a unit for each file, so that a debugger takes that of the file
-in which the program stands. The last unit has the types that are hidden because another is found by
-their name.
+The first unit has the types that look-ups by name see, and the symbols. Source files that have each
+a name for themselves have a unit each, so that a debugger takes that of the file in which the
+program stands. The last unit has the types that are hidden because another is found by their name.
 """
 from __future__ import annotations
 
-import struct
 from typing import Dict, Iterable, List, NamedTuple, Optional, Set
 
 from ..records import Table
 from .arguments import Places
-from .dwarf import (ADDRESS, CALL_FRAME_CFA, LANGUAGE_C99, At, Attribute, Form, Tag)
+from .dwarf import CALL_FRAME_CFA, LANGUAGE_C99, Address, At, Attribute, Form, Tag
+from .relocations import Relocation
 from .told import Told
 from .types import TypeWriter
 
 
 class Range(NamedTuple):
-    """Addresses from the first on, up to the last."""
+    """Addresses from the start of a function on, so many bytes."""
 
-    low: int
-    high: int
+    low: Told
+    length: int
 
 
 class Producer(NamedTuple):
@@ -41,6 +40,7 @@ class UnitWriter:
         self.producer = producer
         self.places = places
         self.ranges = bytearray()
+        self._range_relocations: List[Relocation] = []
         self._spans: Dict[str, List[Range]] = {}
         self._taken: Set[str] = set()
 
@@ -67,6 +67,12 @@ class UnitWriter:
             made[".debug_ranges"] = bytes(self.ranges)
         return {**made, **(self.places.sections() if self.places else {})}
 
+    def relocations(self) -> Dict[str, List[Relocation]]:
+        """The places in the sections of an object file's that get addresses."""
+        found = {".debug_info": self.entries.relocations, ".debug_ranges": self._range_relocations,
+                 ".debug_loc": self.places.relocations if self.places else []}
+        return {name: listed for name, listed in found.items() if listed}
+
     def _begin(self, source: Optional[str]) -> int:
         """Begins the unit of a source file, of all files (""), or of no code; its base."""
         self.entries.begin_unit()
@@ -74,11 +80,12 @@ class UnitWriter:
                 Attribute(At.LANGUAGE, Form.DATA1, LANGUAGE_C99),
                 Attribute(At.NAME, Form.STRING, source or self.producer.name)]
         spans = self._spans.get(source or "", []) if source is not None else []
-        base = spans[0].low if len(spans) == 1 else 0
+        is_one = len(spans) == 1 and not spans[0].low.symbol
+        base = spans[0].low.address if is_one else 0
         if spans:
-            said.append(Attribute(At.LOW_PC, Form.ADDRESS, base))
-        if len(spans) == 1:
-            said.append(_length(spans[0].high - base))
+            said.append(Attribute(At.LOW_PC, Form.ADDRESS, Address(base)))
+        if is_one:
+            said.append(_length(spans[0].length))
         elif spans:
             said.append(Attribute(At.RANGES, Form.SECTION_OFFSET, self._listed(spans)))
         self.entries.add(Tag.UNIT, said, True)
@@ -87,9 +94,14 @@ class UnitWriter:
     def _listed(self, spans: List[Range]) -> int:
         """Where a unit's list of addresses begins."""
         place = len(self.ranges)
-        form = "<QQ" if self.entries.address_size == 8 else "<II"
-        for span in [*spans, Range(0, 0)]:
-            self.ranges += struct.pack(form, *span)
+        size = self.entries.address_size
+        for low, length in spans:
+            for number, symbol in (low.behind(0), low.behind(length)):
+                if symbol:
+                    self._range_relocations.append(Relocation(len(self.ranges), symbol, number))
+                    number = 0
+                self.ranges += number.to_bytes(size, "little")
+        self.ranges += bytes(2 * size)
         return place
 
     def _symbol(self, one: Told, base: int) -> None:
@@ -100,16 +112,15 @@ class UnitWriter:
         if one.function is not None:
             self._function(one, base, said)
             return
-        place = ADDRESS + one.address.to_bytes(self.entries.address_size, "little")
         of = self.types.whole_array(one.type, one.size) or self.types.of(one.type)
         self.entries.add(Tag.VARIABLE, [*said, *of,
-                                        Attribute(At.LOCATION, Form.EXPRESSION, place)])
+                                        Attribute(At.LOCATION, Form.EXPRESSION, one.behind(0))])
 
     def _function(self, one: Told, base: int, said: List[Attribute]) -> None:
         function = one.function
         assert function
         said += [Attribute(At.PROTOTYPED, Form.PRESENT, None), *self.types.of(function.type),
-                 Attribute(At.LOW_PC, Form.ADDRESS, one.address), _length(one.size)]
+                 Attribute(At.LOW_PC, Form.ADDRESS, one.behind(0)), _length(one.size)]
         where: List[List[Attribute]] = []
         if self.places and not one.is_copy:
             where = self.places.of(one, base)
@@ -127,30 +138,53 @@ def _length(length: int) -> Attribute:
 def _by_units(symbols: List[Told]) -> Dict[str, List[Told]]:
     """The symbols by the source files whose units they stand in, "" first, which is that of all.
 
-    Names that several files have for themselves go into the units of these.
+    A file that has a name for itself that another file has too has a unit.
     """
     sources: Dict[str, Set[str]] = {}
     for one in symbols:
         if one.source:
             sources.setdefault(one.written, set()).add(one.source)
+    own = {source for listed in sources.values() if len(listed) > 1 for source in listed}
     units: Dict[str, List[Told]] = {"": []}
-    for one in symbols:
-        is_own = one.source and len(sources[one.written]) > 1
-        units.setdefault(one.source if is_own else "", []).append(one)
+    for one, source in zip(symbols, _sources(symbols) if own else [""] * len(symbols)):
+        units.setdefault(source if source in own else "", []).append(one)
     return units
+
+
+def _sources(symbols: List[Told]) -> List[str]:
+    """The source file of each symbol, "" where it is not known. A function that all files see is
+    told to be of none: it is of the file whose own functions are before it and behind it."""
+    made = [one.source for one in symbols]
+    code = sorted((n for n, one in enumerate(symbols) if one.function is not None),
+                  key=lambda n: (symbols[n].section, symbols[n].address))
+    between: List[int] = []  # those behind the last function that a file has for itself
+    last = 0, ""
+    for n in code:
+        here = symbols[n].section, made[n]
+        if not made[n]:
+            between.append(n)
+            continue
+        if here == last:
+            for inner in between:
+                made[inner] = here[1]
+        between, last = [], here
+    return made
 
 
 def _spans(units: Dict[str, List[Told]]) -> Dict[str, List[Range]]:
     """The addresses of each unit's code: functions that follow each other are one range."""
-    code = sorted((one.address, one.address + one.size, name) for name, listed in units.items()
-                  for one in listed if one.function is not None and one.size)
+    code = sorted(((name, one) for name, listed in units.items() for one in listed
+                   if one.function is not None and one.size),
+                  key=lambda it: (it[1].section, it[1].address, it[1].size, it[0]))
     made: Dict[str, List[Range]] = {}
     last = None
-    for low, high, name in code:
+    for name, one in code:
         spans = made.setdefault(name, [])
-        if spans and last == name:
-            spans[-1] = Range(spans[-1].low, max(high, spans[-1].high))
+        if spans and last == (name, one.section):
+            low = spans[-1].low
+            length = one.address + one.size - low.address
+            spans[-1] = Range(low, max(length, spans[-1].length))
         else:
-            spans.append(Range(low, high))
-        last = name
+            spans.append(Range(one, one.size))
+        last = name, one.section
     return made

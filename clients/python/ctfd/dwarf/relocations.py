@@ -13,11 +13,12 @@ KEEP, WORD, QUAD = "", "<I", "<Q"
 MASKS = {WORD: 0xFFFFFFFF, QUAD: 0xFFFFFFFFFFFFFFFF}
 
 # How each machine's relocations of debug information are written: the sum of symbol and addend in
-# so many bytes. Offsets within thread-local storage are no addresses, and the sums and differences
-# of RISC-V are lengths of code, which no type has: what stands there is kept.
+# so many bytes. Offsets within thread-local storage and in the global offset table are no addresses,
+# and the sums and differences of RISC-V are lengths of code, which no type has: what stands there
+# is kept.
 MACHINES: Dict[int, Dict[int, str]] = {
     62: {0: KEEP, 1: QUAD, 10: WORD, 11: WORD, 17: KEEP, 21: KEEP},  # x86-64
-    3: {0: KEEP, 1: WORD, 32: KEEP, 36: KEEP},  # i386
+    3: {0: KEEP, 1: WORD, 9: KEEP, 32: KEEP, 36: KEEP},  # i386
     183: {0: KEEP, 257: QUAD, 258: WORD, 1028: KEEP, 1029: KEEP},  # AArch64
     40: {0: KEEP, 2: WORD, 104: KEEP, 106: KEEP},  # ARM
     243: {0: KEEP, 1: WORD, 2: QUAD, 8: KEEP, 9: KEEP, **dict.fromkeys(range(33, 41), KEEP),

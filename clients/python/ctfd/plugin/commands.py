@@ -255,8 +255,11 @@ class Print(Command):
         if arguments.startswith("/") and not hexadecimal:
             raise BadExpression("the one format is /x")
         target = STATE.target()
-        operand = expressions.evaluate(arguments[2:] if hexadecimal else arguments, target)
-        print(shown(target, operand, hexadecimal))
+        expression = arguments[2:] if hexadecimal else arguments
+        print(shown(target, expressions.evaluate(expression, target), hexadecimal))
+        if not STATE.is_hinted and native.knows(expression):
+            STATE.is_hinted = True
+            print("(gdb's own print knows this type too)")
 
 
 class List(Command):
@@ -276,15 +279,8 @@ class List(Command):
         head = expressions.evaluate(words[0], target)
         inside = target.find(words[2]) if len(words) == 3 else None
         followed = lists.follow(Steps(target), head, words[1], inside, bounds())
-        printer = formats.Formatter(target, style())
-        for number, (address, value) in enumerate(followed.nodes):
-            print(f"[{number}] 0x{address:x} {printer.value(followed.type, value, address)}")
-        if followed.back is not None:
-            print(f"back to [{followed.back}]")
-        if followed.lost is not None:
-            print(f"the link at 0x{followed.lost:x} can't be read")
-        if followed.more:
-            print("...")
+        for line in followed.lines(formats.Formatter(target, style())):
+            print(line)
 
 
 class Find(Command):

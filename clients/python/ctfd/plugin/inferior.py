@@ -2,21 +2,20 @@
 from __future__ import annotations
 
 import contextlib
-from typing import List, Optional, Sequence, Tuple
+from typing import Optional, Sequence
 
 import gdb
 
 import ctfd
-from ctfd import source
+from ctfd import characters, source
+from ctfd.characters import Wanted
 from ctfd.model import Model, of_pointers
 from ctfd.operands import BadExpression, Operand, Untold
-from ctfd.quoting import quoted
 
 from .loaded import Loaded
 
 NO_TYPES = "No types are loaded.  Use the \"ctf load\" command."
 PAGE = 4096
-STEP = 64
 
 
 def pointer_size() -> int:
@@ -101,16 +100,8 @@ class Inferior:
 
     def string(self, address: int, limit: int, size: int = 1, before: str = "") -> str:
         """The text at an address, as gdb prints it; its characters have `size` bytes."""
-        codes, lost = _codes(address, limit, size)
-        if lost is not None and not codes:
-            return f"<error: Cannot access memory at address 0x{lost:x}>"
-        ends = 0 in codes
-        text = codes[:codes.index(0)] if ends else codes
-        more = len(text) > limit or (not ends and lost is None)
-        told = quoted(text[:limit], limit, gdb.parameter("print repeats") or 0, more, before)
-        if lost is None or ends or len(text) >= limit:
-            return told
-        return f"{told}<error: Cannot access memory at address 0x{lost:x}>"
+        wanted = Wanted(limit, gdb.parameter("print repeats") or 0, size, before)
+        return characters.string(_memory, address, wanted)
 
 
 def _memory(address: int, length: int) -> Optional[bytes]:
@@ -133,18 +124,3 @@ def _pages(address: int, length: int) -> bytes:
             break
         data += piece
     return data
-
-
-def _codes(address: int, limit: int, size: int) -> Tuple[List[int], Optional[int]]:
-    """Characters up to a zero or one past the limit, and the address that can't be read."""
-    data = b""
-    codes: List[int] = []
-    while len(codes) <= limit and 0 not in codes:
-        at = address + len(data)
-        piece = _memory(at, STEP - at % STEP)
-        if piece is None:
-            return codes, at
-        data += piece
-        whole = len(data) // size * size
-        codes = [int.from_bytes(data[n:n + size], "little") for n in range(0, whole, size)]
-    return codes, None

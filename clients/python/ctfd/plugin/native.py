@@ -44,6 +44,18 @@ def objfile_of(path: str) -> Optional[gdb.Objfile]:
     return None
 
 
+def knows(expression: str) -> bool:
+    """Whether gdb itself can print an expression by a debug file that it was given. No expression
+    that the plug-in takes changes anything."""
+    if all(one.owner is None for one in gdb.objfiles()):
+        return False
+    try:
+        gdb.parse_and_eval(expression)
+    except (gdb.error, RuntimeError):
+        return False
+    return True
+
+
 def give(client: ctfd.Client, path: str, parent: Optional[str] = None) -> str:
     """Gives gdb the types of a file that it has read; a line on what it has of them, "" where it
     has no such file, or the file has no CTF. Raises Error."""

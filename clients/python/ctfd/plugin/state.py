@@ -30,6 +30,7 @@ class State:
         self.service: Optional[Tuple[ctfd.Client, ctfd.Session]] = None
         self.loaded: List[Loaded] = []
         self.follows = False
+        self.is_hinted = False
 
     def client(self) -> ctfd.Client:
         """The service, which is started where it does not run."""

@@ -1,0 +1,1 @@
+"""Values in a process that runs, or in a core file, without a debugger."""
