@@ -1,18 +1,19 @@
 #!/usr/bin/env python3
-"""Measures calls of libctfd.a beside those of GNU libctf, on the types of one program.
+"""Measures calls of libctfd.a by both headers, beside those of GNU libctf, on real dictionaries.
 
-usage: bench/c_library.py [--structs N] [--profile QUESTION] [--no-gnu]
+usage: bench/c_library.py [--profile QUESTION] [--no-gnu] [CTF..]
 
-The archive is the one that CTFD_ARCHIVE names, else crates/ctf_c/out/libctfd.a; the program that
-CTFD names, else crates/ctfd/out/ctfd, is needed to convert. A C file of N structs (2,000), with
-typedefs, pointers, arrays, enums and functions, is compiled by `gcc -gctf -g`. GNU libctf is given
-its section .ctf; ours is given what clients/python/ctfd-convert makes of it.
+Each CTF is a dictionary of version 2, by itself: examples/lua.ctf where none is named. The archive
+is the one that CTFD_ARCHIVE names, else crates/ctf_c/out/libctfd.a. The same types are written by GNU
+libctf for itself (gnu_dictionary.py), so both are asked of the same.
 
 Each question is asked of all that it is for, again and again for some 0.2 s of processor time, five
-times, and the least counts; instructions are what callgrind counts more for more rounds. Prints a
-table in Markdown. With --profile it prints where callgrind says that a question's instructions go.
+times, and the least counts; instructions are what callgrind counts more for more rounds. So what is
+kept of a first round helps the others, in each library. Prints a table in Markdown for each
+dictionary. With --profile it prints where callgrind says that a question's instructions go, by the
+calls of libctf.
 
-Needs gcc, objcopy, valgrind, the Debian package binutils-dev.
+Needs cc, valgrind, the Debian package binutils-dev, and the Python client.
 """
 from __future__ import annotations
 
@@ -25,43 +26,44 @@ import tempfile
 from pathlib import Path
 
 TOP = Path(__file__).resolve().parents[1]
-QUESTIONS = {"kind": "kind", "size": "size", "align": "align", "member": "member by number, with "
-             "its name", "field": "member by name", "resolve": "resolve", "reference": "reference",
-             "find": "find", "name": "name", "open": "open, for each MB"}
+sys.path.insert(0, str(TOP / "clients" / "python"))
+import ctfd  # noqa: E402
+
+import gnu_dictionary  # noqa: E402
+
+QUESTIONS = {"kind": "kind", "size": "size", "align": "align", "resolve": "resolve",
+             "reference": "reference", "pointer": "pointer", "name": "name", "encoding": "encoding",
+             "contents": "array", "signature": "signature of a function type",
+             "field": "member by name", "find": "look-up", "member": "each member",
+             "enumerator": "each enumerator", "value": "enumerator by value",
+             "enumerated": "enumerator by name", "visit": "visit, each type",
+             "types": "each of all types", "open": "open, for each MB"}
 TRIES = 5
 ENOUGH = 200_000_000
 
 
-def source(structs: int) -> str:
-    """Types of all sorts, as a large program has them."""
-    lines = ["typedef unsigned long size_type;"]
-    for i in range(structs):
-        lines.append(f"enum color_{i} {{ red_{i}, green_{i} = {i}, blue_{i} }};"
-                     f"typedef struct record_{i} record_{i}_t;"
-                     f"struct record_{i} {{ int number_{i}; record_{i}_t *next;"
-                     f" const char *name; enum color_{i} color; char text_{i}[{i % 61 + 3}];"
-                     f" struct record_{max(i - 1, 0)} *other; size_type length;"
-                     f" int (*call_{i})(record_{i}_t *, int); volatile short flag; }} v_{i};")
-    return "\n".join(lines) + "\n"
+def compiled(work: Path, name: str, source: str, *words: str) -> Path:
+    """A program that asks."""
+    made = work / name
+    subprocess.run(["cc", "-O2", "-g", *words[:-1], TOP / "bench" / source, words[-1], "-o", made],
+                   check=True)
+    return made
 
 
-def build(work: Path, archive: str, structs: int, is_gnu: bool) -> dict[str, list[str]]:
-    """The commands that ask each library of the same types."""
-    (work / "own.c").write_text(source(structs), encoding="utf-8")
-
-    def run(*words: object) -> None:
-        subprocess.run([str(word) for word in words], check=True, cwd=work)
-
-    run("gcc", "-gctf", "-g", "-c", "own.c")
-    run("objcopy", "--dump-section", ".ctf=gnu.ctf", "own.o", "/dev/null")
-    run("/usr/bin/python3", TOP / "clients" / "python" / "ctfd-convert", "--from", "dwarf",
-        "--self-contained", "own.o", "own.ctf")
-    asked = TOP / "bench" / "c_library.c"
-    run("cc", "-O2", "-g", "-I", TOP / "clients" / "c", asked, archive, "-o", "ours")
-    commands = {"ours": [str(work / "ours"), str(work / "own.ctf")]}
+def build(work: Path, archive: str, ctf: Path, is_gnu: bool) -> dict[str, list[str]]:
+    """The commands that ask of the same types, by the door that they come through."""
+    headers = f"-I{TOP / 'clients' / 'c'}"
+    ours = compiled(work, "ours", "c_library.c", headers, archive)
+    theirs = compiled(work, "calls", "c_library_libctf.c", headers, archive)
+    commands = {"ctfd.h": [str(ours), str(ctf)], "ctfd_libctf.h": [str(theirs), str(ctf)]}
     if is_gnu:
-        run("cc", "-O2", "-g", "-DGNU", asked, "-lctf", "-o", "theirs")
-        commands["GNU libctf"] = [str(work / "theirs"), str(work / "gnu.ctf")]
+        with ctfd.Client() as client:
+            written, refused = gnu_dictionary.written(client, ctf.read_bytes())
+        if refused:
+            print(f"GNU libctf refuses {refused} types of {ctf}", file=sys.stderr)
+        (work / "gnu.ctf").write_bytes(written)
+        gnu = compiled(work, "gnu", "c_library_libctf.c", "-DGNU", "-lctf-nobfd")
+        commands["GNU libctf"] = [str(gnu), str(work / "gnu.ctf")]
     return commands
 
 
@@ -109,31 +111,41 @@ def profile(command: list[str], question: str, work: Path) -> None:
     print(*said.splitlines()[:60], sep="\n")
 
 
+def cells(command: list[str], question: str) -> list[str]:
+    """What a call costs, in nanoseconds and instructions; nothing where there is no such call."""
+    if asked(command, question, 1)[0] == 0:
+        return ["", ""]
+    return [f"{nanoseconds(command, question):,.0f}", f"{instructions(command, question):,.0f}"]
+
+
+def show(commands: dict[str, list[str]], ctf: Path) -> None:
+    """Prints the table of a dictionary, and the machine's load before and behind it."""
+    print(f"{ctf}; load before: {os.getloadavg()[0]:.1f}", file=sys.stderr)
+    heads = [f"{name}: {what}" for name in commands for what in ("ns", "instructions")]
+    print(f"| call | {' | '.join(heads)} |", "|---" * (len(heads) + 1) + "|", sep="\n")
+    for question, shown in QUESTIONS.items():
+        row = [cell for command in commands.values() for cell in cells(command, question)]
+        print(f"| {shown} | {' | '.join(row)} |", flush=True)
+    print(f"load after: {os.getloadavg()[0]:.1f}", file=sys.stderr)
+
+
 def main() -> int:
     assert __doc__
     options = argparse.ArgumentParser(usage=__doc__.split("usage: ")[1].split("\n")[0])
-    options.add_argument("--structs", type=int, default=2000)
     options.add_argument("--profile", choices=QUESTIONS)
     options.add_argument("--no-gnu", action="store_true")
+    options.add_argument("ctf", type=Path, nargs="*", default=[TOP / "examples" / "lua.ctf"])
     given = options.parse_args()
     archive = subprocess.run([TOP / "tests" / "archive.py", "--kept"], check=True, text=True,
                              capture_output=True).stdout.strip()
-    with tempfile.TemporaryDirectory() as folder:
-        work = Path(folder)
-        commands = build(work, archive, given.structs, not given.no_gnu)
-        if given.profile:
-            profile(commands["ours"], given.profile, work)
-            return 0
-        print(f"load before: {os.getloadavg()[0]:.1f}", file=sys.stderr)
-        heads = [f"{name}: {what}" for name in commands for what in ("ns", "instructions")]
-        print(f"| call | {' | '.join(heads)} |", "|---" * (len(heads) + 1) + "|", sep="\n")
-        for question, shown in QUESTIONS.items():
-            cells = []
-            for command in commands.values():
-                cells += [f"{nanoseconds(command, question):,.0f}",
-                          f"{instructions(command, question):,.0f}"]
-            print(f"| {shown} | {' | '.join(cells)} |", flush=True)
-        print(f"load after: {os.getloadavg()[0]:.1f}", file=sys.stderr)
+    for ctf in given.ctf:
+        with tempfile.TemporaryDirectory() as folder:
+            work = Path(folder)
+            commands = build(work, archive, ctf.resolve(), not given.no_gnu)
+            if given.profile:
+                profile(commands["ctfd_libctf.h"], given.profile, work)
+            else:
+                show(commands, ctf)
     return 0
 
 

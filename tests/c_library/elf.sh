@@ -1,8 +1,8 @@
 #!/usr/bin/env bash
 # Checks what ctf_open answers of ELF files, by programs that were compiled of elf.c.
 # usage: tests/c_library/elf.sh PROGRAM ELF..
-# PROGRAM is ctfd; each ELF a build of elf.c with the part for ELF files: one that links it, one that
-# links libctfd.so. Runs in a folder of its own. Needs gcc, objcopy, strip and Python; files of 32
+# PROGRAM is ctfd; each ELF a build of elf.c with the part for ELF files: one that links it, one
+# that links libctfd.so. Runs in a folder of its own. Needs gcc, objcopy, strip and Python; files of 32
 # bits are made where gcc -m32 makes them. Prints what was wrong; the status is 1 then.
 set -eu
 program=$(realpath "$1")
@@ -82,7 +82,8 @@ wanted with.o int
 
 # Programs of 32 bits: their pointers have 4 bytes, and their symbols are told.
 if gcc -m32 -g -fno-inline -o own own.c 2> said; then
-    CTFD=$program "$top/clients/python/ctfd-convert" --section own own.with32 > said 2>&1 || cat said
+    CTFD=$program "$top/clients/python/ctfd-convert" --section own own.with32 > said 2>&1 ||
+        cat said
     "${programs[0]}" own.with32 "struct point" | head -n 1 > seen
     echo 'model 1, 12 bytes' | cmp -s - seen || { cat seen; failed=1; }
 fi
@@ -99,7 +100,8 @@ for turn in range(60):
                             chance.randrange(len(made))])
         made[at] = chance.choice([0, 255, 128, made[at] ^ 1 << chance.randrange(8)])
     open("damaged", "wb").write(made[:chance.choice([len(made), chance.randrange(len(made))])])
-    ended = subprocess.run([sys.argv[2], "damaged", "struct point"], capture_output=True, timeout=60)
+    ended = subprocess.run([sys.argv[2], "damaged", "struct point"], capture_output=True,
+                           timeout=60)
     if ended.returncode not in (0, 1) or not ended.stdout:
         print(turn, ended)
         wrong = 1

@@ -79,7 +79,7 @@ const char *ctf_errmsg(int error)
     };
     static const char *const of_elf[] = {
         "an ELF file or a compressed section: link libctfd_elf, or put its .so beside libctfd.so",
-        "the ELF file has no section .SUNW_ctf or .ctf: ctfd-convert makes one of debug information",
+        "the ELF file has no section .SUNW_ctf or .ctf: ctfd-convert --section makes one",
         "the ELF file is damaged",
         "the compressed section does not inflate to what its header says",
     };

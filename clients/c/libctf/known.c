@@ -1,6 +1,6 @@
 /* known.c - what was asked of a type before is answered from memory: its kind, whether look-ups see
- * it, what it resolves to, and the pointer to it. Only answers are kept, no refusals, and none past
- * a change of what is open. */
+ * it, what it leads to and resolves to, and the pointer to it. Of refusals only that there is no
+ * pointer is kept, and nothing past a change of what is open. */
 #include "private.h"
 
 #include <stdlib.h>
@@ -10,7 +10,8 @@ enum {
     KNOWS_ROOT = 2,
     IS_ROOT = 4,
     KNOWS_RESOLVED = 8,
-    KNOWS_POINTER = 16
+    KNOWS_POINTER = 16,
+    KNOWS_REFERENCE = 32
 };
 
 void ctfd__forget(ctf_file_t *fp)
@@ -77,17 +78,35 @@ enum ctfd_status ctfd__resolve(ctf_file_t *fp, uint16_t t, uint16_t *to)
     return status;
 }
 
+enum ctfd_status ctfd__reference(ctf_file_t *fp, uint16_t t, uint16_t *to)
+{
+    struct ctfd__page *page = fp->pages[t >> 8];
+    enum ctfd_status status;
+    if (page != NULL && (page->known[t & 255] & KNOWS_REFERENCE) != 0) {
+        *to = page->references[t & 255];
+        return CTFD_OK;
+    }
+    status = ctfd_reference(&fp->types, t, to);
+    if (status == CTFD_OK && (page = page_of(fp, t)) != NULL) {
+        page->references[t & 255] = *to;
+        page->known[t & 255] |= KNOWS_REFERENCE;
+    }
+    return status;
+}
+
 enum ctfd_status ctfd__pointer(ctf_file_t *fp, uint16_t t, uint16_t *to)
 {
     struct ctfd__page *page = fp->pages[t >> 8];
     enum ctfd_status status;
     if (page != NULL && (page->known[t & 255] & KNOWS_POINTER) != 0) {
+        if (page->pointers[t & 255] == 0)
+            return CTFD_NOT_FOUND;
         *to = page->pointers[t & 255];
         return CTFD_OK;
     }
     status = ctfd_pointer(&fp->types, t, to);
-    if (status == CTFD_OK && (page = page_of(fp, t)) != NULL) {
-        page->pointers[t & 255] = *to;
+    if ((status == CTFD_OK || status == CTFD_NOT_FOUND) && (page = page_of(fp, t)) != NULL) {
+        page->pointers[t & 255] = status == CTFD_OK ? *to : 0;
         page->known[t & 255] |= KNOWS_POINTER;
     }
     return status;

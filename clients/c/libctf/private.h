@@ -36,7 +36,8 @@ struct ctfd__lists {
 /* What was found of 256 types; each answer is kept as it was given, or is not there yet. */
 struct ctfd__page {
     uint16_t resolved[256];
-    uint16_t pointers[256];
+    uint16_t references[256];
+    uint16_t pointers[256]; /* 0 where there is none */
     uint8_t kinds[256];
     uint8_t known[256];
 };
@@ -113,6 +114,7 @@ HIDDEN void ctfd__forget(ctf_file_t *fp);
 HIDDEN enum ctfd_status ctfd__kind(ctf_file_t *fp, uint16_t t, uint32_t *kind);
 HIDDEN enum ctfd_status ctfd__root(ctf_file_t *fp, uint16_t t, uint32_t *root);
 HIDDEN enum ctfd_status ctfd__resolve(ctf_file_t *fp, uint16_t t, uint16_t *to);
+HIDDEN enum ctfd_status ctfd__reference(ctf_file_t *fp, uint16_t t, uint16_t *to);
 HIDDEN enum ctfd_status ctfd__pointer(ctf_file_t *fp, uint16_t t, uint16_t *to);
 
 /* ---- files.c */

@@ -40,7 +40,7 @@ char *ctf_type_name(ctf_file_t *fp, ctf_id_t type, char *text, size_t size)
  * name from behind, those to the right from the front.
  */
 
-/* A text that grows to its front or to its end; `is_full` where it should have grown and did not. */
+/* A text that grows at its end; `is_full` where it should have grown and could not. */
 struct grown {
     char *at;
     size_t len, room;

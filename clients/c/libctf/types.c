@@ -54,7 +54,7 @@ ctf_id_t ctf_type_reference(ctf_file_t *fp, ctf_id_t type)
     uint16_t to = 0;
     if (!ctfd__is_type(fp, type))
         return CTF_ERR;
-    if (ctfd__done(fp, ctfd_reference(&fp->types, (uint16_t)type, &to)) != 0)
+    if (ctfd__done(fp, ctfd__reference(fp, (uint16_t)type, &to)) != 0)
         return CTF_ERR;
     return (ctf_id_t)to;
 }

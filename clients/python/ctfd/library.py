@@ -39,7 +39,7 @@ def named() -> Optional[str]:
 
 
 def find() -> Optional[Library]:
-    """The library to ask, or None where there is none. Raises Gone where one is named that is none."""
+    """The library to ask, or None where there is none. Raises Gone where what is named is none."""
     path = named()
     if path is not None:
         return Library(path) if path else None
