@@ -13,7 +13,7 @@ import gc
 import sys
 from typing import List, NoReturn, Optional, Sequence, Set, Tuple
 
-from . import convert_words, outputs, source
+from . import bounded, convert_words, outputs, source
 from .choose import fitting, named, shared, told_left_out
 from .convert_words import TABLES
 from .elf import MAGIC
@@ -40,7 +40,8 @@ def main(arguments: Optional[Sequence[str]] = None) -> int:
     said = words(arguments)
     gc.disable()
     try:
-        losses = convert(said)
+        with bounded.memory():
+            losses = convert(said)
     except KeyboardInterrupt:
         return INTERRUPTED
     except Exception as error:
@@ -57,7 +58,8 @@ def _why(path: str, error: Exception) -> str:
     if isinstance(error, Error):
         return str(error)
     if isinstance(error, MemoryError):
-        return f"{path}: memory ran out: --only takes fewer types"
+        return (f"{path}: to read it takes more memory than {bounded.FOR_ALL}, or than there is:"
+                " it is made or damaged, or a program too large for this machine")
     if isinstance(error, RecursionError):
         return f"{path}: its types lie too deep in each other: no C program has such"
     if isinstance(error, OSError):

@@ -6,6 +6,7 @@ import os
 import stat
 from typing import Iterable, Union
 
+from . import bounded
 from .faults import Unreadable
 
 LONGEST = 1 << 32  # of what tells no size of its own, as a pipe
@@ -41,7 +42,9 @@ def _opened(path: str, takes_pipe: bool) -> Mapped:
             raise Unreadable(f"{path}: it is no file with contents of its own, but a device or the"
                              " like, which is not read")
         with open(path, "rb") as file:
-            return _mapped(file.fileno()) or _read(path, file.fileno())
+            data = _mapped(file.fileno()) or _read(path, file.fileno())
+            bounded.read(len(data))
+            return data
     except (OSError, ValueError) as error:  # ValueError: a name with a zero byte
         why = error.strerror if isinstance(error, OSError) else error
         raise Unreadable(f"{path}: {why}") from error
