@@ -7,6 +7,7 @@ ghost use Rattle.ctf_answers.specs.Replies.{said, said_to};
 ghost use Rattle.ctf_protocol.specs.declared.requests.Request.TheVariants.{Changes};
 ghost use Rattle.ctf_broker.specs.Loading.{loads_section};
 ghost use Rattle.ctf_broker.specs.Table.{kept_for, library_at};
+ghost use Rattle.ctf_laws.specs.Good.{AreGood, FitsChange};
 ghost use Rattle.ctf_library.specs.Telling.{makes_text};
 
 use crate::libraries::{found_by, publish_in, step_in};
@@ -101,6 +102,23 @@ impl Broker {
         ensures others { (other : ℕ) → other ≢ session
             → kept_for self.new other ≡ kept_for self.old other }
         // Where the session holds anything, these take no memory.
+        ensures quiet { is_quiet_change change.now ≡ true
+            → library_at self.old session ≢ empty_state
+            → IsGranted (library_at self.old) session (Changes change.now)
+            (said_to session result) (library_at self.new) }
+        // Good libraries stay good, where the numbers of what is added have their fields' widths.
+        ensures good { AreGood (library_at self.old) → FitsChange change.now
+            → AreGood (library_at self.new) }
+    {
+        self.make(session, change)
+    }
+
+    fn make(&mut self, session: u32, change: &Change) -> Result<Counts, Fault>
+        requires session { session ≢ 0 }
+        ensures step { Steps (library_at self.old) session (Changes change.now)
+            (said_to session result) (library_at self.new) }
+        ensures others { (other : ℕ) → other ≢ session
+            → kept_for self.new other ≡ kept_for self.old other }
         ensures quiet { is_quiet_change change.now ≡ true
             → library_at self.old session ≢ empty_state
             → IsGranted (library_at self.old) session (Changes change.now)

@@ -1,7 +1,7 @@
 mod Slots
 mod Drafted
-mod Steps
-mod Runs
+pub mod Steps
+pub mod Runs
 mod Answered
 mod Effects
 mod Staying

@@ -1,9 +1,11 @@
 -- Libraries stay good in every run: by induction on the events.
-use Rattle.std.proofs.Common.{◌≡◌, ◌≢◌, ℕ, List, [], ◌∷◌, Bool, true, false, Option, Some, None, eqb, option_and_then, refl, sym, subst, arith}
+use Rattle.std.proofs.Common.{◌≡◌, ◌≢◌, ◌⊎◌, inl, inr, ℕ, List, [], ◌∷◌, Bool, true, false, Option, Some, None, eqb, option_and_then, refl, sym, subst, arith}
 use Rattle.std.specs.Option.{ForSome}
 use Rattle.std.proofs.lemmas.Bool.Decides.{nat_tests}
 use Rattle.ctf_protocol.specs.sessions.Publications.{published_as}
-use Rattle.ctf_protocol.specs.sessions.Runs.{found_in, taken_by}
+use Rattle.ctf_protocol.specs.answers.Answers.{Reply}
+use Rattle.ctf_protocol.specs.sessions.Runs.{IsGranted, IsRefused, Steps, found_in, taken_by}
+use Rattle.ctf_protocol.specs.declared.requests.Request.{Request}
 use Rattle.ctf_protocol.specs.sessions.SessionLaws.{Event, Happens, IsReplied}
 use Rattle.ctf_protocol.specs.sessions.State.{State}
 use Rattle.ctf_laws.proofs.Slots.{published_good}
@@ -21,6 +23,22 @@ found_is_faultless libraries request g = found_at libraries g (taken_by request)
 own_good : (old new : ℕ → State) (event : Event) → AreGood old → FitsRequest event.request → (refused : Bool) → IsReplied old event new refused → IsGood (new event.session)
 own_good old new event g fits true own = subst IsGood (sym own.1) (g event.session)
 own_good old new event g fits false own = subst IsGood (sym own.1) (steps_keep_good (old event.session) event.request (found_in old event.request) (g event.session) fits (found_is_faultless old event.request g))
+
+own_step : (old new : ℕ → State) (s : ℕ) (request : Request) (reply : Reply) → AreGood old → FitsRequest request → IsGranted old s request reply new ⊎ IsRefused old s reply new → IsGood (new s)
+own_step old new s request reply g fits (inl granted) = subst IsGood (sym granted.1) (steps_keep_good (old s) request (found_in old request) (g s) fits (found_is_faultless old request g))
+own_step old new s request reply g fits (inr refused) = subst IsGood (sym refused.1) (g s)
+
+among : (old new : ℕ → State) (s : ℕ) (request : Request) (reply : Reply) → AreGood old → FitsRequest request → Steps old s request reply new → (q : ℕ) (t : Bool) → eqb s q ≡ t → IsGood (new q)
+among old new s request reply g fits steps q true t =
+    let same : s ≡ q = grind (arith, nat_tests, t) in
+    subst (λ (x : ℕ). IsGood (new x)) same (own_step old new s request reply g fits steps.own)
+among old new s request reply g fits steps q false t =
+    let other : q ≢ s = λ e. let hit : eqb s s ≡ false = subst (λ (x : ℕ). eqb s x ≡ false) e t in grind (arith, nat_tests, hit) in
+    subst IsGood (sym (steps.others q other)) (g q)
+
+-- one call among good libraries leaves good ones
+pub steps_among : (old new : ℕ → State) (s : ℕ) (request : Request) (reply : Reply) → Steps old s request reply new → AreGood old → FitsRequest request → AreGood new
+steps_among old new s request reply steps g fits = λ q. among old new s request reply g fits steps q (eqb s q) refl
 
 -- every session's library is as it was but for one
 pub other_stays : (old new : ℕ → State) (event : Event) → Happens old event new → (s : ℕ) → eqb event.session s ≡ false → new s ≡ old s

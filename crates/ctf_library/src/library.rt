@@ -8,7 +8,9 @@ ghost use Rattle.ctf_model.specs.rules.Refusals.{want_of_memory, placeless as re
 ghost use Rattle.ctf_model.specs.declared.faults.TheConstants.Fault.{NO_SLOT};
 ghost use Rattle.ctf_protocol.specs.declared.requests.DraftStep.TheVariants.{Discard};
 ghost use Rattle.ctf_protocol.specs.sessions.Steps.{adds_created, answer_to, change_step, checks, clears, closes, creates, has_room as room_in, imports, is_quiet, is_quiet_change, MayAnswer, opens, outcome_of, parts, publishes, publishes_kept, quota, resets, slot_at, steps_draft, takes, withdraws};
+ghost use Rattle.ctf_laws.specs.Good.{FitsChange, IsFaultless, IsGood};
 ghost use Rattle.ctf_library.specs.Stepping.{Does, Makes};
+ghost use Rattle.std.specs.Option.{ForSome};
 ghost use Rattle.ctf_library.specs.Telling.{makes_text};
 
 use crate::charges::{fits, published_bytes};
@@ -91,7 +93,6 @@ impl Library {
 
     /// Makes the step of a change, with what was found for a take, whatever the pool holds. Want of
     /// memory changes nothing.
-    #[tactic(auto, unfolding(ctf_protocol::specs::sessions::Steps::change_step))]
     pub fn step(
         &mut self,
         change: &Change,
@@ -101,6 +102,24 @@ impl Library {
         ensures step { Makes self.old
             (change_step self.old change.now found) result self.new }
         // These take no memory.
+        ensures quiet { is_quiet_change change.now ≡ true → Does
+            (change_step self.old change.now found) result self.new }
+        // A good library stays good, where the numbers of what is added have their fields' widths.
+        ensures good { IsGood self.old → FitsChange change.now → ForSome found IsFaultless
+            → IsGood self.new }
+    {
+        self.make(change, found, pool)
+    }
+
+    #[tactic(auto, unfolding(ctf_protocol::specs::sessions::Steps::change_step))]
+    fn make(
+        &mut self,
+        change: &Change,
+        found: Option<Loaded>,
+        pool: &mut Pool,
+    ) -> Result<Counts, Fault>
+        ensures step { Makes self.old
+            (change_step self.old change.now found) result self.new }
         ensures quiet { is_quiet_change change.now ≡ true → Does
             (change_step self.old change.now found) result self.new }
     {

@@ -1,12 +1,12 @@
 -- What a broker answers to lines is what each session's own run answers: by induction on the lines.
-use Rattle.std.proofs.Common.{◌≡◌, ◌≢◌, ℕ, List, [], ◌∷◌, length, Bool, true, false, Ok, Err, Result, eqb, leb, refl, ◌∙◌, ap, sym, subst, arith, ◌⊎◌, inl, inr}
+use Rattle.std.proofs.Common.{◌≡◌, ◌≢◌, ◌≤◌, ℕ, List, [], ◌∷◌, length, Bool, true, false, None, Some, Ok, Err, Result, eqb, leb, refl, ◌∙◌, ap, sym, subst, arith, ◌⊎◌, inl, inr}
 use Rattle.std.proofs.lemmas.Bool.{leb-false}
 use Rattle.std.proofs.lemmas.Bool.Decides.{nat_tests}
 use Rattle.ctf_protocol.specs.lines.Ask.{ask}
 use Rattle.ctf_protocol.specs.lines.Lines.{stored}
 use Rattle.ctf_protocol.specs.lines.Output.{Mark, answered, refused, unread, line_out, calls_after, out, calls_made}
 use Rattle.ctf_protocol.specs.lines.ReplyLines.{reply_line}
-use Rattle.ctf_protocol.specs.sessions.Runs.{Call, Steps, IsGranted, IsRefused, found_in, own_state, addressed}
+use Rattle.ctf_protocol.specs.sessions.Runs.{Call, Steps, IsGranted, IsRefused, found_in, own_state, addressed, no_memory}
 use Rattle.ctf_protocol.specs.sessions.State.{State}
 use Rattle.ctf_protocol.specs.sessions.Steps.{step, Outcome}
 use Rattle.ctf_model.specs.declared.faults.Fault.{Fault}
@@ -16,16 +16,26 @@ use Rattle.ctf_protocol.proofs.Asking.{ask-long}
 use Rattle.ctf_protocol.proofs.SessionRuns.{found_same}
 use Rattle.ctf_wire.specs.Served.{Answers}
 use Rattle.ctf_laws.proofs.Promises.{runs_promise}
-use Rattle.ctf_wire.specs.Serving.{ask_stored, LineSteps, BrokerStep, ServesAlone}
+use Rattle.ctf_wire.specs.Serving.{AllStay, AreMarked, BrokerStep, IsMarked, LineSteps, Said, ServesAlone}
 use Rattle.ctf_broker.specs.Table.{Libraries, library_at}
 
+-- what a line did: memory was refused to reading one that is not too long, or it was answered
+abbrev Did : (ℕ → State) → List ℕ → List ℕ → (ℕ → State) → Type 0
+Did old line written new = ((length line ≤ 1048576) × (written ≡ reply_line (no_memory 0)) × AllStay old new) ⊎ Said old (ask line) written new
+
 -- a line that is too long to be stored asks what its place does
-asked_stored : (line : List ℕ) → ask_stored (stored line) ≡ ask line
-asked_stored line = by_length (leb (length line) 1048576) refl
+did_stored : (old new : ℕ → State) (line written : List ℕ) → LineSteps old (stored line) written new → Did old line written new
+did_stored old new line written = by_length (leb (length line) 1048576) refl
   where
-    by_length : (t : Bool) → leb (length line) 1048576 ≡ t → ask_stored (stored line) ≡ ask line
-    by_length true e = rw e refl
-    by_length false e = let long = leb-false (length line) 1048576 e in rw e (sym (ask-long line (omega (arith, long))))
+    none : leb (length line) 1048576 ≡ false → LineSteps old None written new → Did old line written new
+    none e (inl never) = absurd never.0
+    none e (inr said) =
+        let long = leb-false (length line) 1048576 e in
+        inr (subst (λ (r : Result (ℕ × Request) (ℕ × Fault)). Said old r written new) (sym (ask-long line (omega (arith, long)))) said)
+
+    by_length : (t : Bool) → leb (length line) 1048576 ≡ t → LineSteps old (stored line) written new → Did old line written new
+    by_length true e h = let here : LineSteps old (Some line) written new = rw e at h in here
+    by_length false e h = let gone : LineSteps old None written new = rw e at h in none e gone
 
 -- each library is its own run after the history
 abbrev Holds : (ℕ → State) → List Call → (ℕ → State) → Type 0
@@ -59,45 +69,57 @@ refused_stays old new s request reply st m q false t =
     st.others q other
 
 -- a line's mark, what was written for it, and that the libraries are the own runs after it
-record Done (start : ℕ → State) (calls : List Call) (said : Result (ℕ × Request) (ℕ × Fault)) (written : List ℕ) (new : ℕ → State) : Type 0 where
+record Done (start : ℕ → State) (calls : List Call) (line : List ℕ) (said : Result (ℕ × Request) (ℕ × Fault)) (written : List ℕ) (new : ℕ → State) : Type 0 where
   pub mark : Mark
+  pub marked : IsMarked line mark
   pub wrote : written ≡ line_out start calls mark said
   pub holds : Holds start (calls_after calls mark said) new
 
-request_done : (start old new : ℕ → State) (calls : List Call) (s : ℕ) (request : Request) (reply : Reply) (written : List ℕ) → Holds start calls old → written ≡ reply_line reply → Steps old s request reply new
-    → IsGranted old s request reply new ⊎ IsRefused old s reply new → Done start calls (Ok (s, request)) written new
-request_done start old new calls s request reply written held w st (inr m) = record {
+request_done : (start old new : ℕ → State) (calls : List Call) (line : List ℕ) (s : ℕ) (request : Request) (reply : Reply) (written : List ℕ) → Holds start calls old → written ≡ reply_line reply → Steps old s request reply new
+    → IsGranted old s request reply new ⊎ IsRefused old s reply new → Done start calls line (Ok (s, request)) written new
+request_done start old new calls line s request reply written held w st (inr m) = record {
   mark = refused;
+  marked = tt;
   wrote = w ∙ ap reply_line m.0;
   holds = λ q. refused_stays old new s request reply st m q (eqb s q) refl ∙ held q;
 }
-request_done start old new calls s request reply written held w st (inl m) = record {
+request_done start old new calls line s request reply written held w st (inl m) = record {
   mark = answered;
+  marked = tt;
   wrote = w ∙ ap reply_line (m.0 ∙ ap (λ (o : Outcome). addressed s o.reply) (own_step start old calls s request held));
   holds = λ q. granted_holds start old new calls s request reply held st m q (eqb s q) refl;
 }
 
-line_done : (start old new : ℕ → State) (calls : List Call) (said : Result (ℕ × Request) (ℕ × Fault)) (written : List ℕ) → Holds start calls old → LineSteps old said written new → Done start calls said written new
-line_done start old new calls said written held (inl none) = record { mark = unread; wrote = none.0; holds = λ q. none.1 q ∙ held q }
-line_done start old new calls (Err refusal) written held (inr told) = record { mark = answered; wrote = told.0; holds = λ q. told.1 q ∙ held q }
-line_done start old new calls (Ok said) written held (inr told) = request_done start old new calls said.0 said.1 told.0 written held told.1 told.2 told.2.own
+said_done : (start old new : ℕ → State) (calls : List Call) (line : List ℕ) (said : Result (ℕ × Request) (ℕ × Fault)) (written : List ℕ) → Holds start calls old → Said old said written new → Done start calls line said written new
+said_done start old new calls line (Err refusal) written held told = record { mark = answered; marked = tt; wrote = told.0; holds = λ q. told.1 q ∙ held q }
+said_done start old new calls line (Ok said) written held told = request_done start old new calls line said.0 said.1 told.0 written held told.1 told.2 told.2.own
+
+line_done : (start old new : ℕ → State) (calls : List Call) (line : List ℕ) (written : List ℕ) → Holds start calls old → Did old line written new → Done start calls line (ask line) written new
+line_done start old new calls line written held (inl none) = record { mark = unread; marked = none.0; wrote = none.1; holds = λ q. none.2 q ∙ held q }
+line_done start old new calls line written held (inr told) = said_done start old new calls line (ask line) written held told
 
 -- after a history, the same for all that follows
 record RunsOn (start : ℕ → State) (calls : List Call) (lines replies : List (List ℕ)) (new : ℕ → State) : Type 0 where
   pub marks : List Mark
+  pub marked : AreMarked lines marks
   pub replies_are : replies ≡ out start calls lines marks
   pub libraries_are : Holds start (calls_made calls lines marks) new
 
 runs_on : (start : ℕ → State) (calls : List Call) (old new : Libraries) (lines replies : List (List ℕ)) → Holds start calls (library_at old) → Answers BrokerStep old lines replies new → RunsOn start calls lines replies (library_at new)
-runs_on start calls old new [] [] held a = record { marks = []; replies_are = refl; libraries_are = λ s. ap (λ (es : Libraries). library_at es s) a ∙ held s }
+runs_on start calls old new [] [] held a = record {
+  marks = [];
+  marked = tt;
+  replies_are = refl;
+  libraries_are = λ s. ap (λ (es : Libraries). library_at es s) a ∙ held s;
+}
 runs_on start calls old new [] (reply ∷ replies) held a = absurd a
 runs_on start calls old new (line ∷ lines) [] held a = absurd a
 runs_on start calls old new (line ∷ lines) (reply ∷ replies) held a =
-    let P : Result (ℕ × Request) (ℕ × Fault) → Type 0 = λ said. LineSteps (library_at old) said reply (library_at a.0) in
-    let d = line_done start (library_at old) (library_at a.0) calls (ask line) reply held (subst P (asked_stored line) a.1) in
+    let d = line_done start (library_at old) (library_at a.0) calls line reply held (did_stored (library_at old) (library_at a.0) line reply a.1) in
     let rest = runs_on start (calls_after calls d.mark (ask line)) a.0 new lines replies d.holds a.2 in
     record {
       marks = d.mark ∷ rest.marks;
+      marked = (d.marked, rest.marked);
       replies_are = ap (λ (r : List ℕ). r ∷ replies) d.wrote ∙ ap (λ (rs : List (List ℕ)). line_out start calls d.mark (ask line) ∷ rs) rest.replies_are;
       libraries_are = rest.libraries_are;
     }
@@ -107,6 +129,7 @@ serves_alone old new lines replies a =
     let runs = runs_on (library_at old) [] old new lines replies (λ s. refl) a in
     record {
       marks = runs.marks;
+      marked = runs.marked;
       replies_are = runs.replies_are;
       libraries_are = runs.libraries_are;
       promised = runs_promise (library_at old);

@@ -1,7 +1,8 @@
 -- What serving the lines of all sessions does to a broker and a sink. Source: ours.
 use Rattle.std.specs.Prelude.{◌≡◌, ◌≢◌, ℕ, ◌≤◌, List, [], ◌∷◌, ◌++◌, length, Option, None, Some, Result, Ok, Err, ◌⊎◌}
 use Rattle.ctf_protocol.specs.lines.Ask.{ask}
-use Rattle.ctf_protocol.specs.lines.Output.{Mark, out, calls_made}
+use Rattle.ctf_protocol.specs.lines.Lines.{longest_line}
+use Rattle.ctf_protocol.specs.lines.Output.{Mark, calls_made, out, unread}
 use Rattle.ctf_model.specs.rules.Refusals.{placeless}
 use Rattle.ctf_protocol.specs.lines.ReplyLines.{fault_line, reply_line}
 use Rattle.ctf_protocol.specs.sessions.Runs.{Steps, no_memory, own_state}
@@ -33,17 +34,30 @@ Said old (Err refusal) written new = (written ≡ fault_line refusal.0 refusal.1
 Said old (Ok said) written new =
     (reply : Reply) × (written ≡ reply_line reply) × Steps old said.0 said.1 reply new
 
+-- memory may be refused to reading a line, but to none that is too long
+abbrev pub MayWant : Option (List ℕ) → Type 0
+MayWant None = ⊥
+MayWant (Some line) = length line ≤ longest_line
+
 -- one line among the libraries of all sessions: memory was refused to reading it,
 -- or it was answered
-abbrev pub LineSteps : (ℕ → State) → Result (ℕ × Request) (ℕ × Fault) → List ℕ
-    → (ℕ → State) → Type 0
-LineSteps old said written new =
-    ((written ≡ reply_line (no_memory 0)) × AllStay old new) ⊎ Said old said written new
+abbrev pub LineSteps : (ℕ → State) → Option (List ℕ) → List ℕ → (ℕ → State) → Type 0
+LineSteps old line written new =
+    (MayWant line × (written ≡ reply_line (no_memory 0)) × AllStay old new)
+    ⊎ Said old (ask_stored line) written new
 
 -- one line at a broker
 abbrev pub BrokerStep : Libraries → Option (List ℕ) → List ℕ → Libraries → Type 0
-BrokerStep old line written new =
-    LineSteps (library_at old) (ask_stored line) written (library_at new)
+BrokerStep old line written new = LineSteps (library_at old) line written (library_at new)
+
+-- a mark that says that memory was refused to reading a line stands at none that is too long
+abbrev pub IsMarked : List ℕ → Mark → Type 0
+IsMarked line unread = length line ≤ longest_line
+IsMarked line _ = Unit {0}
+
+abbrev pub AreMarked : List (List ℕ) → List Mark → Type 0
+AreMarked (line ∷ lines) (mark ∷ marks) = IsMarked line mark × AreMarked lines marks
+AreMarked _ _ = Unit {0}
 
 -- these lines are served: each has the reply that its session's own run gives, each session's
 -- library is that of its own run, and where all libraries were good, all is kept that is promised
@@ -52,6 +66,7 @@ BrokerStep old line written new =
 pub record RunsAlone (old : Libraries) (lines replies : List (List ℕ))
     (new : Libraries) : Type 0 where
   pub marks : List Mark
+  pub marked : AreMarked lines marks
   pub replies_are : replies ≡ out (library_at old) [] lines marks
   pub libraries_are : (s : ℕ)
       → library_at new s ≡ own_state (library_at old) (calls_made [] lines marks) s
