@@ -6,15 +6,15 @@ usage: tests/archive.py [--kept]
 With --kept nothing is made: the archive that is there is taken, or it is told that there is none.
 Where CTFD_ARCHIVE in the environment names one, it is that.
 
-`rt ci` proves the two crates that C calls and makes no archive. It leaves the crates below as it
-built them, but without the stamps by which `rt lib` knows that they are still good. So a crate that
-was built after each of its files was written is given its stamp, and `rt lib` then makes the two
-alone. Where that can't be done it makes all crates anew, which takes as long as `make`.
+`rt ci` proves the crate that C calls and makes no archive. It leaves the crates below as it built
+them, but without the stamps by which `rt lib` knows that they are still good. So a crate that was
+built after each of its files was written is given its stamp, and `rt lib` then makes the one alone.
+Where that can't be done it makes all crates anew, which takes as long as `make prove`.
 
-The archive has what both crates export, and the three functions by which the library takes memory,
+The archive has what the crate exports, and the three functions by which the library takes memory,
 from the kit: over malloc, realloc and free. A program that defines these itself is linked with its
 own. Then scripts/libctf.py adds libctf's calls, and makes libctfd.so beside it. Needs ar, nm and a C
-compiler, and objcopy where both crates define a name that is not for C.
+compiler.
 """
 from __future__ import annotations
 
@@ -31,9 +31,9 @@ TOP = Path(__file__).resolve().parents[1]
 sys.path.insert(0, str(TOP / "scripts"))
 import libctf  # noqa: E402
 
-CRATES = [TOP / "crates" / name for name in ("ctf_c", "ctf_line")]
-ARCHIVE = CRATES[0] / "out" / "libctfd.a"
-TOOLS = ("ar", "cc", "nm", "objcopy")
+CRATE = TOP / "crates" / "ctf_c"
+ARCHIVE = CRATE / "out" / "libctfd.a"
+TOOLS = ("ar", "cc", "nm")
 
 
 def skip(why: str) -> None:
@@ -57,7 +57,7 @@ def stamp_what_was_built(kit: Path) -> None:
     loader.exec_module(library)
     crates = library.crates_below(str(TOP))
     stamp_each_once(type(crates[0]))
-    below = {low.name: low for crate in crates if Path(crate.folder) in CRATES
+    below = {low.name: low for crate in crates if Path(crate.folder) == CRATE
              for low in crate.below()}
     for low in below.values():
         built = Path(low.folder) / "out" / "rlib"
@@ -88,40 +88,17 @@ def extracted(archive: Path, into: Path, *names: str) -> list[Path]:
     return sorted(into.iterdir())
 
 
-def defined(made: Path) -> set[str]:
-    """The names that an object defines for others."""
-    said = subprocess.run(["nm", "-g", "--defined-only", made], check=True, text=True,
-                          capture_output=True).stdout
-    return {line.split()[2] for line in said.splitlines() if len(line.split()) == 3}
-
-
-def keep_exports_apart(objects: list[Path]) -> None:
-    """Hides what is not for C, where two objects define a name."""
-    names = [defined(made) for made in objects]
-    if len(set.union(*names)) == sum(map(len, names)):
-        return
-    for made, own in zip(objects, names):
-        keep = made.with_suffix(".names")
-        keep.write_text("".join(f"{name}\n" for name in sorted(own) if name.startswith("ctfd_")),
-                        encoding="utf-8")
-        subprocess.run(["objcopy", f"--keep-global-symbols={keep}", made], check=True)
-        keep.unlink()
-
-
 def make(kit: Path) -> None:
-    """Builds both crates, and puts their objects into one archive."""
+    """Builds the crate, and puts its object and the kit's into an archive."""
     ARCHIVE.unlink(missing_ok=True)
     os.chdir(TOP)
     try:
         stamp_what_was_built(kit)
     except (Exception, SystemExit) as why:  # the kit's own parts may be others tomorrow
         print(f"all crates are made anew: {why!r}", file=sys.stderr)
-    objects = []
-    for crate in CRATES:
-        subprocess.run(["rt", "lib"], cwd=crate, stdout=sys.stderr, check=True)
-        objects += extracted(crate / "out" / f"lib{crate.name}.a", crate / "out" / "objects")
-    keep_exports_apart(objects)
-    objects += extracted(kit / "c" / "liblibc_c.a", CRATES[0] / "out" / "heap", "heap.pic.o")
+    subprocess.run(["rt", "lib"], cwd=CRATE, stdout=sys.stderr, check=True)
+    objects = extracted(CRATE / "out" / f"lib{CRATE.name}.a", CRATE / "out" / "objects")
+    objects += extracted(kit / "c" / "liblibc_c.a", CRATE / "out" / "heap", "heap.pic.o")
     subprocess.run(["ar", "rcsD", ARCHIVE, *objects], check=True)
     libctf.make(ARCHIVE)
 

@@ -68,7 +68,7 @@ def parts(program: str) -> list[Part]:
         # The same tests over the library in process, where the parts above ask a `ctfd serve`.
         Part("client_in_process", ["bash", "-c", IN_PROCESS, python], CLIENT,
              {**over, "CTFD_LIBRARY": str(library())}, of_library),
-        Part("front", ["tests/front.sh", program]),
+        Part("front", ["tests/front.sh", program], is_alone=True),
         Part("gdb", ["tests/gdb.sh", program]),
         Part("debuginfo", ["tests/debuginfo.sh", program]),
         Part("show", ["tests/show.sh", program]),
