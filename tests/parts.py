@@ -29,11 +29,11 @@ class Part:
     is_alone: bool = False
 
 
-def with_packages() -> str:
-    """A Python that has what the client reads declarations with; else this one."""
+def with_package(name: str) -> str:
+    """A Python that has a package; else this one."""
     for python in (sys.executable, "/usr/bin/python3"):
         if Path(python).exists() and subprocess.run(
-                [python, "-c", "import pycparser"], capture_output=True).returncode == 0:
+                [python, "-c", f"import {name}"], capture_output=True).returncode == 0:
             return python
     return sys.executable
 
@@ -57,7 +57,7 @@ def quick(program: str) -> Part:
 def parts(program: str) -> list[Part]:
     """All parts over a program and the library beside it; those that take longest come first."""
     over = {"CTFD": program}
-    python = with_packages()
+    python = with_package("pycparser")
     of_library = ("archive",)
     return [
         Part("growths", ["tests/growths.sh", program]),
@@ -70,6 +70,7 @@ def parts(program: str) -> list[Part]:
              {**over, "CTFD_LIBRARY": str(library())}, of_library),
         Part("front", ["tests/front.sh", program], is_alone=True),
         Part("gdb", ["tests/gdb.sh", program]),
+        Part("drgn", [with_package("drgn"), "-m", "unittest", "-v", "tests.test_drgn"], CLIENT, over),
         Part("debuginfo", ["tests/debuginfo.sh", program]),
         Part("show", ["tests/show.sh", program]),
         Part("convert", ["tests/convert.sh", program]),
