@@ -18,8 +18,8 @@ if TYPE_CHECKING:
     from .naming import Names
     from .sizes import Sizes
 
-ALONE = ("--parent, --symbols and --strings go with a dictionary, and this file's types are converted"
-         " first: leave them out, or make the dictionary by ctfd-convert (--parent makes a child)")
+ALONE = ("--parent, --symbols and --strings go with a dictionary, and this file's types are"
+         " converted first: leave them out, or make the dictionary by ctfd-convert (--parent makes a child)")
 
 
 class Whole(NamedTuple):

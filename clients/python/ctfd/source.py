@@ -49,8 +49,9 @@ class Source(NamedTuple):
     which may not be the one that the section was written for; "given", handed in by the caller; or
     "none". It is "differs" where the table is not the one that the dictionary says, "stripped"
     where the file has none, and "unread" where it is one of 32 bits: the service does not read it,
-    and only the strings are there. It is "later" where `with_symbols` is to hand them in. `model` is None where nothing tells it, as with a section by
-    itself of which the dictionary says nothing.
+    and only the strings are there. It is "later" where `with_symbols` is to hand them in.
+    `model` is None where nothing tells it, as with a section by itself of which the dictionary says
+    nothing.
     """
 
     ctf: bytes

@@ -10,8 +10,8 @@ import collections
 import json
 import os
 from types import TracebackType
-from typing import (TYPE_CHECKING, Any, Deque, Dict, Iterable, List, Literal, NoReturn, Optional, Sequence, Tuple,
-                    Type, Union, overload)
+from typing import (TYPE_CHECKING, Any, Deque, Dict, Iterable, List, Literal, NoReturn, Optional,
+                    Sequence, Tuple, Type, Union, overload)
 
 from . import library, replies, service, text
 from .faults import Error, Gone, Refused, refused
@@ -43,8 +43,8 @@ class Owed:
 
 
 class Client:
-    """One service. Where none is named it is libctfd.so in this process, if that is found (library.py
-    tells where); else the program is looked for, and started.
+    """One service. Where none is named it is libctfd.so in this process, if that is found
+    (library.py tells where); else the program is looked for, and started.
 
     With `socket` it is one that others use too: the path of a socket where ctfd-front listens, in
     which each session is a connection. Where neither is named, CTFD_SOCKET in the environment may
@@ -348,8 +348,8 @@ class Session:
 
 
 def in_process() -> Optional[Library]:
-    """The library in place of a program: where CTFD_LIBRARY names it, or where CTFD names no program
-    and it is found."""
+    """The library in place of a program: where CTFD_LIBRARY names it, or where CTFD names no
+    program and it is found."""
     if library.named() is None and service.named() is not None:
         return None
     return library.find()
