@@ -140,18 +140,18 @@ def converted(path: str, options: Options) -> Tuple[Source, List[str]]:
 
 def _made(path: str, data: Mapped, asked: Asked) -> Source:
     """The dictionary of a file that is converted, or that was."""
-    from .inputs import Options
-
-    options = Options(asked.model, asked.form, asked.base, list(asked.folders), asked.number,
-                      _table(path, data), asked.warn)
+    said = (asked.model, asked.form, list(asked.folders), asked.number, _table(path, data))
     cache = asked.cache if data[:len(archives.THIN)] != archives.THIN else None
     kept: Optional[Kept] = None
     found: Optional[Source] = None
     if cache is not None:
-        named = key(data, path, (*options[:2], *options[3:6], _sum_of(asked.base)))
+        named = key(data, path, (*said, _sum_of(asked.base)))
         kept = cache.get(named)
         found = _attached(path, data, kept) if kept else None
     if kept is None or found is None:
+        from .inputs import Options  # with all that converts
+
+        options = Options(said[0], said[1], asked.base, *said[2:], asked.warn)
         made, losses = converted(path, options)
         kept = Kept(made.ctf, made.model, losses)
         found = _attached(path, data, kept) or made
