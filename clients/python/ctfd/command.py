@@ -122,8 +122,12 @@ def _reorganized(told: Whole, wanted: argparse.Namespace) -> Iterator[str]:
     if not kept:
         raise Error(f"{' or '.join(map(printable, wanted.names))}: no struct, and only the members"
                     " of a struct have an order")
-    for number in kept:
-        yield from reorganize.reorganized(told, number)
+    found = [list(reorganize.reorganized(told, number)) for number in kept]
+    if not wanted.names:  # of all, those alone of which there is something to paste
+        found = [lines for lines in found if len(lines) > 1] \
+            or [["/* no struct has an order of its members that is smaller */"]]
+    for lines in found:
+        yield from lines
 
 
 def _of_all(told: Whole, wanted: argparse.Namespace) -> Iterator[str]:
