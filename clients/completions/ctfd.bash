@@ -11,4 +11,4 @@ _ctfd()
         compopt -o filenames
     fi
 }
-complete -F _ctfd ctfd-convert ctfd-debuginfo ctfd-diff ctfd-explore ctfd-front ctfd-types
+complete -F _ctfd ctfd-convert ctfd-debuginfo ctfd-diff ctfd-explore ctfd-front ctfd-show ctfd-types

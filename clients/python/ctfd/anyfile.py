@@ -8,36 +8,34 @@ from __future__ import annotations
 import argparse
 import os
 import stat
-import tempfile
-from dataclasses import dataclass, field
-from typing import TYPE_CHECKING, Callable, List, NamedTuple, Optional, Tuple
+from typing import TYPE_CHECKING, Callable, List, NamedTuple, Optional, Sequence, Tuple
 
-from . import archives, elf, from_btf, from_gnu, identity, source
+from . import archives, elf, identity, source
 from .cache import Cache, Kept, key, user_cache
 from .elf import Elf
 from .faults import Unreadable
 from .files import Mapped, contents
 from .model import Model
 from .source import Source
-from .symbols import DYNSYM, SYMTAB, Handed, considered, handed, made_table
+from .symbols import DYNSYM, NAMES, SYMTAB, Handed, considered, made_table
 
 if TYPE_CHECKING:
+    import tempfile
+
     from .inputs import Options
 
 FEW = 3
 FORMS = ("ctf", "btf", "dwarf", "gnu")  # those of `inputs`
-CONVERTED = (elf.MAGIC, from_btf.MAGIC, from_btf.BIG_ENDIAN, from_gnu.MAGIC, source.ARCHIVE)
 
 
-@dataclass(frozen=True)
-class Asked:
+class Asked(NamedTuple):
     """What a user says of the files, as `ctfd-convert` takes it. `warn` is told what was lost and
     what takes long; `cache` is None where nothing is to be kept."""
 
     model: Optional[Model] = None
     form: Optional[str] = None
     base: Optional[str] = None
-    folders: List[str] = field(default_factory=list)
+    folders: Sequence[str] = ()
     number: Optional[int] = None
     cache: Optional[Cache] = None
     warn: Callable[[str], None] = lambda said: None
@@ -69,17 +67,19 @@ def add_words(parser: argparse.ArgumentParser) -> None:
                        " converted in the cache ($XDG_CACHE_HOME/ctfd, or ~/.cache/ctfd)")
 
 
-def read(path: str, asked: Asked) -> Read:
-    """What is handed in for a file. Raises Unreadable for what is none that is read."""
+def read(path: str, asked: Asked, has_symbols: bool = True) -> Read:
+    """What is handed in for a file, with or without the symbols that can wait (see `of_bytes`).
+    Raises Unreadable for what is none that is read."""
     data = contents(path)
     if asked.form in (None, "ctf") and asked.base is None:
         try:
-            return Read(source.of_bytes(data, path, asked.number), data)
+            return Read(source.of_bytes(data, path, asked.number, has_symbols), data)
         except Unreadable:
             if not _is_converted(data, path):
                 raise
     with _Place(path, data) as place:
-        return Read(place.told(lambda: _made(place.path, data, asked)), data, True)
+        made = place.told(lambda: _made(place.path, data, asked))
+    return Read(source.with_symbols(made) if has_symbols else made, data, True)
 
 
 def _is_converted(data: Mapped, path: str) -> bool:
@@ -87,7 +87,10 @@ def _is_converted(data: Mapped, path: str) -> bool:
     these, and what is wrong with them was told."""
     if data[:4] == elf.MAGIC:
         return not _has_ctf(Elf(data, path))
-    return archives.is_archive(data) or any(data[:len(one)] == one for one in CONVERTED)
+    from . import from_btf, from_gnu
+
+    begins = (from_btf.MAGIC, from_btf.BIG_ENDIAN, from_gnu.MAGIC, source.ARCHIVE)
+    return archives.is_archive(data) or any(data[:len(one)] == one for one in begins)
 
 
 def _has_ctf(file: Elf) -> bool:
@@ -107,6 +110,8 @@ class _Place:
 
     def __enter__(self) -> _Place:
         if not stat.S_ISREG(os.stat(self.named).st_mode):
+            import tempfile
+
             self._folder = tempfile.TemporaryDirectory()
             self.path = os.path.join(self._folder.name, "input")
             with open(self.path, "wb") as file:
@@ -135,18 +140,18 @@ def converted(path: str, options: Options) -> Tuple[Source, List[str]]:
 
 def _made(path: str, data: Mapped, asked: Asked) -> Source:
     """The dictionary of a file that is converted, or that was."""
-    from .inputs import Options
-
-    options = Options(asked.model, asked.form, asked.base, asked.folders, asked.number,
-                      _table(path, data), asked.warn)
+    said = (asked.model, asked.form, list(asked.folders), asked.number, _table(path, data))
     cache = asked.cache if data[:len(archives.THIN)] != archives.THIN else None
     kept: Optional[Kept] = None
     found: Optional[Source] = None
     if cache is not None:
-        named = key(data, path, (*options[:2], *options[3:6], _sum_of(asked.base)))
+        named = key(data, path, (*said, _sum_of(asked.base)))
         kept = cache.get(named)
         found = _attached(path, data, kept) if kept else None
     if kept is None or found is None:
+        from .inputs import Options  # with all that converts
+
+        options = Options(said[0], said[1], asked.base, *said[2:], asked.warn)
         made, losses = converted(path, options)
         kept = Kept(made.ctf, made.model, losses)
         found = _attached(path, data, kept) or made
@@ -172,19 +177,19 @@ def _table(path: str, data: Mapped) -> str:
 def _attached(path: str, data: Mapped, kept: Kept) -> Optional[Source]:
     """A kept dictionary with the symbols of its file; None where they are others."""
     file = Elf(data, path) if data[:4] == elf.MAGIC else None
-    wanted = identity.symbols(kept.ctf)
-    symbols = source.symbols_of(file, kept.ctf)
-    if wanted is not None and symbols is None:
-        return None
-    found = Handed()
-    if symbols is not None:
-        is_read = file is None or file.model == "lp64"
-        found = handed(file, symbols) if is_read else made_table(symbols.listed)
     model: Model = "ilp32" if kept.model == "ilp32" else "lp64"
+    wanted = identity.symbols(kept.ctf)
+    if wanted is not None and wanted.table == NAMES:
+        return Source(kept.ctf, how=source.LATER, model=model)
+    found = source.handed_of(file, kept.ctf)
+    if wanted is not None and found is None:
+        return None
+    symbols = source.symbols_of(file, kept.ctf) if file and file.model != "lp64" else None
+    found = made_table(symbols.listed) if symbols else found or Handed()
     return Source(kept.ctf, found.table, found.strings, "named" if found.table else "none", model)
 
 
-def _tell(path: str, losses: List[str], asked: Asked) -> None:
+def _tell(path: str, losses: Sequence[str], asked: Asked) -> None:
     """What CTF can't hold of a file: each where it is little."""
     told = list(dict.fromkeys(losses))
     if len(told) <= FEW:

@@ -9,13 +9,10 @@ from __future__ import annotations
 import contextlib
 import hashlib
 import json
-import logging
 import os
 import stat
-import tempfile
-from dataclasses import asdict, dataclass, field
 from pathlib import Path
-from typing import Iterable, List, Optional, Tuple
+from typing import Iterable, List, NamedTuple, Optional, Sequence, Tuple
 
 from . import elf
 from .elf import Elf
@@ -30,16 +27,13 @@ PIECE = 1 << 20
 # Of a file that is larger, and that has a build id, that and its size and time stand for its bytes.
 LARGE = 256 << 20
 
-LOG = logging.getLogger(__name__)
 
-
-@dataclass(frozen=True)
-class Kept:
+class Kept(NamedTuple):
     """What was made of a program: a dictionary, its data model, and what CTF could not hold."""
 
     ctf: bytes
     model: Optional[str] = None
-    losses: List[str] = field(default_factory=list)
+    losses: Sequence[str] = ()
 
 
 class Cache:
@@ -62,12 +56,12 @@ class Cache:
             os.utime(path)
             return Kept(ctf, **said)
         except (OSError, ValueError, TypeError, KeyError, AttributeError) as error:
-            LOG.debug("%s: %s", path, error)
+            _log(path, error)
             return None
 
     def put(self, key: str, kept: Kept) -> None:
         """Keeps what was made, and lets the oldest go."""
-        said = {name: value for name, value in asdict(kept).items() if name != "ctf"}
+        said = {name: value for name, value in kept._asdict().items() if name != "ctf"}
         head = json.dumps({"sum": _sum(kept.ctf), **said}).encode("ascii")
         data = head + b"\n" + kept.ctf
         if len(data) > self.most:
@@ -78,7 +72,7 @@ class Cache:
                 self._write(self._path(key), data)
                 self._bound()
         except OSError as error:
-            LOG.debug("%s: %s", self.folder, error)
+            _log(self.folder, error)
 
     def _path(self, key: str) -> Path:
         return self.folder / f"{key}{SUFFIX}"
@@ -90,6 +84,8 @@ class Cache:
                 and not found.st_mode & 0o022)
 
     def _write(self, path: Path, data: bytes) -> None:
+        import tempfile
+
         handle, made = tempfile.mkstemp(dir=self.folder)
         try:
             with open(handle, "wb") as file:
@@ -147,6 +143,13 @@ def _build_id(data: Mapped, path: str) -> str:
         return elf.build_id(Elf(data, path))
     except Unreadable:
         return ""
+
+
+def _log(path: Path, error: Exception) -> None:
+    """Nothing is refused since it can't be kept, and who wonders may see why."""
+    import logging
+
+    logging.getLogger(__name__).debug("%s: %s", path, error)
 
 
 def _sum(data: bytes) -> str:

@@ -9,14 +9,12 @@ from typing import Callable, Dict, Iterable, Iterator, List, NamedTuple, Optiona
 
 from . import text
 from .dictionary import Dictionary
-from .gather import DETAIL
+from .gather import DETAIL, LISTS
 from .layout import Layout, Span, laid
 from .records import AGGREGATES, Part, Record
 from .types import Encoding, Enumerator, Member, QUALIFIERS, Type
 from .wire import Answer
 
-LISTS = ("members", "array", "encoding")
-ALL_LISTS = (*LISTS, "enumerators", "args")
 AT_ONCE = 8192
 RENAMES = (*QUALIFIERS, "typedef")
 
@@ -47,6 +45,7 @@ class Catalog:
         self._records: Dict[int, Record] = {0: Record("void")}
         self._sizes: Dict[int, Optional[int]] = {0: None}
         self._spans: Dict[int, Span] = {}
+        self._reached: Dict[int, Reached] = {}
         self._layouts: Dict[int, Layout] = {}
         self._read(set(lists))
         self._visible = {_as_integer(self[number]) for number in self.numbers
@@ -69,15 +68,16 @@ class Catalog:
     def _read(self, lists: Set[str]) -> None:
         self._fetch([("record", number) for number in self.numbers])
         asked: List[Tuple[str, int]] = []
-        for number in self.numbers:
-            word = DETAIL.get(self._answer("record", number)["kind"])
+        told = {number: self._answer("record", number) for number in self.numbers}
+        for number, said in told.items():
+            word = DETAIL.get(said["kind"])
             if word in lists:
                 asked.append((word, number))
             if word == "array":
                 asked.append(("size", number))
         self._fetch(asked)
-        for number in self.numbers:
-            self._records[number] = self._record(number, lists)
+        for number, said in told.items():
+            self._records[number] = self._record(number, said, lists)
 
     def _fetch(self, questions: List[Tuple[str, int]]) -> None:
         for start in range(0, len(questions), AT_ONCE):
@@ -88,8 +88,7 @@ class Catalog:
     def _answer(self, word: str, number: int) -> Answer:
         return self.dictionary.answer(word, number)
 
-    def _record(self, number: int, lists: Set[str]) -> Record:
-        said = self._answer("record", number)
+    def _record(self, number: int, said: Answer, lists: Set[str]) -> Record:
         kind = said["kind"]
         record = Record(kind, text.name(said["name"]), said.get("size", 0), said.get("type", 0),
                         tag=said.get("tag", ""), root=said["root"])
@@ -110,6 +109,12 @@ class Catalog:
 
     def reached(self, number: int) -> Reached:
         """Without typedefs, qualifiers and arrays; which types it led through."""
+        known = self._reached.get(number)
+        if known is None:
+            known = self._reached[number] = self._reach(number)
+        return known
+
+    def _reach(self, number: int) -> Reached:
         elements, through = 1, []
         record = self[number]
         while record.kind in RENAMES or record.kind == "array":
@@ -193,7 +198,7 @@ def _as_integer(record: Record) -> Tuple[str, int, Encoding]:
 def _members(record: Record, said: Answer) -> Record:
     name = text.name
     return record._replace(members=tuple(
-        Part(name(m["name"]), m["type"], m["offset"]) for m in said["members"]))
+        [Part(name(m["name"]), m["type"], m["offset"]) for m in said["members"]]))
 
 
 def _enumerators(record: Record, said: Answer) -> Record:

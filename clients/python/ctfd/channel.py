@@ -1,5 +1,4 @@
-"""The way to a service: the pipes of a process that is started here, a socket of a front, or the
-library in this process."""
+"""The way to a service: the pipes of a process that is started here, or a socket of a front."""
 from __future__ import annotations
 
 import contextlib
@@ -11,7 +10,6 @@ import subprocess
 from typing import Any, Dict, Optional, Protocol, Sequence
 
 from .faults import ADVICE, FRONT_REFUSES, Gone
-from .library import Library
 
 READ = 65_536
 ROOM = re.compile(r"[A-Za-z0-9._-]{1,64}\Z")
@@ -71,27 +69,6 @@ class Pipes:
         except subprocess.TimeoutExpired:
             self._process.kill()
             self._process.wait()
-
-
-class Inside:
-    """The library in this process, which has no files: the client calls it."""
-
-    requests = replies = -1
-    number = 0
-    pid: Optional[int] = None
-
-    def __init__(self, library: Library) -> None:
-        self._library = library
-
-    @property
-    def where(self) -> str:
-        return f"in this process, by {self._library.path}"
-
-    def how_it_ended(self) -> str:
-        return "the library was closed"
-
-    def close(self) -> None:
-        self._library.close()
 
 
 class Socket:

@@ -12,15 +12,14 @@ import argparse
 import sys
 from typing import Iterator, List, Optional, Sequence
 
-from . import (anyfile, commands, compilable, declare, picture, questions, reorganize, repeated,
-               reports, source, treemap, words)
-from .catalog import ALL_LISTS, LISTS
+from . import anyfile, commands, declare, repeated, source, words
 from .dictionary import Dictionary
 from .faults import Error, NotFound, Refused, Unreadable
+from .gather import ALL_LISTS, LISTS
 from .listing import definition, listing
-from .naming import Unknown, is_pattern
 from .nearest import offered
 from .opening import Opener, Whole, whole
+from .patterns import Unknown, is_pattern
 from .source import Source
 from .text import printable
 from .types import Signature, Type
@@ -28,6 +27,7 @@ from .wire import Session
 
 NAME = "ctfd-types"
 FAILED = 1
+AT_ONCE = 4096
 
 
 def main(arguments: Optional[Sequence[str]] = None) -> int:
@@ -58,7 +58,8 @@ def _run(session: Session, wanted: argparse.Namespace) -> int:
 
 def _lines(opener: Opener, wanted: argparse.Namespace, path: str) -> Iterator[str]:
     """What is told of one file."""
-    types = opener.open(path, wanted.parent, _bytes(wanted.symbols), _bytes(wanted.strings))
+    types = opener.open(path, wanted.parent, _bytes(wanted.symbols), _bytes(wanted.strings),
+                        has_symbols=_asks_all(wanted))
     if types.how in ("refused", "differs"):
         _warn(f"{path}: {source.WARNINGS[types.how]}")
     if _asks_all(wanted):
@@ -74,9 +75,12 @@ def _lines(opener: Opener, wanted: argparse.Namespace, path: str) -> Iterator[st
     if wanted.number is not None:
         yield _listing(_numbered(types, wanted.number).gather(), wanted)
     elif wanted.names:
-        ctf = opener.read[path].source.ctf
         for name in wanted.names:
-            yield _named(types, name, wanted, ctf)
+            found = _named(types, name, wanted, opener.read[path].source.ctf)
+            if found is None:
+                types = opener.with_symbols(path, types)
+                found = _symbol(types, name)
+            yield found
     else:
         yield from _all(types)
 
@@ -96,6 +100,8 @@ def _reported(told: Whole, found: Source, wanted: argparse.Namespace) -> Iterato
 
 def _asked(told: Whole, found: Source, wanted: argparse.Namespace) -> Optional[Iterator[str]]:
     """The answer to a question on all types, where one is asked."""
+    from . import questions  # here and below: who asks for one type waits for none of these
+
     if wanted.at:
         return questions.at(told, *wanted.at)
     if wanted.members:
@@ -108,17 +114,25 @@ def _asked(told: Whole, found: Source, wanted: argparse.Namespace) -> Optional[I
 
 
 def _reorganized(told: Whole, wanted: argparse.Namespace) -> Iterator[str]:
+    from . import reorganize
+
     numbers = told.names.matching(wanted.names or ["*"], told.catalog.own)
     structs = dict.fromkeys(told.catalog.resolved(n) for n in numbers)
     kept = [n for n in structs if told.catalog[n].kind == "struct"]
     if not kept:
         raise Error(f"{' or '.join(map(printable, wanted.names))}: no struct, and only the members"
                     " of a struct have an order")
-    for number in kept:
-        yield from reorganize.reorganized(told, number)
+    found = [list(reorganize.reorganized(told, number)) for number in kept]
+    if not wanted.names:  # of all, those alone of which there is something to paste
+        found = [lines for lines in found if len(lines) > 1] \
+            or [["/* no struct has an order of its members that is smaller */"]]
+    for lines in found:
+        yield from lines
 
 
 def _of_all(told: Whole, wanted: argparse.Namespace) -> Iterator[str]:
+    from . import compilable, picture, reports, treemap
+
     held = wanted.contains or wanted.uses
     if held:
         tell = reports.holders_as_json if wanted.json else reports.holders
@@ -140,6 +154,8 @@ def _of_all(told: Whole, wanted: argparse.Namespace) -> Iterator[str]:
 
 
 def _figures(told: Whole, wanted: argparse.Namespace) -> Iterator[str]:
+    from . import reports
+
     order = wanted.sort or ("size" if wanted.holes is None else "holes")
     found = reports.figures(told, wanted.names, wanted.holes or 0, order)
     if wanted.json:
@@ -164,14 +180,16 @@ def _listing(told: Type, wanted: argparse.Namespace) -> str:
 def _all(types: Dictionary) -> Iterator[str]:
     """A line for each type: its number, its size in bytes ("-" where it has none), its name."""
     own = types.types()
-    types.fetch([(op, t.number) for t in own for op in ("size", "name")])
-    for t in own:
-        yield f"{t.number:>6} {_size(t):>8}  {_spelled(t)}"
+    for start in range(0, len(own), AT_ONCE):
+        some = own[start:start + AT_ONCE]
+        types.fetch([(op, t.number) for t in some for op in ("size", "name")])
+        yield "\n".join(f"{t.number:>6} {_size(t):>8}  {_spelled(t)}" for t in some)
 
 
 def _size(t: Type) -> str:
     try:
-        return "-" if t.size is None else str(t.size)
+        size = t.size
+        return "-" if size is None else str(size)
     except Refused:
         return "-"
 
@@ -194,16 +212,16 @@ def _numbered(types: Dictionary, number: int) -> Type:
     return types.type(number)
 
 
-def _named(types: Dictionary, name: str, wanted: argparse.Namespace, ctf: bytes) -> str:
-    """A type of a name, all of them, or a symbol."""
+def _named(types: Dictionary, name: str, wanted: argparse.Namespace, ctf: bytes) -> Optional[str]:
+    """A type of a name, or all of them; None where there is none."""
     found = types.find_all(name) if wanted.all else []
-    more = "" if wanted.all else questions.others(repeated.of_name(ctf, name), name)
+    more = "" if wanted.all else repeated.others(repeated.of_name(ctf, name), name)
     if more:
         _warn(more)
     try:
         found = found or [types.find(name)]
     except NotFound:
-        return _symbol(types, name)
+        return None
     return "\n".join(_listing(_worth_listing(t), wanted) for t in found)
 
 

@@ -194,16 +194,22 @@ class Dictionary:
 
     def fetch(self, questions: Iterable[Tuple[str, int]]) -> None:
         """Asks those of (word, type) that are not known yet, in one round."""
-        new = [(self._home(t), op, t) for op, t in dict.fromkeys(questions)
-               if (op, t) not in self._home(t)._answers]
+        asked = dict.fromkeys(questions)
+        if self.parent is None:
+            new = [(self, one) for one in asked if one not in self._answers]
+        else:
+            new = [(home, one) for home, one in ((self._home(one[1]), one) for one in asked)
+                   if one not in home._answers]
         if not new:
             return
-        outcomes = self.session.ask_all([(op, {"d": home.slot, "t": t}) for home, op, t in new])
-        for (home, op, t), outcome in zip(new, outcomes):
-            if isinstance(outcome, Refused) and outcome.code == LONG_REPLY and op in LISTS:
-                outcome = home._by_pages(op, t)
-            if not isinstance(outcome, NoMemory):  # that may be answered another time
-                home._answers[op, t] = outcome
+        outcomes = self.session.ask_all([(op, {"d": home.slot, "t": t}) for home, (op, t) in new])
+        for (home, one), outcome in zip(new, outcomes):
+            if isinstance(outcome, Refused):
+                if outcome.code == LONG_REPLY and one[0] in LISTS:
+                    outcome = home._by_pages(*one)
+                if isinstance(outcome, NoMemory):  # that may be answered another time
+                    continue
+            home._answers[one] = outcome
 
     def answer(self, op: str, t: int) -> Answer:
         """What a word answers of a type, asked once; raises its refusal."""

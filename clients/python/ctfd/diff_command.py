@@ -14,15 +14,15 @@ import sys
 from typing import Callable, Iterator, List, Optional, Sequence
 
 from . import anyfile, commands, diff, elf, exports, objects, source, symbol_diff
-from .catalog import ALL_LISTS
 from .diff import Change
 from .elf import Elf
 from .exports import Exports
 from .faults import Error
+from .gather import ALL_LISTS
 from .guard import Exporting, Guard
 from .model import POINTER_SIZES
-from .naming import meets, pattern_of
 from .opening import Opener, Whole
+from .patterns import Meaning, pattern_of
 from .wire import Session
 
 NAME = "ctfd-diff"
@@ -81,13 +81,13 @@ def _changes(session: Session, words: argparse.Namespace) -> Iterator[Change]:
     new = opener.whole(words.new, words.new_parent or words.parent, ALL_LISTS)
     if old.catalog.dictionary.model != new.catalog.dictionary.model:
         _warn("the pointers of the two differ in size")
-    patterns = [pattern_of(name) for name in words.name]
+    wanted = Meaning(one for name in words.name for one in pattern_of(name))
     for one in (old, new):
         how = one.catalog.dictionary.how
         if how in source.WARNINGS and how != "guessed":
             _warn(f"{one.path}: {source.WARNINGS[how]}")
     for change in _compared(opener, old, new, words, skipped):
-        if not skipped(change.label) and (not patterns or _is_meant(change.label, patterns)):
+        if not skipped(change.label) and (not words.name or _is_meant(change.label, wanted)):
             yield change
     for cut in old.cut:
         _warn(cut)
@@ -124,20 +124,21 @@ def _exported(opener: Opener, whole: Whole) -> Optional[Exports]:
 
 def _skipped(paths: Sequence[str]) -> Callable[[str], bool]:
     """Whether a label is one that files of suppressions name."""
-    patterns: List[List[str]] = []
+    patterns: List[str] = []
     for path in paths:
         try:
             with open(path, encoding="utf-8", errors="surrogateescape") as file:
                 lines = [line.partition("#")[0].strip() for line in file]
         except OSError as error:
             raise Error(f"{path}: {error.strerror}") from error
-        patterns += [pattern_of(line) for line in lines if line]
-    return lambda label: bool(patterns) and _is_meant(label, patterns)
+        patterns += [one for line in lines if line for one in pattern_of(line)]
+    meant = Meaning(patterns)
+    return lambda label: _is_meant(label, meant)
 
 
-def _is_meant(label: str, patterns: Sequence[Sequence[str]]) -> bool:
-    """Whether a pattern means a type or symbol, by its name with the word in front or without."""
-    return meets(label, patterns) or meets(label.split(" ", 1)[-1], patterns)
+def _is_meant(label: str, meaning: Meaning) -> bool:
+    """Whether a type or symbol is meant, by its name with the word in front or without."""
+    return meaning.meets(label) or meaning.meets(label.split(" ", 1)[-1])
 
 
 def _lines(change: Change) -> str:

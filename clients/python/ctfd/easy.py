@@ -1,15 +1,12 @@
 """A file's types in one call: `ctfd.open(path)`."""
 from __future__ import annotations
 
-import logging
 import weakref
 from typing import Optional
 
 from .dictionary import Dictionary
 from .model import Model
 from .wire import Client, connected
-
-LOG = logging.getLogger(__name__)
 
 
 def open_path(path: str, model: Optional[Model] = None, base: Optional[str] = None,
@@ -22,11 +19,14 @@ def open_path(path: str, model: Optional[Model] = None, base: Optional[str] = No
     `with` that it is opened in, or with the dictionary. What is converted is kept in the user's
     cache, unless `is_kept` is false. What CTF can't hold of the file is logged. Raises Error.
     """
+    import logging
+
     from .anyfile import Asked  # with all that converts, which who has a dictionary does not need
     from .cache import user_cache
     from .opening import Opener
 
-    asked = Asked(model, None, base, cache=user_cache() if is_kept else None, warn=LOG.warning)
+    asked = Asked(model, None, base, cache=user_cache() if is_kept else None,
+                  warn=logging.getLogger(__name__).warning)
     mine = client or connected(None)
     try:
         types = Opener(mine.session(), asked).open(path, parent)

@@ -51,13 +51,19 @@ class Embeds:
         return self._held(self._reaches(targets, pointers=True))
 
     def _held(self, wanted: Callable[[int], bool]) -> Iterator[Held]:
+        leading = {number for number in self._members()
+                   if wanted(number) or self.is_walked_through(number)}
         for owner in self._owners():
-            yield from (one for one in self.walked(owner) if wanted(one.type))
+            if any(part.type in leading for part in self.catalog[owner].members):
+                yield from (one for one in self.walked(owner) if wanted(one.type))
+
+    def _members(self) -> Set[int]:
+        """The types of all members."""
+        return {part.type for n in self.catalog.aggregates() for part in self.catalog[n].members}
 
     def _owners(self) -> List[int]:
         """Its own structs and unions but those that are walked through in others."""
-        inner = {self.catalog.reached(part.type).number for n in self.catalog.aggregates()
-                 for part in self.catalog[n].members}
+        inner = {self.catalog.reached(number).number for number in self._members()}
         return [n for n in self.catalog.aggregates() if n not in inner or self.names.has_name(n)]
 
     def walked(self, owner: int) -> Iterator[Held]:

@@ -12,7 +12,8 @@ from pathlib import Path
 from typing import Any, Callable, Dict, List, Optional, Sequence
 
 from . import anyfile, commands
-from .catalog import ALL_LISTS, Catalog
+from .catalog import Catalog
+from .gather import ALL_LISTS
 from .faults import Error
 from .model import POINTER_SIZES
 from .opening import Opener, Whole

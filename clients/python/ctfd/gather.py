@@ -13,6 +13,9 @@ DETAIL = {
     "struct": "members", "union": "members", "enum": "enumerators", "function": "args",
     "array": "array", "integer": "encoding", "float": "encoding",
 }
+# What tools ask that look at all types: of the layout, and all.
+LISTS = ("members", "array", "encoding")
+ALL_LISTS = (*LISTS, "enumerators", "args")
 ONLY_HELD = ("members", "enumerators", "encoding")
 
 

@@ -18,7 +18,7 @@ from typing import Iterator, List, NamedTuple, Optional
 
 from .faults import Unreadable
 from .model import Model, POINTER_SIZES
-from .symbols import Identity, NAMES, Symbols, Wanted
+from .symbols import Identity, NAMES, Names, Symbols, Wanted
 
 HEADER = 36
 PREFIX, MODEL, SYMBOLS, TYPES = b"ctfd.", "ctfd.model=", "ctfd.symbols=", "ctfd.types="
@@ -92,15 +92,24 @@ def symbols(ctf: bytes) -> Optional[Identity]:
 
 def names(ctf: bytes) -> Optional[Symbols]:
     """The symbols whose names a dictionary has itself, if it has them all."""
+    found = raw_names(ctf)
+    if found is None:
+        return None
+    return Symbols(NAMES, tuple(
+        Wanted(name.decode("utf-8", "surrogateescape"), 0, number >= len(found.objects))
+        for number, name in enumerate([*found.objects, *found.functions])))
+
+
+def raw_names(ctf: bytes) -> Optional[Names]:
+    """As `names`, their bytes alone."""
     found, wanted = _said(ctf, SYMBOLS), symbols(ctf)
     if found is None or wanted is None or wanted.table != NAMES:
         return None
     count = wanted.objects + wanted.functions
     listed = ctf[found.behind:sections(ctf).end].split(b"\0", count)[:count]
-    made = Symbols(NAMES, tuple(
-        Wanted(name.decode("utf-8", "surrogateescape"), 0, number >= wanted.objects)
-        for number, name in enumerate(listed)))
-    return made if made.identity == wanted else None
+    made = Names(listed[:wanted.objects], listed[wanted.objects:])
+    is_whole = len(listed) == count and made.checksum == wanted.checksum
+    return made if is_whole else None
 
 
 def model_label(of: Model) -> List[str]:

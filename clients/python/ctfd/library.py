@@ -12,10 +12,9 @@ from __future__ import annotations
 
 import ctypes
 import os
-import subprocess
 import sys
 from pathlib import Path
-from typing import Iterable, Iterator, List, Optional
+from typing import Iterable, Iterator, List, Optional, cast
 
 from .faults import Gone
 from .version import VERSION
@@ -68,6 +67,8 @@ def _places() -> Iterator[str]:
 
 def _of_pkg_config() -> str:
     """The folder of the library that pkg-config knows, or ""."""
+    import subprocess  # which takes longer than most questions
+
     try:
         said = subprocess.run(["pkg-config", "--variable=libdir", "ctfd"], text=True,
                               stdin=subprocess.DEVNULL, capture_output=True, timeout=PATIENCE)
@@ -103,20 +104,50 @@ class Library:
 
     def answers(self, lines: Iterable[bytes]) -> List[bytes]:
         """The reply to each line, which are given with their newlines."""
-        return [self._answer(line) for line in lines]
+        call, handle, told = self._line, ctypes.byref(self._handle), self._told
+        into, room = ctypes.byref(told), len(self._room)
+        made: List[bytes] = []
+        for line in lines:  # thousands of them: no call more than it takes
+            status = call(handle, line, len(line) - 1, self._room, room, into)
+            if status or told.value > room:
+                made.append(self._long_reply(status))
+                room = len(self._room)
+            else:
+                made.append(cast(bytes, self._room[:told.value]))
+        return made
 
-    def _answer(self, line: bytes) -> bytes:
-        status = self._line(self._handle, line, len(line) - 1, self._room, len(self._room),
-                            self._told)
-        if status == 0 and self._told.value > len(self._room):
+    def _long_reply(self, status: int) -> bytes:
+        """A reply for which the room did not do. Raises Gone where there is none."""
+        if status == 0:
             self._room = (ctypes.c_char * self._told.value)()
             status = self._reply(self._handle, self._room, len(self._room), self._told)
         if status == MEMORY:
             raise Gone("there is no memory for a reply in this process")
         if status != 0:
             raise Gone("the service in this process was closed")
-        return ctypes.string_at(self._room, self._told.value)
+        return cast(bytes, self._room[:self._told.value])
 
     def close(self) -> None:
         """Ends the service; a line is answered no more."""
         self._end(self._handle)
+
+
+class Inside:
+    """The library in this process, which has no files: the client calls it."""
+
+    requests = replies = -1
+    number = 0
+    pid: Optional[int] = None
+
+    def __init__(self, library: Library) -> None:
+        self._library = library
+
+    @property
+    def where(self) -> str:
+        return f"in this process, by {self._library.path}"
+
+    def how_it_ended(self) -> str:
+        return "the library was closed"
+
+    def close(self) -> None:
+        self._library.close()

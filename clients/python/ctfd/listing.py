@@ -154,7 +154,7 @@ class Listing:
         """A word where a cache line begins at a member or began within the last."""
         line, past = divmod(byte, self.cache_line)
         if line > self.line:
-            ago = f" was {past} bytes ago" if past else ""
+            ago = f" was {past} byte{'s' * (past != 1)} ago" if past else ""
             told = f"/* --- cacheline {line} boundary ({byte - past} bytes){ago} --- */"
             self.lines.append("\t" * depth + told)
             self.line = line

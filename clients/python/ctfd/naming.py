@@ -1,25 +1,14 @@
 """What a person calls the types of a catalog, and which of them a name or a pattern means."""
 from __future__ import annotations
 
-import re
-from fnmatch import fnmatchcase
 from typing import Dict, Iterable, List, Sequence, Set
 
 from .catalog import Catalog
 from .declare import declaration
-from .dictionary import normal, spellings
-from .faults import Error
 from .nearest import offered
+from .patterns import Meaning, Unknown, pattern_of
 from .records import TAGGED
 from .text import printable
-
-_PATTERN = re.compile(r"[*?\[]")
-_STARS = re.compile(r"\s[\s*]*\Z")
-_WORDS = re.compile(r"(struct|union|enum)\s+(.*)\Z", re.S)
-
-
-class Unknown(Error):
-    """A name is that of nothing here."""
 
 
 class Names:
@@ -70,17 +59,16 @@ class Names:
 
     def matching(self, patterns: Sequence[str], among: Iterable[int]) -> List[int]:
         """Those types that one of the patterns means. Raises Unknown where none is meant."""
-        plain = [pattern_of(pattern) for pattern in patterns]
-        found = [n for n in among if any(meets(name, plain) for name in self.called(n))]
+        meets = Meaning(one for pattern in patterns for one in pattern_of(pattern)).meets
+        found = [n for n in among if any(map(meets, self.called(n)))]
         if not found:
             raise Unknown(self.nothing(patterns))
         return found
 
     def meant(self, name: str) -> Set[int]:
         """The types that one name says; of a typedef of a struct, union or enum that too."""
-        pattern = [pattern_of(name)]
-        found = {n for n in self.catalog.numbers
-                 if any(meets(one, pattern) for one in self.called(n))}
+        meets = Meaning(pattern_of(name)).meets
+        found = {n for n in self.catalog.numbers if any(map(meets, self.called(n)))}
         if not found:
             raise Unknown(self.nothing([name]))
         return found
@@ -90,24 +78,3 @@ class Names:
         known = (name for n in self.catalog.numbers for name in self.called(n))
         advice = offered(patterns[0], known) if len(patterns) == 1 else ""
         return printable(f"no type is called {' or '.join(patterns)}{advice}")
-
-
-def pattern_of(written: str) -> List[str]:
-    """The patterns that a written name stands for: base types are spelled in several ways."""
-    found = _WORDS.match(written.strip())
-    if found:
-        return [f"{found[1]} {found[2].strip()}"]
-    if is_pattern(written):
-        return [written]
-    return [written, *spellings(normal(written)[0])]
-
-
-def is_pattern(written: str) -> bool:
-    """Whether it may mean several names. Stars behind a blank are those of a pointer."""
-    return bool(_PATTERN.search(_STARS.sub("", written)))
-
-
-def meets(name: str, patterns: Sequence[Sequence[str]]) -> bool:
-    """Whether a name is one that is meant."""
-    return any(name == one or is_pattern(one) and fnmatchcase(name, one)
-               for written in patterns for one in written)

@@ -1,7 +1,6 @@
 """The names that are nearest to one that was not found."""
 from __future__ import annotations
 
-import difflib
 from typing import Iterable, List
 
 WORDS = ("struct", "union", "enum")
@@ -16,6 +15,8 @@ def bare(name: str) -> str:
 
 def nearest(name: str, names: Iterable[str]) -> List[str]:
     """Names of the same letters under another word first, then those that differ in few."""
+    import difflib  # which who finds what he looks for does without
+
     known = list(dict.fromkeys(names))
     same = [one for one in known if one != name and bare(one) == bare(name)]
     close = difflib.get_close_matches(name, known, MOST + len(same))

@@ -2,21 +2,24 @@
 from __future__ import annotations
 
 import contextlib
-from typing import Dict, Iterable, Iterator, List, NamedTuple, Optional
+from typing import TYPE_CHECKING, Dict, Iterable, Iterator, List, NamedTuple, Optional
 
-from . import anyfile
+from . import anyfile, source
 from .anyfile import Asked, Read
-from .catalog import Catalog, LISTS
 from .dictionary import Dictionary, open_file, open_found, open_source
 from .faults import BadSymbols, Error, Refused, Unreadable
-from .naming import Names
+from .gather import LISTS
 from .progress import Progress
-from .sizes import Sizes
 from .text import printable
 from .wire import Session
 
-ALONE = ("--parent, --symbols and --strings go with a dictionary, and this file's types are converted"
-         " first: leave them out, or make the dictionary by ctfd-convert (--parent makes a child)")
+if TYPE_CHECKING:
+    from .catalog import Catalog
+    from .naming import Names
+    from .sizes import Sizes
+
+ALONE = ("--parent, --symbols and --strings go with a dictionary, and this file's types are"
+         " converted first: leave them out, or make the dictionary by ctfd-convert (--parent makes a child)")
 
 
 class Whole(NamedTuple):
@@ -40,10 +43,11 @@ class Opener:
         self._parents: Dict[str, Dictionary] = {}
 
     def open(self, path: str, parent: Optional[str] = None, sym: Optional[bytes] = None,
-             strings: Optional[bytes] = None) -> Dictionary:
-        """The dictionary of a file, over its parent where one is named."""
+             strings: Optional[bytes] = None, has_symbols: bool = True) -> Dictionary:
+        """The dictionary of a file, over its parent where one is named. Without `has_symbols` it
+        may lack its symbols, which `with_symbols` gives."""
         with told_of(path):
-            found = anyfile.read(path, self.asked)
+            found = anyfile.read(path, self.asked, has_symbols)
             self.read[path] = found
             if found.is_made and (sym, strings, parent) != (None, None, None):
                 raise Unreadable(f"{path}: {ALONE}")
@@ -55,6 +59,18 @@ class Opener:
             with told_of(f"{parent}, as the parent of {path}"):
                 types.import_parent(self._parents[parent])
         return types
+
+    def with_symbols(self, path: str, types: Dictionary) -> Dictionary:
+        """The dictionary that was opened for a file, with its symbols."""
+        if types.how != source.LATER:
+            return types
+        found = self.read[path]
+        self.read[path] = found._replace(source=source.with_symbols(found.source))
+        with told_of(path):
+            made = self._opened(self.read[path], path, None, None)
+            if types.parent is not None:
+                made.import_parent(types.parent)
+        return made
 
     def _opened(self, found: Read, path: str, sym: Optional[bytes], strings: Optional[bytes]
                 ) -> Dictionary:
@@ -96,6 +112,10 @@ def whole(types: Dictionary, path: str, lists: Iterable[str] = LISTS) -> Whole:
         name = printable(types.parent_name) or "a parent without a name"
         raise Error(f"{path} is a child of {name}, whose types it names: name the parent's file by"
                     " --parent")
+    from .catalog import Catalog  # here: who asks for one type reads no others
+    from .naming import Names
+    from .sizes import Sizes
+
     progress = Progress(f"reading {path}")
     try:
         catalog = Catalog(types, lists, progress.told)

@@ -11,8 +11,8 @@ from . import drawing
 from .catalog import Catalog
 from .declare import declaration
 from .layout import Place
-from .naming import Unknown
 from .opening import Whole
+from .patterns import Unknown
 from .records import AGGREGATES
 from .text import printable
 

@@ -8,8 +8,8 @@ from .catalog import Catalog, RENAMES
 from .declare import declaration
 from .embeds import Embeds, Held
 from .faults import Error, Refused
-from .naming import Unknown, meets
 from .opening import Whole
+from .patterns import Meaning, Unknown
 from .records import AGGREGATES
 from .reports import held_line
 from .source import Source
@@ -131,10 +131,10 @@ def _bytes(bits: int) -> str:
 
 def members(whole: Whole, name: str, is_json: bool) -> Iterator[str]:
     """Where members of a name or a pattern stand."""
-    pattern = [[name]]
+    meets = Meaning([name]).meets
     embeds = Embeds(whole.catalog, whole.names)
     found = [held for number in whole.catalog.aggregates() if whole.names.has_name(number)
-             for held in embeds.walked(number) if held.path and meets(held.path[-1], pattern)]
+             for held in embeds.walked(number) if held.path and meets(held.path[-1])]
     if not found:
         raise Unknown(printable(f"no member is called {name}"))
     yield from _bounded(whole, (_held(whole, held, is_json) for held in found))
@@ -255,15 +255,3 @@ def _values(whole: Whole, number: int, data: bytes, size: int) -> Iterator[str]:
                                 for at in starts[first:first + at_once]]
         for outcome in types.session.ask_all(asked):
             yield f"({outcome.name})" if isinstance(outcome, Refused) else str(outcome["text"])
-
-
-# Types of one name.
-
-def others(numbers: Sequence[int], name: str) -> str:
-    """That there are more types of a name than the one that is told; "" where there are none."""
-    if len(numbers) < 2:
-        return ""
-    return (f"{len(numbers)} types are called {printable(name)}, and this is the first: --all shows"
-            f" them all, --number N one ({', '.join(map(str, numbers))})")
-
-

@@ -6,14 +6,19 @@ walked here once, and only where the name stands in the section more than once.
 from __future__ import annotations
 
 import struct
-from typing import Dict, Iterator, List, NamedTuple, Set
+from typing import AbstractSet, Dict, Iterator, List, NamedTuple, Sequence, Set
 
 from . import identity, text
 from .dictionary import normal, spellings
-from .written import CHILD, KINDS, LONG_MEMBERS, LONG_SIZE
+from .text import printable
+from .written import CHILD, FUNCTION, KINDS, LONG_MEMBERS, LONG_SIZE
 
 TAGGED = ("struct", "union", "enum")
 SHORT, LONG, MEMBER, LONG_MEMBER = 8, 16, 8, 16
+HEAD, LONG_FIELD = struct.Struct("<IHH"), struct.Struct("<II")
+ENUM = KINDS.index("enum")
+AGGREGATES = (KINDS.index("struct"), KINDS.index("union"))
+BEHIND = {KINDS.index("integer"): 4, KINDS.index("float"): 4, KINDS.index("array"): 8}
 
 
 class _Head(NamedTuple):
@@ -36,12 +41,37 @@ def of_name(ctf: bytes, name: text.Name) -> List[int]:
     references: Dict[str, Set[int]] = {}
     for word, bare in wanted:
         references.setdefault(word, set()).update(_references(strings, bare))
-    if sum(types.count(struct.pack("<I", one)) for held in references.values()
-           for one in held) < 2:
+    if not _are_several(types, references):
         return []  # its one place is that of the type that was found
     first = CHILD + 1 if struct.unpack_from("<I", ctf, 8)[0] else 1
-    return [head.number for head in _heads(types, first)
+    names = frozenset().union(*references.values())
+    return [head.number for head in _heads(types, first, names)
             if head.name in references.get(head.word, ())]
+
+
+def others(numbers: Sequence[int], name: str) -> str:
+    """That there are more types of a name than the one that is told; "" where there are none."""
+    if len(numbers) < 2:
+        return ""
+    return (f"{len(numbers)} types are called {printable(name)}, and this is the first: --all shows"
+            f" them all, --number N one ({', '.join(map(str, numbers))})")
+
+
+def _are_several(types: bytes, references: Dict[str, Set[int]]) -> bool:
+    """Whether records that are called so may be several: a word that refers to the name is followed
+    by one of which the upper bits are a kind. A member may look so too, and a walk tells."""
+    places = 0
+    for word, held in references.items():
+        kinds = {number for number, kind in enumerate(KINDS)
+                 if (kind in (word, "forward") if word else kind not in (*TAGGED, "forward"))}
+        for one in held:
+            wanted = struct.pack("<I", one)
+            at = types.find(wanted)
+            while at >= 0:
+                is_record = at % 4 == 0 and types[at + 5:at + 6] and types[at + 5] >> 3 in kinds
+                places += bool(is_record)
+                at = types.find(wanted, at + 1)
+    return places > 1
 
 
 def _apart(name: str) -> "tuple[str, bytes]":
@@ -60,30 +90,32 @@ def _references(strings: bytes, name: bytes) -> Set[int]:
     return found
 
 
-def _heads(types: bytes, first: int) -> Iterator[_Head]:
-    at, number = 0, first
-    while at + SHORT <= len(types):
-        name, info, field = struct.unpack_from("<IHH", types, at)
+def _heads(types: bytes, first: int, names: AbstractSet[int]) -> Iterator[_Head]:
+    """The records of which the name is one of some references; all are walked over."""
+    at, number, head = 0, first, HEAD.unpack_from
+    while at + SHORT <= len(types):  # tens of thousands: no call more than it takes
+        name, info, field = head(types, at)
         at += SHORT
         if field == LONG_SIZE:
-            high, low = struct.unpack_from("<II", types, at)
+            high, low = LONG_FIELD.unpack_from(types, at)
             field = high << 32 | low
             at += LONG - SHORT
-        kind = KINDS[info >> 11]
-        word = kind
-        if kind == "forward":
-            word = KINDS[field] if field in (7, 8) else "struct"
-        yield _Head(number, word if word in TAGGED else "", name)
-        at += _behind(kind, field, info & 0x3FF)
+        kind = info >> 11
+        if name in names:
+            yield _Head(number, _word(KINDS[kind], field), name)
+        if kind in AGGREGATES:
+            at += (info & 0x3FF) * (MEMBER if field < LONG_MEMBERS else LONG_MEMBER)
+        else:
+            at += BEHIND.get(kind, 0)
+            if kind == ENUM:
+                at += 8 * (info & 0x3FF)
+            elif kind == FUNCTION:
+                at += 2 * ((info & 0x3FF) + (info & 1))
         number += 1
 
 
-def _behind(kind: str, size: int, length: int) -> int:
-    """The bytes of a record behind its head."""
-    if kind in ("struct", "union"):
-        return length * (MEMBER if size < LONG_MEMBERS else LONG_MEMBER)
-    if kind == "enum":
-        return 8 * length
-    if kind == "function":
-        return 2 * (length + length % 2)
-    return {"integer": 4, "float": 4, "array": 8}.get(kind, 0)
+def _word(kind: str, field: int) -> str:
+    """What C has in front of a record's name."""
+    if kind == "forward":
+        return KINDS[field] if field in AGGREGATES else "struct"
+    return kind if kind in TAGGED else ""

@@ -9,8 +9,6 @@ from __future__ import annotations
 
 import os
 import re
-import shutil
-import subprocess
 import sys
 from pathlib import Path
 from typing import Optional
@@ -26,6 +24,8 @@ _SAYS = re.compile(r"ctfd (\d+)\.(\d+)\.(\d+)\s*\Z")
 
 def find(name: Optional[str] = None) -> str:
     """The program to start, once it has told a version that this client speaks. Raises Error."""
+    import shutil  # here and below: who asks the library needs neither
+
     program = name or named()
     if program:
         why = "named by --service" if name else "named by CTFD in the environment"
@@ -81,6 +81,8 @@ def _judged(program: str) -> str:
 
 
 def _version(program: str) -> str:
+    import subprocess
+
     try:
         asked = subprocess.run([program, "--version"], stdin=subprocess.DEVNULL, text=True,
                                capture_output=True, timeout=PATIENCE, errors="replace")

@@ -21,6 +21,7 @@ LONGEST = 67_108_864
 SECTIONS = (".SUNW_ctf", ".ctf")
 ARCHIVE = struct.pack("<Q", 0x8B47F2A4D7623EEB)
 ADVICE = "ctfd-convert makes CTF of version 2 from the program's debug information"
+LATER = "later"
 DEBUG = (".debug_info", ".zdebug_info", ".gnu_debuglink", ".BTF")
 
 # What is to be known of the symbols of a file, by how they were found.
@@ -48,8 +49,9 @@ class Source(NamedTuple):
     which may not be the one that the section was written for; "given", handed in by the caller; or
     "none". It is "differs" where the table is not the one that the dictionary says, "stripped"
     where the file has none, and "unread" where it is one of 32 bits: the service does not read it,
-    and only the strings are there. `model` is None where nothing tells it, as with a section by
-    itself of which the dictionary says nothing.
+    and only the strings are there. It is "later" where `with_symbols` is to hand them in.
+    `model` is None where nothing tells it, as with a section by itself of which the dictionary says
+    nothing.
     """
 
     ctf: bytes
@@ -65,15 +67,24 @@ def read(path: str, number: Optional[int] = None) -> Source:
     return of_bytes(contents(path), path, number)
 
 
-def of_bytes(data: Mapped, path: str = "the file", number: Optional[int] = None) -> Source:
-    """As `read`, of a file's bytes."""
+def of_bytes(data: Mapped, path: str = "the file", number: Optional[int] = None,
+             has_symbols: bool = True) -> Source:
+    """As `read`, of a file's bytes. Without `has_symbols` the names of symbols that a dictionary
+    has itself are left out, and `with_symbols` hands them in when they are asked for."""
     if data[:4] == elf.MAGIC:
         return _of_elf(Elf(data, path), number)
     ctf = plain(several.chosen(data[:], number, path), path)
-    names = identity.names(ctf)
-    found = handed(None, names) if names else Handed()
-    return Source(ctf, found.table, found.strings, "named" if names else "none",
-                  identity.model(ctf))
+    found = Source(ctf, how=LATER, model=identity.model(ctf))
+    return with_symbols(found) if has_symbols else found
+
+
+def with_symbols(found: Source) -> Source:
+    """A dictionary with the symbols whose names it has itself, where they were left for later."""
+    if found.how != LATER:
+        return found
+    names = identity.raw_names(found.ctf)
+    table = names.handed if names else Handed()
+    return found._replace(sym=table.table, strings=table.strings, how="named" if names else "none")
 
 
 def plain(ctf: bytes, path: str = "the file") -> bytes:
@@ -150,13 +161,23 @@ def _of_elf(file: Elf, number: Optional[int]) -> Source:
     wanted = identity.symbols(ctf)
     if wanted is None:
         return Source(ctf, *_unnamed(file, section), model)
-    symbols = symbols_of(file, ctf)
-    found = handed(file, symbols) if symbols else Handed()
+    symbols = handed_of(file, ctf)
+    found = symbols or Handed()
     if symbols is None:
         how = "differs" if table_of(file, wanted.table) else "stripped"
     else:
         how = "named" if found.table is not None else "unread"
     return Source(ctf, found.table, found.strings, how, model)
+
+
+def handed_of(file: Optional[Elf], ctf: bytes) -> Optional[Handed]:
+    """As `symbols_of`, as the service takes them."""
+    wanted = identity.symbols(ctf)
+    if wanted is not None and wanted.table == NAMES:
+        names = identity.raw_names(ctf)
+        return names.handed if names else None
+    symbols = symbols_of(file, ctf)
+    return handed(file, symbols) if symbols else None
 
 
 def symbols_of(file: Optional[Elf], ctf: bytes) -> Optional[Symbols]:

@@ -9,17 +9,18 @@ from __future__ import annotations
 import collections
 import json
 import os
-import selectors
 from types import TracebackType
-from typing import (Any, Deque, Dict, Iterable, List, Literal, NoReturn, Optional, Sequence, Tuple,
-                    Type, Union, overload)
+from typing import (TYPE_CHECKING, Any, Deque, Dict, Iterable, List, Literal, NoReturn, Optional,
+                    Sequence, Tuple, Type, Union, overload)
 
 from . import library, replies, service, text
-from .channel import Channel, Inside, Pipes, Socket
 from .faults import Error, Gone, Refused, refused
-from .library import Library
+from .library import Inside, Library
 from .model import Model
 from .text import Name
+
+if TYPE_CHECKING:
+    from .channel import Channel
 
 Answer = Dict[str, Any]
 Request = Tuple[str, Dict[str, Any]]
@@ -29,6 +30,7 @@ PIECE = 262_144
 READ = 262_144
 WRITE = 65_536
 SERVE = ("serve",)
+HEX = b"0123456789abcdef"
 
 _DECODED = json.JSONDecoder().decode
 
@@ -41,8 +43,8 @@ class Owed:
 
 
 class Client:
-    """One service. Where none is named it is libctfd.so in this process, if that is found (library.py
-    tells where); else the program is looked for, and started.
+    """One service. Where none is named it is libctfd.so in this process, if that is found
+    (library.py tells where); else the program is looked for, and started.
 
     With `socket` it is one that others use too: the path of a socket where ctfd-front listens, in
     which each session is a connection. Where neither is named, CTFD_SOCKET in the environment may
@@ -64,13 +66,7 @@ class Client:
         self._library: Optional[Library] = None
         if program is None and socket is None and arguments == SERVE:
             self._library = in_process()
-        self._channel: Channel
-        if self._library is not None:
-            self._channel = Inside(self._library)
-        elif socket is None:
-            self._channel = Pipes([program or service.find(), *arguments])
-        else:
-            self._channel = Socket(socket, patience, self._room)
+        self._channel = self._opened([program or "", *arguments])
         self._requests, self._replies = self._channel.requests, self._channel.replies
         self._others: List[Client] = []
         self._unsent = bytearray()
@@ -84,6 +80,16 @@ class Client:
         self._last_session = self._channel.number - 1 if self._channel.number else 0
         self._has_session = self._is_closed = False
         self.requests = self.rounds = 0
+
+    def _opened(self, command: List[str]) -> Channel:
+        """The way to the service; what starts processes is imported where one is started."""
+        if self._library is not None:
+            return Inside(self._library)
+        from .channel import Pipes, Socket
+
+        if self._socket is None:
+            return Pipes([command[0] or service.find(), *command[1:]])
+        return Socket(self._socket, self.patience, self._room)
 
     def __enter__(self) -> Client:
         return self
@@ -122,7 +128,7 @@ class Client:
         if self._library is not None:
             self.requests += len(lines)
             self.rounds += 1
-            return [_DECODED(one.decode("utf-8")) for one in self._library.answers(lines)]
+            return _all_decoded(self._library.answers(lines))
         mine = [Owed() for _ in lines]
         written = b"".join(lines)
         self._torn = True
@@ -144,6 +150,8 @@ class Client:
             self._channel.close()
 
     def _run(self, mine: List[Owed]) -> None:
+        import selectors
+
         self._forget()  # what an interrupted call has written and read already
         self._answer()
         with selectors.DefaultSelector() as ready:
@@ -340,8 +348,8 @@ class Session:
 
 
 def in_process() -> Optional[Library]:
-    """The library in place of a program: where CTFD_LIBRARY names it, or where CTFD names no program
-    and it is found."""
+    """The library in place of a program: where CTFD_LIBRARY names it, or where CTFD names no
+    program and it is found."""
     if library.named() is None and service.named() is not None:
         return None
     return library.find()
@@ -357,8 +365,19 @@ def _line(session: int, op: str, fields: Answer) -> bytes:
     if len(fields) == 2 and "d" in fields and "t" in fields:  # most of them: a question on a type
         return b'{"s":%d,"op":"%b","d":%d,"t":%d}\n' % (session, op.encode("ascii"), fields["d"],
                                                       fields["t"])
+    if op == "part" and len(fields) == 2 and isinstance(fields.get("bytes"), str):
+        digits = fields["bytes"].encode("ascii", "replace")
+        if not digits.translate(None, HEX):  # megabytes, and none of them to be escaped
+            return b'{"s":%d,"op":"part","section":%b,"bytes":"%b"}\n' % (
+                session, json.dumps(fields.get("section")).encode("ascii"), digits)
     request = {"s": session, "op": op, **fields}
     return json.dumps(request, separators=(",", ":")).encode("ascii") + b"\n"
+
+
+def _all_decoded(lines: List[bytes]) -> List[Answer]:
+    """Many replies: the decoder begins once for them all."""
+    told: List[Answer] = _DECODED((b"[" + b",".join(lines) + b"]").decode("utf-8"))
+    return told
 
 
 def _given(**fields: Any) -> Answer:

@@ -8,10 +8,10 @@ from typing import List, Optional, Sequence, Tuple
 
 from . import anyfile, commands
 from .model import POINTER_SIZES
-from .naming import is_pattern
-from .sizes import SORTED
+from .patterns import is_pattern
 
 CACHE_LINE = 64
+ORDERS = ("size", "holes", "name")  # those of `sizes.SORTED`, which needs all types
 
 _NAME = re.compile(r"[\w\s*?\[\]{}()-]+\Z")
 
@@ -101,7 +101,7 @@ def _add_reports(group: "argparse._MutuallyExclusiveGroup") -> None:
 
 
 def _add_manners(parser: argparse.ArgumentParser) -> None:
-    parser.add_argument("--sort", choices=list(SORTED),
+    parser.add_argument("--sort", choices=ORDERS,
                         help="the order of --sizes (size) and --holes (holes)")
     parser.add_argument("--recursive", action="store_true",
                         help="--contains and --uses: within named structs too")

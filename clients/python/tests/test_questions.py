@@ -88,6 +88,9 @@ class Questions(unittest.TestCase):
         self.assertEqual(self.told("--reorganize", "struct inner"),
                          ["/* struct inner: no order of its members is smaller than its 4 bytes */"])
         self.assertIn("no struct", self.refused("--reorganize", "enum mode"))
+        everything = self.told("--reorganize")
+        self.assertIn("struct holes {", everything)
+        self.assertFalse([line for line in everything if "no order" in line])
 
     def test_hexadecimal(self) -> None:
         self.assertIn("\tON  = 0x12c,", self.told("--hex", "enum mode"))

@@ -4,7 +4,8 @@ from __future__ import annotations
 import struct
 import unittest
 
-from ctfd.catalog import ALL_LISTS, Catalog
+from ctfd.catalog import Catalog
+from ctfd.gather import ALL_LISTS
 from ctfd.declare import declaration
 from ctfd.dictionary import Dictionary
 from ctfd.texts import Texts

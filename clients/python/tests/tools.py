@@ -12,7 +12,7 @@ from pathlib import Path
 from typing import Dict, Iterable, Optional
 
 from ctfd import diff_command, explore
-from ctfd.catalog import ALL_LISTS
+from ctfd.gather import ALL_LISTS
 from ctfd.command import main as types_main
 from ctfd.opening import Opener, Whole
 

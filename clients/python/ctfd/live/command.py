@@ -52,8 +52,7 @@ def _parser() -> argparse.ArgumentParser:
     parser.add_argument("--hex", action="store_true", help="numbers as hexadecimal ones")
     parser.add_argument("--elements", type=int, default=200, metavar="N", help="of an array, a text"
                         f" and a list no more than N are printed (200; {MOST} at most)")
-    parser.add_argument("--service", metavar="CTFD", help="the program that reads types (CTFD in"
-                        " the environment, or ctfd on the path)")
+    commands.add_words(parser)
     return parser
 
 
