@@ -80,10 +80,10 @@ program.load_debug_info(sys.argv[1:])
 print(drgn.sizeof(program.type("struct stbtt_fontinfo")))' "$1")" = 160 ]
 }
 
-# added NAME: gdb's words by which a file gets its debug file.
+# added NAME [DEBUG]: gdb's words by which a file gets its debug file, NAME.debug or DEBUG.debug.
 added() {
     echo "python next(it for it in gdb.objfiles() if it.filename.endswith('/$1'))" \
-        ".add_separate_debug_file('$work/$1.debug')"
+        ".add_separate_debug_file('$work/${2:-$1}.debug')"
 }
 
 # asked OUT PROGRAM WORD..: all that dump.py asks, in gdb that gets the words.
@@ -238,8 +238,18 @@ for time in first second; do
     count "one file is kept" [ "$(ls cache/ctfd | wc -l)" = 1 ]
 done
 count "which is its owner's" [ "$(stat -c %a cache/ctfd)" = 700 ]
+# hinted WORD..: how often `ctf print` says that gdb's own print would do.
+hinted() {
+    gdb -batch -nx -iex 'set debug-file-directory /none' \
+        -ex "source $top/clients/gdb/ctfgdb.py" "$@" -ex 'ctf load' -ex 'ctf print first.y' \
+        -ex 'ctf print first.x' waits > seen 2>&1
+    grep -cx "(gdb's own print knows this type too)" seen || true
+}
+count "that print would do is said once" [ "$(hinted)" = 1 ]
+count "beside both values" [ "$(grep -cx '[34]' seen)" = 2 ]
 loads -ex 'set ctf-debuginfo off' > seen 2>&1 || true  # gdb's last command fails
 count "set ctf-debuginfo off" grep -q 'has unknown type' seen
+count "that print would do is not said then" [ "$(hinted -ex 'set ctf-debuginfo off')" = 0 ]
 # lldb 14 of Debian looks for its package in another folder than it has.
 packages=$(echo /usr/lib/llvm-*/lib/python3*/dist-packages)
 export PYTHONPATH=${packages// /:}
@@ -283,6 +293,19 @@ count "beside another program" says 'its .symtab are not those that the types we
 count "a program that is none" says 'stb.types is no ELF file: name the program .* by --program' \
     stb.types --symbols stb.g x.debug
 count "two programs" says 'stb is an ELF file itself' stb --program png x.debug
+if command -v pahole > /dev/null; then
+    cp stb.g stb.btf
+    pahole -J stb.btf
+    objcopy -O binary --only-section=.BTF --set-section-flags .BTF=alloc stb.btf bare.btf
+    client ctfd-convert --lossy bare.btf btf.types > said 2>&1 || true
+    count "BTF beside its program" says ' [1-9][0-9]* functions' btf.types btf.debug --program stb
+    count "which is right" llvm-dwarfdump --verify btf.debug
+    gdb -batch -nx -iex 'set debug-file-directory /none' -ex "$(added stb btf)" \
+        -ex 'whatis stbi_load' stb > seen 2>&1
+    count "its functions' types" grep -Fqx "$wanted" seen
+else
+    echo "skipped: no pahole here (Debian: dwarves)"
+fi
 client ctfd-convert --lossy statics.g parent.types > said 2>&1 || true
 client ctfd-convert --lossy --parent parent.types --section stb.g child.ctf > said 2>&1 || true
 objcopy --strip-debug child.ctf child

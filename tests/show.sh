@@ -8,7 +8,8 @@
 # show/table.c is compiled with debug information, its types are converted to CTF, and the debug
 # information is taken away. It runs, and each line of show/expressions.txt is asked: of gdb, which
 # is attached and has the file with debug information, and of ctfd-show, by the process and by the
-# core file that gdb leaves. Then what can't be read is asked for: one line each, and status 2.
+# core file that gdb leaves; so it is for a program of 32 bits, where gcc and the machine have such.
+# Then what can't be read is asked for: one line each, and status 2.
 # Prints what was wrong, and counts; the status is 1 where something was wrong.
 set -eu
 program=$(realpath "$1")
@@ -39,11 +40,21 @@ client() {
     python3 "$top/clients/python/$1" "${@:2}"
 }
 
-# refused TEXT WORD..: ctfd-show with these words says a text, in one line, and has status 2.
+shows() {
+    client ctfd-show "$@"
+}
+
+# nobody COMMAND..: runs a command as a user who owns nothing.
+nobody() {
+    CTFD=open/$(basename "$program") setpriv --reuid 65534 --regid 65534 --clear-groups "$@"
+}
+
+# refused TEXT COMMAND WORD..: ctfd-show with these words says a text, in one line, and has status
+# 2. COMMAND is `shows`, or one for it by another user.
 refused() {
     local text=$1 status=0
     shift
-    client ctfd-show "$@" > told 2>&1 < /dev/null || status=$?
+    "$@" > told 2>&1 < /dev/null || status=$?
     [ $status = 2 ] && [ "$(wc -l < told)" = 1 ] && grep -Eq "$text" told && return
     echo "status $status:"
     cat told
@@ -59,17 +70,30 @@ waits() {
     read -r _ < "$1.out"
 }
 
-gcc -g -O1 -o table.g "$tests/table.c"
-client ctfd-convert --lossy --section table.g table.ctf > said 2>&1
-objcopy --strip-debug table.ctf table
-waits table
+# made NAME WORD..: NAME.g with debug information, by gcc with these words, and NAME without it.
+made() {
+    local name=$1
+    shift
+    gcc -g -O1 -o "$name.g" "$@" "$tests/table.c" &&
+        client ctfd-convert --lossy --section "$name.g" "$name.ctf" &&
+        objcopy --strip-debug "$name.ctf" "$name"
+}
+
+# asks NAME: the answers of gdb by the compiler's debug information, of the process $pid, which
+# leaves a core file.
+asks() {
+    gdb -batch -nx -iex 'set debug-file-directory /none' -ex 'set width 0' "${questions[@]}" \
+        -ex 'generate-core-file core' -p $pid "$1.g" > seen 2>&1 < /dev/null || true
+    sed -n 's/^\$[0-9]* = //p' seen > gdbs
+    [ "$(wc -l < gdbs)" = ${#asked[@]} ]
+}
+
 mapfile -t asked < "$tests/expressions.txt"
 questions=()
 for one in "${asked[@]}"; do questions+=(-ex "print $one"); done
-gdb -batch -nx -iex 'set debug-file-directory /none' -ex 'set width 0' "${questions[@]}" \
-    -ex 'generate-core-file core' -p $pid table.g > seen 2>&1 < /dev/null || true
-sed -n 's/^\$[0-9]* = //p' seen > gdbs
-if [ "$(wc -l < gdbs)" != ${#asked[@]} ]; then
+made table > said 2>&1
+waits table
+if ! asks table; then
     echo "not possible here: gdb attaches to no process"
     cat seen
     exit 0
@@ -90,14 +114,29 @@ count "a list of links" \
 count "of two nodes" [ "$(cut -d' ' -f1,3-5 ours | tr -d '\n')" = \
     "[0] {number = 10,[1] {number = 20," ]
 count "no such name" refused 'nothing: no file of process .* has a function or variable nothing$' \
-    --pid $pid nothing
-count "no such type" refused 'there is no type struct nod$' --pid $pid '*(struct nod *) 4096'
-count "no memory" refused 'no memory at 0x10 that can be read$' --pid $pid '*(struct node *) 16'
-count "a register" refused '[$]rip: registers are not read' --pid $pid '$rip'
-count "no process" refused 'there is no process 4194304$' --pid 4194304 first
-count "no core file" refused 'table: an ELF file that is no core file$' --core table first
+    shows --pid $pid nothing
+count "no such type" refused 'there is no type struct nod$' shows --pid $pid '*(struct nod *) 4096'
+count "no memory" refused 'no memory at 0x10 that can be read$' shows --pid $pid '*(struct node *) 16'
+count "a register" refused '[$]rip: registers are not read' shows --pid $pid '$rip'
+count "no process" refused 'there is no process 4194304$' shows --pid 4194304 first
+count "no core file" refused 'table: an ELF file that is no core file$' shows --core table first
 head -c 9000 core > cut
-count "a core file that is cut off" refused 'cut' --core cut first
+count "a core file that is cut off" refused 'cut' shows --core cut first
+
+# Another user may not read it. The package and the service are copies that all users may read.
+python=
+for one in python3 /usr/bin/python3; do
+    [ "$(id -u)" != 0 ] || ! nobody "$one" -c '' 2> /dev/null || python=$one
+done
+if [ -n "$python" ]; then
+    mkdir open
+    cp -r "$top/clients/python" "$program" open
+    chmod -R a+rX .
+    count "another user's process" refused "process $pid may not be read: .* by its owner" \
+        nobody "$python" open/python/ctfd-show --pid $pid first
+else
+    echo "not possible here: root alone is another user, and it takes setpriv and a Python for all"
+fi
 
 # The program was replaced while it ran: what runs is read, and a core file's program is refused.
 gcc -g -O0 -o other.g "$tests/table.c"
@@ -105,18 +144,38 @@ client ctfd-convert --lossy --section other.g other > said 2>&1
 cp --remove-destination other table
 count "a program that was replaced" same --pid $pid
 count "of a core file" refused 'table is another build than what core has in memory' \
-    --core core first
+    shows --core core first
 count "which names one" same --core core --program table.ctf
-count "types of another build" refused 'other is of another build than' --pid $pid --types other \
-    first
+count "types of another build" refused 'other is of another build than' \
+    shows --pid $pid --types other first
 kill $pid
 pid=
+
+# A program of 32 bits: the service reads no symbols of 32 bits, so the client hands in wider ones.
+if ! echo 'int main(void) { return 0; }' | gcc -m32 -x c - -o none 2> told; then
+    cat told
+    echo "skipped: gcc -m32 makes no program here (Debian: gcc-multilib)"
+elif ! ./none; then
+    echo "not possible here: a program of 32 bits does not run"
+else
+    count "a program of 32 bits" made table32 -m32
+    waits table32
+    count "which gdb reads" asks table32
+    count "its process" same --pid $pid
+    count "its core file" same --core core
+    count "its list" eval "client ctfd-show --pid $pid --list next head > ours"
+    count "of three nodes" [ "$(cut -d' ' -f1,3-5 ours | tr -d '\n')" = \
+        "[0] {number = 10,[1] {number = 20,[2] {number = 30," ]
+    kill $pid
+    pid=
+fi
 
 # Types in a file of their own, beside a program that has none.
 strip -o table table.g
 client ctfd-convert --lossy table.g types > said 2>&1
 waits table
-count "no types" refused 'no file of process .* has CTF: name one with its types' --pid $pid first
+count "no types" refused 'no file of process .* has CTF: name one with its types' \
+    shows --pid $pid first
 address=$(client ctfd-show --pid $pid --types table.ctf '&first')
 address=${address##*) }
 count "types of the program before it was stripped" \

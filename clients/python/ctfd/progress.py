@@ -16,20 +16,22 @@ class Progress:
     def __init__(self, what: str) -> None:
         self.what = what
         self.begun = time.monotonic()
-        self.is_shown = False
+        self.shown = -1
         self.is_wanted = sys.stderr is not None and sys.stderr.isatty()
 
     def told(self, done: int, total: int) -> None:
         """How much of how much is done."""
-        if self.is_wanted and (self.is_shown or time.monotonic() - self.begun > PATIENCE):
-            self._write(f"\r{self.what}: {100 * done // max(1, total):3}%")
-            self.is_shown = True
+        percent = 100 * done // max(1, total)
+        if self.is_wanted and percent != self.shown and (
+                self.shown >= 0 or time.monotonic() - self.begun > PATIENCE):
+            self._write(f"\r{self.what}: {percent:3}%")
+            self.shown = percent
 
     def end(self) -> None:
         """Takes the line away."""
-        if self.is_shown:
+        if self.shown >= 0:
             self._write("\r" + " " * (len(self.what) + 8) + "\r")
-            self.is_shown = False
+            self.shown = -1
 
     def _write(self, said: str) -> None:
         sys.stderr.write(said)
