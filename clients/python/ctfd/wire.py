@@ -124,7 +124,7 @@ class Client:
             self._gone = "an interrupt came where replies can't be told apart: start a new client"
         if self._gone:
             raise Gone(self._gone)
-        lines = [_line(session, op, fields) for op, fields in requests]
+        lines = [request_line(session, op, fields) for op, fields in requests]
         if self._library is not None:
             self.requests += len(lines)
             self.rounds += 1
@@ -361,7 +361,8 @@ def connected(program: Optional[str]) -> Client:
     return Client() if program is None else Client(service.find(program))
 
 
-def _line(session: int, op: str, fields: Answer) -> bytes:
+def request_line(session: int, op: str, fields: Answer) -> bytes:
+    """A request as the service reads it."""
     if len(fields) == 2 and "d" in fields and "t" in fields:  # most of them: a question on a type
         return b'{"s":%d,"op":"%b","d":%d,"t":%d}\n' % (session, op.encode("ascii"), fields["d"],
                                                       fields["t"])

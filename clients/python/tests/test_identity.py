@@ -11,11 +11,11 @@ from pathlib import Path
 from typing import List
 
 import ctfd
-from ctfd import identity, several, source
+from ctfd import identity, several, source, symbols
 from ctfd.elf import Elf
 from ctfd.program import open_program
 from ctfd.records import Record, Table
-from ctfd.symbols import DYNSYM, SYMTAB, considered
+from ctfd.symbols import DYNSYM, SYMTAB, Names, Wanted, considered, made_table
 from ctfd.written import written
 
 from .support import PROGRAM as SERVICE, TOOLS, compiles
@@ -99,6 +99,15 @@ class Symbols(WithPrograms):
         moved = tuple(one._replace(address=one.address + 1) for one in whole.listed)
         self.assertEqual(whole._replace(listed=moved).identity, whole.identity)
         self.assertNotEqual(considered(file, DYNSYM).identity, whole.identity)
+
+    def test_names_alone_make_the_table_that_symbols_make(self) -> None:
+        for names in (Names([], []), Names([b"one", b""], []), Names([], [b"f", b"\xff"]),
+                      Names([b"one", b"two"], [b"f"])):
+            listed = tuple(Wanted(name.decode("utf-8", "surrogateescape"), 0, place >= of)
+                           for of in [len(names.objects)]
+                           for place, name in enumerate([*names.objects, *names.functions]))
+            self.assertEqual(names.handed, made_table(listed))
+            self.assertEqual(names.checksum, symbols.Symbols("names", listed).identity.checksum)
 
     def test_a_debugger_tells_no_wrong_symbol(self) -> None:
         made = self.with_section(self.program("program", "-rdynamic"))

@@ -9,7 +9,7 @@ import unittest
 
 import ctfd
 from ctfd.faults import ADVICE
-from ctfd.wire import PIECE
+from ctfd.wire import PIECE, request_line
 
 from .support import EXAMPLES, PROGRAM, WithService, dictionary, integer
 
@@ -158,6 +158,17 @@ class Ends(unittest.TestCase):
                 session.ask_all([("members", {"d": slot, "t": 218})] * 10 * MANY)
             killer.join()
         self.assertIn("-9", str(caught.exception))
+
+
+class Lines(unittest.TestCase):
+    def test_a_line_is_the_request_whatever_its_bytes_are(self) -> None:
+        for data in ("", "00ff", "0F", 'f"', "f\\", "f\n", "\u00e9", "\ud800", 7, None):
+            for section in ("ctf", 'c"'):
+                fields = {"section": section, "bytes": data}
+                with self.subTest(fields):
+                    line = request_line(3, "part", fields)
+                    self.assertEqual(json.loads(line), {"s": 3, "op": "part", **fields})
+                    self.assertEqual((line.count(b"\n"), line[-1:]), (1, b"\n"))
 
 
 if __name__ == "__main__":
