@@ -1,5 +1,5 @@
 #!/usr/bin/env python3
-"""Compiles a program with as much debug information as is wanted, and times what reads it.
+"""Compiles a program with about as much debug information as is wanted, and times what reads it.
 
 usage: large_program.py MEGABYTES [OUT]
 

@@ -116,7 +116,8 @@ count "of two nodes" [ "$(cut -d' ' -f1,3-5 ours | tr -d '\n')" = \
 count "no such name" refused 'nothing: no file of process .* has a function or variable nothing$' \
     shows --pid $pid nothing
 count "no such type" refused 'there is no type struct nod$' shows --pid $pid '*(struct nod *) 4096'
-count "no memory" refused 'no memory at 0x10 that can be read$' shows --pid $pid '*(struct node *) 16'
+count "no memory" refused 'no memory at 0x10 that can be read$' \
+    shows --pid $pid '*(struct node *) 16'
 count "a register" refused '[$]rip: registers are not read' shows --pid $pid '$rip'
 count "no process" refused 'there is no process 4194304$' shows --pid 4194304 first
 count "no core file" refused 'table: an ELF file that is no core file$' shows --core table first

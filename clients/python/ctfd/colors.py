@@ -33,8 +33,8 @@ class Colors:
     def _begin(self, table: Table) -> None:
         """One class for all types that look alike, and one for none."""
         labels: Dict[Hashable, int] = {}
-        blank = [one.renumbered(lambda n: 0)._replace(root=True) for one in table.records]
-        self.colors = [0] + [labels.setdefault(label, len(labels) + 1) for label in blank]
+        blank = (one.renumbered(lambda n: 0)._replace(root=True) for one in table.records)
+        self.colors = [0, *(labels.setdefault(label, len(labels) + 1) for label in blank)]
         self._classes = [set() for _ in range(len(labels) + 1)]
         for number, color in enumerate(self.colors):
             self._classes[color].add(number)

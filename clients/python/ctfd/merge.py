@@ -27,6 +27,7 @@ def merged(table: Table, fixed: int = 0) -> Table:
         ambiguous = _ambiguous(joined, colors, resolved)
         if not ambiguous:
             break
+        del joined, colors  # of a large program each has hundreds of MB
         resolved = {n: to for n, to in resolved.items()
                     if left > 1 and _tag(table[n]) not in ambiguous}
     return named_once(_one_of_each(joined, colors, set(resolved), fixed), fixed)
