@@ -17,14 +17,14 @@ enum {
 void ctfd__forget(ctf_file_t *fp)
 {
     size_t i;
+    ctfd__forget_details(fp);
     for (i = 0; i < sizeof fp->pages / sizeof fp->pages[0]; i++) {
         free(fp->pages[i]);
         fp->pages[i] = NULL;
     }
 }
 
-/* The page of a type, or NULL: then nothing is kept. */
-static struct ctfd__page *page_of(ctf_file_t *fp, uint16_t t)
+struct ctfd__page *ctfd__page(ctf_file_t *fp, uint16_t t)
 {
     struct ctfd__page *page = fp->pages[t >> 8];
     if (page == NULL)
@@ -41,7 +41,7 @@ enum ctfd_status ctfd__kind(ctf_file_t *fp, uint16_t t, uint32_t *kind)
         return CTFD_OK;
     }
     status = ctfd_kind(&fp->types, t, kind);
-    if (status == CTFD_OK && (page = page_of(fp, t)) != NULL) {
+    if (status == CTFD_OK && (page = ctfd__page(fp, t)) != NULL) {
         page->kinds[t & 255] = (uint8_t)*kind;
         page->known[t & 255] |= KNOWS_KIND;
     }
@@ -57,7 +57,7 @@ enum ctfd_status ctfd__root(ctf_file_t *fp, uint16_t t, uint32_t *root)
         return CTFD_OK;
     }
     status = ctfd_root(&fp->types, t, root);
-    if (status == CTFD_OK && (page = page_of(fp, t)) != NULL)
+    if (status == CTFD_OK && (page = ctfd__page(fp, t)) != NULL)
         page->known[t & 255] |= (uint8_t)(KNOWS_ROOT | (*root != 0 ? IS_ROOT : 0));
     return status;
 }
@@ -71,7 +71,7 @@ enum ctfd_status ctfd__resolve(ctf_file_t *fp, uint16_t t, uint16_t *to)
         return CTFD_OK;
     }
     status = ctfd_resolve(&fp->types, t, to);
-    if (status == CTFD_OK && (page = page_of(fp, t)) != NULL) {
+    if (status == CTFD_OK && (page = ctfd__page(fp, t)) != NULL) {
         page->resolved[t & 255] = *to;
         page->known[t & 255] |= KNOWS_RESOLVED;
     }
@@ -87,7 +87,7 @@ enum ctfd_status ctfd__reference(ctf_file_t *fp, uint16_t t, uint16_t *to)
         return CTFD_OK;
     }
     status = ctfd_reference(&fp->types, t, to);
-    if (status == CTFD_OK && (page = page_of(fp, t)) != NULL) {
+    if (status == CTFD_OK && (page = ctfd__page(fp, t)) != NULL) {
         page->references[t & 255] = *to;
         page->known[t & 255] |= KNOWS_REFERENCE;
     }
@@ -105,7 +105,7 @@ enum ctfd_status ctfd__pointer(ctf_file_t *fp, uint16_t t, uint16_t *to)
         return CTFD_OK;
     }
     status = ctfd_pointer(&fp->types, t, to);
-    if ((status == CTFD_OK || status == CTFD_NOT_FOUND) && (page = page_of(fp, t)) != NULL) {
+    if ((status == CTFD_OK || status == CTFD_NOT_FOUND) && (page = ctfd__page(fp, t)) != NULL) {
         page->pointers[t & 255] = status == CTFD_OK ? *to : 0;
         page->known[t & 255] |= KNOWS_POINTER;
     }

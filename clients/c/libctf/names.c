@@ -61,10 +61,31 @@ static void sip_word(struct sip *it, uint64_t word)
     it->v0 ^= word;
 }
 
-static uint64_t hash_of(const struct ctfd__texts *texts, const char *text, size_t len)
+/* Takes a seed from the system, or, where it gives none, from where things lie in memory. */
+static void seed(struct ctfd__texts *texts)
 {
-    struct sip it = { texts->seed[0] ^ 0x736f6d6570736575, texts->seed[1] ^ 0x646f72616e646f6d,
-        texts->seed[0] ^ 0x6c7967656e657261, texts->seed[1] ^ 0x7465646279746573 };
+    texts->is_seeded = true;
+    if (getrandom(texts->seed, sizeof texts->seed, GRND_NONBLOCK) == sizeof texts->seed)
+        return;
+    texts->seed[0] = (uint64_t)(uintptr_t)texts;
+    texts->seed[1] = (uint64_t)(uintptr_t)&texts ^ (uint64_t)(uintptr_t)&seed;
+}
+
+static struct sip begun(struct ctfd__texts *texts)
+{
+    struct sip it;
+    if (!texts->is_seeded)
+        seed(texts);
+    it.v0 = texts->seed[0] ^ 0x736f6d6570736575;
+    it.v1 = texts->seed[1] ^ 0x646f72616e646f6d;
+    it.v2 = texts->seed[0] ^ 0x6c7967656e657261;
+    it.v3 = texts->seed[1] ^ 0x7465646279746573;
+    return it;
+}
+
+uint64_t ctfd__hash(struct ctfd__texts *texts, const char *text, size_t len)
+{
+    struct sip it = begun(texts);
     uint64_t word;
     size_t at;
     for (at = 0; at + 8 <= len; at += 8) {
@@ -82,15 +103,6 @@ static uint64_t hash_of(const struct ctfd__texts *texts, const char *text, size_
     return it.v0 ^ it.v1 ^ it.v2 ^ it.v3;
 }
 
-/* Takes a seed from the system, or, where it gives none, from where things lie in memory. */
-static void seed(struct ctfd__texts *texts)
-{
-    if (getrandom(texts->seed, sizeof texts->seed, GRND_NONBLOCK) == sizeof texts->seed)
-        return;
-    texts->seed[0] = (uint64_t)(uintptr_t)texts;
-    texts->seed[1] = (uint64_t)(uintptr_t)&texts ^ (uint64_t)(uintptr_t)&seed;
-}
-
 /* Makes twice as many heads, so that lists stay short. */
 static bool more_heads(struct ctfd__texts *texts)
 {
@@ -98,8 +110,6 @@ static bool more_heads(struct ctfd__texts *texts)
     struct ctfd__text **heads = (struct ctfd__text **)calloc(len, sizeof *heads);
     if (heads == NULL)
         return false;
-    if (texts->heads_len == 0)
-        seed(texts);
     for (i = 0; i < texts->heads_len; i++) {
         while (texts->heads[i] != NULL) {
             struct ctfd__text *moved = texts->heads[i];
@@ -123,7 +133,7 @@ static const char *kept_in(struct ctfd__texts *texts, const char *text, size_t l
     size_t at;
     if (texts->count >= texts->heads_len && !more_heads(texts))
         return NULL;
-    hash = hash_of(texts, text, len);
+    hash = ctfd__hash(texts, text, len);
     at = (size_t)hash & (texts->heads_len - 1);
     for (made = texts->heads[at]; made != NULL; made = made->next) {
         if (made->hash == hash && made->len == len && memcmp(made->text, text, len) == 0)
