@@ -305,6 +305,18 @@ static void compare_enumerators(ctf_file_t *fp, struct ctfd *types, ctf_id_t t)
     CHECK(status != CTFD_OK || wanted == value);
 }
 
+/* Sizes and alignments, which other data models change. */
+static void compare_sizes(ctf_file_t *fp, struct ctfd *types, ctf_id_t t)
+{
+    uint64_t bytes = 0;
+    enum ctfd_status status = ctfd_size(types, (uint16_t)t, &bytes);
+    ssize_t said = ctf_type_size(fp, t);
+    CHECK(ended(fp, said) == status && (status != CTFD_OK || (uint64_t)said == bytes));
+    status = ctfd_align(types, (uint16_t)t, &bytes);
+    said = ctf_type_align(fp, t);
+    CHECK(ended(fp, said) == status && (status != CTFD_OK || (uint64_t)said == bytes));
+}
+
 static void compare_details(ctf_file_t *fp, struct ctfd *types, ctf_id_t t)
 {
     struct ctfd_encoding encoding;
@@ -334,16 +346,18 @@ static void compare_details(ctf_file_t *fp, struct ctfd *types, ctf_id_t t)
 }
 
 /* Each is asked again, since a first answer is kept. */
-static void compare_headers(ctf_file_t *fp, const struct made *made)
+static void compare_headers(ctf_file_t *fp, const struct made *made, bool is_ilp32)
 {
     struct ctfd types = CTFD_NONE;
     uint64_t place;
     ctf_id_t t;
     int turn;
-    CHECK(ctfd_open(&types, made->at, made->len, "", 0, "", 0, false, false, false, &place) ==
+    CHECK(ctfd_open(&types, made->at, made->len, "", 0, "", 0, false, false, is_ilp32, &place) ==
         CTFD_OK);
+    CHECK(ctf_setmodel(fp, is_ilp32 ? CTF_MODEL_ILP32 : CTF_MODEL_LP64) == 0);
     for (t = 0; t <= (ctf_id_t)made->types + 1; t++) {
         for (turn = 0; turn < 2; turn++) {
+            compare_sizes(fp, &types, t);
             compare_details(fp, &types, t);
             compare_lists(fp, &types, t);
         }
@@ -514,7 +528,8 @@ int main(int argc, char **argv)
             accepted++;
             compare_all(lfp, (int)left.types, lfp, (int)left.types);
             compare_all(lfp, (int)left.types, rfp, (int)right.types);
-            compare_headers(lfp, &left);
+            compare_headers(lfp, &left, false);
+            compare_headers(lfp, &left, true);
             in.fp = lfp;
             in.types = (int)left.types;
             for (calls = 0; calls < 10; calls++)

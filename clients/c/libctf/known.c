@@ -1,5 +1,5 @@
 /* known.c - what was asked of a type before is answered from memory: its kind, whether look-ups see
- * it, what it leads to and resolves to, and the pointer to it. Of refusals only that there is no
+ * it, what it leads to and resolves to, the pointer to it, its size and its alignment. Of refusals only that there is no
  * pointer is kept, and nothing past a change of what is open. */
 #include "private.h"
 
@@ -11,7 +11,9 @@ enum {
     IS_ROOT = 4,
     KNOWS_RESOLVED = 8,
     KNOWS_POINTER = 16,
-    KNOWS_REFERENCE = 32
+    KNOWS_REFERENCE = 32,
+    KNOWS_SIZE = 64,
+    KNOWS_ALIGN = 128
 };
 
 void ctfd__forget(ctf_file_t *fp)
@@ -108,6 +110,38 @@ enum ctfd_status ctfd__pointer(ctf_file_t *fp, uint16_t t, uint16_t *to)
     if ((status == CTFD_OK || status == CTFD_NOT_FOUND) && (page = ctfd__page(fp, t)) != NULL) {
         page->pointers[t & 255] = status == CTFD_OK ? *to : 0;
         page->known[t & 255] |= KNOWS_POINTER;
+    }
+    return status;
+}
+
+enum ctfd_status ctfd__size(ctf_file_t *fp, uint16_t t, uint64_t *bytes)
+{
+    struct ctfd__page *page = fp->pages[t >> 8];
+    enum ctfd_status status;
+    if (page != NULL && (page->known[t & 255] & KNOWS_SIZE) != 0) {
+        *bytes = page->sizes[t & 255];
+        return CTFD_OK;
+    }
+    status = ctfd_size(&fp->types, t, bytes);
+    if (status == CTFD_OK && *bytes <= UINT32_MAX && (page = ctfd__page(fp, t)) != NULL) {
+        page->sizes[t & 255] = (uint32_t)*bytes;
+        page->known[t & 255] |= KNOWS_SIZE;
+    }
+    return status;
+}
+
+enum ctfd_status ctfd__align(ctf_file_t *fp, uint16_t t, uint64_t *bytes)
+{
+    struct ctfd__page *page = fp->pages[t >> 8];
+    enum ctfd_status status;
+    if (page != NULL && (page->known[t & 255] & KNOWS_ALIGN) != 0) {
+        *bytes = page->aligns[t & 255];
+        return CTFD_OK;
+    }
+    status = ctfd_align(&fp->types, t, bytes);
+    if (status == CTFD_OK && *bytes <= UINT16_MAX && (page = ctfd__page(fp, t)) != NULL) {
+        page->aligns[t & 255] = (uint16_t)*bytes;
+        page->known[t & 255] |= KNOWS_ALIGN;
     }
     return status;
 }

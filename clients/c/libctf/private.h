@@ -64,6 +64,8 @@ struct ctfd__page {
     uint16_t resolved[256];
     uint16_t references[256];
     uint16_t pointers[256]; /* 0 where there is none */
+    uint16_t aligns[256];
+    uint32_t sizes[256];
     uint8_t kinds[256];
     uint8_t known[256];
 };
@@ -148,6 +150,8 @@ HIDDEN enum ctfd_status ctfd__kind(ctf_file_t *fp, uint16_t t, uint32_t *kind);
 HIDDEN enum ctfd_status ctfd__root(ctf_file_t *fp, uint16_t t, uint32_t *root);
 HIDDEN enum ctfd_status ctfd__resolve(ctf_file_t *fp, uint16_t t, uint16_t *to);
 HIDDEN enum ctfd_status ctfd__reference(ctf_file_t *fp, uint16_t t, uint16_t *to);
+HIDDEN enum ctfd_status ctfd__size(ctf_file_t *fp, uint16_t t, uint64_t *bytes);
+HIDDEN enum ctfd_status ctfd__align(ctf_file_t *fp, uint16_t t, uint64_t *bytes);
 HIDDEN enum ctfd_status ctfd__pointer(ctf_file_t *fp, uint16_t t, uint16_t *to);
 
 /* ---- details.c: what records hold, read once */

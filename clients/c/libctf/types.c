@@ -25,7 +25,7 @@ ssize_t ctf_type_size(ctf_file_t *fp, ctf_id_t type)
     enum ctfd_status status;
     if (!ctfd__is_type(fp, type))
         return (ssize_t)CTF_ERR;
-    status = ctfd_size(&fp->types, (uint16_t)type, &bytes);
+    status = ctfd__size(fp, (uint16_t)type, &bytes);
     return as_bytes(fp, status, bytes);
 }
 
@@ -35,7 +35,7 @@ ssize_t ctf_type_align(ctf_file_t *fp, ctf_id_t type)
     enum ctfd_status status;
     if (!ctfd__is_type(fp, type))
         return (ssize_t)CTF_ERR;
-    status = ctfd_align(&fp->types, (uint16_t)type, &bytes);
+    status = ctfd__align(fp, (uint16_t)type, &bytes);
     return as_bytes(fp, status, bytes);
 }
 
