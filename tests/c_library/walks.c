@@ -345,6 +345,22 @@ static void compare_details(ctf_file_t *fp, struct ctfd *types, ctf_id_t t)
     CHECK(ctfd_argument(types, (uint16_t)t, 0, &to) == CTFD_OK && args[0] == to);
 }
 
+/* By names that look-ups know, and by one with blanks; what is found may have come to be known. */
+static void compare_found(ctf_file_t *fp, struct ctfd *types)
+{
+    static const char *const names[] = { "a", "b", "c", "struct a", "union b", "enum c", "a *",
+        "struct a *", "b **", "d", "" };
+    unsigned i;
+    for (i = 0; i < 2 * (sizeof names / sizeof names[0]); i++) {
+        const char *name = names[i / 2];
+        uint16_t t = 0;
+        enum ctfd_status status = ctfd_find(types, name, strlen(name), &t);
+        ctf_id_t found = ctf_lookup_by_name(fp, name);
+        CHECK(status == CTFD_OK ? found == t : found == CTF_ERR && ctf_errno(fp) == (int)status);
+    }
+    CHECK(ctf_lookup_by_name(fp, " struct   a ") == ctf_lookup_by_name(fp, "struct a"));
+}
+
 /* Each is asked again, since a first answer is kept. */
 static void compare_headers(ctf_file_t *fp, const struct made *made, bool is_ilp32)
 {
@@ -355,6 +371,7 @@ static void compare_headers(ctf_file_t *fp, const struct made *made, bool is_ilp
     CHECK(ctfd_open(&types, made->at, made->len, "", 0, "", 0, false, false, is_ilp32, &place) ==
         CTFD_OK);
     CHECK(ctf_setmodel(fp, is_ilp32 ? CTF_MODEL_ILP32 : CTF_MODEL_LP64) == 0);
+    compare_found(fp, &types);
     for (t = 0; t <= (ctf_id_t)made->types + 1; t++) {
         for (turn = 0; turn < 2; turn++) {
             compare_sizes(fp, &types, t);
@@ -491,6 +508,7 @@ static void some_calls(struct made *made)
     ctf_close(more);
     (void)ctf_setmodel(fp, CTF_MODEL_ILP32);
     (void)ctf_lookup_by_name(fp, "const  struct a");
+    CHECK(ctf_lookup_by_name(fp, "a") == ctf_lookup_by_name(fp, "a"));
     ctf_close(fp);
 }
 

@@ -19,6 +19,7 @@ enum {
 void ctfd__forget(ctf_file_t *fp)
 {
     size_t i;
+    fp->generation++;
     ctfd__forget_details(fp);
     for (i = 0; i < sizeof fp->pages / sizeof fp->pages[0]; i++) {
         free(fp->pages[i]);

@@ -85,6 +85,7 @@ struct ctf_file {
     struct ctfd__texts texts;
     struct ctfd__page *pages[256];
     size_t details_bytes;
+    uint64_t generation; /* counts changes of what is open, from 1 */
     uint64_t labels;
     char *room;
     size_t room_len;
@@ -128,6 +129,11 @@ HIDDEN void ctfd__free_texts(struct ctfd__texts *texts);
 
 /* A hash of a text that nobody outside can foresee. */
 HIDDEN uint64_t ctfd__hash(struct ctfd__texts *texts, const char *text, size_t len);
+
+/* The type that a look-up has found by a name as it stands, or 0; longer names are not kept. */
+#define CTFD_FOUND_LONGEST 255
+HIDDEN uint16_t ctfd__found(ctf_file_t *fp, const char *name, size_t len);
+HIDDEN void ctfd__keep_found(ctf_file_t *fp, const char *name, size_t len, uint16_t t);
 
 /* A call that writes a text, and a text that such a call wrote, kept; NULL where it is refused. */
 typedef enum ctfd_status ctfd__text_f(struct ctfd *types, char *text, size_t size, uint64_t *len);
