@@ -2,8 +2,8 @@
 # Checks what ctf_open answers of ELF files, by programs that were compiled of elf.c.
 # usage: tests/c_library/elf.sh PROGRAM ELF..
 # PROGRAM is ctfd; each ELF a build of elf.c with the part for ELF files: one that links it, one
-# that links libctfd.so. Runs in a folder of its own. Needs gcc, objcopy, strip and Python; files of 32
-# bits are made where gcc -m32 makes them. Prints what was wrong; the status is 1 then.
+# that links libctfd.so. Runs in a folder of its own. Needs gcc, objcopy, strip and Python; files of
+# 32 bits are made where gcc -m32 makes them. Prints what was wrong; the status is 1 then.
 set -eu
 program=$(realpath "$1")
 shift

@@ -1,6 +1,6 @@
 /* known.c - what was asked of a type before is answered from memory: its kind, whether look-ups see
- * it, what it leads to and resolves to, the pointer to it, its size and its alignment. Of refusals only that there is no
- * pointer is kept, and nothing past a change of what is open. */
+ * it, what it leads to and resolves to, the pointer to it, its size and its alignment. Of refusals
+ * only that there is no pointer is kept, and nothing past a change of what is open. */
 #include "private.h"
 
 #include <stdlib.h>
