@@ -14,6 +14,8 @@
 # - What is asked of each type, member, enumerator, name and symbol is answered as by the service.
 # - Lines are answered as by the service.
 # - What is refused writes no result and closes nothing; so does each allocation that is refused.
+# - Dictionaries that were made to cost much cost a time that is linear in their bytes: twice as many
+#   types or names take at most 2.2 times the instructions, as valgrind counts them.
 # - ELF files are opened, by libelf and zlib where these are here (c_library/elf.sh).
 # - Damaged dictionaries, lines and random calls, and walks of libctf's calls over random
 #   dictionaries, under AddressSanitizer and UndefinedBehaviorSanitizer: N rounds of them (10000;
@@ -65,6 +67,17 @@ same() {
     cmp -s "$1" "$2" || { diff "$1" "$2" | head -n 20; return 1; }
 }
 
+# twice WHAT N: the instructions of hostile's WHAT, of N and of twice as many.
+twice() {
+    local n counted=()
+    for n in "$2" $((2 * $2)); do
+        counted+=("$(valgrind --tool=callgrind --callgrind-out-file=/dev/null ./hostile "$1" "$n" \
+            2>&1 | sed -n 's/.*Collected : //p')")
+    done
+    echo "$1, $2 and twice as many: ${counted[*]} instructions"
+    [ $((10 * counted[1])) -le $((22 * counted[0])) ]
+}
+
 count "the header and the crates" "$tests/header.py" "$archive"
 
 for header in ctfd ctfd_libctf; do
@@ -83,7 +96,7 @@ for header in ctfd ctfd_libctf; do
     fi
 done
 
-for name in dump answers lines refusals refuse libctf; do
+for name in dump answers lines refusals refuse libctf hostile; do
     count "compile $name.c" compile "$tests/$name.c" $name
 done
 for name in ctfdump first; do
@@ -191,6 +204,13 @@ echo 'struct lua_State: 200 bytes' > wanted
 count "the first example" same wanted seen
 count refusals ./refusals "$top/examples"
 count "libctf's calls" ./libctf "$top/examples" "$work"
+count "what was made to cost much" timeout 60 ./hostile
+if command -v valgrind > /dev/null; then
+    count "a circle of types" twice circle 16383
+    count "names that have one hash" twice names 25575
+else
+    echo "skipped: no valgrind here"
+fi
 count "refused allocations" ./refuse "$top/examples"
 grep -v ' checks, ' said || true
 
@@ -204,10 +224,11 @@ if cc "${sanitize[@]}" none.c -o none 2> said && ./none 2>> said; then
     cat said
     count "refusals under sanitizers" ./refusals "$top/examples"
     count "libctf's calls under sanitizers" ./libctf "$top/examples" "$work"
-    # The calls are compiled anew, so that these are looked into too.
+    # The calls are compiled anew, so that these are looked into too. They keep little of what they
+    # have read, so that it is dropped now and then.
     for source in "$top"/clients/c/libctf/*.c; do
         case $source in */elf.c | */loading.c) continue ;; esac
-        cc -std=c11 "${sanitize[@]}" -I"$top/clients/c" -c "$source" \
+        cc -std=c11 "${sanitize[@]}" -DMOST_BYTES=2000 -I"$top/clients/c" -c "$source" \
             -o "looked_$(basename "$source" .c).o"
     done
     count "compile walks.c" cc -std=gnu11 -Wall -Wextra -Wpedantic -Werror "${sanitize[@]}" \

@@ -2,8 +2,8 @@
 # Checks what ctf_open answers of ELF files, by programs that were compiled of elf.c.
 # usage: tests/c_library/elf.sh PROGRAM ELF..
 # PROGRAM is ctfd; each ELF a build of elf.c with the part for ELF files: one that links it, one
-# that links libctfd.so. Runs in a folder of its own. Needs gcc, objcopy, strip and Python; files of 32
-# bits are made where gcc -m32 makes them. Prints what was wrong; the status is 1 then.
+# that links libctfd.so. Runs in a folder of its own. Needs gcc, objcopy, strip and Python; files of
+# 32 bits are made where gcc -m32 makes them. Prints what was wrong; the status is 1 then.
 set -eu
 program=$(realpath "$1")
 shift
@@ -40,6 +40,26 @@ done
 strip -o own.bare own.with
 echo 'model 2, 16 bytes' > wanted
 wanted own.bare 'struct point'
+
+# Nor is a table that has other symbols, in number or in name, and one that is there in part.
+cp own.with own.more
+objcopy --add-symbol more=.data:0,global,object own.more
+strip -K main -K added -K first -o own.less own.with
+objcopy --redefine-sym added=other own.with own.other
+for file in own.more own.less own.other; do
+    wanted $file 'struct point'
+done
+# A dictionary that was made of BTF has the names of its symbols itself, and no numbers of theirs in
+# the file: nothing is told of them by their numbers, whatever stands in a section of that name.
+gcc -gbtf -fno-inline -c own.c -o own.o
+objcopy --dump-section .BTF=own.btf own.o
+CTFD=$program "$top/clients/python/ctfd-convert" own.btf own.names
+grep -aq 'ctfd.symbols=names,2,2,' own.names || { echo "no names of its own"; failed=1; }
+objcopy --add-section .ctf=own.names own own.named
+objcopy --add-section .ctf=own.names --add-section names=own.btf own own.both
+for file in own.named own.both; do
+    wanted $file 'struct point'
+done
 
 # Sections by both names, plain and with a body that is compressed.
 python3 - "$top/examples/lua.ctf" << 'END'

@@ -1,6 +1,6 @@
 /* Walks of libctf's calls over random dictionaries that pass every rule, as many as are asked for:
  * indexes of arrays lead in circles, callbacks make calls themselves, and each allocation of the
- * calls is refused in turn.
+ * calls is refused in turn. What both headers tell is the same.
  *
  * usage: walks ROUNDS [SEED]
  *
@@ -11,6 +11,7 @@
 #include "ctfd_libctf.h"
 
 #include "common.h"
+#include "made.h"
 
 #include <limits.h>
 
@@ -59,24 +60,6 @@ static uint32_t below(uint32_t n)
 
 /* ---- dictionaries, by their bytes */
 
-struct made {
-    uint8_t at[8192];
-    size_t len;
-    unsigned types;
-};
-
-static void put16(struct made *made, unsigned value)
-{
-    made->at[made->len++] = (uint8_t)value;
-    made->at[made->len++] = (uint8_t)(value >> 8);
-}
-
-static void put32(struct made *made, uint32_t value)
-{
-    put16(made, value & 0xffff);
-    put16(made, value >> 16);
-}
-
 /* The strings of each: "", "a", "b" and "c", by where they begin. */
 static const char strings[] = "\0a\0b\0c";
 
@@ -88,9 +71,8 @@ static unsigned some_name(void)
 
 static void put_record(struct made *made, unsigned kind, unsigned vlen, unsigned size)
 {
-    put32(made, kind == CTF_K_ARRAY || kind == CTF_K_POINTER ? 0 : some_name());
-    put16(made, kind << 11 | (below(4) != 0) << 10 | vlen);
-    put16(made, size);
+    uint32_t name = kind == CTF_K_ARRAY || kind == CTF_K_POINTER ? 0 : some_name();
+    put_head(made, name, kind << 11 | (below(4) != 0) << 10 | vlen, size);
 }
 
 /* A type of a number: what it holds or leads to comes before it; an index may be any type. */
@@ -122,10 +104,11 @@ static void put_type(struct made *made, unsigned number)
         }
         break;
     case 7:
-        put_record(made, CTF_K_ENUM, 2, 4);
-        for (i = 0; i < 2; i++) {
+        members = below(6);
+        put_record(made, CTF_K_ENUM, members, 4);
+        for (i = 0; i < members; i++) {
             put32(made, some_name());
-            put32(made, below(3));
+            put32(made, below(4) - 1);
         }
         break;
     case 8:
@@ -142,29 +125,11 @@ static void put_type(struct made *made, unsigned number)
 static void make_dictionary(struct made *made)
 {
     unsigned i;
-    size_t end;
-    made->len = 0;
+    begin_made(made);
     made->types = 1 + below(MOST);
-    put32(made, 0x0002cff1);
-    for (i = 0; i < 8; i++)
-        put32(made, 0);
     for (i = 1; i <= made->types; i++)
         put_type(made, i);
-    end = made->len;
-    memcpy(made->at + end, strings, sizeof strings);
-    made->len = 28;
-    put32(made, (uint32_t)(end - 36));
-    put32(made, sizeof strings);
-    made->len = end + sizeof strings;
-}
-
-static ctf_file_t *opened(struct made *made, int *error)
-{
-    ctf_sect_t section;
-    memset(&section, 0, sizeof section);
-    section.cts_data = made->at;
-    section.cts_size = made->len;
-    return ctf_bufopen(&section, NULL, NULL, error);
+    end_made(made, strings, sizeof strings);
 }
 
 /* ---- whether types are compatible, by taking out those that are not */
@@ -251,6 +216,174 @@ static void compare_all(ctf_file_t *lfp, int lcount, ctf_file_t *rfp, int rcount
             CHECK(ctf_type_compat(lfp, l, rfp, r) == same[l][r]);
 }
 
+/* ---- the same answers by both headers, where both have a call */
+
+struct list {
+    struct ctfd *types;
+    ctf_id_t of;
+    size_t len;
+};
+
+static int same_member(const char *name, ctf_id_t type, ulong_t offset, void *arg)
+{
+    struct list *list = (struct list *)arg;
+    struct ctfd_member member = { 0, 0, 0 };
+    char text[8];
+    CHECK(ctfd_member(list->types, (uint16_t)list->of, list->len++, text, sizeof text, &member) ==
+        CTFD_OK);
+    CHECK(member.type == type && member.offset == offset && member.name_len == strlen(name) &&
+        memcmp(text, name, strlen(name)) == 0);
+    return 0;
+}
+
+static int same_enumerator(const char *name, int value, void *arg)
+{
+    struct list *list = (struct list *)arg;
+    char text[8];
+    uint64_t len = 0;
+    int32_t found = 0;
+    CHECK(ctfd_enumerator(list->types, (uint16_t)list->of, list->len++, text, sizeof text, &found,
+        &len) == CTFD_OK);
+    CHECK(found == value && len == strlen(name) && memcmp(text, name, len) == 0);
+    return 0;
+}
+
+/* The status by which a call has ended; those of libctf leave it in the file. */
+static enum ctfd_status ended(ctf_file_t *fp, long said)
+{
+    return said < 0 ? (enum ctfd_status)ctf_errno(fp) : CTFD_OK;
+}
+
+static void compare_lists(ctf_file_t *fp, struct ctfd *types, ctf_id_t t)
+{
+    struct ctfd_member member = { 0, 0, 0 };
+    struct list members = { types, t, 0 }, enumerators = { types, t, 0 };
+    uint64_t len = 0;
+    int32_t value = 0;
+    char text[8];
+    uint16_t to = 0;
+    if (ctfd_resolve(types, (uint16_t)t, &to) != CTFD_OK || to == 0)
+        return;
+    members.of = enumerators.of = to;
+    if (ended(fp, ctf_member_iter(fp, t, same_member, &members)) != CTFD_OK)
+        CHECK(ctf_errno(fp) == (int)ctfd_member(types, to, 0, text, 0, &member));
+    else
+        CHECK(ctfd_member(types, to, members.len, text, 0, &member) == CTFD_NO_MEMBER);
+    if (ended(fp, ctf_enum_iter(fp, t, same_enumerator, &enumerators)) != CTFD_OK)
+        CHECK(ctf_errno(fp) == (int)ctfd_enumerator(types, to, 0, text, 0, &value, &len));
+    else
+        CHECK(ctfd_enumerator(types, to, enumerators.len, text, 0, &value, &len) ==
+            CTFD_NO_MEMBER);
+}
+
+/* The first enumerator of a value and of a name, by looking at each. */
+static void compare_enumerators(ctf_file_t *fp, struct ctfd *types, ctf_id_t t)
+{
+    static const char *const names[] = { "", "a", "b", "c", "d" };
+    int32_t value = 0;
+    int wanted;
+    uint64_t len = 0;
+    unsigned i, asked = below(10);
+    char text[8];
+    enum ctfd_status status;
+    if (asked < 5) {
+        const char *name = ctf_enum_name(fp, t, (int)asked - 1);
+        for (i = 0; (status = ctfd_enumerator(types, (uint16_t)t, i, text, sizeof text, &value,
+                         &len)) == CTFD_OK && value != (int32_t)asked - 1; i++)
+            continue;
+        CHECK((name != NULL) == (status == CTFD_OK) &&
+            (name != NULL ? strlen(name) == len && memcmp(name, text, len) == 0 :
+                            ctf_errno(fp) == (int)status));
+        return;
+    }
+    for (i = 0; (status = ctfd_enumerator(types, (uint16_t)t, i, text, sizeof text, &value,
+                     &len)) == CTFD_OK; i++) {
+        if (len == strlen(names[asked - 5]) && memcmp(text, names[asked - 5], len) == 0)
+            break;
+    }
+    CHECK(ended(fp, ctf_enum_value(fp, t, names[asked - 5], &wanted)) == status);
+    CHECK(status != CTFD_OK || wanted == value);
+}
+
+/* Sizes and alignments, which other data models change. */
+static void compare_sizes(ctf_file_t *fp, struct ctfd *types, ctf_id_t t)
+{
+    uint64_t bytes = 0;
+    enum ctfd_status status = ctfd_size(types, (uint16_t)t, &bytes);
+    ssize_t said = ctf_type_size(fp, t);
+    CHECK(ended(fp, said) == status && (status != CTFD_OK || (uint64_t)said == bytes));
+    status = ctfd_align(types, (uint16_t)t, &bytes);
+    said = ctf_type_align(fp, t);
+    CHECK(ended(fp, said) == status && (status != CTFD_OK || (uint64_t)said == bytes));
+}
+
+static void compare_details(ctf_file_t *fp, struct ctfd *types, ctf_id_t t)
+{
+    struct ctfd_encoding encoding;
+    struct ctfd_array array;
+    ctf_encoding_t own_encoding;
+    ctf_arinfo_t own_array;
+    ctf_funcinfo_t info;
+    ctf_id_t args[4] = { -1, -1, -1, -1 };
+    uint64_t len = 0;
+    uint16_t to = 0;
+    enum ctfd_status status = ctfd_encoding(types, (uint16_t)t, &encoding);
+    CHECK(ended(fp, ctf_type_encoding(fp, t, &own_encoding)) == status);
+    CHECK(status != CTFD_OK || (own_encoding.cte_format == encoding.encoding &&
+        own_encoding.cte_offset == encoding.offset && own_encoding.cte_bits == encoding.bits));
+    status = ctfd_array(types, (uint16_t)t, &array);
+    CHECK(ended(fp, ctf_array_info(fp, t, &own_array)) == status);
+    CHECK(status != CTFD_OK || (own_array.ctr_contents == array.contents &&
+        own_array.ctr_index == array.index && own_array.ctr_nelems == array.count));
+    status = ctfd_return(types, (uint16_t)t, &to);
+    CHECK(ended(fp, ctf_func_info_by_id(fp, t, &info)) == status);
+    CHECK(ended(fp, ctf_func_args_by_id(fp, t, 4, args)) == status);
+    if (status != CTFD_OK)
+        return;
+    CHECK(info.ctc_return == to && ctfd_length(types, (uint16_t)t, &len) == CTFD_OK &&
+        len == info.ctc_argc + info.ctc_flags);
+    CHECK(ctfd_argument(types, (uint16_t)t, 0, &to) == CTFD_OK && args[0] == to);
+}
+
+/* By names that look-ups know, and by one with blanks; what is found may have come to be known. */
+static void compare_found(ctf_file_t *fp, struct ctfd *types)
+{
+    static const char *const names[] = { "a", "b", "c", "struct a", "union b", "enum c", "a *",
+        "struct a *", "b **", "d", "" };
+    unsigned i;
+    for (i = 0; i < 2 * (sizeof names / sizeof names[0]); i++) {
+        const char *name = names[i / 2];
+        uint16_t t = 0;
+        enum ctfd_status status = ctfd_find(types, name, strlen(name), &t);
+        ctf_id_t found = ctf_lookup_by_name(fp, name);
+        CHECK(status == CTFD_OK ? found == t : found == CTF_ERR && ctf_errno(fp) == (int)status);
+    }
+    CHECK(ctf_lookup_by_name(fp, " struct   a ") == ctf_lookup_by_name(fp, "struct a"));
+}
+
+/* Each is asked again, since a first answer is kept. */
+static void compare_headers(ctf_file_t *fp, const struct made *made, bool is_ilp32)
+{
+    struct ctfd types = CTFD_NONE;
+    uint64_t place;
+    ctf_id_t t;
+    int turn;
+    CHECK(ctfd_open(&types, made->at, made->len, "", 0, "", 0, false, false, is_ilp32, &place) ==
+        CTFD_OK);
+    CHECK(ctf_setmodel(fp, is_ilp32 ? CTF_MODEL_ILP32 : CTF_MODEL_LP64) == 0);
+    compare_found(fp, &types);
+    for (t = 0; t <= (ctf_id_t)made->types + 1; t++) {
+        for (turn = 0; turn < 2; turn++) {
+            compare_sizes(fp, &types, t);
+            compare_details(fp, &types, t);
+            compare_lists(fp, &types, t);
+        }
+        for (turn = 0; turn < 6 && ctf_type_kind(fp, t) == CTF_K_ENUM; turn++)
+            compare_enumerators(fp, &types, t);
+    }
+    ctfd_close(&types);
+}
+
 /* ---- callbacks that make calls */
 
 struct inside {
@@ -328,13 +461,14 @@ static void walk(struct inside *in)
     ctf_id_t type = (ctf_id_t)below((uint32_t)in->types + 2);
     char text[64];
     int value = 0;
-    switch (below(7)) {
+    switch (below(8)) {
     case 0: (void)ctf_member_iter(in->fp, type, on_member, in); break;
     case 1: (void)ctf_enum_iter(in->fp, type, on_enumerator, in); break;
     case 2: (void)ctf_type_visit(in->fp, type, on_visit, in); break;
     case 3: (void)ctf_type_iter(in->fp, B_TRUE, on_type, in); break;
     case 4: (void)ctf_string_iter(in->fp, on_string, in); break;
     case 5: (void)ctf_type_cname(in->fp, type, text, below(sizeof text), "v"); break;
+    case 6: (void)ctf_enum_name(in->fp, type, 1); break;
     default: (void)ctf_enum_value(in->fp, type, "a", &value);
     }
 }
@@ -347,8 +481,9 @@ static void some_calls(struct made *made)
     char text[64];
     int error = 0;
     unsigned t;
-    ctf_file_t *fp = opened(made, &error), *more;
+    ctf_file_t *fp = open_made(made, &error), *more;
     struct inside in = { fp, (int)made->types, 3, 20 };
+    ctf_funcinfo_t info;
     if (fp == NULL) {
         CHECK(error == CTFD_MEMORY);
         return;
@@ -359,6 +494,10 @@ static void some_calls(struct made *made)
             CHECK(ctf_errno(fp) == CTFD_MEMORY || ctf_errno(fp) == CTFD_TOO_LONG);
         (void)ctf_member_iter(fp, t, on_member, &in);
         (void)ctf_enum_iter(fp, t, on_enumerator, &in);
+        if (ctf_enum_name(fp, t, 1) == NULL)
+            CHECK(ctf_errno(fp) != CTFD_OK);
+        (void)ctf_enum_value(fp, t, "a", NULL);
+        (void)ctf_func_info_by_id(fp, t, &info);
         (void)ctf_type_compat(fp, t, fp, 1);
     }
     more = ctf_dup(fp);
@@ -369,6 +508,7 @@ static void some_calls(struct made *made)
     ctf_close(more);
     (void)ctf_setmodel(fp, CTF_MODEL_ILP32);
     (void)ctf_lookup_by_name(fp, "const  struct a");
+    CHECK(ctf_lookup_by_name(fp, "a") == ctf_lookup_by_name(fp, "a"));
     ctf_close(fp);
 }
 
@@ -388,7 +528,8 @@ static void refuse_each(struct made *made)
 int main(int argc, char **argv)
 {
     unsigned i, rounds, accepted = 0;
-    static struct made left, right;
+    static uint8_t places[2][8192];
+    struct made left = { places[0], 0, 0 }, right = { places[1], 0, 0 };
     if (argc < 2)
         return 2;
     rounds = (unsigned)strtoul(argv[1], NULL, 10);
@@ -399,12 +540,14 @@ int main(int argc, char **argv)
         struct inside in = { NULL, 0, 0, 60 };
         make_dictionary(&left);
         make_dictionary(&right);
-        lfp = opened(&left, &error);
-        rfp = opened(&right, &error);
+        lfp = open_made(&left, &error);
+        rfp = open_made(&right, &error);
         if (lfp != NULL && rfp != NULL) {
             accepted++;
             compare_all(lfp, (int)left.types, lfp, (int)left.types);
             compare_all(lfp, (int)left.types, rfp, (int)right.types);
+            compare_headers(lfp, &left, false);
+            compare_headers(lfp, &left, true);
             in.fp = lfp;
             in.types = (int)left.types;
             for (calls = 0; calls < 10; calls++)

@@ -281,12 +281,21 @@ static Elf_Scn *linked_table(const struct file *file, Elf_Scn *section)
     return named(file, ".symtab");
 }
 
+/* The table that a label names. There is none where the dictionary has the names of its symbols
+ * itself: these have no numbers in the file. */
+static Elf_Scn *told_table(const struct file *file, const struct told *told)
+{
+    if (strcmp(told->table, ".symtab") != 0 && strcmp(told->table, ".dynsym") != 0)
+        return NULL;
+    return named(file, told->table);
+}
+
 /* A file whose symbols are others than the dictionary's has none that could be told of. */
 static int find_symbols(const struct file *file, Elf_Scn *section, struct ctfd_elf_lists *lists)
 {
     struct told told;
     bool is_told = find_label(&lists->ctf, &told);
-    Elf_Scn *table = is_told ? named(file, told.table) : linked_table(file, section);
+    Elf_Scn *table = is_told ? told_table(file, &told) : linked_table(file, section);
     int error;
     if (table == NULL)
         return 0;

@@ -33,6 +33,7 @@ ctf_file_t *ctfd__new(int *error)
     if (fp != NULL) {
         fp->uses = 1;
         fp->model = CTF_MODEL_LP64;
+        fp->generation = 1;
         if (ctfd__make_room(fp, 255))
             return fp;
         ctfd__free(fp);

@@ -1,6 +1,6 @@
 /* known.c - what was asked of a type before is answered from memory: its kind, whether look-ups see
- * it, what it leads to and resolves to, and the pointer to it. Of refusals only that there is no
- * pointer is kept, and nothing past a change of what is open. */
+ * it, what it leads to and resolves to, the pointer to it, its size and its alignment. Of refusals
+ * only that there is no pointer is kept, and nothing past a change of what is open. */
 #include "private.h"
 
 #include <stdlib.h>
@@ -11,20 +11,23 @@ enum {
     IS_ROOT = 4,
     KNOWS_RESOLVED = 8,
     KNOWS_POINTER = 16,
-    KNOWS_REFERENCE = 32
+    KNOWS_REFERENCE = 32,
+    KNOWS_SIZE = 64,
+    KNOWS_ALIGN = 128
 };
 
 void ctfd__forget(ctf_file_t *fp)
 {
     size_t i;
+    fp->generation++;
+    ctfd__forget_details(fp);
     for (i = 0; i < sizeof fp->pages / sizeof fp->pages[0]; i++) {
         free(fp->pages[i]);
         fp->pages[i] = NULL;
     }
 }
 
-/* The page of a type, or NULL: then nothing is kept. */
-static struct ctfd__page *page_of(ctf_file_t *fp, uint16_t t)
+struct ctfd__page *ctfd__page(ctf_file_t *fp, uint16_t t)
 {
     struct ctfd__page *page = fp->pages[t >> 8];
     if (page == NULL)
@@ -41,7 +44,7 @@ enum ctfd_status ctfd__kind(ctf_file_t *fp, uint16_t t, uint32_t *kind)
         return CTFD_OK;
     }
     status = ctfd_kind(&fp->types, t, kind);
-    if (status == CTFD_OK && (page = page_of(fp, t)) != NULL) {
+    if (status == CTFD_OK && (page = ctfd__page(fp, t)) != NULL) {
         page->kinds[t & 255] = (uint8_t)*kind;
         page->known[t & 255] |= KNOWS_KIND;
     }
@@ -57,7 +60,7 @@ enum ctfd_status ctfd__root(ctf_file_t *fp, uint16_t t, uint32_t *root)
         return CTFD_OK;
     }
     status = ctfd_root(&fp->types, t, root);
-    if (status == CTFD_OK && (page = page_of(fp, t)) != NULL)
+    if (status == CTFD_OK && (page = ctfd__page(fp, t)) != NULL)
         page->known[t & 255] |= (uint8_t)(KNOWS_ROOT | (*root != 0 ? IS_ROOT : 0));
     return status;
 }
@@ -71,7 +74,7 @@ enum ctfd_status ctfd__resolve(ctf_file_t *fp, uint16_t t, uint16_t *to)
         return CTFD_OK;
     }
     status = ctfd_resolve(&fp->types, t, to);
-    if (status == CTFD_OK && (page = page_of(fp, t)) != NULL) {
+    if (status == CTFD_OK && (page = ctfd__page(fp, t)) != NULL) {
         page->resolved[t & 255] = *to;
         page->known[t & 255] |= KNOWS_RESOLVED;
     }
@@ -87,7 +90,7 @@ enum ctfd_status ctfd__reference(ctf_file_t *fp, uint16_t t, uint16_t *to)
         return CTFD_OK;
     }
     status = ctfd_reference(&fp->types, t, to);
-    if (status == CTFD_OK && (page = page_of(fp, t)) != NULL) {
+    if (status == CTFD_OK && (page = ctfd__page(fp, t)) != NULL) {
         page->references[t & 255] = *to;
         page->known[t & 255] |= KNOWS_REFERENCE;
     }
@@ -105,9 +108,41 @@ enum ctfd_status ctfd__pointer(ctf_file_t *fp, uint16_t t, uint16_t *to)
         return CTFD_OK;
     }
     status = ctfd_pointer(&fp->types, t, to);
-    if ((status == CTFD_OK || status == CTFD_NOT_FOUND) && (page = page_of(fp, t)) != NULL) {
+    if ((status == CTFD_OK || status == CTFD_NOT_FOUND) && (page = ctfd__page(fp, t)) != NULL) {
         page->pointers[t & 255] = status == CTFD_OK ? *to : 0;
         page->known[t & 255] |= KNOWS_POINTER;
+    }
+    return status;
+}
+
+enum ctfd_status ctfd__size(ctf_file_t *fp, uint16_t t, uint64_t *bytes)
+{
+    struct ctfd__page *page = fp->pages[t >> 8];
+    enum ctfd_status status;
+    if (page != NULL && (page->known[t & 255] & KNOWS_SIZE) != 0) {
+        *bytes = page->sizes[t & 255];
+        return CTFD_OK;
+    }
+    status = ctfd_size(&fp->types, t, bytes);
+    if (status == CTFD_OK && *bytes <= UINT32_MAX && (page = ctfd__page(fp, t)) != NULL) {
+        page->sizes[t & 255] = (uint32_t)*bytes;
+        page->known[t & 255] |= KNOWS_SIZE;
+    }
+    return status;
+}
+
+enum ctfd_status ctfd__align(ctf_file_t *fp, uint16_t t, uint64_t *bytes)
+{
+    struct ctfd__page *page = fp->pages[t >> 8];
+    enum ctfd_status status;
+    if (page != NULL && (page->known[t & 255] & KNOWS_ALIGN) != 0) {
+        *bytes = page->aligns[t & 255];
+        return CTFD_OK;
+    }
+    status = ctfd_align(&fp->types, t, bytes);
+    if (status == CTFD_OK && *bytes <= UINT16_MAX && (page = ctfd__page(fp, t)) != NULL) {
+        page->aligns[t & 255] = (uint16_t)*bytes;
+        page->known[t & 255] |= KNOWS_ALIGN;
     }
     return status;
 }

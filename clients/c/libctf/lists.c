@@ -18,138 +18,138 @@ int ctf_member_info(ctf_file_t *fp, ctf_id_t type, const char *name,
     return 0;
 }
 
-/* A member by its number, with its name in the room. */
-static enum ctfd_status member_at(ctf_file_t *fp, uint16_t t, size_t i,
-    struct ctfd_member *out)
+/* The details of a type of which a call may be asked; NULL, and the error, for another. */
+static struct ctfd__details *details_of(ctf_file_t *fp, uint16_t t, bool is_of_enum)
 {
-    enum ctfd_status status;
-    do {
-        status = ctfd_member(&fp->types, t, i, fp->room, fp->room_len, out);
-        if (status != CTFD_OK || out->name_len < fp->room_len)
-            return status;
-    } while (ctfd__make_room(fp, out->name_len));
-    return CTFD_MEMORY;
+    struct ctfd__details *details = ctfd__details(fp, t);
+    if (details == NULL ||
+        (is_of_enum ? details->kind == CTFD_ENUM : ctfd__has_members(details)))
+        return details;
+    (void)ctfd__fail(fp, CTFD_WRONG_KIND);
+    return NULL;
+}
+
+/* An item by its number, with its name; `left` is false behind the last. NULL on an error, and
+ * behind the last. A callback may have changed what is open, so each is looked up anew. */
+static const struct ctfd__item *item_at(ctf_file_t *fp, uint16_t t, bool is_of_enum, uint32_t i,
+    bool *left)
+{
+    const struct ctfd__details *details = details_of(fp, t, is_of_enum);
+    *left = details == NULL || i < details->count;
+    if (details == NULL || !*left)
+        return NULL;
+    if (details->items[i].name == NULL && ctfd__keep_name(fp, t, i) == NULL)
+        return NULL;
+    return &details->items[i];
 }
 
 int ctf_member_iter(ctf_file_t *fp, ctf_id_t type, ctf_member_f *each, void *arg)
 {
-    size_t i;
+    const struct ctfd__item *item;
+    uint32_t i;
+    bool left;
     type = ctf_type_resolve(fp, type);
     if (type == CTF_ERR)
         return (int)CTF_ERR;
-    for (i = 0;; i++) {
-        struct ctfd_member out;
-        const char *name;
-        int said;
-        enum ctfd_status status = member_at(fp, (uint16_t)type, i, &out);
-        if (status == CTFD_NO_MEMBER)
-            return 0;
-        if (ctfd__done(fp, status) != 0 || (name = ctfd__kept(fp, (size_t)out.name_len)) == NULL)
-            return (int)CTF_ERR;
-        said = each(name, (ctf_id_t)out.type, (ulong_t)out.offset, arg);
+    for (i = 0; (item = item_at(fp, (uint16_t)type, false, i, &left)) != NULL; i++) {
+        int said = each(item->name, (ctf_id_t)item->type, (ulong_t)item->at, arg);
         if (said != 0)
             return said;
     }
+    return left ? (int)CTF_ERR : 0;
 }
 
-static int visit(ctf_file_t *fp, ctf_id_t type, ctf_visit_f *each, void *arg, const char *name,
-    ulong_t offset, int depth)
+/* Where a visit stands: a member's name, type and place. */
+struct visited {
+    const char *name;
+    ctf_id_t type;
+    ulong_t offset;
+    int depth;
+};
+
+static int visit(ctf_file_t *fp, struct visited at, ctf_visit_f *each, void *arg)
 {
-    size_t i;
-    int said, kind;
-    ctf_id_t resolved = ctf_type_resolve(fp, type);
-    if (resolved == CTF_ERR || (kind = ctf_type_kind(fp, resolved)) == (int)CTF_ERR)
+    const struct ctfd__item *item;
+    uint16_t resolved = 0;
+    uint32_t i, kind = 0;
+    bool left;
+    int said;
+    if (!ctfd__is_type(fp, at.type) ||
+        ctfd__done(fp, ctfd__resolve(fp, (uint16_t)at.type, &resolved)) != 0 ||
+        ctfd__done(fp, ctfd__kind(fp, resolved, &kind)) != 0)
         return (int)CTF_ERR;
-    said = each(name, type, offset, depth, arg);
-    if (said != 0 || (kind != CTF_K_STRUCT && kind != CTF_K_UNION))
+    said = each(at.name, at.type, at.offset, at.depth, arg);
+    if (said != 0 || (kind != CTFD_STRUCT && kind != CTFD_UNION))
         return said;
-    for (i = 0;; i++) {
-        struct ctfd_member out;
-        enum ctfd_status status = member_at(fp, (uint16_t)resolved, i, &out);
-        if (status == CTFD_NO_MEMBER)
-            return 0;
-        if (ctfd__done(fp, status) != 0 || (name = ctfd__kept(fp, (size_t)out.name_len)) == NULL)
-            return (int)CTF_ERR;
-        said = visit(fp, (ctf_id_t)out.type, each, arg, name, offset + (ulong_t)out.offset,
-            depth + 1);
+    for (i = 0; (item = item_at(fp, resolved, false, i, &left)) != NULL; i++) {
+        struct visited in = { item->name, (ctf_id_t)item->type, at.offset + (ulong_t)item->at,
+            at.depth + 1 };
+        said = visit(fp, in, each, arg);
         if (said != 0)
             return said;
     }
+    return left ? (int)CTF_ERR : 0;
 }
 
 int ctf_type_visit(ctf_file_t *fp, ctf_id_t type, ctf_visit_f *each, void *arg)
 {
-    return visit(fp, type, each, arg, "", 0, 0);
+    struct visited at = { "", type, 0, 0 };
+    return visit(fp, at, each, arg);
 }
 
-/* An enumerator by its number, with its name in the room. */
-static enum ctfd_status enumerator_at(ctf_file_t *fp, uint16_t t, size_t i,
-    int32_t *value, uint64_t *len)
+/* The value of an enumerator. */
+static int value_of(const struct ctfd__item *item)
 {
-    enum ctfd_status status;
-    do {
-        status = ctfd_enumerator(&fp->types, t, i, fp->room, fp->room_len, value, len);
-        if (status != CTFD_OK || *len < fp->room_len)
-            return status;
-    } while (ctfd__make_room(fp, *len));
-    return CTFD_MEMORY;
+    return (int)(int32_t)(uint32_t)item->at;
 }
 
 int ctf_enum_iter(ctf_file_t *fp, ctf_id_t type, ctf_enum_f *each, void *arg)
 {
-    size_t i;
+    const struct ctfd__item *item;
+    uint32_t i;
+    bool left;
     type = ctf_type_resolve(fp, type);
     if (type == CTF_ERR)
         return (int)CTF_ERR;
-    for (i = 0;; i++) {
-        uint64_t len = 0;
-        int32_t value = 0;
-        const char *name;
-        int said;
-        enum ctfd_status status = enumerator_at(fp, (uint16_t)type, i, &value, &len);
-        if (status == CTFD_NO_MEMBER)
-            return 0;
-        if (ctfd__done(fp, status) != 0 || (name = ctfd__kept(fp, (size_t)len)) == NULL)
-            return (int)CTF_ERR;
-        said = each(name, value, arg);
+    for (i = 0; (item = item_at(fp, (uint16_t)type, true, i, &left)) != NULL; i++) {
+        int said = each(item->name, value_of(item), arg);
         if (said != 0)
             return said;
     }
+    return left ? (int)CTF_ERR : 0;
 }
 
 /* The first name of a value; NULL where no enumerator has it. */
 const char *ctf_enum_name(ctf_file_t *fp, ctf_id_t type, int value)
 {
-    size_t i;
+    struct ctfd__details *details;
+    uint32_t i;
     type = ctf_type_resolve(fp, type);
-    if (type == CTF_ERR)
+    if (type == CTF_ERR || (details = details_of(fp, (uint16_t)type, true)) == NULL)
         return NULL;
-    for (i = 0;; i++) {
-        uint64_t len = 0;
-        int32_t found = 0;
-        if (ctfd__done(fp, enumerator_at(fp, (uint16_t)type, i, &found, &len)) != 0)
-            return NULL;
-        if (found == value)
-            return ctfd__kept(fp, (size_t)len);
-    }
+    i = ctfd__of_value(fp, details, (int32_t)value);
+    if (i < details->count && details->items[i].name != NULL)
+        return details->items[i].name;
+    if (i < details->count)
+        return ctfd__keep_name(fp, (uint16_t)type, i);
+    (void)ctfd__fail(fp, CTFD_NO_MEMBER);
+    return NULL;
 }
 
 int ctf_enum_value(ctf_file_t *fp, ctf_id_t type, const char *name, int *value)
 {
-    size_t i, wanted = strlen(name);
+    struct ctfd__details *details;
+    enum ctfd_status status;
+    uint32_t i = 0;
     type = ctf_type_resolve(fp, type);
-    if (type == CTF_ERR)
+    if (type == CTF_ERR || (details = details_of(fp, (uint16_t)type, true)) == NULL)
         return (int)CTF_ERR;
-    for (i = 0;; i++) {
-        uint64_t len = 0;
-        int32_t found = 0;
-        if (ctfd__done(fp, enumerator_at(fp, (uint16_t)type, i, &found, &len)) != 0)
-            return (int)CTF_ERR;
-        if (len == wanted && memcmp(fp->room, name, wanted) == 0) {
-            if (value != NULL)
-                *value = found;
-            return 0;
-        }
-    }
+    status = ctfd__of_name(fp, (uint16_t)type, details, name, &i);
+    if (status == CTFD_OK && i == details->count)
+        status = CTFD_NO_MEMBER;
+    if (ctfd__done(fp, status) != 0)
+        return (int)CTF_ERR;
+    if (value != NULL)
+        *value = value_of(&details->items[i]);
+    return 0;
 }
-

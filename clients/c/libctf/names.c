@@ -11,6 +11,8 @@ struct ctfd__text {
     struct ctfd__text *next;
     uint64_t hash;
     size_t len;
+    uint64_t found_in; /* the generation of what is open in which look-ups found `type` by it */
+    uint16_t type;
     char text[];
 };
 
@@ -61,10 +63,31 @@ static void sip_word(struct sip *it, uint64_t word)
     it->v0 ^= word;
 }
 
-static uint64_t hash_of(const struct ctfd__texts *texts, const char *text, size_t len)
+/* Takes a seed from the system, or, where it gives none, from where things lie in memory. */
+static void seed(struct ctfd__texts *texts)
 {
-    struct sip it = { texts->seed[0] ^ 0x736f6d6570736575, texts->seed[1] ^ 0x646f72616e646f6d,
-        texts->seed[0] ^ 0x6c7967656e657261, texts->seed[1] ^ 0x7465646279746573 };
+    texts->is_seeded = true;
+    if (getrandom(texts->seed, sizeof texts->seed, GRND_NONBLOCK) == sizeof texts->seed)
+        return;
+    texts->seed[0] = (uint64_t)(uintptr_t)texts;
+    texts->seed[1] = (uint64_t)(uintptr_t)&texts ^ (uint64_t)(uintptr_t)&seed;
+}
+
+static struct sip begun(struct ctfd__texts *texts)
+{
+    struct sip it;
+    if (!texts->is_seeded)
+        seed(texts);
+    it.v0 = texts->seed[0] ^ 0x736f6d6570736575;
+    it.v1 = texts->seed[1] ^ 0x646f72616e646f6d;
+    it.v2 = texts->seed[0] ^ 0x6c7967656e657261;
+    it.v3 = texts->seed[1] ^ 0x7465646279746573;
+    return it;
+}
+
+uint64_t ctfd__hash(struct ctfd__texts *texts, const char *text, size_t len)
+{
+    struct sip it = begun(texts);
     uint64_t word;
     size_t at;
     for (at = 0; at + 8 <= len; at += 8) {
@@ -82,15 +105,6 @@ static uint64_t hash_of(const struct ctfd__texts *texts, const char *text, size_
     return it.v0 ^ it.v1 ^ it.v2 ^ it.v3;
 }
 
-/* Takes a seed from the system, or, where it gives none, from where things lie in memory. */
-static void seed(struct ctfd__texts *texts)
-{
-    if (getrandom(texts->seed, sizeof texts->seed, GRND_NONBLOCK) == sizeof texts->seed)
-        return;
-    texts->seed[0] = (uint64_t)(uintptr_t)texts;
-    texts->seed[1] = (uint64_t)(uintptr_t)&texts ^ (uint64_t)(uintptr_t)&seed;
-}
-
 /* Makes twice as many heads, so that lists stay short. */
 static bool more_heads(struct ctfd__texts *texts)
 {
@@ -98,8 +112,6 @@ static bool more_heads(struct ctfd__texts *texts)
     struct ctfd__text **heads = (struct ctfd__text **)calloc(len, sizeof *heads);
     if (heads == NULL)
         return false;
-    if (texts->heads_len == 0)
-        seed(texts);
     for (i = 0; i < texts->heads_len; i++) {
         while (texts->heads[i] != NULL) {
             struct ctfd__text *moved = texts->heads[i];
@@ -115,39 +127,69 @@ static bool more_heads(struct ctfd__texts *texts)
     return true;
 }
 
-/* The text of a table, made where it is not there yet; NULL where there is no memory. */
-static const char *kept_in(struct ctfd__texts *texts, const char *text, size_t len)
+/* The text of a table, or NULL. */
+static struct ctfd__text *text_in(const struct ctfd__texts *texts, uint64_t hash, const char *text,
+    size_t len)
 {
-    struct ctfd__text *made;
+    struct ctfd__text *it = texts->heads[(size_t)hash & (texts->heads_len - 1)];
+    while (it != NULL && (it->hash != hash || it->len != len || memcmp(it->text, text, len) != 0))
+        it = it->next;
+    return it;
+}
+
+/* The text of a table, made where it is not there yet; NULL where there is no memory. */
+static struct ctfd__text *kept_in(struct ctfd__texts *texts, const char *text, size_t len)
+{
+    struct ctfd__text *made, **head;
     uint64_t hash;
-    size_t at;
     if (texts->count >= texts->heads_len && !more_heads(texts))
         return NULL;
-    hash = hash_of(texts, text, len);
-    at = (size_t)hash & (texts->heads_len - 1);
-    for (made = texts->heads[at]; made != NULL; made = made->next) {
-        if (made->hash == hash && made->len == len && memcmp(made->text, text, len) == 0)
-            return made->text;
-    }
+    hash = ctfd__hash(texts, text, len);
+    made = text_in(texts, hash, text, len);
+    if (made != NULL)
+        return made;
     made = (struct ctfd__text *)malloc(sizeof *made + len + 1);
     if (made == NULL)
         return NULL;
+    head = &texts->heads[(size_t)hash & (texts->heads_len - 1)];
     memcpy(made->text, text, len);
     made->text[len] = '\0';
     made->len = len;
     made->hash = hash;
-    made->next = texts->heads[at];
-    texts->heads[at] = made;
+    made->found_in = 0;
+    made->next = *head;
+    *head = made;
     texts->count++;
-    return made->text;
+    return made;
 }
 
 const char *ctfd__kept(ctf_file_t *fp, size_t len)
 {
-    const char *text = kept_in(&fp->texts, fp->room, len);
+    const struct ctfd__text *text = kept_in(&fp->texts, fp->room, len);
+    if (text != NULL)
+        return text->text;
+    (void)ctfd__fail(fp, CTFD_MEMORY);
+    return NULL;
+}
+
+/* ---- names that look-ups have found */
+
+uint16_t ctfd__found(ctf_file_t *fp, const char *name, size_t len)
+{
+    const struct ctfd__text *text;
+    if (len > CTFD_FOUND_LONGEST || fp->texts.heads_len == 0)
+        return 0;
+    text = text_in(&fp->texts, ctfd__hash(&fp->texts, name, len), name, len);
+    return text != NULL && text->found_in == fp->generation ? text->type : 0;
+}
+
+void ctfd__keep_found(ctf_file_t *fp, const char *name, size_t len, uint16_t t)
+{
+    struct ctfd__text *text = len > CTFD_FOUND_LONGEST ? NULL : kept_in(&fp->texts, name, len);
     if (text == NULL)
-        (void)ctfd__fail(fp, CTFD_MEMORY);
-    return text;
+        return;
+    text->type = t;
+    text->found_in = fp->generation;
 }
 
 void ctfd__free_texts(struct ctfd__texts *texts)

@@ -24,6 +24,7 @@ struct ctfd__texts {
     size_t heads_len;
     size_t count;
     uint64_t seed[2];
+    bool is_seeded;
 };
 
 /* What was handed in, which libctf's callers keep until they close. */
@@ -33,11 +34,38 @@ struct ctfd__lists {
     bool has[3];
 };
 
+/* A member with its offset in bits, an enumerator with its value, or an argument. Its name is kept
+ * once somebody has been told it, and is NULL before. */
+struct ctfd__item {
+    const char *name;
+    uint64_t at;
+    uint16_t type;
+};
+
+struct ctfd__index;
+
+/* What a type's record holds: of an integer, a float, an array, a function, a struct, a union or an
+ * enum, and its items. */
+struct ctfd__details {
+    uint32_t kind, count;
+    union {
+        struct ctfd_encoding encoding;
+        struct ctfd_array array;
+        uint16_t returned;
+    } is;
+    bool was_asked; /* for an enumerator by its value or name */
+    struct ctfd__index *by_value, *by_name;
+    struct ctfd__item items[];
+};
+
 /* What was found of 256 types; each answer is kept as it was given, or is not there yet. */
 struct ctfd__page {
+    struct ctfd__details *details[256];
     uint16_t resolved[256];
     uint16_t references[256];
     uint16_t pointers[256]; /* 0 where there is none */
+    uint16_t aligns[256];
+    uint32_t sizes[256];
     uint8_t kinds[256];
     uint8_t known[256];
 };
@@ -56,6 +84,8 @@ struct ctf_file {
     struct ctfd__lists lists;
     struct ctfd__texts texts;
     struct ctfd__page *pages[256];
+    size_t details_bytes;
+    uint64_t generation; /* counts changes of what is open, from 1 */
     uint64_t labels;
     char *room;
     size_t room_len;
@@ -97,6 +127,14 @@ HIDDEN bool ctfd__make_room(ctf_file_t *fp, uint64_t len);
 HIDDEN const char *ctfd__kept(ctf_file_t *fp, size_t len);
 HIDDEN void ctfd__free_texts(struct ctfd__texts *texts);
 
+/* A hash of a text that nobody outside can foresee. */
+HIDDEN uint64_t ctfd__hash(struct ctfd__texts *texts, const char *text, size_t len);
+
+/* The type that a look-up has found by a name as it stands, or 0; longer names are not kept. */
+#define CTFD_FOUND_LONGEST 255
+HIDDEN uint16_t ctfd__found(ctf_file_t *fp, const char *name, size_t len);
+HIDDEN void ctfd__keep_found(ctf_file_t *fp, const char *name, size_t len, uint16_t t);
+
 /* A call that writes a text, and a text that such a call wrote, kept; NULL where it is refused. */
 typedef enum ctfd_status ctfd__text_f(struct ctfd *types, char *text, size_t size, uint64_t *len);
 typedef enum ctfd_status ctfd__numbered_f(struct ctfd *types, uint32_t number, char *text,
@@ -109,13 +147,49 @@ HIDDEN const char *ctfd__declared(ctf_file_t *fp, uint16_t t);
 
 /* ---- known.c: answers that are asked again and again */
 
+/* The page of a type, or NULL: then nothing is kept. */
+HIDDEN struct ctfd__page *ctfd__page(ctf_file_t *fp, uint16_t t);
+
 /* Drops all of them, since what is open becomes another. */
 HIDDEN void ctfd__forget(ctf_file_t *fp);
 HIDDEN enum ctfd_status ctfd__kind(ctf_file_t *fp, uint16_t t, uint32_t *kind);
 HIDDEN enum ctfd_status ctfd__root(ctf_file_t *fp, uint16_t t, uint32_t *root);
 HIDDEN enum ctfd_status ctfd__resolve(ctf_file_t *fp, uint16_t t, uint16_t *to);
 HIDDEN enum ctfd_status ctfd__reference(ctf_file_t *fp, uint16_t t, uint16_t *to);
+HIDDEN enum ctfd_status ctfd__size(ctf_file_t *fp, uint16_t t, uint64_t *bytes);
+HIDDEN enum ctfd_status ctfd__align(ctf_file_t *fp, uint16_t t, uint64_t *bytes);
 HIDDEN enum ctfd_status ctfd__pointer(ctf_file_t *fp, uint16_t t, uint16_t *to);
+
+/* ---- details.c: what records hold, read once */
+
+/* Reads those of a type; NULL and the error where they can't be read, or there are none. */
+HIDDEN struct ctfd__details *ctfd__read(ctf_file_t *fp, uint16_t t);
+
+/* Those of a type, until a callback is called or others are asked for. */
+static inline struct ctfd__details *ctfd__details(ctf_file_t *fp, uint16_t t)
+{
+    const struct ctfd__page *page = fp->pages[t >> 8];
+    struct ctfd__details *known = page != NULL ? page->details[t & 255] : NULL;
+    return known != NULL ? known : ctfd__read(fp, t);
+}
+
+/* Drops all of them. */
+HIDDEN void ctfd__forget_details(ctf_file_t *fp);
+
+/* Keeps the name of an item; NULL and the error where there is no memory. */
+HIDDEN const char *ctfd__keep_name(ctf_file_t *fp, uint16_t t, uint32_t i);
+
+static inline bool ctfd__has_members(const struct ctfd__details *details)
+{
+    return details->kind == CTFD_STRUCT || details->kind == CTFD_UNION;
+}
+
+/* ---- indexes.c: the first enumerator of a value or a name, by its number; the number of all where
+ * there is none */
+
+HIDDEN uint32_t ctfd__of_value(ctf_file_t *fp, struct ctfd__details *details, int32_t value);
+HIDDEN enum ctfd_status ctfd__of_name(ctf_file_t *fp, uint16_t t, struct ctfd__details *details,
+    const char *name, uint32_t *found);
 
 /* ---- files.c */
 

@@ -11,34 +11,44 @@ static bool is_symbol(ctf_file_t *fp, ulong_t symbol)
     return false;
 }
 
+/* The details of a function type; NULL, and the error, of another. */
+static const struct ctfd__details *function_of(ctf_file_t *fp, ctf_id_t type)
+{
+    const struct ctfd__details *details;
+    if (!ctfd__is_type(fp, type) || (details = ctfd__details(fp, (uint16_t)type)) == NULL)
+        return NULL;
+    if (details->kind == CTFD_FUNCTION)
+        return details;
+    (void)ctfd__fail(fp, CTFD_WRONG_KIND);
+    return NULL;
+}
+
 /* A last argument 0 says that more may follow. */
+static bool takes_more(const struct ctfd__details *details)
+{
+    return details->count != 0 && details->items[details->count - 1].type == 0;
+}
+
 int ctf_func_info_by_id(ctf_file_t *fp, ctf_id_t type, ctf_funcinfo_t *info)
 {
-    uint16_t t = (uint16_t)type, ret = 0, last = 0;
-    uint64_t count = 0;
-    if (!ctfd__is_type(fp, type) || ctfd__done(fp, ctfd_return(&fp->types, t, &ret)) != 0 ||
-        ctfd__done(fp, ctfd_length(&fp->types, t, &count)) != 0)
+    const struct ctfd__details *details = function_of(fp, type);
+    if (details == NULL)
         return (int)CTF_ERR;
-    if (count != 0 && ctfd__done(fp, ctfd_argument(&fp->types, t, count - 1, &last)) != 0)
-        return (int)CTF_ERR;
-    info->ctc_return = (ctf_id_t)ret;
-    info->ctc_flags = count != 0 && last == 0 ? CTF_FUNC_VARARG : 0;
-    info->ctc_argc = (uint_t)count - info->ctc_flags;
+    info->ctc_return = (ctf_id_t)details->is.returned;
+    info->ctc_flags = takes_more(details) ? CTF_FUNC_VARARG : 0;
+    info->ctc_argc = details->count - info->ctc_flags;
     return 0;
 }
 
 int ctf_func_args_by_id(ctf_file_t *fp, ctf_id_t type, uint_t argc, ctf_id_t *argv)
 {
-    ctf_funcinfo_t info;
-    uint_t i;
-    if (ctf_func_info_by_id(fp, type, &info) != 0)
+    const struct ctfd__details *details = function_of(fp, type);
+    uint_t i, count;
+    if (details == NULL)
         return (int)CTF_ERR;
-    for (i = 0; i < argc && i < info.ctc_argc; i++) {
-        uint16_t to = 0;
-        if (ctfd__done(fp, ctfd_argument(&fp->types, (uint16_t)type, i, &to)) != 0)
-            return (int)CTF_ERR;
-        argv[i] = (ctf_id_t)to;
-    }
+    count = details->count - takes_more(details);
+    for (i = 0; i < argc && i < count; i++)
+        argv[i] = (ctf_id_t)details->items[i].type;
     return 0;
 }
 

@@ -25,7 +25,7 @@ ssize_t ctf_type_size(ctf_file_t *fp, ctf_id_t type)
     enum ctfd_status status;
     if (!ctfd__is_type(fp, type))
         return (ssize_t)CTF_ERR;
-    status = ctfd_size(&fp->types, (uint16_t)type, &bytes);
+    status = ctfd__size(fp, (uint16_t)type, &bytes);
     return as_bytes(fp, status, bytes);
 }
 
@@ -35,7 +35,7 @@ ssize_t ctf_type_align(ctf_file_t *fp, ctf_id_t type)
     enum ctfd_status status;
     if (!ctfd__is_type(fp, type))
         return (ssize_t)CTF_ERR;
-    status = ctfd_align(&fp->types, (uint16_t)type, &bytes);
+    status = ctfd__align(fp, (uint16_t)type, &bytes);
     return as_bytes(fp, status, bytes);
 }
 
@@ -71,27 +71,27 @@ ctf_id_t ctf_type_pointer(ctf_file_t *fp, ctf_id_t type)
 
 int ctf_type_encoding(ctf_file_t *fp, ctf_id_t type, ctf_encoding_t *encoding)
 {
-    struct ctfd_encoding out;
-    if (!ctfd__is_type(fp, type))
+    const struct ctfd__details *details;
+    if (!ctfd__is_type(fp, type) || (details = ctfd__details(fp, (uint16_t)type)) == NULL)
         return (int)CTF_ERR;
-    if (ctfd__done(fp, ctfd_encoding(&fp->types, (uint16_t)type, &out)) != 0)
-        return (int)CTF_ERR;
-    encoding->cte_format = out.encoding;
-    encoding->cte_offset = out.offset;
-    encoding->cte_bits = out.bits;
+    if (details->kind != CTFD_INTEGER && details->kind != CTFD_FLOAT)
+        return (int)ctfd__fail(fp, CTFD_WRONG_KIND);
+    encoding->cte_format = details->is.encoding.encoding;
+    encoding->cte_offset = details->is.encoding.offset;
+    encoding->cte_bits = details->is.encoding.bits;
     return 0;
 }
 
 int ctf_array_info(ctf_file_t *fp, ctf_id_t type, ctf_arinfo_t *array)
 {
-    struct ctfd_array out;
-    if (!ctfd__is_type(fp, type))
+    const struct ctfd__details *details;
+    if (!ctfd__is_type(fp, type) || (details = ctfd__details(fp, (uint16_t)type)) == NULL)
         return (int)CTF_ERR;
-    if (ctfd__done(fp, ctfd_array(&fp->types, (uint16_t)type, &out)) != 0)
-        return (int)CTF_ERR;
-    array->ctr_contents = (ctf_id_t)out.contents;
-    array->ctr_index = (ctf_id_t)out.index;
-    array->ctr_nelems = out.count;
+    if (details->kind != CTFD_ARRAY)
+        return (int)ctfd__fail(fp, CTFD_WRONG_KIND);
+    array->ctr_contents = (ctf_id_t)details->is.array.contents;
+    array->ctr_index = (ctf_id_t)details->is.array.index;
+    array->ctr_nelems = details->is.array.count;
     return 0;
 }
 

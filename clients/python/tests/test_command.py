@@ -1,4 +1,6 @@
 """The command `ctfd-types`, run as a user would."""
+import os
+import subprocess
 import tempfile
 import unittest
 from pathlib import Path
@@ -41,6 +43,17 @@ class Command(unittest.TestCase):
     def test_all_types(self) -> None:
         lines = self.told(LUA).splitlines()
         self.assertEqual((len(lines), lines[3]), (526, "     4       24  struct __va_list_tag"))
+
+    def test_a_pipe_is_read_and_a_device_is_not(self) -> None:
+        with tempfile.TemporaryDirectory() as folder:
+            pipe = str(Path(folder, "pipe"))
+            os.mkfifo(pipe)
+            with subprocess.Popen(["cp", LUA, pipe]):
+                self.assertEqual(self.told(pipe, "struct lua_Debug"), DEBUG + "\n")
+        for device in ("/dev/zero", "/dev/null"):
+            self.assertEqual(self.refused(device).splitlines(), [
+                f"ctfd-types: {device}: it is no file with contents of its own, but a device or the"
+                " like, which is not read"])
 
     def test_a_function(self) -> None:
         beside = ("--symbols", str(EXAMPLES / "lua.sym"), "--strings", str(EXAMPLES / "lua.str"))

@@ -39,8 +39,8 @@ class Pipelines(WithService):
         before = signal.signal(signal.SIGALRM, interrupt)
         self.addCleanup(signal.signal, signal.SIGALRM, before)
         for number in range(40):
-            signal.setitimer(signal.ITIMER_REAL, 0.001 + 0.0007 * number)
             with self.assertRaises(Interrupted):
+                signal.setitimer(signal.ITIMER_REAL, 0.001 + 0.0007 * number)
                 self.ask_for_ever(slot)
             try:
                 told = self.session.ask("kind", d=slot, t=30)

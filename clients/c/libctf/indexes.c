@@ -1,0 +1,164 @@
+/* indexes.c - enumerators by their values and names. The first question is answered by looking at
+ * each; the second makes an index, by hashes that nobody outside can foresee. */
+#include "private.h"
+
+#include <stdlib.h>
+#include <string.h>
+
+/* How much of a name its hash is of: names may be long, and lie in one another. */
+#define HASHED 255
+
+/* Lists of enumerators whose hashes begin alike; numbers count from 1, and 0 is none. The numbers
+ * of the first of each list stand behind the entries. */
+struct ctfd__index {
+    uint32_t mask;
+    struct entry {
+        uint32_t hash;
+        uint32_t next;
+    } entries[];
+};
+
+static uint32_t *heads_of(struct ctfd__index *index, uint32_t count)
+{
+    return (uint32_t *)(void *)(index->entries + count);
+}
+
+/* One with room for as many enumerators, or NULL. */
+static struct ctfd__index *new_index(ctf_file_t *fp, uint32_t count)
+{
+    uint32_t heads = 2;
+    size_t size;
+    struct ctfd__index *made;
+    while (heads < count)
+        heads *= 2;
+    size = sizeof *made + count * sizeof made->entries[0] + heads * sizeof(uint32_t);
+    made = (struct ctfd__index *)calloc(1, size);
+    if (made == NULL)
+        return NULL;
+    made->mask = heads - 1;
+    fp->details_bytes += size;
+    return made;
+}
+
+/* Puts an enumerator in front of its list; the last goes first, so the first is found first. */
+static void put(struct ctfd__index *index, uint32_t count, uint32_t i, uint32_t hash)
+{
+    uint32_t *head = heads_of(index, count) + (hash & index->mask);
+    index->entries[i].hash = hash;
+    index->entries[i].next = *head;
+    *head = i + 1;
+}
+
+/* ---- by values */
+
+static uint32_t hash_of_value(ctf_file_t *fp, int32_t value)
+{
+    uint64_t hash = (uint64_t)(uint32_t)value * (fp->texts.seed[0] | 1);
+    return (uint32_t)(hash >> 32);
+}
+
+static struct ctfd__index *index_values(ctf_file_t *fp, const struct ctfd__details *details)
+{
+    uint32_t i;
+    struct ctfd__index *made = new_index(fp, details->count);
+    (void)ctfd__hash(&fp->texts, "", 0); /* there is a seed then */
+    for (i = details->count; made != NULL && i-- > 0;)
+        put(made, details->count, i, hash_of_value(fp, (int32_t)(uint32_t)details->items[i].at));
+    return made;
+}
+
+uint32_t ctfd__of_value(ctf_file_t *fp, struct ctfd__details *details, int32_t value)
+{
+    struct ctfd__index *index;
+    uint32_t i = 0, count = details->count;
+    if (details->was_asked && details->by_value == NULL)
+        details->by_value = index_values(fp, details);
+    details->was_asked = true;
+    index = details->by_value;
+    if (index == NULL) {
+        while (i < count && details->items[i].at != (uint32_t)value)
+            i++;
+        return i;
+    }
+    i = heads_of(index, count)[hash_of_value(fp, value) & index->mask];
+    while (i != 0 && details->items[i - 1].at != (uint32_t)value)
+        i = index->entries[i - 1].next;
+    return i != 0 ? i - 1 : count;
+}
+
+/* ---- by names */
+
+static uint32_t hash_of_name(ctf_file_t *fp, const char *name, uint64_t len)
+{
+    return (uint32_t)ctfd__hash(&fp->texts, name, len < HASHED ? (size_t)len : HASHED);
+}
+
+static struct ctfd__index *index_names(ctf_file_t *fp, uint16_t t, uint32_t count)
+{
+    char text[HASHED];
+    uint32_t i;
+    struct ctfd__index *made = new_index(fp, count);
+    for (i = count; made != NULL && i-- > 0;) {
+        uint64_t len = 0;
+        int32_t value = 0;
+        if (ctfd_enumerator(&fp->types, t, i, text, sizeof text, &value, &len) != CTFD_OK) {
+            free(made);
+            return NULL;
+        }
+        put(made, count, i, hash_of_name(fp, text, len));
+    }
+    return made;
+}
+
+/* Whether an enumerator has a name; there is room for as many bytes. */
+static enum ctfd_status is_named(ctf_file_t *fp, uint16_t t, uint32_t i, const char *name,
+    size_t wanted, bool *is)
+{
+    uint64_t len = 0;
+    int32_t value = 0;
+    enum ctfd_status status = ctfd_enumerator(&fp->types, t, i, fp->room, wanted, &value, &len);
+    *is = len == wanted && memcmp(fp->room, name, wanted) == 0;
+    return status;
+}
+
+/* Looks at each. */
+static enum ctfd_status scan_names(ctf_file_t *fp, uint16_t t, uint32_t count, const char *name,
+    size_t wanted, uint32_t *found)
+{
+    enum ctfd_status status = CTFD_OK;
+    bool is = false;
+    for (*found = 0; *found < count; ++*found) {
+        status = is_named(fp, t, *found, name, wanted, &is);
+        if (status != CTFD_OK || is)
+            break;
+    }
+    return status;
+}
+
+enum ctfd_status ctfd__of_name(ctf_file_t *fp, uint16_t t, struct ctfd__details *details,
+    const char *name, uint32_t *found)
+{
+    struct ctfd__index *index;
+    uint32_t i, hash, count = details->count;
+    size_t wanted = strlen(name);
+    if (!ctfd__make_room(fp, wanted))
+        return CTFD_MEMORY;
+    if (details->was_asked && details->by_name == NULL)
+        details->by_name = index_names(fp, t, count);
+    details->was_asked = true;
+    index = details->by_name;
+    if (index == NULL)
+        return scan_names(fp, t, count, name, wanted, found);
+    hash = hash_of_name(fp, name, wanted);
+    for (i = heads_of(index, count)[hash & index->mask]; i != 0; i = index->entries[i - 1].next) {
+        bool is = false;
+        enum ctfd_status status = CTFD_OK;
+        *found = i - 1;
+        if (index->entries[i - 1].hash == hash)
+            status = is_named(fp, t, i - 1, name, wanted, &is);
+        if (status != CTFD_OK || is)
+            return status;
+    }
+    *found = count;
+    return CTFD_OK;
+}

@@ -1,0 +1,206 @@
+/* Dictionaries that pass every rule and were made to cost much: what is asked of them costs a time
+ * that is linear in their bytes.
+ *
+ * usage: hostile               checks what ctf_type_compat answers of arrays in circles
+ *        hostile circle TYPES  compares two arrays of a circle of so many types less one
+ *        hostile names NAMES   lists so many enumerators, whose names have one hash
+ *
+ * With two words nothing is checked but that the answer is right: what it costs is counted from
+ * outside, of so many and of twice as many.
+ */
+#include "ctfd_libctf.h"
+
+#include "common.h"
+#include "made.h"
+
+#define ROOT 0x400
+#define INTEGER (CTF_K_INTEGER << 11 | ROOT)
+#define ARRAY (CTF_K_ARRAY << 11 | ROOT)
+#define ENUM (CTF_K_ENUM << 11 | ROOT)
+
+static void put_integer(struct made *made, uint32_t name)
+{
+    put_head(made, name, INTEGER, 4);
+    put32(made, 1u << 24 | 32);
+}
+
+static void put_array(struct made *made, unsigned contents, unsigned index)
+{
+    put_head(made, 0, ARRAY, 0);
+    put16(made, contents);
+    put16(made, index);
+    put32(made, 2);
+}
+
+static ctf_file_t *opened(const struct made *made)
+{
+    int error = 0;
+    ctf_file_t *fp = open_made(made, &error);
+    if (fp != NULL)
+        return fp;
+    puts(ctf_errmsg(error));
+    exit(2);
+}
+
+/* Two arrays, each of which is its own index: 100 bytes. */
+static void compare_with_themselves(void)
+{
+    static const char strings[] = "\0long long unsigned";
+    uint8_t place[128];
+    struct made made = { place, 0, 3 };
+    ctf_file_t *left, *right;
+    begin_made(&made);
+    put_integer(&made, 1);
+    put_array(&made, 1, 2);
+    put_array(&made, 1, 3);
+    end_made(&made, strings, sizeof strings);
+    CHECK(made.len == 100);
+    left = opened(&made);
+    right = opened(&made);
+    CHECK(ctf_type_compat(left, 2, left, 3) == 1);
+    CHECK(ctf_type_compat(left, 2, right, 2) == 1);
+    CHECK(ctf_type_compat(left, 2, right, 3) == 1);
+    CHECK(ctf_type_compat(left, 1, right, 2) == 0);
+    ctf_close(left);
+    ctf_close(right);
+}
+
+/* Each array has the one before as its contents and its index: 2 to the power of 500 ways. */
+static void compare_doubled(void)
+{
+    static const char strings[] = "\0int";
+    uint8_t place[16384];
+    struct made made = { place, 0, 501 };
+    ctf_file_t *left, *right;
+    unsigned i;
+    begin_made(&made);
+    put_integer(&made, 1);
+    for (i = 1; i < made.types; i++)
+        put_array(&made, i, i);
+    end_made(&made, strings, sizeof strings);
+    left = opened(&made);
+    right = opened(&made);
+    CHECK(ctf_type_compat(left, 501, right, 501) == 1);
+    CHECK(ctf_type_compat(left, 501, right, 500) == 0);
+    CHECK(ctf_type_compat(left, 501, left, 500) == 0);
+    ctf_close(left);
+    ctf_close(right);
+}
+
+/* A circle: the index of each array is the one behind it, and of the last the first. */
+static int compare_circle(unsigned types)
+{
+    static const char strings[] = "\0int";
+    struct made made = { (uint8_t *)malloc(types * 16 + 64), 0, types };
+    ctf_file_t *left, *right;
+    unsigned i;
+    int same;
+    if (made.at == NULL)
+        return 2;
+    begin_made(&made);
+    put_integer(&made, 1);
+    for (i = 2; i <= types; i++)
+        put_array(&made, 1, i < types ? i + 1 : 2);
+    end_made(&made, strings, sizeof strings);
+    left = opened(&made);
+    right = opened(&made);
+    same = ctf_type_compat(left, 2, left, 3) && ctf_type_compat(left, 2, right, types / 2);
+    ctf_close(left);
+    ctf_close(right);
+    free(made.at);
+    return !same;
+}
+
+/* ---- names that have one hash, where it is hash * 33 ^ byte and begins at 5381 */
+
+#define STEPS 16
+#define LETTERS 96
+
+static uint64_t stepped(uint64_t hash, const char *two)
+{
+    hash = hash * 33 ^ (unsigned char)two[0];
+    return hash * 33 ^ (unsigned char)two[1];
+}
+
+/* Two bytes, by a number below LETTERS squared. */
+static void two_of(unsigned number, char *two)
+{
+    two[0] = (char)(' ' + number / LETTERS);
+    two[1] = (char)(' ' + number % LETTERS);
+}
+
+/* Finds two pairs of bytes that lead from a hash to one other. */
+static uint64_t find_pairs(uint64_t hash, char pairs[2][2])
+{
+    unsigned l, r;
+    for (l = 0; l < LETTERS * LETTERS; l++) {
+        two_of(l, pairs[0]);
+        for (r = l + 1; r < LETTERS * LETTERS; r++) {
+            two_of(r, pairs[1]);
+            if (stepped(hash, pairs[0]) == stepped(hash, pairs[1]))
+                return stepped(hash, pairs[0]);
+        }
+    }
+    exit(2);
+}
+
+/* Writes so many of them, each with its zero byte. */
+static void put_names(char *strings, unsigned names)
+{
+    char pairs[STEPS][2][2];
+    uint64_t hash = 5381;
+    unsigned i, step;
+    for (step = 0; step < STEPS; step++)
+        hash = find_pairs(hash, pairs[step]);
+    for (i = 0; i < names; i++) {
+        for (step = 0; step < STEPS; step++, strings += 2)
+            memcpy(strings, pairs[step][i >> step & 1], 2);
+        *strings++ = '\0';
+    }
+}
+
+static int on_enumerator(const char *name, int value, void *arg)
+{
+    *(unsigned *)arg += name[0] != '\0' && value == 7;
+    return 0;
+}
+
+static int list_names(unsigned names)
+{
+    unsigned i, types = (names + CTF_MAX_VLEN - 1) / CTF_MAX_VLEN, listed = 0;
+    size_t len = 1 + (2 * STEPS + 1) * (size_t)names;
+    char *strings = (char *)calloc(1, len);
+    struct made made = { (uint8_t *)malloc(64 + 16 * names + len), 0, types };
+    ctf_file_t *fp;
+    if (strings == NULL || made.at == NULL || names > 1 << STEPS)
+        return 2;
+    put_names(strings + 1, names);
+    begin_made(&made);
+    for (i = 0; i < names; i++) {
+        unsigned left = names - i < CTF_MAX_VLEN ? names - i : CTF_MAX_VLEN;
+        if (i % CTF_MAX_VLEN == 0)
+            put_head(&made, 0, ENUM | left, 4);
+        put32(&made, 1 + (2 * STEPS + 1) * i);
+        put32(&made, 7);
+    }
+    end_made(&made, strings, len);
+    fp = opened(&made);
+    for (i = 1; i <= types; i++)
+        (void)ctf_enum_iter(fp, (ctf_id_t)i, on_enumerator, &listed);
+    ctf_close(fp);
+    free(strings);
+    free(made.at);
+    return listed != names;
+}
+
+int main(int argc, char **argv)
+{
+    unsigned count = argc > 2 ? (unsigned)strtoul(argv[2], NULL, 10) : 0;
+    if (argc > 2)
+        return strcmp(argv[1], "circle") == 0 ? compare_circle(count) : list_names(count);
+    compare_with_themselves();
+    compare_doubled();
+    CHECK(compare_circle(32766) == 0);
+    CHECK(list_names(51150) == 0);
+    return counted("hostile");
+}
