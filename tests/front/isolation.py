@@ -26,6 +26,8 @@ NAMES = ("base", "more", "x")
 FIRST_OF_OTHERS = 1_000_000
 EACH = 4
 LUA_TYPES = 526
+# Many clients with lines of 1 MB are no reason to close one here.
+ROOM = ("--memory", "2000000000", "--user-memory", "2000000000")
 
 
 class Client:
@@ -206,7 +208,7 @@ def wrong(client: Client) -> Iterator[str]:
 def main(count: int = 200, total: int = 100_000, seed: int = 1) -> int:
     chance, seen = random.Random(seed), Counter[str]()
     with tempfile.TemporaryDirectory() as folder:
-        front = Front(folder).started()
+        front = Front(folder, *ROOM).started()
         first = Talker(front.path)
         assert first.number() == 1
         clients = [Client(front.path) for _ in range(count)]

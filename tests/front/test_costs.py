@@ -33,7 +33,8 @@ class Costs(WithFront):
     def test_bytes_behind_half_a_line(self) -> None:
         front = self.front().started()
         talker, other = self.talker(front), self.talker(front)
-        cost = [drops(self, front, talker, other, start) for start in (b"", 1_000_000 * b" ")]
+        cost = [min(drops(self, front, talker, other, start) for _ in range(3))
+                for start in (b"", 1_000_000 * b" ")]
         print(f"a byte: {1e6 * cost[0]:.1f} us; behind 1 MB: {1e6 * cost[1]:.1f} us",
               file=sys.stderr)
         self.assertLess(cost[1] - cost[0], 20e-6)
