@@ -125,8 +125,7 @@ class Shares(WithFront):
         said = f"{len(waits)} waits, median {statistics.median(waits):.4f}," \
                f" worst {max(waits):.4f}, import {took:.4f}"
         print(said, file=sys.stderr)
-        # 20 ms; more where other work slows all down, as the dearest requests show
-        self.assertLess(statistics.median(waits), max(0.020, took / 4), said)
+        self.assertLess(statistics.median(waits), 0.020, said)
         self.assertLess(max(waits), 2 * took, said)
 
     def test_newcomer_is_not_behind_a_queue(self) -> None:
