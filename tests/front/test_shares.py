@@ -97,14 +97,14 @@ class Shares(WithFront):
         """
         for tries_left in (2, 1, 0):
             try:
-                return self.small_questions_beside_imports()
+                return self.small_questions_beside_imports(self.front(path=f"{tries_left}.sock"))
             except AssertionError as why:
                 if not tries_left:
                     raise
                 print(f"again, since {why}", file=sys.stderr)
 
-    def small_questions_beside_imports(self) -> None:
-        front = self.front().started()
+    def small_questions_beside_imports(self, front: Front) -> None:
+        front.started()
         dear, others = self.talker(front), [self.talker(front) for _ in range(49)]
         made_dear(dear)
         for other in others:
