@@ -11,7 +11,7 @@ use Rattle.ctf_model.specs.format.Spelling.{member_of}
 use Rattle.ctf_model.specs.format.Term.{Member}
 use Rattle.ctf_sections.specs.ShortNames.{is_named}
 use Rattle.ctf_views.specs.Missing.{AreMissed, has_missed}
-use Rattle.ctf_views.specs.declared.missed.Missed.{Missed}
+use Rattle.ctf_views.specs.declared.miss_cache.MissCache.{MissCache}
 
 pub none_of : (n r : ℕ) → list_any (λ y. option_eq nat_eq y (Some r)) (replicate n None) ≡ false
 none_of zero r = refl
@@ -54,7 +54,7 @@ pub named_as : (size : ℕ) (t : Tables) (b text : List ℕ) (r : ℕ) (x : Bool
 named_as size t b text r x some e f = ap Some f ∙ ap (λ (n : ℕ). Some (is_named text (name t n))) e ∙ by_form size t b text (nat_lt size 8192) refl some
 
 -- one more does not name it either
-pub missed_more : (text : List ℕ) (t : Tables) (old new : Missed) (reference : ℕ) → AreMissed text t old → ((r : ℕ) → has_missed new r ≡ true → (r ≡ reference) ⊎ (has_missed old r ≡ true)) → is_named text (name t reference) ≡ false → AreMissed text t new
+pub missed_more : (text : List ℕ) (t : Tables) (old new : MissCache) (reference : ℕ) → AreMissed text t old → ((r : ℕ) → has_missed new r ≡ true → (r ≡ reference) ⊎ (has_missed old r ≡ true)) → is_named text (name t reference) ≡ false → AreMissed text t new
 unfolding AreMissed
 missed_more text t old new reference all more none = λ r e. by r (more r e)
   where
@@ -62,13 +62,13 @@ missed_more text t old new reference all more none = λ r e. by r (more r e)
     by r (inl f) = ap (λ (n : ℕ). is_named text (name t n)) f ∙ none
     by r (inr f) = all r f
 
-pub none_missed : (text : List ℕ) (t : Tables) (m : Missed) → ((r : ℕ) → has_missed m r ≡ false) → AreMissed text t m
+pub none_missed : (text : List ℕ) (t : Tables) (m : MissCache) → ((r : ℕ) → has_missed m r ≡ false) → AreMissed text t m
 unfolding AreMissed
 none_missed text t m h = λ r e. absurd (apart (sym (h r) ∙ e))
   where
     apart : false ≡ true → ⊥
     apart f = absurd cc
 
-pub is_missed : (text : List ℕ) (t : Tables) (m : Missed) (r : ℕ) → AreMissed text t m → has_missed m r ≡ true → false ≡ is_named text (name t r)
+pub is_missed : (text : List ℕ) (t : Tables) (m : MissCache) (r : ℕ) → AreMissed text t m → has_missed m r ≡ true → false ≡ is_named text (name t r)
 unfolding AreMissed
 is_missed text t m r all e = sym (all r e)

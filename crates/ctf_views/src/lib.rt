@@ -5,7 +5,7 @@ mod args;
 mod enumerators;
 mod labels;
 mod members;
-mod missed;
+mod miss_cache;
 mod parts;
 mod reading;
 mod row;

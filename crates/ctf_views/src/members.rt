@@ -9,7 +9,7 @@ ghost use Rattle.ctf_views.specs.ItemsView.{member};
 ghost use Rattle.ctf_views.specs.Lists.{AreGood, items_in};
 ghost use Rattle.ctf_views.specs.Missing.{AreMissed};
 
-use crate::missed::Missed;
+use crate::miss_cache::MissCache;
 use crate::row::Row;
 use crate::rows::{Rows, bytes_at};
 use ctf_model::TypeNum;
@@ -52,7 +52,7 @@ pub struct MemberRow<'a> {
 impl<'a> MemberRow<'a> {
     /// Whether the member that begins some bytes has a name. Where the name is long, what its
     /// reference was found not to name is not compared again.
-    fn is_named(&self, bytes: &[u8], name: &[u8], missed: &mut Missed) -> bool
+    fn is_named(&self, bytes: &[u8], name: &[u8], missed: &mut MissCache) -> bool
         requires inside { len_of_member self.now.size ≤ length bytes.now }
         requires good { IsSome (member_of self.now.size (tables self.now.strings) bytes.now) }
         requires missed { AreMissed name.now (tables self.now.strings) missed.old }
@@ -115,7 +115,7 @@ fn first_named(row: MemberRow<'_>, bytes: &[u8], count: usize, name: &[u8]) -> O
         (len_of_member row.entry.size) count bytes.now in
         option_and_then (slice_get members) result ≡ member_named name.now members }
 {
-    let mut missed = Missed::new();
+    let mut missed = MissCache::new();
     for index in 0..count {
         if row.is_named(bytes_at(row, bytes, count, index), name, &mut missed) {
             return Some(index);

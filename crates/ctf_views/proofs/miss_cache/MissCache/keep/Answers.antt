@@ -1,7 +1,7 @@
 use Rattle.std.proofs.Common.{◌%◌}
 use Rattle.ctf_views.specs.Missing.{has_missed}
 use Rattle.ctf_views.proofs.Misses.{set_has}
-use Rattle.ctf_views.proofs.missed.Missed.keep.Goals as goal
+use Rattle.ctf_views.proofs.miss_cache.MissCache.keep.Goals as goal
 
 pub returns : goal.returns
 unfolding has_missed

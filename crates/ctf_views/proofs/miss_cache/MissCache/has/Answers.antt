@@ -1,5 +1,5 @@
 use Rattle.ctf_views.specs.Missing.{has_missed}
-use Rattle.ctf_views.proofs.missed.Missed.has.Goals as goal
+use Rattle.ctf_views.proofs.miss_cache.MissCache.has.Goals as goal
 
 pub returns : goal.returns
 unfolding has_missed

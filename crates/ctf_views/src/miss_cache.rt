@@ -7,16 +7,16 @@ const MOST: usize = 64;
 
 /// The last few references that were found to name something else.
 #[derive(Drop)]
-pub(crate) struct Missed {
+pub(crate) struct MissCache {
     references: [Option<u32>; 64],
     next: usize,
 }
 
-impl Missed {
-    pub(crate) fn new() -> Missed
+impl MissCache {
+    pub(crate) fn new() -> MissCache
         ensures { (r : ℕ) → has_missed result r ≡ false }
     {
-        Missed {
+        MissCache {
             references: [None; 64],
             next: 0,
         }
