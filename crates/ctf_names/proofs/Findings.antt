@@ -7,16 +7,16 @@ use Rattle.ctf_model.specs.names.TypeNames.{Declaration, around, bare, declarati
 use Rattle.ctf_model.specs.spaces.Space.{Space, space_type}
 use Rattle.ctf_model.specs.declared.faults.Fault.{Fault}
 use Rattle.ctf_model.specs.declared.layers.Layer.{Layer}
-use Rattle.ctf_names.specs.Extents.{measured}
+use Rattle.ctf_names.specs.NameLengths.{measured}
 use Rattle.ctf_names.specs.KnownView.{AreRight}
 use Rattle.ctf_names.specs.Measuring.{IsMeasured}
-use Rattle.ctf_names.specs.declared.extents.Extent.{Extent}
+use Rattle.ctf_names.specs.declared.name_lengths.NameLengths.{NameLengths}
 use Rattle.ctf_names.specs.declared.measures.Measured.{Measured}
 use Rattle.ctf_names.proofs.Unrolls.{at_type, at_void}
 
 -- nothing is round it
-pub end_found : (s : Space) (n : ℕ) (x : Result Declaration Fault) (extent : Result Extent Fault) → ((k : ℕ) → declaration_within s (suc k) n ≡ x) → measured x ≡ extent → IsMeasured s n (record { layers = 0; extent = extent })
-end_found s n x extent all e = record {
+pub end_found : (s : Space) (n : ℕ) (x : Result Declaration Fault) (lengths : Result NameLengths Fault) → ((k : ℕ) → declaration_within s (suc k) n ≡ x) → measured x ≡ lengths → IsMeasured s n (record { layers = 0; lengths = lengths })
+end_found s n x lengths all e = record {
   same = λ k. all (k + 0) ∙ sym (all 0);
   right = ap measured (all 0) ∙ e;
 }
@@ -28,9 +28,9 @@ pub type_found : (s : Space) (n k : ℕ) → (n ≡ 0 → ⊥) → declaration_w
 type_found s n k ne = at_type s (suc k) k n (omega arith) ne
 
 -- a layer more
-pub round_found : (s : Space) (n t : ℕ) (layer : Layer) (m : Measured) (extent : Result Extent Fault) → ((k : ℕ) → declaration_within s (suc k) n ≡ around layer (declaration_within s k t)) → IsMeasured s t m
-    → ((x : Result Declaration Fault) → measured x ≡ m.extent → extent ≡ measured (around layer x)) → IsMeasured s n (record { layers = m.layers + 1; extent = extent })
-round_found s n t layer m extent step inside more =
+pub round_found : (s : Space) (n t : ℕ) (layer : Layer) (m : Measured) (lengths : Result NameLengths Fault) → ((k : ℕ) → declaration_within s (suc k) n ≡ around layer (declaration_within s k t)) → IsMeasured s t m
+    → ((x : Result Declaration Fault) → measured x ≡ m.lengths → lengths ≡ measured (around layer x)) → IsMeasured s n (record { layers = m.layers + 1; lengths = lengths })
+round_found s n t layer m lengths step inside more =
     let one : m.layers + 1 ≡ suc m.layers = omega arith in
     let here = step (suc m.layers) in
     record {
@@ -49,7 +49,7 @@ within s n t j layer m most step inside e = rw e (step (suc (j + m.layers)) ∙ 
 
 -- why there is no name
 pub no_name : (s : Space) (n t : ℕ) (layer : Layer) (m : Measured) (refused : Option Fault) → ((k : ℕ) → declaration_within s (suc k) n ≡ around layer (declaration_within s k t)) → IsMeasured s t m → m.layers ≤ 1026
-    → ((x : Result Declaration Fault) → measured x ≡ m.extent → IfSome refused (λ f. text_of_declaration (around layer x) ≡ Err f)) → IfSome refused (λ f. spelled_name s n ≡ Err f)
+    → ((x : Result Declaration Fault) → measured x ≡ m.lengths → IfSome refused (λ f. text_of_declaration (around layer x) ≡ Err f)) → IfSome refused (λ f. spelled_name s n ≡ Err f)
 no_name s n t layer m refused step inside few because =
     let most : longest_text ≡ suc (suc ((65534 - m.layers) + m.layers)) = omega (arith, few) in
     let all = ap text_of_declaration (within s n t (65534 - m.layers) layer m longest_text step inside most) in

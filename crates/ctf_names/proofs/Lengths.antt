@@ -1,40 +1,40 @@
--- Extents, a layer more at a time.
+-- Lengths of names, a layer more at a time.
 use Rattle.std.proofs.Common.{◌≡◌, ℕ, ◌+◌, ◌<◌, true, false, List, [], ◌∷◌, length, Option, None, refl, sym, ap, ◌∙◌, arith, length-append}
 use Rattle.std.specs.Prelude.{min}
 use Rattle.std.specs.List.{flat_map}
 use Rattle.ctf_model.specs.names.TypeNames.{Declaration, declared, past}
 use Rattle.ctf_model.specs.declared.layers.Layer.{Layer}
-use Rattle.ctf_names.specs.Extents.{extent_of, of_base, one_more}
+use Rattle.ctf_names.specs.NameLengths.{lengths_of, of_base, one_more}
 use Rattle.ctf_names.specs.Marks.{front, left, mark, marked_text, marks, right}
 use Rattle.ctf_names.specs.MarkSteps.{beyond}
-use Rattle.ctf_names.specs.declared.extents.Extent.{Extent}
+use Rattle.ctf_names.specs.declared.name_lengths.NameLengths.{NameLengths}
 use Rattle.ctf_names.specs.declared.marks.Mark.{Mark}
 use Rattle.ctf_names.proofs.MarkedText.{bare_length, declared_is, past_more, with_length}
 
--- ---- the parts of an extent
+-- ---- the parts of the lengths
 
 pub base_is : (name : List ℕ) (n : ℕ) → n ≡ min (0 + length name) 65537 → record { name = n; declarator = 0; below = None } ≡ of_base name
-unfolding extent_of
+unfolding lengths_of
 base_is name n e = rw e refl
 
-name_is : (d : Declaration) (inside : Extent) → inside ≡ extent_of d → inside.name ≡ min (length (flat_map front (marks false d.layers)) + length d.name) 65537
-unfolding extent_of
+name_is : (d : Declaration) (inside : NameLengths) → inside ≡ lengths_of d → inside.name ≡ min (length (flat_map front (marks false d.layers)) + length d.name) 65537
+unfolding lengths_of
 name_is d inside e = rw e refl
 
-declarator_is : (d : Declaration) (inside : Extent) → inside ≡ extent_of d → inside.declarator ≡ min (length (flat_map left (marks false d.layers)) + length (flat_map right (marks false d.layers))) 65537
-unfolding extent_of
+declarator_is : (d : Declaration) (inside : NameLengths) → inside ≡ lengths_of d → inside.declarator ≡ min (length (flat_map left (marks false d.layers)) + length (flat_map right (marks false d.layers))) 65537
+unfolding lengths_of
 declarator_is d inside e = rw e refl
 
-below_is : (d : Declaration) (inside : Extent) → inside ≡ extent_of d → inside.below ≡ past d.layers
-unfolding extent_of
+below_is : (d : Declaration) (inside : NameLengths) → inside ≡ lengths_of d → inside.below ≡ past d.layers
+unfolding lengths_of
 below_is d inside e = rw e refl
 
 all_three : (d : Declaration) (layer : Layer) (name declarator : ℕ) (below : Option Layer)
     → name ≡ min (length (flat_map front (marks false (layer ∷ d.layers))) + length d.name) 65537
     → declarator ≡ min (length (flat_map left (marks false (layer ∷ d.layers))) + length (flat_map right (marks false (layer ∷ d.layers)))) 65537
     → below ≡ past (layer ∷ d.layers)
-    → record { name = name; declarator = declarator; below = below } ≡ extent_of (one_more layer d)
-unfolding extent_of
+    → record { name = name; declarator = declarator; below = below } ≡ lengths_of (one_more layer d)
+unfolding lengths_of
 all_three d layer name declarator below a b c = rw (a, b, c) refl
 
 -- ---- a layer more
@@ -49,11 +49,11 @@ lefts_more m ms = length-append (left m) (flat_map left ms)
 rights_more : (m : Mark) (ms : List Mark) → length (flat_map right (m ∷ ms)) ≡ length (right m) + length (flat_map right ms)
 rights_more m ms = length-append (right m) (flat_map right ms)
 
-pub round_is : (layer : Layer) (d : Declaration) (inside : Extent) (m : Mark) (name declarator : ℕ) (below : Option Layer) → inside ≡ extent_of d → m ≡ mark false layer inside.below
+pub round_is : (layer : Layer) (d : Declaration) (inside : NameLengths) (m : Mark) (name declarator : ℕ) (below : Option Layer) → inside ≡ lengths_of d → m ≡ mark false layer inside.below
     → name ≡ min (inside.name + length (front m)) 65537
     → declarator ≡ min (inside.declarator + (length (left m) + length (right m))) 65537
     → below ≡ beyond layer inside.below
-    → record { name = name; declarator = declarator; below = below } ≡ extent_of (one_more layer d)
+    → record { name = name; declarator = declarator; below = below } ≡ lengths_of (one_more layer d)
 round_is layer d inside m name declarator below e is n sides b =
     let ms = marks false d.layers in
     let under = below_is d inside e in
@@ -74,7 +74,7 @@ whole_length : (layer : Layer) (d : Declaration) (m : Mark) → m ≡ mark true 
 whole_length layer d m is =
     ap length (declared_is (layer ∷ d.layers) d.name) ∙ ap (λ (x : Mark). length (marked_text (x ∷ marks false d.layers) d.name)) (sym is)
 
-pub bare_is : (layer : Layer) (d : Declaration) (inside : Extent) (m : Mark) (name declarator : ℕ) → inside ≡ extent_of d → m ≡ mark true layer inside.below
+pub bare_is : (layer : Layer) (d : Declaration) (inside : NameLengths) (m : Mark) (name declarator : ℕ) → inside ≡ lengths_of d → m ≡ mark true layer inside.below
     → name ≡ min (inside.name + length (front m)) 65537
     → declarator ≡ min (inside.declarator + (length (left m) + length (right m))) 65537
     → declarator ≡ 0
@@ -90,7 +90,7 @@ bare_is layer d inside m name declarator e is n sides none =
     let nothing : length (flat_map left (m ∷ ms)) + length (flat_map right (m ∷ ms)) ≡ 0 = omega (arith, sides, old_declarator, lefts, rights, none) in
     omega (arith, n, old_name, fronts, whole, bare_length (m ∷ ms) d.name nothing)
 
-pub with_is : (layer : Layer) (d : Declaration) (inside : Extent) (m : Mark) (name declarator one result : ℕ) → inside ≡ extent_of d → m ≡ mark true layer inside.below
+pub with_is : (layer : Layer) (d : Declaration) (inside : NameLengths) (m : Mark) (name declarator one result : ℕ) → inside ≡ lengths_of d → m ≡ mark true layer inside.below
     → name ≡ min (inside.name + length (front m)) 65537
     → declarator ≡ min (inside.declarator + (length (left m) + length (right m))) 65537
     → (declarator ≡ 0 → ⊥)

@@ -4,7 +4,7 @@ pub mod Bases
 pub mod Unrolling
 pub mod Marks
 pub mod MarkSteps
-pub mod Extents
+pub mod NameLengths
 pub mod Measuring
 pub mod KnownView
 pub mod Adding

@@ -6,7 +6,7 @@ ghost use Rattle.ctf_names.specs.Adding.{added};
 ghost use Rattle.ctf_names.specs.Measuring.{IsMeasured, IsStep};
 ghost use Rattle.ctf_space.specs.SpaceView.{space_of};
 
-use crate::extents::{around, of_base, refused};
+use crate::name_lengths::{around, of_base, refused};
 use crate::inside::{Base, Inside, found_inside, or_anon};
 use crate::measures::{Measured, Step};
 use crate::spelling::spell;
@@ -94,8 +94,8 @@ impl<'a> KnownNames<'a> {
             return None;
         }
         match self.step(number) {
-            Step::End(extent) => {
-                let end = Measured { layers: 0, extent };
+            Step::End(lengths) => {
+                let end = Measured { layers: 0, lengths };
                 self.keep(number, end);
                 Some(end)
             }
@@ -124,7 +124,7 @@ impl<'a> KnownNames<'a> {
         }
         let found = Measured {
             layers: inside.layers + 1,
-            extent: around(layer, inside.extent),
+            lengths: around(layer, inside.lengths),
         };
         self.keep(number, found);
         Some(found)
@@ -144,7 +144,7 @@ impl<'a> KnownNames<'a> {
         if inside.layers > MOST_LAYERS {
             return None;
         }
-        refused(layer, inside.extent)
+        refused(layer, inside.lengths)
     }
 
     /// Appends the name of the type with a number, as C spells it. On a refusal nothing is

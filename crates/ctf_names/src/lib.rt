@@ -1,7 +1,7 @@
 //! Names of types: as C spells them, and looked up.
 #![tactic(auto)]
 
-mod extents;
+mod name_lengths;
 mod finding;
 mod index;
 mod inside;

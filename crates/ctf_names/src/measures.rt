@@ -1,5 +1,5 @@
 //! What the name of a type comes to.
-use crate::extents::Extent;
+use crate::name_lengths::NameLengths;
 use ctf_model::{Fault, Layer, TypeNum};
 
 /// What a name comes to: how long its parts are, or why it has none; and how many layers are round
@@ -7,14 +7,14 @@ use ctf_model::{Fault, Layer, TypeNum};
 #[derive(Clone, Copy)]
 pub struct Measured {
     pub layers: u32,
-    pub extent: Result<Extent, Fault>,
+    pub lengths: Result<NameLengths, Fault>,
 }
 
 /// What a type is in its own name.
 #[derive(Clone, Copy)]
 pub enum Step {
     /// A name, or the fault that it ends by.
-    End(Result<Extent, Fault>),
+    End(Result<NameLengths, Fault>),
     /// A layer round another type.
     Round(Layer, TypeNum),
 }

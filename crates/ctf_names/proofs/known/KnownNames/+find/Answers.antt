@@ -6,7 +6,7 @@ use Rattle.ctf_names.proofs.known.KnownNames.+find.Goals as goal
 
 pub find_round-keep-requires : goal.find_round-keep-requires
 find_round-keep-requires n c =
-    subst (λ (s : Space). IsMeasured s c.args.number.0 (record { layers = c.in-Some.inside.layers + 1; extent = c.around.result })) (sym c.find.ensures.kept)
+    subst (λ (s : Space). IsMeasured s c.args.number.0 (record { layers = c.in-Some.inside.layers + 1; lengths = c.around.result })) (sym c.find.ensures.kept)
     (round_found c.args.self.now c.args.number.0 c.args.next.0 c.args.layer c.in-Some.inside c.around.result c.requires c.in-Some.ensures.right c.around.ensures)
 
 pub find_round-returns-clause-right : goal.find_round-returns-clause-right

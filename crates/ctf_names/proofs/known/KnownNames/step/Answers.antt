@@ -7,7 +7,7 @@ use Rattle.ctf_model.specs.spaces.Space.{Space}
 use Rattle.ctf_records.specs.RecordView.{tag_of}
 use Rattle.ctf_space.specs.SpaceView.{space_of}
 use Rattle.ctf_names.specs.Bases.{behind_tag}
-use Rattle.ctf_names.specs.Extents.{of_base}
+use Rattle.ctf_names.specs.NameLengths.{of_base}
 use Rattle.ctf_names.specs.Measuring.{IsMeasured, IsStep}
 use Rattle.ctf_names.specs.declared.measures.Step.TheVariants.{Round}
 use Rattle.ctf_names.proofs.FoundInside.{layer_found, name_found}
@@ -22,7 +22,7 @@ pub returns-in-Err : goal.returns-in-Err
 returns-in-Err c =
     let s = space_of c.self.inside.space in
     let n = c.args.number.0 in
-    subst (λ (x : Space). IsMeasured x n (record { layers = 0; extent = Err c.in-Err.fault })) c.self.view_is
+    subst (λ (x : Space). IsMeasured x n (record { layers = 0; lengths = Err c.in-Err.fault })) c.self.view_is
     (end_found s n (Err c.in-Err.fault) (Err c.in-Err.fault) (λ k. type_found s n k c.if-number-eq0.false ∙ ap (declaration_of (declaration_within s k)) (sym (rw c.in-Err.is at c.term.ensures))) refl)
 
 pub returns-in-Layer : goal.returns-in-Layer
@@ -39,7 +39,7 @@ returns-in-Name c =
     let n = c.args.number.0 in
     let tag = option_map tag_of c.in-Name.tag in
     let name = c.name.result.now in
-    subst (λ (x : Space). IsMeasured x n (record { layers = 0; extent = Ok c.of_base-in-Name.result })) c.self.view_is
+    subst (λ (x : Space). IsMeasured x n (record { layers = 0; lengths = Ok c.of_base-in-Name.result })) c.self.view_is
     (end_found s n (bare (behind_tag tag (or_anon name))) (Ok c.of_base-in-Name.result)
     (λ k. type_found s n k c.if-number-eq0.false ∙ ap (declaration_of (declaration_within s k)) (sym (rw c.in-Ok.is at c.term.ensures))
     ∙ name_found (declaration_within s k) (spelled c.in-Ok.found) (shape_seen c.shape.result) tag name c.shape.ensures c.name.ensures (sym (rw c.in-Name.is at c.found_inside.ensures)))

@@ -6,7 +6,7 @@ use Rattle.ctf_model.specs.names.TypeNames.{Declaration, past}
 use Rattle.ctf_model.specs.declared.faults.Fault.{Fault}
 use Rattle.ctf_model.specs.declared.layers.Layer.{Layer}
 use Rattle.ctf_names.specs.Marks.{front, left, marks, right}
-use Rattle.ctf_names.specs.declared.extents.Extent.{Extent}
+use Rattle.ctf_names.specs.declared.name_lengths.NameLengths.{NameLengths}
 
 -- a length, where all that are too long count alike
 abbrev pub counted : ℕ → ℕ
@@ -17,8 +17,8 @@ abbrev pub one_more : Layer → Declaration → Declaration
 one_more layer d = record { layers = layer ∷ d.layers; name = d.name }
 
 -- that of a declaration which is no outermost one
-unfoldable pub extent_of : Declaration → Extent
-extent_of d = record {
+unfoldable pub lengths_of : Declaration → NameLengths
+lengths_of d = record {
   name = counted (length (flat_map front (marks false d.layers)) + length d.name);
   declarator = counted (length (flat_map left (marks false d.layers))
       + length (flat_map right (marks false d.layers)));
@@ -26,10 +26,10 @@ extent_of d = record {
 }
 
 -- that of a name
-abbrev pub of_base : List ℕ → Extent
-of_base name = extent_of (record { layers = []; name = name })
+abbrev pub of_base : List ℕ → NameLengths
+of_base name = lengths_of (record { layers = []; name = name })
 
 -- that of what a type comes to
-abbrev pub measured : Result Declaration Fault → Result Extent Fault
-measured (Ok d) = Ok (extent_of d)
+abbrev pub measured : Result Declaration Fault → Result NameLengths Fault
+measured (Ok d) = Ok (lengths_of d)
 measured (Err fault) = Err fault

@@ -1,5 +1,5 @@
 use Rattle.ctf_names.proofs.Lengths.{round_is}
-use Rattle.ctf_names.proofs.extents.round.Goals as goal
+use Rattle.ctf_names.proofs.name_lengths.round.Goals as goal
 
 pub returns : goal.returns
 returns c d e =

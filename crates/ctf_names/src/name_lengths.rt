@@ -3,7 +3,7 @@ ghost use Rattle.std.specs.Prelude.{◌≡◌, [], ◌∷◌, IfSome, Result, Er
 ghost use Rattle.ctf_model.specs.declared.faults.Fault.{Fault as Refusal};
 ghost use Rattle.ctf_model.specs.names.TypeNames.{Declaration, around as round_of, declared, text_of_declaration};
 ghost use Rattle.ctf_names.specs.Bases.{base_text};
-ghost use Rattle.ctf_names.specs.Extents.{extent_of, measured, of_base as extent_of_base, one_more};
+ghost use Rattle.ctf_names.specs.NameLengths.{lengths_of, measured, of_base as lengths_of_base, one_more};
 
 use crate::inside::{Base, plus_base};
 use crate::marks::{first_beyond, mark_of};
@@ -14,7 +14,7 @@ use ctf_model::{Fault, Layer, placeless};
 /// How long the two parts of a text are that other layers are put round. A length above
 /// `LONGEST_TEXT` counts as `TOO_LONG`.
 #[derive(Clone, Copy)]
-pub struct Extent {
+pub struct NameLengths {
     /// The name, with the qualifiers in front of it.
     name: usize,
     /// The declarator.
@@ -23,23 +23,23 @@ pub struct Extent {
     below: Option<Layer>,
 }
 
-/// The extent of a name without layers.
-pub fn of_base(base: Base<'_>) -> Extent
-    ensures { result ≡ extent_of_base (base_text base.entry) }
+/// The lengths of a name without layers.
+pub fn of_base(base: Base<'_>) -> NameLengths
+    ensures { result ≡ lengths_of_base (base_text base.entry) }
 {
-    Extent {
+    NameLengths {
         name: plus_base(0, base),
         declarator: 0,
         below: None,
     }
 }
 
-/// The extent with a layer more.
-fn round(layer: Layer, inside: Extent) -> Extent
-    ensures { (d : Declaration) → inside ≡ extent_of d → result ≡ extent_of (one_more layer d) }
+/// The lengths with a layer more.
+fn round(layer: Layer, inside: NameLengths) -> NameLengths
+    ensures { (d : Declaration) → inside ≡ lengths_of d → result ≡ lengths_of (one_more layer d) }
 {
     let mark = mark_of(false, layer, inside.below);
-    Extent {
+    NameLengths {
         name: plus_front(inside.name, mark),
         declarator: plus_sides(inside.declarator, mark),
         below: first_beyond(layer, inside.below),
@@ -47,19 +47,19 @@ fn round(layer: Layer, inside: Extent) -> Extent
 }
 
 /// What a layer round a type comes to.
-pub fn around(layer: Layer, inside: Result<Extent, Fault>) -> Result<Extent, Fault>
+pub fn around(layer: Layer, inside: Result<NameLengths, Fault>) -> Result<NameLengths, Fault>
     ensures { (x : Result Declaration Refusal) → measured x ≡ inside
         → result ≡ measured (round_of layer x) }
 {
     match inside {
-        Ok(extent) => Ok(round(layer, extent)),
+        Ok(lengths) => Ok(round(layer, lengths)),
         Err(fault) => Err(fault),
     }
 }
 
 /// How long the text of a type is whose outermost layer is this one.
-fn whole_len(layer: Layer, inside: Extent) -> usize
-    ensures { (d : Declaration) → inside ≡ extent_of d
+fn whole_len(layer: Layer, inside: NameLengths) -> usize
+    ensures { (d : Declaration) → inside ≡ lengths_of d
         → result ≡ min (length (declared (layer ∷ d.layers) d.name [])) 65537 }
 {
     let mark = mark_of(true, layer, inside.below);
@@ -73,14 +73,14 @@ fn whole_len(layer: Layer, inside: Extent) -> usize
 }
 
 /// Why a layer round a type has no name, if that is so.
-pub fn refused(layer: Layer, inside: Result<Extent, Fault>) -> Option<Fault>
+pub fn refused(layer: Layer, inside: Result<NameLengths, Fault>) -> Option<Fault>
     ensures { (x : Result Declaration Refusal) → measured x ≡ inside
         → IfSome result (λ f. text_of_declaration (round_of layer x) ≡ Err f) }
 {
     match inside {
         Err(fault) => Some(fault),
-        Ok(extent) => {
-            if whole_len(layer, extent) > LONGEST_TEXT {
+        Ok(lengths) => {
+            if whole_len(layer, lengths) > LONGEST_TEXT {
                 Some(placeless(Fault::TOO_LONG))
             } else {
                 None

@@ -1,5 +1,5 @@
 use Rattle.ctf_names.proofs.Lengths.{bare_is, with_is}
-use Rattle.ctf_names.proofs.extents.whole_len.Goals as goal
+use Rattle.ctf_names.proofs.name_lengths.whole_len.Goals as goal
 
 pub returns-then-declarator-eq0 : goal.returns-then-declarator-eq0
 returns-then-declarator-eq0 c d e =
