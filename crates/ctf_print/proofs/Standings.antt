@@ -7,9 +7,9 @@ use Rattle.ctf_model.specs.spaces.Space.{Space, space_type}
 use Rattle.ctf_model.specs.format.Term.{Term}
 use Rattle.ctf_model.specs.spaces.TypeNumbers.{or_no_type}
 use Rattle.ctf_model.specs.values.Values.{shown_within}
-use Rattle.ctf_print.specs.KnownView.{AreRight}
+use Rattle.ctf_print.specs.ShowCacheView.{AreRight}
 use Rattle.ctf_print.specs.Standing.{StandsFor}
-use Rattle.ctf_print.specs.declared.known.Behind.{Behind}
+use Rattle.ctf_print.specs.declared.show_cache.Behind.{Behind}
 use Rattle.ctf_print.specs.Telling.{like, told_in, told_shown}
 use Rattle.ctf_print.proofs.Tellings.{type_shown}
 

@@ -1,6 +1,6 @@
 pub mod Finding
 pub mod ImageView
-pub mod KnownView
+pub mod ShowCacheView
 pub mod Placing
 pub mod Standing
 pub mod Telling

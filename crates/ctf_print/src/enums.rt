@@ -8,7 +8,7 @@ ghost use Rattle.ctf_print.specs.Telling.{said_size};
 ghost use Rattle.ctf_print.specs.Written.{Refused, written};
 
 use crate::integers::{put_signed, signed};
-use crate::known::Known;
+use crate::show_cache::ShowCache;
 use crate::numbers::{field, show_raw};
 use crate::text::Text;
 use ctf_model::{Fault, TypeNum};
@@ -52,7 +52,7 @@ pub fn show_enum(
     number: TypeNum,
     said: Option<u64>,
     enumerators: &Enumerators<'_>,
-    known: &mut Known<'_>,
+    known: &mut ShowCache<'_>,
     out: &mut Text,
 ) -> Result<(), Fault>
     requires { told_of known.old number.0 ≡ told.enum said enumerators.now }

@@ -5,7 +5,7 @@ ghost use Rattle.ctf_print.specs.Finding.{IsFound};
 ghost use Rattle.ctf_print.specs.ImageView.{shows, types_of};
 
 use crate::image::Image;
-use crate::known::Known;
+use crate::show_cache::ShowCache;
 use crate::telling::{Told, told_by};
 use ctf_model::{Fault, TypeNum, placeless};
 
@@ -45,7 +45,7 @@ pub fn find<'a>(
     image: &Image<'a>,
     number: TypeNum,
     nesting: u32,
-    known: &mut Known<'_>,
+    known: &mut ShowCache<'_>,
 ) -> Result<Found<'a>, Fault>
     requires known { known.old ≡ types_of image.now }
     ensures found { IfOk result (IsFound image.now nesting number.0) }

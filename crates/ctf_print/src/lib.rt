@@ -5,7 +5,7 @@ mod enums;
 mod found;
 mod image;
 mod integers;
-mod known;
+mod show_cache;
 mod numbers;
 mod places;
 mod showing;

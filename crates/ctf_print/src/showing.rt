@@ -7,7 +7,7 @@ ghost use Rattle.ctf_space.specs.SpaceView.{space_of};
 ghost use Rattle.ctf_print.specs.Written.{added};
 
 use crate::image::Image;
-use crate::known::Known;
+use crate::show_cache::ShowCache;
 use crate::text::Text;
 use crate::values::show_value;
 use ctf_layout::Layout;
@@ -42,7 +42,7 @@ pub fn show(
         memory,
     };
     let mut text = Text::new(alloc);
-    let mut known = Known::new(alloc, *space);
+    let mut known = ShowCache::new(alloc, *space);
     show_value(
         &image,
         number,

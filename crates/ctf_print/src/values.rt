@@ -16,7 +16,7 @@ use crate::enums::show_enum;
 use crate::found::{Found, find};
 use crate::image::Image;
 use crate::integers::{show_float, show_integer};
-use crate::known::Known;
+use crate::show_cache::ShowCache;
 use crate::numbers::show_raw;
 use crate::telling::Told;
 use crate::text::Text;
@@ -40,7 +40,7 @@ fn show_elements(
     array: ArrayInfo,
     at: u128,
     nesting: u32,
-    known: &mut Known<'_>,
+    known: &mut ShowCache<'_>,
     out: &mut Text,
 ) -> Result<(), Fault>
     requires known { known.old ≡ types_of image.now }
@@ -78,7 +78,7 @@ fn show_array(
     array: ArrayInfo,
     at: u128,
     nesting: u32,
-    known: &mut Known<'_>,
+    known: &mut ShowCache<'_>,
     out: &mut Text,
 ) -> Result<(), Fault>
     requires known { known.old ≡ types_of image.now }
@@ -101,7 +101,7 @@ fn show_member(
     member: Member<'_>,
     at: u128,
     nesting: u32,
-    known: &mut Known<'_>,
+    known: &mut ShowCache<'_>,
     out: &mut Text,
 ) -> Result<(), Fault>
     requires known { known.old ≡ types_of image.now }
@@ -123,7 +123,7 @@ fn show_each_member(
     members: &Members<'_>,
     at: u128,
     nesting: u32,
-    known: &mut Known<'_>,
+    known: &mut ShowCache<'_>,
     out: &mut Text,
 ) -> Result<(), Fault>
     requires known { known.old ≡ types_of image.now }
@@ -146,7 +146,7 @@ fn show_members(
     members: &Members<'_>,
     at: u128,
     nesting: u32,
-    known: &mut Known<'_>,
+    known: &mut ShowCache<'_>,
     out: &mut Text,
 ) -> Result<(), Fault>
     requires known { known.old ≡ types_of image.now }
@@ -168,7 +168,7 @@ fn show_told(
     image: &Image<'_>,
     found: &Found<'_>,
     at: u128,
-    known: &mut Known<'_>,
+    known: &mut ShowCache<'_>,
     out: &mut Text,
 ) -> Result<(), Fault>
     requires known { known.old ≡ types_of image.now }
@@ -212,7 +212,7 @@ pub fn show_value(
     number: TypeNum,
     at: u128,
     nesting: u32,
-    known: &mut Known<'_>,
+    known: &mut ShowCache<'_>,
     out: &mut Text,
 ) -> Result<(), Fault>
     requires known { known.old ≡ types_of image.now }

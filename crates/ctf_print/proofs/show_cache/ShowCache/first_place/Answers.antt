@@ -2,7 +2,7 @@ use Rattle.std.proofs.Common.{w64}
 use Rattle.std.proofs.Math.Facts.{to_z-of_z}
 use Rattle.ctf_print.specs.Placing.{IsPlaceOf}
 use Rattle.ctf_print.proofs.Placings.{is_place_of}
-use Rattle.ctf_print.proofs.known.Known.first_place.Goals as goal
+use Rattle.ctf_print.proofs.show_cache.ShowCache.first_place.Goals as goal
 
 pub returns-in-Some-clause-first : goal.returns-in-Some-clause-first
 unfolding IsPlaceOf

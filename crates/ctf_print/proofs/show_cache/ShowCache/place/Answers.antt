@@ -1,6 +1,6 @@
 use Rattle.ctf_space.specs.SpaceView.{space_of}
 use Rattle.ctf_print.proofs.Placings.{kept_more}
-use Rattle.ctf_print.proofs.known.Known.place.Goals as goal
+use Rattle.ctf_print.proofs.show_cache.ShowCache.place.Goals as goal
 
 pub invariant_of-self : goal.invariant_of-self
 invariant_of-self c =

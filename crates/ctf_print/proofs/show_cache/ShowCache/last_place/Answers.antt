@@ -2,7 +2,7 @@ use Rattle.std.proofs.Common.{◌∙◌, sym, ap, subst, rules, to_z, w64}
 use Rattle.std.proofs.Math.Facts.{to_z-of_z}
 use mir.Val.{SFits}
 use Rattle.ctf_print.specs.Placing.{IsPlaceOf}
-use Rattle.ctf_print.proofs.known.Known.last_place.Goals as goal
+use Rattle.ctf_print.proofs.show_cache.ShowCache.last_place.Goals as goal
 
 pub returns-then-last-value : goal.returns-then-last-value
 returns-then-last-value c =

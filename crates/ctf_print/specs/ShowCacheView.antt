@@ -5,8 +5,8 @@ use Rattle.std.specs.Ordering.{nat_cmp}
 use Rattle.ctf_model.specs.spaces.Space.{Space}
 use Rattle.ctf_print.specs.Placing.{AreKept, IsPlaceOf}
 use Rattle.ctf_print.specs.Standing.{StandsFor}
-use Rattle.ctf_print.specs.declared.known.Behind.{Behind}
-use Rattle.ctf_print.specs.declared.known.Sought.{Sought}
+use Rattle.ctf_print.specs.declared.show_cache.Behind.{Behind}
+use Rattle.ctf_print.specs.declared.show_cache.Sought.{Sought}
 use Rattle.ctf_print.specs.declared.places.Places.{Places}
 
 -- each type that is kept stands for the one that is kept with it

@@ -1,5 +1,5 @@
 use Rattle.ctf_print.proofs.Standings.{more_steps}
-use Rattle.ctf_print.proofs.known.Known.+find.Goals as goal
+use Rattle.ctf_print.proofs.show_cache.ShowCache.+find.Goals as goal
 
 pub keep-requires-2 : goal.keep-requires-2
 keep-requires-2 t c =

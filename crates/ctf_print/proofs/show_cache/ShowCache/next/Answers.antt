@@ -4,7 +4,7 @@ use Rattle.ctf_check.specs.TypedView.{spelled}
 use Rattle.ctf_space.specs.SpaceView.{space_of}
 use Rattle.ctf_print.specs.Standing.{StandsFor}
 use Rattle.ctf_print.proofs.Standings.{one_step}
-use Rattle.ctf_print.proofs.known.Known.next.Goals as goal
+use Rattle.ctf_print.proofs.show_cache.ShowCache.next.Goals as goal
 
 pub returns-in-As : goal.returns-in-As
 returns-in-As c =

@@ -43,7 +43,7 @@ pub struct Sought {
 /// values of enums stand, of those of which a value was looked for more than once; and the value
 /// that was looked for last.
 #[derive(Drop)]
-pub struct Known<'a> {
+pub struct ShowCache<'a> {
     space: Space<'a>,
     alloc: Global,
     behind: BTreeMap<u16, Behind>,
@@ -51,10 +51,10 @@ pub struct Known<'a> {
     last: Option<Sought>,
 }
 
-impl<'a> Model for Known<'a> {
+impl<'a> Model for ShowCache<'a> {
     ghost use Rattle.ctf_model.specs.spaces.Space.{Space as Types};
     ghost use Rattle.ctf_space.specs.SpaceView.{space_of};
-    ghost use Rattle.ctf_print.specs.KnownView.{IsRight};
+    ghost use Rattle.ctf_print.specs.ShowCacheView.{IsRight};
 
     ghost Value = { Types };
 
@@ -70,12 +70,12 @@ fn itself(number: TypeNum) -> Behind
     Behind { number, steps: 0 }
 }
 
-impl<'a> Known<'a> {
+impl<'a> ShowCache<'a> {
     /// Nothing is known yet.
-    pub fn new(alloc: Global, space: Space<'a>) -> Known<'a>
+    pub fn new(alloc: Global, space: Space<'a>) -> ShowCache<'a>
         ensures { result ≡ space_of space.entry }
     {
-        Known {
+        ShowCache {
             space,
             alloc,
             behind: BTreeMap::new(alloc),

@@ -1,7 +1,7 @@
 use Rattle.ctf_space.specs.SpaceView.{space_of}
 use Rattle.ctf_print.proofs.Placings.{none_kept}
 use Rattle.ctf_print.proofs.Standings.{none_known}
-use Rattle.ctf_print.proofs.known.Known.new.Goals as goal
+use Rattle.ctf_print.proofs.show_cache.ShowCache.new.Goals as goal
 
 pub invariant_of-result : goal.invariant_of-result
 invariant_of-result c =

@@ -3,7 +3,7 @@ use Rattle.std.proofs.Math.Facts.{to_z-of_z}
 use Rattle.std.specs.Option.{option_copied}
 use Rattle.ctf_space.specs.SpaceView.{space_of}
 use Rattle.ctf_print.proofs.Placings.{places_of}
-use Rattle.ctf_print.proofs.known.Known.look_for.Goals as goal
+use Rattle.ctf_print.proofs.show_cache.ShowCache.look_for.Goals as goal
 
 pub returns-in-Some-Some-clause-first : goal.returns-in-Some-Some-clause-first
 returns-in-Some-Some-clause-first c =
