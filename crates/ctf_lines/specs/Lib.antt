@@ -2,4 +2,4 @@ pub mod Commas
 pub mod Appending
 pub mod Fronts
 pub mod Putting
-pub mod Sheets
+pub mod LineBuffers

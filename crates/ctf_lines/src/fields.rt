@@ -5,44 +5,44 @@ ghost use Rattle.ctf_answers.specs.Singles.{entry_of};
 ghost use Rattle.ctf_answers.specs.Items.{item_of};
 ghost use Rattle.ctf_answers.specs.Fields.{field_of, value_of};
 
-use crate::papers::Paper;
+use crate::text_sinks::TextSink;
 use crate::series::{Series, put_series};
 use crate::singles::{put_entry, put_key, put_quoted, put_single};
 use ctf_answers::{Answer, Entry, Field, Item, Listed, Value};
 
 /// Puts an object of two parts on.
-fn put_two<P: Paper>(paper: &mut P, a: &Entry<'_>, b: &Entry<'_>)
-    ensures { P.Took paper.old (object_text (entry_of a.now ∷ entry_of b.now ∷ [])) paper.new }
+fn put_two<P: TextSink>(sink: &mut P, a: &Entry<'_>, b: &Entry<'_>)
+    ensures { P.Took sink.old (object_text (entry_of a.now ∷ entry_of b.now ∷ [])) sink.new }
 {
-    paper.put_one(b'{');
-    put_entry(paper, a);
-    paper.put_one(b',');
-    put_entry(paper, b);
-    paper.put_one(b'}');
+    sink.put_one(b'{');
+    put_entry(sink, a);
+    sink.put_one(b',');
+    put_entry(sink, b);
+    sink.put_one(b'}');
 }
 
 /// Puts an object of three parts on.
-fn put_three<P: Paper>(paper: &mut P, a: &Entry<'_>, b: &Entry<'_>, c: &Entry<'_>)
-    ensures { P.Took paper.old
-        (object_text (entry_of a.now ∷ entry_of b.now ∷ entry_of c.now ∷ [])) paper.new }
+fn put_three<P: TextSink>(sink: &mut P, a: &Entry<'_>, b: &Entry<'_>, c: &Entry<'_>)
+    ensures { P.Took sink.old
+        (object_text (entry_of a.now ∷ entry_of b.now ∷ entry_of c.now ∷ [])) sink.new }
 {
-    paper.put_one(b'{');
-    put_entry(paper, a);
-    paper.put_one(b',');
-    put_entry(paper, b);
-    paper.put_one(b',');
-    put_entry(paper, c);
-    paper.put_one(b'}');
+    sink.put_one(b'{');
+    put_entry(sink, a);
+    sink.put_one(b',');
+    put_entry(sink, b);
+    sink.put_one(b',');
+    put_entry(sink, c);
+    sink.put_one(b'}');
 }
 
 /// Puts an item on.
-fn put_item<P: Paper>(paper: &mut P, item: &Item<'_>)
-    ensures { P.Took paper.old (item_text (item_of item.now)) paper.new }
+fn put_item<P: TextSink>(sink: &mut P, item: &Item<'_>)
+    ensures { P.Took sink.old (item_text (item_of item.now)) sink.new }
 {
     match item {
-        Item::Bare(value) => put_single(paper, value),
-        Item::Two(a, b) => put_two(paper, a, b),
-        Item::Three(a, b, c) => put_three(paper, a, b, c),
+        Item::Bare(value) => put_single(sink, value),
+        Item::Two(a, b) => put_two(sink, a, b),
+        Item::Three(a, b, c) => put_three(sink, a, b, c),
     }
 }
 
@@ -56,37 +56,37 @@ impl<'a> Series for Listed<'a> {
         self.len()
     }
 
-    fn put_text<P: Paper>(&self, paper: &mut P, index: usize) {
-        put_item(paper, &self.get(index));
+    fn put_text<P: TextSink>(&self, sink: &mut P, index: usize) {
+        put_item(sink, &self.get(index));
     }
 }
 
 /// Puts the items of a list on.
-fn put_list<P: Paper>(paper: &mut P, items: &Listed<'_>)
-    ensures { P.Took paper.old (list_text items.now) paper.new }
+fn put_list<P: TextSink>(sink: &mut P, items: &Listed<'_>)
+    ensures { P.Took sink.old (list_text items.now) sink.new }
 {
-    paper.put_one(b'[');
-    put_series(paper, items);
-    paper.put_one(b']');
+    sink.put_one(b'[');
+    put_series(sink, items);
+    sink.put_one(b']');
 }
 
 /// Puts a field's value on.
-fn put_value<P: Paper>(paper: &mut P, value: Value<'_, '_>)
-    ensures { P.Took paper.old (value_text (value_of value.entry)) paper.new }
+fn put_value<P: TextSink>(sink: &mut P, value: Value<'_, '_>)
+    ensures { P.Took sink.old (value_text (value_of value.entry)) sink.new }
 {
     match value {
-        Value::One(value) => put_single(paper, &value),
-        Value::Many(items) => put_list(paper, items),
-        Value::Made(text) => put_quoted(paper, text),
+        Value::One(value) => put_single(sink, &value),
+        Value::Many(items) => put_list(sink, items),
+        Value::Made(text) => put_quoted(sink, text),
     }
 }
 
 /// Puts a field on.
-fn put_field<P: Paper>(paper: &mut P, field: Field<'_, '_>)
-    ensures { P.Took paper.old (field_text (field_of field.entry)) paper.new }
+fn put_field<P: TextSink>(sink: &mut P, field: Field<'_, '_>)
+    ensures { P.Took sink.old (field_text (field_of field.entry)) sink.new }
 {
-    put_key(paper, field.key);
-    put_value(paper, field.value);
+    put_key(sink, field.key);
+    put_value(sink, field.value);
 }
 
 impl<'a> Series for Answer<'a> {
@@ -99,7 +99,7 @@ impl<'a> Series for Answer<'a> {
         self.len()
     }
 
-    fn put_text<P: Paper>(&self, paper: &mut P, index: usize) {
-        put_field(paper, self.get(index));
+    fn put_text<P: TextSink>(&self, sink: &mut P, index: usize) {
+        put_field(sink, self.get(index));
     }
 }

@@ -1,7 +1,7 @@
 //! How long texts are.
 ghost use Rattle.std.specs.Prelude.{◌≡◌, ◌+◌, ◌≤◌, min};
 
-use crate::papers::Paper;
+use crate::text_sinks::TextSink;
 use crate::texts::TOO_LONG;
 
 /// How long the texts are that were put on, as far as the line of a reply may go.
@@ -36,7 +36,7 @@ impl Measure {
     }
 }
 
-impl Paper for Measure {
+impl TextSink for Measure {
     ghost use Rattle.ctf_lines.specs.Appending.{and_text};
     ghost use Rattle.ctf_lines.specs.Putting.{none_measured, both_measured};
 
@@ -71,7 +71,7 @@ impl Paper for Measure {
         };
     }
 
-    ghost nothing = { λ paper. none_measured paper.len paper.inside };
+    ghost nothing = { λ sink. none_measured sink.len sink.inside };
 
     ghost joined = { λ old mid new a b. both_measured old.len mid.len new.len a b };
 }

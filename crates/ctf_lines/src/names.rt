@@ -4,7 +4,7 @@ ghost use Rattle.ctf_lines.specs.Appending.{HasRoom, Appended};
 ghost use Rattle.ctf_model.specs.dumps.Texts.{is_plain as is_plain_byte, hex_digit as digit_of, hex_of_byte};
 ghost use Rattle.ctf_protocol.specs.lines.Text.{text_of_byte, text_of, hex_of};
 
-use crate::papers::Paper;
+use crate::text_sinks::TextSink;
 
 /// Whether a byte stands as itself.
 pub fn is_plain(byte: u8) -> bool
@@ -24,15 +24,15 @@ fn hex_digit(number: u8) -> u8
     }
 }
 
-fn put_byte<P: Paper>(paper: &mut P, byte: u8)
-    ensures { P.Took paper.old (text_of_byte byte) paper.new }
+fn put_byte<P: TextSink>(sink: &mut P, byte: u8)
+    ensures { P.Took sink.old (text_of_byte byte) sink.new }
 {
     if is_plain(byte) {
-        paper.put_one(byte);
+        sink.put_one(byte);
     } else {
         let high = hex_digit(byte / 16);
         let low = hex_digit(byte % 16);
-        paper.put(&[b'\\', b'\\', b'x', high, low]);
+        sink.put(&[b'\\', b'\\', b'x', high, low]);
     }
 }
 
@@ -68,36 +68,36 @@ fn is_plain_piece(piece: &[u8]) -> bool
 }
 
 /// Puts bytes on, one by one.
-fn put_bytes<P: Paper>(paper: &mut P, bytes: &[u8])
-    ensures { P.Took paper.old (text_of bytes.now) paper.new }
+fn put_bytes<P: TextSink>(sink: &mut P, bytes: &[u8])
+    ensures { P.Took sink.old (text_of bytes.now) sink.new }
 {
     for byte in bytes {
-        put_byte(paper, *byte);
+        put_byte(sink, *byte);
     }
 }
 
 /// Puts a part of a name on.
-fn put_piece<P: Paper>(paper: &mut P, piece: &[u8])
-    ensures { P.Took paper.old (text_of piece.now) paper.new }
+fn put_piece<P: TextSink>(sink: &mut P, piece: &[u8])
+    ensures { P.Took sink.old (text_of piece.now) sink.new }
 {
     if is_plain_piece(piece) {
-        paper.put(piece);
+        sink.put(piece);
     } else {
-        put_bytes(paper, piece);
+        put_bytes(sink, piece);
     }
 }
 
 /// Puts a name on. What stands behind a limit isn't looked at.
-pub fn put_name<P: Paper>(paper: &mut P, name: &[u8])
-    ensures { P.Took paper.old (text_of name.now) paper.new }
+pub fn put_name<P: TextSink>(sink: &mut P, name: &[u8])
+    ensures { P.Took sink.old (text_of name.now) sink.new }
 {
     let mut at = 0;
     while at < name.len() {
-        if paper.is_full() {
+        if sink.is_full() {
             return;
         }
         let end = name.len().min(at + PIECE);
-        put_piece(paper, &name[at..end]);
+        put_piece(sink, &name[at..end]);
         at = end;
     }
 }

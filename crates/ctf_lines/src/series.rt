@@ -3,7 +3,7 @@ ghost use Rattle.std.specs.Prelude.{◌≡◌, ◌<◌, ℕ, List, [], length, g
 ghost use Rattle.ctf_model.specs.dumps.Texts.{separated};
 ghost use Rattle.ctf_lines.specs.Commas.{comma_before};
 
-use crate::papers::Paper;
+use crate::text_sinks::TextSink;
 
 /// What stands in a line as texts with commas between them.
 pub trait Series {
@@ -14,29 +14,29 @@ pub trait Series {
         ensures { result ≡ length (texts self.now) };
 
     /// Puts one of them on.
-    fn put_text<P: Paper>(&self, paper: &mut P, index: usize)
+    fn put_text<P: TextSink>(&self, sink: &mut P, index: usize)
         requires { index < length (texts self.now) }
-        ensures { P.Took paper.old (get_or (texts self.now) index []) paper.new };
+        ensures { P.Took sink.old (get_or (texts self.now) index []) sink.new };
 }
 
 /// Puts on what stands before the text with a number.
-fn put_comma<P: Paper>(paper: &mut P, index: usize)
-    ensures { P.Took paper.old (comma_before index) paper.new }
+fn put_comma<P: TextSink>(sink: &mut P, index: usize)
+    ensures { P.Took sink.old (comma_before index) sink.new }
 {
     if index > 0 {
-        paper.put_one(b',');
+        sink.put_one(b',');
     }
 }
 
 /// Puts all on. What stands behind a limit isn't looked at.
-pub fn put_series<P: Paper, S: Series>(paper: &mut P, series: &S)
-    ensures { P.Took paper.old (separated (S.texts series.now)) paper.new }
+pub fn put_series<P: TextSink, S: Series>(sink: &mut P, series: &S)
+    ensures { P.Took sink.old (separated (S.texts series.now)) sink.new }
 {
     for index in 0..series.count() {
-        if paper.is_full() {
+        if sink.is_full() {
             return;
         }
-        put_comma(paper, index);
-        series.put_text(paper, index);
+        put_comma(sink, index);
+        series.put_text(sink, index);
     }
 }

@@ -5,7 +5,7 @@ ghost use Rattle.ctf_protocol.specs.lines.Text.{text_of, hex_of};
 ghost use Rattle.ctf_answers.specs.Singles.{single_of, entry_of};
 
 use crate::names::{are_plain, put_name};
-use crate::papers::Paper;
+use crate::text_sinks::TextSink;
 use crate::texts::{put_number, put_signed};
 use ctf_answers::{Entry, Single};
 
@@ -16,74 +16,74 @@ fn truth(value: bool) -> &'static str
 }
 
 /// Puts a value on.
-pub fn put_single<P: Paper>(paper: &mut P, value: &Single<'_>)
-    ensures { P.Took paper.old (single_text (single_of value.now)) paper.new }
+pub fn put_single<P: TextSink>(sink: &mut P, value: &Single<'_>)
+    ensures { P.Took sink.old (single_text (single_of value.now)) sink.new }
 {
     match value {
-        Single::Number(number) => put_number(paper, *number),
-        Single::Signed(number) => put_signed(paper, *number),
-        Single::Truth(value) => paper.put(truth(*value).as_bytes()),
-        Single::Word(word) => put_word(paper, *word),
-        Single::Text(text) => put_quoted(paper, *text),
-        Single::Bytes(bytes) => put_quoted_hex(paper, *bytes),
+        Single::Number(number) => put_number(sink, *number),
+        Single::Signed(number) => put_signed(sink, *number),
+        Single::Truth(value) => sink.put(truth(*value).as_bytes()),
+        Single::Word(word) => put_word(sink, *word),
+        Single::Text(text) => put_quoted(sink, *text),
+        Single::Bytes(bytes) => put_quoted_hex(sink, *bytes),
     }
 }
 
-fn put_word<P: Paper>(paper: &mut P, word: &str)
-    ensures { P.Took paper.old (quoted word.now) paper.new }
+fn put_word<P: TextSink>(sink: &mut P, word: &str)
+    ensures { P.Took sink.old (quoted word.now) sink.new }
 {
-    paper.put_between(b"\"", word.as_bytes(), b"\"");
+    sink.put_between(b"\"", word.as_bytes(), b"\"");
 }
 
 /// Puts a text on, with its quotes.
-pub fn put_quoted<P: Paper>(paper: &mut P, text: &[u8])
-    ensures { P.Took paper.old (quoted (text_of text.now)) paper.new }
+pub fn put_quoted<P: TextSink>(sink: &mut P, text: &[u8])
+    ensures { P.Took sink.old (quoted (text_of text.now)) sink.new }
 {
     if are_plain(text) {
-        paper.put_between(b"\"", text, b"\"");
+        sink.put_between(b"\"", text, b"\"");
     } else {
-        put_escaped(paper, text);
+        put_escaped(sink, text);
     }
 }
 
-fn put_escaped<P: Paper>(paper: &mut P, text: &[u8])
-    ensures { P.Took paper.old (quoted (text_of text.now)) paper.new }
+fn put_escaped<P: TextSink>(sink: &mut P, text: &[u8])
+    ensures { P.Took sink.old (quoted (text_of text.now)) sink.new }
 {
-    paper.put_one(b'"');
-    put_name(paper, text);
-    paper.put_one(b'"');
+    sink.put_one(b'"');
+    put_name(sink, text);
+    sink.put_one(b'"');
 }
 
-fn put_quoted_hex<P: Paper>(paper: &mut P, bytes: &[u8])
-    ensures { P.Took paper.old (quoted (hex_of bytes.now)) paper.new }
+fn put_quoted_hex<P: TextSink>(sink: &mut P, bytes: &[u8])
+    ensures { P.Took sink.old (quoted (hex_of bytes.now)) sink.new }
 {
-    paper.put_one(b'"');
-    paper.put_hex(bytes);
-    paper.put_one(b'"');
+    sink.put_one(b'"');
+    sink.put_hex(bytes);
+    sink.put_one(b'"');
 }
 
 /// Puts a key and its colon on. The keys of members are known as a whole.
-pub fn put_key<P: Paper>(paper: &mut P, key: &str)
-    ensures { P.Took paper.old (key_text key.now) paper.new }
+pub fn put_key<P: TextSink>(sink: &mut P, key: &str)
+    ensures { P.Took sink.old (key_text key.now) sink.new }
 {
     match key.as_bytes() {
-        b"name" => paper.put(b"\"name\":"),
-        b"type" => paper.put(b"\"type\":"),
-        b"offset" => paper.put(b"\"offset\":"),
-        _ => put_any_key(paper, key),
+        b"name" => sink.put(b"\"name\":"),
+        b"type" => sink.put(b"\"type\":"),
+        b"offset" => sink.put(b"\"offset\":"),
+        _ => put_any_key(sink, key),
     }
 }
 
-fn put_any_key<P: Paper>(paper: &mut P, key: &str)
-    ensures { P.Took paper.old (key_text key.now) paper.new }
+fn put_any_key<P: TextSink>(sink: &mut P, key: &str)
+    ensures { P.Took sink.old (key_text key.now) sink.new }
 {
-    paper.put_between(b"\"", key.as_bytes(), b"\":");
+    sink.put_between(b"\"", key.as_bytes(), b"\":");
 }
 
 /// Puts a part of an object on.
-pub fn put_entry<P: Paper>(paper: &mut P, entry: &Entry<'_>)
-    ensures { P.Took paper.old (entry_text (entry_of entry.now)) paper.new }
+pub fn put_entry<P: TextSink>(sink: &mut P, entry: &Entry<'_>)
+    ensures { P.Took sink.old (entry_text (entry_of entry.now)) sink.new }
 {
-    put_key(paper, entry.key);
-    put_single(paper, &entry.value);
+    put_key(sink, entry.key);
+    put_single(sink, &entry.value);
 }

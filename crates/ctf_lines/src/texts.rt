@@ -4,7 +4,7 @@ ghost use Rattle.ctf_model.specs.dumps.Texts.{signed_decimal};
 ghost use Rattle.ctf_lines.specs.Appending.{HasRoom, Appended};
 
 use crate::names::append_hex;
-use crate::papers::Paper;
+use crate::text_sinks::TextSink;
 use itoa::Buffer;
 use std::mem::replace;
 
@@ -37,7 +37,7 @@ fn append(out: &mut Vec<u8>, bytes: &[u8])
 }
 
 /// A line, to whose end a text is appended where there is room.
-impl Paper for Vec<u8> {
+impl TextSink for Vec<u8> {
     ghost use Rattle.ctf_lines.specs.Appending.{HasRoom, Appended};
     ghost use Rattle.ctf_lines.specs.Putting.{none_appended, both_appended};
 
@@ -84,38 +84,38 @@ fn digit(number: u64) -> u8
     b'0' + number as u8
 }
 
-fn put_two_digits<P: Paper>(paper: &mut P, number: u64)
+fn put_two_digits<P: TextSink>(sink: &mut P, number: u64)
     requires { (10 ≤ number) × (number < 100) }
-    ensures { P.Took paper.old (decimal number) paper.new }
+    ensures { P.Took sink.old (decimal number) sink.new }
 {
-    paper.put(&[digit(number / 10), digit(number % 10)]);
+    sink.put(&[digit(number / 10), digit(number % 10)]);
 }
 
-fn put_three_digits<P: Paper>(paper: &mut P, number: u64)
+fn put_three_digits<P: TextSink>(sink: &mut P, number: u64)
     requires { (100 ≤ number) × (number < 1000) }
-    ensures { P.Took paper.old (decimal number) paper.new }
+    ensures { P.Took sink.old (decimal number) sink.new }
 {
     let front = number / 10;
-    paper.put(&[digit(front / 10), digit(front % 10), digit(number % 10)]);
+    sink.put(&[digit(front / 10), digit(front % 10), digit(number % 10)]);
 }
 
 /// Puts a number on. Most are small.
-pub fn put_number<P: Paper>(paper: &mut P, number: u64)
-    ensures { P.Took paper.old (decimal number) paper.new }
+pub fn put_number<P: TextSink>(sink: &mut P, number: u64)
+    ensures { P.Took sink.old (decimal number) sink.new }
 {
     if number < 10 {
-        paper.put_one(digit(number));
+        sink.put_one(digit(number));
     } else if number < 100 {
-        put_two_digits(paper, number);
+        put_two_digits(sink, number);
     } else if number < 1000 {
-        put_three_digits(paper, number);
+        put_three_digits(sink, number);
     } else {
-        paper.put(Buffer::new().format(number).as_bytes());
+        sink.put(Buffer::new().format(number).as_bytes());
     }
 }
 
-pub fn put_signed<P: Paper>(paper: &mut P, value: i32)
-    ensures { P.Took paper.old (signed_decimal value) paper.new }
+pub fn put_signed<P: TextSink>(sink: &mut P, value: i32)
+    ensures { P.Took sink.old (signed_decimal value) sink.new }
 {
-    paper.put(Buffer::new().format(value).as_bytes())
+    sink.put(Buffer::new().format(value).as_bytes())
 }

@@ -7,9 +7,9 @@ ghost use Rattle.ctf_lines.specs.Appending.{Appended, IsAsBefore, Writes, and_te
 
 use crate::lines::ToLine;
 use crate::measures::Measure;
-use crate::papers::Paper;
+use crate::text_sinks::TextSink;
 use crate::series::put_series;
-use crate::sheets::Sheet;
+use crate::line_buffers::LineBuffer;
 use crate::texts::{LONGEST_REPLY, put_number};
 use ctf_answers::{Answer, Counts, Reply, Single};
 use ctf_protocol::{Fault, fault_name, placeless};
@@ -24,16 +24,16 @@ pub const SHORT_LINE: usize = 96;
 pub const SHORT_PASS: usize = 131_072;
 
 /// Puts the line of an object on.
-fn put_line<P: Paper>(paper: &mut P, under: &str, session: u32, fields: &Answer<'_>)
-    ensures { P.Took paper.old (object_line under.now session fields.now) paper.new }
+fn put_line<P: TextSink>(sink: &mut P, under: &str, session: u32, fields: &Answer<'_>)
+    ensures { P.Took sink.old (object_line under.now session fields.now) sink.new }
 {
-    paper.put(b"{\"");
-    paper.put(under.as_bytes());
-    paper.put(b"\":{");
-    put_series(paper, fields);
-    paper.put(b"},\"s\":");
-    put_number(paper, u64::from(session));
-    paper.put(b"}\n");
+    sink.put(b"{\"");
+    sink.put(under.as_bytes());
+    sink.put(b"\":{");
+    put_series(sink, fields);
+    sink.put(b"},\"s\":");
+    put_number(sink, u64::from(session));
+    sink.put(b"}\n");
 }
 
 /// The length of the line of an object, newline included; `TOO_LONG` for any that is longer than a
@@ -71,9 +71,9 @@ fn write_short(out: &mut Vec<u8>, session: u32, fields: &Answer<'_>) -> bool
 {
     let len = out.len();
     let empty = Vec::new(*out.allocator());
-    let mut sheet = Sheet::new(replace(out, empty), SHORT_PASS);
-    put_line(&mut sheet, "ok", session, fields);
-    let (lines, is_full) = sheet.into_parts();
+    let mut buffer = LineBuffer::new(replace(out, empty), SHORT_PASS);
+    put_line(&mut buffer, "ok", session, fields);
+    let (lines, is_full) = buffer.into_parts();
     *out = lines;
     if is_full {
         out.truncate(len);

@@ -5,7 +5,7 @@ use Rattle.ctf_lines.proofs.names.put_name.Given as goal
 abbrev pub invariant-loop-at : goal.invariant-loop-at
 invariant-loop-at g l = record {
   inside : l.at ≤ length l.name;
-  put : g.P.Paper.Took l.fn.paper (text_of (take l.at l.name)) l.paper;
+  put : g.P.TextSink.Took l.fn.sink (text_of (take l.at l.name)) l.sink;
 }
 
 abbrev pub decreases-loop-at : goal.decreases-loop-at

@@ -3,4 +3,4 @@ use Rattle.ctf_model.specs.dumps.Texts.{separated}
 use Rattle.ctf_lines.proofs.series.put_series.Given as goal
 
 abbrev pub invariant-loop-index : goal.invariant-loop-index
-invariant-loop-index g l = g.P.Paper.Took l.fn.paper (separated (take l.index (g.S.Series.texts l.series))) l.paper
+invariant-loop-index g l = g.P.TextSink.Took l.fn.sink (separated (take l.index (g.S.Series.texts l.series))) l.sink

@@ -3,4 +3,4 @@ use Rattle.ctf_lines.proofs.Walks.{as_text}
 use Rattle.ctf_lines.proofs.singles.put_word.Goals as goal
 
 pub returns : goal.returns
-returns g c = as_text (g.P.Paper.Took) (ap (λ (t : List ℕ). 34 ∷ (t ++ (34 ∷ []))) c.as_bytes.ensures.value) c.put_between.ensures
+returns g c = as_text (g.P.TextSink.Took) (ap (λ (t : List ℕ). 34 ∷ (t ++ (34 ∷ []))) c.as_bytes.ensures.value) c.put_between.ensures

@@ -6,4 +6,4 @@ use Rattle.ctf_lines.proofs.texts.put_number.Goals as goal
 pub returns-then-number-lt10 : goal.returns-then-number-lt10
 returns-then-number-lt10 g c =
     let one = ap (λ (b : ℕ). b ∷ []) c.digit.ensures ∙ sym (decimal_digit c.args.number c.if-number-lt10.true) in
-    as_text (g.P.Paper.Took) one c.put_one.ensures
+    as_text (g.P.TextSink.Took) one c.put_one.ensures

@@ -1,10 +1,10 @@
--- What is put on a sheet: room behind a list, of which no more than that is used.
+-- What is put on a buffer: room behind a list, of which no more than that is used.
 use Rattle.std.proofs.Common.{◌≡◌, ℕ, ◌+◌, ◌++◌, false, List, [], length, length-append, append_assoc, append-nil, refl, sym, ap, ◌∙◌, arith}
 use Rattle.std.specs.Prelude.{vec_capacity, vec_len}
-use Rattle.ctf_lines.specs.declared.sheets.Sheet.{Sheet}
+use Rattle.ctf_lines.specs.declared.line_buffers.LineBuffer.{LineBuffer}
 
--- a text was put on, where the sheet isn't full then; it never was, and the list was not moved
-pub record TakesIn (old : Sheet) (text : List ℕ) (new : Sheet) : Type 0 where
+-- a text was put on, where the buffer isn't full then; it never was, and the list was not moved
+pub record TakesIn (old : LineBuffer) (text : List ℕ) (new : LineBuffer) : Type 0 where
   pub capacity : vec_capacity new.out ≡ vec_capacity old.out
   pub behind : List ℕ
   pub kept : new.out.items ≡ old.out.items ++ behind
@@ -13,18 +13,18 @@ pub record TakesIn (old : Sheet) (text : List ℕ) (new : Sheet) : Type 0 where
   pub written : new.is_full ≡ false → behind ≡ text
   pub room : new.is_full ≡ false → new.room + length text ≡ old.room
 
-pub none_taken : (sheet : Sheet) → TakesIn sheet [] sheet
-none_taken sheet = record {
+pub none_taken : (buffer : LineBuffer) → TakesIn buffer [] buffer
+none_taken buffer = record {
   capacity = refl;
   behind = [];
-  kept = sym (append-nil sheet.out.items);
+  kept = sym (append-nil buffer.out.items);
   len = omega arith;
   open_before = λ e. e;
   written = λ e. refl;
   room = λ e. omega arith;
 }
 
-pub both_taken : (old mid new : Sheet) (a b : List ℕ) → TakesIn old a mid → TakesIn mid b new
+pub both_taken : (old mid new : LineBuffer) (a b : List ℕ) → TakesIn old a mid → TakesIn mid b new
     → TakesIn old (a ++ b) new
 both_taken old mid new a b first second = record {
   capacity = second.capacity ∙ first.capacity;

@@ -3,7 +3,7 @@ ghost use Rattle.std.specs.Prelude.{◌≡◌, ◌≤◌, ◌++◌, [], ◌∷�
 ghost use Rattle.ctf_protocol.specs.lines.Text.{hex_of};
 
 /// What texts are put on, one behind the other.
-pub trait Paper {
+pub trait TextSink {
     /// A text that was put on the first may have left the second.
     ghost Took: { Self → List ℕ → Self → Type 0 };
 
@@ -29,7 +29,7 @@ pub trait Paper {
         ensures { Took self.old (hex_of bytes.now) self.new };
 
     /// A text of no bytes leaves it as it is.
-    ghost nothing: { (paper : Self) → Took paper [] paper };
+    ghost nothing: { (sink : Self) → Took sink [] sink };
 
     /// Two texts, one behind the other, are one.
     ghost joined: { (old mid new : Self) → (a b : List ℕ)

@@ -3,28 +3,28 @@ ghost use Rattle.std.specs.Prelude.{◌≡◌, ◌+◌, ◌≤◌, ◌++◌, fal
 ghost use Rattle.ctf_lines.specs.Appending.{HasRoom, Appended};
 
 use crate::names::append_hex;
-use crate::papers::Paper;
+use crate::text_sinks::TextSink;
 use crate::texts::appended;
 use std::mem::replace;
 
 /// A list, and how many bytes may be put behind it. Where a text found no room, nothing more is
 /// told of what was put on.
 #[derive(Drop)]
-pub struct Sheet {
+pub struct LineBuffer {
     out: Vec<u8>,
     room: usize,
     is_full: bool,
     ghost inside: { vec_len out + room ≤ vec_capacity out },
 }
 
-impl Sheet {
+impl LineBuffer {
     /// Room for at most so many bytes.
-    pub fn new(out: Vec<u8>, most: usize) -> Sheet
+    pub fn new(out: Vec<u8>, most: usize) -> LineBuffer
         ensures out { result.out ≡ out }
         ensures room { (result.is_full ≡ false) × (result.room ≤ most) }
     {
         let room = most.min(out.capacity() - out.len());
-        Sheet {
+        LineBuffer {
             out,
             room,
             is_full: false,
@@ -39,8 +39,8 @@ impl Sheet {
     }
 }
 
-impl Paper for Sheet {
-    ghost use Rattle.ctf_lines.specs.Sheets.{TakesIn, none_taken, both_taken};
+impl TextSink for LineBuffer {
+    ghost use Rattle.ctf_lines.specs.LineBuffers.{TakesIn, none_taken, both_taken};
 
     ghost Took = { TakesIn };
 
