@@ -22,7 +22,7 @@ pub const MODEL_UNSAID: DataModel = DataModel::Lp64;
 /// What is kept of a dictionary beside it: the map of its symbols, and the tables that it has
 /// without a parent.
 #[derive(Drop)]
-pub(crate) struct Beside {
+pub(crate) struct Derived {
     symbols: SymbolMap,
     tables: Tables,
 }
@@ -34,7 +34,7 @@ pub(crate) struct Beside {
 #[derive(Drop)]
 pub struct Loaded {
     dictionary: Rc<Opened>,
-    beside: Rc<Beside>,
+    derived: Rc<Derived>,
 }
 
 impl Model for Loaded {
@@ -47,18 +47,18 @@ impl Model for Loaded {
 
     ghost view = { λ l. l.dictionary.value };
 
-    ghost invariant = { λ l. Fits l.dictionary.value.lists l.beside.value.symbols
-        × AreTablesOf l.dictionary.value None l.beside.value.tables };
+    ghost invariant = { λ l. Fits l.dictionary.value.lists l.derived.value.symbols
+        × AreTablesOf l.dictionary.value None l.derived.value.tables };
 }
 
 /// What is kept beside a dictionary.
-fn kept(alloc: Global, dictionary: &Opened) -> Result<Rc<Beside>, AllocError>
+fn kept(alloc: Global, dictionary: &Opened) -> Result<Rc<Derived>, AllocError>
     ensures mapped { IfOk result (λ k. Fits dictionary.now.lists k.value.symbols) }
     ensures made { IfOk result (λ k. AreTablesOf dictionary.now None k.value.tables) }
 {
     let symbols = SymbolMap::build(alloc, &dictionary.view())?;
     let tables = Tables::build(alloc, dictionary)?;
-    match Rc::new(alloc, Beside { symbols, tables }) {
+    match Rc::new(alloc, Derived { symbols, tables }) {
         Ok(kept) => Ok(kept),
         Err(_) => Err(AllocError),
     }
@@ -70,11 +70,11 @@ impl Loaded {
         ensures ok { IfOk result (λ l. l ≡ dictionary) }
         ensures back { IfErr result (λ d. d ≡ dictionary) }
     {
-        let Ok(beside) = kept(alloc, &dictionary) else {
+        let Ok(derived) = kept(alloc, &dictionary) else {
             return Err(dictionary);
         };
         match Rc::new(alloc, dictionary) {
-            Ok(dictionary) => Ok(Loaded { dictionary, beside }),
+            Ok(dictionary) => Ok(Loaded { dictionary, derived }),
             Err(failed) => Err(failed.value),
         }
     }
@@ -102,8 +102,8 @@ impl Loaded {
         ensures { IfOk result (λ l. l ≡ self.now) }
     {
         let dictionary = self.dictionary.clone()?;
-        let beside = self.beside.clone()?;
-        Ok(Loaded { dictionary, beside })
+        let derived = self.derived.clone()?;
+        Ok(Loaded { dictionary, derived })
     }
 
     /// The dictionary, shared once more, to be kept by a draft over it or by its own draft.
@@ -131,13 +131,13 @@ impl Loaded {
     pub fn symbols(&self) -> &SymbolMap
         ensures { Fits self.now.lists result.now }
     {
-        &self.beside.symbols
+        &self.derived.symbols
     }
 
     /// Its tables without a parent.
     pub fn tables(&self) -> &Tables
         ensures { AreTablesOf self.now None result.now }
     {
-        &self.beside.tables
+        &self.derived.tables
     }
 }
