@@ -9,7 +9,7 @@ use Rattle.std.proofs.lemmas.List.Folds.{concat-append}
 use Rattle.ctf_protocol.specs.lines.Lines.{whole_lines, last_piece, all_lines, if_not_empty, stored}
 use Rattle.ctf_wire.specs.Flushes.{after_pieces}
 use Rattle.ctf_wire.specs.Served.{Answers, BeginsWith, SentPiece, SentPart, all_of, AreFilled, Sent, SentFront, Sends, Serves, BrokenOff}
-use Rattle.ctf_wire.specs.Gathering.{Gathered, Gathers, Feeds, MakesRoom, Settles}
+use Rattle.ctf_wire.specs.Gathering.{Gathered, Gathers, Feeds, MakesRoom, FlushesBatch}
 use Rattle.ctf_wire.specs.Standing.{Stands, TakesIn, Finishes}
 use Rattle.ctf_wire.specs.Streams.{Pushed}
 use Rattle.ctf_wire.specs.declared.batch.Batch.{Batch}
@@ -165,10 +165,10 @@ Gathered-room {S} Step start machine sure lines batch batch_new a b c g (inr sen
     }
 
 -- nothing waits any more
-Gathered-settled : {S : Type 0} (Step : S → Option (List ℕ) → List ℕ → S → Type 0) (start machine : S) (sure : ℕ) (lines : List (List ℕ)) (batch : Batch) (a b c : Pushed)
-    → Gathered Step start sure lines machine batch a b → Settles batch b true c → Serves Step start lines machine a c
-Gathered-settled {S} Step start machine sure lines batch a b c g (inr sent) = Gathered-sent Step start machine sure lines batch a b c g sent.0 sent.1
-Gathered-settled {S} Step start machine sure lines batch a b c g (inl same) =
+Gathered-flushed : {S : Type 0} (Step : S → Option (List ℕ) → List ℕ → S → Type 0) (start machine : S) (sure : ℕ) (lines : List (List ℕ)) (batch : Batch) (a b c : Pushed)
+    → Gathered Step start sure lines machine batch a b → FlushesBatch batch b true c → Serves Step start lines machine a c
+Gathered-flushed {S} Step start machine sure lines batch a b c g (inr sent) = Gathered-sent Step start machine sure lines batch a b c g sent.0 sent.1
+Gathered-flushed {S} Step start machine sure lines batch a b c g (inl same) =
     let P : List (List ℕ) → Type 0 = λ rs. Answers Step start lines rs machine in
     let Q : Pushed → Type 0 = λ x. Sent a g.replies x in
     record {
@@ -255,25 +255,25 @@ Gathers-of {S} Step start machine a b read held batch empty quiet s = record {
 }
 
 -- all of it was fed, and nothing waits any more
-TakesIn-settled : {S : Type 0} (Step : S → Option (List ℕ) → List ℕ → S → Type 0) (old new : S) (held now : Option (List ℕ)) (x y : Batch) (b c d : Pushed) (bytes : List ℕ)
-    → x.bytes.items ≡ [] → x.waits ≡ false → Feeds Step old held x b bytes true new now y c → Settles y c true d → TakesIn Step old held b bytes true new now d
-TakesIn-settled {S} Step old new held now x y b c d bytes empty quiet fed settled = λ start a read s.
+TakesIn-flushed : {S : Type 0} (Step : S → Option (List ℕ) → List ℕ → S → Type 0) (old new : S) (held now : Option (List ℕ)) (x y : Batch) (b c d : Pushed) (bytes : List ℕ)
+    → x.bytes.items ≡ [] → x.waits ≡ false → Feeds Step old held x b bytes true new now y c → FlushesBatch y c true d → TakesIn Step old held b bytes true new now d
+TakesIn-flushed {S} Step old new held now x y b c d bytes empty quiet fed flushed = λ start a read s.
     let g = fed start a (length (whole_lines read)) read (Gathers-of Step start old a b read held x empty quiet s) in
     record {
-      served = Gathered-settled Step start new (length (whole_lines read)) (whole_lines (read ++ bytes)) y a c d g.lines settled;
+      served = Gathered-flushed Step start new (length (whole_lines read)) (whole_lines (read ++ bytes)) y a c d g.lines flushed;
       holds = g.holds;
     }
 
 -- all of it was fed, and then the sink failed
 TakesIn-cut : {S : Type 0} (Step : S → Option (List ℕ) → List ℕ → S → Type 0) (old new : S) (held now : Option (List ℕ)) (x y : Batch) (b c d : Pushed) (bytes : List ℕ)
-    → x.bytes.items ≡ [] → x.waits ≡ false → Feeds Step old held x b bytes true new now y c → Settles y c false d → TakesIn Step old held b bytes false new now d
+    → x.bytes.items ≡ [] → x.waits ≡ false → Feeds Step old held x b bytes true new now y c → FlushesBatch y c false d → TakesIn Step old held b bytes false new now d
 TakesIn-cut {S} Step old new held now x y b c d bytes empty quiet fed cut = λ start a read s.
     let g = fed start a (length (whole_lines read)) read (Gathers-of Step start old a b read held x empty quiet s) in
     Gathered-cut Step start new (length (whole_lines read)) (whole_lines (read ++ bytes)) y a c d g.lines cut
 
 pub TakesIn-done : {S : Type 0} (Step : S → Option (List ℕ) → List ℕ → S → Type 0) (old new : S) (held now : Option (List ℕ)) (x y : Batch) (b c d : Pushed) (bytes : List ℕ) (done : Bool)
-    → x.bytes.items ≡ [] → x.waits ≡ false → Feeds Step old held x b bytes true new now y c → Settles y c done d → TakesIn Step old held b bytes done new now d
-TakesIn-done {S} Step old new held now x y b c d bytes true empty quiet fed settled = TakesIn-settled Step old new held now x y b c d bytes empty quiet fed settled
+    → x.bytes.items ≡ [] → x.waits ≡ false → Feeds Step old held x b bytes true new now y c → FlushesBatch y c done d → TakesIn Step old held b bytes done new now d
+TakesIn-done {S} Step old new held now x y b c d bytes true empty quiet fed flushed = TakesIn-flushed Step old new held now x y b c d bytes empty quiet fed flushed
 TakesIn-done {S} Step old new held now x y b c d bytes false empty quiet fed cut = TakesIn-cut Step old new held now x y b c d bytes empty quiet fed cut
 
 -- the sink failed before all was fed
@@ -304,9 +304,9 @@ Finishes-gathered {S} Step start old new held x y a b read reply some empty quie
 
 -- the reply is sent, or a front of it
 pub Finishes-line : {S : Type 0} (Step : S → Option (List ℕ) → List ℕ → S → Type 0) (old new : S) (held : Option (List ℕ)) (x y : Batch) (b c : Pushed) (reply : List ℕ) (done : Bool)
-    → held ≢ Some [] → x.bytes.items ≡ [] → x.waits ≡ false → Step old held reply new → y.bytes.items ≡ x.bytes.items ++ reply → y.waits ≡ true → Settles y b done c → Finishes Step old held b done new c
-Finishes-line {S} Step old new held x y b c reply true some empty quiet step grown waits settled = λ start a read s.
-    Gathered-settled Step start new (length (whole_lines read)) (all_lines read) y a b c (Finishes-gathered Step start old new held x y a b read reply some empty quiet step grown waits s) settled
+    → held ≢ Some [] → x.bytes.items ≡ [] → x.waits ≡ false → Step old held reply new → y.bytes.items ≡ x.bytes.items ++ reply → y.waits ≡ true → FlushesBatch y b done c → Finishes Step old held b done new c
+Finishes-line {S} Step old new held x y b c reply true some empty quiet step grown waits flushed = λ start a read s.
+    Gathered-flushed Step start new (length (whole_lines read)) (all_lines read) y a b c (Finishes-gathered Step start old new held x y a b read reply some empty quiet step grown waits s) flushed
 Finishes-line {S} Step old new held x y b c reply false some empty quiet step grown waits cut = λ start a read s.
     Gathered-cut Step start new (length (whole_lines read)) (all_lines read) y a b c (Finishes-gathered Step start old new held x y a b read reply some empty quiet step grown waits s) cut
 

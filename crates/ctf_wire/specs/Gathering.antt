@@ -48,8 +48,8 @@ MakesRoom batch sink true batch_new sink_new =
 MakesRoom batch sink false batch_new sink_new = Sends sink batch.bytes.items false sink_new
 
 -- nothing waited, or what waited is sent; or the sink failed
-abbrev pub Settles : Batch → Pushed → Bool → Pushed → Type 0
-Settles batch sink true sink_new =
+abbrev pub FlushesBatch : Batch → Pushed → Bool → Pushed → Type 0
+FlushesBatch batch sink true sink_new =
     ((batch.waits ≡ false) × (sink_new ≡ sink))
     ⊎ ((batch.waits ≡ true) × Sends sink batch.bytes.items true sink_new)
-Settles batch sink false sink_new = Sends sink batch.bytes.items false sink_new
+FlushesBatch batch sink false sink_new = Sends sink batch.bytes.items false sink_new

@@ -9,7 +9,7 @@ use crate::batch::Batch;
 use crate::machines::Machine;
 use crate::pending::Pending;
 use crate::pieces::cut;
-use crate::sending::{make_room, settle};
+use crate::sending::{make_room, flush_batch};
 use crate::sinks::Sink;
 use ctf_lines::Scratch;
 
@@ -102,7 +102,7 @@ pub fn take_in<M: Machine, K: Sink>(
     if !feed(machine, scratch, pending, sink, batch, bytes) {
         return false;
     }
-    settle(sink, batch)
+    flush_batch(sink, batch)
 }
 
 /// Answers the last piece, where it isn't empty, and sends the reply.
@@ -126,5 +126,5 @@ pub fn finish<M: Machine, K: Sink>(
         return true;
     }
     answer(machine, scratch, pending, batch);
-    settle(sink, batch)
+    flush_batch(sink, batch)
 }

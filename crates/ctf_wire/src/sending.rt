@@ -1,7 +1,7 @@
 //! What waits out, and flushed.
 ghost use Rattle.std.specs.Prelude.{◌≡◌, ◌≤◌, ◌+◌, ◌<◌, [], true, false, vec_capacity, vec_len};
 ghost use Rattle.ctf_wire.specs.Served.{Sends};
-ghost use Rattle.ctf_wire.specs.Gathering.{MakesRoom, Settles};
+ghost use Rattle.ctf_wire.specs.Gathering.{MakesRoom, FlushesBatch};
 ghost use Rattle.ctf_wire.specs.Waiting.{Takes};
 
 use crate::batch::{BATCH, Batch};
@@ -62,8 +62,8 @@ pub fn make_room<K: Sink>(sink: &mut K, batch: &mut Batch) -> bool
 }
 
 /// Sends what waits, if anything does. Afterwards nothing waits.
-pub fn settle<K: Sink>(sink: &mut K, batch: &mut Batch) -> bool
-    ensures settles { Settles batch.old (K.pushed sink.old) result (K.pushed sink.new) }
+pub fn flush_batch<K: Sink>(sink: &mut K, batch: &mut Batch) -> bool
+    ensures flushes { FlushesBatch batch.old (K.pushed sink.old) result (K.pushed sink.new) }
     ensures empty { batch.new.bytes.items ≡ [] }
     ensures none { batch.new.waits ≡ false }
     ensures keeps { vec_capacity batch.new.bytes ≡ vec_capacity batch.old.bytes }

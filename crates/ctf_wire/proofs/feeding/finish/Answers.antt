@@ -9,5 +9,5 @@ pub returns-clause-finishes : goal.returns-clause-finishes
 returns-clause-finishes g c =
     let a = c.answer.ensures.answers in
     let some : c.args.pending.now ≢ Some [] = λ e. let clash : false ≡ true = c.if-is_empty.ensures.1 e in cc in
-    Finishes-line g.M.Machine.Step _ _ _ c.args.batch.now c.answer.new.batch _ _ a.0 c.settle.result
-    some c.requires.empty c.requires.none a.1 a.2.items c.answer.ensures.waits c.settle.ensures.settles
+    Finishes-line g.M.Machine.Step _ _ _ c.args.batch.now c.answer.new.batch _ _ a.0 c.flush_batch.result
+    some c.requires.empty c.requires.none a.1 a.2.items c.answer.ensures.waits c.flush_batch.ensures.flushes

@@ -7,4 +7,4 @@ returns-then-not-feed-clause-takes g c =
 
 pub returns-clause-takes : goal.returns-clause-takes
 returns-clause-takes g c =
-    TakesIn-done g.M.Machine.Step _ _ _ _ c.args.batch.now c.feed.new.batch _ _ _ c.args.bytes.now c.settle.result c.requires.empty c.requires.none c.if-not-feed.ensures.feeds c.settle.ensures.settles
+    TakesIn-done g.M.Machine.Step _ _ _ _ c.args.batch.now c.feed.new.batch _ _ _ c.args.bytes.now c.flush_batch.result c.requires.empty c.requires.none c.if-not-feed.ensures.feeds c.flush_batch.ensures.flushes
