@@ -124,9 +124,7 @@ impl Broker {
             → IsGranted (library_at self.old) session (Changes change.now)
             (said_to session result) (library_at self.new) }
     {
-        let Ok(found) = found_by(&self.libraries, change) else {
-            return Err(placeless(Fault::MEMORY));
-        };
+        let found = found_by(&self.libraries, change)?;
         step_in(
             self.alloc,
             &mut self.libraries,

@@ -3,6 +3,7 @@ ghost use Rattle.std.specs.Prelude.{◌≡◌, ◌⊎◌, ◌<◌, ◌^◌, IfOk
 ghost use Rattle.ctf_chains.specs.Starts.{starts_in};
 ghost use Rattle.ctf_check.specs.CheckedView.{lists_of};
 ghost use Rattle.ctf_check.specs.ListsView.{lists_in};
+ghost use Rattle.ctf_check.specs.Stages.{fault_before_chains};
 ghost use Rattle.ctf_model.specs.format.Header.{fields, section as section_of};
 ghost use Rattle.ctf_model.specs.format.OwnedLists.{lists_owned};
 ghost use Rattle.ctf_model.specs.rules.Faults.{first_fault, types as types_of};
@@ -49,11 +50,14 @@ impl Model for Judged {
 }
 
 impl Judged {
-    /// Judges the lists, and keeps them, or hands them back beside the first fault.
+    /// Judges the lists, and keeps them, or hands them back beside the first fault. Where memory is
+    /// refused, the rules before those of chains are kept.
     pub fn build(alloc: Global, parts: Parts) -> Result<Judged, (Fault, Parts)>
         ensures ok { IfOk result (λ j. j ≡ lists_owned parts) }
         ensures exact_ok { OnOk result (first_fault (lists_owned parts) ≡ None) }
         ensures exact_err { IfErr result (λ e. (e.0 ≡ want_of_memory)
+            ⊎ (first_fault (lists_owned parts) ≡ Some e.0)) }
+        ensures late { IfErr result (λ e. (fault_before_chains (lists_owned parts) ≡ None)
             ⊎ (first_fault (lists_owned parts) ≡ Some e.0)) }
         ensures back { IfErr result (λ e. lists_owned e.1 ≡ lists_owned parts) }
     {

@@ -134,10 +134,7 @@ impl Draft {
         if self.labels.has(name.as_slice()) {
             return Err(placeless(Fault::DUPLICATE));
         }
-        let Ok(_) = self.labels.push(name.into_vec(), last) else {
-            return Err(placeless(Fault::MEMORY));
-        };
-        Ok(())
+        Ok(self.labels.push(name.into_vec(), last)?)
     }
 }
 

@@ -105,9 +105,7 @@ impl Slot {
         ensures number { self.new.number ≡ self.old.number }
         ensures same { slot_bytes (slot_of self.new) ≡ slot_bytes (slot_of self.old) }
     {
-        let Ok(body) = body(alloc, kind) else {
-            return Err(placeless(Fault::MEMORY));
-        };
+        let body = body(alloc, kind)?;
         match self.dictionary.add(alloc, name.as_slice(), root, body) {
             Ok(t) => Ok(Counts::one("t", u64::from(t.0))),
             Err(fault) => Err(fault),

@@ -323,10 +323,7 @@ fn answer_on<'a>(
     ensures lent { makes_text_on question.now ≡ false
         → result ≡ type_said question.now (space_of space.now) t.0 }
 {
-    let found = match space.term(t) {
-        Ok(found) => found,
-        Err(fault) => return Err(fault),
-    };
+    let found = space.term(t)?;
     match tell(&found, found.kind(), space, tables, t, question) {
         Told::Lent(answer) => answer,
         Told::Name => name(alloc, space, t),

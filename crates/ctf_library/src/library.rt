@@ -180,9 +180,7 @@ impl Library {
         if !self.has_room() {
             return Err(placeless(Fault::SLOTS_FULL));
         }
-        if self.slots.reserve(1).is_err() {
-            return Err(placeless(Fault::MEMORY));
-        }
+        self.slots.reserve(1)?;
         let parts = mem::replace(&mut self.stage, no_parts(self.alloc));
         match pool.open(parts, model) {
             Ok(loaded) => {
@@ -241,18 +239,13 @@ impl Library {
         let old = child.parent_bytes();
         let new = source.dictionary.own().bytes();
         let has_room = fits(self.charge() - old, new);
-        let tables = match tables_over(
+        let tables = tables_over(
             self.alloc,
             child.dictionary.own(),
             source.dictionary.own(),
             has_room,
-        ) {
-            Ok(tables) => tables,
-            Err(fault) => return Err(fault),
-        };
-        let Ok(parent) = source.dictionary.own().share() else {
-            return Err(placeless(Fault::MEMORY));
-        };
+        )?;
+        let parent = source.dictionary.own().share()?;
         set_parent(&mut self.slots, d, Imported { parent, tables });
         self.slot_bytes = self.slot_bytes - old + new;
         Ok(Counts::done())
@@ -273,9 +266,7 @@ impl Library {
         if !fits(self.charge(), slot.dictionary.own().bytes()) {
             return Err(placeless(Fault::QUOTA_FULL));
         }
-        let Ok(loaded) = slot.dictionary.own().share() else {
-            return Err(placeless(Fault::MEMORY));
-        };
+        let loaded = slot.dictionary.own().share()?;
         self.publish_loaded(name, loaded)
     }
 
@@ -295,12 +286,8 @@ impl Library {
         if bytes > u128::MAX - self.charge() {
             return Err(placeless(Fault::MEMORY));
         }
-        let Ok(name) = name.copied(self.alloc) else {
-            return Err(placeless(Fault::MEMORY));
-        };
-        if self.published.reserve(1).is_err() {
-            return Err(placeless(Fault::MEMORY));
-        }
+        let name = name.copied(self.alloc)?;
+        self.published.reserve(1)?;
         self.published_bytes += bytes;
         self.published.push_reserved(Publication { name, loaded });
         Ok(Counts::done())
@@ -331,9 +318,7 @@ impl Library {
         if !fits(self.charge(), bytes) {
             return Err(placeless(Fault::QUOTA_FULL));
         }
-        if self.slots.reserve(1).is_err() {
-            return Err(placeless(Fault::MEMORY));
-        }
+        self.slots.reserve(1)?;
         let number = self.next as u32;
         let types = loaded.view().count() as u64;
         self.slot_bytes += bytes;
@@ -362,13 +347,8 @@ impl Library {
     fn create(&mut self, creation: &Creation) -> Result<Counts, Fault>
         ensures { Makes self.old (creates creation.now self.old) result self.new }
     {
-        if self.slots.reserve(1).is_err() {
-            return Err(placeless(Fault::MEMORY));
-        }
-        let slot = match self.created(creation) {
-            Ok(slot) => slot,
-            Err(fault) => return Err(fault),
-        };
+        self.slots.reserve(1)?;
+        let slot = self.created(creation)?;
         let number = slot.number;
         self.slot_bytes += slot.bytes();
         push_slot(&mut self.slots, slot);
@@ -385,10 +365,7 @@ impl Library {
         ensures exact_err { IfErr result (λ f. (f ≡ want_of_memory)
             ⊎ (creates creation.now self.now ≡ outcome_of (Err f) self.now)) }
     {
-        let parent = match self.parent_at(creation.parent()) {
-            Ok(parent) => parent,
-            Err(fault) => return Err(fault),
-        };
+        let parent = self.parent_at(creation.parent())?;
         if !self.has_room() {
             return Err(placeless(Fault::SLOTS_FULL));
         }

@@ -1,6 +1,7 @@
 //! Dictionaries that were opened lately.
 ghost use Rattle.std.specs.Prelude.{◌≡◌, ◌⊎◌, ◌≤◌, ◌<◌, ◌^◌, [], IfOk, IfErr, IfSome, OnOk, Some, None, sum_by, true};
 ghost use Rattle.ctf_check.specs.ListsView.{lists_in};
+ghost use Rattle.ctf_check.specs.Stages.{fault_before_chains};
 ghost use Rattle.ctf_library.specs.Pooling.{Holds, have_room, most_bytes, with_room};
 ghost use Rattle.ctf_model.specs.opened.Sizes.{kept_bytes};
 ghost use Rattle.ctf_model.specs.rules.Faults.{first_fault};
@@ -86,6 +87,8 @@ impl Pool {
         ensures exact_ok { OnOk result (first_fault (lists_owned parts) ≡ None) }
         ensures exact_err { IfErr result (λ e. (e.0 ≡ want_of_memory)
             ⊎ (first_fault (lists_owned parts) ≡ Some e.0)) }
+        ensures late { IfErr result (λ e. (fault_before_chains (lists_owned parts) ≡ None)
+            ⊎ (first_fault (lists_owned parts) ≡ Some e.0)) }
         ensures back { IfErr result (λ e. lists_owned e.1 ≡ lists_owned parts) }
         ensures held { (self.new ≡ self.old)
             ⊎ Holds self.old (record { lists = lists_owned parts; model = model }) self.new }
@@ -96,10 +99,7 @@ impl Pool {
                 Err(_) => Err((placeless(Fault::MEMORY), parts)),
             };
         }
-        let loaded = match Loaded::build(self.alloc, parts, model) {
-            Ok(loaded) => loaded,
-            Err(refused) => return Err(refused),
-        };
+        let loaded = Loaded::build(self.alloc, parts, model)?;
         self.hold(&loaded);
         Ok(loaded)
     }

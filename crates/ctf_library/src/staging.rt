@@ -30,9 +30,7 @@ fn add_piece(list: &mut Bytes, piece: &[u8], fits: bool) -> Result<u64, Fault>
     if !fits {
         return Err(placeless(Fault::QUOTA_FULL));
     }
-    if list.append(piece).is_err() {
-        return Err(placeless(Fault::MEMORY));
-    }
+    list.append(piece)?;
     Ok(list.len() as u64)
 }
 

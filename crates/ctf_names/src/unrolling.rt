@@ -55,9 +55,7 @@ pub fn unroll<'a>(alloc: Global, space: &Space<'a>, number: TypeNum) -> Result<U
                 });
             }
             Inside::Layer(layer, next) => {
-                if layers.push(layer).is_err() {
-                    return Err(placeless(Fault::MEMORY));
-                }
+                layers.push(layer).map_err(|_| placeless(Fault::MEMORY))?;
                 at = next;
             }
         }

@@ -1,6 +1,7 @@
 //! A dictionary with all that is kept of it by itself.
 ghost use Rattle.std.specs.Prelude.{◌≡◌, ◌⊎◌, None, Some, IfOk, IfErr, OnOk};
 ghost use Rattle.ctf_check.specs.CheckedView.{lists_of};
+ghost use Rattle.ctf_check.specs.Stages.{fault_before_chains};
 ghost use Rattle.ctf_open.specs.Fitting.{AreTablesOf};
 ghost use Rattle.ctf_model.specs.rules.Faults.{first_fault};
 ghost use Rattle.ctf_model.specs.format.OwnedLists.{lists_owned};
@@ -85,12 +86,11 @@ impl Loaded {
         ensures exact_ok { OnOk result (first_fault (lists_owned parts) ≡ None) }
         ensures exact_err { IfErr result (λ e. (e.0 ≡ want_of_memory)
             ⊎ (first_fault (lists_owned parts) ≡ Some e.0)) }
+        ensures late { IfErr result (λ e. (fault_before_chains (lists_owned parts) ≡ None)
+            ⊎ (first_fault (lists_owned parts) ≡ Some e.0)) }
         ensures back { IfErr result (λ e. lists_owned e.1 ≡ lists_owned parts) }
     {
-        let dictionary = match Opened::build(alloc, parts, model) {
-            Ok(dictionary) => dictionary,
-            Err(refused) => return Err(refused),
-        };
+        let dictionary = Opened::build(alloc, parts, model)?;
         match Loaded::of(alloc, dictionary) {
             Ok(loaded) => Ok(loaded),
             Err(dictionary) => Err((placeless(Fault::MEMORY), dictionary.into_parts())),

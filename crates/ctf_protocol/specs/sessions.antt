@@ -14,3 +14,5 @@ pub mod SessionLaws
 pub mod ParentRows
 pub mod MeetingRows
 pub mod SessionRows
+pub mod EdgeRows
+pub mod DraftSlotRows

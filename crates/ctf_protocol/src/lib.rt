@@ -23,9 +23,10 @@ pub use publications::{LONGEST_NAME, PublicationName};
 pub use questions::{HeldQuestion, PlainQuestion, Question, SlotQuestion, TypeQuestion, Window};
 pub use requests::{Change, DraftStep, ListName, Request};
 pub use rows::{
-    lines_ask, lines_say, meetings_are_asked, output_is, parents_are_imported, paths_are_lines,
-    questions_are_answered, questions_are_lines, session_runs, sessions_meet, slots_are_closed,
-    texts_spell, words_are_written,
+    dictionaries_count, drafts_are_among_slots, drafts_are_stepped, limits_hold, lines_ask,
+    lines_say, meetings_are_asked, models_are_those_stated, output_is, parents_are_imported,
+    paths_are_lines, questions_are_answered, questions_are_lines, refusals_are_in_order,
+    session_runs, sessions_meet, slots_are_closed, texts_spell, words_are_written,
 };
 pub use session_laws::{
     each_session_runs_alone, refusals_are_in_the_table, refusals_change_nothing,

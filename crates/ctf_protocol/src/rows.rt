@@ -1,5 +1,7 @@
 //! Worked rows: what the definitions say of small inputs. Each is the contract of a function that
 //! does nothing.
+ghost use Rattle.ctf_protocol.specs.sessions.DraftSlotRows.{DraftsAreAmongSlots, DraftsAreStepped, ModelsAreThoseStated};
+ghost use Rattle.ctf_protocol.specs.sessions.EdgeRows.{DictionariesCount, LimitsHold, RefusalsAreInOrder};
 ghost use Rattle.ctf_protocol.specs.sessions.MeetingRows.{MeetingsAreAsked, SessionsMeet};
 ghost use Rattle.ctf_protocol.specs.sessions.ParentRows.{ParentsAreImported, SlotsAreClosed};
 ghost use Rattle.ctf_protocol.specs.answers.QuestionRows.{PathsAreLines, QuestionsAreAnswered, QuestionsAreLines, TextsSpell};
@@ -69,4 +71,34 @@ pub fn sessions_meet()
 /// How a session asks for that in lines.
 pub fn meetings_are_asked()
     ensures { MeetingsAreAsked }
+{}
+
+/// What each limit lets through at its edge.
+pub fn limits_hold()
+    ensures { LimitsHold }
+{}
+
+/// Which of several refusals comes first.
+pub fn refusals_are_in_order()
+    ensures { RefusalsAreInOrder }
+{}
+
+/// What dictionaries count.
+pub fn dictionaries_count()
+    ensures { DictionariesCount }
+{}
+
+/// Which data model a draft has.
+pub fn models_are_those_stated()
+    ensures { ModelsAreThoseStated }
+{}
+
+/// What steps of drafts are answered.
+pub fn drafts_are_stepped()
+    ensures { DraftsAreStepped }
+{}
+
+/// What other requests are answered of drafts.
+pub fn drafts_are_among_slots()
+    ensures { DraftsAreAmongSlots }
 {}

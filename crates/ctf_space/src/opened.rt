@@ -4,6 +4,7 @@ ghost use Rattle.ctf_model.specs.format.OwnedLists.{lists_owned};
 ghost use Rattle.ctf_model.specs.rules.Faults.{first_fault};
 ghost use Rattle.ctf_model.specs.rules.Refusals.{want_of_memory};
 ghost use Rattle.ctf_check.specs.CheckedView.{lists_of};
+ghost use Rattle.ctf_check.specs.Stages.{fault_before_chains};
 
 use ctf_check::{Checked, Judged};
 use ctf_model::{DataModel, Fault, Parts};
@@ -32,12 +33,12 @@ impl Opened {
         ensures exact_ok { OnOk result (first_fault (lists_owned parts) ≡ None) }
         ensures exact_err { IfErr result (λ e. (e.0 ≡ want_of_memory)
             ⊎ (first_fault (lists_owned parts) ≡ Some e.0)) }
+        ensures late { IfErr result (λ e. (fault_before_chains (lists_owned parts) ≡ None)
+            ⊎ (first_fault (lists_owned parts) ≡ Some e.0)) }
         ensures back { IfErr result (λ e. lists_owned e.1 ≡ lists_owned parts) }
     {
-        match Judged::build(alloc, parts) {
-            Ok(judged) => Ok(Opened { judged, model }),
-            Err(refused) => Err(refused),
-        }
+        let judged = Judged::build(alloc, parts)?;
+        Ok(Opened { judged, model })
     }
 
     /// The dictionary, lent.

@@ -138,19 +138,13 @@ pub(crate) fn judge_chains(alloc: Global, held: Held<'_>) -> Result<(), Fault>
         → or_later 15 (deep_by by_value (dictionary_of held.entry))
         (or_later 16 (deep_by declarator (dictionary_of held.entry)) later) ≡ Some f)) }
 {
-    let Ok(by_value) = deep(alloc, held, Chain::ByValue) else {
-        return Err(placeless(Fault::MEMORY));
-    };
-    if let Some(place) = by_value {
+    if let Some(place) = deep(alloc, held, Chain::ByValue)? {
         return Err(Fault {
             code: Fault::VALUE_DEEP,
             place,
         });
     }
-    let Ok(declarator) = deep(alloc, held, Chain::Declarator) else {
-        return Err(placeless(Fault::MEMORY));
-    };
-    if let Some(place) = declarator {
+    if let Some(place) = deep(alloc, held, Chain::Declarator)? {
         return Err(Fault {
             code: Fault::DECL_DEEP,
             place,

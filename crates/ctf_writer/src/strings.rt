@@ -82,10 +82,7 @@ impl<'a> Strings<'a> {
         if LONGEST - self.len <= name.len() {
             return Err(placeless(Fault::DICT_TOO_BIG));
         }
-        if self.push(name).is_err() {
-            return Err(placeless(Fault::MEMORY));
-        }
-        Ok(())
+        Ok(self.push(name)?)
     }
 
     /// The reference to a name that was added.

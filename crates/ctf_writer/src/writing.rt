@@ -146,9 +146,7 @@ fn write_held(alloc: Global, held: Held<'_>) -> Result<Vec<u8>, Fault>
     let Some(lengths) = lengths_of(held, &strings) else {
         return Err(placeless(Fault::DICT_TOO_BIG));
     };
-    let Ok(mut out) = Vec::with_capacity(alloc, lengths.whole) else {
-        return Err(placeless(Fault::MEMORY));
-    };
+    let mut out = Vec::with_capacity(alloc, lengths.whole)?;
     put_held(&mut out, held, &strings, lengths);
     Ok(out)
 }

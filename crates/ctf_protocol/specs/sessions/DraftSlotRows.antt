@@ -1,0 +1,128 @@
+-- Worked rows of drafts in slots. The values were worked out by hand.
+use Rattle.std.specs.Prelude.{◌≡◌, ℕ, true, List, [], ◌∷◌, Option, None, Some, codes}
+use Rattle.ctf_model.specs.format.Rows.{alone, int_bytes}
+use Rattle.ctf_protocol.specs.lines.ReplyLines.{reply_line}
+use Rattle.ctf_protocol.specs.sessions.Creations.{Created}
+use Rattle.ctf_protocol.specs.sessions.State.{State, empty_state}
+use Rattle.ctf_protocol.specs.sessions.Steps.{step}
+use Rattle.ctf_model.specs.declared.data_model.DataModel.{DataModel}
+use Rattle.ctf_model.specs.declared.data_model.DataModel.TheVariants.{Ilp32, Lp64}
+use Rattle.ctf_protocol.specs.declared.additions.Addition.TheVariants as add
+use Rattle.ctf_protocol.specs.declared.additions.NewKind.TheVariants as kind
+use Rattle.ctf_protocol.specs.declared.questions.HeldQuestion.{HeldQuestion}
+use Rattle.ctf_protocol.specs.declared.questions.HeldQuestion.TheVariants as held
+use Rattle.ctf_protocol.specs.declared.questions.Question.TheVariants.{OfHeld}
+use Rattle.ctf_protocol.specs.declared.requests.Change.TheVariants as change
+use Rattle.ctf_protocol.specs.declared.requests.DraftStep.{DraftStep}
+use Rattle.ctf_protocol.specs.declared.requests.DraftStep.TheVariants.{Add, Update, Discard}
+use Rattle.ctf_protocol.specs.declared.requests.Request.{Request}
+use Rattle.ctf_protocol.specs.declared.requests.Request.TheVariants.{Asks, Changes}
+
+-- ---- inputs
+
+abbrev pub after : State → Request → State
+after state request = (step state request None).state
+
+abbrev pub replied : State → Request → List ℕ
+replied state request = reply_line (step state request None).reply
+
+-- a session with the integer int in slot 1, of a program with pointers of 4 bytes
+abbrev pub with_int : State
+with_int =
+    record empty_state {
+      slots = record {
+        number = 1;
+        kept = record { lists = alone int_bytes; model = Ilp32 };
+        parent = None;
+        draft = None;
+      }
+          ∷ [];
+      next = 2;
+    }
+
+-- a new draft, with this data model if one is stated
+abbrev pub alone_of : Option DataModel → Request
+alone_of model =
+    Changes (change.Create (record { parent = None; parname = []; parlabel = []; model = model }))
+
+-- the same over slot 1
+abbrev pub over_int : Option DataModel → Request
+over_int model =
+    Changes
+    (change.Create
+    (record { parent = Some 1; parname = codes "base"; parlabel = []; model = model }))
+
+abbrev pub does : ℕ → DraftStep → Request
+does d does_so = Changes (change.Draft d does_so)
+
+abbrev pub adds_struct : DraftStep
+adds_struct = Add (add.Type (codes "s") true (kind.Struct 0))
+
+abbrev pub tells : ℕ → HeldQuestion → Request
+tells d question = Asks d (OfHeld question)
+
+-- a draft without a parent in slot 1, and with a struct that is pending
+abbrev pub drafted : State
+drafted = after empty_state (alone_of None)
+
+abbrev pub enlarged : State
+enlarged = after drafted (does 1 adds_struct)
+
+abbrev pub updated : State
+updated = after enlarged (does 1 Update)
+
+abbrev pub name : List ℕ
+name = codes "base"
+
+-- ---- data models
+
+pub record ModelsAreThoseStated : Type 0 where
+  pub made : replied with_int (over_int None) ≡ codes "{\"ok\":{\"d\":2},\"s\":0}\n"
+  pub parents : replied (after with_int (over_int None)) (tells 2 held.Model)
+      ≡ codes "{\"ok\":{\"model\":\"ilp32\"},\"s\":0}\n"
+  pub same : replied with_int (over_int (Some Ilp32)) ≡ codes "{\"ok\":{\"d\":2},\"s\":0}\n"
+  pub other : replied with_int (over_int (Some Lp64))
+      ≡ codes "{\"fault\":{\"code\":60,\"name\":\"ModelDiffers\",\"place\":0},\"s\":0}\n"
+  pub unstated : replied drafted (tells 1 held.Model)
+      ≡ codes "{\"ok\":{\"model\":\"lp64\"},\"s\":0}\n"
+  pub stated : replied (after empty_state (alone_of (Some Ilp32))) (tells 1 held.Model)
+      ≡ codes "{\"ok\":{\"model\":\"ilp32\"},\"s\":0}\n"
+
+-- ---- steps
+
+pub record DraftsAreStepped : Type 0 where
+  pub fresh : replied drafted (tells 1 held.Info)
+      ≡ codes "{\"ok\":{\"child\":false,\"draft\":true,\"imported\":false,\"labels\":0,\"parlabel\":\"\",\"parname\":\"\",\"pending\":0,\"types\":0},\"s\":0}\n"
+  pub over : replied (after with_int (over_int None)) (tells 2 held.Info)
+      ≡ codes "{\"ok\":{\"child\":true,\"draft\":true,\"imported\":true,\"labels\":0,\"parlabel\":\"\",\"parname\":\"base\",\"pending\":0,\"types\":0},\"s\":0}\n"
+  pub first_type : replied drafted (does 1 adds_struct) ≡ codes "{\"ok\":{\"t\":1},\"s\":0}\n"
+  pub pending : replied enlarged (tells 1 held.Info)
+      ≡ codes "{\"ok\":{\"child\":false,\"draft\":true,\"imported\":false,\"labels\":0,\"parlabel\":\"\",\"parname\":\"\",\"pending\":1,\"types\":0},\"s\":0}\n"
+  pub update : replied enlarged (does 1 Update) ≡ codes "{\"ok\":{\"types\":1},\"s\":0}\n"
+  pub none_pending : replied updated (tells 1 held.Info)
+      ≡ codes "{\"ok\":{\"child\":false,\"draft\":true,\"imported\":false,\"labels\":0,\"parlabel\":\"\",\"parname\":\"\",\"pending\":0,\"types\":1},\"s\":0}\n"
+  pub discard : replied enlarged (does 1 Discard) ≡ codes "{\"ok\":{\"types\":0},\"s\":0}\n"
+  pub discarded : after enlarged (does 1 Discard) ≡ drafted
+  pub updated_stays : after updated (does 1 Discard) ≡ updated
+  pub no_draft : replied with_int (does 1 adds_struct)
+      ≡ codes "{\"fault\":{\"code\":52,\"name\":\"ReadOnly\",\"place\":0},\"s\":0}\n"
+  pub no_update : replied with_int (does 1 Update)
+      ≡ codes "{\"fault\":{\"code\":52,\"name\":\"ReadOnly\",\"place\":0},\"s\":0}\n"
+  pub no_slot : replied with_int (does 2 Discard)
+      ≡ codes "{\"fault\":{\"code\":49,\"name\":\"NoSlot\",\"place\":0},\"s\":0}\n"
+
+-- ---- among other slots
+
+pub record DraftsAreAmongSlots : Type 0 where
+  pub no_import : replied (after with_int (over_int None)) (Changes (change.Import 2 1))
+      ≡ codes "{\"fault\":{\"code\":62,\"name\":\"FixedParent\",\"place\":0},\"s\":0}\n"
+  pub not_updated : replied enlarged (Changes (change.Publish 1 name))
+      ≡ codes "{\"fault\":{\"code\":55,\"name\":\"NotUpdated\",\"place\":0},\"s\":0}\n"
+  pub published : replied updated (Changes (change.Publish 1 name))
+      ≡ codes "{\"ok\":{},\"s\":0}\n"
+  pub no_parent_slot : replied empty_state (over_int None)
+      ≡ codes "{\"fault\":{\"code\":49,\"name\":\"NoSlot\",\"place\":0},\"s\":0}\n"
+  pub parent_is_child : replied (after with_int (over_int None))
+      (Changes
+      (change.Create (record { parent = Some 2; parname = name; parlabel = []; model = None })))
+      ≡ codes "{\"fault\":{\"code\":21,\"name\":\"ParentIsChild\",\"place\":0},\"s\":0}\n"

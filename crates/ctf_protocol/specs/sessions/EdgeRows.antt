@@ -1,0 +1,104 @@
+-- Worked rows of limits, each at its edge, of refusals in their order, and of what counts.
+-- The values were worked out by hand.
+use Rattle.std.specs.Prelude.{◌≡◌, ℕ, List, [], ◌∷◌, length, Bool, true, false, Option, None, Some, Ok, Err, codes}
+use Rattle.ctf_model.specs.format.Rows.{alone, fault, int_bytes}
+use Rattle.ctf_model.specs.rules.Refusals.{placeless}
+use Rattle.ctf_model.specs.spaces.Kept.{Kept, kept_unsaid}
+use Rattle.ctf_protocol.specs.answers.Answers.{Answer, says}
+use Rattle.ctf_protocol.specs.answers.Answers as answers
+use Rattle.ctf_protocol.specs.lines.Ask.{ask}
+use Rattle.ctf_protocol.specs.lines.ReplyLines.{fault_line, fitting_line}
+use Rattle.ctf_protocol.specs.sessions.Charges.{charge}
+use Rattle.ctf_protocol.specs.sessions.Creations.{Created}
+use Rattle.ctf_protocol.specs.sessions.Publications.{is_publication_name}
+use Rattle.ctf_protocol.specs.sessions.State.{Slot, State, empty_state}
+use Rattle.ctf_protocol.specs.sessions.Steps.{Outcome, creates_over, grants, has_room, opens, publishes_within, refuses, stages, takes, within_quota}
+use Rattle.ctf_model.specs.declared.data_model.DataModel.{DataModel}
+use Rattle.ctf_model.specs.declared.faults.TheConstants.Fault.{LONG_LINE, LONG_REPLY, NAME_TAKEN, NOT_PUBLISHED, QUOTA_FULL, SLOTS_FULL, STAGE_FULL}
+use Rattle.ctf_protocol.specs.declared.requests.ListName.TheVariants.{Ctf}
+
+-- ---- limits
+
+-- a library with this many staged bytes
+abbrev pub staging : List ℕ → State
+staging bytes = record empty_state { stage = alone bytes }
+
+pub record LimitsHold : Type 0 where
+  -- 64 MiB of a staged list
+  pub longest_list : (bytes : List ℕ) → length bytes ≡ 67108864
+      → stages Ctf bytes empty_state
+      ≡ grants (says (codes "length") (answers.number 67108864) ∷ []) (staging bytes)
+  pub longer_list : (bytes : List ℕ) (state : State) → length bytes ≡ 67108865
+      → stages Ctf bytes state ≡ refuses STAGE_FULL state
+  -- 256 MiB of a library
+  pub greatest_charge : (outcome : Outcome) (state : State) → charge outcome.state ≡ 268435456
+      → within_quota outcome state ≡ outcome
+  pub greater_charge : (outcome : Outcome) (state : State) → charge outcome.state ≡ 268435457
+      → within_quota outcome state ≡ refuses QUOTA_FULL state
+  -- 1023 slots, numbered up to the greatest number of 32 bits
+  pub last_slot : (state : State) → length state.slots ≡ 1022 → state.next ≡ 4294967295
+      → has_room state ≡ true
+  pub no_slot_more : (state : State) → length state.slots ≡ 1023 → has_room state ≡ false
+  pub no_number_more : (state : State) → length state.slots ≡ 0 → state.next ≡ 4294967296
+      → has_room state ≡ false
+  -- 4 MiB of a reply's line, without its newline
+  pub longest_reply : (s : ℕ) (line : List ℕ) → length line ≡ 4194305
+      → fitting_line s line ≡ line
+  pub longer_reply : (s : ℕ) (line : List ℕ) → length line ≡ 4194306
+      → fitting_line s line ≡ fault_line s (placeless LONG_REPLY)
+  -- 1 MiB of a request's line
+  pub longer_line : (line : List ℕ) → length line ≡ 1048577
+      → ask line ≡ Err (0, placeless LONG_LINE)
+  -- 64 bytes of a publication's name
+  pub longest_name : is_publication_name
+      (codes "0123456789012345678901234567890123456789012345678901234567890123") ≡ true
+  pub longer_name : is_publication_name
+      (codes "01234567890123456789012345678901234567890123456789012345678901234") ≡ false
+
+-- ---- refusals in their order
+
+pub record RefusalsAreInOrder : Type 0 where
+  -- without a slot nothing is judged, made or looked for
+  pub open_full : (model : DataModel) (state : State) → has_room state ≡ false
+      → opens model state ≡ refuses SLOTS_FULL state
+  pub create_full : (parent : Option Kept) (asked : Created) (state : State)
+      → has_room state ≡ false → creates_over parent asked state ≡ refuses SLOTS_FULL state
+  pub take_full : (found : Option Kept) (state : State) → has_room state ≡ false
+      → takes found state ≡ refuses SLOTS_FULL state
+  -- what is not there is of no size
+  pub take_nothing : (state : State) → has_room state ≡ true
+      → takes None state ≡ refuses NOT_PUBLISHED state
+  -- a name is taken, whatever the charge comes to
+  pub name_taken : (kept : Kept) (state : State)
+      → publishes_within (codes "base") kept
+      (record state { published = record { name = codes "base"; kept = kept } ∷ [] })
+      ≡ refuses NAME_TAKEN
+      (record state { published = record { name = codes "base"; kept = kept } ∷ [] })
+
+-- ---- what counts
+
+abbrev pub int : Kept
+int = kept_unsaid (alone int_bytes)
+
+-- the integer int, over itself as a parent
+abbrev pub over_int : Slot
+over_int = record { number = 1; kept = int; parent = Some int; draft = None }
+
+pub record DictionariesCount : Type 0 where
+  pub nothing : charge empty_state ≡ 0
+  pub slot_and_parent : charge (record empty_state { slots = over_int ∷ [] }) ≡ 106
+  pub each_slot : charge (record empty_state { slots = over_int ∷ over_int ∷ [] }) ≡ 212
+  pub publication :
+      charge (record empty_state { published = record { name = codes "base"; kept = int } ∷ [] })
+      ≡ 53
+  pub staged : charge (record empty_state {
+        stage = record { ctf = 1 ∷ 2 ∷ []; sym = Some (3 ∷ []); strs = Some (4 ∷ 5 ∷ 6 ∷ []) };
+      }) ≡ 6
+  pub all_lists : charge (record empty_state {
+        slots = record {
+          number = 1;
+          kept = kept_unsaid (record { ctf = 1 ∷ []; sym = Some (2 ∷ []); strs = Some (3 ∷ []) });
+          parent = None;
+          draft = None;
+        } ∷ [];
+      }) ≡ 3
