@@ -5,9 +5,9 @@ ghost use Rattle.ctf_answers.specs.Singles.{entry_of};
 ghost use Rattle.ctf_answers.specs.Items.{item_of};
 ghost use Rattle.ctf_answers.specs.Fields.{field_of, value_of};
 
-use crate::text_sinks::TextSink;
 use crate::series::{Series, put_series};
 use crate::singles::{put_entry, put_key, put_quoted, put_single};
+use crate::text_sinks::TextSink;
 use ctf_answers::{Answer, Entry, Field, Item, Listed, Value};
 
 /// Puts an object of two parts on.

@@ -5,11 +5,11 @@ ghost use Rattle.ctf_answers.specs.Counts.{counts_said};
 ghost use Rattle.ctf_answers.specs.Replies.{reply_of, said_to};
 ghost use Rattle.ctf_lines.specs.Appending.{Appended, IsAsBefore, Writes, and_text};
 
+use crate::line_buffers::LineBuffer;
 use crate::lines::ToLine;
 use crate::measures::Measure;
-use crate::text_sinks::TextSink;
 use crate::series::put_series;
-use crate::line_buffers::LineBuffer;
+use crate::text_sinks::TextSink;
 use crate::texts::{LONGEST_REPLY, put_number};
 use ctf_answers::{Answer, Counts, Reply, Single};
 use ctf_protocol::{Fault, fault_name, placeless};

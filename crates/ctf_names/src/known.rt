@@ -6,9 +6,9 @@ ghost use Rattle.ctf_names.specs.Adding.{added};
 ghost use Rattle.ctf_names.specs.Measuring.{IsMeasured, IsStep};
 ghost use Rattle.ctf_space.specs.SpaceView.{space_of};
 
-use crate::name_lengths::{around, of_base, refused};
 use crate::inside::{Base, Inside, found_inside, or_anon};
 use crate::measures::{Measured, Step};
+use crate::name_lengths::{around, of_base, refused};
 use crate::spelling::spell;
 use crate::unrolling::void;
 use ctf_model::{Fault, Layer, TypeNum};

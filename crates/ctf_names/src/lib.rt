@@ -1,7 +1,6 @@
 //! Names of types: as C spells them, and looked up.
 #![tactic(auto)]
 
-mod name_lengths;
 mod finding;
 mod index;
 mod inside;
@@ -9,6 +8,7 @@ mod kept;
 mod known;
 mod marks;
 mod measures;
+mod name_lengths;
 mod names;
 mod numbers;
 mod pointers;

@@ -75,7 +75,10 @@ impl Loaded {
             return Err(dictionary);
         };
         match Rc::new(alloc, dictionary) {
-            Ok(dictionary) => Ok(Loaded { dictionary, derived }),
+            Ok(dictionary) => Ok(Loaded {
+                dictionary,
+                derived,
+            }),
             Err(failed) => Err(failed.value),
         }
     }
@@ -103,7 +106,10 @@ impl Loaded {
     {
         let dictionary = self.dictionary.clone()?;
         let derived = self.derived.clone()?;
-        Ok(Loaded { dictionary, derived })
+        Ok(Loaded {
+            dictionary,
+            derived,
+        })
     }
 
     /// The dictionary, shared once more, to be kept by a draft over it or by its own draft.

@@ -8,8 +8,8 @@ ghost use Rattle.ctf_print.specs.Telling.{said_size};
 ghost use Rattle.ctf_print.specs.Written.{Refused, written};
 
 use crate::integers::{put_signed, signed};
-use crate::show_cache::ShowCache;
 use crate::numbers::{field, show_raw};
+use crate::show_cache::ShowCache;
 use crate::text::Text;
 use ctf_model::{Fault, TypeNum};
 use ctf_views::Enumerators;

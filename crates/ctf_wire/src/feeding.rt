@@ -9,7 +9,7 @@ use crate::batch::Batch;
 use crate::machines::Machine;
 use crate::pending::Pending;
 use crate::pieces::cut;
-use crate::sending::{make_room, flush_batch};
+use crate::sending::{flush_batch, make_room};
 use crate::sinks::Sink;
 use ctf_lines::Scratch;
 

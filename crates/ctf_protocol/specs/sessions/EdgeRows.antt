@@ -92,13 +92,13 @@ pub record DictionariesCount : Type 0 where
       charge (record empty_state { published = record { name = codes "base"; kept = int } ∷ [] })
       ≡ 53
   pub staged : charge (record empty_state {
-        stage = record { ctf = 1 ∷ 2 ∷ []; sym = Some (3 ∷ []); strs = Some (4 ∷ 5 ∷ 6 ∷ []) };
-      }) ≡ 6
+    stage = record { ctf = 1 ∷ 2 ∷ []; sym = Some (3 ∷ []); strs = Some (4 ∷ 5 ∷ 6 ∷ []) };
+  }) ≡ 6
   pub all_lists : charge (record empty_state {
-        slots = record {
-          number = 1;
-          kept = kept_unsaid (record { ctf = 1 ∷ []; sym = Some (2 ∷ []); strs = Some (3 ∷ []) });
-          parent = None;
-          draft = None;
-        } ∷ [];
-      }) ≡ 3
+    slots = record {
+      number = 1;
+      kept = kept_unsaid (record { ctf = 1 ∷ []; sym = Some (2 ∷ []); strs = Some (3 ∷ []) });
+      parent = None;
+      draft = None;
+    } ∷ [];
+  }) ≡ 3
