@@ -55,7 +55,9 @@ pub fn unroll<'a>(alloc: Global, space: &Space<'a>, number: TypeNum) -> Result<U
                 });
             }
             Inside::Layer(layer, next) => {
-                layers.push(layer).map_err(|_| placeless(Fault::MEMORY))?;
+                if layers.push(layer).is_err() {
+                    return Err(placeless(Fault::MEMORY));
+                }
                 at = next;
             }
         }

@@ -1,5 +1,5 @@
 -- How a turn that ends a run ends it.
-use Rattle.std.proofs.Common.{◌≡◌, ℕ, List, [], Bool, true, false, Option, Some, Ok, Err, refl, ◌∙◌, sym, subst, append-nil}
+use Rattle.std.proofs.Common.{◌≡◌, ℕ, List, [], Bool, true, false, Option, Some, Ok, Err, ◌++◌, refl, ◌∙◌, ap, sym, subst, append_assoc, append-nil}
 use Rattle.std.specs.Io.KnownBytes.{Consumes}
 use Rattle.std.proofs.KnownBytes.{Appends-nil, Consumes-trans}
 use Rattle.ctf_protocol.specs.lines.Lines.{whole_lines}
@@ -31,7 +31,7 @@ Stands-none {S} Step start a = record {
 }
 
 module _ {S : Type 0} (Step : S → Option (List ℕ) → List ℕ → S → Type 0) (start old new : S) (held now : Option (List ℕ)) (reads : ℕ) (source_old source source_new : Pulled) (sink_old sink sink_new : Pushed) (read : List ℕ)
-    (consumed : Consumes source_old.remaining source.remaining read) (stands : Stands Step start sink_old read old held sink)
+    (pulled : source.read ≡ source_old.read ++ read) (consumed : Consumes source_old.remaining source.remaining read) (stands : Stands Step start sink_old read old held sink)
     (unended : source.ended ≡ false) (sound : source.failed ≡ false) (well : sink_old.failed ≡ false) where
   pub turn_ends : Turns Step old held source sink (Ok false) new now source_new sink_new
       → EndsBy (λ lines. Serves Step start lines new sink_old sink_new) (λ sure lines. BrokenOff Step start sure lines new sink_old sink_new) reads source_old source_new sink_new (Ok tt)
@@ -40,6 +40,7 @@ module _ {S : Type 0} (Step : S → Option (List ℕ) → List ℕ → S → Typ
       let served = t.serves start sink_old read stands in
       record {
         read = read;
+        pulled = t.pulled ∙ append-nil source.read ∙ pulled;
         consumed = subst P (append-nil read) (Consumes-trans _ _ _ _ _ consumed t.consumed);
         at_end = t.at_end;
         served = served;
@@ -58,6 +59,7 @@ module _ {S : Type 0} (Step : S → Option (List ℕ) → List ℕ → S → Typ
         earlier = read;
         last = t.bytes;
         one_read = t.one_read;
+        pulled = t.pulled ∙ ap (λ bs. bs ++ t.bytes) pulled ∙ append_assoc source_old.read read t.bytes;
         consumed = Consumes-trans _ _ _ _ _ consumed t.consumed;
         broken = broken;
         sound = t.failed ∙ sound;
@@ -70,6 +72,7 @@ module _ {S : Type 0} (Step : S → Option (List ℕ) → List ℕ → S → Typ
       let served = subst M (sym t.machine) (subst K (sym t.sink_kept) stands.served) in
       record {
         read = read;
+        pulled = t.pulled ∙ append-nil source.read ∙ pulled;
         consumed = subst P (append-nil read) (Consumes-trans _ _ _ _ _ consumed t.consumed);
         served = served;
         unended = t.ended ∙ unended;

@@ -30,13 +30,13 @@ breaks_off old new before after sure lines b = record {
 -- ---- what is said of lines may be said in other words
 
 all_by : (P Q : List (List ℕ) → Type 0) → ((lines : List (List ℕ)) → P lines → Q lines) → (old new : Pulled) (sink : Pushed) → ReadsAll P old new sink → ReadsAll Q old new sink
-all_by P Q f old new sink r = record { read = r.read; consumed = r.consumed; at_end = r.at_end; served = f _ r.served; ended = r.ended; sound = r.sound; well = r.well }
+all_by P Q f old new sink r = record { read = r.read; pulled = r.pulled; consumed = r.consumed; at_end = r.at_end; served = f _ r.served; ended = r.ended; sound = r.sound; well = r.well }
 
 some_by : (P Q : List (List ℕ) → Type 0) → ((lines : List (List ℕ)) → P lines → Q lines) → (failed : Bool) (old new : Pulled) (sink : Pushed) → ReadsSome P failed old new sink → ReadsSome Q failed old new sink
-some_by P Q f failed old new sink r = record { read = r.read; consumed = r.consumed; served = f _ r.served; unended = r.unended; failing = r.failing; well = r.well }
+some_by P Q f failed old new sink r = record { read = r.read; pulled = r.pulled; consumed = r.consumed; served = f _ r.served; unended = r.unended; failing = r.failing; well = r.well }
 
 breaks_by : (P Q : ℕ → List (List ℕ) → Type 0) → ((sure : ℕ) (lines : List (List ℕ)) → P sure lines → Q sure lines) → (old new : Pulled) (sink : Pushed) → Breaks P old new sink → Breaks Q old new sink
-breaks_by P Q f old new sink r = record { earlier = r.earlier; last = r.last; one_read = r.one_read; consumed = r.consumed; broken = f _ _ r.broken; sound = r.sound; broke = r.broke }
+breaks_by P Q f old new sink r = record { earlier = r.earlier; last = r.last; one_read = r.one_read; pulled = r.pulled; consumed = r.consumed; broken = f _ _ r.broken; sound = r.sound; broke = r.broke }
 
 pub serves_to : (reads : ℕ) (old new : Libraries) (source_old source_new : Pulled) (sink_old sink_new : Pushed) (result : Result (Unit {0}) RunFault)
     → EndsBy (λ lines. Serves BrokerStep old lines new sink_old sink_new) (λ sure lines. BrokenOff BrokerStep old sure lines new sink_old sink_new) reads source_old source_new sink_new result

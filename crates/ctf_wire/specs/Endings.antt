@@ -26,6 +26,7 @@ lines_read ended bs = if ended then all_lines bs else whole_lines bs
 pub record ReadsAll (Served : List (List ℕ) → Type 0) (old new : Pulled)
     (sink : Pushed) : Type 0 where
   pub read : List ℕ
+  pub pulled : new.read ≡ old.read ++ read
   pub consumed : Consumes old.remaining new.remaining read
   pub at_end : IsAtEnd new.remaining
   pub served : Served (all_lines read)
@@ -37,6 +38,7 @@ pub record ReadsAll (Served : List (List ℕ) → Type 0) (old new : Pulled)
 pub record ReadsSome (Served : List (List ℕ) → Type 0) (failed : Bool) (old new : Pulled)
     (sink : Pushed) : Type 0 where
   pub read : List ℕ
+  pub pulled : new.read ≡ old.read ++ read
   pub consumed : Consumes old.remaining new.remaining read
   pub served : Served (whole_lines read)
   pub unended : new.ended ≡ false
@@ -50,6 +52,7 @@ pub record Breaks (Broken : ℕ → List (List ℕ) → Type 0) (old new : Pulle
   pub earlier : List ℕ
   pub last : List ℕ
   pub one_read : length last ≤ 65536
+  pub pulled : new.read ≡ old.read ++ (earlier ++ last)
   pub consumed : Consumes old.remaining new.remaining (earlier ++ last)
   pub broken : Broken (length (whole_lines earlier)) (lines_read new.ended (earlier ++ last))
   pub sound : new.failed ≡ false

@@ -1,13 +1,14 @@
 -- What is known of where bytes come from and where they go. Source: ours.
-use Rattle.std.specs.Prelude.{◌≡◌, ℕ, ◌+◌, ◌==◌, ◌||◌, List, take, Bool, false, not, Option, None, Some, IfSome, MatchOption, is_none}
+use Rattle.std.specs.Prelude.{◌≡◌, ℕ, ◌+◌, ◌++◌, ◌==◌, ◌||◌, List, [], take, Bool, false, not, Option, None, Some, IfSome, MatchOption, is_none}
 use Rattle.std.specs.Io.KnownBytes.{Appends, Consumes, IsAtEnd, Keeps}
 use Rattle.ctf_wire.specs.Flushes.{Flushes, after_push, after_flush}
 
 -- ---- sources
 
--- the bytes that are still to come, where they are known, how many pulls were made,
--- and whether one of them met the end or failed
+-- the bytes that were pulled so far, those that are still to come, where they are known,
+-- how many pulls were made, and whether one of them met the end or failed
 pub record Pulled : Type 0 where
+  pub read : List ℕ
   pub remaining : Option (List ℕ)
   pub pulls : ℕ
   pub ended : Bool
@@ -18,8 +19,14 @@ abbrev pub meets_end : Option ℕ → Bool
 meets_end None = false
 meets_end (Some n) = n == 0
 
+-- the bytes that a pull moved to the front of the buffer
+abbrev pub moved : Option ℕ → List ℕ → List ℕ
+moved None buffer = []
+moved (Some n) buffer = take n buffer
+
 -- one pull: it moved some bytes to the front of the buffer, none only at the end, or it failed
 pub record Pulls (old : Pulled) (result : Option ℕ) (buffer : List ℕ) (new : Pulled) : Type 0 where
+  pub read : new.read ≡ old.read ++ moved result buffer
   pub bytes : MatchOption result (Keeps old.remaining new.remaining)
       (λ n. Consumes old.remaining new.remaining (take n buffer))
   pub at_end : IfSome result (λ n. n ≡ 0 → IsAtEnd new.remaining)

@@ -14,6 +14,7 @@ pub record TurnGoes {S : Type 0} (Step : S → Option (List ℕ) → List ℕ �
     (held : Option (List ℕ)) (source : Pulled) (sink : Pushed) (new : S)
     (held_new : Option (List ℕ)) (source_new : Pulled) (sink_new : Pushed) : Type 0 where
   pub bytes : List ℕ
+  pub pulled : source_new.read ≡ source.read ++ bytes
   pub consumed : Consumes source.remaining source_new.remaining bytes
   pub ended : source_new.ended ≡ source.ended
   pub failed : source_new.failed ≡ source.failed
@@ -25,6 +26,7 @@ pub record TurnGoes {S : Type 0} (Step : S → Option (List ℕ) → List ℕ �
 pub record TurnEnds {S : Type 0} (Step : S → Option (List ℕ) → List ℕ → S → Type 0) (old : S)
     (held : Option (List ℕ)) (source : Pulled) (sink : Pushed) (new : S)
     (source_new : Pulled) (sink_new : Pushed) : Type 0 where
+  pub pulled : source_new.read ≡ source.read ++ []
   pub consumed : Consumes source.remaining source_new.remaining []
   pub at_end : IsAtEnd source_new.remaining
   pub ended : source_new.ended ≡ true
@@ -36,6 +38,7 @@ pub record TurnEnds {S : Type 0} (Step : S → Option (List ℕ) → List ℕ �
 -- the pull failed, and nothing else happened
 pub record TurnUnread {S : Type 0} (old : S) (source : Pulled) (sink : Pushed) (new : S)
     (source_new : Pulled) (sink_new : Pushed) : Type 0 where
+  pub pulled : source_new.read ≡ source.read ++ []
   pub consumed : Consumes source.remaining source_new.remaining []
   pub ended : source_new.ended ≡ source.ended
   pub failed : source_new.failed ≡ true
@@ -48,6 +51,7 @@ pub record TurnBreaks {S : Type 0} (Step : S → Option (List ℕ) → List ℕ 
     (source_new : Pulled) (sink_new : Pushed) : Type 0 where
   pub bytes : List ℕ
   pub one_read : length bytes ≤ 65536
+  pub pulled : source_new.read ≡ source.read ++ bytes
   pub consumed : Consumes source.remaining source_new.remaining bytes
   pub failed : source_new.failed ≡ source.failed
   pub broken : (start : S) (before : Pushed) (read : List ℕ) → source.ended ≡ false

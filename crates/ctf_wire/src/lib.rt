@@ -4,6 +4,7 @@
 mod batch;
 mod engine;
 mod feeding;
+mod histories;
 mod machines;
 mod pending;
 mod pieces;

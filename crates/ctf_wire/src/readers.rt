@@ -1,6 +1,7 @@
 //! A source over a reader.
-ghost use Rattle.std.specs.Prelude.{◌≡◌, false};
+ghost use Rattle.std.specs.Prelude.{◌≡◌, [], false};
 
+use crate::histories::PullHistory;
 use crate::sources::Source;
 use std::io::Read;
 
@@ -8,6 +9,7 @@ use std::io::Read;
 #[derive(Drop)]
 pub struct FromReader<R> {
     reader: R,
+    history: PullHistory,
     pulls: u64,
     ended: bool,
     failed: bool,
@@ -17,12 +19,14 @@ impl<R> FromReader<R> {
     /// Nothing is read yet.
     pub fn new(reader: R) -> Self
         ensures reader { result.reader ≡ reader }
+        ensures history { result.history.bytes ≡ [] }
         ensures pulls { result.pulls ≡ 0 }
         ensures ended { result.ended ≡ false }
         ensures failed { result.failed ≡ false }
     {
         FromReader {
             reader,
+            history: PullHistory::new(),
             pulls: 0,
             ended: false,
             failed: false,
@@ -32,6 +36,7 @@ impl<R> FromReader<R> {
 
 impl<R: Read> Source for FromReader<R> {
     ghost pulled = { λ s. record {
+      read = s.history.bytes;
       remaining = R.remaining s.reader;
       pulls = s.pulls;
       ended = s.ended;
@@ -45,7 +50,10 @@ impl<R: Read> Source for FromReader<R> {
                 self.ended = true;
                 Some(0)
             }
-            Ok(n) => Some(n),
+            Ok(n) => {
+                self.history.note(&buffer[..n]);
+                Some(n)
+            }
             Err(_) => {
                 self.failed = true;
                 None

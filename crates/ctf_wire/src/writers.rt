@@ -1,14 +1,16 @@
 //! A sink over a writer.
-ghost use Rattle.std.specs.Prelude.{◌≡◌, false, None};
+ghost use Rattle.std.specs.Prelude.{◌≡◌, [], false, Some};
 
+use crate::histories::PushHistory;
 use crate::sinks::Sink;
 use std::io::Write;
 
-/// Pushes to a writer. An interrupted write is a failed one. Nothing is known of what a writer's
-/// flush does.
+/// Pushes to a writer. An interrupted write is a failed one. A clause sees the pieces that its
+/// flushes ended, whatever is known of the writer.
 #[derive(Drop)]
 pub struct ToWriter<W> {
     writer: W,
+    history: PushHistory,
     failed: bool,
 }
 
@@ -16,10 +18,12 @@ impl<W> ToWriter<W> {
     /// Nothing is written yet.
     pub fn new(writer: W) -> Self
         ensures writer { result.writer ≡ writer }
+        ensures history { result.history.flushes ≡ record { pieces = []; waiting = [] } }
         ensures failed { result.failed ≡ false }
     {
         ToWriter {
             writer,
+            history: PushHistory::new(),
             failed: false,
         }
     }
@@ -28,7 +32,7 @@ impl<W> ToWriter<W> {
 impl<W: Write> Sink for ToWriter<W> {
     ghost pushed = { λ s. record {
       contents = W.contents s.writer;
-      flushes = None;
+      flushes = Some s.history.flushes;
       failed = s.failed;
     } };
 
@@ -38,7 +42,10 @@ impl<W: Write> Sink for ToWriter<W> {
                 self.failed = true;
                 None
             }
-            Ok(n) => Some(n),
+            Ok(n) => {
+                self.history.note(&bytes[..n]);
+                Some(n)
+            }
             Err(_) => {
                 self.failed = true;
                 None
@@ -48,7 +55,10 @@ impl<W: Write> Sink for ToWriter<W> {
 
     fn flush(&mut self) -> bool {
         match self.writer.flush() {
-            Ok(()) => true,
+            Ok(()) => {
+                self.history.note_flush();
+                true
+            }
             Err(_) => {
                 self.failed = true;
                 false

@@ -1,4 +1,4 @@
-use Rattle.std.proofs.Common.{arith, ◌≡◌, ◌∙◌, ap, sym, subst, List, [], ℕ, Option, ◌+◌, ◌++◌, Bool, Ok, Err, true, false}
+use Rattle.std.proofs.Common.{arith, ◌≡◌, ◌∙◌, ap, sym, subst, List, [], ℕ, Option, ◌+◌, ◌++◌, append_assoc, append-nil, Bool, Ok, Err, true, false}
 use Rattle.std.proofs.KnownBytes.{Consumes-nil, Consumes-trans}
 use Rattle.ctf_wire.specs.Standing.{Stands}
 use Rattle.ctf_wire.specs.Turning.{Turns}
@@ -11,6 +11,7 @@ loop-turn-init g c =
     let P : Option (List ℕ) → Type 0 = λ held. Stands g.M.Machine.Step c.args.machine.now (g.K.Sink.pushed c.args.sink.now) [] c.args.machine.now held (g.K.Sink.pushed c.args.sink.now) in
     record {
       read = [];
+      pulled = sym (append-nil _);
       consumed = Consumes-nil _;
       stands = subst P (sym c.in-Ok.ensures) (Stands-none g.M.Machine.Step _ _);
       counted = omega arith;
@@ -29,6 +30,7 @@ loop-turn-preserved g c =
     let stands = t.stands _ _ _ i.stands in
     record {
       read = i.read ++ t.bytes;
+      pulled = t.pulled ∙ ap (λ bs. bs ++ t.bytes) i.pulled ∙ append_assoc _ i.read t.bytes;
       consumed = Consumes-trans _ _ _ _ _ i.consumed t.consumed;
       stands = stands;
       counted = omega (arith, counted, before);
@@ -42,9 +44,9 @@ returns-in-Ok-false-clause-ends g c =
     let i = c.loop-turn.invariant in
     let T : Bool → Type 0 = λ b. Turns g.M.Machine.Step c.loop-turn.machine c.loop-turn.run (g.S.Source.pulled c.loop-turn.source) (g.K.Sink.pushed c.loop-turn.sink) (Ok b) c.turn.new.machine c.turn.new.self (g.S.Source.pulled c.turn.new.source) (g.K.Sink.pushed c.turn.new.sink) in
     let t = subst T c.in-Ok-false.field-0-test c.in-Ok-false.ensures.turns in
-    turn_ends g.M.Machine.Step _ _ _ _ c.turn.new.self c.args.reads _ _ _ _ _ _ i.read i.consumed i.stands i.unended i.sound c.requires.writable t
+    turn_ends g.M.Machine.Step _ _ _ _ c.turn.new.self c.args.reads _ _ _ _ _ _ i.read i.pulled i.consumed i.stands i.unended i.sound c.requires.writable t
 
 pub returns-in-Err-clause-ends : goal.returns-in-Err-clause-ends
 returns-in-Err-clause-ends g c =
     let i = c.loop-turn.invariant in
-    turn_fails g.M.Machine.Step _ _ _ _ c.turn.new.self c.args.reads _ _ _ _ _ _ i.read i.consumed i.stands i.unended i.sound c.requires.writable c.in-Err.fault c.in-Err.ensures.turns
+    turn_fails g.M.Machine.Step _ _ _ _ c.turn.new.self c.args.reads _ _ _ _ _ _ i.read i.pulled i.consumed i.stands i.unended i.sound c.requires.writable c.in-Err.fault c.in-Err.ensures.turns

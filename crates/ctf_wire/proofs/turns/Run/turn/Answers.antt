@@ -24,6 +24,7 @@ returns-then-not-take_in-clause-turns g c =
     record {
       bytes = bytes;
       one_read = let short = length-front c.in-Some.count c.pull.new.buffer in let full : length c.pull.new.buffer ≡ 65536 = c.pull.auto.buffer ∙ c.deref_mut.ensures.len ∙ c.self.invariant.3 in omega (arith, short, full);
+      pulled = pulled.read;
       consumed = pulled.bytes;
       failed = pulled.failed;
       broken = λ start before read unended stands.
@@ -40,6 +41,7 @@ returns-clause-turns g c =
     let same : take c.in-Some.count c.deref.result.now ≡ bytes = ap (take c.in-Some.count) c.deref.ensures.value ∙ take-written c.in-Some.count _ c.pull.new.buffer _ (c.pull.auto.buffer ∙ c.deref_mut.ensures.len) in
     record {
       bytes = bytes;
+      pulled = pulled.read;
       consumed = pulled.bytes;
       ended = pulled.ended ∙ ap (λ t. t || (g.S.Source.pulled c.args.source.now).ended) (not_zero _ c.if-count-eq0.false);
       failed = pulled.failed;
