@@ -12,10 +12,10 @@ use Rattle.ctf_draft.specs.TypeView.{type_of}
 use Rattle.ctf_draft.proofs.Known.{terms_known}
 use Rattle.ctf_draft.proofs.Views.{all_labels, label_free, labelled, one_label, seen, label_accepted}
 use Rattle.ctf_draft.proofs.draft.Draft.label.Goals as goal
-use Rattle.ctf_draft.proofs.draft.Draft.label.Goals.{In-Ok}
+use Rattle.ctf_draft.proofs.draft.Draft.label.Goals.{In_ok-push}
 
 -- the label is accepted
-accepted : (c : In-Ok) → add_label c.args.self.now.draft (record { name = c.args.name; last = c.args.last }) ≡ Ok (seen c.self.inside.parname c.self.inside.parlabel (parent_in c.self.inside.parent) c.self.inside.model c.self.inside.updated c.self.inside.updated_labels (map type_of c.self.inside.types.items) c.push.new.self)
+accepted : (c : In_ok-push) → add_label c.args.self.now.draft (record { name = c.args.name; last = c.args.last }) ≡ Ok (seen c.self.inside.parname c.self.inside.parlabel (parent_in c.self.inside.parent) c.self.inside.model c.self.inside.updated c.self.inside.updated_labels (map type_of c.self.inside.types.items) c.push.new.self)
 accepted c =
     let d = c.self.inside in
     let parent = parent_in d.parent in
@@ -23,7 +23,7 @@ accepted c =
     let l : Label = record { name = c.args.name; last = c.args.last } in
     let inside = c.self.invariant.1 in
     let view = ap (λ o. o.draft) c.self.view_is in
-    let all : c.push.new.self ≡ d.labels ++ l ∷ [] = c.in-Ok.ensures.ok ∙ ap (λ (n : List ℕ). d.labels ++ (record { name = n; last = c.args.last }) ∷ []) c.into_vec.ensures in
+    let all : c.push.new.self ≡ d.labels ++ l ∷ [] = c.in_ok-push.ensures.ok ∙ ap (λ (n : List ℕ). d.labels ++ (record { name = n; last = c.args.last }) ∷ []) c.into_vec.ensures in
     let zeros : has_zero c.args.name ≡ c.has_zero.result = sym (c.has_zero.ensures ∙ ap has_zero c.as_slice.ensures) in
     let names : list_any (bytes_eq c.args.name) (map (λ l. l.name) d.labels) ≡ c.has.result = sym (c.has.ensures ∙ ap (λ (n : List ℕ). list_any (bytes_eq n) (map (λ l. l.name) d.labels)) c.as_slice-2.ensures) in
     let one = one_label d.parname d.parlabel parent d.model d.updated d.updated_labels terms d.labels l (omega arith) in
@@ -31,14 +31,14 @@ accepted c =
     ∙ labelled c.args.self.now.draft (seen d.parname d.parlabel parent d.model d.updated d.updated_labels terms d.labels) l (seen d.parname d.parlabel parent d.model d.updated d.updated_labels terms c.push.new.self) (sym view) (one ∙ ap (λ (ls : List Label). seen d.parname d.parlabel parent d.model d.updated d.updated_labels terms ls) (sym all))
 
 pub returns-clause-ok : goal.returns-clause-ok
-returns-clause-ok c = accepted (goal.at.returns-clause-ok c).In-Ok
+returns-clause-ok c = accepted (goal.at.returns-clause-ok c).In_ok-push
 
 pub invariant_of-self-2 : goal.invariant_of-self-2
 invariant_of-self-2 c =
     let d = c.self.inside in
     let l : Label = record { name = c.args.name; last = c.args.last } in
-    let all : c.push.new.self ≡ d.labels ++ l ∷ [] = c.in-Ok.ensures.ok ∙ ap (λ (n : List ℕ). d.labels ++ (record { name = n; last = c.args.last }) ∷ []) c.into_vec.ensures in
+    let all : c.push.new.self ≡ d.labels ++ l ∷ [] = c.in_ok-push.ensures.ok ∙ ap (λ (n : List ℕ). d.labels ++ (record { name = n; last = c.args.last }) ∷ []) c.into_vec.ensures in
     let more = ap length all in
     let len = length-append d.labels (l ∷ []) in
     let sound = subst IsSound (ap (λ o. o.draft) c.self.view_is) c.self.invariant.4 in
-    (c.self.invariant.0, omega (arith, more, len, c.self.invariant.1), c.self.invariant.2, c.self.invariant.3, label_sound c.args.self.now.draft l _ sound (omega (arith, c.ranges.last.fits)) (accepted (goal.at.invariant_of-self-2 c).In-Ok), terms_known d.parname d.parlabel (parent_in d.parent) d.model d.marks d.updated d.updated_labels d.updated d.updated_labels (map type_of d.types.items) d.labels c.push.new.self c.self.invariant.5)
+    (c.self.invariant.0, omega (arith, more, len, c.self.invariant.1), c.self.invariant.2, c.self.invariant.3, label_sound c.args.self.now.draft l _ sound (omega (arith, c.ranges.last.fits)) (accepted (goal.at.invariant_of-self-2 c).In_ok-push), terms_known d.parname d.parlabel (parent_in d.parent) d.model d.marks d.updated d.updated_labels d.updated d.updated_labels (map type_of d.types.items) d.labels c.push.new.self c.self.invariant.5)
