@@ -6,14 +6,14 @@ use Rattle.ctf_library.proofs.answering.answer_on.Goals as goal
 pub returns-in-Lent-clause-answer : goal.returns-in-Lent-clause-answer
 returns-in-Lent-clause-answer c =
     let s = space_of c.args.space.now in
-    inl (c.in-Lent.ensures ∙ ap (said_of c.args.question.now s c.args.t.0) c.in-Ok.ensures)
+    inl (c.in-Lent.ensures ∙ ap (said_of c.args.question.now s c.args.t.0) c.in_ok-found.ensures)
 
 pub returns-in-Lent-clause-quiet : goal.returns-in-Lent-clause-quiet
 returns-in-Lent-clause-quiet c =
     let s = space_of c.args.space.now in
-    λ quiet. c.in-Lent.ensures ∙ ap (said_of c.args.question.now s c.args.t.0) c.in-Ok.ensures
+    λ quiet. c.in-Lent.ensures ∙ ap (said_of c.args.question.now s c.args.t.0) c.in_ok-found.ensures
 
 pub returns-in-Lent-clause-lent : goal.returns-in-Lent-clause-lent
 returns-in-Lent-clause-lent c =
     let s = space_of c.args.space.now in
-    λ lent. c.in-Lent.ensures ∙ ap (said_of c.args.question.now s c.args.t.0) c.in-Ok.ensures
+    λ lent. c.in-Lent.ensures ∙ ap (said_of c.args.question.now s c.args.t.0) c.in_ok-found.ensures

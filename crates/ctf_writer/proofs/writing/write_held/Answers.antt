@@ -37,5 +37,5 @@ returns-clause-ok c =
     let len = c.in-Some.ensures.2 in
     let short = c.in-Some.ensures.3 in
     let few : length (bytes_of (dictionary_of c.args.held)) ≤ most_written = omega (arith, len, short) in
-    let all : c.put_held.new.out.items ≡ bytes_of (dictionary_of c.args.held) = c.put_held.ensures.items ∙ ap (λ (b : List ℕ). b ++ bytes_of (dictionary_of c.args.held)) c.in-Ok.ensures.items in
+    let all : c.put_held.new.out.items ≡ bytes_of (dictionary_of c.args.held) = c.put_held.ensures.items ∙ ap (λ (b : List ℕ). b ++ bytes_of (dictionary_of c.args.held)) c.in_ok-out.ensures.items in
     accepted (dictionary_of c.args.held) good.0 good.1 few ∙ ap (λ (b : List ℕ). Ok b) (sym all)

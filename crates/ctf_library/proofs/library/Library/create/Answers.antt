@@ -17,7 +17,7 @@ pub overflow_add-self : goal.overflow_add-self
 overflow_add-self c =
     let view : State = record { slots = map slot_of c.reserve.new.self.items; next = c.self.inside.next; stage = lists_owned c.self.inside.stage; published = map publication_of c.self.inside.published.items } in
     let same : view ≡ c.args.self.now = ap (λ (xs : List own.Slot). record view { slots = map slot_of xs }) c.reserve.ensures.items ∙ c.self.view_is in
-    let le : charge view + slot_bytes (slot_of c.in-Ok.slot) ≤ quota = c.in-Ok.ensures.room in
+    let le : charge view + slot_bytes (slot_of c.in_ok-slot.slot) ≤ quota = c.in_ok-slot.ensures.room in
     let charged = ap charge same ∙ counted_charge _ _ _ _ _ _ _ c.self.view_is c.self.invariant.2 in
     let count = c.bytes.ensures in
     omega (arith, le, charged, count)
@@ -26,7 +26,7 @@ pub invariant_of-self-3 : goal.invariant_of-self-3
 invariant_of-self-3 c =
     let view : State = record { slots = map slot_of c.reserve.new.self.items; next = c.self.inside.next; stage = lists_owned c.self.inside.stage; published = map publication_of c.self.inside.published.items } in
     let same : view ≡ c.args.self.now = ap (λ (xs : List own.Slot). record view { slots = map slot_of xs }) c.reserve.ensures.items ∙ c.self.view_is in
-    let le : charge view + slot_bytes (slot_of c.in-Ok.slot) ≤ quota = c.in-Ok.ensures.room in
+    let le : charge view + slot_bytes (slot_of c.in_ok-slot.slot) ≤ quota = c.in_ok-slot.ensures.room in
     let charged = ap charge same ∙ counted_charge _ _ _ _ _ _ _ c.self.view_is c.self.invariant.2 in
     let count = c.bytes.ensures in
     let pushed = c.push_slot.ensures.bytes in
@@ -38,7 +38,7 @@ pub returns : goal.returns
 returns c =
     let view : State = record { slots = map slot_of c.reserve.new.self.items; next = c.self.inside.next; stage = lists_owned c.self.inside.stage; published = map publication_of c.self.inside.published.items } in
     let same : view ≡ c.args.self.now = ap (λ (xs : List own.Slot). record view { slots = map slot_of xs }) c.reserve.ensures.items ∙ c.self.view_is in
-    let le : charge view + slot_bytes (slot_of c.in-Ok.slot) ≤ quota = c.in-Ok.ensures.room in
-    let done = c.in-Ok.ensures.ok.0 ∙ create_done (slot_of c.in-Ok.slot) view le in
-    let to = ap (λ (s : State). creates c.args.creation.now s) (sym same) ∙ done ∙ ap (λ (s : State). grants (says (codes "d") (answers.number s.next) ∷ []) (record s { slots = s.slots ++ slot_of c.in-Ok.slot ∷ []; next = s.next + 1 })) same in
+    let le : charge view + slot_bytes (slot_of c.in_ok-slot.slot) ≤ quota = c.in_ok-slot.ensures.room in
+    let done = c.in_ok-slot.ensures.ok.0 ∙ create_done (slot_of c.in_ok-slot.slot) view le in
+    let to = ap (λ (s : State). creates c.args.creation.now s) (sym same) ∙ done ∙ ap (λ (s : State). grants (says (codes "d") (answers.number s.next) ∷ []) (record s { slots = s.slots ++ slot_of c.in_ok-slot.slot ∷ []; next = s.next + 1 })) same in
     rw to (inl (search rules, search rules))

@@ -20,6 +20,6 @@ invariant_of-self-2 c =
     let small = c.self.invariant.2.small in
     let was = c.self.invariant.2.published in
     let count = c.bytes-bytes.ensures.count in
-    let more = ap (λ (ps : List own.Publication). bytes_published ps) (c.push_reserved.ensures.items ∙ ap (λ (ps : List own.Publication). ps ++ record { name = c.in-Ok.name; loaded = c.args.loaded } ∷ []) c.reserve.ensures.items) in
-    let one = published_push c.self.inside.published.items (record { name = c.in-Ok.name; loaded = c.args.loaded }) in
+    let more = ap (λ (ps : List own.Publication). bytes_published ps) (c.push_reserved.ensures.items ∙ ap (λ (ps : List own.Publication). ps ++ record { name = c.in_ok-name.name; loaded = c.args.loaded } ∷ []) c.reserve.ensures.items) in
+    let one = published_push c.self.inside.published.items (record { name = c.in_ok-name.name; loaded = c.args.loaded }) in
     (c.self.invariant.0, c.self.invariant.1, record { slots = c.self.invariant.2.slots; published = omega (arith, was, count, more, one); small = omega (arith, charged, few, small) })
