@@ -18,12 +18,12 @@ use crate::places::{find_slot, push_slot, remove_slot, set_parent, step_draft};
 use crate::pool::Pool;
 use crate::publications::{Publication, find_published, remove_published};
 use crate::slots::Slot;
-use crate::staging::{judge, stage_piece};
+use crate::staging::Stage;
 use ctf_answers::{Answer, Counts};
-use ctf_open::{Imported, Loaded, owned_bytes, tables_over};
+use ctf_open::{Imported, Loaded, tables_over};
 use ctf_protocol::{
-    Change, Creation, DataModel, DraftStep, Fault, ListName, Parts, PublicationName, Question,
-    SlotNumber, no_parts, placeless,
+    Change, Creation, DataModel, DraftStep, Fault, ListName, PublicationName, Question, SlotNumber,
+    placeless,
 };
 use std::alloc::Global;
 use std::marker::Model;
@@ -40,7 +40,7 @@ pub struct Library {
     slots: Vec<Slot>,
     slot_bytes: u128,
     next: u64,
-    stage: Parts,
+    stage: Stage,
     published: Vec<Publication>,
     published_bytes: u128,
 }
@@ -49,7 +49,6 @@ impl Model for Library {
     ghost use Rattle.std.specs.Prelude.{◌≡◌, ◌≤◌, ◌^◌, None, map, true};
     ghost use Rattle.ctf_library.specs.Charged.{IsCounted};
     ghost use Rattle.ctf_library.specs.SlotOrder.{rise_between};
-    ghost use Rattle.ctf_model.specs.format.OwnedLists.{lists_owned};
     ghost use Rattle.ctf_protocol.specs.sessions.State.{State};
     ghost use Rattle.ctf_library.specs.SlotView.{publication_of, slot_of};
 
@@ -58,13 +57,13 @@ impl Model for Library {
     ghost view = { λ l. record {
       slots = map slot_of l.slots.items;
       next = l.next;
-      stage = lists_owned l.stage;
+      stage = l.stage;
       published = map publication_of l.published.items;
     } };
 
     ghost invariant = { λ l. (l.next ≤ 2 ^ 32)
         × (rise_between 0 l.slots.items l.next ≡ true)
-        × IsCounted l.slots.items l.published.items (lists_owned l.stage) l.slot_bytes
+        × IsCounted l.slots.items l.published.items l.stage l.slot_bytes
         l.published_bytes };
 }
 
@@ -78,7 +77,7 @@ impl Library {
             slots: Vec::new(alloc),
             slot_bytes: 0,
             next: 1,
-            stage: no_parts(alloc),
+            stage: Stage::new(alloc),
             published: Vec::new(alloc),
             published_bytes: 0,
         }
@@ -144,24 +143,24 @@ impl Library {
     fn charge(&self) -> u128
         ensures { result ≡ charge self.now }
     {
-        owned_bytes(&self.stage) + (self.slot_bytes + self.published_bytes)
+        self.stage.bytes() + (self.slot_bytes + self.published_bytes)
     }
 
     fn part(&mut self, list: ListName, piece: &[u8]) -> Result<Counts, Fault>
         ensures { Makes self.old (parts list piece.now self.old) result self.new }
     {
         let has_room = fits(self.charge(), piece.len() as u128);
-        let added = stage_piece(self.alloc, &mut self.stage, list, piece, has_room);
+        let added = self.stage.add(self.alloc, list, piece, has_room);
         match added {
             Ok(length) => Ok(Counts::one("length", length)),
             Err(fault) => Err(fault),
         }
     }
 
-    fn check(&self) -> Result<Counts, Fault>
-        ensures { Makes self.now (checks self.now) result self.now }
+    fn check(&mut self) -> Result<Counts, Fault>
+        ensures { Makes self.old (checks self.old) result self.new }
     {
-        match judge(self.alloc, &self.stage) {
+        match self.stage.check(self.alloc) {
             Ok(()) => Ok(Counts::done()),
             Err(fault) => Err(fault),
         }
@@ -180,9 +179,12 @@ impl Library {
         if !self.has_room() {
             return Err(placeless(Fault::SLOTS_FULL));
         }
+        if let Some(fault) = self.stage.known_fault() {
+            return Err(fault);
+        }
         self.slots.reserve(1)?;
-        let parts = mem::replace(&mut self.stage, no_parts(self.alloc));
-        match pool.open(parts, model) {
+        let stage = mem::replace(&mut self.stage, Stage::new(self.alloc));
+        match pool.open(stage.into_parts(), model) {
             Ok(loaded) => {
                 let number = self.next as u32;
                 let types = loaded.view().count() as u64;
@@ -192,7 +194,7 @@ impl Library {
                 Ok(Counts::two("d", u64::from(number), "types", types))
             }
             Err((fault, parts)) => {
-                self.stage = parts;
+                self.stage = Stage::refused(parts, fault);
                 Err(fault)
             }
         }
@@ -201,7 +203,7 @@ impl Library {
     fn clear(&mut self) -> Result<Counts, Fault>
         ensures { Does (clears self.old) result self.new }
     {
-        self.stage = no_parts(self.alloc);
+        self.stage = Stage::new(self.alloc);
         Ok(Counts::done())
     }
 

@@ -1,15 +1,19 @@
-//! Staged lists.
-ghost use Rattle.std.specs.Prelude.{true, ◌≡◌, ◌≢◌, ◌≤◌, ◌<◌, ◌⊎◌, ◌++◌, length, [], Some, None, OnOk, OnErr, IfOk, IfErr, unwrap_or};
-ghost use Rattle.ctf_model.specs.rules.Faults.{first_fault};
+//! Staged lists, and what is known of them.
+ghost use Rattle.std.specs.Prelude.{true, ◌≡◌, ◌≢◌, ◌≤◌, ◌<◌, ◌⊎◌, ◌++◌, length, [], Some, None, OnOk, OnErr, IfOk, IfErr, IfSome, unwrap_or};
+ghost use Rattle.ctf_model.specs.rules.Faults.{first_fault as fault_of};
+ghost use Rattle.ctf_model.specs.format.Lists.{no_lists};
 ghost use Rattle.ctf_model.specs.format.OwnedLists.{lists_owned};
+ghost use Rattle.ctf_model.specs.opened.Sizes.{lists_bytes};
 ghost use Rattle.ctf_library.specs.Quotas.{IsFull, IsStaged};
 ghost use Rattle.ctf_model.specs.rules.Refusals.{placeless, want_of_memory};
 ghost use Rattle.ctf_protocol.specs.sessions.Steps.{longest_list, staged};
 ghost use Rattle.ctf_model.specs.declared.faults.TheConstants.Fault.{STAGE_FULL};
 
 use ctf_check::{check, lent};
-use ctf_protocol::{Bytes, Fault, ListName, Parts, placeless};
-use std::alloc::Global;
+use ctf_open::owned_bytes;
+use ctf_protocol::{Bytes, Fault, ListName, Parts, no_parts, placeless};
+use std::alloc::{AllocError, Global};
+use std::marker::Model;
 
 /// The greatest length of a staged list, in bytes.
 const LONGEST_LIST: usize = 67_108_864;
@@ -61,7 +65,7 @@ fn add_first_piece(
 }
 
 /// Adds a piece to one of the staged lists, and answers how long that is then.
-pub fn stage_piece(
+fn stage_piece(
     alloc: Global,
     stage: &mut Parts,
     list: ListName,
@@ -84,15 +88,122 @@ pub fn stage_piece(
     }
 }
 
-/// Judges lists, and keeps nothing.
-pub fn judge(alloc: Global, lists: &Parts) -> Result<(), Fault>
-    ensures ok { OnOk result (first_fault (lists_owned lists.now) ≡ None) }
-    ensures err { IfErr result (λ f. (f ≡ want_of_memory)
-        ⊎ (first_fault (lists_owned lists.now) ≡ Some f)) }
+/// The first fault of lists, if they have one.
+fn first_fault(alloc: Global, lists: &Parts) -> Result<Option<Fault>, AllocError>
+    ensures { IfOk result (λ fault. fault ≡ fault_of (lists_owned lists.now)) }
 {
     let lists = lent(lists);
     match check(alloc, lists.ctf, lists.sym, lists.strs) {
-        Ok(_) => Ok(()),
-        Err(fault) => Err(fault),
+        Ok(_) => Ok(None),
+        Err(fault) if fault.code == Fault::MEMORY => Err(AllocError),
+        Err(fault) => Ok(Some(fault)),
+    }
+}
+
+/// Staged lists, with their first fault once they were judged: lists that stay as they are, are
+/// judged once. A contract sees the lists alone.
+#[derive(Drop)]
+pub struct Stage {
+    parts: Parts,
+    known: Option<Option<Fault>>,
+}
+
+impl Model for Stage {
+    ghost use Rattle.std.specs.Prelude.{◌≡◌, IfSome};
+    ghost use Rattle.ctf_model.specs.format.Lists.{Lists};
+    ghost use Rattle.ctf_model.specs.format.OwnedLists.{lists_owned};
+    ghost use Rattle.ctf_model.specs.rules.Faults.{first_fault};
+
+    ghost Value = { Lists };
+
+    ghost view = { λ s. lists_owned s.parts };
+
+    ghost invariant = { λ s. IfSome s.known (λ fault. fault ≡ first_fault (lists_owned s.parts)) };
+}
+
+impl Stage {
+    /// Nothing is staged.
+    pub fn new(alloc: Global) -> Stage
+        ensures { result ≡ no_lists }
+    {
+        Stage {
+            parts: no_parts(alloc),
+            known: None,
+        }
+    }
+
+    /// Lists that were not opened, for this fault of theirs or for want of memory.
+    pub fn refused(parts: Parts, fault: Fault) -> Stage
+        requires { (fault ≡ want_of_memory) ⊎ (fault_of (lists_owned parts) ≡ Some fault) }
+        ensures { result ≡ lists_owned parts }
+    {
+        let known = if fault.code == Fault::MEMORY {
+            None
+        } else {
+            Some(Some(fault))
+        };
+        Stage { parts, known }
+    }
+
+    /// The lists.
+    pub fn into_parts(self) -> Parts
+        ensures { lists_owned result ≡ self }
+    {
+        let Stage { parts, .. } = self;
+        parts
+    }
+
+    /// How many bytes they have.
+    pub fn bytes(&self) -> u128
+        ensures { result ≡ lists_bytes self.now }
+    {
+        owned_bytes(&self.parts)
+    }
+
+    /// Adds a piece to one of the lists, and answers how long that is then. The piece may have to
+    /// fit in elsewhere too: whether it does is said.
+    pub fn add(
+        &mut self,
+        alloc: Global,
+        list: ListName,
+        piece: &[u8],
+        fits: bool,
+    ) -> Result<u64, Fault>
+        ensures staged { IfOk result (λ n. IsStaged list piece.now self.old self.new n) }
+        ensures short { OnOk result (length (staged list self.old ++ piece.now) ≤ longest_list) }
+        ensures fits { OnOk result (fits ≡ true) }
+        ensures full { IfErr result (λ f. (f ≡ want_of_memory)
+            ⊎ IsFull fits (length (staged list self.old ++ piece.now)) f) }
+        ensures err { OnErr result (self.new ≡ self.old) }
+    {
+        self.known = None;
+        stage_piece(alloc, &mut self.parts, list, piece, fits)
+    }
+
+    /// Their first fault, if it is known and there is one.
+    pub fn known_fault(&self) -> Option<Fault>
+        ensures { IfSome result (λ fault. fault_of self.now ≡ Some fault) }
+    {
+        match self.known {
+            Some(fault) => fault,
+            None => None,
+        }
+    }
+
+    /// Judges the lists, if that was not done before.
+    pub fn check(&mut self, alloc: Global) -> Result<(), Fault>
+        ensures ok { OnOk result (fault_of self.old ≡ None) }
+        ensures err { IfErr result (λ f. (f ≡ want_of_memory) ⊎ (fault_of self.old ≡ Some f)) }
+        ensures kept { self.new ≡ self.old }
+    {
+        let fault = match self.known {
+            Some(fault) => fault,
+            None => first_fault(alloc, &self.parts)?,
+        };
+        self.known = Some(fault);
+        match fault {
+            Some(fault) => Err(fault),
+            None => Ok(()),
+        }
     }
 }

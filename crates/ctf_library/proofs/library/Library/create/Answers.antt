@@ -5,7 +5,6 @@ use Rattle.ctf_library.proofs.Quota.{create_done}
 use Rattle.ctf_library.specs.Charged.{bytes_in}
 use Rattle.ctf_library.specs.SlotView.{publication_of, slot_of}
 use Rattle.ctf_library.specs.declared.slots.Slot as own
-use Rattle.ctf_model.specs.format.OwnedLists.{lists_owned}
 use Rattle.ctf_protocol.specs.answers.Answers.{says}
 use Rattle.ctf_protocol.specs.answers.Answers as answers
 use Rattle.ctf_protocol.specs.sessions.Charges.{charge, slot_bytes}
@@ -15,7 +14,7 @@ use Rattle.ctf_library.proofs.library.Library.create.Goals as goal
 
 pub overflow_add-self : goal.overflow_add-self
 overflow_add-self c =
-    let view : State = record { slots = map slot_of c.reserve.new.self.items; next = c.self.inside.next; stage = lists_owned c.self.inside.stage; published = map publication_of c.self.inside.published.items } in
+    let view : State = record { slots = map slot_of c.reserve.new.self.items; next = c.self.inside.next; stage = c.self.inside.stage; published = map publication_of c.self.inside.published.items } in
     let same : view ≡ c.args.self.now = ap (λ (xs : List own.Slot). record view { slots = map slot_of xs }) c.reserve.ensures.items ∙ c.self.view_is in
     let le : charge view + slot_bytes (slot_of c.in_ok-slot.slot) ≤ quota = c.in_ok-slot.ensures.room in
     let charged = ap charge same ∙ counted_charge _ _ _ _ _ _ _ c.self.view_is c.self.invariant.2 in
@@ -24,7 +23,7 @@ overflow_add-self c =
 
 pub invariant_of-self-3 : goal.invariant_of-self-3
 invariant_of-self-3 c =
-    let view : State = record { slots = map slot_of c.reserve.new.self.items; next = c.self.inside.next; stage = lists_owned c.self.inside.stage; published = map publication_of c.self.inside.published.items } in
+    let view : State = record { slots = map slot_of c.reserve.new.self.items; next = c.self.inside.next; stage = c.self.inside.stage; published = map publication_of c.self.inside.published.items } in
     let same : view ≡ c.args.self.now = ap (λ (xs : List own.Slot). record view { slots = map slot_of xs }) c.reserve.ensures.items ∙ c.self.view_is in
     let le : charge view + slot_bytes (slot_of c.in_ok-slot.slot) ≤ quota = c.in_ok-slot.ensures.room in
     let charged = ap charge same ∙ counted_charge _ _ _ _ _ _ _ c.self.view_is c.self.invariant.2 in
@@ -36,7 +35,7 @@ invariant_of-self-3 c =
 
 pub returns : goal.returns
 returns c =
-    let view : State = record { slots = map slot_of c.reserve.new.self.items; next = c.self.inside.next; stage = lists_owned c.self.inside.stage; published = map publication_of c.self.inside.published.items } in
+    let view : State = record { slots = map slot_of c.reserve.new.self.items; next = c.self.inside.next; stage = c.self.inside.stage; published = map publication_of c.self.inside.published.items } in
     let same : view ≡ c.args.self.now = ap (λ (xs : List own.Slot). record view { slots = map slot_of xs }) c.reserve.ensures.items ∙ c.self.view_is in
     let le : charge view + slot_bytes (slot_of c.in_ok-slot.slot) ≤ quota = c.in_ok-slot.ensures.room in
     let done = c.in_ok-slot.ensures.ok.0 ∙ create_done (slot_of c.in_ok-slot.slot) view le in

@@ -6,7 +6,6 @@ use Rattle.std.proofs.Common.{length, map}
 use Rattle.ctf_answers.specs.Replies.{changed}
 use Rattle.ctf_library.specs.SlotView.{publication_of, slot_of}
 use Rattle.ctf_library.specs.Stepping.{Makes}
-use Rattle.ctf_model.specs.format.OwnedLists.{lists_owned}
 use Rattle.ctf_protocol.specs.answers.Answers.{Answer}
 use Rattle.ctf_protocol.specs.sessions.Charges.{charge}
 use Rattle.ctf_protocol.specs.sessions.Steps.{parts, quota}
@@ -17,12 +16,12 @@ use Rattle.ctf_library.proofs.library.Library.part.Goals as goal
 pub invariant_of-self : goal.invariant_of-self
 invariant_of-self c =
     let charged = c.charge.ensures ∙ counted_charge _ _ _ _ _ _ _ c.self.view_is c.self.invariant.2 in
-    (c.self.invariant.0, c.self.invariant.1, staged_counted c.stage_piece-added.result c.args.list c.args.piece.now _ _ _ _ _ _ c.charge.result c.fits-has_room.result c.stage_piece-added.ensures.staged c.stage_piece-added.ensures.fits c.stage_piece-added.ensures.err c.fits-has_room.ensures charged c.self.invariant.2)
+    (c.self.invariant.0, c.self.invariant.1, staged_counted c.add-added.result c.args.list c.args.piece.now _ _ _ _ _ _ c.charge.result c.fits-has_room.result c.add-added.ensures.staged c.add-added.ensures.fits c.add-added.ensures.err c.fits-has_room.ensures charged c.self.invariant.2)
 
 pub returns : goal.returns
 returns c =
-    let inside : State = record { slots = map slot_of c.self.inside.slots.items; next = c.self.inside.next; stage = lists_owned c.self.inside.stage; published = map publication_of c.self.inside.published.items } in
-    let stage = lists_owned c.stage_piece-added.new.stage in
+    let inside : State = record { slots = map slot_of c.self.inside.slots.items; next = c.self.inside.next; stage = c.self.inside.stage; published = map publication_of c.self.inside.published.items } in
+    let stage = c.add-added.new.self in
     let known = c.charge.ensures in
     let same : charge inside ≡ charge c.args.self.now = ap charge c.self.view_is in
     let over : c.fits-has_room.result ≡ false → quota < charge inside + length c.args.piece.now = λ e. let lt = room_lt (c.charge.result + length c.args.piece.now) (sym c.fits-has_room.ensures ∙ e) in omega (arith, lt, known, same) in

@@ -4,7 +4,6 @@ use Rattle.ctf_library.proofs.DraftQuota.{made}
 use Rattle.ctf_library.proofs.Rising.{non_decreasing}
 use Rattle.ctf_library.specs.Drafting.{HaveStepped}
 use Rattle.ctf_library.specs.SlotView.{publication_of, slot_of}
-use Rattle.ctf_model.specs.format.OwnedLists.{lists_owned}
 use Rattle.ctf_protocol.specs.sessions.Charges.{charge}
 use Rattle.ctf_library.specs.Stepping.{Makes}
 use Rattle.ctf_protocol.specs.sessions.State.{State}
@@ -27,7 +26,7 @@ invariant_of-self c =
 
 pub returns-clause-step : goal.returns-clause-step
 returns-clause-step c =
-    let inside : State = record { slots = map slot_of c.self.inside.slots.items; next = c.self.inside.next; stage = lists_owned c.self.inside.stage; published = map publication_of c.self.inside.published.items } in
+    let inside : State = record { slots = map slot_of c.self.inside.slots.items; next = c.self.inside.next; stage = c.self.inside.stage; published = map publication_of c.self.inside.published.items } in
     let charged = c.charge.ensures ∙ counted_charge _ _ _ _ _ _ _ c.self.view_is c.self.invariant.2 in
     let same : charge inside ≡ charge c.args.self.now = ap charge c.self.view_is in
     let known = c.charge.ensures in
