@@ -4,12 +4,18 @@
 usage: session.py requests | replies
 
 A list gets as long as it may be: the integer `int`, and zero bytes behind it. What is opened of it is
-published until four times its bytes are held, which is the quota.
+published until four times its bytes are held, which is the quota. Then drafts of other sessions get
+names that come to more bytes than a dictionary may have, a member of a type that is too big, and as
+many enumerators and types as there may be.
 """
+import json
 import sys
 
 INT = bytes.fromhex("f1cf0200" + 24 * "00" + "0c00000005000000" + "01000000000c040020000001" + "00696e7400")
 LONGEST, PIECE = 67_108_864, 262_144
+# A name, and how many of them are too many for the strings of one dictionary.
+NAME, NAMES = 1_000_000, 68
+MOST_ENUMERATORS, MOST_TYPES = 1_023, 32_766
 
 
 def ok(session, body):
@@ -28,6 +34,38 @@ def parts():
         yield request, ok(1, '{"length":%d}' % (at + PIECE))
 
 
+def named_types():
+    """A draft of types with long names, of which no two are the same."""
+    yield '{"s":3,"op":"create"}', ok(3, '{"d":1}')
+    for number in range(1, NAMES + 1):
+        name = str(number).rjust(NAME, "n")
+        request = '{"s":3,"op":"add","d":1,"what":"struct","size":0,"name":"%s"}' % name
+        yield request, ok(3, '{"t":%d}' % number)
+    yield '{"s":3,"op":"update","d":1}', fault(3, 47, "DictTooBig")
+    yield '{"s":3,"op":"discard","d":1}', ok(3, '{"types":0}')
+
+
+def added(what, **fields):
+    """A request that adds to the draft of session 4."""
+    return json.dumps({"s": 4, "op": "add", "d": 1, "what": what, **fields}, separators=(",", ":"))
+
+
+def full_draft():
+    """A draft that gets as many enumerators and types as it may have."""
+    yield '{"s":4,"op":"create"}', ok(4, '{"d":1}')
+    yield added("struct", size=2**63), ok(4, '{"t":1}')
+    yield added("array", contents=1, index=1, count=2), ok(4, '{"t":2}')
+    yield added("struct"), ok(4, '{"t":3}')
+    yield added("member", t=3, type=2), fault(4, 27, "TooBig")
+    yield added("enum"), ok(4, '{"t":4}')
+    for value in range(MOST_ENUMERATORS):
+        yield added("enumerator", t=4, name=f"e{value}", value=value), ok(4, "{}")
+    yield added("enumerator", t=4, name="last", value=0), fault(4, 43, "VlenFull")
+    for number in range(5, MOST_TYPES + 1):
+        yield added("unknown"), ok(4, '{"t":%d}' % number)
+    yield added("unknown"), fault(4, 40, "Full")
+
+
 def rows():
     """Each request with its reply."""
     yield from parts()
@@ -41,6 +79,8 @@ def rows():
     yield '{"s":1,"op":"withdraw","name":"c"}', ok(1, "{}")
     yield '{"s":1,"op":"part","section":"str","bytes":"00"}', ok(1, '{"length":1}')
     yield '{"s":2,"op":"take","owner":1,"name":"a"}', ok(2, '{"d":1,"types":1}')
+    yield from named_types()
+    yield from full_draft()
 
 
 def main(which):

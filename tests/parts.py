@@ -86,6 +86,7 @@ def parts(program: str) -> list[Part]:
         Part("links", ["tests/links.py"]),
         Part("names", ["tests/names.py"]),
         Part("faults", ["tests/faults.py"]),
+        Part("refusals", ["tests/refusals.py"]),
         Part("edits", ["tests/further_edits.py", "--apply"]),
         Part("manual", ["tests/manual.sh"]),
         Part("examples", ["tests/examples.py", program]),
