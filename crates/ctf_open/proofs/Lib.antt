@@ -4,3 +4,4 @@ pub mod Creating
 pub mod DraftParents
 pub mod Fitting
 pub mod Importing
+pub mod Late
