@@ -34,11 +34,6 @@ abbrev pub Gives : {A : Type 0} → Result A Fault → ℕ → A → A → Type 
 Gives (Ok n) status old new = (status ≡ 0) × (new ≡ n)
 Gives (Err fault) status old new = (status ≡ status_of fault) × (new ≡ old)
 
--- the same where memory may be refused
-abbrev pub MayGive : {A : Type 0} → Result A Fault → ℕ → A → A → Type 0
-MayGive answer status old new =
-    Gives answer status old new ⊎ Gives (Err want_of_memory) status old new
-
 -- where names lead to, and which step was refused
 pub record PathTold : Type 0 where
   pub offset : ℕ

@@ -1,3 +1,4 @@
 pub mod Status
 pub mod Asked
 pub mod Starts
+pub mod Serving

@@ -4,15 +4,17 @@
 
 mod files;
 mod models;
+mod serving;
 mod starts;
 mod status;
 mod wanted;
 
 pub use ctf_dump::{DumpEnd, InputFile, Inputs, dump_lists};
 pub use ctf_model::{Bytes, DataModel};
-pub use ctf_wire::{Broker, FromReader, RunFault, ToWriter, serve};
+pub use ctf_wire::{Broker, RunFault};
 pub use files::read_file;
 pub use models::model_named;
+pub use serving::serve_lines;
 pub use starts::NotStarted;
 pub use status::{MISUSED, end, status_told};
 pub use wanted::{Wanted, all_wanted};

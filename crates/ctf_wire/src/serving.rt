@@ -16,7 +16,7 @@ use crate::sinks::Sink;
 use crate::sources::Source;
 use ctf_answers::{Counts, Reply};
 use ctf_broker::Broker;
-use ctf_lines::{FromLine, Scratch, ToLine, write_change};
+use ctf_lines::{FromLine, SHORT_LINE, Scratch, ToLine, memory_line, write_change};
 use ctf_protocol::{Fault, Request, placeless};
 use std::alloc::Global;
 
@@ -28,6 +28,16 @@ fn append_short(out: &mut Vec<u8>, session: u32, outcome: Result<Counts, Fault>)
     let _ = write_change(out, session, outcome);
 }
 
+/// Appends the line that says that memory was refused.
+fn append_memory(out: &mut Vec<u8>, session: u32)
+    requires { HasShortRoom out.old }
+    ensures { Replies out.old (reply_line (no_memory session)) out.new }
+{
+    let mut line = [0; SHORT_LINE];
+    let len = memory_line(session, &mut line);
+    let _ = out.extend_from_slice(&line[..len]);
+}
+
 /// Appends the line of the answer to a question, or that memory for it was refused.
 fn append_answer(out: &mut Vec<u8>, reply: &Reply<'_>)
     requires { HasShortRoom out.old }
@@ -36,7 +46,7 @@ fn append_answer(out: &mut Vec<u8>, reply: &Reply<'_>)
 {
     match reply.write(out) {
         Ok(()) => {}
-        Err(_) => append_short(out, reply.session, Err(placeless(Fault::MEMORY))),
+        Err(_) => append_memory(out, reply.session),
     }
 }
 

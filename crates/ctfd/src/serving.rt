@@ -2,24 +2,9 @@
 
 use clap::ArgMatches;
 use ctf_command::{
-    Broker, DumpEnd, FromReader, NotStarted, RunFault, ToWriter, Wanted, all_wanted, end,
-    read_file, serve,
+    Broker, DumpEnd, NotStarted, Wanted, all_wanted, end, read_file, serve_lines,
 };
-use std::alloc::Global;
 use std::io;
-use std::io::{Read, Write};
-
-/// Serves the lines of a reader, and writes their replies to a writer.
-pub fn serve_lines<R: Read + Drop, W: Write + Drop>(
-    alloc: Global,
-    broker: &mut Broker,
-    reader: R,
-    writer: W,
-) -> Result<(), RunFault> {
-    let mut source = FromReader::new(reader);
-    let mut sink = ToWriter::new(writer);
-    serve(alloc, broker, &mut source, &mut sink)
-}
 
 /// Publishes a file for the operator.
 fn publish<'a>(
