@@ -16,6 +16,10 @@
 # - that what takes no memory once its line is read is not answered Memory then.
 #
 # Of a long run only each k-th call is taken, for a k that goes by their number; --all takes all.
+#
+# Before the first read each call is refused too, from the program's start on, without a word
+# NAME=FILE, with one and with two. Wanted is that nothing is written, and status 4; or, where the
+# program goes on without what it was refused, status 0 with the replies that are wanted.
 # Prints what was wrong, and counts; the status is 1 where something was wrong.
 set -eu
 program=$(realpath "$1")
@@ -25,4 +29,7 @@ command -v cc > /dev/null || { echo "skipped: no C compiler here"; exit 0; }
 work=$(mktemp -d)
 trap 'rm -r "$work"' EXIT
 cc -O2 -Wall -Wextra -shared -fPIC -o "$work/refuse.so" "$tests/growths/refuse.c"
-PYTHONPATH=$tests python3 "$tests/growths/run.py" "$program" "$work/refuse.so" "$@"
+status=0
+PYTHONPATH=$tests python3 "$tests/growths/starts.py" "$program" "$work/refuse.so" || status=1
+PYTHONPATH=$tests python3 "$tests/growths/run.py" "$program" "$work/refuse.so" "$@" || status=1
+exit $status

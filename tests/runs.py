@@ -66,15 +66,17 @@ def file_in_memory() -> BinaryIO:
     return os.fdopen(os.memfd_create("ctfd"), "w+b")
 
 
-def serve(program: str, given: bytes, words: dict[str, str] | None = None) -> Ended:
+def serve(program: str, given: bytes, words: dict[str, str] | None = None,
+          published: Iterable[str] = ()) -> Ended:
     """How `PROGRAM serve` ends over an input, with these words as its environment.
 
-    Files in memory stand at both ends, so that nobody waits for the other.
+    What is published is said as NAME=FILE. Files in memory stand at both ends, so that nobody waits
+    for the other.
     """
     with file_in_memory() as source, file_in_memory() as sink:
         source.write(given)
         source.seek(0)
-        child = subprocess.run([program, "serve"], stdin=source, stdout=sink,
+        child = subprocess.run([program, "serve", *published], stdin=source, stdout=sink,
                                stderr=subprocess.PIPE, env=words, timeout=LONGEST_SECONDS,
                                check=False)
         sink.seek(0)

@@ -1,8 +1,9 @@
 /* Refuses memory: a library that is preloaded into ctfd, for tests/growths.sh.
  *
- * The calls that ask for memory are counted from 1, from the first read of standard input on. Those
- * from the number REFUSE_FROM on, REFUSE_COUNT of them, are answered as where there is none. At the
- * end a line on standard error tells how many there were and how many were refused.
+ * The calls that ask for memory are counted from 1, from the first read of standard input on, or
+ * from the program's start on where REFUSE_AT_START is not 0. Those from the number REFUSE_FROM on,
+ * REFUSE_COUNT of them, are answered as where there is none. At the end a line on standard error
+ * tells how many there were and how many were refused.
  *
  * The calls of glibc below have no other names that a preloaded library could use before it can
  * look any up.
@@ -88,6 +89,7 @@ __attribute__((constructor)) static void begin(void)
 {
     first = number("REFUSE_FROM");
     many = number("REFUSE_COUNT");
+    counts = number("REFUSE_AT_START") != 0;
 }
 
 __attribute__((destructor)) static void tell(void)
