@@ -1,9 +1,7 @@
 //! `ctfd serve`: files are published, and then standard input is served to standard output.
 
 use clap::ArgMatches;
-use ctf_command::{
-    Broker, DumpEnd, NotStarted, Wanted, all_wanted, end, read_file, serve_lines,
-};
+use ctf_command::{Broker, DumpEnd, NotStarted, Wanted, all_wanted, end, read_file, serve_lines};
 use std::io;
 
 /// Publishes a file for the operator.
@@ -12,10 +10,7 @@ fn publish<'a>(
     broker: &mut Broker,
     wanted: &Wanted<'a>,
 ) -> Result<(), NotStarted<'a>> {
-    let bytes = match read_file(rt, wanted.file) {
-        Ok(bytes) => bytes,
-        Err(end) => return Err(NotStarted::File(end)),
-    };
+    let bytes = read_file(rt, wanted.file).map_err(NotStarted::File)?;
     match broker.load_section(&wanted.name, bytes) {
         Ok(_) => Ok(()),
         Err(fault) => Err(NotStarted::by(wanted.file, fault)),
