@@ -94,10 +94,10 @@ impl Pool {
             ⊎ Holds self.old (record { lists = lists_owned parts; model = model }) self.new }
     {
         if let Some(held) = self.find(&parts, model) {
-            return match held.share() {
-                Ok(loaded) => Ok(loaded),
-                Err(_) => Err((placeless(Fault::MEMORY), parts)),
+            let Ok(loaded) = held.share() else {
+                return Err((placeless(Fault::MEMORY), parts));
             };
+            return Ok(loaded);
         }
         let loaded = Loaded::build(self.alloc, parts, model)?;
         self.hold(&loaded);

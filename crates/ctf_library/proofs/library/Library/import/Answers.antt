@@ -26,6 +26,17 @@ find_slot-requires-2 c = in_order _ _ _ c.deref-2.ensures.value c.self.invariant
 pub set_parent-requires-clause-order : goal.set_parent-requires-clause-order
 set_parent-requires-clause-order c = non_decreasing _ _ _ c.self.invariant.1
 
+-- no draft is there
+undrafted : {X : Type 0} (draft : Option X) → is_some draft ≡ false → draft ≡ None
+undrafted None none = refl
+undrafted (Some x) none = absurd cc
+
+pub set_parent-requires-clause-undrafted : goal.set_parent-requires-clause-undrafted
+set_parent-requires-clause-undrafted c =
+    let own_child = ap (λ (xs : List own.Slot). slot_at c.args.d (map slot_of xs)) (sym c.deref.ensures.value) ∙ sym c.in-Some.ensures in
+    let plain : is_some (slot_of c.in-Some.child.now).draft ≡ false = sym c.is_drafted.ensures ∙ c.if-is_drafted.false in
+    subst (λ (o : Option Slot). IfSome o (λ slot. slot.draft ≡ None)) (sym own_child) (undrafted (slot_of c.in-Some.child.now).draft plain)
+
 pub overflow_sub-charge : goal.overflow_sub-charge
 overflow_sub-charge c =
     let own_child = ap (λ (xs : List own.Slot). slot_at c.args.d (map slot_of xs)) (sym c.deref.ensures.value) ∙ sym c.in-Some.ensures in
