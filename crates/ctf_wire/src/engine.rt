@@ -31,8 +31,10 @@ pub fn answer_bounded<M: Machine, S: Source, K: Sink>(
         return Err(RunFault::Memory);
     };
     for turn in 0..reads {
-        if !run.turn(machine, source, sink)? {
-            return Ok(());
+        match run.turn(machine, source, sink) {
+            Ok(true) => {}
+            Ok(false) => return Ok(()),
+            Err(fault) => return Err(fault),
         }
     }
     Err(RunFault::ReadBound)
