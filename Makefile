@@ -4,7 +4,7 @@ PREFIX ?= /usr/local
 CTFD_ARCHIVE ?= crates/ctf_c/out/libctfd.a
 
 PROGRAM = $(if $(CTFD),$(CTFD),crates/ctfd/out/ctfd)
-.PHONY: all check prove install uninstall deb dist help
+.PHONY: all check check-all prove install uninstall deb dist help
 
 # The program and the library, without checking proofs; nothing where they are built.
 all:
@@ -13,6 +13,10 @@ all:
 # Over what is built, or over the program that CTFD names.
 check: $(if $(CTFD),,all)
 	@tests/all.py --lanes $(JOBS) $(if $(CTFD),--program $(CTFD))
+
+# The same, where tests that try a share of their cases try all.
+check-all: $(if $(CTFD),,all)
+	@tests/all.py --whole --lanes $(JOBS) $(if $(CTFD),--program $(CTFD))
 
 # All proofs. What the kit builds takes the place of what `make` built.
 prove:
@@ -37,6 +41,7 @@ help:
 	@echo 'make check        runs every test over these, JOBS=$(JOBS) at a time: the last line is'
 	@echo '                  "N passed, M failed"'
 	@echo 'make check CTFD=P runs the tests over the program P'
+	@echo 'make check-all    runs them with all cases of those that try a share; some hours'
 	@echo 'make prove        checks every proof, and puts what the kit builds in place of these'
 	@echo 'STRICT=1          makes check fail where the machine lacks what a test needs'
 	@echo 'make install      puts what make built, headers, manual pages and the Python package'

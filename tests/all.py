@@ -1,11 +1,12 @@
 #!/usr/bin/env python3
 """Runs every test over what is built; with --prove, the gate of proofs first.
 
-usage: tests/all.py [--prove | --prove-only | --program PROGRAM] [--lanes N] [PART..]
+usage: tests/all.py [--prove | --prove-only | --program PROGRAM] [--whole] [--lanes N] [PART..]
 
 What is built is what `make` or `make prove` put into crates/ctfd/out and crates/ctf_c/out; with
 PROGRAM it is that one. As many parts run side by side as there are processors, or N. With names of
-parts only these run; `tests/all.py no_such_part` lists them.
+parts only these run; `tests/all.py no_such_part` lists them. With --whole those that otherwise try a
+share of their cases (growths, damage, front and convert) try all.
 
 With --prove, `rt ci` comes first, and prints as it goes. What the kit built by it is then what is
 built, and the parts run over that. One more part, `quick`, builds the program and the library
@@ -33,7 +34,7 @@ from pathlib import Path
 from typing import Optional
 
 from lanes import Lanes
-from parts import TOP, Part, archive, parts, quick
+from parts import TOP, Part, archive, parts, quick, whole
 
 sys.path.insert(0, str(TOP / "scripts"))
 import built  # noqa: E402
@@ -112,6 +113,7 @@ def given_words() -> tuple[argparse.Namespace, list[Part]]:
     how.add_argument("--program", type=Path, default=built.PROGRAM)
     how.add_argument("--prove", action="store_true")
     how.add_argument("--prove-only", action="store_true")
+    options.add_argument("--whole", action="store_true")
     options.add_argument("--lanes", type=int, default=len(os.sched_getaffinity(0)))
     options.add_argument("part", nargs="*")
     given = options.parse_args()
@@ -120,6 +122,8 @@ def given_words() -> tuple[argparse.Namespace, list[Part]]:
     program = str(given.program)
     first = quick(program) if given.proves else archive(is_made=False)
     every = [first, *parts(program)]
+    if given.whole:
+        every = [whole(part) for part in every]
     names = [part.name for part in every]
     if set(given.part) - set(names):
         options.error(f"the parts are {' '.join(names)}")

@@ -4,7 +4,7 @@ from __future__ import annotations
 import os
 import subprocess
 import sys
-from dataclasses import dataclass, field
+from dataclasses import dataclass, field, replace
 from pathlib import Path
 from typing import Mapping, Sequence
 
@@ -27,6 +27,16 @@ class Part:
     words: Mapping[str, str] = field(default_factory=dict)
     after: tuple[str, ...] = ()
     is_alone: bool = False
+
+
+# Parts that try only some of their cases, and the word by which each tries all.
+SAMPLED = {"growths": "--all", "damage": "--all", "front": "--all", "convert": "all"}
+
+
+def whole(part: Part) -> Part:
+    """A part with all of its cases."""
+    word = SAMPLED.get(part.name)
+    return replace(part, command=[*part.command, word]) if word else part
 
 
 def with_package(name: str) -> str:
