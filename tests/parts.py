@@ -30,7 +30,7 @@ class Part:
 
 
 # Parts that try only some of their cases, and the word by which each tries all.
-SAMPLED = {"growths": "--all", "damage": "--all", "front": "--all", "convert": "all"}
+SAMPLED = {"growths": "--all", "front": "--all", "convert": "all"}
 
 
 def whole(part: Part) -> Part:
@@ -89,7 +89,7 @@ def parts(program: str) -> list[Part]:
         Part("install", ["tests/install.sh", program], after=of_library),
         Part("rust", ["tests/rust.sh"], after=of_library),
         Part("streams", ["tests/streams.sh", program]),
-        Part("damage", ["tests/damage.py", program]),
+        Part("damage", ["tests/damage.py", program, "--all"]),
         Part("program", ["tests/program.sh", program]),
         Part("transcripts", ["tests/transcripts.py", program]),
         Part("ilp32", ["tests/ilp32.sh", program]),
