@@ -215,24 +215,34 @@ count "refused allocations" ./refuse "$top/examples"
 grep -v ' checks, ' said || true
 
 sanitize=(-g -O1 -fsanitize=address,undefined -fno-sanitize-recover=all)
+
+# looked_into PREFIX FLAGS..: compiles libctf's calls with sanitizers, but for the part for ELF files.
+looked_into() {
+    local prefix=$1 source
+    shift
+    for source in "$top"/clients/c/libctf/*.c; do
+        case $source in */elf.c | */loading.c) continue ;; esac
+        cc -std=c11 "${sanitize[@]}" "$@" -I"$top/clients/c" -c "$source" \
+            -o "${prefix}_$(basename "$source" .c).o"
+    done
+}
+
 echo 'int main(void) { return 0; }' > none.c
 if cc "${sanitize[@]}" none.c -o none 2> said && ./none 2>> said; then
+    # The calls of libctf are compiled anew, so that these are looked into too.
+    looked_into checked
     for name in fuzz refusals libctf; do
-        count "compile $name.c with sanitizers" compile "$tests/$name.c" $name "${sanitize[@]}"
+        count "compile $name.c with sanitizers" compile "$tests/$name.c" $name "${sanitize[@]}" \
+            checked_*.o
     done
     count "fuzz under sanitizers" ./fuzz "$top/examples" "$rounds"
     cat said
     count "refusals under sanitizers" ./refusals "$top/examples"
     count "libctf's calls under sanitizers" ./libctf "$top/examples" "$work"
-    # The calls are compiled anew, so that these are looked into too. They keep little of what they
-    # have read, so that it is dropped now and then.
-    for source in "$top"/clients/c/libctf/*.c; do
-        case $source in */elf.c | */loading.c) continue ;; esac
-        cc -std=c11 "${sanitize[@]}" -DMOST_BYTES=2000 -I"$top/clients/c" -c "$source" \
-            -o "looked_$(basename "$source" .c).o"
-    done
+    # Here they keep little of what they have read, so that it is dropped now and then.
+    looked_into forgetful -DMOST_BYTES=2000
     count "compile walks.c" cc -std=gnu11 -Wall -Wextra -Wpedantic -Werror "${sanitize[@]}" \
-        -I"$top/clients/c" "$tests/walks.c" looked_*.o "$archive" -o walks \
+        -I"$top/clients/c" "$tests/walks.c" forgetful_*.o "$archive" -o walks \
         -Wl,--wrap=malloc,--wrap=calloc,--wrap=realloc
     count "walks under sanitizers" ./walks $((rounds / 10))
     cat said
