@@ -4,18 +4,22 @@
 usage: tests/shown.py PROGRAM
 
 Run is each block that begins with `$ `, in a copy of the repository in which PROGRAM is the one
-that was built, and the library the one that tests/archive.py knows; each block begins at its top, and files in /tmp/recipe stand in a folder of this
-run. The program and the client's commands are on the path, and `python3` is the Python that runs
-this. A line that ends in a backslash goes on in the next, and one that ends in `<< 'WORD'` up to
-the line WORD. What a command prints, on both outputs, has to be what stands below it up to the next
-`$ `; a line `...` there stands for any number of lines. Where nothing stands below a command, it
-has to end with status 0. In a block that runs gdb, numbers in hexadecimal and how many types and
-symbols there are hang on the compiler, and are not compared.
+that was built, and the library the one that tests/archive.py knows; each block begins at its top,
+and files in /tmp/recipe stand in a folder of this run. The program and the client's commands are on
+the path, and `python3` is the Python that runs this. A line that ends in a backslash goes on in the
+next, and one that ends in `<< 'WORD'` up to the line WORD. What a command prints, on both outputs,
+has to be what stands below it up to the next `$ `; a line `...` there stands for any number of
+lines. Where nothing stands below a command, it has to end with status 0. Lines that begin with
+`(gdb) ` are given to the gdb above them, and what it prints for all of them is compared. In a block
+that runs gdb, numbers in hexadecimal and how many types and symbols there are hang on the compiler,
+and are not compared.
 
 Asked are the blocks that begin with `{"s":`, each line a request and the next its reply: all of a
 page in one service, which was given examples/lua.ctf as `lua`. `..` stands for the middle of long
 bytes: in a request for those of a file or an example that are as long as the reply says. Blocks of
-Python are run with the client, and have to end with status 0.
+Python are run with the client, and have to end with status 0; they print what their comments say
+that stand behind a `print(..)`. A picture that a page shows has to be the file of its name in
+/tmp/recipe, as the page's blocks wrote it. Any other block is wrong.
 
 Not run is a block below a line `<!-- not run: REASON -->`, and one that needs what is not here, or
 a file that another such block below the same heading would have made: a line that begins with
@@ -29,6 +33,7 @@ import importlib.util
 import json
 import os
 import re
+import shlex
 import shutil
 import subprocess
 import sys
@@ -47,6 +52,8 @@ TOOLS = ("cc", "gcc", "gdb", "objcopy", "llvm-objcopy", "jq", "man", "rt")
 # What of the client takes which package of Python.
 LIBRARIES = {"build.declare": "pycparser"}
 LONGEST_SECONDS = 900
+GDB = "(gdb) "
+PICTURE = re.compile(r"!\[[^\]]*\]\(([\w./-]+)\)")
 
 
 @dataclass(frozen=True)
@@ -91,6 +98,9 @@ def commands(block: Block) -> list[tuple[str, list[str]]]:
             found[-1] = (f"{found[-1][0]}\n{line}", [])
         elif line.startswith("$ "):
             found.append((line[2:], []))
+        elif line.startswith(GDB):
+            found[-1] = (told_gdb(found[-1][0], line[len(GDB):]), found[-1][1])
+            continue
         else:
             found[-1][1].append(line)
             continue
@@ -101,6 +111,12 @@ def commands(block: Block) -> list[tuple[str, list[str]]]:
             last = ""
         goes_on = line.endswith("\\") or last != ""
     return found
+
+
+def told_gdb(command: str, line: str) -> str:
+    """A command that starts gdb, with one more line to give it; it runs by itself then."""
+    batch = command if " -batch " in command else command.replace("gdb ", "gdb -batch -nx ", 1)
+    return f"{batch} -ex {shlex.quote(line)}"
 
 
 def lacking(text: str) -> str:
@@ -173,8 +189,12 @@ class Page:
                 self.run_python(block)
             elif block.lines[0].startswith('{"s":'):
                 asked += block.lines
+            else:
+                self.report(f"{block.place}: nothing runs this block", [], list(block.lines))
         if asked:
             self.ask(asked)
+        for picture in PICTURE.findall((TOP / self.page).read_text(encoding="utf-8")):
+            self.compare_picture((self.top / self.page).parent / picture)
 
     def report(self, place: str, shown: list[str], seen: list[str]) -> None:
         self.wrong += 1
@@ -201,11 +221,20 @@ class Page:
     def run_python(self, block: Block) -> None:
         """Runs a block of Python with the client."""
         words = {**self.environment, "PYTHONPATH": f"{self.top}/clients/python"}
-        ended = subprocess.run([sys.executable, "-c", block.text], cwd=self.top, env=words,
+        text = block.text.replace(RECIPE, str(self.recipe))
+        ended = subprocess.run([sys.executable, "-c", text], cwd=self.top, env=words,
                                capture_output=True, text=True, timeout=LONGEST_SECONDS, check=False)
+        shown, seen = re.findall(r"print\(.*  # (.*)", block.text), ended.stdout.splitlines()
         self.compared += 1
-        if ended.returncode != 0:
-            self.report(block.place, [], ended.stderr.splitlines())
+        if ended.returncode != 0 or (shown and shown != seen):
+            self.report(block.place, shown, [*seen, *ended.stderr.splitlines()])
+
+    def compare_picture(self, picture: Path) -> None:
+        """Compares a picture that the page shows with the one that a block wrote."""
+        written = self.recipe / picture.name
+        self.compared += 1
+        if not written.exists() or written.read_bytes() != picture.read_bytes():
+            self.report(f"{self.page}: {picture.name} is not what a block wrote", [], [])
 
     def outputs(self, steps: list[tuple[str, list[str]]]) -> list[tuple[int, list[str]]]:
         """The status of each command, and the lines that it prints."""
