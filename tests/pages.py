@@ -51,7 +51,7 @@ MOST_OF_DOCS = 40_000
 MOST_OF_A_SENTENCE = 35
 
 LEFT_OUT = re.compile(r"\||#|<!--|!\[")
-ITEM = re.compile(r"\s*(?:[-*]|\d+\.)\s+")
+ITEM = re.compile(r"^\s*(?:[-*]|\d+\.)\s+")
 END = re.compile(r"(?<=[.!?])[\"')\]*_]*\s+(?![a-z])")
 
 
