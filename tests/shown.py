@@ -1,5 +1,5 @@
 #!/usr/bin/env python3
-"""Runs what README.md and docs/COOKBOOK.md show, and compares what comes out with what they show.
+"""Runs what README.md and two pages of docs/ show, and compares what comes out with what they show.
 
 usage: tests/shown.py PROGRAM
 
@@ -18,8 +18,9 @@ Asked are the blocks that begin with `{"s":`, each line a request and the next i
 page in one service, which was given examples/lua.ctf as `lua`. `..` stands for the middle of long
 bytes: in a request for those of a file or an example that are as long as the reply says. Blocks of
 Python are run with the client, and have to end with status 0; they print what their comments say
-that stand behind a `print(..)`. A picture that a page shows has to be the file of its name in
-/tmp/recipe, as the page's blocks wrote it. Any other block is wrong.
+that stand behind a `print(..)`. Blocks of C are compiled: a whole program has to be one of
+examples/c, and others stand in a function that has the bytes `ctf`. A picture that a page shows has
+to be the file of its name in /tmp/recipe, as the page's blocks wrote it. Any other block is wrong.
 
 Not run is a block below a line `<!-- not run: REASON -->`, and one that needs what is not here, or
 a file that another such block below the same heading would have made: a line that begins with
@@ -43,7 +44,7 @@ from pathlib import Path
 from typing import Iterator
 
 TOP = Path(__file__).resolve().parents[1]
-PAGES = ("README.md", "docs/COOKBOOK.md")
+PAGES = ("README.md", "docs/COOKBOOK.md", "docs/C.md")
 COPIED = ("README.md", "Makefile", "HANDLES", "crates.txt", "crates", "clients", "docs", "examples",
           "tests")
 RECIPE = "/tmp/recipe"
@@ -53,6 +54,14 @@ TOOLS = ("cc", "gcc", "gdb", "objcopy", "llvm-objcopy", "jq", "man", "rt")
 LIBRARIES = {"build.declare": "pycparser"}
 LONGEST_SECONDS = 900
 GDB = "(gdb) "
+STATEMENTS = """#include <ctfd.h>
+#include <stdio.h>
+void shown(const uint8_t *ctf, size_t ctf_len);
+void shown(const uint8_t *ctf, size_t ctf_len)
+{{
+    (void)ctf, (void)ctf_len;
+{}}}
+"""
 PICTURE = re.compile(r"!\[[^\]]*\]\(([\w./-]+)\)")
 
 
@@ -187,6 +196,8 @@ class Page:
                 self.run_shell(block)
             elif block.language == "python":
                 self.run_python(block)
+            elif block.language == "c":
+                self.compile_c(block)
             elif block.lines[0].startswith('{"s":'):
                 asked += block.lines
             else:
@@ -228,6 +239,23 @@ class Page:
         self.compared += 1
         if ended.returncode != 0 or (shown and shown != seen):
             self.report(block.place, shown, [*seen, *ended.stderr.splitlines()])
+
+    def compile_c(self, block: Block) -> None:
+        """Compiles a block of C, and compares a whole program with those of the examples."""
+        if not shutil.which("cc"):
+            print(f"skipped: no cc here, for {block.place}")
+            return
+        text = f"{block.text}\n"
+        if "int main(" not in text:
+            text = STATEMENTS.format(text)
+        elif text not in [it.read_text("utf-8") for it in self.top.glob("examples/c/*.c")]:
+            self.report(f"{block.place}: this program is none of examples/c", [], [])
+        ended = subprocess.run(["cc", "-std=c11", "-Wall", "-Wextra", "-Werror", "-fsyntax-only",
+                                "-I", "clients/c", "-x", "c", "-"], cwd=self.top, input=text,
+                               capture_output=True, text=True, check=False)
+        self.compared += 1
+        if ended.returncode != 0:
+            self.report(block.place, [], ended.stderr.splitlines())
 
     def compare_picture(self, picture: Path) -> None:
         """Compares a picture that the page shows with the one that a block wrote."""
