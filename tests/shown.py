@@ -1,5 +1,5 @@
 #!/usr/bin/env python3
-"""Runs what README.md and two pages of docs/ show, and compares what comes out with what they show.
+"""Runs what README.md and some pages of docs/ show, and compares what comes out with that.
 
 usage: tests/shown.py PROGRAM
 
@@ -44,7 +44,7 @@ from pathlib import Path
 from typing import Iterator
 
 TOP = Path(__file__).resolve().parents[1]
-PAGES = ("README.md", "docs/COOKBOOK.md", "docs/C.md")
+PAGES = ("README.md", "docs/COOKBOOK.md", "docs/C.md", "docs/DUMP.md")
 COPIED = ("README.md", "Makefile", "HANDLES", "crates.txt", "crates", "clients", "docs", "examples",
           "tests")
 RECIPE = "/tmp/recipe"
