@@ -99,7 +99,7 @@ class Command(unittest.TestCase):
             self.assertIn("    60        8  struct lua_State *\n",
                           self.told("--model", "lp64", made))
             said = self.refused(made, "closepaux")
-            self.assertIn("closepaux: neither a type nor a symbol of which something is told", said)
+            self.assertIn("closepaux: no type, and no symbol with a type, has this name", said)
             self.assertIn("symbol table is one of 32 bits, which is not read", said)
             self.assertIn("ModelDiffers", self.refused("--parent", LUA, self.child_of_32(folder)))
 

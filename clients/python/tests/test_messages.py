@@ -58,7 +58,7 @@ FILES = [
     Case("no str", "ctfd-convert {}/outer {}/out --only int", 2,
          r"/outer: its names stand in the strings of the ELF file .*: name that file"),
     Case("a name not found", "ctfd-types {}/lua luaL_reg", 1,
-         r"luaL_reg: neither .* \(.*\); the nearest (is|are) .*luaL_Reg"),
+         r"luaL_reg: no type, and .* \(.*\); the nearest (is|are) .*luaL_Reg"),
     Case("a word left out", "ctfd-types {}/lua lua_TValue", 1, r"; the nearest (is|are) "),
     Case("a name not found", "ctfd-convert {}/lua {}/out --only luaL_reg", 2,
          r"/lua: --only luaL_reg: it has no type of this name; the nearest .*luaL_Reg"),
