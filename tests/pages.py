@@ -37,8 +37,8 @@ FOR_USERS = {
     "docs/SERVING.md": 2600,
 }
 FOR_MAINTAINERS = {
-    "CONTRIBUTING.md": 1500,
     "docs/ARCHITECTURE.md": 3500,
+    "docs/CONTRIBUTING.md": 1500,
     "docs/DECISIONS.md": 4000,
     "docs/GATE.md": 800,
     "docs/PERFORMANCE.md": 3000,
