@@ -153,7 +153,7 @@ class Several(WithPrograms):
 
     def test_symbols_of_an_object_file_are_none_of_the_program_s(self) -> None:
         said = self.declared(self.linked(), "second", "--dictionary", "2")
-        self.assertIn("not the one that the types were written for", said)
+        self.assertIn("no longer fit its symbol table", said)
 
     def test_a_linked_program_is_converted_anew(self) -> None:
         types = self.types(self.converted(self.linked())[0])
