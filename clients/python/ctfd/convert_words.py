@@ -76,16 +76,17 @@ def written(words: argparse.Namespace) -> Iterator[str]:
 def judge(words: argparse.Namespace) -> None:
     """Raises Error for words that contradict each other."""
     if words.parent and words.split:
-        raise Error("--parent and --split: the parent is either there or written")
+        raise Error("--parent and --split: give one of them, for a parent that is there or one"
+                    " to write")
     if words.section and words.split:
         raise Error("--section and --split: a file has one dictionary; leave --section out, and add"
                     " the sections by objcopy")
     outs = list(written(words))
     for taken in (words.input, words.base, words.parent):
         if taken and any(out != STANDARD_OUTPUT and _same(taken, out) for out in outs):
-            raise Error(f"{taken}: it is read, and would be written over: name another file")
+            raise Error(f"{taken}: it is an input, and would be overwritten: name another file")
     if any(_same(one, other) for place, one in enumerate(outs) for other in outs[place + 1:]):
-        raise Error("two outputs are one file: --report and --split go elsewhere than OUT")
+        raise Error("--report, --split and OUT must be different files")
 
 
 def _same(one: str, other: str) -> bool:

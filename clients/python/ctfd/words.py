@@ -105,7 +105,8 @@ def _add_manners(parser: argparse.ArgumentParser) -> None:
                         help="the order of --sizes (size) and --holes (holes)")
     parser.add_argument("--recursive", action="store_true",
                         help="--contains and --uses: inside named structs too")
-    parser.add_argument("--expand", action="store_true", help="write the structs that a type holds in place")
+    parser.add_argument("--expand", action="store_true", help="write the structs that a type"
+                        " holds in place")
     parser.add_argument("--cachelines", metavar="N", type=int, default=CACHE_LINE,
                         help="the bytes of a cache line (64)")
     parser.add_argument("--json", action="store_true", help="a JSON object on each line")

@@ -62,13 +62,13 @@ FILES = [
     Case("a word left out", "ctfd-types {}/lua lua_TValue", 1, r"; the nearest (is|are) "),
     Case("a name not found", "ctfd-convert {}/lua {}/out --only luaL_reg", 2,
          r"/lua: --only luaL_reg: it has no type of this name; the nearest .*luaL_Reg"),
-    Case("its own input", "ctfd-convert {}/lua {}/lua", 2, r"/lua: it is read, .*another file"),
+    Case("its own input", "ctfd-convert {}/lua {}/lua", 2, r"/lua: it is an input, .*another file"),
     Case("a folder that is not there", "ctfd-convert {}/lua {}/no/out", 2, r"/no/out: it can't be"),
     Case("no service", "ctfd-types --service {}/nowhere {}/lua", 1,
          r"/nowhere, named by --service, is no program: name the built ctfd"),
     Case("no service", "ctfd-convert --service {}/no {}/lua {}/out", 2, r"is no program: name the"),
     Case("another program", "ctfd-types --service {}/other {}/lua", 1,
-         r"/other is no ctfd: it does not tell a version"),
+         r"/other is no ctfd: it does not print a version"),
     Case("another protocol", "ctfd-types --service {}/newer {}/lua", 1,
          r"/newer is ctfd 7\.0\.1, which speaks another protocol.*: install the client of that"),
     Case("a service that ends", "ctfd-types --service {}/ends {}/lua", 1,
@@ -76,7 +76,7 @@ FILES = [
     Case("--section without ELF", "ctfd-convert --section {}/lua {}/out", 2,
          r"/lua: --section needs an ELF file, and this is none: leave --section out"),
     Case("two parents", "ctfd-convert {}/lua {}/out --parent {}/lua --split {}/x", 2,
-         r"--parent and --split: the parent is either there or written"),
+         r"--parent and --split: give one of them"),
 ]
 
 OBJECTS = [

@@ -92,8 +92,8 @@ def _parser() -> argparse.ArgumentParser:
     parser.add_argument("--model", choices=list(POINTER_SIZES), help="whether pointers have 8 bytes"
                         " or 4; by default the class of the ELF file, or lp64")
     add_version(parser)
-    parser.add_argument("--service", metavar="CTFD", help="the program that checks FILE (CTFD in the"
-                        " environment, or ctfd on the path)")
+    parser.add_argument("--service", metavar="CTFD", help="the program that checks FILE (CTFD in"
+                        " the environment, or ctfd on the path)")
     return parser
 
 

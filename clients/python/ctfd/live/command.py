@@ -50,8 +50,8 @@ def _parser() -> argparse.ArgumentParser:
                         " that points to the next link, as the kernel's list_head does, and"
                         " EXPRESSION is the head of the list")
     parser.add_argument("--hex", action="store_true", help="numbers in hexadecimal")
-    parser.add_argument("--elements", type=int, default=200, metavar="N", help="at most N elements of an"
-                        f" array, a text or a list (200; {MOST} at most)")
+    parser.add_argument("--elements", type=int, default=200, metavar="N", help="at most N"
+                        f" elements of an array, a text or a list (200; {MOST} at most)")
     commands.add_words(parser)
     return parser
 
@@ -115,7 +115,7 @@ class Shower:
         except Error as error:
             raise Error(f"{expression}: {error}") from error
         except RecursionError:
-            raise Error(f"{expression}: its values lie too deep in each other: ask for a part"
+            raise Error(f"{expression}: its values are nested too deep: ask for a part"
                         ) from None
 
     def _list(self, head: Operand) -> None:
