@@ -3,13 +3,17 @@
 
 usage: tests/examples.py PROGRAM
 
-The service of meeting.jsonl is started with the dictionary of first.jsonl as `base`. Prints each
-example that is answered otherwise, with the first reply that differs; the status is 1 then.
+The service of meeting.jsonl is started with the dictionary of first.jsonl as `base`. Each request
+that docs/PROTOCOL.md shows has to be a line of one of these, and the reply below it the one to that
+line; `..` stands for the middle of long bytes. Prints each example that is answered otherwise, with
+the first reply that differs, and each request of the page that stands in none, or is replied to
+otherwise; the status is 1 then.
 """
 from __future__ import annotations
 
 import itertools
 import json
+import re
 import subprocess
 import sys
 import tempfile
@@ -17,6 +21,7 @@ from pathlib import Path
 from typing import Iterator
 
 EXAMPLES = Path(__file__).resolve().parents[1] / "examples"
+PAGE = EXAMPLES.parent / "docs" / "PROTOCOL.md"
 LONGEST_SECONDS = 600
 
 
@@ -38,6 +43,18 @@ def wrong(program: str, requests: Path, words: list[str]) -> Iterator[str]:
             return
 
 
+def not_shown_right() -> Iterator[str]:
+    """The requests of the page that no example has, or not with this reply."""
+    told = [pair for requests in sorted(EXAMPLES.glob("*.jsonl"))
+            for pair in zip(requests.read_text(encoding="ascii").splitlines(),
+                            requests.with_suffix(".replies").read_text("ascii").splitlines())]
+    lines = re.findall(r'^\{"(?:s|ok|fault)":.*', PAGE.read_text(encoding="utf-8"), re.MULTILINE)
+    for request, reply in zip(lines[0::2], lines[1::2]):
+        wanted = re.compile(re.escape(request).replace(re.escape(".."), "[0-9a-f]*"))
+        if not any(wanted.fullmatch(line) and seen == reply for line, seen in told):
+            yield f"{PAGE.name} shows what no example has: {request} {reply}"
+
+
 def main(program: str) -> int:
     failed = 0
     examples = sorted(EXAMPLES.glob("*.jsonl"))
@@ -50,6 +67,9 @@ def main(program: str) -> int:
             for why in wrong(program, requests, words):
                 failed += 1
                 print(f"{requests.name}: {why}")
+    for why in not_shown_right():
+        failed += 1
+        print(why)
     print(f"examples: {len(examples)} compared, {failed} times wrong")
     return 1 if failed or not examples else 0
 

@@ -95,6 +95,7 @@ def parts(program: str) -> list[Part]:
         Part("ilp32", ["tests/ilp32.sh", program]),
         Part("links", ["tests/links.py"]),
         Part("names", ["tests/names.py"]),
+        Part("pages", ["tests/pages.py"]),
         Part("faults", ["tests/faults.py"]),
         Part("refusals", ["tests/refusals.py"]),
         Part("edits", ["tests/further_edits.py", "--apply"]),

@@ -1,21 +1,26 @@
 #!/usr/bin/env python3
-"""Runs what README.md and docs/COOKBOOK.md show, and compares what comes out with what they show.
+"""Runs what README.md and some pages of docs/ show, and compares what comes out with that.
 
 usage: tests/shown.py PROGRAM
 
 Run is each block that begins with `$ `, in a copy of the repository in which PROGRAM is the one
-that was built, and the library the one that tests/archive.py knows; each block begins at its top, and files in /tmp/recipe stand in a folder of this
-run. The program and the client's commands are on the path, and `python3` is the Python that runs
-this. A line that ends in a backslash goes on in the next, and one that ends in `<< 'WORD'` up to
-the line WORD. What a command prints, on both outputs, has to be what stands below it up to the next
-`$ `; a line `...` there stands for any number of lines. Where nothing stands below a command, it
-has to end with status 0. In a block that runs gdb, numbers in hexadecimal and how many types and
-symbols there are hang on the compiler, and are not compared.
+that was built, and the library the one that tests/archive.py knows; each block begins at its top,
+and files in /tmp/recipe stand in a folder of this run. The program and the client's commands are on
+the path, and `python3` is the Python that runs this. A line that ends in a backslash goes on in the
+next, and one that ends in `<< 'WORD'` up to the line WORD. What a command prints, on both outputs,
+has to be what stands below it up to the next `$ `; a line `...` there stands for any number of
+lines. Where nothing stands below a command, it has to end with status 0. Lines that begin with
+`(gdb) ` are given to the gdb above them, and what it prints for all of them is compared. In a block
+that runs gdb, numbers in hexadecimal and how many types and symbols there are hang on the compiler,
+and are not compared.
 
 Asked are the blocks that begin with `{"s":`, each line a request and the next its reply: all of a
 page in one service, which was given examples/lua.ctf as `lua`. `..` stands for the middle of long
 bytes: in a request for those of a file or an example that are as long as the reply says. Blocks of
-Python are run with the client, and have to end with status 0.
+Python are run with the client, and have to end with status 0; they print what their comments say
+that stand behind a `print(..)`. Blocks of C are compiled: a whole program has to be one of
+examples/c, and others stand in a function that has the bytes `ctf`. A picture that a page shows has
+to be the file of its name in /tmp/recipe, as the page's blocks wrote it. Any other block is wrong.
 
 Not run is a block below a line `<!-- not run: REASON -->`, and one that needs what is not here, or
 a file that another such block below the same heading would have made: a line that begins with
@@ -29,6 +34,7 @@ import importlib.util
 import json
 import os
 import re
+import shlex
 import shutil
 import subprocess
 import sys
@@ -38,7 +44,7 @@ from pathlib import Path
 from typing import Iterator
 
 TOP = Path(__file__).resolve().parents[1]
-PAGES = ("README.md", "docs/COOKBOOK.md")
+PAGES = ("README.md", "docs/COOKBOOK.md", "docs/C.md", "docs/DUMP.md")
 COPIED = ("README.md", "Makefile", "HANDLES", "crates.txt", "crates", "clients", "docs", "examples",
           "tests")
 RECIPE = "/tmp/recipe"
@@ -47,6 +53,16 @@ TOOLS = ("cc", "gcc", "gdb", "objcopy", "llvm-objcopy", "jq", "man", "rt")
 # What of the client takes which package of Python.
 LIBRARIES = {"build.declare": "pycparser"}
 LONGEST_SECONDS = 900
+GDB = "(gdb) "
+STATEMENTS = """#include <ctfd.h>
+#include <stdio.h>
+void shown(const uint8_t *ctf, size_t ctf_len);
+void shown(const uint8_t *ctf, size_t ctf_len)
+{{
+    (void)ctf, (void)ctf_len;
+{}}}
+"""
+PICTURE = re.compile(r"!\[[^\]]*\]\(([\w./-]+)\)")
 
 
 @dataclass(frozen=True)
@@ -91,6 +107,9 @@ def commands(block: Block) -> list[tuple[str, list[str]]]:
             found[-1] = (f"{found[-1][0]}\n{line}", [])
         elif line.startswith("$ "):
             found.append((line[2:], []))
+        elif line.startswith(GDB):
+            found[-1] = (told_gdb(found[-1][0], line[len(GDB):]), found[-1][1])
+            continue
         else:
             found[-1][1].append(line)
             continue
@@ -101,6 +120,12 @@ def commands(block: Block) -> list[tuple[str, list[str]]]:
             last = ""
         goes_on = line.endswith("\\") or last != ""
     return found
+
+
+def told_gdb(command: str, line: str) -> str:
+    """A command that starts gdb, with one more line to give it; it runs by itself then."""
+    batch = command if " -batch " in command else command.replace("gdb ", "gdb -batch -nx ", 1)
+    return f"{batch} -ex {shlex.quote(line)}"
 
 
 def lacking(text: str) -> str:
@@ -171,10 +196,16 @@ class Page:
                 self.run_shell(block)
             elif block.language == "python":
                 self.run_python(block)
+            elif block.language == "c":
+                self.compile_c(block)
             elif block.lines[0].startswith('{"s":'):
                 asked += block.lines
+            else:
+                self.report(f"{block.place}: nothing runs this block", [], list(block.lines))
         if asked:
             self.ask(asked)
+        for picture in PICTURE.findall((TOP / self.page).read_text(encoding="utf-8")):
+            self.compare_picture((self.top / self.page).parent / picture)
 
     def report(self, place: str, shown: list[str], seen: list[str]) -> None:
         self.wrong += 1
@@ -201,11 +232,37 @@ class Page:
     def run_python(self, block: Block) -> None:
         """Runs a block of Python with the client."""
         words = {**self.environment, "PYTHONPATH": f"{self.top}/clients/python"}
-        ended = subprocess.run([sys.executable, "-c", block.text], cwd=self.top, env=words,
+        text = block.text.replace(RECIPE, str(self.recipe))
+        ended = subprocess.run([sys.executable, "-c", text], cwd=self.top, env=words,
                                capture_output=True, text=True, timeout=LONGEST_SECONDS, check=False)
+        shown, seen = re.findall(r"print\(.*  # (.*)", block.text), ended.stdout.splitlines()
+        self.compared += 1
+        if ended.returncode != 0 or (shown and shown != seen):
+            self.report(block.place, shown, [*seen, *ended.stderr.splitlines()])
+
+    def compile_c(self, block: Block) -> None:
+        """Compiles a block of C, and compares a whole program with those of the examples."""
+        if not shutil.which("cc"):
+            print(f"skipped: no cc here, for {block.place}")
+            return
+        text = f"{block.text}\n"
+        if "int main(" not in text:
+            text = STATEMENTS.format(text)
+        elif text not in [it.read_text("utf-8") for it in self.top.glob("examples/c/*.c")]:
+            self.report(f"{block.place}: this program is none of examples/c", [], [])
+        ended = subprocess.run(["cc", "-std=c11", "-Wall", "-Wextra", "-Werror", "-fsyntax-only",
+                                "-I", "clients/c", "-x", "c", "-"], cwd=self.top, input=text,
+                               capture_output=True, text=True, check=False)
         self.compared += 1
         if ended.returncode != 0:
             self.report(block.place, [], ended.stderr.splitlines())
+
+    def compare_picture(self, picture: Path) -> None:
+        """Compares a picture that the page shows with the one that a block wrote."""
+        written = self.recipe / picture.name
+        self.compared += 1
+        if not written.exists() or written.read_bytes() != picture.read_bytes():
+            self.report(f"{self.page}: {picture.name} is not what a block wrote", [], [])
 
     def outputs(self, steps: list[tuple[str, list[str]]]) -> list[tuple[int, list[str]]]:
         """The status of each command, and the lines that it prints."""

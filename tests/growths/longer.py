@@ -153,7 +153,7 @@ def words() -> list[str]:
     """The words of the protocol, from the table of docs/PROTOCOL.md."""
     text = Path(TOP, "docs", "PROTOCOL.md").read_text(encoding="utf-8")
     table = text.split("\n## The words at a glance\n")[1].split("\n## ")[0]
-    return re.findall("^\\| `([a-z]+)` \\|", table, re.MULTILINE)
+    return re.findall(r"^\| \[`([a-z]+)`\]\(#\1\) \|", table, re.MULTILINE)
 
 
 def longer_runs() -> Iterator[Run]:

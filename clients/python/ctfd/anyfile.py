@@ -58,13 +58,13 @@ def asked(words: argparse.Namespace, warn: Callable[[str], None]) -> Asked:
 def add_words(parser: argparse.ArgumentParser) -> None:
     """The options on files that are converted."""
     group = parser.add_argument_group("files that are converted first")
-    group.add_argument("--from", dest="form", choices=FORMS, help="which of these a file has is"
-                       " read; without it the first")
-    group.add_argument("--base", metavar="FILE", help="the kernel's BTF under that of a module")
+    group.add_argument("--from", dest="form", choices=FORMS, help="the form to read; by default"
+                       " the first that a file has")
+    group.add_argument("--base", metavar="FILE", help="the BTF of a module's kernel")
     group.add_argument("--debug-folder", metavar="FOLDER", dest="folders", action="append",
                        default=[], help="where to look for debug files, before /usr/lib/debug")
-    group.add_argument("--no-cache", action="store_true", help="neither reads nor keeps what was"
-                       " converted in the cache ($XDG_CACHE_HOME/ctfd, or ~/.cache/ctfd)")
+    group.add_argument("--no-cache", action="store_true", help="convert again, without the"
+                       " cache ($XDG_CACHE_HOME/ctfd, or ~/.cache/ctfd)")
 
 
 def read(path: str, asked: Asked, has_symbols: bool = True) -> Read:

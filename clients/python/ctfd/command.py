@@ -1,10 +1,10 @@
-"""Prints the types of a program: one as pahole does, with places and holes, or a list of all;
-or tells their sizes and holes, who holds, points to or takes one, and draws them.
+"""Prints the types of a program: one as pahole does, with offsets and holes, or a list of all; or
+lists their sizes and holes, and who holds, points to or takes one, and draws them.
 
 FILE is what ctfd-convert takes: a program, library or object file with debug information, an
-archive, or a section of CTF or BTF. What is converted is kept in a cache. NAME is a type as C names
-it ("struct lua_State", "TValue"), or a function or object of the program. The status is 1 where
-something is refused or not found.
+archive, or a section of CTF or BTF. Converted files are cached. NAME is a type as C names it
+("struct lua_State", "TValue"), or a function or object of the program. The status is 1 if something
+is refused or not found.
 """
 from __future__ import annotations
 
@@ -237,7 +237,7 @@ def _symbol(types: Dictionary, name: str) -> str:
         said = types.symbol(name)
     except (NotFound, Unreadable) as fault:
         why = fault.name if isinstance(fault, NotFound) else str(fault)
-        raise Unknown(f"{name}: neither a type nor a symbol of which something is told"
+        raise Unknown(f"{name}: no type, and no symbol with a type, has this name"
                       f" ({why}){_advice(types, name)}") from fault
     if types.how == "guessed":
         _warn(source.WARNINGS[types.how])

@@ -1,10 +1,10 @@
-"""Writes a program's types as a dictionary of CTF version 2, which the service has judged.
+"""Writes a program's types as a dictionary of CTF version 2.
 
 IN is an ELF file with debug information (DWARF, here or in a debug file of its own), with BTF,
 GNU's CTF or CTF, an archive of object files, or the bytes of such a section; the first of CTF, BTF,
-DWARF and GNU's CTF that it has is read. What CTF of version 2 can't hold is told, with what stands
-in its place: the status is then 1, and OUT is written all the same. It is 2 where nothing was
-written, and OUT is as it was.
+DWARF and GNU's CTF that it has is read. Each construct that CTF cannot represent is reported, with
+what replaces it: the status is then 1, and OUT is written. It is 2 if nothing was written, and OUT
+is as it was.
 """
 from __future__ import annotations
 
@@ -184,8 +184,8 @@ def _pruned(table: Table, symbols: Symbols) -> Symbols:
     functions = [(one, told) for one, told in zip(symbols.functions, table.functions) if told]
     left = len(symbols.listed) - len(objects) - len(functions)
     if left:
-        table.losses.append(f"{left} functions and variables: types that they name are left out;"
-                            " nothing is told of them")
+        table.losses.append(f"{left} functions and variables are left out, because the types that"
+                            " they name are")
     table.objects = [n for _, n in objects]
     table.functions = [told for _, told in functions]
     return Symbols(NAMES, (*(one for one, _ in objects), *(one for one, _ in functions)))

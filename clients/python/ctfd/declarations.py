@@ -44,7 +44,7 @@ def read(text: str, into: Types) -> Types:
     except Error:
         raise
     except RecursionError as error:
-        raise Error(f"{FILE}: they stand too deep in each other") from error
+        raise Error(f"{FILE}: they are nested too deep") from error
     except Exception as error:  # the parser's own, which is another class in each of its versions
         raise Error(f"{FILE}: {' '.join(str(error).split())}") from error
     return into
@@ -172,7 +172,7 @@ class _Walker:
         parsed = CParser().parse(f"{_before(self.types)} enum {{ wanted = {text} }};", FILE)
         value = self.number(parsed.ext[-1].type.values.enumerators[0].value)
         if value < 0 or value & value - 1:
-            raise Error(f"aligned({text}): a power of two is wanted")
+            raise Error(f"aligned({text}): it must be a power of two")
         return value
 
     def _enum(self, node: Any) -> CType:
@@ -210,12 +210,12 @@ class _Walker:
             return self.number(node.iftrue if self.number(node.cond) else node.iffalse)
         if kind == "Cast":
             return self.number(node.expr)
-        raise Error(f"{FILE}: a number is wanted that can be known here, and"
-                    f" {getattr(node, 'name', None) or kind} is none")
+        raise Error(f"{FILE}: {getattr(node, 'name', None) or kind} is no constant"
+                    " that can be computed here")
 
     def _measured(self, node: Any) -> int:
         if type(node.expr).__name__ != "Typename":
-            raise Error(f"{FILE}: {node.op} is known of types alone")
+            raise Error(f"{FILE}: {node.op} takes a type here, no expression")
         made = self.type(node.expr.type)
         return self.types.shape(made, node.op).size if node.op == "sizeof" else made.align
 

@@ -1,11 +1,11 @@
-"""Tells what differs between two programs or libraries, and whether programs that were built for
-OLD break with NEW.
+"""Lists the differences between two programs or libraries, and says whether programs built for OLD
+break with NEW.
 
 OLD and NEW are what ctfd-convert takes: libraries and programs with debug information, object
-files, archives, or sections of CTF or BTF. Of two libraries the functions and objects that they
-export are compared, with all types that these reach; else, or with --all, all types are. Offsets
-and sizes are in bytes, `96:3` is bit 3 of byte 96. The status is 0 where nothing differs, 1 where
-what differs is compatible, 4 where something breaks, and 2 where something is refused.
+files, archives, or sections of CTF or BTF. If both export functions and objects, these are
+compared, with all types that they reach; otherwise, or with --all, all types. Offsets and sizes are
+in bytes, `96:3` is bit 3 of byte 96. The status is 0 if nothing differs, 1 if all changes are
+compatible, 4 if something breaks, and 2 if something is refused.
 """
 from __future__ import annotations
 
@@ -41,17 +41,15 @@ def _parser() -> argparse.ArgumentParser:
     parser.add_argument("old", metavar="OLD")
     parser.add_argument("new", metavar="NEW")
     parser.add_argument("--breaking", action="store_true",
-                        help="only what breaks a program that was built for OLD; the status is then"
-                        " 0 or 4")
+                        help="only what breaks programs built for OLD; the status is then 0 or 4")
     parser.add_argument("--all", action="store_true",
-                        help="all types and symbols, static and hidden ones too, whatever is"
-                        " exported")
+                        help="all types and symbols, static and hidden ones too")
     parser.add_argument("-C", "--name", metavar="NAME", action="append", default=[],
-                        help="only the types and symbols of a name or a pattern, as 'struct lua_*'")
+                        help="only types and symbols with a name or pattern: 'struct lua_*'")
     parser.add_argument("--suppress", metavar="FILE", action="append", default=[],
-                        help="a file with a name or a pattern a line, of types and symbols that are"
-                        " not compared; # begins a comment")
-    parser.add_argument("--json", action="store_true", help="an object of JSON a line")
+                        help="a file with types and symbols to leave out, a name or pattern on each"
+                        " line; # begins a comment")
+    parser.add_argument("--json", action="store_true", help="a JSON object on each line")
     parser.add_argument("--parent", metavar="FILE", help="the parent of both")
     parser.add_argument("--old-parent", metavar="FILE", help="the parent of OLD")
     parser.add_argument("--new-parent", metavar="FILE", help="the parent of NEW")
@@ -104,7 +102,7 @@ def _compared(opener: Opener, old: Whole, new: Whole, words: argparse.Namespace,
             return
         if any(told):
             path = words.new if told[0] else words.old
-            _warn(f"{path}: it exports no function whose types are told: all types are compared")
+            _warn(f"{path}: it exports no function with known types: all types are compared")
     yield from diff.compared(old, new)
     symbols = (symbol_diff.symbols(one.catalog.dictionary, opener.read[one.path].source)
                for one in (old, new))

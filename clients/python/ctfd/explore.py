@@ -1,7 +1,7 @@
 """Writes one HTML page with all types of some files: search, declarations, pictures, holders.
 
-The page needs no network and nothing beside it. FILE is an ELF file with a section .SUNW_ctf or
-.ctf, or the bytes of such a section.
+The page needs no network and no other file. FILE is what ctfd-convert takes: a program, library or
+object file, an archive, or a section of CTF or BTF.
 """
 from __future__ import annotations
 
@@ -43,9 +43,9 @@ def _parser() -> argparse.ArgumentParser:
         prog=NAME, description=__doc__, formatter_class=argparse.RawDescriptionHelpFormatter)
     parser.add_argument("files", metavar="FILE", nargs="+")
     parser.add_argument("-o", "--output", metavar="PAGE", default="-",
-                        help="the page that is written; without it, or for -, standard output")
-    parser.add_argument("--parent", metavar="FILE", help="the dictionary of which each FILE is a"
-                        " child; it is on the page too")
+                        help="the page to write; by default, or for -, standard output")
+    parser.add_argument("--parent", metavar="FILE", help="the parent of each FILE; its types"
+                        " are on the page too")
     parser.add_argument("--model", choices=list(POINTER_SIZES),
                         help="whether pointers have 8 bytes or 4; an ELF file says so itself")
     anyfile.add_words(parser)

@@ -173,11 +173,11 @@ def _of_dwarf(whole: Elf, options: Options) -> Input:
 def _note(file: Elf, symbols: Symbols) -> str:
     """What is to be known of the symbols of a program."""
     if symbols.table == DYNSYM:
-        return (f"its entries go by the {len(symbols.listed)} functions and objects of .dynsym,"
-                " which strip leaves; what is not exported has none")
+        return (f"its types are for the {len(symbols.listed)} functions and objects of .dynsym,"
+                " which strip keeps; those that are not exported are left out")
     if not symbols.listed and table_of(file, DYNSYM):
-        return ("it has no .symtab, as strip leaves it: nothing is told of its symbols; --symbols"
-                " dynsym tells of those that it exports")
+        return ("it is stripped of .symtab: symbols are left out; --symbols dynsym has those that"
+                " it exports")
     return ""
 
 
@@ -281,7 +281,7 @@ def _tell_by_symbols(table: Table, found: from_btf.Read, symbols: Symbols) -> No
     missing = len((objects.keys() | functions.keys()) - {one.name for one in symbols.listed})
     if missing:
         table.losses.append(f"{missing} functions and variables of its BTF have no symbol in the"
-                            " file; nothing is told of them")
+                            " file, and are left out")
 
 
 def _tell_by_names(table: Table, found: from_btf.Read) -> Symbols:

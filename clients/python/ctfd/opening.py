@@ -81,8 +81,8 @@ class Opener:
         except BadSymbols:
             if not found.is_made:
                 raise
-            self.asked.warn(f"{path}: what is told of its symbols does not fit its symbol table;"
-                            " nothing is told of them")
+            self.asked.warn(f"{path}: the types of its symbols do not fit its symbol table:"
+                            " symbols are left out")
             bare = found.source._replace(sym=None, strings=None, how="none")
             self.read[path] = found._replace(source=bare)
             return open_source(self.session, bare)

@@ -52,8 +52,8 @@ def _opened(session: Session, path: str, made: Made) -> Opened:
     try:
         return session.open(made.ctf, table, strings, made.table.model)
     except BadSymbols:
-        made.without_symbols(f"{path}: what is told of its symbols does not fit its symbol table;"
-                             " nothing is told of them")
+        made.without_symbols(f"{path}: the types of its symbols do not fit its symbol table:"
+                             " symbols are left out")
         return session.open(made.ctf, model=made.table.model)
 
 

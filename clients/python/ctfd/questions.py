@@ -146,7 +146,7 @@ def _bounded(whole: Whole, lines: Iterable[str]) -> Iterator[str]:
     for line in lines:
         told += len(line)
         if told > MOST_TEXT:
-            whole.cut.append(f"more than {MOST_TEXT} bytes are told of members: ask for fewer")
+            whole.cut.append(f"more than {MOST_TEXT} bytes of members: ask for fewer")
             return
         yield line
 
@@ -160,7 +160,7 @@ def _held(whole: Whole, held: Held, is_json: bool) -> str:
 def functions(whole: Whole, source: Source, name: str, is_json: bool) -> Iterator[str]:
     """The functions that take or return a type, or a pointer to it, by their names."""
     if source.sym is None or source.strings is None:
-        raise Error(f"{whole.path}: nothing is told of its functions")
+        raise Error(f"{whole.path}: it has no types of functions")
     reaches = _Reaching(whole, name)
     for symbol, told in sorted(_signatures(whole, source.sym, source.strings)):
         how = reaches.how(told)

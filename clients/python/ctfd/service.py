@@ -73,7 +73,7 @@ def _judged(program: str) -> str:
     """A program that is a service of this client's protocol."""
     found = _SAYS.match(_version(program))
     if found is None:
-        raise Gone(f"{program} is no ctfd: it does not tell a version as ctfd does")
+        raise Gone(f"{program} is no ctfd: it does not print a version as ctfd does")
     if found[1] != VERSION.split(".")[0]:
         raise Error(f"{program} is {found[0].strip()}, which speaks another protocol than this"
                     f" client of {VERSION}: install the client of that version")

@@ -26,18 +26,16 @@ DEBUG = (".debug_info", ".zdebug_info", ".gnu_debuglink", ".BTF")
 
 # What is to be known of the symbols of a file, by how they were found.
 WARNINGS = {
-    "guessed": "the section names no symbol table: if the file's .symtab is not the one that the"
-               " types were written for, symbols are told wrongly",
-    "refused": "the file's symbol table is not the one that the types were written for: nothing"
-               " is told of symbols",
-    "differs": "the file's symbol table is not the one that the types were written for, since it"
-               " was linked, stripped or changed behind that: nothing is told of symbols, and"
-               " ctfd-convert makes the types anew",
-    "stripped": "the symbol table that the types were written for is not in the file, as strip"
-                " leaves it: nothing is told of symbols; ctfd-convert --symbols dynsym writes what"
-                " lasts",
-    "unread": "the file's symbol table is one of 32 bits, which is not read: nothing is told of"
-              " symbols",
+    "guessed": "the section names no symbol table: if the types were not written for the file's"
+               " .symtab, the types of symbols are wrong",
+    "refused": "the types were not written for the file's symbol table: symbols are left out",
+    "differs": "the file was linked, stripped or changed after its types were written, so they"
+               " no longer fit its symbol table: symbols are left out, and ctfd-convert writes the"
+               " types anew",
+    "stripped": "the symbol table that the types were written for was stripped from the file:"
+                " symbols are left out; ctfd-convert --symbols dynsym writes for the one that"
+                " strip keeps",
+    "unread": "the file's symbol table has 32 bits, which is not read: symbols are left out",
 }
 
 

@@ -58,10 +58,10 @@ def _parser(description: Optional[str]) -> argparse.ArgumentParser:
         formatter_class=argparse.RawDescriptionHelpFormatter)
     parser.add_argument("words", metavar="FILE", nargs="+",
                         help="programs, libraries, object files, archives, or sections of CTF or"
-                        " BTF; words that are no files are names of types or symbols, or patterns"
-                        " of them, as 'lua_*'")
+                        " BTF; other words are names of types or symbols, or patterns such as"
+                        " 'lua_*'")
     parser.add_argument("-C", "--name", metavar="NAME", dest="called", action="append", default=[],
-                        help="a name or a pattern, wherever it stands")
+                        help="a name or pattern, even if a file has that name")
     _add_reports(parser.add_mutually_exclusive_group())
     _add_manners(parser)
     _add_inputs(parser)
@@ -76,25 +76,25 @@ def _number(written: str) -> int:
 def _add_reports(group: "argparse._MutuallyExclusiveGroup") -> None:
     group.add_argument("--sizes", action="store_true",
                        help="a table of structs and unions: bytes, members, holes, padding, and"
-                       " what an order without holes saves")
+                       " what a better order saves")
     group.add_argument("--holes", metavar="N", type=int,
-                       help="the same of those with at least N bytes of holes (1)")
+                       help="the same for those with at least N bytes of holes (1)")
     group.add_argument("--contains", metavar="TYPE", help="who holds a type by value, and where")
     group.add_argument("--uses", metavar="TYPE", help="who has a pointer to a type, and where")
     group.add_argument("--functions", metavar="TYPE", help="the functions that take or return a"
                        " type, or a pointer to it")
-    group.add_argument("--members", metavar="NAME", help="the members of a name or a pattern, in"
-                       " all structs and unions")
+    group.add_argument("--members", metavar="NAME", help="the members with a name or pattern,"
+                       " in all structs and unions")
     group.add_argument("--at", metavar=("TYPE", "OFFSET"), nargs=2, help="what a struct has at an"
-                       " offset in bytes, as 56, 0x38, or 56:3 for a bit")
-    group.add_argument("--number", metavar="N", type=_number, help="the type of a number")
+                       " offset in bytes, such as 56, 0x38, or 56:3 for a bit")
+    group.add_argument("--number", metavar="N", type=_number, help="the type with a number")
     group.add_argument("--reorganize", action="store_true", help="the named structs with their"
-                       " members in an order without holes, where one is smaller")
+                       " members in a better order, if one is smaller")
     group.add_argument("--show", metavar="WORD", nargs="+", help="TYPE FILE [OFFSET] [COUNT]: the"
                        " records of a file as values of a type, from an offset on; give it last")
     group.add_argument("--c", action="store_true",
-                       help="declarations that a C compiler takes, of all types or of the named"
-                       " ones with what they need")
+                       help="declarations that a C compiler accepts, of all types or of the"
+                       " named ones with what they need")
     group.add_argument("--svg", metavar="TYPE", help="a picture of a struct or union")
     group.add_argument("--svg-sizes", action="store_true",
                        help="a picture of all structs and unions by their bytes")
@@ -104,25 +104,26 @@ def _add_manners(parser: argparse.ArgumentParser) -> None:
     parser.add_argument("--sort", choices=ORDERS,
                         help="the order of --sizes (size) and --holes (holes)")
     parser.add_argument("--recursive", action="store_true",
-                        help="--contains and --uses: within named structs too")
-    parser.add_argument("--expand", action="store_true", help="structs in place of their names")
+                        help="--contains and --uses: inside named structs too")
+    parser.add_argument("--expand", action="store_true", help="write the structs that a type"
+                        " holds in place")
     parser.add_argument("--cachelines", metavar="N", type=int, default=CACHE_LINE,
                         help="the bytes of a cache line (64)")
-    parser.add_argument("--json", action="store_true", help="an object of JSON a line")
-    parser.add_argument("--hex", action="store_true", help="places, sizes and values in"
+    parser.add_argument("--json", action="store_true", help="a JSON object on each line")
+    parser.add_argument("--hex", action="store_true", help="offsets, sizes and values in"
                         " hexadecimal")
     parser.add_argument("--all", action="store_true",
-                        help="all types of the name, hidden ones too, and not the first alone")
-    parser.add_argument("--plain", action="store_true", help="C alone, without places")
+                        help="all types with the name, hidden ones too")
+    parser.add_argument("--plain", action="store_true", help="only C, without offsets")
 
 
 def _add_inputs(parser: argparse.ArgumentParser) -> None:
-    parser.add_argument("--parent", metavar="FILE", help="the dictionary of which FILE is a child")
+    parser.add_argument("--parent", metavar="FILE", help="the parent of FILE")
     parser.add_argument("--model", choices=list(POINTER_SIZES),
                         help="whether pointers have 8 bytes or 4, in FILE and in its parent;"
-                        " without it an ELF file says so itself, and a section is taken for lp64")
-    parser.add_argument("--dictionary", metavar="N", type=int, help="which of the dictionaries"
-                        " that stand behind each other in a file, as ld leaves them; from 1 on")
-    parser.add_argument("--symbols", metavar="FILE", help="the bytes of the program's symbol table")
-    parser.add_argument("--strings", metavar="FILE", help="the bytes of the strings of that table")
+                        " by default the class of the ELF file, or lp64")
+    parser.add_argument("--dictionary", metavar="N", type=int, help="which of several"
+                        " dictionaries in a file, such as ld leaves; counted from 1")
+    parser.add_argument("--symbols", metavar="FILE", help="the program's symbol table")
+    parser.add_argument("--strings", metavar="FILE", help="the strings of that table")
     commands.add_words(parser)

@@ -126,9 +126,9 @@ class Declarations(WithService):
         cases = [("struct s { int }", "the declarations:"), ("#include <stdio.h>", "preprocess"),
                  ("struct s { struct t t; };", "its type struct t has no size; define it first"),
                  ("struct s { int a; }; struct s { int b; };", "struct s: it is defined already"),
-                 ("struct s { int a[n]; };", "a number is wanted .* n is none"),
+                 ("struct s { int a[n]; };", "n is no constant that can be computed"),
                  ("typedef int v __attribute__((vector_size(16)));", "vector_size is not known"),
-                 ("struct s { int a __attribute__((aligned(3))); };", "a power of two is wanted"),
+                 ("struct s { int a __attribute__((aligned(3))); };", "it must be a power of two"),
                  ("struct s { missing_t a; };", "the declarations:")]
         for text, words in cases:
             with self.subTest(text), self.assertRaisesRegex(ctfd.Error, words) as caught:

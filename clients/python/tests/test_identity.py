@@ -59,7 +59,7 @@ class Symbols(WithPrograms):
                 shutil.copy(made, stripped)
                 subprocess.run(["strip", how, stripped], check=True)
                 said = self.declared(stripped, "add")
-                self.assertTrue(said == right or "nothing is told of symbols" in said, said)
+                self.assertTrue(said == right or "symbols are left out" in said, said)
                 has_table = considered(Elf(Path(stripped).read_bytes())).listed
                 self.assertEqual(said == right, bool(has_table))
                 listed = command("ctfd-types", stripped, "struct node").stdout
@@ -74,8 +74,8 @@ class Symbols(WithPrograms):
 
     def test_that_entries_go_by_the_exported_symbols_is_told(self) -> None:
         told = self.converted(self.program("program", "-rdynamic"), "--symbols", "dynsym")[1]
-        self.assertRegex(told, r"^ctfd-convert: .*entries go by the \d+ functions and objects of"
-                               r" \.dynsym, which strip leaves.*\n\Z")
+        self.assertRegex(told, r"^ctfd-convert: .*its types are for the \d+ functions and objects of"
+                               r" \.dynsym, which strip keeps.*\n\Z")
         file = self.compiled("code.o", CODE)
         self.assertIn("no .dynsym", self.converted(file, "--symbols", "dynsym", status=2)[1])
 
@@ -85,8 +85,8 @@ class Symbols(WithPrograms):
         subprocess.run(["strip", path], check=True)
         subprocess.run(["objcopy", f"--add-gnu-debuglink={path}.debug", path], check=True)
         out, told = self.converted(path, "--section")
-        self.assertIn("no .symtab, as strip leaves it: nothing is told of its symbols", told)
-        self.assertIn("nothing is told of symbols", self.declared(out, "add"))
+        self.assertIn("it is stripped of .symtab: symbols are left out", told)
+        self.assertIn("symbols are left out", self.declared(out, "add"))
 
     def test_the_checksum_goes_by_kinds_and_names(self) -> None:
         file = Elf(Path(self.program("program", "-rdynamic")).read_bytes())
@@ -115,7 +115,7 @@ class Symbols(WithPrograms):
         subprocess.run(["strip", made], check=True)
         program = open_program(self.session, made)
         self.assertEqual((program.symbols, program.types.how), ({}, "stripped"))
-        with self.assertRaisesRegex(ctfd.Unreadable, "as strip leaves it"):
+        with self.assertRaisesRegex(ctfd.Unreadable, "was stripped from the file"):
             program.types.symbol("add")
 
     def test_differences_of_a_program_that_was_stripped(self) -> None:
@@ -124,7 +124,7 @@ class Symbols(WithPrograms):
         subprocess.run(["strip", f"{made}.stripped"], check=True)
         done = command("ctfd-diff", made, f"{made}.stripped")
         self.assertEqual((done.returncode, done.stdout), (0, ""))
-        self.assertIn("nothing is told of symbols", done.stderr)
+        self.assertIn("symbols are left out", done.stderr)
 
 
 @unittest.skipUnless(TOOLS, "no gcc or objcopy here")
@@ -153,7 +153,7 @@ class Several(WithPrograms):
 
     def test_symbols_of_an_object_file_are_none_of_the_program_s(self) -> None:
         said = self.declared(self.linked(), "second", "--dictionary", "2")
-        self.assertIn("not the one that the types were written for", said)
+        self.assertIn("no longer fit its symbol table", said)
 
     def test_a_linked_program_is_converted_anew(self) -> None:
         types = self.types(self.converted(self.linked())[0])

@@ -1,8 +1,8 @@
-"""Writes a program's CTF as a debug file, of which gdb, lldb, drgn and pahole take its types.
+"""Writes a program's CTF as a debug file, from which gdb, lldb, drgn and pahole read its types.
 
 FILE is a program or library with CTF of version 2, or the bytes of such a section. OUT has DWARF;
-it is what `objcopy --only-keep-debug` would leave of the program with debug information. Arguments
-are called arg0, arg1, .., and have places as a function begins.
+it is what `objcopy --only-keep-debug` would make of the program with debug information. Arguments
+are called arg0, arg1, .., and have places where a function begins.
 """
 from __future__ import annotations
 
@@ -83,18 +83,17 @@ def _parser() -> argparse.ArgumentParser:
                         " which it is .build-id/NN/REST.debug, where debuggers look")
     parser.add_argument("--folder", action="store_true", help="OUT is a folder of debug files")
     parser.add_argument("--symbols", metavar="UNSTRIPPED", help="the copy of the program that still"
-                        " has its symbol table, where `strip` took it")
-    parser.add_argument("--program", metavar="FILE", help="the program that the types are of, where"
-                        " FILE is a section by itself")
-    parser.add_argument("--parent", metavar="FILE", help="the dictionary of which FILE is a child")
+                        " has its symbol table, if you stripped it")
+    parser.add_argument("--program", metavar="FILE", help="the program that the types belong to,"
+                        " if FILE is only a section")
+    parser.add_argument("--parent", metavar="FILE", help="the parent of FILE")
     parser.add_argument("--no-arguments", dest="arguments", action="store_false",
-                        help="leaves arguments without names and places")
+                        help="write no names and places of arguments")
     parser.add_argument("--model", choices=list(POINTER_SIZES), help="whether pointers have 8 bytes"
-                        " or 4; without it an ELF file says so itself, and a section is taken for"
-                        " lp64")
+                        " or 4; by default the class of the ELF file, or lp64")
     add_version(parser)
-    parser.add_argument("--service", metavar="CTFD", help="the program that judges (CTFD in the"
-                        " environment, or ctfd on the path)")
+    parser.add_argument("--service", metavar="CTFD", help="the program that checks FILE (CTFD in"
+                        " the environment, or ctfd on the path)")
     return parser
 
 

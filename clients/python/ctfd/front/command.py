@@ -1,8 +1,8 @@
 """Lets many clients use one `ctfd serve`, over a socket.
 
-Each connection is a session of its own: its number is written into each of its lines, whatever the
-client writes. A line without `s` is answered with that number; others take what it publishes by it.
-Each NAME=FILE is published by the service, so that every client can take it from owner 0.
+Each connection is a session of its own: the front writes its number into each line, whatever the
+client writes. A line without `s` is answered with that number; others take by it what it publishes.
+The service publishes each NAME=FILE, so every client can take it from owner 0.
 """
 from __future__ import annotations
 
@@ -28,11 +28,10 @@ SPARE_FILES = 32
 FILES_OF_A_PROCESS = 4
 MOST_PROCESSES = 256
 STATUSES = """\
-The status is 0 when it was told to end by SIGTERM or SIGINT; that of the service when that has
-ended (1 a file was refused, 3 a read or write failed, 4 memory, 128 and more by a signal; 6 where
-it ended without a reason); 2 for wrong words; 5 where the socket or the service can't be had; 7
-when all numbers of sessions were given.
-SIGUSR1 writes what was seen to standard error."""
+The status is 0 if SIGTERM or SIGINT ended it; that of the service if that ended (1 a file was
+refused, 3 a read or write failed, 4 memory, 128 and more a signal, 6 no reason); 2 for a wrong
+command line; 5 if the socket or the service can't be had; 7 if all session numbers were given.
+SIGUSR1 writes statistics to standard error."""
 
 
 def main(arguments: Optional[Sequence[str]] = None) -> int:
@@ -98,9 +97,9 @@ def _parser() -> argparse.ArgumentParser:
                         " published when its connection ends")
     parser.add_argument("--restart", action="store_true", help="start a new service when it ends,"
                         " with the same files")
-    parser.add_argument("--stats", type=_seconds, default=0, metavar="SECONDS", help="write what"
-                        " was seen to standard error, so often; without it, at SIGUSR1 alone")
-    parser.add_argument("--metrics", metavar="FILE", help="write what was seen there too, for the"
+    parser.add_argument("--stats", type=_seconds, default=0, metavar="SECONDS", help="write"
+                        " statistics to standard error, so often; by default only at SIGUSR1")
+    parser.add_argument("--metrics", metavar="FILE", help="write statistics there too, for the"
                         " textfile collector of Prometheus' node exporter, so often or each"
                         f" {Options.metrics_every:g} seconds")
     return parser
@@ -108,12 +107,12 @@ def _parser() -> argparse.ArgumentParser:
 
 def _add_socket(parser: argparse.ArgumentParser) -> None:
     group = parser.add_argument_group("the socket")
-    group.add_argument("--socket", metavar="PATH", help="where clients find it; a file that is"
-                       " there is replaced where nobody listens. Without it, the socket that"
-                       " systemd hands over (LISTEN_FDS)")
+    group.add_argument("--socket", metavar="PATH", help="where clients find it; a socket on"
+                       " which nobody listens is replaced. By default the socket that systemd"
+                       " hands over (LISTEN_FDS)")
     group.add_argument("--mode", type=_mode, default=0o660, metavar="MODE",
                        help="who may connect, as for chmod (0660)")
-    group.add_argument("--group", metavar="GROUP", help="whose group the socket is")
+    group.add_argument("--group", metavar="GROUP", help="the group of the socket")
 
 
 def _add_limits(parser: argparse.ArgumentParser) -> None:

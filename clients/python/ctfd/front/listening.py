@@ -43,7 +43,7 @@ def handed_over() -> Optional[Listener]:
     if not count or pid != str(os.getpid()):
         return None
     if count != "1":
-        raise Error(f"systemd hands over {count} sockets: one ListenStream= is wanted")
+        raise Error(f"systemd hands over {count} sockets: use one ListenStream=")
     try:
         found = socket.socket(fileno=FIRST)
         listens = found.getsockopt(socket.SOL_SOCKET, socket.SO_ACCEPTCONN)
@@ -131,7 +131,7 @@ def _alone(path: str) -> Iterator[None]:
             pass
         os.close(held)
         if time.monotonic() > until:
-            raise Error(f"{path} is locked: start again when no other front starts")
+            raise Error(f"{path} is locked: another front is starting; try again")
         time.sleep(0.02)
     try:
         yield

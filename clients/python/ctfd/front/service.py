@@ -64,7 +64,7 @@ class Service:
         if self.is_ready:
             what = f", and {connections} connections with it"
         advice = "; start ctfd-front again, or give it --restart" if is_last else ""
-        say(f"the service ended {cause(status)}{what}: what it says of that stands above{advice}",
+        say(f"the service ended {cause(status)}{what}: see its message above{advice}",
             Level.ERROR)
         return status or ENDED_UNASKED
 

@@ -1,4 +1,4 @@
-"""Prints values in a process that runs, or in a core file, by the types of its CTF.
+"""Prints variables of a running process or a core file, by the types in its CTF.
 
 EXPRESSION names a variable of the program, and what is in it, as C does: `table.slots[3]->name`,
 `*head`, `*(struct node *) 0x55d0c0`. A process is not stopped: its memory is read as it is, while
@@ -39,19 +39,19 @@ def _parser() -> argparse.ArgumentParser:
     where.add_argument("--pid", type=int, metavar="PID", help="the process")
     where.add_argument("--core", metavar="FILE", help="the core file")
     parser.add_argument("expressions", metavar="EXPRESSION", nargs="+")
-    parser.add_argument("--program", metavar="FILE", help="the program of the core file, where it"
-                        " is not at the place that the core file names")
-    parser.add_argument("--types", metavar="FILE", help="the file with the program's types, where"
-                        " the program has none itself: a copy of it that has, or a section")
-    parser.add_argument("--parent", metavar="FILE", help="the dictionary of which that is a child")
-    parser.add_argument("--list", metavar="MEMBER", help="prints a linked list: EXPRESSION is its"
+    parser.add_argument("--program", metavar="FILE", help="the program of the core file, if it is"
+                        " not where the core file says")
+    parser.add_argument("--types", metavar="FILE", help="the file with the program's types, if the"
+                        " program has none: a copy of it that has, or a section")
+    parser.add_argument("--parent", metavar="FILE", help="the parent of that")
+    parser.add_argument("--list", metavar="MEMBER", help="print a linked list: EXPRESSION is its"
                         " first node, or a pointer to it, and MEMBER a node's pointer to the next")
-    parser.add_argument("--of", metavar="TYPE", help="with --list: MEMBER is a link inside of TYPE"
-                        " that points to the next link, as the kernel's list_head, and EXPRESSION"
-                        " the list's own link")
-    parser.add_argument("--hex", action="store_true", help="numbers as hexadecimal ones")
-    parser.add_argument("--elements", type=int, default=200, metavar="N", help="of an array, a text"
-                        f" and a list no more than N are printed (200; {MOST} at most)")
+    parser.add_argument("--of", metavar="TYPE", help="with --list: MEMBER is a link inside TYPE"
+                        " that points to the next link, as the kernel's list_head does, and"
+                        " EXPRESSION is the head of the list")
+    parser.add_argument("--hex", action="store_true", help="numbers in hexadecimal")
+    parser.add_argument("--elements", type=int, default=200, metavar="N", help="at most N"
+                        f" elements of an array, a text or a list (200; {MOST} at most)")
     commands.add_words(parser)
     return parser
 
@@ -115,7 +115,7 @@ class Shower:
         except Error as error:
             raise Error(f"{expression}: {error}") from error
         except RecursionError:
-            raise Error(f"{expression}: its values lie too deep in each other: ask for a part"
+            raise Error(f"{expression}: its values are nested too deep: ask for a part"
                         ) from None
 
     def _list(self, head: Operand) -> None:

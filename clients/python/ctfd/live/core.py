@@ -114,7 +114,7 @@ class Core:
                      if any(at.start <= entry < at.end for at in one.mappings)), None)
         if program is not None:
             if main is None:
-                raise Unreadable(f"{self.path} does not tell where its program was in memory")
+                raise Unreadable(f"{self.path} does not say where its program was in memory")
             main.path = main.place = program
         return sorted(found.values(), key=lambda one: one is not main)
 

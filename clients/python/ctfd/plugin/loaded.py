@@ -97,7 +97,7 @@ class Loaded:
             return function(operand.signature, name)
         if isinstance(operand, Located):
             return declaration(operand.type, name)
-        return f"{printable(name)}: nothing is told of it"
+        return f"{printable(name)}: its type is not known"
 
     def close(self) -> None:
         """Gives the dictionaries back."""
