@@ -13,12 +13,12 @@ import resource
 import sys
 from typing import Callable, Optional, Sequence
 
-from .. import service
-from ..commands import add_version
-from ..faults import Error
+from ..client import service
+from ..client.faults import Error
+from ..tools.running import add_version
 from . import listening
-from .front import TROUBLE, Front, Options
-from .journal import NAME, Level, say
+from .front import Front, Options, TROUBLE
+from .journal import Level, NAME, say
 from .limits import Limits
 from .scanning import LAST_SESSION
 from .signals import Signals

@@ -1,0 +1,63 @@
+"""How the commands run and end: errors as one line, quietly where the reader has left."""
+from __future__ import annotations
+
+import argparse
+import gc
+import io
+import os
+import sys
+from typing import Callable, Optional
+
+from ..client.faults import Error
+from ..text import printable
+from ..client.wire import Session, connected
+from ..version import VERSION
+
+INTERRUPTED, UNREAD = 130, 141  # as a shell has it of SIGINT and SIGPIPE
+
+
+def add_words(parser: argparse.ArgumentParser) -> None:
+    """The options of every command."""
+    parser.add_argument("--service", metavar="CTFD", help="the program to ask (CTFD in the"
+                        " environment, or ctfd beside this command or on the path)")
+    add_version(parser)
+
+
+def add_version(parser: argparse.ArgumentParser) -> None:
+    """The option that tells the version."""
+    parser.add_argument("--version", action="version", version=f"%(prog)s {VERSION}")
+
+
+def run(command: str, program: Optional[str], work: Callable[[Session], int], trouble: int) -> int:
+    """The status of what `work` does in a session of its own, or that of trouble.
+
+    What is read is kept to the end, so nothing is gained by looking for garbage in it.
+    """
+    gc.disable()
+    if isinstance(sys.stdout, io.TextIOWrapper):
+        sys.stdout.reconfigure(errors="backslashreplace")
+    try:
+        with connected(program) as client:
+            status = work(client.session())
+        sys.stdout.flush()
+        return status
+    except BrokenPipeError:  # a reader such as head has left
+        os.dup2(os.open(os.devnull, os.O_WRONLY), sys.stdout.fileno())
+        return UNREAD
+    except KeyboardInterrupt:
+        return INTERRUPTED
+    except MemoryError:
+        warn(command, "memory ran out")
+    except (Error, OSError) as error:
+        warn(command, str(error))
+    except Exception as error:  # a file that nobody thought of: no user is shown where in the code
+        warn(command, f"a file is damaged, or of a form that is not read"
+             f" ({type(error).__name__}: {' '.join(str(error).split())})")
+    finally:
+        gc.enable()
+    return trouble
+
+
+def warn(command: str, said: str) -> None:
+    """A line on standard error."""
+    print(f"{command}: {printable(said)}", file=sys.stderr)
