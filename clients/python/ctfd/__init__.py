@@ -9,7 +9,9 @@ if sys.version_info < (3, 9):
     sys.exit("ctfd: %s is Python %d.%d, and 3.9 or later is needed: put another first on the PATH,"
              " such as Debian's python3" % ((sys.executable,) + sys.version_info[:2]))
 
-from . import replies, text
+from typing import TYPE_CHECKING, Any
+
+from . import text
 from .client.dictionary import Dictionary, open_file, open_source, taken, withdraw
 from .client.easy import open_path as open
 from .client.faults import (BadDictionary, BadSymbols, Error, Gone, Incomplete, NoMemory, NoParent,
@@ -31,3 +33,14 @@ __all__ = [
     "layout", "listing", "open", "open_file", "open_source", "read", "replies", "taken", "text",
     "values", "withdraw",
 ]
+
+if TYPE_CHECKING:
+    from . import build, expressions, formats, replies, values
+else:
+    def __getattr__(name: str) -> Any:
+        """The public modules, each imported where it is asked for."""
+        import importlib
+
+        if name in __all__:
+            return importlib.import_module(f"{__name__}.{name}")
+        raise AttributeError(f"module {__name__!r} has no attribute {name!r}")

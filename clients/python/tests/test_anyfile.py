@@ -60,7 +60,7 @@ class Programs(Folder):
         made = self.program()
         self.told(made)
         with mock.patch.object(anyfile, "converted", side_effect=AssertionError):
-            kept = anyfile.read(made, Asked(cache=user_cache()))
+            kept = anyfile.read(made, Asked(cache=user_cache))
         self.assertTrue(kept.is_made and kept.source.sym)
         self.assertEqual(kept.source.how, "named")
 

@@ -66,7 +66,7 @@ def open_source(session: Session, found: Source) -> Dictionary:
             raise
         opened = session.open(found.ctf, None, found.strings, found.model)
         found = found._replace(sym=None, how="refused")
-    return Dictionary(session, opened["d"], found.how, identity.of_types(found.ctf))
+    return Dictionary(session, opened["d"], found.how, identity.of_types(found.ctf), found)
 
 
 def taken(session: Session, owner: int, name: str) -> Dictionary:
@@ -83,17 +83,18 @@ class Dictionary:
     """Slot `slot` of a session.
 
     `how` tells where its symbols come from, as in `Source`, or "refused" where guessed ones did
-    not fit; `types_label` is what a child names it by as its parent, where that is known. `model`
-    is the data model by which the service sizes and shows pointers. A child shares what its parent
+    not fit; `types_label` is what a child names it by as its parent, and `handed_in` are its lists,
+    where these are known. `model` is the data model by which the service sizes and shows pointers. A child shares what its parent
     was answered, so the parent's slot stays open.
     """
 
     def __init__(self, session: Session, slot: int, how: str = "none",
-                 types_label: Optional[str] = None) -> None:
+                 types_label: Optional[str] = None, handed_in: Optional[Source] = None) -> None:
         self.session = session
         self.slot = slot
         self.how = how
         self.types_label = types_label
+        self.handed_in = handed_in
         self.parent: Optional[Dictionary] = None
         self.ends: Optional[Callable[[], object]] = None
         self._answers: Dict[Tuple[str, int], Outcome] = {}
@@ -158,7 +159,7 @@ class Dictionary:
         """The type that C's name says, or that of a number. Raises NoSuchType, which is a KeyError
         too, and says which names are near."""
         if isinstance(name, int):
-            if name not in range(self.first, self.first + self.own) and not self._is_parents(name):
+            if name not in self.numbers and not self._is_parents(name):
                 raise NoSuchType(f"no type has the number {name}")
             return self.type(name).gather()
         try:
@@ -179,6 +180,11 @@ class Dictionary:
     def first(self) -> int:
         """The number of its first type."""
         return OWN_OF_CHILD + 1 if self.is_child else 1
+
+    @property
+    def numbers(self) -> range:
+        """The numbers of its own types."""
+        return range(self.first, self.first + self.own)
 
     def _is_parents(self, number: int) -> bool:
         return self.parent is not None and 0 < number <= self.parent.own
@@ -238,9 +244,10 @@ class Dictionary:
             total = page["total"]
         return {LISTS[op]: items, "total": total}
 
-    def gather(self, numbers: Iterable[int]) -> None:
-        """Asks in few rounds for all that declarations and layouts of these types need."""
-        Gathering(self).run(numbers)
+    def gather(self, numbers: Iterable[int], named: Iterable[int] = ()) -> None:
+        """Asks in few rounds for all that declarations and layouts of these types need, and that
+        declarations alone of the `named` ones need."""
+        Gathering(self).run(numbers, named)
 
     # Types, by number and by name.
 
@@ -250,7 +257,7 @@ class Dictionary:
 
     def types(self) -> List[Type]:
         """The dictionary's own types, in order."""
-        return [self.type(t) for t in range(self.first, self.first + self.own)]
+        return [self.type(t) for t in self.numbers]
 
     def find(self, name: Name) -> Type:
         """The type that C's name says, as "struct x **"; the least, where several have the name.

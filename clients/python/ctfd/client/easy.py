@@ -1,7 +1,6 @@
 """A file's types in one call: `ctfd.open(path)`."""
 from __future__ import annotations
 
-import weakref
 from typing import Optional
 
 from .dictionary import Dictionary
@@ -20,12 +19,13 @@ def open_path(path: str, model: Optional[Model] = None, base: Optional[str] = No
     cache, unless `is_kept` is false. What CTF can't hold of the file is logged. Raises Error.
     """
     import logging
+    import weakref
 
     from ..files.anyfile import Asked  # here: who has a session of his own needs none of these
     from ..files.cache import user_cache
     from ..files.opening import Opener
 
-    asked = Asked(model, None, base, cache=user_cache() if is_kept else None,
+    asked = Asked(model, None, base, cache=user_cache if is_kept else None,
                   warn=logging.getLogger(__name__).warning)
     mine = client or connected(None)
     try:

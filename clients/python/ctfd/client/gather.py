@@ -31,14 +31,14 @@ class Gathering:
         self.held: Set[int] = set()
         self.named: Set[int] = set()
 
-    def run(self, start: Iterable[int]) -> None:
-        """Asks for what `start` and all below it need.
+    def run(self, start: Iterable[int], names: Iterable[int] = ()) -> None:
+        """Asks for what `start` and all below it need, and for what it takes to spell `names`.
 
         A round has the records of the types that the last one led to, and the lists of those
         whose records it told.
         """
         held: List[int] = list(start)
-        named: List[int] = []
+        named: List[int] = list(names)
         details: List[Tuple[str, int]] = []
         while held or named or details:
             held = [t for t in dict.fromkeys(held) if t and t not in self.held]

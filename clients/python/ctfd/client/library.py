@@ -13,14 +13,14 @@ from __future__ import annotations
 import ctypes
 import os
 import sys
-from pathlib import Path
 from typing import Iterable, Iterator, List, Optional, cast
 
 from ..version import VERSION
+from . import service
 from .faults import Gone
 
 NAME = f"libctfd.so.{VERSION.split('.')[0]}"
-BUILT = Path("crates/ctf_c/out/libctfd.so")
+BUILT = "crates/ctf_c/out/libctfd.so"
 ROOM = 65_536
 MEMORY, NO_SERVICE = 1, 50
 PATIENCE = 10
@@ -52,18 +52,18 @@ def find() -> Optional[Library]:
 
 def _places() -> Iterator[str]:
     """Where a library may be, the nearest first."""
-    here = Path(__file__).resolve()
-    command = Path(sys.argv[0] if sys.argv else "").resolve()
-    package = here.parents[1]
-    beside = [package / NAME, package / "libctfd.so",
-              command.parent.parent / "lib" / NAME]
-    for path in [*beside, *(folder / BUILT for folder in here.parents)]:
-        if path.is_file():
-            yield str(path)
+    package = os.path.dirname(os.path.dirname(os.path.realpath(__file__)))
+    command = os.path.realpath(sys.argv[0] if sys.argv else "")
+    installed = os.path.dirname(os.path.dirname(command))
+    for path in (os.path.join(package, NAME), os.path.join(package, "libctfd.so"),
+                 os.path.join(installed, "lib", NAME),
+                 *(os.path.join(folder, BUILT) for folder in service.above(package))):
+        if os.path.isfile(path):
+            yield path
     yield NAME
     folder = _of_pkg_config()
     if folder:
-        yield str(Path(folder, NAME))
+        yield os.path.join(folder, NAME)
 
 
 def _of_pkg_config() -> str:

@@ -10,13 +10,12 @@ from __future__ import annotations
 import os
 import re
 import sys
-from pathlib import Path
-from typing import Optional
+from typing import Iterator, Optional
 
 from ..version import VERSION
 from .faults import Error, Gone
 
-BUILT = Path("crates/ctfd/out/ctfd")
+BUILT = "crates/ctfd/out/ctfd"
 PATIENCE = 10
 
 _SAYS = re.compile(r"ctfd (\d+)\.(\d+)\.(\d+)\s*\Z")
@@ -57,16 +56,22 @@ def room() -> Optional[str]:
 
 def _beside() -> Optional[str]:
     """The program that was installed with the command that runs, or None."""
-    program = Path(sys.argv[0] if sys.argv else "").resolve().with_name("ctfd")
-    return str(program) if program.is_file() and os.access(program, os.X_OK) else None
+    command = os.path.realpath(sys.argv[0] if sys.argv else "")
+    program = os.path.join(os.path.dirname(command), "ctfd")
+    return program if os.path.isfile(program) and os.access(program, os.X_OK) else None
 
 
 def _built() -> Optional[str]:
     """The program of the clone that this file stands in, or None."""
-    for folder in Path(__file__).resolve().parents:
-        if os.access(folder / BUILT, os.X_OK):
-            return str(folder / BUILT)
-    return None
+    places = (os.path.join(folder, BUILT) for folder in above(os.path.realpath(__file__)))
+    return next((place for place in places if os.access(place, os.X_OK)), None)
+
+
+def above(path: str) -> Iterator[str]:
+    """The folders that a path lies in, the nearest first."""
+    while path != os.path.dirname(path):
+        path = os.path.dirname(path)
+        yield path
 
 
 def _judged(program: str) -> str:

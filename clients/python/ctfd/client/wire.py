@@ -13,7 +13,7 @@ from types import TracebackType
 from typing import (TYPE_CHECKING, Any, Deque, Dict, Iterable, List, Literal, NoReturn, Optional,
                     Sequence, Tuple, Type, Union, overload)
 
-from .. import replies, text
+from .. import text
 from . import library, service
 from .faults import Error, Gone, Refused, refused
 from .library import Inside, Library
@@ -21,6 +21,7 @@ from .model import Model
 from ..text import Name
 
 if TYPE_CHECKING:
+    from .. import replies
     from .channel import Channel
 
 Answer = Dict[str, Any]
@@ -34,6 +35,10 @@ SERVE = ("serve",)
 HEX = b"0123456789abcdef"
 
 _DECODED = json.JSONDecoder().decode
+
+
+class Digits(str):
+    """Hexadecimal digits, as `bytes.hex` makes them."""
 
 
 class Owed:
@@ -369,7 +374,8 @@ def request_line(session: int, op: str, fields: Answer) -> bytes:
                                                       fields["t"])
     if op == "part" and len(fields) == 2 and isinstance(fields.get("bytes"), str):
         digits = fields["bytes"].encode("ascii", "replace")
-        if not digits.translate(None, HEX):  # megabytes, and none of them to be escaped
+        are_digits = isinstance(fields["bytes"], Digits) or not digits.translate(None, HEX)
+        if are_digits:  # megabytes, and none of them to be escaped
             return b'{"s":%d,"op":"part","section":%b,"bytes":"%b"}\n' % (
                 session, json.dumps(fields.get("section")).encode("ascii"), digits)
     request = {"s": session, "op": op, **fields}
@@ -396,4 +402,4 @@ def _parts(section: str, data: Optional[bytes]) -> List[Request]:
     if data is None:
         return []
     pieces = [data[start:start + PIECE] for start in range(0, len(data), PIECE)] or [b""]
-    return [("part", {"section": section, "bytes": piece.hex()}) for piece in pieces]
+    return [("part", {"section": section, "bytes": Digits(piece.hex())}) for piece in pieces]

@@ -13,7 +13,6 @@ from typing import TYPE_CHECKING, Callable, List, NamedTuple, Optional, Sequence
 from ..client.faults import Unreadable
 from ..client.model import Model
 from . import archives, elf, identity, source
-from .cache import Cache, Kept, key, user_cache
 from .elf import Elf
 from .mapped import Mapped, contents
 from .source import Source
@@ -21,6 +20,8 @@ from .symbols import DYNSYM, Handed, NAMES, SYMTAB, considered, made_table
 
 if TYPE_CHECKING:
     import tempfile
+
+    from .cache import Cache, Kept
 
     from ..convert.inputs import Options
 
@@ -30,14 +31,14 @@ FORMS = ("ctf", "btf", "dwarf", "gnu")  # those of `inputs`
 
 class Asked(NamedTuple):
     """What a user says of the files, as `ctfd-convert` takes it. `warn` is told what was lost and
-    what takes long; `cache` is None where nothing is to be kept."""
+    what takes long; `cache` finds where to keep what was made, None where that is not wanted."""
 
     model: Optional[Model] = None
     form: Optional[str] = None
     base: Optional[str] = None
     folders: Sequence[str] = ()
     number: Optional[int] = None
-    cache: Optional[Cache] = None
+    cache: Optional[Callable[[], Optional[Cache]]] = None
     warn: Callable[[str], None] = lambda said: None
 
 
@@ -52,7 +53,13 @@ class Read(NamedTuple):
 def asked(words: argparse.Namespace, warn: Callable[[str], None]) -> Asked:
     """What the words of a command line say of the files."""
     return Asked(words.model, words.form, words.base, words.folders,
-                 getattr(words, "dictionary", None), None if words.no_cache else user_cache(), warn)
+                 getattr(words, "dictionary", None), None if words.no_cache else _user_cache, warn)
+
+
+def _user_cache() -> Optional[Cache]:
+    from .cache import user_cache  # here and below: who has a dictionary keeps nothing
+
+    return user_cache()
 
 
 def add_words(parser: argparse.ArgumentParser) -> None:
@@ -140,8 +147,11 @@ def converted(path: str, options: Options) -> Tuple[Source, List[str]]:
 
 def _made(path: str, data: Mapped, asked: Asked) -> Source:
     """The dictionary of a file that is converted, or that was."""
+    from .cache import Kept, key
+
     said = (asked.model, asked.form, list(asked.folders), asked.number, _table(path, data))
-    cache = asked.cache if data[:len(archives.THIN)] != archives.THIN else None
+    is_thin = data[:len(archives.THIN)] == archives.THIN
+    cache = asked.cache() if asked.cache and not is_thin else None
     kept: Optional[Kept] = None
     found: Optional[Source] = None
     if cache is not None:
@@ -162,6 +172,8 @@ def _made(path: str, data: Mapped, asked: Asked) -> Source:
 
 
 def _sum_of(path: Optional[str]) -> str:
+    from .cache import key
+
     return key(contents(path), path) if path else ""
 
 

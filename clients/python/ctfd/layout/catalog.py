@@ -1,4 +1,5 @@
-"""All types of a dictionary and of its parent as records, read in a few rounds.
+"""All types of a dictionary and of its parent as records, asked for in a few rounds, or read in
+what was handed in for it.
 
 Tools that look at every type stand on this: a record is a tuple, and no question is asked once it
 is read. What a dictionary holds is judged by the service, so chains of types end.
@@ -12,6 +13,7 @@ from ..client.dictionary import Dictionary
 from ..client.gather import DETAIL, LISTS
 from ..client.types import Encoding, Enumerator, Member, QUALIFIERS, Type
 from ..client.wire import Answer
+from . import stored
 from .places import Layout, Span, laid
 from .records import AGGREGATES, Part, Record
 
@@ -32,14 +34,15 @@ class Reached(NamedTuple):
 class Catalog:
     """The records of a dictionary; `own` are the numbers of its own types, in order.
 
+    Where nothing but `LISTS` is wanted, and what was handed in is known, no type is asked for. Else
     `told` is called as reading goes on, with how many questions of how many are answered.
     """
 
     def __init__(self, dictionary: Dictionary, lists: Iterable[str] = LISTS,
                  told: Optional[Told] = None) -> None:
         self.dictionary = dictionary
-        self.own = [t.number for t in dictionary.types()]
-        self.numbers = [t.number for t in dictionary.parent.types()] if dictionary.parent else []
+        self.own = list(dictionary.numbers)
+        self.numbers = list(dictionary.parent.numbers) if dictionary.parent else []
         self.numbers += self.own
         self._told = told
         self._records: Dict[int, Record] = {0: Record("void")}
@@ -47,7 +50,10 @@ class Catalog:
         self._spans: Dict[int, Span] = {}
         self._reached: Dict[int, Reached] = {}
         self._layouts: Dict[int, Layout] = {}
-        self._read(set(lists))
+        self._has_sizes = False
+        if not self._read_stored(set(lists)):
+            self._read(set(lists))
+        self._told = None
         self._visible = {_as_integer(self[number]) for number in self.numbers
                          if self[number].kind == "integer" and self[number].root}
 
@@ -65,6 +71,16 @@ class Catalog:
 
     # Reading.
 
+    def _read_stored(self, lists: Set[str]) -> bool:
+        """Reads the records where they stand; whether that is all that is wanted."""
+        both = [one for one in (self.dictionary.parent, self.dictionary) if one is not None]
+        found = [one.handed_in for one in both if one.handed_in is not None]
+        if lists - set(LISTS) or len(found) < len(both):
+            return False
+        for one, lists_of in zip(both, found):
+            self._records.update(zip(one.numbers, stored.records(lists_of)))
+        return True
+
     def _read(self, lists: Set[str]) -> None:
         self._fetch([("record", number) for number in self.numbers])
         asked: List[Tuple[str, int]] = []
@@ -73,8 +89,6 @@ class Catalog:
             word = DETAIL.get(said["kind"])
             if word in lists:
                 asked.append((word, number))
-            if word == "array":
-                asked.append(("size", number))
         self._fetch(asked)
         for number, said in told.items():
             self._records[number] = self._record(number, said, lists)
@@ -139,10 +153,17 @@ class Catalog:
         if record.kind in ("forward", "unknown", "void"):
             return None
         if record.kind == "array":
+            self._ask_sizes()
             return self.dictionary.type(end).size
         if record.kind == "enum":
             return record.size or 4
         return record.size
+
+    def _ask_sizes(self) -> None:
+        """Asks for the sizes of all arrays, which their records need not tell."""
+        if not self._has_sizes:
+            self._has_sizes = True
+            self._fetch([("size", n) for n in self.numbers if self[n].kind == "array"])
 
     def layout(self, number: int) -> Layout:
         """Where the members of a struct or union lie, of which no question is asked."""

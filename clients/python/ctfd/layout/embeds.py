@@ -1,6 +1,7 @@
 """Which structs and unions hold a type by value, and which point to it."""
 from __future__ import annotations
 
+from functools import cached_property
 from typing import Callable, Dict, Iterator, List, NamedTuple, Set, Tuple
 
 from .catalog import Catalog, RENAMES
@@ -51,19 +52,20 @@ class Embeds:
         return self._held(self._reaches(targets, pointers=True))
 
     def _held(self, wanted: Callable[[int], bool]) -> Iterator[Held]:
-        leading = {number for number in self._members()
+        leading = {number for number in self._members
                    if wanted(number) or self.is_walked_through(number)}
         for owner in self._owners():
             if any(part.type in leading for part in self.catalog[owner].members):
                 yield from (one for one in self.walked(owner) if wanted(one.type))
 
+    @cached_property
     def _members(self) -> Set[int]:
         """The types of all members."""
         return {part.type for n in self.catalog.aggregates() for part in self.catalog[n].members}
 
     def _owners(self) -> List[int]:
         """Its own structs and unions but those that are walked through in others."""
-        inner = {self.catalog.reached(number).number for number in self._members()}
+        inner = {self.catalog.reached(number).number for number in self._members}
         return [n for n in self.catalog.aggregates() if n not in inner or self.names.has_name(n)]
 
     def walked(self, owner: int) -> Iterator[Held]:

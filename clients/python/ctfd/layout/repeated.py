@@ -10,9 +10,9 @@ from typing import AbstractSet, Dict, Iterator, List, NamedTuple, Sequence, Set
 
 from .. import text
 from ..client.dictionary import normal, spellings
-from ..text import printable
 from ..convert.written import CHILD, FUNCTION, KINDS, LONG_MEMBERS, LONG_SIZE
 from ..files import identity
+from ..text import printable
 
 TAGGED = ("struct", "union", "enum")
 SHORT, LONG, MEMBER, LONG_MEMBER = 8, 16, 8, 16
@@ -36,17 +36,17 @@ def of_name(ctf: bytes, name: text.Name) -> List[int]:
     if stars:
         return []
     wanted = [_apart(one) for one in spellings(base)]
-    places = identity.sections(ctf)
-    strings = ctf[places.strings:places.end]
-    types = ctf[places.types:places.strings]
+    sections = identity.sections(ctf)
+    strings = ctf[sections.strings:sections.end]
+    types = ctf[sections.types:sections.strings]
     references: Dict[str, Set[int]] = {}
     for word, bare in wanted:
         references.setdefault(word, set()).update(_references(strings, bare))
-    if not _are_several(types, references):
+    places = _places(types, references)
+    if len(places) < 2:
         return []  # its one place is that of the type that was found
     first = CHILD + 1 if struct.unpack_from("<I", ctf, 8)[0] else 1
-    names = frozenset().union(*references.values())
-    return [head.number for head in _heads(types, first, names)
+    return [head.number for head in _heads(types, first, places)
             if head.name in references.get(head.word, ())]
 
 
@@ -58,10 +58,10 @@ def others(numbers: Sequence[int], name: str) -> str:
             f" them all, --number N one ({', '.join(map(str, numbers))})")
 
 
-def _are_several(types: bytes, references: Dict[str, Set[int]]) -> bool:
-    """Whether records that are called so may be several: a word that refers to the name is followed
-    by one of which the upper bits are a kind. A member may look so too, and a walk tells."""
-    places = 0
+def _places(types: bytes, references: Dict[str, Set[int]]) -> Set[int]:
+    """Where records that are called so may begin: a word that refers to the name is followed by one
+    of which the upper bits are a kind. A member may look so too, and a walk tells."""
+    places: Set[int] = set()
     for word, held in references.items():
         kinds = {number for number, kind in enumerate(KINDS)
                  if (kind in (word, "forward") if word else kind not in (*TAGGED, "forward"))}
@@ -69,10 +69,10 @@ def _are_several(types: bytes, references: Dict[str, Set[int]]) -> bool:
             wanted = struct.pack("<I", one)
             at = types.find(wanted)
             while at >= 0:
-                is_record = at % 4 == 0 and types[at + 5:at + 6] and types[at + 5] >> 3 in kinds
-                places += bool(is_record)
+                if at % 4 == 0 and types[at + 5:at + 6] and types[at + 5] >> 3 in kinds:
+                    places.add(at)
                 at = types.find(wanted, at + 1)
-    return places > 1
+    return places
 
 
 def _apart(name: str) -> "tuple[str, bytes]":
@@ -91,27 +91,31 @@ def _references(strings: bytes, name: bytes) -> Set[int]:
     return found
 
 
-def _heads(types: bytes, first: int, names: AbstractSet[int]) -> Iterator[_Head]:
-    """The records of which the name is one of some references; all are walked over."""
-    at, number, head = 0, first, HEAD.unpack_from
-    while at + SHORT <= len(types):  # tens of thousands: no call more than it takes
-        name, info, field = head(types, at)
-        at += SHORT
-        if field == LONG_SIZE:
-            high, low = LONG_FIELD.unpack_from(types, at)
-            field = high << 32 | low
-            at += LONG - SHORT
-        kind = info >> 11
-        if name in names:
-            yield _Head(number, _word(KINDS[kind], field), name)
-        if kind in AGGREGATES:
-            at += (info & 0x3FF) * (MEMBER if field < LONG_MEMBERS else LONG_MEMBER)
-        else:
-            at += BEHIND.get(kind, 0)
-            if kind == ENUM:
-                at += 8 * (info & 0x3FF)
-            elif kind == FUNCTION:
-                at += 2 * ((info & 0x3FF) + (info & 1))
+class _Steps(Dict[int, int]):
+    """How many bytes a record has by its kind and the length of its list, if its size is short."""
+
+    def __missing__(self, info: int) -> int:
+        kind, length = info >> 11, info & 0x3FF
+        listed = {ENUM: MEMBER, FUNCTION: 2, **dict.fromkeys(AGGREGATES, MEMBER)}.get(kind, 0)
+        self[info] = SHORT + BEHIND.get(kind, 0) + (listed * length + 3 & ~3)
+        return self[info]
+
+
+def _heads(types: bytes, first: int, places: AbstractSet[int]) -> Iterator[_Head]:
+    """The records that begin at some of the places; all up to the last of these are walked over."""
+    at, number, last, steps = 0, first, max(places), _Steps()
+    while at <= last:  # tens of thousands: no call more than it takes
+        name, info, field = HEAD.unpack_from(types, at)
+        here, at = at, at + steps[info]
+        if field >= LONG_MEMBERS:
+            if field == LONG_SIZE:
+                high, low = LONG_FIELD.unpack_from(types, here + SHORT)
+                field = high << 32 | low
+                at += LONG - SHORT
+            if info >> 11 in AGGREGATES and field >= LONG_MEMBERS:
+                at += (LONG_MEMBER - MEMBER) * (info & 0x3FF)
+        if here in places:
+            yield _Head(number, _word(KINDS[info >> 11], field), name)
         number += 1
 
 

@@ -14,7 +14,6 @@ import sys
 from typing import List, Optional, Sequence
 
 from ..client.faults import Error
-from ..text import printable
 from ..client.wire import connected
 from ..convert import outputs
 from ..convert.conversion import made_of
@@ -23,9 +22,10 @@ from ..convert.made import Made
 from ..files import bounded
 from ..files.elf import MAGIC
 from ..files.mapped import contents
-from . import convert_words
+from . import convert_words, running
 from .convert_words import TABLES
 
+NAME = "ctfd-convert"
 FAITHFUL, LOSSY, FAILED, INTERRUPTED = 0, 1, 2, 130
 
 
@@ -64,7 +64,7 @@ def _why(path: str, error: Exception) -> str:
 
 
 def _warn(line: str) -> None:
-    print(f"ctfd-convert: {printable(line)}", file=sys.stderr)
+    running.warn(NAME, line)
 
 
 def words(arguments: Optional[Sequence[str]] = None) -> argparse.Namespace:

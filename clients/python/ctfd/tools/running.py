@@ -9,7 +9,6 @@ import sys
 from typing import Callable, Optional
 
 from ..client.faults import Error
-from ..text import printable
 from ..client.wire import Session, connected
 from ..version import VERSION
 
@@ -59,5 +58,7 @@ def run(command: str, program: Optional[str], work: Callable[[Session], int], tr
 
 
 def warn(command: str, said: str) -> None:
-    """A line on standard error."""
-    print(f"{command}: {printable(said)}", file=sys.stderr)
+    """A line on standard error, by the log of the command."""
+    from .messages import log  # here: to import what logs takes longer than most questions
+
+    log(command).warning("%s", said)

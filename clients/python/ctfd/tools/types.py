@@ -174,6 +174,7 @@ def _figures(told: Whole, wanted: argparse.Namespace) -> Iterator[str]:
 
 def _listings(told: Whole, numbers: Sequence[int], wanted: argparse.Namespace) -> Iterator[str]:
     """Types in full, each once, a blank line between them."""
+    told.catalog.dictionary.gather(numbers)
     types = dict.fromkeys(_worth_listing(told.catalog.type(number)) for number in numbers)
     for place, one in enumerate(types):
         yield ("\n" if place else "") + _listing(one, wanted)

@@ -138,6 +138,7 @@ def members(whole: Whole, name: str, is_json: bool) -> Iterator[str]:
              for held in embeds.walked(number) if held.path and meets(held.path[-1])]
     if not found:
         raise Unknown(printable(f"no member is called {name}"))
+    whole.catalog.dictionary.gather((), {held.type for held in found})
     yield from _bounded(whole, (_held(whole, held, is_json) for held in found))
 
 

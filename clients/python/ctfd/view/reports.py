@@ -31,7 +31,9 @@ def table(told: Sequence[Figures]) -> Iterator[str]:
 
 def holders(whole: Whole, name: str, pointers: bool, is_deep: bool) -> Iterator[str]:
     """Who holds a type, or points to it: a line for each member."""
-    return (held_line(whole, held) for held in _found(whole, name, pointers, is_deep))
+    found = _found(whole, name, pointers, is_deep)
+    whole.catalog.dictionary.gather((), {held.type for held in found})
+    return (held_line(whole, held) for held in found)
 
 
 def holders_as_json(whole: Whole, name: str, pointers: bool, is_deep: bool) -> Iterator[str]:
