@@ -66,7 +66,7 @@ def open_source(session: Session, found: Source) -> Dictionary:
             raise
         opened = session.open(found.ctf, None, found.strings, found.model)
         found = found._replace(sym=None, how="refused")
-    return Dictionary(session, opened["d"], found.how, identity.of_types(found.ctf), found)
+    return Dictionary(session, opened["d"], found.how, found)
 
 
 def taken(session: Session, owner: int, name: str) -> Dictionary:
@@ -83,17 +83,16 @@ class Dictionary:
     """Slot `slot` of a session.
 
     `how` tells where its symbols come from, as in `Source`, or "refused" where guessed ones did
-    not fit; `types_label` is what a child names it by as its parent, and `handed_in` are its lists,
-    where these are known. `model` is the data model by which the service sizes and shows pointers. A child shares what its parent
+    not fit; `handed_in` are its lists, where they are known. `model` is the data model by which the
+    service sizes and shows pointers. A child shares what its parent
     was answered, so the parent's slot stays open.
     """
 
     def __init__(self, session: Session, slot: int, how: str = "none",
-                 types_label: Optional[str] = None, handed_in: Optional[Source] = None) -> None:
+                 handed_in: Optional[Source] = None) -> None:
         self.session = session
         self.slot = slot
         self.how = how
-        self.types_label = types_label
         self.handed_in = handed_in
         self.parent: Optional[Dictionary] = None
         self.ends: Optional[Callable[[], object]] = None
@@ -109,12 +108,18 @@ class Dictionary:
     def import_parent(self, parent: Dictionary) -> None:
         """Gives a child its parent, a dictionary of the same session. Raises Unreadable where the
         child says that its parent is another."""
-        why = identity.not_its_parent(self.parent_label, parent.types_label)
-        if why and self.is_child:
-            raise Unreadable(why)
+        if self.is_child:
+            why = identity.not_its_parent(self.parent_label, parent.types_label)
+            if why:
+                raise Unreadable(why)
         self.session.ask("import", d=self.slot, parent=parent.slot)
         self.parent = parent
         self._answers.clear()
+
+    @property
+    def types_label(self) -> Optional[str]:
+        """What a child names it by as its parent, where its lists are known."""
+        return identity.of_types(self.handed_in.ctf) if self.handed_in else None
 
     @property
     def pointer_size(self) -> int:

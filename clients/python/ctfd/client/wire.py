@@ -6,6 +6,7 @@ so this runs inside a debugger too.
 """
 from __future__ import annotations
 
+import binascii
 import collections
 import json
 import os
@@ -32,13 +33,8 @@ PIECE = 262_144
 READ = 262_144
 WRITE = 65_536
 SERVE = ("serve",)
-HEX = b"0123456789abcdef"
 
 _DECODED = json.JSONDecoder().decode
-
-
-class Digits(str):
-    """Hexadecimal digits, as `bytes.hex` makes them."""
 
 
 class Owed:
@@ -372,12 +368,9 @@ def request_line(session: int, op: str, fields: Answer) -> bytes:
     if len(fields) == 2 and "d" in fields and "t" in fields:  # most of them: a question on a type
         return b'{"s":%d,"op":"%b","d":%d,"t":%d}\n' % (session, op.encode("ascii"), fields["d"],
                                                       fields["t"])
-    if op == "part" and len(fields) == 2 and isinstance(fields.get("bytes"), str):
-        digits = fields["bytes"].encode("ascii", "replace")
-        are_digits = isinstance(fields["bytes"], Digits) or not digits.translate(None, HEX)
-        if are_digits:  # megabytes, and none of them to be escaped
-            return b'{"s":%d,"op":"part","section":%b,"bytes":"%b"}\n' % (
-                session, json.dumps(fields.get("section")).encode("ascii"), digits)
+    if op == "part" and isinstance(fields.get("bytes"), memoryview):  # megabytes
+        return b'{"s":%d,"op":"part","section":"%b","bytes":"%b"}\n' % (
+            session, fields["section"].encode("ascii"), binascii.hexlify(fields["bytes"]))
     request = {"s": session, "op": op, **fields}
     return json.dumps(request, separators=(",", ":")).encode("ascii") + b"\n"
 
@@ -398,8 +391,10 @@ def _outcome(reply: Answer, op: str, fields: Answer) -> Outcome:
 
 
 def _parts(section: str, data: Optional[bytes]) -> List[Request]:
-    """The requests that stage a list; none for a list that there is not."""
+    """The requests that stage a list; none for a list that there is not. Their lines have its bytes
+    as digits."""
     if data is None:
         return []
-    pieces = [data[start:start + PIECE] for start in range(0, len(data), PIECE)] or [b""]
-    return [("part", {"section": section, "bytes": Digits(piece.hex())}) for piece in pieces]
+    whole = memoryview(data)
+    return [("part", {"section": section, "bytes": whole[start:start + PIECE]})
+            for start in range(0, max(1, len(data)), PIECE)]

@@ -79,7 +79,7 @@ def main(arguments: Optional[Sequence[str]] = None) -> int:
 
 def _parser() -> argparse.ArgumentParser:
     parser = argparse.ArgumentParser(prog=NAME, description=__doc__,
-                                     formatter_class=argparse.RawDescriptionHelpFormatter)
+                                     formatter_class=running.Help)
     parser.add_argument("input", metavar="FILE")
     parser.add_argument("output", metavar="OUT", help="the debug file; with --folder a folder, in"
                         " which it is .build-id/NN/REST.debug, where debuggers look")

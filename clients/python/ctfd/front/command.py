@@ -15,7 +15,7 @@ from typing import Callable, Optional, Sequence
 
 from ..client import service
 from ..client.faults import Error
-from ..tools.running import add_version
+from ..tools.running import Help, add_version
 from . import listening
 from .front import Front, Options, TROUBLE
 from .journal import Level, NAME, say
@@ -84,7 +84,7 @@ def _allow_files(wanted: int) -> None:
 
 def _parser() -> argparse.ArgumentParser:
     parser = argparse.ArgumentParser(prog=NAME, description=__doc__, epilog=STATUSES,
-                                     formatter_class=argparse.RawDescriptionHelpFormatter)
+                                     formatter_class=Help)
     parser.add_argument("files", metavar="NAME=FILE", nargs="*", help="as for `ctfd serve`")
     add_version(parser)
     parser.add_argument("--service", metavar="CTFD", help="the program that serves (CTFD in the"

@@ -15,6 +15,7 @@ from ..files import identity
 from ..text import printable
 
 TAGGED = ("struct", "union", "enum")
+FEW = 8  # to look for more references takes longer than to walk over all records
 SHORT, LONG, MEMBER, LONG_MEMBER = 8, 16, 8, 16
 HEAD, LONG_FIELD = struct.Struct("<IHH"), struct.Struct("<II")
 ENUM = KINDS.index("enum")
@@ -42,12 +43,17 @@ def of_name(ctf: bytes, name: text.Name) -> List[int]:
     references: Dict[str, Set[int]] = {}
     for word, bare in wanted:
         references.setdefault(word, set()).update(_references(strings, bare))
-    places = _places(types, references)
-    if len(places) < 2:
-        return []  # its one place is that of the type that was found
+    names = frozenset().union(*references.values())
+    last = len(types) - 1
+    if len(names) <= FEW:
+        places = _places(types, references)
+        if len(places) < 2:
+            return []  # its one place is that of the type that was found
+        last = max(places)
     first = CHILD + 1 if struct.unpack_from("<I", ctf, 8)[0] else 1
-    return [head.number for head in _heads(types, first, places)
-            if head.name in references.get(head.word, ())]
+    found = [head.number for head in _heads(types, first, names, last)
+             if head.name in references.get(head.word, ())]
+    return found if len(found) > 1 else []
 
 
 def others(numbers: Sequence[int], name: str) -> str:
@@ -101,9 +107,10 @@ class _Steps(Dict[int, int]):
         return self[info]
 
 
-def _heads(types: bytes, first: int, places: AbstractSet[int]) -> Iterator[_Head]:
-    """The records that begin at some of the places; all up to the last of these are walked over."""
-    at, number, last, steps = 0, first, max(places), _Steps()
+def _heads(types: bytes, first: int, names: AbstractSet[int], last: int) -> Iterator[_Head]:
+    """The records that begin at `last` or before, and of which the name is one of some references.
+    """
+    at, number, steps = 0, first, _Steps()
     while at <= last:  # tens of thousands: no call more than it takes
         name, info, field = HEAD.unpack_from(types, at)
         here, at = at, at + steps[info]
@@ -114,7 +121,7 @@ def _heads(types: bytes, first: int, places: AbstractSet[int]) -> Iterator[_Head
                 at += LONG - SHORT
             if info >> 11 in AGGREGATES and field >= LONG_MEMBERS:
                 at += (LONG_MEMBER - MEMBER) * (info & 0x3FF)
-        if here in places:
+        if name in names:
             yield _Head(number, _word(KINDS[info >> 11], field), name)
         number += 1
 

@@ -35,7 +35,7 @@ def main(arguments: Optional[Sequence[str]] = None) -> int:
 
 def _parser() -> argparse.ArgumentParser:
     parser = argparse.ArgumentParser(prog=NAME, description=__doc__,
-                                     formatter_class=argparse.RawDescriptionHelpFormatter)
+                                     formatter_class=running.Help)
     where = parser.add_mutually_exclusive_group(required=True)
     where.add_argument("--pid", type=int, metavar="PID", help="the process")
     where.add_argument("--core", metavar="FILE", help="the core file")

@@ -10,7 +10,7 @@ from ..client.model import POINTER_SIZES
 from ..convert.inputs import FORMS
 from ..convert.outputs import STANDARD_OUTPUT
 from ..files.symbols import DYNSYM, SYMTAB
-from .running import add_version
+from .running import Help, add_version
 
 TABLES = {"symtab": SYMTAB, "dynsym": DYNSYM}
 
@@ -23,7 +23,7 @@ def parsed(arguments: Optional[Sequence[str]], description: Optional[str]) -> ar
 def _parser(description: Optional[str]) -> argparse.ArgumentParser:
     parser = argparse.ArgumentParser(
         prog="ctfd-convert", description=description,
-        formatter_class=argparse.RawDescriptionHelpFormatter)
+        formatter_class=Help)
     parser.add_argument("input", metavar="IN", help="an ELF file, an archive of object files, or a"
                         " section of BTF or CTF")
     parser.add_argument("output", metavar="OUT", help="the dictionary that is written; - is"

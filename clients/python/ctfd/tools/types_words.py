@@ -56,7 +56,7 @@ def _with_counts(arguments: Sequence[str]) -> List[str]:
 def _parser(description: Optional[str]) -> argparse.ArgumentParser:
     parser = argparse.ArgumentParser(
         prog="ctfd-types", description=description,
-        formatter_class=argparse.RawDescriptionHelpFormatter)
+        formatter_class=running.Help)
     parser.add_argument("words", metavar="FILE", nargs="+",
                         help="programs, libraries, object files, archives, or sections of CTF or"
                         " BTF; words that are no files are names of types or symbols, or patterns"
