@@ -92,10 +92,10 @@ class Joiner:
         pairs = {number: other}
         came_from: Dict[int, int] = {}
         todo = [number]
-        table = self.table
+        records = self.table.records
         while todo:
             one = todo.pop()
-            mine, theirs = table[one], table[pairs[one]]
+            mine, theirs = records[one - 1], records[pairs[one] - 1]
             self.steps -= 1 + len(mine.members)
             if self.steps < 0 or not _alike(mine, theirs):
                 self._tell_apart(one, pairs, came_from)
@@ -152,8 +152,8 @@ def _alike(one: Record, other: Record) -> bool:
     if one[:3] != other[:3] or len(one.members) != len(other.members) \
             or len(one.arguments) != len(other.arguments):
         return False
-    for mine, theirs in zip(one.members, other.members):
-        if mine.name != theirs.name or mine.offset != theirs.offset or mine.width != theirs.width:
+    for (name, _, offset, width), theirs in zip(one.members, other.members):
+        if theirs[0] != name or theirs[2] != offset or theirs[3] != width:
             return False
     return (one.encoding, one.elements, one.varargs, one.enumerators, one.tag) == \
         (other.encoding, other.elements, other.varargs, other.enumerators, other.tag)

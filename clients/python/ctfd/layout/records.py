@@ -51,14 +51,17 @@ class Record(NamedTuple):
     @property
     def references(self) -> List[int]:
         """The numbers of the types that it names, in the order of `renumbered`."""
-        return [self.type, self.indexed_by, *self.arguments, *(part.type for part in self.members)]
+        return [self.type, self.indexed_by, *self.arguments, *[part[1] for part in self.members]]
 
     def renumbered(self, number: Callable[[int], int]) -> Record:
         """The same with another number for each type that it names."""
-        return self._replace(
-            type=number(self.type), indexed_by=number(self.indexed_by),
-            arguments=tuple(map(number, self.arguments)),
-            members=tuple(part._replace(type=number(part.type)) for part in self.members))
+        (kind, name, size, held, encoding, indexed_by, elements, arguments, varargs, members,
+         enumerators, tag, root) = self  # hundreds of thousands: no call more than it takes
+        return Record(kind, name, size, number(held), encoding, number(indexed_by), elements,
+                      tuple(map(number, arguments)), varargs,
+                      tuple([Part(called, number(of), offset, width)
+                             for called, of, offset, width in members]),
+                      enumerators, tag, root)
 
     @property
     def tagged(self) -> str:

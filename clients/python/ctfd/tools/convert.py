@@ -9,7 +9,6 @@ written, and OUT is as it was.
 from __future__ import annotations
 
 import argparse
-import gc
 import sys
 from typing import List, Optional, Sequence
 
@@ -30,12 +29,10 @@ FAITHFUL, LOSSY, FAILED, INTERRUPTED = 0, 1, 2, 130
 
 
 def main(arguments: Optional[Sequence[str]] = None) -> int:
-    """The command; its exit status. What is read is kept to the end, so nothing is gained by
-    looking for garbage in it."""
+    """The command; its exit status."""
     said = words(arguments)
-    gc.disable()
     try:
-        with bounded.memory():
+        with running.keeping(), bounded.memory():
             losses = convert(said)
     except KeyboardInterrupt:
         return INTERRUPTED

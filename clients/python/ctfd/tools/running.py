@@ -2,16 +2,19 @@
 from __future__ import annotations
 
 import argparse
+import contextlib
 import gc
 import io
 import os
 import sys
-from typing import Callable, Optional
+from typing import Callable, Iterator, Optional
 
 from ..client.faults import Error
 from ..client.wire import Session, connected
 from ..version import VERSION
 
+# New objects that are looked through, and how often that is done before older ones are.
+SELDOM = (100_000, 50, 1000)
 COLUMNS = 80  # where there is no terminal
 INTERRUPTED, UNREAD = 130, 141  # as a shell has it of SIGINT and SIGPIPE
 
@@ -48,15 +51,11 @@ def add_version(parser: argparse.ArgumentParser) -> None:
 
 
 def run(command: str, program: Optional[str], work: Callable[[Session], int], trouble: int) -> int:
-    """The status of what `work` does in a session of its own, or that of trouble.
-
-    What is read is kept to the end, so nothing is gained by looking for garbage in it.
-    """
-    gc.disable()
+    """The status of what `work` does in a session of its own, or that of trouble."""
     if isinstance(sys.stdout, io.TextIOWrapper):
         sys.stdout.reconfigure(errors="backslashreplace")
     try:
-        with connected(program) as client:
+        with keeping(), connected(program) as client:
             status = work(client.session())
         sys.stdout.flush()
         return status
@@ -72,9 +71,19 @@ def run(command: str, program: Optional[str], work: Callable[[Session], int], tr
     except Exception as error:  # a file that nobody thought of: no user is shown where in the code
         warn(command, f"a file is damaged, or of a form that is not read"
              f" ({type(error).__name__}: {' '.join(str(error).split())})")
-    finally:
-        gc.enable()
     return trouble
+
+
+@contextlib.contextmanager
+def keeping() -> Iterator[None]:
+    """Lets Python look for garbage among what is new at most: what a command reads it keeps to the
+    end, and to look through that again and again takes a fifth of the time."""
+    before = gc.get_threshold()
+    gc.set_threshold(*SELDOM)
+    try:
+        yield
+    finally:
+        gc.set_threshold(*before)
 
 
 def warn(command: str, said: str) -> None:

@@ -10,6 +10,7 @@ its key: the number of its file, of the section in it, and its place there.
 from __future__ import annotations
 
 import struct
+from functools import cached_property
 from typing import TYPE_CHECKING, Any, Dict, Iterator, List, NamedTuple, Optional, Tuple
 
 from ...files.strings import Data
@@ -31,7 +32,9 @@ class Entry:
     __slots__ = ("unit", "offset", "shape", "said", "inside")
 
     def __init__(self, unit: Unit, offset: int) -> None:
-        code, at = uleb(unit.data, offset)
+        code, at = unit.data[offset], offset + 1
+        if code > 0x7F:
+            code, at = uleb(unit.data, offset)
         self.unit = unit
         self.offset = offset
         self.shape = unit.shapes[code]
@@ -173,7 +176,6 @@ class Unit:
         self.end = self.header.end
         self.first = self.header.first
         self.skeleton: Optional[Unit] = None
-        self._shapes: Optional[Dict[int, Shape]] = None
         self._top: Optional[Entry] = None
 
     @property
@@ -181,13 +183,11 @@ class Unit:
         """That of DWARF 5 (DW_UT_..)."""
         return self.header.kind
 
-    @property
+    @cached_property
     def shapes(self) -> Dict[int, Shape]:
         """The shapes of its entries by their codes."""
-        if self._shapes is None:
-            base = self.info.file.sections.base("abbrev", self.info.name, self.offset)
-            self._shapes = self.info.shapes(base + self.header.abbreviations, self.header.sizes)
-        return self._shapes
+        base = self.info.file.sections.base("abbrev", self.info.name, self.offset)
+        return self.info.shapes(base + self.header.abbreviations, self.header.sizes)
 
     @property
     def top(self) -> Entry:
