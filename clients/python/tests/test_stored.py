@@ -16,7 +16,8 @@ from .tools import CONVERTS, WHY_NOT, converted
 PROGRAM = """
 struct later; typedef struct { int a, b : 3, c : 32; } anonymous; enum color { RED, GREEN = -1 };
 union either { char text[8]; double number; struct later *later; anonymous all[2][3]; };
-struct large { char before[70000]; union either either; struct large *next; int (*call)(int, ...); };
+struct large { char before[70000]; union either either; struct large *next;
+               int (*call)(int, ...); };
 typedef const volatile struct large *restricted; restricted one; struct large whole;
 enum color shade(int, struct later *, ...);
 enum color shade(int n, struct later *l, ...) { return (enum color)(n + !l); }

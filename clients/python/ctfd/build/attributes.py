@@ -28,7 +28,8 @@ _TOKEN = re.compile(r"""
     /\*.*?\*/ | //[^\n]* | ^[ \t]*\#[^\n]*                  # comments, lines of the preprocessor
   | "(?:\\.|[^"\\])*" | '(?:\\.|[^'\\])*'
   | [A-Za-z_]\w* | \.?\d(?:[eEpP][+-]|[\w.])* | \.\.\. | <<=? | >>=?
-  | [-+*/%&|^=!<>]= | -> | && | \|\| | \+\+ | -- | \n | \S""", re.VERBOSE | re.DOTALL | re.MULTILINE)
+  | [-+*/%&|^=!<>]= | -> | && | \|\| | \+\+ | -- | \n | \S""",
+                    re.VERBOSE | re.DOTALL | re.MULTILINE)
 _ATTRIBUTE = re.compile(r"(\w+)\s*(?:\((.*)\))?\s*\Z", re.DOTALL)
 
 

@@ -2,8 +2,8 @@
 
 Two types become one where no walk along their references shows a difference, as in
 `ctfd.convert.merge`, which is given what is left: it has types of which one unit has a forward
-alone, and finds in all that this leaves apart. A struct or union of a name is compared with those of its name; what has
-none follows from what it names, since without names nothing in C leads round.
+alone, and finds in all that this leaves apart. A struct or union of a name is compared with those
+of its name; what has none follows from what it names, since without names nothing in C leads round.
 """
 from __future__ import annotations
 

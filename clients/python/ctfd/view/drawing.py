@@ -12,8 +12,8 @@ LOW, TALL = 12, 26
 
 FONT = "ui-monospace,Menlo,Consolas,'DejaVu Sans Mono',monospace"
 
-# Colors stand at each element, since not all that shows pictures knows more of CSS; what does, takes
-# the dark ones where the reader wants these.
+# Colors stand at each element, since not all that shows pictures knows more of CSS; what does,
+# takes the dark ones where the reader wants these.
 LIGHT = {
     "page": "#fff", "ink": "#1b1f24", "faint": "#59636e", "line": "#59636e", "hatch": "#b3261e",
     "integer": "#d8e8fb", "float": "#d5f0f0", "pointer": "#e7dcf8", "enum": "#dcf2d6",

@@ -128,7 +128,8 @@ class Listing:
         size = place.member.type.size
         byte = start + place.start // 8
         if place.width is None:
-            lies = f"/* {self._number(byte, 5)} {'    ?' if size is None else self._number(size, 5)} */"
+            bytes_of = "    ?" if size is None else self._number(size, 5)
+            lies = f"/* {self._number(byte, 5)} {bytes_of} */"
         else:
             unit = 8 * (size or 1)
             first, bit = divmod(place.start, unit)

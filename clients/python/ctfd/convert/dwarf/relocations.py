@@ -13,9 +13,9 @@ KEEP, WORD, QUAD = "", "<I", "<Q"
 MASKS = {WORD: 0xFFFFFFFF, QUAD: 0xFFFFFFFFFFFFFFFF}
 
 # How each machine's relocations of debug information are written: the sum of symbol and addend in
-# so many bytes. Offsets within thread-local storage and in the global offset table are no addresses,
-# and the sums and differences of RISC-V are lengths of code, which no type has: what stands there
-# is kept.
+# so many bytes. Offsets within thread-local storage and in the global offset table are no
+# addresses, and the sums and differences of RISC-V are lengths of code, which no type has: what
+# stands there is kept.
 MACHINES: Dict[int, Dict[int, str]] = {
     62: {0: KEEP, 1: QUAD, 10: WORD, 11: WORD, 17: KEEP, 21: KEEP},  # x86-64
     3: {0: KEEP, 1: WORD, 9: KEEP, 32: KEEP, 36: KEEP},  # i386
