@@ -97,6 +97,23 @@ class InBrowser(WithService):
                       page.value("document.querySelector('#pointed').textContent"))
         self.assertEqual(page.errors, [])
 
+    def test_a_member_by_its_name(self) -> None:
+        """What is found says whose it is; the address is the name of the type."""
+        page = self.opened(LUA)
+        page.press("/")
+        page.write("nresults")
+        page.until("document.querySelectorAll('#found a').length > 0")
+        found = page.value("[...document.querySelectorAll('#found a')].map(a => a.textContent)")
+        self.assertIn("struct CallInfo.nresults", found)
+        links = page.value("[...document.querySelectorAll('#found a')].map(a => a.hash)")
+        self.assertEqual(links[found.index("struct CallInfo.nresults")], "#struct%20CallInfo")
+        page.value("location.hash = '#struct%20CallInfo'")
+        page.until("document.title === 'struct CallInfo'")
+        hashes = page.value("[...document.querySelectorAll('#declaration a')].map(a => a.hash)")
+        self.assertIn("#lua_KFunction", hashes)
+        self.assertEqual([one for one in hashes if one[:2] == "#t" and one[2:].isdecimal()], [])
+        self.assertEqual(page.errors, [])
+
     def test_boxes_are_where_members_are(self) -> None:
         page = self.opened(LUA)
         whole = whole_of(self, LUA)
