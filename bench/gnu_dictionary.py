@@ -10,7 +10,7 @@ import sys
 from typing import Any, Dict, List, Tuple
 
 import ctfd
-from ctfd.wire import Session
+from ctfd.client.wire import Session
 
 LIBRARY = "libctf-nobfd.so.0"
 ERROR = -1

@@ -187,14 +187,20 @@ def wheel(into: Path) -> Path:
     with tempfile.TemporaryDirectory() as folder:
         # setuptools writes beside the sources, so it gets a copy.
         copy = Path(folder, "python")
-        shutil.copytree(CLIENT, copy, ignore=shutil.ignore_patterns(
-            "__pycache__", "build", "*.egg-info", "tests"))
+        shutil.copytree(CLIENT, copy, ignore=not_sources)
         for path in copy.rglob("*"):
             path.chmod(0o755 if path.is_dir() or path.name in COMMANDS else 0o644)
         run(python(), "-m", "pip", "wheel", "--quiet", "--no-index", "--no-deps",
             "--no-build-isolation", "--no-cache-dir", "--disable-pip-version-check",
             "--wheel-dir", into, copy)
     return next(into.glob(f"ctfd-{version()}-*.whl"))
+
+
+def not_sources(folder: str, names: list[str]) -> set[str]:
+    """What stands in a folder of the client and is left out of the package."""
+    left_out = {"build", "tests"} if Path(folder) == CLIENT else set()
+    return {name for name in names
+            if name in left_out or name == "__pycache__" or name.endswith(".egg-info")}
 
 
 def put_package(places: Places) -> None:

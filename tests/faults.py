@@ -114,7 +114,7 @@ def differences() -> list[str]:
         for name in wanted.values()
         if plain(theirs.get(name, "")) != plain(first.get(name, ""))
     ]
-    client = read("clients/python/ctfd/faults.py")
+    client = read("clients/python/ctfd/client/faults.py")
     advised = set(re.findall(r'^    "(\w+)":', client, re.MULTILINE))
     advised -= set(quoted(part(client, "FRONT_REFUSES = (", ")")))
     missing = sorted(advised ^ set(wanted.values()))

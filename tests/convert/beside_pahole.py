@@ -30,9 +30,9 @@ from typing import Dict, List, NamedTuple, Tuple
 import headers  # noqa: E402  it knows where the client is
 
 import ctfd
-from ctfd.debugfiles import with_debug
-from ctfd.elf import Elf, MAGIC
-from ctfd.files import contents
+from ctfd.files.debugfiles import with_debug
+from ctfd.files.elf import Elf, MAGIC
+from ctfd.files.mapped import contents
 
 MOST = 20
 ERROR = "<ERROR("

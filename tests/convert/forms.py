@@ -33,7 +33,8 @@ import beside_pahole  # noqa: E402  it knows where the client is
 from beside_pahole import Listed
 
 import ctfd
-from ctfd import convert, declare
+from ctfd.tools import convert
+from ctfd.view import declare
 
 SOURCES = Path(__file__).resolve().parent / "forms"
 UNITS = ("one", "two")

@@ -23,7 +23,7 @@ HERE = Path(__file__).resolve().parent
 sys.path.insert(0, str(HERE.parents[1] / "clients/python"))
 
 import ctfd  # noqa: E402
-from ctfd import convert  # noqa: E402
+from ctfd.tools import convert  # noqa: E402
 
 PACKAGES = ("libc6-dev", "linux-libc-dev")
 BATCH = 24

@@ -19,7 +19,7 @@ from pathlib import Path
 import headers  # noqa: E402  it knows where the client is
 
 import ctfd
-from ctfd import convert
+from ctfd.tools import convert
 
 SECONDS, KILOBYTES = 60, 2_000_000
 MOST = 20

@@ -35,8 +35,9 @@ from typing import Dict, Iterator, List, NamedTuple, Optional, Tuple
 HERE = Path(__file__).resolve().parent
 sys.path.insert(0, str(HERE.parents[1] / "clients/python"))
 
-from ctfd import command, convert, elf  # noqa: E402
-from ctfd.faults import Unreadable  # noqa: E402
+from ctfd.client.faults import Unreadable  # noqa: E402
+from ctfd.files import elf  # noqa: E402
+from ctfd.tools import convert, types  # noqa: E402
 
 SECONDS, BYTES = 20, 1 << 30
 MOST_SHOWN = 20
@@ -169,7 +170,7 @@ class Worker:
             status, told = run(convert.main, ["--service", self.service, str(mutant), out])
             wrong = _judged(status, told)
             if not wrong and path.suffix in ("", ".ctf"):
-                wrong = _judged_types(*run(command.main, ["--service", self.service, str(mutant)]))
+                wrong = _judged_types(*run(types.main, ["--service", self.service, str(mutant)]))
             return Outcome(seed, wrong and f"{path.name}: {wrong}", status)
         except BaseException as error:  # an exception that a user would see
             return Outcome(seed, f"{path.name}: {type(error).__name__} {error}", -1)

@@ -4,7 +4,7 @@
 usage: run.py SERVICE COUNT [FIRST] [--gnu COUNT]
 
 SERVICE is a built ctfd. Each of COUNT files, from seed FIRST on, is compiled for both data models
-where gcc has them, and run; its types are taken from its debug information by ctfd.convert, and
+where gcc has them, and run; its types are taken from its debug information by ctfd-convert, and
 made of its text by ctfd.build.declare. The first files of --gnu have nothing that other forms don't
 say; of these GNU's CTF, in an object file, and BTF, as pahole writes it, are compared as well.
 Prints each fact that differs, then how many were compared; the status is 1 where one differs.
@@ -26,7 +26,8 @@ HERE = Path(__file__).resolve().parent
 sys.path.insert(0, str(HERE.parents[1] / "clients/python"))
 
 import ctfd  # noqa: E402
-from ctfd import build, convert  # noqa: E402
+from ctfd import build  # noqa: E402
+from ctfd.tools import convert  # noqa: E402
 
 import facts  # noqa: E402
 import random_c  # noqa: E402

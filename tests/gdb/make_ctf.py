@@ -20,7 +20,7 @@ import traceback
 import gdb
 
 sys.path.insert(0, str(pathlib.Path(__file__).resolve().parents[2] / "clients/python"))
-from ctfd.elf import Elf  # noqa: E402
+from ctfd.files.elf import Elf  # noqa: E402
 
 (INTEGER, FLOAT, POINTER, ARRAY, FUNCTION, STRUCT, UNION, ENUM, FORWARD, TYPEDEF, VOLATILE, CONST,
  RESTRICT) = range(1, 14)

@@ -1,6 +1,6 @@
 """`python3 -m ctfd` is the command `ctfd-types`."""
 import sys
 
-from .command import main
+from .tools.types import main
 
 sys.exit(main())

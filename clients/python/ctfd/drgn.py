@@ -11,9 +11,9 @@ from typing import Any, Callable, Dict, List, Optional
 
 import drgn
 
-from .dictionary import Dictionary
-from .faults import NotFound
-from .types import QUALIFIERS, Type
+from .client.dictionary import Dictionary
+from .client.faults import NotFound
+from .client.types import QUALIFIERS, Type
 
 Finder = Callable[[Any, str, Optional[str]], Optional[Any]]
 

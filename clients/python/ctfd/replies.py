@@ -3,7 +3,7 @@ from __future__ import annotations
 
 from typing import List, TypedDict
 
-from .model import Model
+from .client.model import Model
 
 Returned = TypedDict("Returned", {"return": int})
 

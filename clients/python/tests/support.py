@@ -12,7 +12,7 @@ from pathlib import Path
 from typing import List, Optional, Sequence
 
 import ctfd
-from ctfd.model import Model
+from ctfd.client.model import Model
 
 EXAMPLES = Path(__file__).resolve().parents[3] / "examples"
 COMMAND = Path(__file__).resolve().parents[1] / "ctfd-types"

@@ -7,9 +7,10 @@ import unittest
 from pathlib import Path
 from unittest import mock
 
-from ctfd import anyfile, inputs
-from ctfd.anyfile import Asked
-from ctfd.cache import Cache, Kept, key, user_cache
+from ctfd.convert import inputs
+from ctfd.files import anyfile
+from ctfd.files.anyfile import Asked
+from ctfd.files.cache import Cache, Kept, key, user_cache
 
 from .support import EXAMPLES, compiles
 from .tools import CONVERTS, WHY_NOT, command, compiled
@@ -59,7 +60,7 @@ class Programs(Folder):
         made = self.program()
         self.told(made)
         with mock.patch.object(anyfile, "converted", side_effect=AssertionError):
-            kept = anyfile.read(made, Asked(cache=user_cache()))
+            kept = anyfile.read(made, Asked(cache=user_cache))
         self.assertTrue(kept.is_made and kept.source.sym)
         self.assertEqual(kept.source.how, "named")
 

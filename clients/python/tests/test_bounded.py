@@ -2,7 +2,7 @@
 import resource
 import unittest
 
-from ctfd import bounded
+from ctfd.files import bounded
 
 FAR = 4 << 30
 

@@ -8,7 +8,8 @@ from pathlib import Path
 from typing import List, Tuple
 
 import ctfd
-from ctfd import attributes, build
+from ctfd import build
+from ctfd.build import attributes
 
 from .support import TOOLS, WithService, has_library
 

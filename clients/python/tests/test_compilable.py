@@ -6,9 +6,9 @@ import tempfile
 import unittest
 from typing import Iterator
 
-from ctfd.compilable import Compilable, is_identifier
-from ctfd.opening import Whole
-from ctfd.records import AGGREGATES
+from ctfd.layout.records import AGGREGATES
+from ctfd.layout.whole import Whole
+from ctfd.view.compilable import Compilable, is_identifier
 
 from .support import (CONST, EXAMPLES, STRUCT, WithService, array, dictionary, integer, member,
                       pointer, record, staged)

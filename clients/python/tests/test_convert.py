@@ -13,9 +13,9 @@ from typing import List, Sequence, Tuple
 from unittest import mock
 
 import ctfd
-from ctfd import choose, inputs
-from ctfd.records import Part, Record, Table
-from ctfd.written import MOST_TYPES, written
+from ctfd.convert import choose, inputs
+from ctfd.convert.written import MOST_TYPES, written
+from ctfd.layout.records import Part, Record, Table
 
 from .support import (EXAMPLES, PROGRAM, TOOLS, WithService, dictionary, integer, object_file,
                       pointer)

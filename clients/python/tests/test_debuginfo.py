@@ -8,11 +8,11 @@ from pathlib import Path
 from typing import Dict
 
 import ctfd
-from ctfd import from_ctf
+from ctfd.convert import from_ctf
 from ctfd.debuginfo import command
 from ctfd.debuginfo.arguments import Passing
 from ctfd.debuginfo.units import Producer, UnitWriter
-from ctfd.records import Record
+from ctfd.layout.records import Record
 
 from .support import STRUCT, WithService, dictionary, integer, member, object_file, record
 from .test_hostile import cycles, deep, doubles, many

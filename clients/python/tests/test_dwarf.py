@@ -10,9 +10,9 @@ from pathlib import Path
 from typing import List
 
 import ctfd
-from ctfd.merge import merged
-from ctfd.records import Part, Record, Table
-from ctfd.joining import Joiner
+from ctfd.convert.joining import Joiner
+from ctfd.convert.merge import merged
+from ctfd.layout.records import Part, Record, Table
 
 from .support import TOOLS, compiles
 from .test_convert import CODE, WithFiles

@@ -9,7 +9,7 @@ import unittest
 from pathlib import Path
 from typing import Any, Dict, List, Optional, Type
 
-from ctfd import explore
+from ctfd.view.page import Rows, page
 
 from .browser import CHROMIUM, Browser
 from .support import EXAMPLES, PROGRAM, STRUCT, WithService, dictionary, integer, member, record
@@ -22,7 +22,7 @@ EVIL = b"<script>window.bad=1</script></script><img src=x onerror=bad=1>\"'&"
 class Page(WithService):
     def test_what_stands_in_the_page_is_escaped(self) -> None:
         path = written(self, evil())
-        made = explore.page([whole_of(self, path)])
+        made = page([whole_of(self, path)])
         self.assertEqual(made.count("<script"), 2)
         self.assertEqual(made.count("</script>"), 2)
         self.assertEqual(re.findall(r"(?:src|href)\s*=\s*[\"'](?!data:,)\w+:", made), [])
@@ -31,7 +31,7 @@ class Page(WithService):
 
     def test_a_parent_is_there_once(self) -> None:
         whole = whole_of(self, LUA)
-        rows = explore.Rows([whole, whole], None)
+        rows = Rows([whole, whole], None)
         self.assertEqual(len(rows.rows), 2 * 526 + 1)
         self.assertTrue(all(rows.rows))
 
@@ -66,10 +66,10 @@ class InBrowser(WithService):
 
     def opened(self, path: str) -> Browser:  # type: ignore[override]
         """The page of a file."""
-        page = Path(self.folder) / "page.html"
-        page.write_text(explore.page([whole_of(self, path)]))
+        place = Path(self.folder) / "page.html"
+        place.write_text(page([whole_of(self, path)]))
         self.browser.errors.clear()
-        self.browser.open(str(page))
+        self.browser.open(str(place))
         return self.browser
 
     def title(self) -> Any:
@@ -95,6 +95,23 @@ class InBrowser(WithService):
                       held.replace(" ", ""))
         self.assertIn("struct CallInfo *previous",
                       page.value("document.querySelector('#pointed').textContent"))
+        self.assertEqual(page.errors, [])
+
+    def test_a_member_by_its_name(self) -> None:
+        """What is found says whose it is; the address is the name of the type."""
+        page = self.opened(LUA)
+        page.press("/")
+        page.write("nresults")
+        page.until("document.querySelectorAll('#found a').length > 0")
+        found = page.value("[...document.querySelectorAll('#found a')].map(a => a.textContent)")
+        self.assertIn("struct CallInfo.nresults", found)
+        links = page.value("[...document.querySelectorAll('#found a')].map(a => a.hash)")
+        self.assertEqual(links[found.index("struct CallInfo.nresults")], "#struct%20CallInfo")
+        page.value("location.hash = '#struct%20CallInfo'")
+        page.until("document.title === 'struct CallInfo'")
+        hashes = page.value("[...document.querySelectorAll('#declaration a')].map(a => a.hash)")
+        self.assertIn("#lua_KFunction", hashes)
+        self.assertEqual([one for one in hashes if one[:2] == "#t" and one[2:].isdecimal()], [])
         self.assertEqual(page.errors, [])
 
     def test_boxes_are_where_members_are(self) -> None:

@@ -4,13 +4,13 @@ import unittest
 from typing import Dict
 
 import ctfd
-from ctfd.declare import declaration
-from ctfd.expressions import evaluate, tokens
-from ctfd.lists import follow
-from ctfd.operands import BadExpression, Code, Located, Number, Operand, Steps
-from ctfd.parse import Leaf, Parts
-from ctfd.types import PointerTo
-from ctfd.values import Bounds
+from ctfd.client.types import PointerTo
+from ctfd.values.expressions import evaluate, tokens
+from ctfd.values.linked import follow
+from ctfd.values.operands import BadExpression, Code, Located, Number, Operand, Steps
+from ctfd.values.parse import Leaf, Parts
+from ctfd.values.reading import Bounds
+from ctfd.view.declare import declaration
 
 from .support import (INTEGER, POINTER, STRUCT, WithService, array, dictionary, integer, member,
                       record)

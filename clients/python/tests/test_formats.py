@@ -2,11 +2,11 @@
 import struct
 import unittest
 
-from ctfd import floats
-from ctfd.formats import Formatter, Style, flags_of
-from ctfd.quoting import one, quoted
-from ctfd.types import Encoding, Enumerator
-from ctfd.values import value
+from ctfd.client.types import Encoding, Enumerator
+from ctfd.values import floats
+from ctfd.values.formats import Formatter, Style, flags_of
+from ctfd.values.quoting import one, quoted
+from ctfd.values.reading import value
 
 from .support import WithService
 

@@ -12,9 +12,9 @@ import unittest
 from pathlib import Path
 from typing import List, NamedTuple
 
-from ctfd import exports
-from ctfd.elf import Elf
-from ctfd.faults import Unreadable
+from ctfd.client.faults import Unreadable
+from ctfd.files import exports
+from ctfd.files.elf import Elf
 
 from .support import compiles
 from .tools import CONVERTS, WHY_NOT, within

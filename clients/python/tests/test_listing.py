@@ -8,7 +8,7 @@ import unittest
 from typing import List
 
 import ctfd
-from ctfd.types import QUALIFIERS
+from ctfd.client.types import QUALIFIERS
 
 from .support import (EXAMPLES, STRUCT, TOOLS, WithService, dictionary, integer, object_file,
                       record, staged)

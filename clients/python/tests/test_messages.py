@@ -112,7 +112,7 @@ def script(path: Path, text: str) -> None:
 
 def damaged_elf(data: bytes) -> bytes:
     """The file with zeros in place of the abbreviations of its debug information."""
-    from ctfd.elf import Elf
+    from ctfd.files.elf import Elf
 
     section = Elf(data).named(".debug_abbrev")
     assert section is not None
@@ -197,7 +197,7 @@ class Messages(unittest.TestCase):
 
     def squeeze(self, path: Path) -> None:
         """Sets the flag of the section's header that says that it is compressed."""
-        from ctfd.elf import Elf
+        from ctfd.files.elf import Elf
 
         data = bytearray(path.read_bytes())
         file = Elf(bytes(data))

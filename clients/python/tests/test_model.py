@@ -5,14 +5,14 @@ import unittest
 from typing import Any, Optional
 
 import ctfd
-from ctfd.expressions import evaluate
-from ctfd.lists import follow
-from ctfd.model import Model, POINTER_SIZES, of_pointers
-from ctfd.operands import BadExpression, Located, Operand, Steps, Untold
-from ctfd.parse import Leaf, Lost, Parts
-from ctfd.program import open_program
-from ctfd.types import FunctionOf, PointerTo
-from ctfd.values import Bounds, Wanted, values
+from ctfd.client.model import Model, POINTER_SIZES, of_pointers
+from ctfd.client.types import FunctionOf, PointerTo
+from ctfd.values.expressions import evaluate
+from ctfd.values.linked import follow
+from ctfd.values.operands import BadExpression, Located, Operand, Steps, Untold
+from ctfd.values.parse import Leaf, Lost, Parts
+from ctfd.values.program import open_program
+from ctfd.values.reading import Bounds, Wanted, values
 
 from .support import (EXAMPLES, FUNCTION, POINTER, STRUCT, WithService, array, dictionary, integer,
                       member, record, staged)

@@ -4,8 +4,8 @@ import unittest
 import xml.etree.ElementTree as ET
 from typing import Dict, List, NamedTuple
 
-from ctfd import picture, treemap
-from ctfd.layout import Layout
+from ctfd.layout.places import Layout
+from ctfd.view import picture, treemap
 
 from .support import EXAMPLES, WithService, run, staged
 from .tools import whole_of, written

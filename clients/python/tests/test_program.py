@@ -3,12 +3,12 @@ import tempfile
 import unittest
 from pathlib import Path
 
-from ctfd import elf
-from ctfd.declare import declaration
-from ctfd.faults import Error
-from ctfd.operands import Code, Located, Steps
-from ctfd.program import Program, open_program
-from ctfd.types import Type
+from ctfd.client.faults import Error
+from ctfd.client.types import Type
+from ctfd.files import elf
+from ctfd.values.operands import Code, Located, Steps
+from ctfd.values.program import Program, open_program
+from ctfd.view.declare import declaration
 
 from .support import EXAMPLES, WithService
 from .test_source import BITS_32, LUA

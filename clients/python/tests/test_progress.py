@@ -3,7 +3,7 @@ import io
 import unittest
 from unittest import mock
 
-from ctfd import progress
+from ctfd.convert import progress
 
 
 class Terminal(io.StringIO):

@@ -7,7 +7,8 @@ import unittest
 from pathlib import Path
 from typing import List
 
-from ctfd import repeated, source
+from ctfd.files import source
+from ctfd.layout import repeated
 
 from .support import EXAMPLES, PROGRAM, dictionary, integer, record
 from .tools import CONVERTS, WHY_NOT, compiled, within

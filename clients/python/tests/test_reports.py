@@ -8,11 +8,11 @@ import unittest
 from typing import Dict, List, Set, Tuple
 
 import ctfd
-from ctfd import reports
-from ctfd.compilable import Compilable
-from ctfd.embeds import Embeds
-from ctfd.opening import Whole
-from ctfd.records import AGGREGATES
+from ctfd.layout.embeds import Embeds
+from ctfd.layout.records import AGGREGATES
+from ctfd.layout.whole import Whole
+from ctfd.view import reports
+from ctfd.view.compilable import Compilable
 
 from .support import COMMAND, EXAMPLES, PROGRAM, TOOLS, WithService, object_file, run, staged
 from .test_listing import OTHERS

@@ -7,7 +7,7 @@ from pathlib import Path
 from typing import List
 
 import ctfd
-from ctfd.live.core import AUXILIARY, ENTRY, FILES, Core
+from ctfd.live.core import AUXILIARY, Core, ENTRY, FILES
 from ctfd.live.modules import Module
 from ctfd.live.process import _mapped
 from ctfd.live.space import MappedFile, Mapping

@@ -6,8 +6,8 @@ import zlib
 from typing import NamedTuple
 
 import ctfd
-from ctfd import source
-from ctfd.elf import Elf
+from ctfd.files import source
+from ctfd.files.elf import Elf
 
 from .support import (EXAMPLES, POINTER, TOOLS, WithService, compiles, dictionary, integer,
                       object_file, record)

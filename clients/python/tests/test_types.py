@@ -3,7 +3,7 @@ import struct
 import unittest
 
 import ctfd
-from ctfd.dictionary import normal
+from ctfd.client.dictionary import normal
 
 from .support import (FUNCTION, POINTER, STRUCT, WithService, dictionary, integer, record, staged)
 

@@ -2,9 +2,9 @@
 import struct
 import unittest
 
-from ctfd.faults import Error
-from ctfd.parse import Characters, Leaf, Lost, Parts, Unclear, parse
-from ctfd.values import Bounds, Wanted, value, values
+from ctfd.client.faults import Error
+from ctfd.values.parse import Characters, Leaf, Lost, Parts, Unclear, parse
+from ctfd.values.reading import Bounds, Wanted, value, values
 
 from .support import (ENUM, INTEGER, STRUCT, UNION, WithService, array, dictionary, integer, member,
                       record)

@@ -8,8 +8,8 @@ import threading
 import unittest
 
 import ctfd
-from ctfd.faults import ADVICE
-from ctfd.wire import PIECE, request_line
+from ctfd.client.faults import ADVICE
+from ctfd.client.wire import PIECE, request_line
 
 from .support import EXAMPLES, PROGRAM, WithService, dictionary, integer
 

@@ -11,14 +11,14 @@ import tempfile
 from pathlib import Path
 from typing import Dict, Iterable, Optional
 
-from ctfd import diff_command, explore
-from ctfd.gather import ALL_LISTS
-from ctfd.command import main as types_main
-from ctfd.opening import Opener, Whole
+from ctfd.client.gather import ALL_LISTS
+from ctfd.files.opening import Opener
+from ctfd.layout.whole import Whole
+from ctfd.tools import diff, explore, types
 
 from .support import PROGRAM, WithService
 
-MAINS = {"ctfd-types": types_main, "ctfd-diff": diff_command.main, "ctfd-explore": explore.main}
+MAINS = {"ctfd-types": types.main, "ctfd-diff": diff.main, "ctfd-explore": explore.main}
 CLIENT = Path(__file__).resolve().parents[1]
 
 

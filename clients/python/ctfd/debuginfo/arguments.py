@@ -11,9 +11,9 @@ from __future__ import annotations
 import struct
 from typing import Callable, Dict, List, NamedTuple, Optional
 
-from ..held import size_of
-from ..records import Record, Table
-from .dwarf import FRAME_PLACE, PIECE, REGISTER, At, Attribute, Form, signed, unsigned
+from ..convert.held import size_of
+from ..layout.records import Record, Table
+from .dwarf import At, Attribute, FRAME_PLACE, Form, PIECE, REGISTER, signed, unsigned
 from .relocations import Relocation
 from .told import Told
 

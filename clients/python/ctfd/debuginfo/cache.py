@@ -13,8 +13,8 @@ import tempfile
 from pathlib import Path
 from typing import Iterable
 
-from ..faults import Error
-from ..files import Mapped
+from ..client.faults import Error
+from ..files.mapped import Mapped
 from ..version import VERSION
 
 MOST_FILES, MOST_BYTES = 64, 1 << 30

@@ -12,23 +12,25 @@ import sys
 from dataclasses import dataclass, field
 from typing import List, Optional, Sequence
 
-from .. import commands, elf, from_ctf, identity, outputs, source
-from ..commands import add_version
-from ..dictionary import open_source
-from ..faults import Error, Unreadable
-from ..files import contents
-from ..model import POINTER_SIZES, Model
-from ..opening import told_of as refusals_of
-from ..records import Table
-from ..sound import judge
-from ..source import Source
-from ..symbols import Handed, handed
+from ..client.dictionary import open_source
+from ..client.faults import Error, Unreadable
+from ..client.model import Model, POINTER_SIZES
 from ..text import printable
+from ..client.wire import Session
+from ..convert import from_ctf, outputs
+from ..convert.sound import judge
+from ..files import elf, identity, source
+from ..files.mapped import contents
+from ..files.opening import told_of as refusals_of
+from ..files.source import Source
+from ..files.symbols import Handed, handed
+from ..layout.records import Table
+from ..tools import running
+from ..tools.running import add_version
 from ..version import VERSION
-from ..wire import Session
 from . import debugfile, symbols
 from .arguments import Places
-from .image import X86_64, Image
+from .image import Image, X86_64
 from .relocations import kind_of
 from .told import Told
 from .units import Producer, UnitWriter
@@ -72,12 +74,12 @@ class Made:
 def main(arguments: Optional[Sequence[str]] = None) -> int:
     """The command; its exit status."""
     said = _parser().parse_args(sys.argv[1:] if arguments is None else arguments)
-    return commands.run(NAME, said.service, lambda session: _run(session, said), FAILED)
+    return running.run(NAME, said.service, lambda session: _run(session, said), FAILED)
 
 
 def _parser() -> argparse.ArgumentParser:
     parser = argparse.ArgumentParser(prog=NAME, description=__doc__,
-                                     formatter_class=argparse.RawDescriptionHelpFormatter)
+                                     formatter_class=running.Help)
     parser.add_argument("input", metavar="FILE")
     parser.add_argument("output", metavar="OUT", help="the debug file; with --folder a folder, in"
                         " which it is .build-id/NN/REST.debug, where debuggers look")
@@ -103,7 +105,7 @@ def _run(session: Session, said: argparse.Namespace) -> int:
     output = _in_folder(said.output, made.build_id) if said.folder else said.output
     outputs.write(output, made.data)
     for note in made.notes:
-        commands.warn(NAME, note)
+        running.warn(NAME, note)
     print(f"{printable(output)}: {made.counts}")
     return 0
 

@@ -9,11 +9,11 @@ from __future__ import annotations
 import struct
 from typing import Dict, List, NamedTuple, Optional
 
-from ..elf import MAGIC, NOBITS, STRTAB, SYMTAB, Section
-from ..faults import Unreadable
-from ..model import Model
+from ..client.faults import Unreadable
+from ..client.model import Model
+from ..files.elf import MAGIC, NOBITS, STRTAB, SYMTAB, Section
 from . import relocations
-from .image import (ABSOLUTE, ALLOCATED, FORMS, MACHINES, NOTE, PROGBITS, RESERVED, Image)
+from .image import ABSOLUTE, ALLOCATED, FORMS, Image, MACHINES, NOTE, PROGBITS, RESERVED
 from .relocations import Relocation
 
 INFO_LINK = 0x40

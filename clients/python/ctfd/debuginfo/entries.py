@@ -5,7 +5,7 @@ import struct
 from typing import Callable, Dict, Iterable, List, NamedTuple, Optional, Tuple, Union
 
 from ..text import raw
-from .dwarf import ADDRESS, VERSION, Address, At, Attribute, Form, Tag, signed, unsigned
+from .dwarf import ADDRESS, Address, At, Attribute, Form, Tag, VERSION, signed, unsigned
 from .relocations import Relocation
 
 _Shape = Tuple[Tag, bool, Tuple[Tuple[At, Form], ...]]

@@ -4,10 +4,10 @@ from __future__ import annotations
 import struct
 from typing import Dict, Iterator, List, NamedTuple, Optional, Tuple
 
-from ..elf import (DYNSYM, FUNCTION, NOBITS, OBJECT, SYMTAB, Elf, Section)
-from ..faults import Unreadable
-from ..files import Mapped
-from ..model import Model
+from ..client.faults import Unreadable
+from ..client.model import Model
+from ..files.elf import DYNSYM, Elf, FUNCTION, NOBITS, OBJECT, SYMTAB, Section
+from ..files.mapped import Mapped
 
 NOTE, PROGBITS, ALLOCATED = 7, 1, 2
 ABSOLUTE, RESERVED = 0xFFF1, 0xFF00

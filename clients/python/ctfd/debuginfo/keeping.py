@@ -5,12 +5,12 @@ import tempfile
 from pathlib import Path
 from typing import Callable, Optional
 
-from ..elf import MAGIC, Elf
-from ..faults import Error, Unreadable
-from ..files import contents
-from ..source import SECTIONS
+from ..client.faults import Error, Unreadable
 from ..text import printable
-from ..wire import Client
+from ..client.wire import Client
+from ..files.elf import Elf, MAGIC
+from ..files.mapped import contents
+from ..files.source import SECTIONS
 from . import cache
 from .command import Wanted, make
 from .image import Image

@@ -4,8 +4,8 @@ from __future__ import annotations
 import struct
 from typing import Dict, List, NamedTuple, Optional, Tuple
 
-from ..elf import Elf
-from ..model import Model
+from ..client.model import Model
+from ..files.elf import Elf
 
 RELA, REL = 4, 9
 

@@ -4,10 +4,10 @@ from __future__ import annotations
 from collections import Counter
 from typing import Dict, List, Optional, Sequence, Tuple
 
-from .. import identity, source
-from ..records import Record, Table
-from ..source import SECTIONS
-from ..symbols import NAMES, SYMTAB, Wanted, table_of
+from ..files import identity, source
+from ..files.source import SECTIONS
+from ..files.symbols import NAMES, SYMTAB, Wanted, table_of
+from ..layout.records import Record, Table
 from .image import Image, Symbol
 from .told import Told
 

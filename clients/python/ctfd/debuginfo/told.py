@@ -4,7 +4,7 @@ from __future__ import annotations
 import re
 from typing import NamedTuple, Optional
 
-from ..records import Record
+from ..layout.records import Record
 from .dwarf import Address
 
 # What compilers append to the names of copies of functions.

@@ -3,9 +3,9 @@ from __future__ import annotations
 
 from typing import List
 
-from ..held import size_of
-from ..model import POINTER_SIZES
-from ..records import BOOLEAN, CHARACTER, QUALIFIERS, SIGNED, Part, Record, Table
+from ..client.model import POINTER_SIZES
+from ..convert.held import size_of
+from ..layout.records import BOOLEAN, CHARACTER, Part, QUALIFIERS, Record, SIGNED, Table
 from .dwarf import At, Attribute, Encoding, Form, Tag
 from .entries import Entries
 from .widths import Widths, is_narrow

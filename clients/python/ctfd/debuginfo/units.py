@@ -8,9 +8,9 @@ from __future__ import annotations
 
 from typing import Dict, Iterable, List, NamedTuple, Optional, Set
 
-from ..records import Table
+from ..layout.records import Table
 from .arguments import Places
-from .dwarf import CALL_FRAME_CFA, LANGUAGE_C99, Address, At, Attribute, Form, Tag
+from .dwarf import Address, At, Attribute, CALL_FRAME_CFA, Form, LANGUAGE_C99, Tag
 from .relocations import Relocation
 from .told import Told
 from .types import TypeWriter

@@ -3,7 +3,7 @@ from __future__ import annotations
 
 from typing import Dict, List, NamedTuple
 
-from ..records import QUALIFIERS, Record, Table
+from ..layout.records import QUALIFIERS, Record, Table
 
 THROUGH = ("typedef", *QUALIFIERS)
 

@@ -13,12 +13,12 @@ import resource
 import sys
 from typing import Callable, Optional, Sequence
 
-from .. import service
-from ..commands import add_version
-from ..faults import Error
+from ..client import service
+from ..client.faults import Error
+from ..tools.running import Help, add_version
 from . import listening
-from .front import TROUBLE, Front, Options
-from .journal import NAME, Level, say
+from .front import Front, Options, TROUBLE
+from .journal import Level, NAME, say
 from .limits import Limits
 from .scanning import LAST_SESSION
 from .signals import Signals
@@ -83,7 +83,7 @@ def _allow_files(wanted: int) -> None:
 
 def _parser() -> argparse.ArgumentParser:
     parser = argparse.ArgumentParser(prog=NAME, description=__doc__, epilog=STATUSES,
-                                     formatter_class=argparse.RawDescriptionHelpFormatter)
+                                     formatter_class=Help)
     parser.add_argument("files", metavar="NAME=FILE", nargs="*", help="as for `ctfd serve`")
     add_version(parser)
     parser.add_argument("--service", metavar="CTFD", help="the program that serves (CTFD in the"

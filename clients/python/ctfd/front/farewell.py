@@ -4,7 +4,7 @@ from __future__ import annotations
 import json
 from typing import List, Optional, Set
 
-from .tagging import RUN, Asked
+from .tagging import Asked, RUN
 from .turns import Flight
 from .words import Cost
 

@@ -8,7 +8,7 @@ import socket
 from dataclasses import dataclass
 from typing import Callable, Dict, List, Optional, Sequence
 
-from ..faults import Error
+from ..client.faults import Error
 from . import metrics
 from .connection import Connection, Shared
 from .farewell import Farewell

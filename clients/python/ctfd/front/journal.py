@@ -1,7 +1,10 @@
-"""Lines for the operator, on standard error: with the levels of journald where that reads them."""
+"""Messages for the operator, by the log `ctfd.front`: lines on standard error, with the levels of
+journald where that reads them.
+"""
 from __future__ import annotations
 
 import enum
+import logging
 import os
 import sys
 
@@ -17,13 +20,31 @@ class Level(enum.IntEnum):
     INFO = 6
 
 
+# Python's own levels; it has none between a warning and what informs.
+LEVELS = {Level.ERROR: logging.ERROR, Level.WARNING: logging.WARNING,
+          Level.NOTICE: (logging.INFO + logging.WARNING) // 2, Level.INFO: logging.INFO}
+
+
+class Lines(logging.Handler):
+    """Writes messages on standard error; a reader of it that has gone is no trouble."""
+
+    def emit(self, record: logging.LogRecord) -> None:
+        level = getattr(record, "journal", Level.NOTICE)
+        prefix = f"<{int(level)}>" if _is_journal() else ""
+        try:
+            print(f"{prefix}{NAME}: {record.getMessage()}", file=sys.stderr, flush=True)
+        except OSError:
+            os.dup2(os.open(os.devnull, os.O_WRONLY), 2)
+
+
+_LOG = logging.getLogger("ctfd.front")
+_LOG.setLevel(logging.INFO)
+_LOG.addHandler(Lines())
+
+
 def say(said: str, level: Level = Level.NOTICE) -> None:
-    """A line on standard error; a reader of it that has gone is no trouble."""
-    prefix = f"<{int(level)}>" if _is_journal() else ""
-    try:
-        print(f"{prefix}{NAME}: {said}", file=sys.stderr, flush=True)
-    except OSError:
-        os.dup2(os.open(os.devnull, os.O_WRONLY), 2)
+    """A message for the operator."""
+    _LOG.log(LEVELS[level], "%s", said, extra={"journal": level})
 
 
 def _is_journal() -> bool:

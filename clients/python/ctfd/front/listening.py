@@ -12,7 +12,7 @@ import time
 from dataclasses import dataclass
 from typing import Iterator, Optional, Tuple
 
-from ..faults import Error
+from ..client.faults import Error
 
 FIRST = 3  # of the sockets that systemd hands over
 BACKLOG = 1024

@@ -5,7 +5,7 @@ import os
 from dataclasses import dataclass
 from typing import Iterable, List, Tuple, Union
 
-from ..faults import Error
+from ..client.faults import Error
 
 PREFIX = "ctfd_front"
 Labels = Tuple[Tuple[str, str], ...]

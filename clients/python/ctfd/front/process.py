@@ -11,7 +11,7 @@ import time
 from pathlib import Path
 from typing import Callable, List, Sequence
 
-from ..faults import Error
+from ..client.faults import Error
 
 READ = 262_144
 WRITE = 262_144

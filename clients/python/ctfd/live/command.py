@@ -10,12 +10,13 @@ import argparse
 import sys
 from typing import Optional, Sequence, Union
 
-from .. import commands, expressions, formats, lists
-from ..declare import declaration, function
-from ..faults import Error, NotFound
-from ..operands import BadExpression, Code, Located, Operand, Steps, Untold
-from ..values import Bounds
-from ..wire import Session
+from ..client.faults import Error, NotFound
+from ..client.wire import Session
+from ..tools import running
+from ..values import expressions, formats, linked
+from ..values.operands import BadExpression, Code, Located, Operand, Steps, Untold
+from ..values.reading import Bounds
+from ..view.declare import declaration, function
 from .core import Core
 from .files import Opener, modules
 from .process import Process
@@ -29,12 +30,12 @@ MOST = 65_536
 def main(arguments: Optional[Sequence[str]] = None) -> int:
     """The command; its exit status."""
     said = _parser().parse_args(sys.argv[1:] if arguments is None else arguments)
-    return commands.run(NAME, said.service, lambda session: _run(session, said), FAILED)
+    return running.run(NAME, said.service, lambda session: _run(session, said), FAILED)
 
 
 def _parser() -> argparse.ArgumentParser:
     parser = argparse.ArgumentParser(prog=NAME, description=__doc__,
-                                     formatter_class=argparse.RawDescriptionHelpFormatter)
+                                     formatter_class=running.Help)
     where = parser.add_mutually_exclusive_group(required=True)
     where.add_argument("--pid", type=int, metavar="PID", help="the process")
     where.add_argument("--core", metavar="FILE", help="the core file")
@@ -52,7 +53,7 @@ def _parser() -> argparse.ArgumentParser:
     parser.add_argument("--hex", action="store_true", help="numbers in hexadecimal")
     parser.add_argument("--elements", type=int, default=200, metavar="N", help="at most N"
                         f" elements of an array, a text or a list (200; {MOST} at most)")
-    commands.add_words(parser)
+    running.add_words(parser)
     return parser
 
 
@@ -75,7 +76,7 @@ def _run(session: Session, said: argparse.Namespace) -> int:
 def _target(session: Session, said: argparse.Namespace, space: Union[Process, Core]) -> Target:
     """What is looked at, with all types that are known of it. Raises Error where none are."""
     def warn(line: str) -> None:
-        commands.warn(NAME, line)
+        running.warn(NAME, line)
 
     found = modules(space, not said.types, warn)
     main = next((one for one in found if one.file is space.files[0]), None)
@@ -120,7 +121,7 @@ class Shower:
 
     def _list(self, head: Operand) -> None:
         inside = self.target.find(self.said.of) if self.said.of else None
-        followed = lists.follow(Steps(self.target), head, self.said.list, inside,
+        followed = linked.follow(Steps(self.target), head, self.said.list, inside,
                                 Bounds(elements=self.elements))
         for line in followed.lines(self.printer):
             print(line)

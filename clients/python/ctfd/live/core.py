@@ -6,11 +6,11 @@ import os
 import struct
 from typing import Dict, Iterator, List, NamedTuple, Optional
 
+from ..client.faults import Unreadable
+from ..client.model import POINTER_SIZES
 from ..debuginfo.image import FORMS, Head
-from ..elf import MAGIC, Elf
-from ..faults import Unreadable
-from ..files import contents
-from ..model import POINTER_SIZES
+from ..files.elf import Elf, MAGIC
+from ..files.mapped import contents
 from .space import MappedFile, Mapping
 
 CORE, LOAD, NOTE = 4, 1, 4

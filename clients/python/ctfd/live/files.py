@@ -3,17 +3,17 @@ from __future__ import annotations
 
 from typing import Callable, List, Optional
 
-from .. import elf, identity, source
+from ..client.dictionary import Dictionary, open_source
+from ..client.faults import Error, Unreadable
+from ..client.wire import Session
 from ..debuginfo.image import Image
-from ..dictionary import Dictionary, open_source
-from ..elf import MAGIC
-from ..faults import Error, Unreadable
-from ..files import contents
-from ..opening import told_of
-from ..program import Program
-from ..source import Source
-from ..symbols import SYMTAB, handed
-from ..wire import Session
+from ..files import elf, identity, source
+from ..files.elf import MAGIC
+from ..files.mapped import contents
+from ..files.opening import told_of
+from ..files.source import Source
+from ..files.symbols import SYMTAB, handed
+from ..values.program import Program
 from .modules import Module, OtherBuild
 from .space import Space
 from .target import Typed

@@ -5,12 +5,12 @@ import bisect
 import struct
 from typing import List, NamedTuple, Optional
 
-from .. import source
+from ..client.faults import Unreadable
 from ..debuginfo.image import Image
-from ..elf import MAGIC, NOBITS
-from ..faults import Unreadable
-from ..files import linked
-from .space import PAGE, MappedFile, Space
+from ..files import source
+from ..files.elf import MAGIC, NOBITS
+from ..files.mapped import linked
+from .space import MappedFile, PAGE, Space
 
 LOAD, NOTE = 1, 4
 BUILD_ID = 3

@@ -5,7 +5,7 @@ import contextlib
 import os
 from typing import Dict, Iterator, List, Tuple
 
-from ..faults import Error, Unreadable
+from ..client.faults import Error, Unreadable
 from .space import MappedFile, Mapping
 
 MOST = 1 << 63

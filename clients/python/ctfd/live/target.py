@@ -4,12 +4,12 @@ from __future__ import annotations
 import contextlib
 from typing import Optional, Sequence
 
-from .. import characters
-from ..characters import Wanted
-from ..faults import Error, NotFound, Refused
-from ..operands import BadExpression, Operand, Untold
-from ..program import Program
-from ..types import Type
+from ..client.faults import Error, NotFound, Refused
+from ..client.types import Type
+from ..values import characters
+from ..values.characters import Wanted
+from ..values.operands import BadExpression, Operand, Untold
+from ..values.program import Program
 from .modules import Module
 from .space import PAGE, Space
 

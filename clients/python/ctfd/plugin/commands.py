@@ -6,12 +6,12 @@ from typing import Optional, Union
 import gdb
 
 import ctfd
-from ctfd import expressions, formats, lists
-from ctfd.debuginfo.keeping import has_types
-from ctfd.declare import declaration, declarator, function
-from ctfd.nearest import offered
-from ctfd.operands import BadExpression, Code, Located, Number, Operand, Steps, Untold
-from ctfd.text import printable
+from ..client.nearest import offered
+from ..text import printable
+from ..debuginfo.keeping import has_types
+from ..values import expressions, formats, linked
+from ..values.operands import BadExpression, Code, Located, Number, Operand, Steps, Untold
+from ..view.declare import declaration, declarator, function
 
 from . import native
 from .inferior import Inferior
@@ -278,7 +278,7 @@ class List(Command):
         target = STATE.target()
         head = expressions.evaluate(words[0], target)
         inside = target.find(words[2]) if len(words) == 3 else None
-        followed = lists.follow(Steps(target), head, words[1], inside, bounds())
+        followed = linked.follow(Steps(target), head, words[1], inside, bounds())
         for line in followed.lines(formats.Formatter(target, style())):
             print(line)
 

@@ -7,10 +7,11 @@ from typing import Optional, Sequence
 import gdb
 
 import ctfd
-from ctfd import characters, source
-from ctfd.characters import Wanted
-from ctfd.model import Model, of_pointers
-from ctfd.operands import BadExpression, Operand, Untold
+from ..client.model import Model, of_pointers
+from ..files import source
+from ..values import characters
+from ..values.characters import Wanted
+from ..values.operands import BadExpression, Operand, Untold
 
 from .loaded import Loaded
 

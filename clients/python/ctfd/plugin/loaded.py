@@ -8,12 +8,12 @@ from typing import Iterator, Optional
 import gdb
 
 import ctfd
-from ctfd import source
-from ctfd.declare import declaration, function
-from ctfd.elf import Elf
-from ctfd.operands import BadExpression, Code, Located
-from ctfd.program import Program
-from ctfd.text import printable
+from ..text import printable
+from ..files import source
+from ..files.elf import Elf
+from ..values.operands import BadExpression, Code, Located
+from ..values.program import Program
+from ..view.declare import declaration, function
 
 NAMED = ("struct", "union", "enum", "typedef", "integer", "float", "forward")
 WARNINGS = {

@@ -10,10 +10,10 @@ from typing import Optional
 import gdb
 
 import ctfd
-from ctfd.debuginfo.command import Wanted
-from ctfd.debuginfo.keeping import Writer, has_types
-from ctfd.elf import Elf
-from ctfd.inputs import contents, has_debug
+from ..convert.inputs import contents, has_debug
+from ..debuginfo.command import Wanted
+from ..debuginfo.keeping import Writer, has_types
+from ..files.elf import Elf
 
 
 class Given(gdb.Parameter):

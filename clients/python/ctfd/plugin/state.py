@@ -8,12 +8,12 @@ from typing import List, Optional, Tuple
 import gdb
 
 import ctfd
-from ctfd import formats, program, values
-from ctfd.convert import converted
-from ctfd.operands import BadExpression
-from ctfd.program import Program
-from ctfd.source import Source
-from ctfd.text import printable
+from ..text import printable
+from ..convert.conversion import converted
+from ..files.source import Source
+from ..values import formats, program, reading
+from ..values.operands import BadExpression
+from ..values.program import Program
 
 from .inferior import Inferior, NO_TYPES, model_of_program
 from .loaded import Loaded
@@ -99,6 +99,6 @@ def style(hexadecimal: bool = False) -> formats.Style:
         hexadecimal=hexadecimal)
 
 
-def bounds() -> values.Bounds:
+def bounds() -> reading.Bounds:
     """What a value may cost."""
-    return values.Bounds(elements=style().elements)
+    return reading.Bounds(elements=style().elements)

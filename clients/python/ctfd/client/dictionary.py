@@ -1,0 +1,374 @@
+"""An open dictionary: its types, names and symbols, with what was answered kept."""
+from __future__ import annotations
+
+from typing import Any, Callable, Dict, Iterable, Iterator, List, Optional, Tuple, Union
+
+from ..files import identity, source
+from ..files.source import Source
+from .. import text
+from .faults import BadSymbols, NoMemory, NoSuchType, NotFound, Refused, Unreadable
+from .gather import Gathering
+from .model import Model, POINTER_SIZES
+from .nearest import offered
+from ..text import Name
+from .types import PointerTo, QUALIFIERS, Signature, Type
+from .wire import Answer, Outcome, Session
+
+OWN_OF_CHILD = 0x8000
+LONG_REPLY = 56
+PAGE = 8
+LISTS = {"members": "members", "enumerators": "enumerators"}
+
+# What C allows to be written, and what compilers call it in a dictionary.
+WORDS = {
+    "unsigned": "unsigned int", "signed": "int", "signed int": "int",
+    "long": "long int", "signed long": "long int",
+    "unsigned long": "long unsigned int", "unsigned long int": "long unsigned int",
+    "long unsigned": "long unsigned int",
+    "long long": "long long int", "unsigned long long": "long long unsigned int",
+    "unsigned long long int": "long long unsigned int",
+    "short": "short int", "unsigned short": "short unsigned int",
+    "unsigned short int": "short unsigned int", "bool": "_Bool",
+}
+
+
+def open_file(session: Session, path: str, sym: Optional[bytes] = None,
+              strings: Optional[bytes] = None, model: Optional[Model] = None,
+              number: Optional[int] = None) -> Dictionary:
+    """Opens the dictionary of a file (see `ctfd.files.source`).
+
+    Where symbols or strings are given, they stand in place of the file's symbols, and a model in
+    place of the file's. `number` chooses one of several dictionaries that stand behind each other.
+    Raises Unreadable where the dictionary says another model.
+    """
+    return open_found(session, source.read(path, number), path, sym, strings, model)
+
+
+def open_found(session: Session, found: Source, path: str, sym: Optional[bytes] = None,
+               strings: Optional[bytes] = None, model: Optional[Model] = None) -> Dictionary:
+    """As `open_file`, of what was found in a file."""
+    said = identity.model(found.ctf)
+    if model and said and model != said:
+        raise Unreadable(f"{path}: it says that it is of {said}, and {model} was asked for: leave"
+                         " the model out")
+    if sym is not None or strings is not None:
+        beside = found.strings if strings is None else strings
+        found = found._replace(sym=sym, strings=beside, how="given")
+    return open_source(session, found._replace(model=model or found.model))
+
+
+def open_source(session: Session, found: Source) -> Dictionary:
+    """Opens a dictionary. If guessed symbols do not fit it is opened without, and `how` says so."""
+    try:
+        opened = session.open(found.ctf, found.sym, found.strings, found.model)
+    except BadSymbols:
+        if found.how != "guessed":
+            raise
+        opened = session.open(found.ctf, None, found.strings, found.model)
+        found = found._replace(sym=None, how="refused")
+    return Dictionary(session, opened["d"], found.how, found)
+
+
+def taken(session: Session, owner: int, name: str) -> Dictionary:
+    """The dictionary that another session published; owner 0 is the operator."""
+    return Dictionary(session, session.ask("take", owner=owner, name=name)["d"])
+
+
+def withdraw(session: Session, name: str) -> None:
+    """Takes back what the session has published by a name. Who took it keeps it."""
+    session.ask("withdraw", name=name)
+
+
+class Dictionary:
+    """Slot `slot` of a session.
+
+    `how` tells where its symbols come from, as in `Source`, or "refused" where guessed ones did
+    not fit; `handed_in` are its lists, where they are known. `model` is the data model by which the
+    service sizes and shows pointers. A child shares what its parent
+    was answered, so the parent's slot stays open.
+    """
+
+    def __init__(self, session: Session, slot: int, how: str = "none",
+                 handed_in: Optional[Source] = None) -> None:
+        self.session = session
+        self.slot = slot
+        self.how = how
+        self.handed_in = handed_in
+        self.parent: Optional[Dictionary] = None
+        self.ends: Optional[Callable[[], object]] = None
+        self._answers: Dict[Tuple[str, int], Outcome] = {}
+        self._copies: Dict[int, bool] = {}
+        info = session.ask("info", d=slot)
+        self.is_child: bool = info["child"]
+        self.own: int = info["types"]
+        self.parent_name = text.name(info["parname"])
+        self.parent_label = text.name(info["parlabel"])
+        self.model: Model = session.ask("model", d=slot)["model"]
+
+    def import_parent(self, parent: Dictionary) -> None:
+        """Gives a child its parent, a dictionary of the same session. Raises Unreadable where the
+        child says that its parent is another."""
+        if self.is_child:
+            why = identity.not_its_parent(self.parent_label, parent.types_label)
+            if why:
+                raise Unreadable(why)
+        self.session.ask("import", d=self.slot, parent=parent.slot)
+        self.parent = parent
+        self._answers.clear()
+
+    @property
+    def types_label(self) -> Optional[str]:
+        """What a child names it by as its parent, where its lists are known."""
+        return identity.of_types(self.handed_in.ctf) if self.handed_in else None
+
+    @property
+    def pointer_size(self) -> int:
+        """How many bytes a pointer of the program has."""
+        return POINTER_SIZES[self.model]
+
+    def address(self, number: int) -> int:
+        """A number as an address of the program, which has no more bits than a pointer."""
+        return number & (1 << 8 * self.pointer_size) - 1
+
+    def publish(self, name: str) -> None:
+        """Publishes the dictionary, without its parent, for every session to take."""
+        self.session.ask("publish", d=self.slot, name=name)
+
+    def close(self) -> None:
+        """Gives the slot back, and ends a service that was started for this dictionary alone."""
+        if self.ends is None:
+            self.session.ask("close", d=self.slot)
+        else:
+            self.ends()
+
+    def __enter__(self) -> Dictionary:
+        return self
+
+    def __exit__(self, *_: object) -> None:
+        self.close()
+
+    def __repr__(self) -> str:
+        child = f", a child of {self.parent_name}" if self.is_child else ""
+        return f"<Dictionary of {self.own} types, {self.model}{child}>"
+
+    def __len__(self) -> int:
+        return self.own
+
+    def __bool__(self) -> bool:
+        return True
+
+    def __iter__(self) -> Iterator[Type]:
+        return iter(self.types())
+
+    def __getitem__(self, name: Union[Name, int]) -> Type:
+        """The type that C's name says, or that of a number. Raises NoSuchType, which is a KeyError
+        too, and says which names are near."""
+        if isinstance(name, int):
+            if name not in self.numbers and not self._is_parents(name):
+                raise NoSuchType(f"no type has the number {name}")
+            return self.type(name).gather()
+        try:
+            return self.find(name).gather()
+        except NotFound as fault:
+            told = text.name(text.escape(name))
+            raise NoSuchType(text.printable(
+                f"no type is called {told}{offered(told, self.names())}")) from fault
+
+    def __contains__(self, name: Name) -> bool:
+        try:
+            self.find(name)
+        except Refused:
+            return False
+        return True
+
+    @property
+    def first(self) -> int:
+        """The number of its first type."""
+        return OWN_OF_CHILD + 1 if self.is_child else 1
+
+    @property
+    def numbers(self) -> range:
+        """The numbers of its own types."""
+        return range(self.first, self.first + self.own)
+
+    def _is_parents(self, number: int) -> bool:
+        return self.parent is not None and 0 < number <= self.parent.own
+
+    # Questions, and what is known of their answers.
+
+    def _home(self, t: int) -> Dictionary:
+        return self.parent if self.parent is not None and 0 < t < OWN_OF_CHILD else self
+
+    def known(self, op: str, t: int) -> Optional[Answer]:
+        """What was answered already; None where nothing or a refusal was."""
+        outcome = self._home(t)._answers.get((op, t))
+        return None if isinstance(outcome, Refused) else outcome
+
+    def fetch(self, questions: Iterable[Tuple[str, int]]) -> None:
+        """Asks those of (word, type) that are not known yet, in one round."""
+        asked = dict.fromkeys(questions)
+        if self.parent is None:
+            new = [(self, one) for one in asked if one not in self._answers]
+        else:
+            new = [(home, one) for home, one in ((self._home(one[1]), one) for one in asked)
+                   if one not in home._answers]
+        if not new:
+            return
+        outcomes = self.session.ask_all([(op, {"d": home.slot, "t": t}) for home, (op, t) in new])
+        for (home, one), outcome in zip(new, outcomes):
+            if isinstance(outcome, Refused):
+                if outcome.code == LONG_REPLY and one[0] in LISTS:
+                    outcome = home._by_pages(*one)
+                if isinstance(outcome, NoMemory):  # that may be answered another time
+                    continue
+            home._answers[one] = outcome
+
+    def answer(self, op: str, t: int) -> Answer:
+        """What a word answers of a type, asked once; raises its refusal."""
+        home = self._home(t)
+        if (op, t) not in home._answers:
+            self.fetch([(op, t)])
+        outcome = home._answers.get((op, t))
+        if outcome is None:
+            said: Answer = self.session.ask(op, d=home.slot, t=t)
+            return said
+        if isinstance(outcome, Refused):
+            raise outcome.with_traceback(None)
+        return outcome
+
+    def _by_pages(self, op: str, t: int) -> Outcome:
+        """A list that is too long for one reply."""
+        items: List[Any] = []
+        total = 1
+        while len(items) < total:
+            asked = {"d": self.slot, "t": t, "from": len(items), "count": PAGE}
+            page = self.session.ask_all([(op, asked)])[0]
+            if isinstance(page, Refused):
+                return page
+            items += page[LISTS[op]]
+            total = page["total"]
+        return {LISTS[op]: items, "total": total}
+
+    def gather(self, numbers: Iterable[int], named: Iterable[int] = ()) -> None:
+        """Asks in few rounds for all that declarations and layouts of these types need, and that
+        declarations alone of the `named` ones need."""
+        Gathering(self).run(numbers, named)
+
+    # Types, by number and by name.
+
+    def type(self, t: int) -> Type:
+        """The type of a number; 0 is void."""
+        return Type(self._home(t), t)
+
+    def types(self) -> List[Type]:
+        """The dictionary's own types, in order."""
+        return [self.type(t) for t in self.numbers]
+
+    def find(self, name: Name) -> Type:
+        """The type that C's name says, as "struct x **"; the least, where several have the name.
+
+        Qualifiers are left out, and pointers that the dictionary has not are made here.
+        """
+        base, stars = normal(name)
+        found = self.type(0) if base == "void" else self._found(base)
+        for _ in range(stars):
+            found = PointerTo(found)
+        return found
+
+    def _found(self, base: str) -> Type:
+        """The type of a name, in whichever of its spellings the dictionary has it."""
+        asked = [{"d": self.slot, "text": text.escape(one)} for one in spellings(base)]
+        outcomes = self.session.ask_all([("find", fields) for fields in asked])
+        found = next((one for one in outcomes if not isinstance(one, Refused)), outcomes[0])
+        if isinstance(found, Refused):
+            raise found
+        return self.type(found["t"])
+
+    def find_all(self, name: Name) -> List[Type]:
+        """All own types with a name, hidden ones among them: one name may stand for several.
+
+        A name with stars is that of none.
+        """
+        base, stars = normal(name)
+        if stars:
+            return []
+        types = self.types()
+        self.fetch([("record", t.number) for t in types])
+        return [t for t in types if _called(t) in spellings(base)]
+
+    def is_copy(self, integer: Type) -> bool:
+        """Whether an integer is a hidden copy of one that is seen."""
+        known = self._copies.get(integer.number)
+        if known is None:
+            known = self._copies[integer.number] = self._is_copy(integer)
+        return known
+
+    def _is_copy(self, integer: Type) -> bool:
+        if integer.is_root:
+            return False
+        try:
+            seen = self.find(integer.raw_name)
+        except Refused:
+            return False
+        return (seen.kind == "integer" and seen.number != integer.number
+                and (seen.size, seen.encoding) == (integer.size, integer.encoding))
+
+    def names(self) -> List[str]:
+        """The names by which types are found, those of the parent too."""
+        own = self.types() + (self.parent.types() if self.parent else [])
+        self.fetch([("record", t.number) for t in own])
+        return list(dict.fromkeys(_called(t) for t in own if t.name and t.is_root))
+
+    # Symbols.
+
+    def symbol(self, name: Name) -> Union[Type, Signature]:
+        """What is told of the first symbol of a name: an object's type, a function's signature.
+
+        Raises Unreadable where the file's symbols are none that the service reads.
+        """
+        found = self._ask_symbols("symbol", name=text.escape(name))
+        if found["class"] == "object":
+            return self.object(found["sym"])
+        return self.function(found["sym"])
+
+    def object(self, number: int) -> Type:
+        """The type of the object with a number in the symbol table."""
+        return self.type(self._ask_symbols("object", sym=number)["t"])
+
+    def function(self, number: int) -> Signature:
+        """The signature of the function with a number in the symbol table."""
+        return self.signature(self._ask_symbols("function", sym=number))
+
+    def _ask_symbols(self, op: str, **fields: Any) -> Answer:
+        if self.how in ("unread", "differs", "stripped"):
+            raise Unreadable(source.WARNINGS[self.how])
+        said: Answer = self.session.ask(op, d=self.slot, **fields)
+        return said
+
+    def signature(self, said: Answer) -> Signature:
+        """What `args` or `function` answered, with types."""
+        arguments = [self.type(t) for t in said["args"]]
+        return Signature(self.type(said["return"]), arguments, said["varargs"])
+
+    def labels(self) -> List[Tuple[str, int]]:
+        """The labels, each with the number of the last type that it covers."""
+        said = self.session.ask("labels", d=self.slot)["labels"]
+        return [(text.name(label["name"]), label["last"]) for label in said]
+
+
+def normal(name: Name) -> Tuple[str, int]:
+    """A written name as a dictionary has it, without qualifiers, and its stars."""
+    words = text.raw(name).decode("utf-8", "surrogateescape")
+    kept = [word for word in words.replace("*", " ").split() if word not in QUALIFIERS]
+    base = " ".join(kept)
+    return WORDS.get(base, base), words.count("*")
+
+
+def spellings(base: str) -> List[str]:
+    """A name without qualifiers, and what else C allows to be written for it."""
+    return [base, *(other for other, usual in WORDS.items() if usual == base)]
+
+
+def _called(t: Type) -> str:
+    word = t.tag if t.kind == "forward" else t.kind
+    return f"{word} {t.name}" if word in ("struct", "union", "enum") else t.name

@@ -1,0 +1,180 @@
+"""What can go wrong, as exceptions that say what was asked and what to do about it."""
+from __future__ import annotations
+
+from typing import Any, Dict, Mapping, Type
+
+
+class Error(Exception):
+    """All exceptions of this package."""
+
+
+class Gone(Error):
+    """The service has ended, or has not answered in time; the client is of no use any more."""
+
+
+class Unreadable(Error):
+    """A file or its symbol table is nothing that can be handed in; the text says what it is."""
+
+
+class Refused(Error):
+    """The service answered with a fault.
+
+    `code`, `name` and `place` are the fault's; `op` and `fields` the request's. For a refused
+    dictionary the place is the number of a record or the offset of a byte, as the rule has it.
+    """
+
+    def __init__(self, fault: Mapping[str, Any], op: str, fields: Mapping[str, Any]) -> None:
+        self.code: int = fault["code"]
+        self.name: str = fault["name"]
+        self.place: int = fault["place"]
+        self.op = op
+        self.fields = dict(fields)
+        super().__init__(self._text())
+
+    @property
+    def advice(self) -> str:
+        """What to do about it, or "" for a fault that this package does not know."""
+        return ADVICE.get(self.name, "")
+
+    def _text(self) -> str:
+        place = f" at {self.place}" if self.place else ""
+        fields = [f"{key} {_short(value)}" for key, value in self.fields.items()]
+        asked = ", ".join([self.op, *fields])
+        return f"{self.name}{place} ({asked})" + (f": {self.advice}" if self.advice else "")
+
+
+class BadDictionary(Refused):
+    """The dictionary that was handed in breaks a rule of the format."""
+
+
+class BadSymbols(BadDictionary):
+    """The dictionary and the symbol table do not fit each other; it may be opened without."""
+
+
+class NotFound(Refused):
+    """Nothing has the name, or nothing is told of the symbol."""
+
+
+class NoSuchType(Error, KeyError):
+    """No type has the name, or no member; the text says which are near."""
+
+    def __str__(self) -> str:
+        return str(self.args[0]) if self.args else ""
+
+
+class Incomplete(Refused):
+    """The type has no size."""
+
+
+class NoParent(Refused):
+    """The type is one of a parent that was not imported."""
+
+
+class NoMemory(Refused):
+    """The service was refused memory; the same question may be answered another time."""
+
+
+def refused(fault: Mapping[str, Any], op: str, fields: Mapping[str, Any]) -> Refused:
+    """The exception for a fault."""
+    code = fault["code"]
+    if 1 <= code <= 16:
+        return BadDictionary(fault, op, fields)
+    return _BY_CODE.get(code, Refused)(fault, op, fields)
+
+
+def _short(value: Any) -> str:
+    text = str(value)
+    return text if len(text) < 60 else text[:57] + "..."
+
+
+_BY_CODE: Dict[int, Type[Refused]] = {
+    0: NoMemory,
+    17: BadSymbols,
+    18: BadSymbols,
+    19: BadSymbols,
+    23: NoParent,
+    26: Incomplete,
+    32: NotFound,
+    34: NotFound,
+    37: NotFound,
+    38: NotFound,
+}
+
+ADVICE: Dict[str, str] = {
+    "Memory": "ask again, close what is not needed, or start the service with a higher limit",
+    "TooShort": "fewer than 4 bytes were handed in: is the file empty?",
+    "BadMagic": "not the start of a CTF section: f2df is GNU's CTF, 7f454c46 a whole ELF file,"
+    " cff1 big-endian CTF, and none of these is read",
+    "BadVersion": "only version 2 is read: convert the program's DWARF by a tool that writes it",
+    "Compressed": "inflate the body and clear bit 0 of byte 3, as ctfd.files.source.inflate does",
+    "ShortHeader": "the header has 36 bytes: the file is cut off",
+    "BadOrder": "the header is damaged, or the body is compressed and its flag was cleared",
+    "BadAlign": "the header is damaged, or the body is compressed and its flag was cleared",
+    "PastEnd": "the list is cut off, or the body is compressed and its flag was cleared",
+    "BadStrings": "the header is damaged, or the body is compressed and its flag was cleared",
+    "Truncated": "the bytes at that record are no type: damage, or an extension of the format",
+    "BadKind": "the bytes at that record are no type: damage, or an extension of the format",
+    "TooMany": "more types than the format has numbers: split it into a parent and a child",
+    "BadName": "a name is in no string table: hand in the strings of the program's symbol table,"
+    " .strtab of the very file that has the section",
+    "BadReference": "a record names a type that is not there: damage, or a child without parname",
+    "ValueDeep": "a value holds itself, or 512 others in each other: no C program has that",
+    "DeclDeep": "a declaration goes on for more than 512 steps: no C program has that",
+    "BadFuncs": "is this the symbol table that the section was written for? Else leave it out",
+    "BadSymbolType": "is this the symbol table that the section was written for? Else leave it out",
+    "BadSymtab": "a symbol table is a list of 24 bytes each: this is none, or it is cut off, or it"
+    " is one of 32 bits, which is not read",
+    "NotChild": "the dictionary names no parent and needs none: were the two swapped?",
+    "ParentIsChild": "a parent has no parent itself: is this the file that the child names?",
+    "ModelDiffers": "child and parent are of programs whose pointers differ in size: open both with"
+    " the data model of the one that they belong to",
+    "ParentShort": "the child names more types than this parent has: it is not its parent",
+    "NoParent": "open the parent's file too and import it",
+    "NoType": "no type has this number",
+    "NotReference": "only pointers, typedefs and qualifiers refer to another type",
+    "Incomplete": "the type has no size: a forward is declared in full elsewhere, if at all",
+    "TooBig": "the number does not fit 64 bits: no program has such a type",
+    "NoMember": "the struct has no member of this name; the place is the step",
+    "NotAggregate": "only structs and unions have members; the place is the step",
+    "WrongKind": "the question is not one for a type of this kind",
+    "TooLong": "more than 65,536 bytes of text: ask for its parts",
+    "NotFound": "is the word in front right (struct, union, enum or none)?",
+    "BadSyntax": "a name with one blank behind struct, union or enum, and stars behind it",
+    "NoSymbol": "no such symbol: were the symbol table and its strings handed in?",
+    "NotData": "the symbol is no object",
+    "NotFunction": "the symbol is no function",
+    "NoInfo": "the compiler told nothing of this symbol",
+    "NoLabel": "no label has this name",
+    "BadRef": "add the type that it names first; 0 stands for no type",
+    "Full": "make a second dictionary, with this one as its parent",
+    "Duplicate": "a member, an enumerator or a label has its name once",
+    "Settled": "members and enumerators are added before the update",
+    "VlenFull": "the format has room for 1,023 members, enumerators or arguments",
+    "DeepMember": "a struct can't hold itself: was a pointer to it meant?",
+    "BadOffset": "64 bits do not hold the member's place, or the new size",
+    "NameHasZero": "a name ends at its first zero byte",
+    "DictTooBig": "make a second dictionary, with this one as its parent",
+    "ReadOnly": "the slot has no draft: what was opened or taken is read alone",
+    "NotUpdated": "something is pending: update or discard first",
+    "FixedParent": "the parent of a draft is said where it is created",
+    "ShortMemory": "hand in as many bytes as the type's size says",
+    "NoSlot": "the dictionary was closed, or was opened in another session",
+    "SlotsFull": "a session has 1023 slots: close a dictionary that is not needed",
+    "StageFull": "a list has at most 67,108,864 bytes: this one can't be served",
+    "QuotaFull": "a session holds 268,435,456 bytes at most: close, clear or withdraw something",
+    "NameTaken": "the session has a publication of this name: choose another, or withdraw that",
+    "NotPublished": "that session has published nothing by this name, or has withdrawn it",
+    "LongReply": "ask for fewer items with count",
+    "NotJson": "the request is no JSON",
+    "BadRequest": "the service does not know this word, or a field is missing or out of range",
+    "LongLine": "a request has at most 1,048,576 bytes: hand in a list by several parts",
+    "ConnectionsFull": "there are too many connections to ctfd-front, of this user or of all: close"
+    " one, or raise --connections and --user-connections",
+    "SessionsFull": "this user has made too many sessions within the hour: use one for longer, or"
+    " raise --user-sessions",
+    "HeldFull": "ctfd-front holds too much for this user or for all: read replies while writing,"
+    " or raise --memory and --user-memory",
+}
+
+# What a front says by itself before it closes a connection.
+FRONT_REFUSES = ("ConnectionsFull", "SessionsFull", "HeldFull")

@@ -1,0 +1,97 @@
+"""Where the service is, and whether it speaks the protocol of this client.
+
+It is the program that the caller names, else the one that CTFD in the environment names, else the
+one beside the command that runs, else `ctfd` on the path, else the one that the clone with this
+package in it has built. CTFD_SOCKET in the environment names a socket in place of a program, where
+none is named by the caller; behind a socket, CTFD_ROOM names the room.
+"""
+from __future__ import annotations
+
+import os
+import re
+import sys
+from typing import Iterator, Optional
+
+from ..version import VERSION
+from .faults import Error, Gone
+
+BUILT = "crates/ctfd/out/ctfd"
+PATIENCE = 10
+
+_SAYS = re.compile(r"ctfd (\d+)\.(\d+)\.(\d+)\s*\Z")
+
+
+def find(name: Optional[str] = None) -> str:
+    """The program to start, once it has told a version that this client speaks. Raises Error."""
+    import shutil  # here and below: who asks the library needs neither
+
+    program = name or named()
+    if program:
+        why = "named by --service" if name else "named by CTFD in the environment"
+        found = shutil.which(os.path.expanduser(program))
+        if found is None:
+            raise Gone(f"{program}, {why}, is no program: name the built ctfd")
+        return _judged(found)
+    found = _beside() or shutil.which("ctfd") or _built()
+    if found is None:
+        raise Gone("the service ctfd is not found: name it by --service or by CTFD in the"
+                   " environment, put it on the PATH, or build it (`make`)")
+    return _judged(found)
+
+
+def named() -> Optional[str]:
+    """The program that CTFD in the environment names."""
+    return os.environ.get("CTFD") or None
+
+
+def socket() -> Optional[str]:
+    """The socket that CTFD_SOCKET in the environment names, where a service is that others use."""
+    return os.environ.get("CTFD_SOCKET") or None
+
+
+def room() -> Optional[str]:
+    """The room that CTFD_ROOM in the environment names: clients that meet are in one."""
+    return os.environ.get("CTFD_ROOM") or None
+
+
+def _beside() -> Optional[str]:
+    """The program that was installed with the command that runs, or None."""
+    command = os.path.realpath(sys.argv[0] if sys.argv else "")
+    program = os.path.join(os.path.dirname(command), "ctfd")
+    return program if os.path.isfile(program) and os.access(program, os.X_OK) else None
+
+
+def _built() -> Optional[str]:
+    """The program of the clone that this file stands in, or None."""
+    places = (os.path.join(folder, BUILT) for folder in above(os.path.realpath(__file__)))
+    return next((place for place in places if os.access(place, os.X_OK)), None)
+
+
+def above(path: str) -> Iterator[str]:
+    """The folders that a path lies in, the nearest first."""
+    while path != os.path.dirname(path):
+        path = os.path.dirname(path)
+        yield path
+
+
+def _judged(program: str) -> str:
+    """A program that is a service of this client's protocol."""
+    found = _SAYS.match(_version(program))
+    if found is None:
+        raise Gone(f"{program} is no ctfd: it does not print a version as ctfd does")
+    if found[1] != VERSION.split(".")[0]:
+        raise Error(f"{program} is {found[0].strip()}, which speaks another protocol than this"
+                    f" client of {VERSION}: install the client of that version")
+    return program
+
+
+def _version(program: str) -> str:
+    import subprocess
+
+    try:
+        asked = subprocess.run([program, "--version"], stdin=subprocess.DEVNULL, text=True,
+                               capture_output=True, timeout=PATIENCE, errors="replace")
+    except (OSError, subprocess.TimeoutExpired) as error:
+        why = getattr(error, "strerror", None) or "it does not answer"
+        raise Gone(f"the service {program} can't be started: {why}") from error
+    return asked.stdout

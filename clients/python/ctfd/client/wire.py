@@ -1,0 +1,400 @@
+"""A service, and the sessions in it.
+
+Requests are written and replies read in one loop over files that do not block: a client that
+writes all before it reads stops both sides for good once the pipes are full. No threads are used,
+so this runs inside a debugger too.
+"""
+from __future__ import annotations
+
+import binascii
+import collections
+import json
+import os
+from types import TracebackType
+from typing import (TYPE_CHECKING, Any, Deque, Dict, Iterable, List, Literal, NoReturn, Optional,
+                    Sequence, Tuple, Type, Union, overload)
+
+from .. import text
+from . import library, service
+from .faults import Error, Gone, Refused, refused
+from .library import Inside, Library
+from .model import Model
+from ..text import Name
+
+if TYPE_CHECKING:
+    from .. import replies
+    from .channel import Channel
+
+Answer = Dict[str, Any]
+Request = Tuple[str, Dict[str, Any]]
+Outcome = Union[Answer, Refused]
+
+PIECE = 262_144
+READ = 262_144
+WRITE = 65_536
+SERVE = ("serve",)
+
+_DECODED = json.JSONDecoder().decode
+
+
+class Owed:
+    """A reply that is still to come. It stays owed where a call is interrupted."""
+
+    def __init__(self) -> None:
+        self.reply: Optional[Answer] = None
+
+
+class Client:
+    """One service. Where none is named it is libctfd.so in this process, if that is found
+    (library.py tells where); else the program is looked for, and started.
+
+    With `socket` it is one that others use too: the path of a socket where ctfd-front listens, in
+    which each session is a connection. Where neither is named, CTFD_SOCKET in the environment may
+    name such a path. `room` is a name that clients agree on who take from each other: behind a
+    front that has several services they need it (CTFD_ROOM in the environment names one too).
+    `patience` is how many seconds it may be silent before it counts as gone; None is for ever.
+    An exception amid a call (Ctrl-C, say) leaves its replies owed, and the next call reads past
+    them; where it came amid one of the few steps that belong together, the next call says Gone.
+    The service is in a process session of its own, so a terminal's Ctrl-C does not end it.
+    """
+
+    def __init__(self, program: Optional[str] = None, arguments: Sequence[str] = SERVE,
+                 patience: Optional[float] = 60, socket: Optional[str] = None,
+                 room: Optional[str] = None) -> None:
+        self.patience = patience
+        if program is None and socket is None and arguments == SERVE:
+            socket = service.socket()
+        self._socket, self._room = socket, service.room() if room is None else room
+        self._library: Optional[Library] = None
+        if program is None and socket is None and arguments == SERVE:
+            self._library = in_process()
+        self._channel = self._opened([program or "", *arguments])
+        self._requests, self._replies = self._channel.requests, self._channel.replies
+        self._others: List[Client] = []
+        self._unsent = bytearray()
+        self._unread = bytearray()
+        self._lines: Deque[bytearray] = collections.deque()
+        self._pieces: Deque[bytes] = collections.deque()
+        self._written: Deque[int] = collections.deque()
+        self._owed: Deque[Owed] = collections.deque()
+        self._gone: Optional[str] = None
+        self._torn = False  # amid the few steps that an interrupt must not part
+        self._last_session = self._channel.number - 1 if self._channel.number else 0
+        self._has_session = self._is_closed = False
+        self.requests = self.rounds = 0
+
+    def _opened(self, command: List[str]) -> Channel:
+        """The way to the service; what starts processes is imported where one is started."""
+        if self._library is not None:
+            return Inside(self._library)
+        from .channel import Pipes, Socket
+
+        if self._socket is None:
+            return Pipes([command[0] or service.find(), *command[1:]])
+        return Socket(self._socket, self.patience, self._room)
+
+    def __enter__(self) -> Client:
+        return self
+
+    def __exit__(self, kind: Optional[Type[BaseException]], error: Optional[BaseException],
+                 trace: Optional[TracebackType]) -> None:
+        self.close()
+
+    @property
+    def pid(self) -> Optional[int]:
+        """The service's process; None where it was not started here."""
+        return self._channel.pid
+
+    @property
+    def where(self) -> str:
+        """Where the service is, in words."""
+        return self._channel.where
+
+    def session(self) -> Session:
+        """A session that this client has not used yet. Behind a front it is a connection more."""
+        if self._channel.number and self._has_session:
+            self._others.append(Client(patience=self.patience, socket=self._socket,
+                                       room=self._room))
+            return self._others[-1].session()
+        self._has_session = True
+        self._last_session += 1
+        return Session(self, self._last_session)
+
+    def replies(self, session: int, requests: Iterable[Request]) -> List[Answer]:
+        """The whole reply to each request, in order: all are written while replies are read."""
+        if self._torn and not self._gone:
+            self._gone = "an interrupt came where replies can't be told apart: start a new client"
+        if self._gone:
+            raise Gone(self._gone)
+        lines = [request_line(session, op, fields) for op, fields in requests]
+        if self._library is not None:
+            self.requests += len(lines)
+            self.rounds += 1
+            return _all_decoded(self._library.answers(lines))
+        mine = [Owed() for _ in lines]
+        written = b"".join(lines)
+        self._torn = True
+        self._owed += mine
+        self._unsent += written
+        self._torn = False
+        self.requests += len(lines)
+        self.rounds += 1
+        self._run(mine)
+        return [owed.reply for owed in mine if owed.reply is not None]
+
+    def close(self) -> None:
+        """Ends the service that was started here, or the connections to one."""
+        self._gone = self._gone or "the client was closed"
+        if not self._is_closed:
+            self._is_closed = True
+            for other in self._others:
+                other.close()
+            self._channel.close()
+
+    def _run(self, mine: List[Owed]) -> None:
+        import selectors
+
+        self._forget()  # what an interrupted call has written and read already
+        self._answer()
+        with selectors.DefaultSelector() as ready:
+            ready.register(self._replies, selectors.EVENT_READ)
+            if self._unsent:
+                ready.register(self._requests, selectors.EVENT_WRITE)
+            while mine and mine[-1].reply is None:
+                events = ready.select(self.patience)
+                if not events:
+                    self._end(f"the service has been silent for {self.patience} seconds: start"
+                              " it again, with more patience for large questions")
+                for key, _ in events:
+                    if key.fd == self._replies:
+                        self._read()
+                    elif not self._write():
+                        ready.unregister(self._requests)
+
+    # What an interrupt must not part has no call in it, since Python takes signals behind calls;
+    # and what the system did is kept by `map`, which is one call with its `extend`.
+
+    def _write(self) -> bool:
+        """Writes some of what is unsent; whether any is left."""
+        try:
+            self._written.extend(map(os.write, [self._requests], [self._unsent[:WRITE]]))
+        except BlockingIOError:
+            return True
+        except (BrokenPipeError, ConnectionResetError):
+            self._end(self._channel.how_it_ended())
+        self._forget()
+        return bool(self._unsent)
+
+    def _forget(self) -> None:
+        """Drops what was written."""
+        while self._written:
+            self._torn = True
+            del self._unsent[:self._written[0]]
+            del self._written[0]
+            self._torn = False
+
+    def _read(self) -> None:
+        try:
+            self._pieces.extend(map(os.read, [self._replies], [READ]))
+        except BlockingIOError:
+            return
+        except ConnectionResetError:
+            self._end(self._channel.how_it_ended())
+        self._answer()
+
+    def _answer(self) -> None:
+        """Gives the lines that were read to those whom they are owed."""
+        while self._pieces:
+            if not self._pieces[0]:
+                self._end(self._channel.how_it_ended())
+            self._torn = True
+            self._unread += self._pieces[0]
+            del self._pieces[0]
+            self._torn = False
+        if b"\n" in self._unread:
+            *lines, rest = self._unread.split(b"\n")
+            self._torn = True
+            self._lines += lines
+            self._unread = rest
+            self._torn = False
+        while self._lines:
+            if not self._owed:
+                self._end("the service said more than was asked")
+            reply = _DECODED(self._lines[0].decode("utf-8"))
+            self._torn = True
+            self._owed[0].reply = reply
+            del self._owed[0]
+            del self._lines[0]
+            self._torn = False
+
+    def _end(self, why: str) -> NoReturn:
+        self._gone = why
+        raise Gone(why)
+
+
+class Session:
+    """A session of the service: what it opens and stages is its own."""
+
+    def __init__(self, client: Client, number: int) -> None:
+        self.client = client
+        self.number = number
+
+    def ask_all(self, requests: Sequence[Request]) -> List[Outcome]:
+        """What many requests are answered, in one round; a refusal stands in its place."""
+        replies = self.client.replies(self.number, requests)
+        return [_outcome(reply, op, fields) for (op, fields), reply in zip(requests, replies)]
+
+    @overload
+    def ask(self, op: Literal["open", "take"], **fields: Any) -> replies.Opened: ...
+
+    @overload
+    def ask(self, op: Literal["create"], **fields: Any) -> replies.Made: ...
+
+    @overload
+    def ask(self, op: Literal["kind"], **fields: Any) -> replies.Kind: ...
+
+    @overload
+    def ask(self, op: Literal["record"], **fields: Any) -> replies.Record: ...
+
+    @overload
+    def ask(self, op: Literal["members"], **fields: Any) -> replies.Members: ...
+
+    @overload
+    def ask(self, op: Literal["enumerators"], **fields: Any) -> replies.Enumerators: ...
+
+    @overload
+    def ask(self, op: Literal["args", "function"], **fields: Any) -> replies.Arguments: ...
+
+    @overload
+    def ask(self, op: Literal["array"], **fields: Any) -> replies.Array: ...
+
+    @overload
+    def ask(self, op: Literal["encoding"], **fields: Any) -> replies.Encoded: ...
+
+    @overload
+    def ask(self, op: Literal["size"], **fields: Any) -> replies.Size: ...
+
+    @overload
+    def ask(self, op: Literal["align"], **fields: Any) -> replies.Align: ...
+
+    @overload
+    def ask(self, op: Literal["name"], **fields: Any) -> replies.Name: ...
+
+    @overload
+    def ask(self, op: Literal["path"], **fields: Any) -> replies.Path: ...
+
+    @overload
+    def ask(self, op: Literal["show"], **fields: Any) -> replies.Shown: ...
+
+    @overload
+    def ask(self, op: Literal["symbol"], **fields: Any) -> replies.Symbol: ...
+
+    @overload
+    def ask(self, op: Literal["labels"], **fields: Any) -> replies.Labels: ...
+
+    @overload
+    def ask(self, op: Literal["label"], **fields: Any) -> replies.Last: ...
+
+    @overload
+    def ask(self, op: Literal["info"], **fields: Any) -> replies.Info: ...
+
+    @overload
+    def ask(self, op: Literal["model"], **fields: Any) -> replies.ModelOf: ...
+
+    @overload
+    def ask(self, op: Literal["bytes"], **fields: Any) -> replies.Bytes: ...
+
+    @overload
+    def ask(self, op: Literal["reference", "resolve", "pointer", "find", "object"],
+            **fields: Any) -> replies.Number: ...
+
+    @overload
+    def ask(self, op: str, **fields: Any) -> Any: ...
+
+    def ask(self, op: str, **fields: Any) -> Any:
+        """What one request is answered; raises its refusal."""
+        outcome = self.ask_all([(op, fields)])[0]
+        if isinstance(outcome, Refused):
+            raise outcome
+        return outcome
+
+    def open(self, ctf: bytes, sym: Optional[bytes] = None, strings: Optional[bytes] = None,
+             model: Optional[Model] = None) -> replies.Opened:
+        """Hands in the lists of a dictionary and opens it, in one round: `d` and `types`.
+
+        Without a model it is "lp64". The stage is cleared first, and once more where the
+        dictionary is refused.
+        """
+        requests: List[Request] = [("clear", {})]
+        for section, data in (("ctf", ctf), ("sym", sym), ("str", strings)):
+            requests += _parts(section, data)
+        outcomes = self.ask_all([*requests, ("open", _given(model=model))])
+        opened = outcomes[-1]
+        fault = next((o for o in outcomes if isinstance(o, Refused)), None)
+        if isinstance(opened, Refused) or fault:
+            if not isinstance(opened, Refused):
+                self.ask("close", d=opened["d"])
+            self.ask("clear")
+            raise fault or Error("open was refused")
+        return {"d": opened["d"], "types": opened["types"]}
+
+    def create(self, parent: Optional[int] = None, parname: Name = "", parlabel: Name = "",
+               model: Optional[Model] = None) -> replies.Made:
+        """Makes a slot of a new draft: `d`.
+
+        A draft over the dictionary of a slot `parent` needs a `parname`. Without a model it is
+        of its parent's, and without a parent of "lp64".
+        """
+        named = {"parname": text.escape(parname), "parlabel": text.escape(parlabel)}
+        return self.ask("create", **named, **_given(parent=parent, model=model))
+
+
+def in_process() -> Optional[Library]:
+    """The library in place of a program: where CTFD_LIBRARY names it, or where CTFD names no
+    program and it is found."""
+    if library.named() is None and service.named() is not None:
+        return None
+    return library.find()
+
+
+def connected(program: Optional[str]) -> Client:
+    """The client of a command: of the program that is named, else of the socket that CTFD_SOCKET
+    names, else of the library or the program that is found. Raises Error."""
+    return Client() if program is None else Client(service.find(program))
+
+
+def request_line(session: int, op: str, fields: Answer) -> bytes:
+    """A request as the service reads it."""
+    if len(fields) == 2 and "d" in fields and "t" in fields:  # most of them: a question on a type
+        return b'{"s":%d,"op":"%b","d":%d,"t":%d}\n' % (session, op.encode("ascii"), fields["d"],
+                                                      fields["t"])
+    if op == "part" and isinstance(fields.get("bytes"), memoryview):  # megabytes
+        return b'{"s":%d,"op":"part","section":"%b","bytes":"%b"}\n' % (
+            session, fields["section"].encode("ascii"), binascii.hexlify(fields["bytes"]))
+    request = {"s": session, "op": op, **fields}
+    return json.dumps(request, separators=(",", ":")).encode("ascii") + b"\n"
+
+
+def _all_decoded(lines: List[bytes]) -> List[Answer]:
+    """Many replies: the decoder begins once for them all."""
+    told: List[Answer] = _DECODED((b"[" + b",".join(lines) + b"]").decode("utf-8"))
+    return told
+
+
+def _given(**fields: Any) -> Answer:
+    """The fields that are not None: in a request null is not the same as absent."""
+    return {name: value for name, value in fields.items() if value is not None}
+
+
+def _outcome(reply: Answer, op: str, fields: Answer) -> Outcome:
+    return refused(reply["fault"], op, fields) if "fault" in reply else reply["ok"]
+
+
+def _parts(section: str, data: Optional[bytes]) -> List[Request]:
+    """The requests that stage a list; none for a list that there is not. Their lines have its bytes
+    as digits."""
+    if data is None:
+        return []
+    whole = memoryview(data)
+    return [("part", {"section": section, "bytes": whole[start:start + PIECE]})
+            for start in range(0, max(1, len(data)), PIECE)]

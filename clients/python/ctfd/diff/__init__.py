@@ -1,0 +1,1 @@
+"""What differs between the types of two programs, and what of that breaks others."""

@@ -1,0 +1,212 @@
+"""What is handed in for any file that `ctfd-convert` takes.
+
+A file that the service reads is taken as it is. Else its types are converted here, and kept in the
+user's cache, so that the next question on the same file is answered at once.
+"""
+from __future__ import annotations
+
+import argparse
+import os
+import stat
+from typing import TYPE_CHECKING, Callable, List, NamedTuple, Optional, Sequence, Tuple
+
+from ..client.faults import Unreadable
+from ..client.model import Model
+from . import archives, elf, identity, source
+from .elf import Elf
+from .mapped import Mapped, contents
+from .source import Source
+from .symbols import DYNSYM, Handed, NAMES, SYMTAB, considered, made_table
+
+if TYPE_CHECKING:
+    import tempfile
+
+    from .cache import Cache, Kept
+
+    from ..convert.inputs import Options
+
+FEW = 3
+FORMS = ("ctf", "btf", "dwarf", "gnu")  # those of `inputs`
+
+
+class Asked(NamedTuple):
+    """What a user says of the files, as `ctfd-convert` takes it. `warn` is told what was lost and
+    what takes long; `cache` finds where to keep what was made, None where that is not wanted."""
+
+    model: Optional[Model] = None
+    form: Optional[str] = None
+    base: Optional[str] = None
+    folders: Sequence[str] = ()
+    number: Optional[int] = None
+    cache: Optional[Callable[[], Optional[Cache]]] = None
+    warn: Callable[[str], None] = lambda said: None
+
+
+class Read(NamedTuple):
+    """What is handed in for a file of some bytes, and whether it was converted here."""
+
+    source: Source
+    data: Mapped
+    is_made: bool = False
+
+
+def asked(words: argparse.Namespace, warn: Callable[[str], None]) -> Asked:
+    """What the words of a command line say of the files."""
+    return Asked(words.model, words.form, words.base, words.folders,
+                 getattr(words, "dictionary", None), None if words.no_cache else _user_cache, warn)
+
+
+def _user_cache() -> Optional[Cache]:
+    from .cache import user_cache  # here and below: who has a dictionary keeps nothing
+
+    return user_cache()
+
+
+def add_words(parser: argparse.ArgumentParser) -> None:
+    """The options on files that are converted."""
+    group = parser.add_argument_group("files that are converted first")
+    group.add_argument("--from", dest="form", choices=FORMS, help="the form to read; by default"
+                       " the first that a file has")
+    group.add_argument("--base", metavar="FILE", help="the BTF of a module's kernel")
+    group.add_argument("--debug-folder", metavar="FOLDER", dest="folders", action="append",
+                       default=[], help="where to look for debug files, before /usr/lib/debug")
+    group.add_argument("--no-cache", action="store_true", help="convert again, without the"
+                       " cache ($XDG_CACHE_HOME/ctfd, or ~/.cache/ctfd)")
+
+
+def read(path: str, asked: Asked, has_symbols: bool = True) -> Read:
+    """What is handed in for a file, with or without the symbols that can wait (see `of_bytes`).
+    Raises Unreadable for what is none that is read."""
+    data = contents(path)
+    if asked.form in (None, "ctf") and asked.base is None:
+        try:
+            return Read(source.of_bytes(data, path, asked.number, has_symbols), data)
+        except Unreadable:
+            if not _is_converted(data, path):
+                raise
+    with _Place(path, data) as place:
+        made = place.told(lambda: _made(place.path, data, asked))
+    return Read(source.with_symbols(made) if has_symbols else made, data, True)
+
+
+def _is_converted(data: Mapped, path: str) -> bool:
+    """Whether a file may have types that are converted: an ELF file with CTF of version 2 in it has
+    these, and what is wrong with them was told."""
+    if data[:4] == elf.MAGIC:
+        return not _has_ctf(Elf(data, path))
+    from ..convert import from_btf, from_gnu
+
+    begins = (from_btf.MAGIC, from_btf.BIG_ENDIAN, from_gnu.MAGIC, source.ARCHIVE)
+    return archives.is_archive(data) or any(data[:len(one)] == one for one in begins)
+
+
+def _has_ctf(file: Elf) -> bool:
+    sections = [file.named(name) for name in source.SECTIONS]
+    return any(one is not None and one.kind != elf.NOBITS and not one.flags & elf.COMPRESSED
+               and not source.foreign(bytes(file.view(one)[:64])) for one in sections) \
+        and not any(file.named(name) for name in source.DEBUG)
+
+
+class _Place:
+    """Where a file is, as often as it is read: what comes from a pipe is written into a file."""
+
+    def __init__(self, path: str, data: Mapped) -> None:
+        self.named = self.path = path
+        self._data = data
+        self._folder: Optional[tempfile.TemporaryDirectory[str]] = None
+
+    def __enter__(self) -> _Place:
+        if not stat.S_ISREG(os.stat(self.named).st_mode):
+            import tempfile
+
+            self._folder = tempfile.TemporaryDirectory()
+            self.path = os.path.join(self._folder.name, "input")
+            with open(self.path, "wb") as file:
+                file.write(self._data)
+        return self
+
+    def __exit__(self, *_: object) -> None:
+        if self._folder is not None:
+            self._folder.cleanup()
+
+    def told(self, run: Callable[[], Source]) -> Source:
+        """What is made of the file; refusals name it as the user does."""
+        try:
+            return run()
+        except Unreadable as error:
+            raise Unreadable(str(error).replace(self.path, self.named)) from error
+
+
+def converted(path: str, options: Options) -> Tuple[Source, List[str]]:
+    """What is handed in for a file that is converted, and what was lost. What converts is imported
+    here, since who has a dictionary waits for nothing else."""
+    from ..convert import conversion
+
+    return conversion.converted(path, options.model, options)
+
+
+def _made(path: str, data: Mapped, asked: Asked) -> Source:
+    """The dictionary of a file that is converted, or that was."""
+    from .cache import Kept, key
+
+    said = (asked.model, asked.form, list(asked.folders), asked.number, _table(path, data))
+    is_thin = data[:len(archives.THIN)] == archives.THIN
+    cache = asked.cache() if asked.cache and not is_thin else None
+    kept: Optional[Kept] = None
+    found: Optional[Source] = None
+    if cache is not None:
+        named = key(data, path, (*said, _sum_of(asked.base)))
+        kept = cache.get(named)
+        found = _attached(path, data, kept) if kept else None
+    if kept is None or found is None:
+        from ..convert.inputs import Options  # with all that converts
+
+        options = Options(said[0], said[1], asked.base, *said[2:], asked.warn)
+        made, losses = converted(path, options)
+        kept = Kept(made.ctf, made.model, losses)
+        found = _attached(path, data, kept) or made
+        if cache is not None:
+            cache.put(named, kept)
+    _tell(path, kept.losses, asked)
+    return found
+
+
+def _sum_of(path: Optional[str]) -> str:
+    from .cache import key
+
+    return key(contents(path), path) if path else ""
+
+
+def _table(path: str, data: Mapped) -> str:
+    """The symbol table that a dictionary's entries are to go by: what is exported, where strip has
+    left nothing else."""
+    if data[:4] != elf.MAGIC:
+        return SYMTAB
+    file = Elf(data, path)
+    return SYMTAB if considered(file).listed or not considered(file, DYNSYM).listed else DYNSYM
+
+
+def _attached(path: str, data: Mapped, kept: Kept) -> Optional[Source]:
+    """A kept dictionary with the symbols of its file; None where they are others."""
+    file = Elf(data, path) if data[:4] == elf.MAGIC else None
+    model: Model = "ilp32" if kept.model == "ilp32" else "lp64"
+    wanted = identity.symbols(kept.ctf)
+    if wanted is not None and wanted.table == NAMES:
+        return Source(kept.ctf, how=source.LATER, model=model)
+    found = source.handed_of(file, kept.ctf)
+    if wanted is not None and found is None:
+        return None
+    symbols = source.symbols_of(file, kept.ctf) if file and file.model != "lp64" else None
+    found = made_table(symbols.listed) if symbols else found or Handed()
+    return Source(kept.ctf, found.table, found.strings, "named" if found.table else "none", model)
+
+
+def _tell(path: str, losses: Sequence[str], asked: Asked) -> None:
+    """What CTF can't hold of a file: each where it is little."""
+    told = list(dict.fromkeys(losses))
+    if len(told) <= FEW:
+        for line in told:
+            asked.warn(f"{path}: {line}")
+    else:
+        asked.warn(f"{path}: {len(told)} constructs that CTF cannot represent were changed or left"
+                   f" out: `ctfd-convert {path} /dev/null` lists them")

@@ -1,0 +1,204 @@
+"""Sections of a little-endian ELF file, of 32 bits or of 64."""
+from __future__ import annotations
+
+import struct
+from typing import Iterator, List, NamedTuple, Optional, Tuple
+
+from ..client.faults import Unreadable
+from ..client.model import Model
+from .mapped import Mapped
+from .strings import Strings
+
+MAGIC = b"\x7fELF"
+NOBITS, SYMTAB, STRTAB, DYNSYM = 8, 2, 3, 11
+COMPRESSED = 0x800
+EXTENDED = 0xFFFF
+RELOCATABLE = 1
+ENTRY = 24
+LONGEST_NAME = 4096
+OBJECT, FUNCTION = 1, 2
+SYMBOL = struct.Struct("<IBBHQQ")  # of 64 bits: the service reads no others
+SYMBOL_32 = struct.Struct("<IIIBBH")
+
+
+class Form(NamedTuple):
+    """How the files of one class are written.
+
+    `sections` is where the header says where the section headers begin, and `counts` where it
+    has the size and number of these, and which section has their names.
+    """
+
+    model: Model
+    address: str
+    sections: int
+    counts: int
+    section: struct.Struct
+
+
+FORMS = {
+    b"\x01": Form("ilp32", "<I", 32, 46, struct.Struct("<10I")),
+    b"\x02": Form("lp64", "<Q", 40, 58, struct.Struct("<IIQQQQIIQQ")),
+}
+
+
+class Section(NamedTuple):
+    """A section's header, with its name found."""
+
+    name: str
+    kind: int
+    flags: int
+    offset: int
+    size: int
+    link: int
+    address: int = 0
+    info: int = 0
+
+
+class Symbol(NamedTuple):
+    """A symbol: its number in the table, and its address in the file."""
+
+    number: int
+    name: str
+    address: int
+    is_function: bool
+
+
+class Elf:
+    """A file's sections. Raises Unreadable for what is no such file, or is cut off."""
+
+    def __init__(self, data: Mapped, path: str = "the file") -> None:
+        self.data = data
+        self.path = path
+        self.form = self._judged()
+        try:
+            self.sections = self._sections()
+        except (struct.error, IndexError, OverflowError) as error:
+            raise Unreadable(f"{path}: an ELF file whose section headers are cut off") from error
+
+    def _judged(self) -> Form:
+        if self.data[:4] != MAGIC:
+            raise Unreadable(f"{self.path}: no ELF file")
+        if self.data[5:6] == b"\x02":
+            raise Unreadable(f"{self.path}: a big-endian ELF file, which is not read: take a"
+                             " little-endian build of the program")
+        form = FORMS.get(self.data[4:5])
+        if form is None or self.data[5:6] != b"\x01":
+            raise Unreadable(f"{self.path}: an ELF file whose header is damaged or cut off")
+        return form
+
+    @property
+    def model(self) -> Model:
+        """The data model of the program."""
+        return self.form.model
+
+    def _sections(self) -> List[Section]:
+        start = self._address(self.form.sections)
+        size, count, names = struct.unpack_from("<HHH", self.data, self.form.counts)
+        if not start:
+            return []
+        if start > len(self.data):
+            raise IndexError
+        first = self._header(start)
+        count = count or first[5]  # more than the field holds: the first header has it
+        names = first[6] if names == EXTENDED else names
+        if size < self.form.section.size or start + count * size > len(self.data):
+            raise IndexError
+        headers = [self._header(start + number * size) for number in range(count)]
+        strings = self._cut(headers[names][4], headers[names][5]) if names else b""
+        named = Strings(strings + b"\0")
+        try:
+            return [Section(named.at(min(h[0], len(strings))), h[1], h[2], h[4], h[5], h[6], h[3],
+                            h[7]) for h in headers]
+        except ValueError as error:
+            raise Unreadable(f"{self.path}: an ELF file whose section names are damaged") from error
+
+    def _header(self, offset: int) -> Tuple[int, ...]:
+        return self.form.section.unpack_from(self.data, offset)
+
+    def _address(self, offset: int) -> int:
+        """The address or offset that stands somewhere in the file."""
+        found: int = struct.unpack_from(self.form.address, self.data, offset)[0]
+        return found
+
+    def _cut(self, offset: int, size: int) -> bytes:
+        self._judge_range(offset, size)
+        return self.data[offset:offset + size]
+
+    def _judge_range(self, offset: int, size: int) -> None:
+        if offset + size > len(self.data):
+            raise Unreadable(f"{self.path}: an ELF file with a section that is cut off")
+
+    @property
+    def kind(self) -> int:
+        """What sort of file it is: 1 is an object file, 2 a program, 3 a library."""
+        return int.from_bytes(self.data[16:18], "little")
+
+    @property
+    def machine(self) -> int:
+        """The number of the machine that it is for."""
+        return int.from_bytes(self.data[18:20], "little")
+
+    @property
+    def is_fixed(self) -> bool:
+        """Whether it is a program that runs at the addresses in the file."""
+        return self.data[16:18] == b"\x02\0"
+
+    @property
+    def entry(self) -> int:
+        """The address at which the program begins."""
+        return self._address(ENTRY)
+
+    def named(self, name: str) -> Optional[Section]:
+        """The first section of a name."""
+        return next((s for s in self.sections if s.name == name), None)
+
+    def numbered(self, number: int) -> Optional[Section]:
+        """The section of a number, as links have it; 0 is none."""
+        return self.sections[number] if 0 < number < len(self.sections) else None
+
+    def view(self, section: Section) -> memoryview:
+        """What a section has in the file, compressed or not, without a copy."""
+        if section.kind == NOBITS:
+            return memoryview(b"")
+        self._judge_range(section.offset, section.size)
+        return memoryview(self.data)[section.offset:section.offset + section.size]
+
+    def bytes(self, section: Section) -> bytes:
+        """What a section holds."""
+        if section.kind == NOBITS:
+            return b""
+        if section.flags & COMPRESSED:
+            raise Unreadable(f"{self.path}: {section.name} is compressed as ELF has it, which is"
+                             " not read: objcopy --decompress-debug-sections undoes that")
+        return self._cut(section.offset, section.size)
+
+
+def symbols(table: bytes, strings: bytes) -> Iterator[Symbol]:
+    """The functions and objects of a table of 64 bits that have a name and a section."""
+    for number, (name, info, _, section, value, _) in enumerate(
+            SYMBOL.iter_unpack(whole(table, SYMBOL))):
+        if name and section and info & 15 in (OBJECT, FUNCTION):
+            yield Symbol(number, text(strings, name), value, info & 15 == FUNCTION)
+
+
+def whole(table: bytes, form: struct.Struct) -> bytes:
+    """As much of a table as are whole entries."""
+    return table[:len(table) // form.size * form.size]
+
+
+def text(strings: bytes, offset: int) -> str:
+    """The string at an offset, as it is shown, or as much of it as a name may have."""
+    last = min(len(strings), offset + LONGEST_NAME)
+    end = strings.find(b"\0", offset, last)
+    return strings[offset:end if end >= 0 else last].decode("utf-8", "backslashreplace")
+
+
+def build_id(file: Elf) -> str:
+    """The build id of a file in hexadecimal digits, "" without one."""
+    section = file.named(".note.gnu.build-id")
+    data = file.bytes(section) if section is not None else b""
+    if len(data) < 12:
+        return ""
+    names, length, _ = struct.unpack_from("<III", data)
+    start = 12 + (names + 3) // 4 * 4
+    return data[start:start + length].hex()

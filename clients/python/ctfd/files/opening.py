@@ -1,0 +1,95 @@
+"""The dictionaries that a command's words name, with their parents and all their types."""
+from __future__ import annotations
+
+import contextlib
+from typing import TYPE_CHECKING, Dict, Iterable, Iterator, Optional
+
+from ..client.dictionary import Dictionary, open_file, open_found, open_source
+from ..client.faults import BadSymbols, Error, Refused, Unreadable
+from ..client.gather import LISTS
+from ..client.wire import Session
+from . import anyfile, source
+from .anyfile import Asked, Read
+
+if TYPE_CHECKING:
+    from ..layout.whole import Whole
+
+ALONE = ("--parent, --symbols and --strings go with a dictionary, and this file's types are"
+         " converted first: leave them out, or make the dictionary by ctfd-convert (--parent makes"
+         " a child)")
+
+
+class Opener:
+    """Opens files in one session, as a user asked for them; a parent of several files is opened
+    once."""
+
+    def __init__(self, session: Session, asked: Asked = Asked()) -> None:
+        self.session = session
+        self.asked = asked
+        self.read: Dict[str, Read] = {}
+        self._parents: Dict[str, Dictionary] = {}
+
+    def open(self, path: str, parent: Optional[str] = None, sym: Optional[bytes] = None,
+             strings: Optional[bytes] = None, has_symbols: bool = True) -> Dictionary:
+        """The dictionary of a file, over its parent where one is named. Without `has_symbols` it
+        may lack its symbols, which `with_symbols` gives."""
+        with told_of(path):
+            found = anyfile.read(path, self.asked, has_symbols)
+            self.read[path] = found
+            if found.is_made and (sym, strings, parent) != (None, None, None):
+                raise Unreadable(f"{path}: {ALONE}")
+            types = self._opened(found, path, sym, strings)
+        if parent is not None:
+            if parent not in self._parents:
+                with told_of(parent):
+                    self._parents[parent] = open_file(self.session, parent, model=self.asked.model)
+            with told_of(f"{parent}, as the parent of {path}"):
+                types.import_parent(self._parents[parent])
+        return types
+
+    def with_symbols(self, path: str, types: Dictionary) -> Dictionary:
+        """The dictionary that was opened for a file, with its symbols."""
+        if types.how != source.LATER:
+            return types
+        found = self.read[path]
+        self.read[path] = found._replace(source=source.with_symbols(found.source))
+        with told_of(path):
+            made = self._opened(self.read[path], path, None, None)
+            if types.parent is not None:
+                made.import_parent(types.parent)
+        return made
+
+    def _opened(self, found: Read, path: str, sym: Optional[bytes], strings: Optional[bytes]
+                ) -> Dictionary:
+        """The dictionary of a file; one that was converted without what does not fit its symbols.
+        """
+        try:
+            return open_found(self.session, found.source, path, sym, strings, self.asked.model)
+        except BadSymbols:
+            if not found.is_made:
+                raise
+            self.asked.warn(f"{path}: the types of its symbols do not fit its symbol table:"
+                            " symbols are left out")
+            bare = found.source._replace(sym=None, strings=None, how="none")
+            self.read[path] = found._replace(source=bare)
+            return open_source(self.session, bare)
+
+    def whole(self, path: str, parent: Optional[str] = None,
+              lists: Iterable[str] = LISTS) -> Whole:
+        """As `open`, with all types read. Raises Error for a child whose parent is not named."""
+        from ..layout.whole import whole  # here: who asks for one type reads no others
+
+        return whole(self.open(path, parent), path, lists)
+
+
+@contextlib.contextmanager
+def told_of(what: str) -> Iterator[None]:
+    """Refusals of a file are told with its name, and without the request."""
+    try:
+        yield
+    except Unreadable as error:
+        said = str(error)
+        raise error if said.startswith(what) else Unreadable(f"{what}: {said}") from error
+    except Refused as fault:
+        place = f" at {fault.place}" if fault.place else ""
+        raise Error(f"{what}: {fault.name}{place}: {fault.advice}") from fault

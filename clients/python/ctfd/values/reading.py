@@ -1,0 +1,251 @@
+"""Values in a program's memory, read by the service's `show` and taken apart along their types.
+
+A whole value is one request. Where the service refuses it as a whole (TooLong, Incomplete,
+ShortMemory), or where its text could not be told apart, its parts are asked for instead, all of
+a level in one round. What that may cost is bounded: a hostile type doubles at each level.
+"""
+from __future__ import annotations
+
+from dataclasses import dataclass, field
+from typing import Callable, Dict, List, NamedTuple, Optional, Tuple, TypeVar
+
+from ..client.faults import Error, Refused
+from ..client.types import PointerTo, Type
+from ..client.wire import Request
+from .parse import Characters, Leaf, Lost, Parts, Unclear, Value, is_character, parse
+
+WHOLE = 400_000
+MANY = 4096
+LONG_TEXT, MOST_TEXT = 1024, 65_536
+LONGEST_TEXT = 65_536
+AGGREGATES = ("struct", "union")
+COMPOSED = (*AGGREGATES, "array")
+
+Read = Callable[[int, int], bytes]
+Item = TypeVar("Item")
+
+
+@dataclass
+class Bounds:
+    """What the reading of values may cost: elements of each array that is split, values and parts
+    of values that are read one by one, and text, also where the service has made it in vain.
+    """
+
+    elements: int = 200
+    pieces: int = 65_536
+    text: int = 4_194_304
+
+
+class Wanted(NamedTuple):
+    """A value to be read: `bit` bits behind the address `at`."""
+
+    type: Type
+    at: int
+    bit: int = 0
+
+
+@dataclass
+class Piece:
+    """A value or a part of one, and where its outcome goes; `memory` is there once it was read."""
+
+    wanted: Wanted
+    into: List[Value]
+    index: int
+    is_part: bool = False
+    memory: Optional[bytes] = None
+
+    def put(self, value: Value) -> None:
+        self.into[self.index] = value
+
+
+def span(t: Type, bit: int) -> int:
+    """How many bytes from the one in which a value begins to the one in which it ends."""
+    lies = t.bit_field
+    bits = 8 * (t.size or 0) if lies is None else lies.offset + lies.bits
+    return (bit + bits + 7) // 8
+
+
+def values(wanted: List[Wanted], read: Read, bounds: Optional[Bounds] = None) -> List[Value]:
+    """The values at some places, in as few rounds as can be.
+
+    `read` is given an address and a length, and answers as many bytes as it can.
+    """
+    for t in {one.type for one in wanted}:
+        t.gather()
+    return Reading(read, bounds or Bounds()).run(wanted)
+
+
+def value(t: Type, memory: bytes, bounds: Optional[Bounds] = None) -> Value:
+    """The value of a type that some bytes hold."""
+    return values([Wanted(t, 0)], lambda at, size: memory[at:at + size], bounds)[0]
+
+
+@dataclass
+class Reading:
+    """One call of `values`: its pieces become smaller level by level."""
+
+    read: Read
+    bounds: Bounds
+    apart: Dict[Type, bool] = field(default_factory=dict)
+
+    def run(self, wanted: List[Wanted]) -> List[Value]:
+        roots: List[Value] = [Lost("cut")] * len(wanted)
+        level = [Piece(one, roots, number) for number, one in enumerate(self._allowed(wanted))]
+        while level:
+            end = self._end_of_round(level)
+            level, later = level[:end], level[end:]
+            refused: List[Tuple[Piece, str]] = []
+            asked = [piece for piece in level if self._must_ask(piece, refused)]
+            refused += self._ask(asked)
+            level = later + [part for piece, why in refused for part in self._parts(piece, why)]
+        return roots
+
+    def _end_of_round(self, level: List[Piece]) -> int:
+        """How many pieces may be asked for at once, if each long one takes all that it can."""
+        room = max(1, self.bounds.text // LONGEST_TEXT)
+        for number, piece in enumerate(level):
+            room -= not _is_short(piece.wanted.type.resolved)
+            if room < 0:
+                return number
+        return len(level)
+
+    def _allowed(self, pieces: List[Item]) -> List[Item]:
+        """The first of some pieces, as many as may be read yet."""
+        kept = pieces[:self.bounds.pieces]
+        self.bounds.pieces -= len(kept)
+        return kept
+
+    def _must_ask(self, piece: Piece, refused: List[Tuple[Piece, str]]) -> bool:
+        """Whether the service is asked; else the piece has its value, or is to be split."""
+        t = piece.wanted.type.resolved
+        if self.bounds.text <= 0:
+            piece.put(Lost("cut"))
+            return False
+        if t.kind == "array" and is_character(t.contents.resolved) and piece.wanted.bit % 8 == 0:
+            piece.put(self._characters(piece, t))
+            return False
+        if isinstance(t, PointerTo):
+            piece.put(self._pointer(piece, t.size))
+            return False
+        if self._is_split(t):
+            refused.append((piece, "TooLong"))
+            return False
+        return True
+
+    def _pointer(self, piece: Piece, size: int) -> Value:
+        """A pointer that the service has no type for, as `show` would show it."""
+        data = self._memory(piece, size)
+        return Lost("ShortMemory") if len(data) < size else Leaf(f"0x{data[::-1].hex()}")
+
+    def _characters(self, piece: Piece, t: Type) -> Value:
+        """The bytes themselves: `show` would spell each as a number."""
+        kept = min(t.count, MOST_TEXT)
+        data = self._memory(piece, kept)
+        short = len(data) < kept
+        return Lost("ShortMemory") if short and not data else Characters(data, t.count)
+
+    def _memory(self, piece: Piece, length: int) -> bytes:
+        """The bytes of a piece; of one that is not at the start of a byte, the bytes it is in."""
+        if piece.memory is None:
+            try:
+                piece.memory = self.read(piece.wanted.at + piece.wanted.bit // 8, length)
+            except Error:
+                if not piece.is_part:
+                    raise
+                piece.memory = b""  # the other parts may be there
+        return piece.memory[:length]
+
+    def _is_split(self, t: Type) -> bool:
+        """Whether a value is never asked for as a whole."""
+        if (t.size or 0) > WHOLE or (t.kind == "array" and t.count > MANY):
+            return True
+        if t not in self.apart:
+            held = held_by(t) if t.kind in COMPOSED else []
+            self.apart[t] = any(map(_is_unclear, held))
+        return self.apart[t]
+
+    def _ask(self, pieces: List[Piece]) -> List[Tuple[Piece, str]]:
+        """Shows what can be shown, in one round; the rest with why not."""
+        if not pieces:
+            return []
+        session = pieces[0].wanted.type.dictionary.session
+        outcomes = session.ask_all([self._request(piece) for piece in pieces])
+        refused: List[Tuple[Piece, str]] = []
+        for piece, outcome in zip(pieces, outcomes):
+            if isinstance(outcome, Refused):
+                self.bounds.text -= LONGEST_TEXT if outcome.name == "TooLong" else 0
+                refused.append((piece, outcome.name))
+                continue
+            self.bounds.text -= len(outcome["text"])
+            try:
+                piece.put(parse(piece.wanted.type, outcome["text"]))
+            except Unclear:
+                refused.append((piece, "Unclear"))
+        return refused
+
+    def _request(self, piece: Piece) -> Request:
+        t, _, bit = piece.wanted
+        data = self._memory(piece, span(t, bit % 8))
+        fields = {"d": t.dictionary.slot, "t": t.number, "bytes": data.hex(), "offset": bit % 8}
+        return "show", fields
+
+    def _parts(self, piece: Piece, why: str) -> List[Piece]:
+        """The members or elements of a value; none where it has none, and then it is lost."""
+        t = piece.wanted.type.resolved
+        if self.bounds.pieces <= 0:
+            piece.put(Lost("cut"))
+            return []
+        if t.kind in AGGREGATES:
+            places = [(member.type, member.offset) for member in t.members]
+            items: List[Value] = [Lost("cut")] * len(places)
+            piece.put(Parts(items, len(places)))
+            places = self._allowed(places)
+        elif t.kind == "array" and t.contents.size:
+            step = 8 * t.contents.size
+            count = min(t.count, self.bounds.elements, self.bounds.pieces)
+            places = self._allowed([(t.contents, number * step) for number in range(count)])
+            items = [Lost("cut")] * len(places)
+            piece.put(Parts(items, t.count))
+        else:
+            piece.put(Lost(why))
+            return []
+        return [self._part(piece, inner, offset, items, number)
+                for number, (inner, offset) in enumerate(places)]
+
+    def _part(self, whole: Piece, t: Type, offset: int, into: List[Value], index: int) -> Piece:
+        """A part that begins some bits behind the start of a whole."""
+        first, bit = divmod(whole.wanted.bit % 8 + offset, 8)
+        start = whole.wanted.at + whole.wanted.bit // 8
+        part = Piece(Wanted(t, start + first, bit), into, index, True)
+        if whole.memory is not None:
+            part.memory = whole.memory[first:first + span(t, bit)]
+        return part
+
+
+def held_by(whole: Type) -> List[Type]:
+    """The types that a value of a type holds, itself among them, each once."""
+    seen: Dict[Type, None] = {}
+    todo = [whole.resolved]
+    while todo:
+        t = todo.pop()
+        if t in seen:
+            continue
+        seen[t] = None
+        if t.kind in AGGREGATES:
+            todo += [member.type.resolved for member in t.members]
+        elif t.kind == "array":
+            todo.append(t.contents.resolved)
+    return list(seen)
+
+
+def _is_short(t: Type) -> bool:
+    """Whether the text of a value has a few dozen characters at most."""
+    return t.kind in ("integer", "float", "pointer") and (t.size or 0) <= 16
+
+
+def _is_unclear(t: Type) -> bool:
+    """Whether a text with such a value in it is needlessly long, or can be read in two ways."""
+    if t.kind == "array":
+        return t.count > LONG_TEXT and is_character(t.contents.resolved)
+    return t.kind == "enum" and any(not name.isidentifier() for name, _ in t.enumerators)
+

@@ -1,0 +1,1 @@
+"""How types are shown: declarations, listings, tables, JSON, pictures and a page."""

@@ -1,0 +1,92 @@
+"""How the package is put together: what is public, which packages it has, where messages go."""
+from __future__ import annotations
+
+import contextlib
+import io
+import re
+import subprocess
+import sys
+import types
+import unittest
+from pathlib import Path
+
+import ctfd
+from ctfd.front import journal
+from ctfd.tools import running
+
+CLIENT = Path(__file__).resolve().parents[1]
+PACKAGE = CLIENT / "ctfd"
+# What stands in no package is public.
+PUBLIC = {"drgn", "expressions", "formats", "replies", "text"}
+
+
+class Package(unittest.TestCase):
+    def test_public_names_are_there(self) -> None:
+        for name in ctfd.__all__:
+            self.assertIsNotNone(getattr(ctfd, name), name)
+        with self.assertRaisesRegex(AttributeError, "no attribute 'nothing'"):
+            getattr(ctfd, "nothing")
+
+    def test_public_modules(self) -> None:
+        """Each is imported where it is first asked for, and `layout` is the function."""
+        code = ("import ctfd; print(ctfd.values.Bounds().elements, ctfd.build.Types('lp64').names(),"
+                " ctfd.formats.Style().repeats, ctfd.expressions.evaluate.__name__,"
+                " ctfd.replies.Opened.__name__, ctfd.text.raw('x'), ctfd.layout.__name__);"
+                " from ctfd import *; print(values.__name__, layout.__name__)")
+        said = subprocess.run([sys.executable, "-c", code], cwd=CLIENT, capture_output=True,
+                              text=True)
+        self.assertEqual(said.stderr, "")
+        self.assertEqual(said.stdout, "200 [] 10 evaluate Opened b'x' layout\n"
+                         "ctfd.values layout\n")
+
+    def test_nothing_else_stands_at_the_top(self) -> None:
+        found = {path.stem for path in PACKAGE.glob("*.py")}
+        self.assertEqual(found, PUBLIC | {"__init__", "__main__", "version"})
+        modules = {name for name in ctfd.__all__
+                   if isinstance(getattr(ctfd, name), types.ModuleType)}
+        self.assertEqual(modules, PUBLIC - {"drgn"} | {"build", "values"})
+
+    def test_each_package_is_installed_and_says_what_it_has(self) -> None:
+        listed = re.search(r"packages = \[\n(.*?)\]", (CLIENT / "pyproject.toml").read_text(),
+                           re.DOTALL)
+        assert listed
+        there = {".".join(path.parent.relative_to(CLIENT).parts)
+                 for path in PACKAGE.rglob("__init__.py")}
+        self.assertEqual(set(re.findall(r'"([\w.]+)"', listed[1])), there)
+        for path in PACKAGE.rglob("*.py"):
+            self.assertTrue(path.read_text(encoding="utf-8").startswith('"""'), path)
+
+
+class Messages(unittest.TestCase):
+    def test_a_command(self) -> None:
+        """A line on standard error, and a message of the log `ctfd` for who wants it there."""
+        said = io.StringIO()
+        with contextlib.redirect_stderr(said):
+            running.warn("ctfd-types", "100% of \x1b[31mx")
+            running.warn("ctfd-types", "again")
+        self.assertEqual(said.getvalue(), "ctfd-types: 100% of \\x1b[31mx\nctfd-types: again\n")
+        with self.assertLogs("ctfd", "WARNING") as seen, contextlib.redirect_stderr(said):
+            running.warn("ctfd-diff", "once")
+        self.assertEqual([record.getMessage() for record in seen.records], ["once"])
+
+    def test_the_front(self) -> None:
+        said = io.StringIO()
+        with contextlib.redirect_stderr(said):
+            journal.say("it began")
+        self.assertEqual(said.getvalue(), "ctfd-front: it began\n")
+        with self.assertLogs("ctfd.front", "WARNING") as seen:
+            journal.say("a line", journal.Level.WARNING)
+            journal.say("more", journal.Level.INFO)
+        self.assertEqual([record.getMessage() for record in seen.records], ["a line"])
+
+    def test_the_collector_is_as_it_was(self) -> None:
+        import gc
+
+        before = gc.get_threshold()
+        with running.keeping():
+            self.assertTrue(gc.isenabled())
+        self.assertEqual(gc.get_threshold(), before)
+
+
+if __name__ == "__main__":
+    unittest.main()
