@@ -1,5 +1,5 @@
 //! What a source and a sink did so far, which only proofs read.
-ghost use Rattle.std.specs.Prelude.{◌≡◌, ℕ, List, [], ◌∷◌, ◌++◌};
+ghost use Rattle.std.specs.Prelude.{◌≡◌, [], ◌∷◌, ◌++◌};
 ghost use Rattle.std.specs.Borrow.{ftrue};
 ghost use Rattle.ctf_wire.specs.Flushes.{Flushes};
 
