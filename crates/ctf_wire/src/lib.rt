@@ -4,7 +4,7 @@
 mod batch;
 mod engine;
 mod feeding;
-mod histories;
+mod history;
 mod machines;
 mod pending;
 mod pieces;

@@ -28,26 +28,26 @@ use denote.Triple.Entry.{on_entry}
 use denote.Triple.Spec.{Meets, triple_of}
 use denote.Triple.Table.{entered}
 use denote.Triple.Walked.{says, Stays, stay_ref, stay_none_slice, walk_of, AllGo, Goes-ref, Goes-none_slice, Walks, ends_at, walked, walk_Meets}
-use Rattle.ctf_wire.specs.declared.histories.PushHistory.{PushHistory}
-use Rattle.ctf_wire.specs.contracts.histories.PushHistory as T
-use Rattle.ctf_wire.specs.contracts.histories.PushHistory.note.Key.{name as #it}
-use Rattle.ctf_wire.specs.contracts.histories.PushHistory.note as it
-use Rattle.ctf_wire.proofs.histories.PushHistory.note.Statement as stated
-use Rattle.ctf_wire.proofs.histories.PushHistory.note.Code as code
+use Rattle.ctf_wire.specs.declared.history.History.{History}
+use Rattle.ctf_wire.specs.contracts.history.History as T
+use Rattle.ctf_wire.specs.contracts.history.History.note.Key.{name as #it}
+use Rattle.ctf_wire.specs.contracts.history.History.note as it
+use Rattle.ctf_wire.proofs.history.History.note.Statement as stated
+use Rattle.ctf_wire.proofs.history.History.note.Code as code
 
 abbrev Arg : Type 0
-Arg = MutBor PushHistory × (Bor (List ℕ) × Unit {0})
+Arg = MutBor History × (Bor (List ℕ) × Unit {0})
 
 abbrev stayed : Stays (it.ended).signature.params (it.ended).kept
 stayed = (stay_ref (0 ∷ []) tt (plain (λ _. T.the_row)), (stay_none_slice (1 ∷ []) tt (plain (λ _. u8)) yes, tt))
 
-module _ {M : Type 1} {𝓤 : Ura M} (𝓛 : Logic 𝓤) (at_mem : Memory → SProp 𝓤) (run : Routine → Fun 𝓤) (κ κ' : Lft) (q q' : Share) (b o : ℕ) (γ : GName) (h : PushHistory) (s : Bor (List ℕ)) where
+module _ {M : Type 1} {𝓤 : Ura M} (𝓛 : Logic 𝓤) (at_mem : Memory → SProp 𝓤) (run : Routine → Fun 𝓤) (κ κ' : Lft) (q q' : Share) (b o : ℕ) (γ : GName) (h : History) (s : Bor (List ℕ)) where
   open 𝓛 use {H, A}
 
   abbrev x : Arg
   x = (record { ref_ptr = (b, o); ghost_name = γ; now = h }, (s, tt))
 
-  abbrev h' : PushHistory
+  abbrev h' : History
   h' = record { marker = h.marker; flushes = record { pieces = h.flushes.pieces; waiting = h.flushes.waiting ++ s.now } }
 
   abbrev at : List Val × (List Val × Unit {0})

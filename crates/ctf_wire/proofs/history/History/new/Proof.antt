@@ -21,18 +21,18 @@ use denote.Triple.Entry.{on_entry}
 use denote.Triple.Spec.{Meets, triple_of}
 use denote.Triple.Table.{entered}
 use denote.Triple.Walked.{says, ends_at, walked, walk_Meets}
-use Rattle.ctf_wire.specs.declared.histories.PullHistory.{PullHistory}
-use Rattle.ctf_wire.specs.contracts.histories.PullHistory as T
-use Rattle.ctf_wire.specs.contracts.histories.PullHistory.new.Key.{name as #it}
-use Rattle.ctf_wire.specs.contracts.histories.PullHistory.new as it
-use Rattle.ctf_wire.proofs.histories.PullHistory.new.Statement as stated
-use Rattle.ctf_wire.proofs.histories.PullHistory.new.Code as code
+use Rattle.ctf_wire.specs.declared.history.History.{History}
+use Rattle.ctf_wire.specs.contracts.history.History as T
+use Rattle.ctf_wire.specs.contracts.history.History.new.Key.{name as #it}
+use Rattle.ctf_wire.specs.contracts.history.History.new as it
+use Rattle.ctf_wire.proofs.history.History.new.Statement as stated
+use Rattle.ctf_wire.proofs.history.History.new.Code as code
 
 abbrev v : Val
 v = vstruct (vcons (vstruct vnil) vnil)
 
-abbrev r : PullHistory
-r = record { marker = record {}; bytes = [] }
+abbrev r : History
+r = record { marker = record {}; flushes = record { pieces = []; waiting = [] } }
 
 meets : {M : Type 1} {𝓤 : Ura M} (𝓛 : Logic 𝓤) → (at_mem : Memory → SProp 𝓤) (run : Routine → Fun 𝓤) (𝓣 : Tables 𝓤 𝓛.H)
     → Meets 𝓛 it.signature (WpFn 𝓤 𝓛.H 𝓣.C 𝓣.Λ code.function) (it.spec 𝓛 at_mem run)

@@ -25,26 +25,26 @@ use denote.Triple.Entry.{on_entry}
 use denote.Triple.Spec.{Meets, triple_of}
 use denote.Triple.Table.{entered}
 use denote.Triple.Walked.{says, Stays, stay_ref, walk_of, AllGo, Goes-ref, Walks, ends_at, walked, walk_Meets}
-use Rattle.ctf_wire.specs.declared.histories.PushHistory.{PushHistory}
-use Rattle.ctf_wire.specs.contracts.histories.PushHistory as T
-use Rattle.ctf_wire.specs.contracts.histories.PushHistory.note_flush.Key.{name as #it}
-use Rattle.ctf_wire.specs.contracts.histories.PushHistory.note_flush as it
-use Rattle.ctf_wire.proofs.histories.PushHistory.note_flush.Statement as stated
-use Rattle.ctf_wire.proofs.histories.PushHistory.note_flush.Code as code
+use Rattle.ctf_wire.specs.declared.history.History.{History}
+use Rattle.ctf_wire.specs.contracts.history.History as T
+use Rattle.ctf_wire.specs.contracts.history.History.note_flush.Key.{name as #it}
+use Rattle.ctf_wire.specs.contracts.history.History.note_flush as it
+use Rattle.ctf_wire.proofs.history.History.note_flush.Statement as stated
+use Rattle.ctf_wire.proofs.history.History.note_flush.Code as code
 
 abbrev Arg : Type 0
-Arg = MutBor PushHistory × Unit {0}
+Arg = MutBor History × Unit {0}
 
 abbrev stayed : Stays (it.ended).signature.params (it.ended).kept
 stayed = (stay_ref (0 ∷ []) tt (plain (λ _. T.the_row)), tt)
 
-module _ {M : Type 1} {𝓤 : Ura M} (𝓛 : Logic 𝓤) (at_mem : Memory → SProp 𝓤) (run : Routine → Fun 𝓤) (κ : Lft) (q : Share) (b o : ℕ) (γ : GName) (h : PushHistory) where
+module _ {M : Type 1} {𝓤 : Ura M} (𝓛 : Logic 𝓤) (at_mem : Memory → SProp 𝓤) (run : Routine → Fun 𝓤) (κ : Lft) (q : Share) (b o : ℕ) (γ : GName) (h : History) where
   open 𝓛 use {H, A}
 
   abbrev x : Arg
   x = (record { ref_ptr = (b, o); ghost_name = γ; now = h }, tt)
 
-  abbrev h' : PushHistory
+  abbrev h' : History
   h' = record { marker = h.marker; flushes = record { pieces = h.flushes.pieces ++ h.flushes.waiting ∷ []; waiting = [] } }
 
   abbrev at : List Val × Unit {0}
