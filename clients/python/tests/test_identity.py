@@ -268,7 +268,7 @@ class Statuses(WithFiles):
         self.assertEqual((self.folder / "piped").read_bytes(), whole)
         done = command("ctfd-convert", file, "-", "--report", "-")
         self.assertEqual((done.returncode, done.stdout), (2, ""))
-        self.assertIn("two outputs are one file", done.stderr)
+        self.assertIn("--report, --split and OUT must be different files", done.stderr)
 
     @unittest.skipUnless(TOOLS, "no gcc or objcopy here")
     def test_what_is_lost_often_is_told_once(self) -> None:

@@ -120,7 +120,7 @@ class ElfFiles(WithService):
             elf(ctf, 2, bytes(16), b"\0int\0", BITS_32)))
         self.assertEqual((slot.model, slot.how), ("ilp32", "unread"))
         self.assertEqual((slot.type(1).name, slot.type(2).size), ("int", 4))
-        with self.assertRaisesRegex(ctfd.Unreadable, "one of 32 bits, which is not read"):
+        with self.assertRaisesRegex(ctfd.Unreadable, "has 32 bits, which is not read"):
             slot.symbol("main")
         for ask in (slot.object, slot.function):
             self.assertRaises(ctfd.Unreadable, ask, 1)
