@@ -44,7 +44,7 @@ from pathlib import Path
 from typing import Iterator
 
 TOP = Path(__file__).resolve().parents[1]
-PAGES = ("README.md", "docs/COOKBOOK.md", "docs/C.md", "docs/DUMP.md")
+PAGES = ("README.md", "docs/COOKBOOK.md", "docs/C.md", "docs/DUMP.md", "docs/SERVING.md")
 COPIED = ("README.md", "Makefile", "HANDLES", "crates.txt", "crates", "clients", "docs", "examples",
           "tests")
 RECIPE = "/tmp/recipe"

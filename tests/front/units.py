@@ -15,7 +15,7 @@ from typing import Iterator
 
 from support import TOP
 
-UNIT = re.compile(r"^`/etc/systemd/system/([\w@.-]+)`:\n\n```\n(.*?)^```$",
+UNIT = re.compile(r"^`/etc/systemd/system/([\w@.-]+)`:\n\n<!-- [^\n]* -->\n```\n(.*?)^```$",
                   re.MULTILINE | re.DOTALL)
 WANTED = {"ctfd.socket", "ctfd@.service", "ctfd-front.socket", "ctfd-front.service"}
 

@@ -5,7 +5,33 @@ use ctf_command::{
     Bytes, DataModel, DumpEnd, InputFile, Inputs, MISUSED, dump_lists, model_named, read_file,
 };
 use std::io;
-use std::io::BufWriter;
+use std::io::{BufWriter, ErrorKind, Write};
+
+/// The status of a program that SIGPIPE ended, as a shell tells it.
+const READER_LEFT: u8 = 141;
+
+/// A writer that notes whether its reader has left.
+#[derive(Drop)]
+struct Watched<W> {
+    writer: W,
+    has_left: bool,
+}
+
+impl<W: Write> Write for Watched<W> {
+    fn write(&mut self, buf: &[u8]) -> io::Result<usize> {
+        match self.writer.write(buf) {
+            Ok(n) => Ok(n),
+            Err(error) => {
+                self.has_left = error.kind() == ErrorKind::BrokenPipe;
+                Err(error)
+            }
+        }
+    }
+
+    fn flush(&mut self) -> io::Result<()> {
+        self.writer.flush()
+    }
+}
 
 /// The file with a name.
 fn read<'a>(rt: &HostRuntime, name: &'a str) -> Result<InputFile<'a>, DumpEnd<'a>> {
@@ -25,7 +51,8 @@ fn read_option<'a>(
     }
 }
 
-/// Reads the files, dumps them, and answers the exit status; an error where not all were read.
+/// Reads the files, dumps them, and answers the exit status; an error where not all were read. Where
+/// the reader of the text has left, nothing is said, as by a program that SIGPIPE ends.
 fn dump_files<'a>(
     rt: &HostRuntime,
     words: &ArgMatches<'a>,
@@ -38,10 +65,21 @@ fn dump_files<'a>(
         str: read_option(rt, words, "str")?,
         model,
     };
-    let Ok(mut out) = BufWriter::new(rt.alloc(), io::writer(rt)) else {
+    let mut watched = Watched {
+        writer: io::writer(rt),
+        has_left: false,
+    };
+    let mut said = Vec::new(rt.alloc());
+    let Ok(mut out) = BufWriter::new(rt.alloc(), &mut watched) else {
         return Err(DumpEnd::Memory);
     };
-    Ok(dump_lists(rt.alloc(), inputs, &mut out, &mut rt.stderr()))
+    let status = dump_lists(rt.alloc(), inputs, &mut out, &mut said);
+    drop(out);
+    if watched.has_left {
+        return Ok(READER_LEFT);
+    }
+    let _ = rt.stderr().write_all(&said);
+    Ok(status)
 }
 
 /// Dumps the files that the words name, and answers the exit status.
