@@ -144,6 +144,63 @@ gdb -batch -nx -ex "add-symbol-file object.debug $placed" -ex 'info address stbi
     -ex 'print &stbi__de_iphone_flag_global' > seen 2>&1
 count "a function where a module is" grep -q 'is a function at address 0x100000\.$' seen
 count "an object where a module is" grep -q '(int \*) 0x200000 <stbi' seen
+# A kernel's module: sections of many names, put where the kernel put them, and a child of the
+# kernel's types. `ctf load` takes the file that `add-symbol-file` has placed.
+gcc -g -O1 -w -c "$tests/module_one.c" "$tests/module_two.c"
+ld -r -o module.g module_one.o module_two.o
+gcc -g -w -shared -o kernel.so "$tests/kernel.c"
+client ctfd-convert kernel.so kernel.types > said 2>&1 || cat said
+client ctfd-convert --parent kernel.types --section module.g module.ctf > said 2>&1 || cat said
+objcopy --strip-debug module.ctf module
+count "the debug file of a module" client ctfd-debuginfo module --parent kernel.types \
+    --symbols module.g module.debug
+count "module.debug is right" llvm-dwarfdump --verify module.debug
+placed=$("$tests/placed.py" module)
+
+# compared_placed NAME: both kinds of debug information, of a module that a kernel has loaded, but
+# for the names that two files have.
+compared_placed() {
+    local name=$1 out
+    rm -f names
+    asked first "" -ex "add-symbol-file $name.g $placed"
+    sed -i -E 's/"(count|open_device)", //g' names
+    for out in first again; do asked $out "" -ex "add-symbol-file $name.g $placed"; done
+    asked ours "" -ex "add-symbol-file $name.debug $placed"
+    "$tests/compare.py" "$tests/known.txt" first again ours
+}
+
+count "a module" compared_placed module
+grep same said
+for name in module.g module.debug; do
+    gdb -batch -nx -ex "add-symbol-file $name $placed" -ex "print &'module_one.c'::count" \
+        -ex "print &'module_two.c'::count" -ex "print &'module_one.c'::open_device" \
+        -ex "print &'module_two.c'::open_device" 2>&1 | grep '^\$' > seen.$name
+done
+count "names of two files of a module" diff seen.module.g seen.module.debug
+count "which are four" [ "$(sed 's/.* //' seen.module.debug | wc -l)" = 4 ]
+
+# loaded WORD..: what gdb says by the plug-in of a module, which the words have placed.
+loaded() {
+    gdb -batch -nx -iex 'set architecture i386:x86-64' -ex "source $top/clients/gdb/ctfgdb.py" \
+        -ex "${1:-echo}" -ex 'ctf load module kernel.types' -ex 'print &operations' \
+        -ex 'ctf print &operations' -ex 'ctf print close_device' -ex 'ctf print &count' \
+        > seen 2>&1 || true  # gdb's last command fails
+}
+
+loaded "add-symbol-file module $placed"
+address=${placed#*-s .data.rel.ro }
+wanted="(const struct operations *) ${address%% *} <operations>"
+count "an object of a module by print" grep -Fqx "\$1 = $wanted" seen
+count "and by ctf print" grep -Fqx "$wanted" seen
+address=$(nm module | sed -n 's/^0*\(.*\) T close_device$/\1/p')
+address=$(printf '0x%x' $((${placed%% *} + 0x$address)))
+wanted="{int (struct device *, long int)} $address <close_device>"
+count "a function of a module" grep -Fqx "$wanted" seen
+count "a name of two files of a module" \
+    grep -q '^module is an object file with several symbols count: ' seen
+loaded
+count "a module that gdb has not placed" \
+    grep -q '^module is an object file, whose sections have no addresses: ' seen
 if command -v clang > /dev/null; then
     for target in aarch64 riscv64 armv7; do
         clang --target=$target-linux-gnu -g -w -c -o other.g "$tests/waits.c" -I. 2> said &&
