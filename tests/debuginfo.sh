@@ -80,6 +80,15 @@ program.load_debug_info(sys.argv[1:])
 print(drgn.sizeof(program.type("struct stbtt_fontinfo")))' "$1")" = 160 ]
 }
 
+# says_6 PID DEBUG: drgn reads a variable of a process, whose program is at fixed addresses.
+says_6() {
+    [ "$(/usr/bin/python3 -c '
+import drgn, sys
+program = drgn.program_from_pid(int(sys.argv[1]))
+program.load_debug_info(sys.argv[2:])
+print(program["first"].next.y.value_())' "$@")" = 6 ]
+}
+
 # added NAME [DEBUG]: gdb's words by which a file gets its debug file, NAME.debug or DEBUG.debug.
 added() {
     echo "python next(it for it in gdb.objfiles() if it.filename.endswith('/$1'))" \
@@ -260,6 +269,11 @@ else
 fi
 if /usr/bin/python3 -c 'import drgn' 2> /dev/null; then
     count "drgn" says_160 stb.debug
+    made fixed -no-pie -fno-pie "$tests/waits.c"
+    ./fixed &
+    pid=$!
+    count "a variable in drgn, of a process" says_6 $pid fixed.debug
+    kill $pid
 else
     echo "not possible here: Debian's Python has no drgn"
 fi
@@ -315,6 +329,29 @@ if lldb -b -o 'script import lldb; print(lldb.SBTarget)' 2>&1 | grep -q "^<class
         -o ctfload -o 'expression sizeof(struct point)' -o 'target variable first' > seen 2>&1
     count "ctfload in lldb" grep -q '^(unsigned long) \$0 = 16$' seen
     count "a variable in lldb" grep -q '^  y = 4$' seen
+    ./waits &
+    pid=$!
+    lldb -b -o "command script import $top/clients/lldb/ctfdlldb.py" -o 'target create waits' \
+        -o ctfload -o "process attach -p $pid" -o 'target variable *first.next' \
+        -o 'expression first.next == &last' > seen 2>&1
+    kill $pid
+    count "a variable in lldb, attached" grep -q '^  y = 6$' seen
+    count "and its address" grep -q '^(bool) \$0 = true$' seen
+    lldb -b -o "command script import $top/clients/lldb/ctfdlldb.py" -o 'target create user' \
+        -o 'breakpoint set -n stb_main' -o run -o "ctfload $work/libstb.so" \
+        -o 'expression sizeof(stbtt_fontinfo)' -o 'expression stbi__de_iphone_flag_global = 7' \
+        -o 'target variable stbi__de_iphone_flag_global' -o kill > seen 2>&1
+    count "a library's type in lldb" grep -q '^(unsigned long) \$0 = 160$' seen
+    count "its variable" grep -q '^(int) stbi__de_iphone_flag_global = 7$' seen
+    lldb -b -o "command script import $top/clients/lldb/ctfdlldb.py" \
+        -o "target create --arch x86_64 $work/module" -o ctfload > seen 2>&1 || true
+    count "an object file in lldb" grep -q 'module is an object file, in which lldb takes' seen
+    lldb -b -o "target create --arch x86_64 module.debug" \
+        -o "target modules load -f module.debug .text 0x1000000 .data.rel.ro 0x2000000" \
+        -o 'image lookup -vs operations' -o 'image lookup -vn close_device' > seen 2>&1
+    count "an object of a module in lldb" grep -q 'range = \[0x0000000002000000-' seen
+    count "a function of a module in lldb" \
+        grep -q 'Function: .*"close_device", range = \[0x0000000001000' seen
 else
     echo "not possible here: lldb has no Python"
 fi
