@@ -378,6 +378,24 @@ rm x.debug
 count "another build" says '^ctfd-debuginfo: png is of another build than bare' \
     bare --symbols png x.debug
 count "which leaves no file" [ ! -e x.debug ]
+# Without a build id, what is loaded and the symbols tell.
+for name in one two; do
+    echo "int number_$name = 1; int main(void) { return number_$name; }" > $name.c
+    gcc -g -Wl,--build-id=none -o $name.g $name.c
+    client ctfd-convert --section $name.g $name > said 2>&1 || cat said
+done
+echo 'int number[9] = {1}; int main(void) { return number[0]; }' > longer.c
+gcc -g -Wl,--build-id=none -o longer.g longer.c
+strip -o bare one
+count "symbols by a copy without a build id" says ': [0-9]+ types, [1-9][0-9]* objects' \
+    bare --symbols one.g x.debug
+count "a copy that is loaded otherwise" says '^ctfd-debuginfo: longer.g is of another build than' \
+    bare --symbols longer.g x.debug
+count "a copy with other symbols" \
+    says 'symbols of its .symtab are not those that the types were written for' \
+    bare --symbols two.g x.debug
+count "of which types alone are written" says '^x.debug: [0-9]+ types, 0 objects, 0 functions' \
+    bare --symbols two.g x.debug
 # Types by themselves, beside their program; and a child of a parent's types.
 client ctfd-convert --lossy stb.g stb.types > said 2>&1 || true
 count "a section beside its program" says ' [1-9][0-9]* objects, [1-9][0-9]* functions' \
