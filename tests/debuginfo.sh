@@ -210,6 +210,13 @@ count "a name of two files of a module" \
 loaded
 count "a module that gdb has not placed" \
     grep -q '^module is an object file, whose sections have no addresses: ' seen
+others=$(echo /usr/lib/debug/lib/modules/*/kernel/fs/fuse/fuse.ko)
+if [ -f "${others##* }" ]; then
+    count "a module by others" "$tests/module.sh" "$program" "${others##* }"
+    sed -n '/asked/s/^/a module by others: /p' said
+else
+    echo "not run: no module with debug information here (Debian: linux-image-..-dbg)"
+fi
 if command -v clang > /dev/null; then
     for target in aarch64 riscv64 armv7; do
         clang --target=$target-linux-gnu -g -w -c -o other.g "$tests/waits.c" -I. 2> said &&
