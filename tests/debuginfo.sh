@@ -80,6 +80,15 @@ program.load_debug_info(sys.argv[1:])
 print(drgn.sizeof(program.type("struct stbtt_fontinfo")))' "$1")" = 160 ]
 }
 
+# says_6 PID DEBUG: drgn reads a variable of a process, whose program is at fixed addresses.
+says_6() {
+    [ "$(/usr/bin/python3 -c '
+import drgn, sys
+program = drgn.program_from_pid(int(sys.argv[1]))
+program.load_debug_info(sys.argv[2:])
+print(program["first"].next.y.value_())' "$@")" = 6 ]
+}
+
 # added NAME [DEBUG]: gdb's words by which a file gets its debug file, NAME.debug or DEBUG.debug.
 added() {
     echo "python next(it for it in gdb.objfiles() if it.filename.endswith('/$1'))" \
@@ -144,6 +153,70 @@ gdb -batch -nx -ex "add-symbol-file object.debug $placed" -ex 'info address stbi
     -ex 'print &stbi__de_iphone_flag_global' > seen 2>&1
 count "a function where a module is" grep -q 'is a function at address 0x100000\.$' seen
 count "an object where a module is" grep -q '(int \*) 0x200000 <stbi' seen
+# A kernel's module: sections of many names, put where the kernel put them, and a child of the
+# kernel's types. `ctf load` takes the file that `add-symbol-file` has placed.
+gcc -g -O1 -w -c "$tests/module_one.c" "$tests/module_two.c"
+ld -r -o module.g module_one.o module_two.o
+gcc -g -w -shared -o kernel.so "$tests/kernel.c"
+client ctfd-convert kernel.so kernel.types > said 2>&1 || cat said
+client ctfd-convert --parent kernel.types --section module.g module.ctf > said 2>&1 || cat said
+objcopy --strip-debug module.ctf module
+count "the debug file of a module" client ctfd-debuginfo module --parent kernel.types \
+    --symbols module.g module.debug
+count "module.debug is right" llvm-dwarfdump --verify module.debug
+placed=$("$tests/placed.py" module)
+
+# compared_placed NAME: both kinds of debug information, of a module that a kernel has loaded, but
+# for the names that two files have.
+compared_placed() {
+    local name=$1 out
+    rm -f names
+    asked first "" -ex "add-symbol-file $name.g $placed"
+    sed -i -E 's/"(count|open_device)", //g' names
+    for out in first again; do asked $out "" -ex "add-symbol-file $name.g $placed"; done
+    asked ours "" -ex "add-symbol-file $name.debug $placed"
+    "$tests/compare.py" "$tests/known.txt" first again ours
+}
+
+count "a module" compared_placed module
+grep same said
+for name in module.g module.debug; do
+    gdb -batch -nx -ex "add-symbol-file $name $placed" -ex "print &'module_one.c'::count" \
+        -ex "print &'module_two.c'::count" -ex "print &'module_one.c'::open_device" \
+        -ex "print &'module_two.c'::open_device" 2>&1 | grep '^\$' > seen.$name
+done
+count "names of two files of a module" diff seen.module.g seen.module.debug
+count "which are four" [ "$(sed 's/.* //' seen.module.debug | wc -l)" = 4 ]
+
+# loaded WORD..: what gdb says by the plug-in of a module, which the words have placed.
+loaded() {
+    gdb -batch -nx -iex 'set architecture i386:x86-64' -ex "source $top/clients/gdb/ctfgdb.py" \
+        -ex "${1:-echo}" -ex 'ctf load module kernel.types' -ex 'print &operations' \
+        -ex 'ctf print &operations' -ex 'ctf print close_device' -ex 'ctf print &count' \
+        > seen 2>&1 || true  # gdb's last command fails
+}
+
+loaded "add-symbol-file module $placed"
+address=${placed#*-s .data.rel.ro }
+wanted="(const struct operations *) ${address%% *} <operations>"
+count "an object of a module by print" grep -Fqx "\$1 = $wanted" seen
+count "and by ctf print" grep -Fqx "$wanted" seen
+address=$(nm module | sed -n 's/^0*\(.*\) T close_device$/\1/p')
+address=$(printf '0x%x' $((${placed%% *} + 0x$address)))
+wanted="{int (struct device *, long int)} $address <close_device>"
+count "a function of a module" grep -Fqx "$wanted" seen
+count "a name of two files of a module" \
+    grep -q '^module is an object file with several symbols count: ' seen
+loaded
+count "a module that gdb has not placed" \
+    grep -q '^module is an object file, whose sections have no addresses: ' seen
+others=$(echo /usr/lib/debug/lib/modules/*/kernel/fs/fuse/fuse.ko)
+if [ -f "${others##* }" ]; then
+    count "a module by others" "$tests/module.sh" "$program" "${others##* }"
+    sed -n '/asked/s/^/a module by others: /p' said
+else
+    echo "not run: no module with debug information here (Debian: linux-image-..-dbg)"
+fi
 if command -v clang > /dev/null; then
     for target in aarch64 riscv64 armv7; do
         clang --target=$target-linux-gnu -g -w -c -o other.g "$tests/waits.c" -I. 2> said &&
@@ -203,6 +276,11 @@ else
 fi
 if /usr/bin/python3 -c 'import drgn' 2> /dev/null; then
     count "drgn" says_160 stb.debug
+    made fixed -no-pie -fno-pie "$tests/waits.c"
+    ./fixed &
+    pid=$!
+    count "a variable in drgn, of a process" says_6 $pid fixed.debug
+    kill $pid
 else
     echo "not possible here: Debian's Python has no drgn"
 fi
@@ -258,6 +336,29 @@ if lldb -b -o 'script import lldb; print(lldb.SBTarget)' 2>&1 | grep -q "^<class
         -o ctfload -o 'expression sizeof(struct point)' -o 'target variable first' > seen 2>&1
     count "ctfload in lldb" grep -q '^(unsigned long) \$0 = 16$' seen
     count "a variable in lldb" grep -q '^  y = 4$' seen
+    ./waits &
+    pid=$!
+    lldb -b -o "command script import $top/clients/lldb/ctfdlldb.py" -o 'target create waits' \
+        -o ctfload -o "process attach -p $pid" -o 'target variable *first.next' \
+        -o 'expression first.next == &last' > seen 2>&1
+    kill $pid
+    count "a variable in lldb, attached" grep -q '^  y = 6$' seen
+    count "and its address" grep -q '^(bool) \$0 = true$' seen
+    lldb -b -o "command script import $top/clients/lldb/ctfdlldb.py" -o 'target create user' \
+        -o 'breakpoint set -n stb_main' -o run -o "ctfload $work/libstb.so" \
+        -o 'expression sizeof(stbtt_fontinfo)' -o 'expression stbi__de_iphone_flag_global = 7' \
+        -o 'target variable stbi__de_iphone_flag_global' -o kill > seen 2>&1
+    count "a library's type in lldb" grep -q '^(unsigned long) \$0 = 160$' seen
+    count "its variable" grep -q '^(int) stbi__de_iphone_flag_global = 7$' seen
+    lldb -b -o "command script import $top/clients/lldb/ctfdlldb.py" \
+        -o "target create --arch x86_64 $work/module" -o ctfload > seen 2>&1 || true
+    count "an object file in lldb" grep -q 'module is an object file, in which lldb takes' seen
+    lldb -b -o "target create --arch x86_64 module.debug" \
+        -o "target modules load -f module.debug .text 0x1000000 .data.rel.ro 0x2000000" \
+        -o 'image lookup -vs operations' -o 'image lookup -vn close_device' > seen 2>&1
+    count "an object of a module in lldb" grep -q 'range = \[0x0000000002000000-' seen
+    count "a function of a module in lldb" \
+        grep -q 'Function: .*"close_device", range = \[0x0000000001000' seen
 else
     echo "not possible here: lldb has no Python"
 fi
@@ -284,6 +385,24 @@ rm x.debug
 count "another build" says '^ctfd-debuginfo: png is of another build than bare' \
     bare --symbols png x.debug
 count "which leaves no file" [ ! -e x.debug ]
+# Without a build id, what is loaded and the symbols tell.
+for name in one two; do
+    echo "int number_$name = 1; int main(void) { return number_$name; }" > $name.c
+    gcc -g -Wl,--build-id=none -o $name.g $name.c
+    client ctfd-convert --section $name.g $name > said 2>&1 || cat said
+done
+echo 'int number[9] = {1}; int main(void) { return number[0]; }' > longer.c
+gcc -g -Wl,--build-id=none -o longer.g longer.c
+strip -o bare one
+count "symbols by a copy without a build id" says ': [0-9]+ types, [1-9][0-9]* objects' \
+    bare --symbols one.g x.debug
+count "a copy that is loaded otherwise" says '^ctfd-debuginfo: longer.g is of another build than' \
+    bare --symbols longer.g x.debug
+count "a copy with other symbols" \
+    says 'symbols of its .symtab are not those that the types were written for' \
+    bare --symbols two.g x.debug
+count "of which types alone are written" says '^x.debug: [0-9]+ types, 0 objects, 0 functions' \
+    bare --symbols two.g x.debug
 # Types by themselves, beside their program; and a child of a parent's types.
 client ctfd-convert --lossy stb.g stb.types > said 2>&1 || true
 count "a section beside its program" says ' [1-9][0-9]* objects, [1-9][0-9]* functions' \

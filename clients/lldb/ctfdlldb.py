@@ -33,6 +33,7 @@ def load(debugger: lldb.SBDebugger, words: str, result: lldb.SBCommandReturnObje
         result.SetError("there is no target: `target create FILE` first")
         return
     try:
+        refuse_object_file(path)
         with ctfd.Client() as client:
             made = WRITER.written(client, Wanted(path))
     except ctfd.Error as error:
@@ -40,6 +41,20 @@ def load(debugger: lldb.SBDebugger, words: str, result: lldb.SBCommandReturnObje
         return
     words = f"--shlib {shlex.quote(path)} {shlex.quote(str(made))}"
     debugger.HandleCommand(f"target symbols add {words}")
+
+
+def refuse_object_file(path: str) -> None:
+    """lldb 14 puts the symbols of an object file's separate debug file at the wrong addresses,
+    those of the compiler's too."""
+    try:
+        with open(path, "rb") as file:
+            kind = file.read(18)[16:]
+    except OSError as error:
+        raise ctfd.Error(f"{path}: {error.strerror}") from error
+    if kind == b"\1\0":
+        raise ctfd.Error(f"{path} is an object file, in which lldb takes addresses from no"
+                         " separate debug file: ctfd-debuginfo writes OUT, then `target create"
+                         " OUT` and `target modules load -f OUT .text ADDRESS`")
 
 
 def __lldb_init_module(debugger: lldb.SBDebugger, _: dict[str, Any]) -> None:

@@ -57,6 +57,8 @@ class Quotes(unittest.TestCase):
         self.assertEqual(quoted(b"ab" + b"c" * 11 + b"d", 200, 10),
                          "\"ab\", 'c' <repeats 11 times>, \"d\"")
         self.assertEqual(quoted(b"c" * 10, 200, 10), '"cccccccccc"')
+        self.assertEqual(quoted(b'"' * 11, 200, 10), "'\\\"' <repeats 11 times>")
+        self.assertEqual(quoted(b"'" * 11, 200, 10), "''' <repeats 11 times>")
         self.assertEqual(quoted(b"abcdef", 4, 10), '"abcd"...')
         self.assertEqual(quoted(b"abccc", 3, 10), '"abccc"')
         self.assertEqual(quoted(b"c" * 300, 4, 0), '"' + "c" * 300 + '"')

@@ -72,6 +72,8 @@ class Large(WithService):
         self.assertEqual(told, Parts([Leaf("5"), Leaf("6"), Lost("ShortMemory")], 200_000))
         with self.assertRaisesRegex(Error, "nothing is there"):
             values([Wanted(types.type(1), 8)], read)
+        with self.assertRaisesRegex(Error, "nothing is there"):
+            values([Wanted(types.type(2), 8)], read)
 
     def test_long_arrays_of_characters_are_taken_from_memory(self) -> None:
         types = self.opened(dictionary([integer(INT), character(), array(2, 1_000_000)], NAMES))

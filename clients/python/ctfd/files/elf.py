@@ -14,8 +14,10 @@ NOBITS, SYMTAB, STRTAB, DYNSYM = 8, 2, 3, 11
 COMPRESSED = 0x800
 EXTENDED = 0xFFFF
 RELOCATABLE = 1
+ALLOCATED = 2
 ENTRY = 24
 LONGEST_NAME = 4096
+PAGE = 4096
 OBJECT, FUNCTION = 1, 2
 SYMBOL = struct.Struct("<IBBHQQ")  # of 64 bits: the service reads no others
 SYMBOL_32 = struct.Struct("<IIIBBH")
@@ -147,6 +149,16 @@ class Elf:
     def entry(self) -> int:
         """The address at which the program begins."""
         return self._address(ENTRY)
+
+    def places(self) -> List[int]:
+        """Where each section is put, so that no two symbols of an object file have one address:
+        there the addresses of each section begin at 0. In a linked file they stand as they are."""
+        made, place = [], PAGE
+        for one in self.sections:
+            is_put = self.kind == RELOCATABLE and one.flags & ALLOCATED
+            made.append(place if is_put else 0)
+            place += (one.size + PAGE - 1) // PAGE * PAGE if is_put else 0
+        return made
 
     def named(self, name: str) -> Optional[Section]:
         """The first section of a name."""

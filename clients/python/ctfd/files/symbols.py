@@ -117,7 +117,7 @@ def table_of(file: Elf, name: str) -> Optional[SymbolTable]:
 
 
 def _considered(file: Elf, table: Section, names: Section) -> Iterator[Wanted]:
-    strings = Strings(file.bytes(names))
+    strings, places = Strings(file.bytes(names)), file.places()
     for offset, address, kind, section in _entries(file, file.bytes(table)):
         if kind not in (elf.OBJECT, elf.FUNCTION) or not section or not offset:
             continue
@@ -128,7 +128,8 @@ def _considered(file: Elf, table: Section, names: Section) -> Iterator[Wanted]:
                              ) from error
         is_nothing = kind == elf.OBJECT and section == ABSOLUTE and not address
         if name and name not in MARKS and not is_nothing:
-            yield Wanted(name, address, kind == elf.FUNCTION)
+            place = places[section] if section < len(places) else 0
+            yield Wanted(name, address + place, kind == elf.FUNCTION)
 
 
 def _entries(file: Elf, table: bytes) -> Iterator[Tuple[int, int, int, int]]:

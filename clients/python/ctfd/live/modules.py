@@ -6,7 +6,7 @@ import struct
 from typing import List, NamedTuple, Optional
 
 from ..client.faults import Unreadable
-from ..debuginfo.image import Image
+from ..debuginfo.image import Image, Symbol
 from ..files import source
 from ..files.elf import MAGIC, NOBITS
 from ..files.mapped import linked
@@ -15,6 +15,7 @@ from .space import MappedFile, PAGE, Space
 LOAD, NOTE = 1, 4
 BUILD_ID = 3
 LONGEST_NOTES = 4096
+HIGHEST = 4  # behind all ranks of symbols
 
 
 class OtherBuild(Unreadable):
@@ -27,11 +28,17 @@ class OtherBuild(Unreadable):
 
 
 class Place(NamedTuple):
-    """A symbol's place in memory."""
+    """A symbol's place in memory. Of several at one address that of the highest rank is told: one
+    that has a size, and then one that other files see."""
 
     address: int
+    rank: int
     name: str
     size: int
+
+
+def _rank(symbol: Symbol) -> int:
+    return 2 * bool(symbol.size) + symbol.is_global
 
 
 class Module:
@@ -77,7 +84,7 @@ class Module:
         if self._places is None:
             image = self.image
             table = image.elf.named(".symtab") or image.elf.named(".dynsym")
-            self._places = sorted(Place(one.address + self.slide, one.name, one.size)
+            self._places = sorted(Place(one.address + self.slide, _rank(one), one.name, one.size)
                                   for one in image.symbols(table))
         return self._places
 
@@ -87,7 +94,7 @@ class Module:
 
     def label(self, address: int) -> str:
         """The symbol at an address as `<main+4>`, or ""."""
-        number = bisect.bisect_right(self.places, Place(address, "\U0010ffff", 0)) - 1
+        number = bisect.bisect_right(self.places, Place(address, HIGHEST, "", 0)) - 1
         place = self.places[number] if number >= 0 else None
         if place is None or address - place.address >= max(1, place.size):
             return ""

@@ -145,7 +145,7 @@ class Load(Command):
             raise BadExpression("No executable file specified.  Use the \"file\" command, or"
                                 " \"ctf load FILE\".")
         found = STATE.open(words[0])
-        parent = STATE.open(words[1]) if len(words) > 1 else None
+        parent = STATE.open(words[1], found.types.model) if len(words) > 1 else None
         one = Loaded(found, parent)
         try:
             if parent:

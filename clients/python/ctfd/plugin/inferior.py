@@ -65,7 +65,7 @@ class Inferior:
         for one in self.loaded:
             if name in one.program.symbols:
                 with contextlib.suppress(ctfd.NotFound):
-                    return one.program.symbol(name, one.slide())
+                    return one.symbol(name)
         try:
             address = int(gdb.parse_and_eval(f"(unsigned long) &'{name}'"))
         except gdb.error:

@@ -10,8 +10,8 @@ import gdb
 import ctfd
 from ..text import printable
 from ..files import source
-from ..files.elf import Elf
-from ..values.operands import BadExpression, Code, Located
+from ..files.elf import RELOCATABLE, Elf
+from ..values.operands import BadExpression, Code, Located, Operand
 from ..values.program import Program
 from ..view.declare import declaration, function
 
@@ -46,6 +46,29 @@ class Loaded:
         if found is None:
             raise BadExpression(f"{self.program.path} is not part of the program")
         return found
+
+    def symbol(self, name: str) -> Operand:
+        """What a name stands for, where that is in memory. Raises NotFound."""
+        if self.program.image is None or self.program.image.kind != RELOCATABLE:
+            return self.program.symbol(name, self.slide())
+        if len(self.program.symbols.get(name, [])) > 1:
+            raise BadExpression(f"{self.program.path} is an object file with several symbols"
+                                f" {name}: gdb's own print takes that of the file in which the"
+                                " program stands")
+        found = self.program.symbol(name, 0)
+        assert isinstance(found, (Code, Located))
+        return found._replace(address=self._placed(name))
+
+    def _placed(self, name: str) -> int:
+        """Where gdb has put a name of an object file, which it knows by the debug file of it."""
+        for one in gdb.objfiles():
+            if one.owner is None and one.filename and _same(one.filename, self.program.path):
+                found = one.lookup_global_symbol(name) or one.lookup_static_symbol(name)
+                if found is not None:
+                    return int(found.value().address)
+        raise BadExpression(f"{self.program.path} is an object file, whose sections have no"
+                            f" addresses: \"add-symbol-file\", then \"ctf load\", so that gdb tells"
+                            f" that of {name}; or cast an address, as *(TYPE *) ADDRESS")
 
     def _slide_of_library(self) -> Optional[int]:
         """By where gdb says that its section .text is."""

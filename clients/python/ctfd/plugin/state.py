@@ -8,6 +8,7 @@ from typing import List, Optional, Tuple
 import gdb
 
 import ctfd
+from ..client.model import Model
 from ..text import printable
 from ..convert.conversion import converted
 from ..files.source import Source
@@ -39,8 +40,9 @@ class State:
             self.service = client, client.session()
         return self.service[0]
 
-    def open(self, path: str) -> Program:
-        """A file's dictionary; a section by itself is taken to be of gdb's program.
+    def open(self, path: str, model: Optional[Model] = None) -> Program:
+        """A file's dictionary; a section by itself is taken to be of that model, else of gdb's
+        program.
 
         The service is the program that CTFD in the environment names, else it is looked for. Of a
         program without CTF it is made of its debug information.
@@ -52,7 +54,8 @@ class State:
         self.client()
         assert self.service
         path = os.path.expanduser(path)
-        return program.open_program(self.service[1], path, model_of_program(), _converted)
+        return program.open_program(self.service[1], path, model or model_of_program(),
+                                    _converted)
 
     def close(self) -> None:
         """Ends the service, and with it all that was loaded."""

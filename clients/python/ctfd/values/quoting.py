@@ -58,7 +58,8 @@ def quoted(codes: Sequence[int], limit: int, repeats: int, more: bool = False,
         printed += length
         if repeats and length > repeats:
             segments += [_plain(plain, before)] if plain else []
-            segments.append(f"{one(code, before)} <repeats {length} times>")
+            told = character(code, '"')  # gdb escapes the quote of the text here too
+            segments.append(f"{before}'{told}' <repeats {length} times>")
             plain = ""
         else:
             plain += character(code, '"') * length

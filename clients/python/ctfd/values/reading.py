@@ -128,6 +128,8 @@ class Reading:
             piece.put(self._pointer(piece, t.size))
             return False
         if self._is_split(t):
+            if t.size and not piece.is_part:
+                self.read(piece.wanted.at + piece.wanted.bit // 8, 1)  # refused where nothing is
             refused.append((piece, "TooLong"))
             return False
         return True

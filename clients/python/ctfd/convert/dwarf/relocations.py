@@ -29,8 +29,8 @@ MACHINES: Dict[int, Dict[int, str]] = {
 
 
 def relocated(file: Elf, section: Section, data: bytes) -> bytes:
-    """A section of an object file with the addresses and offsets filled in that a linker would.
-    Raises Unreadable."""
+    """A section of an object file with the addresses and offsets filled in that a linker would,
+    which puts the sections of the program at places of their own. Raises Unreadable."""
     tables = [table for table in file.sections
               if table.kind in (RELA, REL) and file.numbered(table.info) is section]
     if not tables:
@@ -70,7 +70,8 @@ def _symbol_values(file: Elf, number: int) -> List[int]:
     table = file.numbered(number)
     if table is None:
         return [0]
-    data = file.bytes(table)
-    if file.model == "lp64":
-        return [one[4] for one in elf.SYMBOL.iter_unpack(elf.whole(data, elf.SYMBOL))]
-    return [one[1] for one in elf.SYMBOL_32.iter_unpack(elf.whole(data, elf.SYMBOL_32))]
+    form = elf.SYMBOL if file.model == "lp64" else elf.SYMBOL_32
+    value, section = (4, 3) if file.model == "lp64" else (1, 5)
+    places = file.places()
+    return [one[value] + (places[one[section]] if one[section] < len(places) else 0)
+            for one in form.iter_unpack(elf.whole(file.bytes(table), form))]

@@ -1,0 +1,33 @@
+#!/usr/bin/env bash
+# Compares what ctfd-show prints of a program that others wrote with what gdb prints by the
+# compiler's debug information.
+# usage: tests/show/others.sh CTFD PROGRAM [WORD]..
+# CTFD is a built ctfd. PROGRAM has debug information, and waits for its input where it is run with
+# the WORDs. Its types are converted to CTF and the debug information is taken away; it runs, and is
+# stopped, so that nothing changes between two answers. gdb is asked for each variable and what is
+# in it (ask.py), and so is ctfd-show, of the process and of a core file (beside.py).
+set -eu
+export CTFD=$(realpath "$1") LC_ALL=C
+tests=$(realpath "$(dirname "$0")")
+client=$(realpath "$tests/../../clients/python")
+program=$(realpath "$2")
+shift 2
+work=$(mktemp -d)
+pids=
+trap 'kill -CONT $pids; kill $pids; rm -r "$work"' EXIT
+cd "$work"
+"$client/ctfd-convert" --lossy --section "$program" with.ctf 2> /dev/null
+objcopy --strip-debug with.ctf runs
+mkfifo input
+sleep 1000 > input &
+pids=$!
+./runs "$@" < input > output 2>&1 &
+pids="$! $pids"
+sleep 3
+kill -STOP $!
+OUT=asked gdb -batch -nx -iex 'set debug-file-directory /none' -p $! -x "$tests/ask.py" \
+    -ex 'generate-core-file core' "$program" > log 2>&1 || { cat log; exit 1; }
+echo "the process:"
+"$tests/beside.py" "$client" asked --pid $!
+echo "its core file:"
+"$tests/beside.py" "$client" asked --core core | tail -n 1
