@@ -11,12 +11,12 @@ from pathlib import Path
 from typing import List
 
 import ctfd
-from ctfd import identity, several, source, symbols
-from ctfd.elf import Elf
-from ctfd.program import open_program
-from ctfd.records import Record, Table
-from ctfd.symbols import DYNSYM, SYMTAB, Names, Wanted, considered, made_table
-from ctfd.written import written
+from ctfd.convert.written import written
+from ctfd.files import identity, several, source, symbols
+from ctfd.files.elf import Elf
+from ctfd.files.symbols import DYNSYM, Names, SYMTAB, Wanted, considered, made_table
+from ctfd.layout.records import Record, Table
+from ctfd.values.program import open_program
 
 from .support import PROGRAM as SERVICE, TOOLS, compiles
 from .test_convert import CODE, COMMAND, WithFiles
