@@ -41,7 +41,7 @@ help:
 	@echo 'make check        runs every test over these, JOBS=$(JOBS) at a time: the last line is'
 	@echo '                  "N passed, M failed"'
 	@echo 'make check CTFD=P runs the tests over the program P'
-	@echo 'make check-all    runs them with all cases of those that try a share; some hours'
+	@echo 'make check-all    runs them with all cases of those that try a share; 25 minutes'
 	@echo 'make prove        checks every proof, and puts what the kit builds in place of these'
 	@echo 'STRICT=1          makes check fail where the machine lacks what a test needs'
 	@echo 'make install      puts what make built, headers, manual pages and the Python package'
