@@ -1,0 +1,68 @@
+"""What the calls of a run move where none fails, from its input and its output alone."""
+from __future__ import annotations
+
+from dataclasses import dataclass
+from itertools import islice
+from typing import Iterable, Iterator
+
+# Replies wait until the lines of a read are answered, unless so many bytes wait before a line.
+BATCH = 65_536
+
+
+@dataclass(frozen=True)
+class Sizes:
+    """How many bytes a read gives at most, and how many a write takes."""
+
+    read: int
+    write: int
+
+
+@dataclass(frozen=True)
+class Point:
+    """How far a run has come: how many calls it has made, and how many bytes it has written."""
+
+    reads: int
+    writes: int
+    written: int
+
+
+def batches(lengths: Iterable[int]) -> Iterator[int]:
+    """The lengths of what is sent at once, of replies with these lengths."""
+    waiting = 0
+    for length in lengths:
+        if waiting >= BATCH:
+            yield waiting
+            waiting = 0
+        waiting += length
+    if waiting:
+        yield waiting
+
+
+class Course:
+    """How far a run has come before each of its reads, and before each of its writes.
+
+    The lines that a read ends are answered before the next one. The last read meets the end, and a
+    line without a newline is answered behind it.
+    """
+
+    def __init__(self, given: bytes, honest: bytes, sizes: Sizes) -> None:
+        self.reads: list[Point] = []
+        self.writes: list[Point] = []
+        self.written = 0
+        lengths = (len(reply) for reply in honest.splitlines(keepends=True))
+        for at in range(0, len(given), sizes.read):
+            self.reads.append(self.point())
+            ended = given[at : at + sizes.read].count(b"\n")
+            self.send(list(islice(lengths, ended)), sizes.write)
+        self.reads.append(self.point())
+        self.send(list(lengths), sizes.write)
+
+    def point(self) -> Point:
+        return Point(len(self.reads), len(self.writes), self.written)
+
+    def send(self, lengths: list[int], most: int) -> None:
+        """Writes replies, a batch after the other."""
+        for batch in batches(lengths):
+            for at in range(0, batch, most):
+                self.writes.append(self.point())
+                self.written += min(most, batch - at)
