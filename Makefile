@@ -37,7 +37,7 @@ deb dist:
 help:
 	@echo 'make              builds the program crates/ctfd/out/ctfd and the library'
 	@echo '                  crates/ctf_c/out/libctfd.a, without checking proofs; beside that'
-	@echo '                  libctfd.so, and the part for ELF files'
+	@echo '                  libctfd.so, and the part for ELF files. It tells each of its steps'
 	@echo 'make check        runs every test over these, JOBS=$(JOBS) at a time: the last line is'
 	@echo '                  "N passed, M failed"'
 	@echo 'make check CTFD=P runs the tests over the program P'
