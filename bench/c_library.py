@@ -4,8 +4,8 @@
 usage: bench/c_library.py [--profile QUESTION] [--no-gnu] [CTF..]
 
 Each CTF is a dictionary of version 2, by itself: examples/lua.ctf where none is named. The archive
-is the one that CTFD_ARCHIVE names, else crates/ctf_c/out/libctfd.a. The same types are written by GNU
-libctf for itself (gnu_dictionary.py), so both are asked of the same.
+is the one that CTFD_ARCHIVE names, else crates/ctf_c/out/libctfd.a. The same types are written by
+GNU libctf for itself (gnu_dictionary.py), so both are asked of the same.
 
 Each question is asked of all that it is for, again and again for some 0.2 s of processor time, five
 times, and the least counts; instructions are what callgrind counts more for more rounds. So what is

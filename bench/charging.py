@@ -3,9 +3,10 @@
 
 usage: charging.py PROGRAM
 
-A session makes a few slots, and then one more, or 1,000, of an empty dictionary each. Then some lines are
-given many times. The instructions of these (callgrind), less those of the same stream without them, are
-told for each time: what a session holds is counted as it changes, and not anew for each request.
+A session makes a few slots, and then one more, or 1,000, of an empty dictionary each. Then some
+lines are given many times. The instructions of these (callgrind), less those of the same stream
+without them, are told for each time: what a session holds is counted as it changes, and not anew
+for each request.
 """
 import re
 import subprocess
@@ -42,7 +43,8 @@ REPEATED = {
     "part": lambda d: line("part", section="str", bytes="00"),
     "open, close": lambda d: "".join(opened(EMPTY)) + line("close", d=d),
     "import": lambda d: line("import", d=1, parent=2),
-    "publish, withdraw": lambda d: line("publish", d=2, name="more") + line("withdraw", name="more"),
+    "publish, withdraw":
+        lambda d: line("publish", d=2, name="more") + line("withdraw", name="more"),
     "take, close": lambda d: line("take", owner=1, name="base") + line("close", d=d),
     "create, close": lambda d: line("create") + line("close", d=d),
     "update": lambda d: line("update", d=3),
@@ -61,7 +63,8 @@ def lines(slots, times, repeated):
 def instructions(program, slots, times, repeated):
     command = ["valgrind", "--tool=callgrind", "--callgrind-out-file=/dev/null", program, "serve"]
     text = "".join(lines(slots, times, repeated)).encode()
-    said = subprocess.run(command, input=text, stdout=subprocess.PIPE, stderr=subprocess.PIPE, check=True)
+    said = subprocess.run(command, input=text, stdout=subprocess.PIPE, stderr=subprocess.PIPE,
+                          check=True)
     if b"fault" in said.stdout:
         sys.exit("a request was refused: " + said.stdout.decode().splitlines()[-1])
     return int(re.search(rb"Collected : (\d+)", said.stderr).group(1))
@@ -69,14 +72,16 @@ def instructions(program, slots, times, repeated):
 
 def each(program, slots, repeated, times=2_000):
     """The instructions of the lines, given once."""
-    counted = instructions(program, slots, times, repeated) - instructions(program, slots, 0, repeated)
+    without = instructions(program, slots, 0, repeated)
+    counted = instructions(program, slots, times, repeated) - without
     return counted / times
 
 
 def main(program):
     for name, repeated in REPEATED.items():
         few, many = (each(program, slots, repeated) for slots in (FEW, MANY))
-        print(f"{name:20} {few:8.0f} instructions with {FEW} slot more, {many:8.0f} with {MANY}: {many / few:.3f}")
+        print(f"{name:20} {few:8.0f} instructions with {FEW} slot more, {many:8.0f} with {MANY}:"
+              f" {many / few:.3f}")
 
 
 if __name__ == "__main__":

@@ -10,7 +10,8 @@ def record(name, kind, vlen, field, rest=b""):
 
 
 def dictionary(types, strings=b"", parname=0):
-    return b"\xf1\xcf\x02\x00" + struct.pack("<8I", 0, parname, 0, 0, 0, 0, len(types), len(strings)) + types + strings
+    words = struct.pack("<8I", 0, parname, 0, 0, 0, 0, len(types), len(strings))
+    return b"\xf1\xcf\x02\x00" + words + types + strings
 
 
 def mixed(count):
@@ -39,7 +40,8 @@ def name_of(i):
 
 
 def named(count):
-    """Visible types, all but the pointers with a name of their own: integers, structs, typedefs, pointers."""
+    """Visible types, all but the pointers with a name of their own: integers, structs, typedefs,
+    pointers."""
     strings, types = bytearray(b"\0"), []
     for i in range(1, count + 1):
         name = len(strings)
@@ -65,9 +67,11 @@ def written(i):
 
 
 def overlapping_names(count, front=16_000_000):
-    """Visible integers whose names overlap: each is the end of one text of one byte, many million times."""
+    """Visible integers whose names overlap: each is the end of one text of one byte, many million
+    times."""
     types = b"".join(
-        record(1 + front // count * i, 1, VISIBLE, 4, struct.pack("<I", 0x01000020)) for i in range(count)
+        record(1 + front // count * i, 1, VISIBLE, 4, struct.pack("<I", 0x01000020))
+        for i in range(count)
     )
     return dictionary(types, b"\0" + front * b"n" + b"\0")
 
@@ -75,7 +79,8 @@ def overlapping_names(count, front=16_000_000):
 def plain_names(count, size=16_000_000):
     """As many visible integers, whose names share the same number of bytes."""
     each = size // count
-    types = b"".join(record(1 + each * i, 1, VISIBLE, 4, struct.pack("<I", 0x01000020)) for i in range(count))
+    types = b"".join(record(1 + each * i, 1, VISIBLE, 4, struct.pack("<I", 0x01000020))
+                     for i in range(count))
     strings = b"".join((b"%d" % i).rjust(each - 1, b"n") + b"\0" for i in range(count))
     return dictionary(types, b"\0" + strings)
 
@@ -108,7 +113,8 @@ def symbol(name, sort, section=1, value=0x1000):
 
 
 def symbols(count):
-    """An integer, and a program with so many symbols: three functions of two arguments, and then an object."""
+    """An integer, and a program with so many symbols: three functions of two arguments, and then an
+    object."""
     offsets, strs = [], bytearray(1)
     for i in range(count):
         offsets.append(len(strs))
@@ -130,7 +136,8 @@ def told(objects, functions):
 
 
 def endless(count):
-    """So many symbols over 16 MiB of strings without a zero byte, so that none of them has a name."""
+    """So many symbols over 16 MiB of strings without a zero byte, so that none of them has a
+    name."""
     table = b"".join(symbol(1 + i, 1) for i in range(count))
     return told(b"", b""), table, 16_777_216 * b"n"
 
@@ -142,10 +149,12 @@ def overlapping(count):
 
 
 def labels(count):
-    """So many labels, each named by the end of the name of the one before it, the first by LONG_NAME."""
+    """So many labels, each named by the end of the name of the one before it, the first by
+    LONG_NAME."""
     at = 8 * count
     header = b"\xf1\xcf\x02\x00" + struct.pack("<8I", 0, 0, 0, at, at, at, at, 0)
-    return header + b"".join(struct.pack("<II", 0x80000001 + i, 1) for i in range(count)), b"", LONG_NAME
+    labels = b"".join(struct.pack("<II", 0x80000001 + i, 1) for i in range(count))
+    return header + labels, b"", LONG_NAME
 
 
 LONG_NAME = b"\0" + 15_000_000 * b"n" + b"\0"
@@ -155,7 +164,8 @@ def long_names():
     """A struct of 1,023 members and an integer, all of the one name in LONG_NAME."""
     name = 0x80000001
     members = 1023 * struct.pack("<IHH", name, 2, 0)
-    return dictionary(record(0, 6, 1023, 4, members) + record(name, 1, 0, 4, struct.pack("<I", 0x01000020)))
+    whole = record(name, 1, 0, 4, struct.pack("<I", 0x01000020))
+    return dictionary(record(0, 6, 1023, 4, members) + whole)
 
 
 def parts(session, data, section="ctf"):

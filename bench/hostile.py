@@ -3,11 +3,12 @@
 
 usage: hostile.py PROGRAM [--growth] [--limit FACTOR] [WORD]..
 
-Each case is a dictionary and one request (or a dump). Told are the megabytes that were read and written, the
-milliseconds of processor time that the request took, the least of three runs, and those for each megabyte.
-Wanted are at most 10 ms for each MB; what takes no more than 5 ms in all is within that. With --limit, the
-status is 1 where a case takes more than FACTOR times as long. With --growth, instructions are counted by
-valgrind for each case and for one of half its size: twice as many are linear. WORDs pick cases by their names.
+Each case is a dictionary and one request (or a dump). Told are the megabytes that were read and
+written, the milliseconds of processor time that the request took, the least of three runs, and
+those for each megabyte. Wanted are at most 10 ms for each MB; what takes no more than 5 ms in all
+is within that. With --limit, the status is 1 where a case takes more than FACTOR times as long.
+With --growth, instructions are counted by valgrind for each case and for one of half its size:
+twice as many are linear. WORDs pick cases by their names.
 """
 import argparse
 import os
@@ -27,8 +28,8 @@ WANTED, LEAST = 10.0, 5.0
 
 @dataclass(frozen=True)
 class Case:
-    """What is asked of a dictionary of a size. `make` gives its lists and a type's number; `ask` gives the fields
-    of a request on it, or None for a dump."""
+    """What is asked of a dictionary of a size. `make` gives its lists and a type's number; `ask`
+    gives the fields of a request on it, or None for a dump."""
 
     name: str
     size: int
@@ -65,10 +66,14 @@ EXPECTED = (b'"TooLong"', b'"NoMember"', b'"LongReply"')
 WINDOW = ',"from":0,"count":20'
 
 CASES = [
-    Case("show: an array of enums, names of 10 bytes that overlap", 32768, lambda n: made.enums(n, 10), show(bytes(32768))),
-    Case("show: the same, names of 10,000 bytes", 32768, lambda n: made.enums(n, 10_000), show(bytes(32768))),
-    Case("show: 300 such enums, names of 1 MB", 32400, lambda n: made.enums(n, MEGABYTE, 300), show(bytes(32768))),
-    Case("show: an enum of 15 MB names", 32768, lambda n: made.enums(n, 15 * MEGABYTE), show(bytes(32768))),
+    Case("show: an array of enums, names of 10 bytes that overlap",
+         32768, lambda n: made.enums(n, 10), show(bytes(32768))),
+    Case("show: the same, names of 10,000 bytes",
+         32768, lambda n: made.enums(n, 10_000), show(bytes(32768))),
+    Case("show: 300 such enums, names of 1 MB",
+         32400, lambda n: made.enums(n, MEGABYTE, 300), show(bytes(32768))),
+    Case("show: an enum of 15 MB names",
+         32768, lambda n: made.enums(n, 15 * MEGABYTE), show(bytes(32768))),
     Case("show: enums of two bytes, 1,023 values", 16384, made.many_values,
          show(b"".join((i * 7919 % 1023).to_bytes(2, "little") for i in range(16384)))),
     Case("show: an array behind 511 typedefs", 32768, made.typedefs, show(bytes(32768))),
@@ -76,9 +81,12 @@ CASES = [
     Case("show: the same, from bit 3 on", 21845, lambda n: made.integers(n, 3), show(bytes(9))),
     Case("show: arrays of nothing, nested 499 deep", 499, made.nested_nothing, show(bytes(8))),
     Case("show: structs of 1,023 empty structs", 32, made.empty_members, show(bytes(8))),
-    Case("path: 1,023 names of 1 MB that overlap", MEGABYTE, made.overlapping_members, path(MEGABYTE - 1022)),
-    Case("path: 1,023 members of one name of 1 MB", MEGABYTE, made.same_members, path(MEGABYTE, b"b")),
-    Case("path: 1,023 names that end elsewhere", MEGABYTE // 2, made.ends_far_off, path(MEGABYTE // 2 + 900)),
+    Case("path: 1,023 names of 1 MB that overlap",
+         MEGABYTE, made.overlapping_members, path(MEGABYTE - 1022)),
+    Case("path: 1,023 members of one name of 1 MB",
+         MEGABYTE, made.same_members, path(MEGABYTE, b"b")),
+    Case("path: 1,023 names that end elsewhere",
+         MEGABYTE // 2, made.ends_far_off, path(MEGABYTE // 2 + 900)),
     Case("name: of 15 MB", 15 * MEGABYTE, made.long_names, word("name")),
     Case("record: a name of 15 MB", 15 * MEGABYTE, made.long_names, word("record")),
     Case("members: 20 of a name of 15 MB", 15 * MEGABYTE, made.long_names, word("members", WINDOW)),
@@ -87,9 +95,12 @@ CASES = [
     Case("open: 699,048 symbols in order", 699_048, lambda n: made.named_symbols(n, range), opened),
     Case("open: the same, shuffled", 699_048, lambda n: made.named_symbols(n, shuffled), opened),
     Case("open: 1,900 unions of 1,023 members", 1900, made.unions, opened),
-    Case("dump: 20,000 symbols of a 15 MB name, untold", 20_000, lambda n: made.untold(n, 15 * MEGABYTE), None),
-    Case("dump: 32,765 pointers to a name of 1 MB", 32765, lambda n: made.pointers(n, MEGABYTE), None),
-    Case("dump: 32,255 pointers, 511 deep, to 65,537 bytes", 32255, lambda n: made.deep_pointers(n, 65537), None),
+    Case("dump: 20,000 symbols of a 15 MB name, untold",
+         20_000, lambda n: made.untold(n, 15 * MEGABYTE), None),
+    Case("dump: 32,765 pointers to a name of 1 MB",
+         32765, lambda n: made.pointers(n, MEGABYTE), None),
+    Case("dump: 32,255 pointers, 511 deep, to 65,537 bytes",
+         32255, lambda n: made.deep_pointers(n, 65537), None),
 ]
 
 
@@ -119,7 +130,8 @@ class Run:
     def commands(self):
         """The command with what is asked and the one without it, each with its input."""
         if self.is_dump:
-            extra = ["--sym", self.files[1], "--str", self.files[2]] if self.lists[1] or self.lists[2] else []
+            has_symbols = self.lists[1] or self.lists[2]
+            extra = ["--sym", self.files[1], "--str", self.files[2]] if has_symbols else []
             return ([self.program, "dump", self.files[0], *extra], os.devnull), None
         asked, before = "asked" if self.fields else "opened", "opened" if self.fields else "parts"
         return tuple(([self.program, "serve"], self.lines(word)) for word in (asked, before))
@@ -162,7 +174,8 @@ def measure(run):
 def instructions(command, file):
     words = ["valgrind", "--tool=callgrind", "--callgrind-out-file=/dev/null", *command]
     with open(file, "rb") as stdin:
-        done = subprocess.run(words, stdin=stdin, stdout=subprocess.DEVNULL, stderr=subprocess.PIPE, check=True)
+        done = subprocess.run(words, stdin=stdin, stdout=subprocess.DEVNULL,
+                              stderr=subprocess.PIPE, check=True)
     return int(re.search(rb"Collected : (\d+)", done.stderr).group(1))
 
 
@@ -174,11 +187,13 @@ def counted(run):
 def growth(program, case):
     """How many times as many instructions a case takes as one of half its size."""
     with tempfile.TemporaryDirectory() as small, tempfile.TemporaryDirectory() as large:
-        return counted(Run(program, case, case.size, large)) / counted(Run(program, case, case.size // 2, small))
+        half = counted(Run(program, case, case.size // 2, small))
+        return counted(Run(program, case, case.size, large)) / half
 
 
 def main():
-    parser = argparse.ArgumentParser(description=__doc__, formatter_class=argparse.RawDescriptionHelpFormatter)
+    parser = argparse.ArgumentParser(description=__doc__,
+                                     formatter_class=argparse.RawDescriptionHelpFormatter)
     parser.add_argument("program")
     parser.add_argument("words", nargs="*")
     parser.add_argument("--growth", action="store_true")
@@ -195,7 +210,8 @@ def main():
         over = options.limit and milliseconds > options.limit * max(LEAST, WANTED * megabytes)
         slow += bool(over)
         grown = f"  x{growth(program, case):.2f}" if options.growth else ""
-        print(f"{case.name:52}{megabytes:8.2f} MB{milliseconds:9.1f} ms{rate:9.1f} ms/MB{grown}{'  TOO SLOW' if over else ''}", flush=True)
+        print(f"{case.name:52}{megabytes:8.2f} MB{milliseconds:9.1f} ms{rate:9.1f} ms/MB{grown}"
+              f"{'  TOO SLOW' if over else ''}", flush=True)
     return 1 if slow else 0
 
 

@@ -1,5 +1,6 @@
 #!/usr/bin/env python3
-"""Dictionaries that pass every rule and are made to be slow. Each function takes how large its own is to be."""
+"""Dictionaries that pass every rule and are made to be slow. Each function takes how large its own
+is to be."""
 import struct
 
 from dictionaries import dictionary, record, symbol, told
@@ -24,7 +25,8 @@ def enum(names, size=1):
 
 
 def overlapping(length, count):
-    """The references of `count` names, each the end of the one before it, in one text of a length."""
+    """The references of `count` names, each the end of the one before it, in one text of a
+    length."""
     return [1 + min(i, length) for i in range(count)]
 
 
@@ -33,7 +35,8 @@ def text(length):
 
 
 def enums(elements, length, kinds=1):
-    """An array of so many elements of enums of 1,023 enumerators; shown, each is nothing but a comma."""
+    """An array of so many elements of enums of 1,023 enumerators; shown, each is nothing but a
+    comma."""
     names = overlapping(length, 1022) + [0]
     each = max(1, elements // kinds)
     types = integer(0)
@@ -59,7 +62,8 @@ def typedefs(elements, depth=511):
 
 
 def integers(elements, offset=0):
-    """An array of integers of 64 bits that have no size, so that all lie in the same eight bytes."""
+    """An array of integers of 64 bits that have no size, so that all lie in the same eight
+    bytes."""
     types = integer(0) + record(0, 1, 0, 0, struct.pack("<I", offset << 16 | 64))
     return (dictionary(types + array(2, elements), b"\0"), b"", b""), 3
 
@@ -100,7 +104,8 @@ def same_members(length):
 
 
 def ends_far_off(length):
-    """A struct of 1,023 members, whose names are long and end at one place, with zeros where one as long would end."""
+    """A struct of 1,023 members, whose names are long and end at one place, with zeros where one as
+    long would end."""
     members = b"".join(struct.pack("<IHH", 1 + i, 1, 0) for i in range(1023))
     strings = b"\0" + b"a" * length + bytes(length + 1024)
     return (dictionary(integer(0) + record(0, 6, 1023, 4, members), strings), b"", b""), 2

@@ -3,11 +3,11 @@
 
 usage: large.py PROGRAM
 
-Each is a program's symbols, 15 MB and 60 MB with their strings and what is told of them. It is handed
-in and opened, and then handed in and dropped by a reset: the difference is what `open` costs, in
-processor time (the least of five runs) and in instructions, counted by valgrind. Memory is the most that
-the program has had. All are told for each MB, and how many times as much the larger one takes for each MB
-as the smaller.
+Each is a program's symbols, 15 MB and 60 MB with their strings and what is told of them. It is
+handed in and opened, and then handed in and dropped by a reset: the difference is what `open`
+costs, in processor time (the least of five runs) and in instructions, counted by valgrind. Memory
+is the most that the program has had. All are told for each MB, and how many times as much the
+larger one takes for each MB as the smaller.
 """
 import sys
 
@@ -23,8 +23,10 @@ def costs(program, count):
     megabytes = sum(map(len, lists)) / 1_000_000
     opened, memory = opening.seconds(program, lists, "open")
     dropped, _ = opening.seconds(program, lists, "reset")
-    counted = opening.instructions(program, lists, "open") - opening.instructions(program, lists, "reset")
-    return megabytes, 1000 * (opened - dropped) / megabytes, counted / 1_000_000 / megabytes, memory / megabytes
+    counted = (opening.instructions(program, lists, "open")
+               - opening.instructions(program, lists, "reset"))
+    return (megabytes, 1000 * (opened - dropped) / megabytes, counted / 1_000_000 / megabytes,
+            memory / megabytes)
 
 
 def main(program):

@@ -1,13 +1,14 @@
 #!/usr/bin/env python3
-"""Times what opening a dictionary costs, and how that grows with the number of its types or symbols.
+"""Times what opening a dictionary costs, and how that grows with the number of its types or
+symbols.
 
 usage: opening.py PROGRAM
 
-Each dictionary is handed in and opened twenty times (twice where it has more than 8 MB), then handed
-in and only checked, and then handed in and dropped by a reset: the differences are what `open` and
-`check` cost (processor time, the least of five runs). Then the same is done once, and the instructions
-are counted by valgrind, for all types or symbols and for half of them: the ratio of the two says how
-the cost grows, and 2 is linear.
+Each dictionary is handed in and opened twenty times (twice where it has more than 8 MB), then
+handed in and only checked, and then handed in and dropped by a reset: the differences are what
+`open` and `check` cost (processor time, the least of five runs). Then the same is done once, and
+the instructions are counted by valgrind, for all types or symbols and for half of them: the ratio
+of the two says how the cost grows, and 2 is linear.
 """
 import re
 import subprocess
@@ -56,7 +57,8 @@ def instructions(program, lists, word):
     """The instructions of a stream with one of the word."""
     command = ["valgrind", "--tool=callgrind", "--callgrind-out-file=/dev/null", program, "serve"]
     text = "".join(lines(lists, word, 1)).encode()
-    said = subprocess.run(command, input=text, stdout=subprocess.DEVNULL, stderr=subprocess.PIPE, check=True)
+    said = subprocess.run(command, input=text, stdout=subprocess.DEVNULL, stderr=subprocess.PIPE,
+                          check=True)
     return int(re.search(rb"Collected : (\d+)", said.stderr).group(1))
 
 
@@ -97,7 +99,8 @@ def main(program):
         cost, megabytes = max(0, 1000 * (opened - dropped)), sum(map(len, lists)) / 1_000_000
         judged = max(0, 1000 * (checked - dropped))
         print(
-            f"{name:18}{count:8} {what:7} {megabytes:6.2f} MB {judged:6.2f} ms for one check {cost:6.2f} ms for one open {cost / megabytes:6.2f} ms/MB"
+            f"{name:18}{count:8} {what:7} {megabytes:6.2f} MB {judged:6.2f} ms for one check"
+            f" {cost:6.2f} ms for one open {cost / megabytes:6.2f} ms/MB"
             f"  to half of them {growth(program, make, count):5.2f} {memory:8} KiB"
         )
 

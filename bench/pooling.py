@@ -3,9 +3,9 @@
 
 usage: pooling.py PROGRAM
 
-1, 100 or 500 sessions hand in equal lists of a dictionary of 5,000 named types and open them, and ask one
-question each; then the same with a dictionary of their own each, which has one name spelled otherwise.
-Peak memory of the service, and processor time for each session behind the first.
+1, 100 or 500 sessions hand in equal lists of a dictionary of 5,000 named types and open them, and
+ask one question each; then the same with a dictionary of their own each, which has one name spelled
+otherwise. Peak memory of the service, and processor time for each session behind the first.
 """
 import sys
 import tempfile

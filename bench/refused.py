@@ -3,18 +3,20 @@
 
 usage: refused.py PROGRAM
 
-Session 1 opens a dictionary of 67,108,864 bytes and publishes it three times, which is its quota. Session 2
-makes a draft of 5,000 types, takes that dictionary three times, and hands in bytes until its quota is met but
-for a few. Then requests that are over the quota are given many times, and the processor time of the program
-is told for each: nothing is built that is refused, and an update costs no more than its writing. Beside that
-stands what an update of such a draft costs where it is granted.
+Session 1 opens a dictionary of 67,108,864 bytes and publishes it three times, which is its quota.
+Session 2 makes a draft of 5,000 types, takes that dictionary three times, and hands in bytes until
+its quota is met but for a few. Then requests that are over the quota are given many times, and the
+processor time of the program is told for each: nothing is built that is refused, and an update
+costs no more than its writing. Beside that stands what an update of such a draft costs where it is
+granted.
 """
 import os
 import subprocess
 import sys
 import threading
 
-INT = bytes.fromhex("f1cf0200" + 24 * "00" + "0c00000005000000" + "01000000000c040020000001" + "00696e7400")
+INT = bytes.fromhex("f1cf0200" + 24 * "00" + "0c00000005000000" + "01000000000c040020000001"
+                    + "00696e7400")
 LONGEST, PIECE = 67_108_864, 262_144
 TYPES = 5_000
 
@@ -35,7 +37,8 @@ def draft(session, types):
     """Slot 1: integers with a name each, not updated yet."""
     yield line(session, "create")
     for i in range(types):
-        yield line(session, "add", d=1, what="integer", name=f"number_{i}", encoding=0, offset=0, bits=32, size=4)
+        yield line(session, "add", d=1, what="integer", name=f"number_{i}", encoding=0, offset=0,
+                   bits=32, size=4)
 
 
 def full():
@@ -70,7 +73,8 @@ class Service:
     """A service that is asked, and whose processor time is read in between."""
 
     def __init__(self, program):
-        self.child = subprocess.Popen([program, "serve"], stdin=subprocess.PIPE, stdout=subprocess.PIPE)
+        self.child = subprocess.Popen([program, "serve"], stdin=subprocess.PIPE,
+                                      stdout=subprocess.PIPE)
 
     def used(self):
         """Its processor time in seconds."""

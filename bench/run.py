@@ -1,5 +1,6 @@
 #!/usr/bin/env python3
-"""Runs a command on each stream of streams.py, and prints processor time, lines per second and peak memory.
+"""Runs a command on each stream of streams.py, and prints processor time, lines per second and peak
+memory.
 
 usage: run.py COMMAND [WORD]..
 
@@ -45,7 +46,8 @@ def main(command):
             file.writelines(make())
             file.flush()
             seconds, lines, memory = min(run(command, file.name) for _ in range(5))
-        print(f"{name:10}{lines:8} lines {seconds:8.3f} s {lines / seconds:12.0f} lines/s {memory:8} KiB")
+        print(f"{name:10}{lines:8} lines {seconds:8.3f} s {lines / seconds:12.0f} lines/s"
+              f" {memory:8} KiB")
 
 
 if __name__ == "__main__":

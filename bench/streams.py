@@ -1,28 +1,34 @@
 #!/usr/bin/env python3
 """Writes a stream of requests to standard output; the same stream at each run.
 
-usage: streams.py kinds | large | line | sessions | again | kind | record | members | size | known | find | symbol | hostile | parents | orphans
+usage: streams.py STREAM
 
 kinds     an integer is handed in and opened once, and asked for its kind 100,000 times
-large     32,766 integers without names are opened once, and the last is asked for its kind 1,000 times
+large     32,766 integers without names are opened once, and the last is asked for its kind 1,000
+          times
 line      20 requests of 1,048,576 bytes, resets padded with blanks
 sessions  80,000 sessions, each with one reset
 again     10,000 sessions with one reset each, and then the last of them 10,000 times
-kind      20,000 types of mixed kinds are opened once, and 10,000 of them, spread over all, asked for their kind
+kind      20,000 types of mixed kinds are opened once, and 10,000 of them, spread over all, asked for
+          their kind
 record    the same, asked for their kind, name and what goes with it
 members   the same dictionary, of whose 5,000 structs each is asked for its 14 members twice
 size      the same dictionary, 10,000 of its types asked for their size
-known     30,000 visible types, most of them with a name of their own, are opened once, and 10,000 asked for their kind
+known     30,000 visible types, most of them with a name of their own, are opened once, and 10,000
+          asked for their kind
 find      the same, 10,000 of the names looked for
-symbol    a program of 20,000 symbols is opened once, and 10,000 of them, spread over all, looked up by their names
-hostile   a struct of 1,023 members that all have one name of 15 MB is asked 100 times for its members and for a
-          member that it hasn't, and a type of that name 100 times for its record
-parents   a parent of 20,000 types and 200 children, each of which imports it and is asked for a type of it
+symbol    a program of 20,000 symbols is opened once, and 10,000 of them, spread over all, looked up
+          by their names
+hostile   a struct of 1,023 members that all have one name of 15 MB is asked 100 times for its
+          members and for a member that it hasn't, and a type of that name 100 times for its record
+parents   a parent of 20,000 types and 200 children, each of which imports it and is asked for a
+          type of it
 orphans   the same without the imports
 """
 import sys
 
-from dictionaries import LONG_NAME, all_parts, child, long_names, mixed, named, parts, symbols, written
+from dictionaries import (LONG_NAME, all_parts, child, long_names, mixed, named, parts, symbols,
+                          written)
 
 INT = "f1cf0200" + 24 * "00" + "0c00000005000000" + "01000000000c040020000001" + "00696e7400"
 
@@ -36,7 +42,8 @@ def kinds():
 
 def large():
     header = "f1cf0200" + 24 * "00" + (12 * 32_766).to_bytes(4, "little").hex() + "00000000"
-    yield '{"s":7,"op":"part","section":"ctf","bytes":"%s"}\n' % (header + 32_766 * "00000000000c040020000001")
+    types = 32_766 * "00000000000c040020000001"
+    yield '{"s":7,"op":"part","section":"ctf","bytes":"%s"}\n' % (header + types)
     yield '{"s":7,"op":"open"}\n'
     for _ in range(1_000):
         yield '{"s":7,"op":"kind","d":1,"t":32766}\n'
@@ -59,7 +66,8 @@ def again():
 
 
 def questions(word, step):
-    """Asks 10,000 types, each `step` before the last one asked, from the end on again where none is left."""
+    """Asks 10,000 types, each `step` before the last one asked, from the end on again where none is
+    left."""
     yield from parts(7, mixed(20_000))
     yield '{"s":7,"op":"open"}\n'
     for i in range(10_000):

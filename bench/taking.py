@@ -3,8 +3,8 @@
 
 usage: taking.py PROGRAM
 
-One session publishes a dictionary of 20,000 named types, and then none, 500 or 5,000 others take it,
-and ask it one question each. Peak memory of the service, and processor time.
+One session publishes a dictionary of 20,000 named types, and then none, 500 or 5,000 others take
+it, and ask it one question each. Peak memory of the service, and processor time.
 """
 import sys
 import tempfile

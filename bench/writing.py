@@ -4,9 +4,9 @@
 usage: writing.py PROGRAM
 
 PROGRAM is built from writing.txt. For each line it makes a draft, and then so many times writes it,
-updates it, or opens what was written: what 21 times take more than once is what 20 cost. Processor time is
-the least of five runs. Instructions are counted by valgrind, for all types and for half of them: the ratio
-of the two says how the cost grows, and 2 is linear.
+updates it, or opens what was written: what 21 times take more than once is what 20 cost. Processor
+time is the least of five runs. Instructions are counted by valgrind, for all types and for half of
+them: the ratio of the two says how the cost grows, and 2 is linear.
 """
 import re
 import subprocess
@@ -30,7 +30,8 @@ def seconds(program, line):
 def instructions(program, line):
     """The instructions of a run of one line."""
     command = ["valgrind", "--tool=callgrind", "--callgrind-out-file=/dev/null", program]
-    said = subprocess.run(command, input=line.encode(), stdout=subprocess.DEVNULL, stderr=subprocess.PIPE, check=True)
+    said = subprocess.run(command, input=line.encode(), stdout=subprocess.DEVNULL,
+                          stderr=subprocess.PIPE, check=True)
     return int(re.search(rb"Collected : (\d+)", said.stderr).group(1))
 
 
@@ -45,11 +46,13 @@ def main(program):
         opening = None
         for what in ("open", "write", "update"):
             used = cost(seconds, program, what, types, count)
-            half, whole = (cost(instructions, program, what, types, size) for size in (count // 2, count))
+            half, whole = (cost(instructions, program, what, types, size)
+                           for size in (count // 2, count))
             opening = opening or whole
             print(
-                f"{types:6}{count:6} types {what:7}{1000 * used:6.2f} ms {whole / 1e6:6.1f} million instructions,"
-                f" {whole / half:.2f} times those of half, {whole / opening:.2f} times those of open",
+                f"{types:6}{count:6} types {what:7}{1000 * used:6.2f} ms"
+                f" {whole / 1e6:6.1f} million instructions, {whole / half:.2f} times those of half,"
+                f" {whole / opening:.2f} times those of open",
                 flush=True,
             )
 

@@ -5,8 +5,8 @@ usage: scripts/tree.py --prefix PREFIX [--root FOLDER] [--program PROGRAM] [--ar
                        [--packages FOLDER] [--remove]
 
 That is the program, the libraries for C with their headers and a file for pkg-config, the manual
-pages, the units for systemd, the Python package and its commands. FOLDER of --root, if it is given, goes
-in front of all, as DESTDIR does.
+pages, the units for systemd, the Python package and its commands. FOLDER of --root, if it is given,
+goes in front of all, as DESTDIR does.
 
 pip installs the package. It and setuptools and wheel are those of the Python that PYTHON in the
 environment names, else of `python3` or Debian's, whichever has them. The package goes where that

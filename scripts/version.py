@@ -4,9 +4,9 @@
 usage: scripts/version.py [NEW]
 
 The version stands in VERSION. Some sources have to have it in their own text, so that they are
-whole without this repository: they are listed below. With NEW it is written into VERSION and into these.
-Without, each place that differs is printed; the status is 1 then. The program's place is a source
-that is proved, so `make prove` comes behind a new version.
+whole without this repository: they are listed below. With NEW it is written into VERSION and into
+these. Without, each place that differs is printed; the status is 1 then. The program's place is a
+source that is proved, so `make prove` comes behind a new version.
 """
 from __future__ import annotations
 

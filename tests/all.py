@@ -5,8 +5,8 @@ usage: tests/all.py [--prove | --prove-only | --program PROGRAM] [--whole] [--la
 
 What is built is what `make` or `make prove` put into crates/ctfd/out and crates/ctf_c/out; with
 PROGRAM it is that one. As many parts run side by side as there are processors, or N. With names of
-parts only these run; `tests/all.py no_such_part` lists them. With --whole those that otherwise try a
-share of their cases (growths, front and convert) try all.
+parts only these run; `tests/all.py no_such_part` lists them. With --whole those that otherwise try
+a share of their cases (growths, front and convert) try all.
 
 With --prove, `rt ci` comes first, and prints as it goes. What the kit built by it is then what is
 built, and the parts run over that. One more part, `quick`, builds the program and the library

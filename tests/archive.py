@@ -13,8 +13,8 @@ Where that can't be done it makes all crates anew, which takes as long as `make 
 
 The archive has what the crate exports, and the three functions by which the library takes memory,
 from the kit: over malloc, realloc and free. A program that defines these itself is linked with its
-own. Then scripts/libctf.py adds libctf's calls, and makes libctfd.so beside it. Needs ar, nm and a C
-compiler.
+own. Then scripts/libctf.py adds libctf's calls, and makes libctfd.so beside it. Needs ar, nm and a
+C compiler.
 """
 from __future__ import annotations
 

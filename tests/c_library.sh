@@ -14,8 +14,8 @@
 # - What is asked of each type, member, enumerator, name and symbol is answered as by the service.
 # - Lines are answered as by the service.
 # - What is refused writes no result and closes nothing; so does each allocation that is refused.
-# - Dictionaries that were made to cost much cost a time that is linear in their bytes: twice as many
-#   types or names take at most 2.2 times the instructions, as valgrind counts them.
+# - Dictionaries that were made to cost much cost a time that is linear in their bytes: twice as
+#   many types or names take at most 2.2 times the instructions, as valgrind counts them.
 # - ELF files are opened, by libelf and zlib where these are here (c_library/elf.sh).
 # - Damaged dictionaries, lines and random calls, and walks of libctf's calls over random
 #   dictionaries, under AddressSanitizer and UndefinedBehaviorSanitizer: N rounds of them (10000;
@@ -216,7 +216,8 @@ grep -v ' checks, ' said || true
 
 sanitize=(-g -O1 -fsanitize=address,undefined -fno-sanitize-recover=all)
 
-# looked_into PREFIX FLAGS..: compiles libctf's calls with sanitizers, but for the part for ELF files.
+# looked_into PREFIX FLAGS..: compiles libctf's calls with sanitizers, but for the part for ELF
+# files.
 looked_into() {
     local prefix=$1 source
     shift

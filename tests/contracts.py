@@ -3,9 +3,10 @@
 
 usage: contracts.py BEFORE AFTER
 
-BEFORE and AFTER are tops of the repository, as `git worktree add` or `git archive` make them. A line
-that begins with - or + is a function as one of them has it, with its signature and its clauses; white
-space, comments and the crate that it stands in do not count. Crates of tests are passed over.
+BEFORE and AFTER are tops of the repository, as `git worktree add` or `git archive` make them. A
+line that begins with - or + is a function as one of them has it, with its signature and its
+clauses; white space, comments and the crate that it stands in do not count. Crates of tests are
+passed over.
 """
 import pathlib
 import re
@@ -17,7 +18,8 @@ FUNCTION = re.compile(r"^(\s*)(pub )?fn (\w+)")
 
 
 def heads(lines):
-    """Each function that others can call: what it belongs to, its name, and its text up to its body."""
+    """Each function that others can call: what it belongs to, its name, and its text up to its
+    body."""
     owner = ""
     for number, line in enumerate(lines):
         if block := BLOCK.match(line):
@@ -61,7 +63,8 @@ def main():
     before, after = (contracts(top) for top in sys.argv[1:])
     print(f"{len(before)} before, {len(after)} after, {len(before & after)} the same")
     for owner, name, text in sorted(before ^ after):
-        print("-" if (owner, name, text) in before else "+", f"{owner}::{name}:" if owner else f"{name}:", text)
+        print("-" if (owner, name, text) in before else "+",
+              f"{owner}::{name}:" if owner else f"{name}:", text)
 
 
 if __name__ == "__main__":

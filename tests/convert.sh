@@ -9,13 +9,13 @@
 # Random C files are compiled and run, for each data model that gcc has, and say where their members
 # lie: so do, through the service, the dictionaries made of their debug information, of GNU's CTF,
 # of BTF, and of their declarations. All of what is compared stands in tests/convert/run.py. Then
-# files are damaged in 600 ways (tests/convert/mutants.py): each is read or refused. And one program,
-# in all forms that gcc, clang, the linker, strip, objcopy and dwz give to debug information, is
-# compared with what pahole and gdb say of it (tests/convert/forms.py).
+# files are damaged in 600 ways (tests/convert/mutants.py): each is read or refused. And one
+# program, in all forms that gcc, clang, the linker, strip, objcopy and dwz give to debug
+# information, is compared with what pahole and gdb say of it (tests/convert/forms.py).
 #
 # With `all`, which the gate leaves out, there are 500 files and 6,000 damaged ones, and the headers
-# of the C library and the kernel are compared with pahole's view of them (tests/convert/headers.py),
-# and the BTF of this machine's kernel is converted, where it shows one.
+# of the C library and the kernel are compared with pahole's view of them
+# (tests/convert/headers.py), and the BTF of this machine's kernel is converted, where it shows one.
 set -eu
 program=$(realpath "$1")
 tests=$(realpath "$(dirname "$0")")

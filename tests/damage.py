@@ -6,11 +6,11 @@ usage: tests/damage.py PROGRAM [--all]
 PROGRAM is crates/ctfd/out/ctfd once `rt run` in crates/ctfd has built it; any other build does too.
 Eight small dictionaries are handed in, with their symbols and strings, cut at each shorter length,
 and with each byte replaced by others: by each that differs in one bit, and by some of the rest,
-which go by the byte's place; by all 255 with --all, as the gate does. What `check` answers is compared with the first
-fault that tests/judge.py finds. What is accepted is opened, and every question is asked of it on
-the numbers 0 to 4 and 32,769 to 32,772, and again after a parent was imported, or refused. Each has
-one reply, by no fault but those of questions, and the same again where the import was refused. At
-last a value that holds 2^512 others is shown.
+which go by the byte's place; by all 255 with --all, as the gate does. What `check` answers is
+compared with the first fault that tests/judge.py finds. What is accepted is opened, and every
+question is asked of it on the numbers 0 to 4 and 32,769 to 32,772, and again after a parent was
+imported, or refused. Each has one reply, by no fault but those of questions, and the same again
+where the import was refused. At last a value that holds 2^512 others is shown.
 
 Prints what was wrong, and counts; the status is 1 where something was wrong.
 """

@@ -13,8 +13,10 @@ import argparse
 import struct
 from collections.abc import Callable, Iterable, Iterator
 
-KINDS = "unknown integer float pointer array function struct union enum forward typedef volatile const restrict".split()
-UNKNOWN, INTEGER, FLOAT, POINTER, ARRAY, FUNCTION, STRUCT, UNION, ENUM, FORWARD, TYPEDEF, VOLATILE, CONST, RESTRICT = range(14)
+KINDS = ("unknown integer float pointer array function struct union enum forward typedef volatile"
+         " const restrict").split()
+(UNKNOWN, INTEGER, FLOAT, POINTER, ARRAY, FUNCTION, STRUCT, UNION, ENUM, FORWARD, TYPEDEF, VOLATILE,
+ CONST, RESTRICT) = range(14)
 QUALIFIERS = (VOLATILE, CONST, RESTRICT)
 AGGREGATES = (STRUCT, UNION)
 # How many bytes a pointer has.
@@ -31,7 +33,8 @@ class Fault(Exception):
 
 
 def quoted(name: bytes) -> str:
-    return '"%s"' % "".join(chr(b) if 0x20 <= b <= 0x7E and b not in b'"\\' else "\\x%02x" % b for b in name)
+    return '"%s"' % "".join(
+        chr(b) if 0x20 <= b <= 0x7E and b not in b'"\\' else "\\x%02x" % b for b in name)
 
 
 def joined(numbers: Iterable[int]) -> str:
@@ -40,11 +43,14 @@ def joined(numbers: Iterable[int]) -> str:
 
 class Dictionary:
     def __init__(self, ctf: bytes, strs: bytes, pointer: int) -> None:
-        parlabel, parname, labels, objects, functions, types, strings, length = struct.unpack_from("<8I", ctf, 4)
+        parlabel, parname, labels, objects, functions, types, strings, length = (
+            struct.unpack_from("<8I", ctf, 4))
         self.body, self.strs, self.pointer = ctf[36:], strs, pointer
         self.strings = self.body[strings : strings + length]
-        self.child, self.parname, self.parlabel = parname != 0, self.name(parname), self.name(parlabel)
-        self.labels = [struct.unpack_from("<II", self.body, at) for at in range(labels, objects - 7, 8)]
+        self.child, self.parname = parname != 0, self.name(parname)
+        self.parlabel = self.name(parlabel)
+        self.labels = [struct.unpack_from("<II", self.body, at)
+                       for at in range(labels, objects - 7, 8)]
         self.objects, self.functions = self.body[objects:functions], self.body[functions:types]
         self.types = list(self.records(self.body[types:strings]))
 
@@ -73,7 +79,8 @@ class Dictionary:
                 form, count, step = ("<IHH", vlen, 8) if size < 8192 else ("<IHHII", vlen, 16)
             elif kind == ENUM:
                 form, count, step = "<Ii", vlen, 8
-            items = [struct.unpack_from(form, section, at + step * i) for i in range(count)] if form else []
+            items = [struct.unpack_from(form, section, at + step * i)
+                     for i in range(count)] if form else []
             at += step * len(items) + (2 if kind == FUNCTION and vlen % 2 else 0)
             if kind in AGGREGATES:
                 items = [m[:3] if len(m) == 3 else (m[0], m[1], m[3] << 32 | m[4]) for m in items]
@@ -96,7 +103,8 @@ class Dictionary:
             size = self.size(items[0][0]) * items[0][2]
             if size >= 1 << 64:
                 raise Fault("TooBig")
-        return {POINTER: self.pointer, FUNCTION: 0}.get(kind, 4 if kind == ENUM and size == 0 else size)
+        own = 4 if kind == ENUM and size == 0 else size
+        return {POINTER: self.pointer, FUNCTION: 0}.get(kind, own)
 
     def align(self, number: int) -> int:
         number = self.resolve(number)
@@ -156,7 +164,8 @@ def considered(sym: bytes, strs: bytes) -> Iterator[tuple[int, int, bytes]]:
         end = strs.find(b"\0", at)
         name = strs[at:end] if 0 < at <= end else b""
         absolute = info & 15 == 1 and section == 0xFFF1 and value == 0
-        if info & 15 in (1, 2) and section and name not in (b"", b"_START_", b"_END_") and not absolute:
+        is_named = name not in (b"", b"_START_", b"_END_")
+        if info & 15 in (1, 2) and section and is_named and not absolute:
             yield i, info & 15, name
 
 
@@ -172,7 +181,8 @@ def symbol_lines(d: Dictionary, sym: bytes) -> None:
             (info,) = struct.unpack_from("<H", d.functions, functions)
             functions += 2
             if info & 0xFBFF:
-                ret, *args = struct.unpack_from("<%dH" % (1 + (info & 0x3FF)), d.functions, functions)
+                ret, *args = struct.unpack_from("<%dH" % (1 + (info & 0x3FF)), d.functions,
+                                                functions)
                 functions += 2 + 2 * len(args)
                 print("function", number, quoted(name), "return=%d args=%s" % (ret, joined(args)))
 
@@ -180,7 +190,8 @@ def symbol_lines(d: Dictionary, sym: bytes) -> None:
 def detail(kind: int, size: int, items: list[Item]) -> str:
     if kind in (INTEGER, FLOAT):
         (word,) = items[0]
-        return " size=%d encoding=%d offset=%d bits=%d" % (size, word >> 24, word >> 16 & 255, word & 0xFFFF)
+        return " size=%d encoding=%d offset=%d bits=%d" % (
+            size, word >> 24, word >> 16 & 255, word & 0xFFFF)
     if kind == ARRAY:
         contents, index, count = items[0]
         return " contents=%d index=%d count=%d size=%d" % (contents, index, count, size)
@@ -196,9 +207,11 @@ def detail(kind: int, size: int, items: list[Item]) -> str:
 def type_lines(d: Dictionary) -> None:
     for number, (kind, root, name, size, items) in enumerate(d.types, 1):
         print(
-            "type", number, KINDS[kind], quoted(name), ("root" if root else "hidden") + detail(kind, size, items), ":",
+            "type", number, KINDS[kind], quoted(name),
+            ("root" if root else "hidden") + detail(kind, size, items), ":",
             quoted(d.spelled(number)),
-            "bytes=%s align=%s" % (or_fault(lambda: d.size(number)), or_fault(lambda: d.align(number))),
+            "bytes=%s align=%s" % (
+                or_fault(lambda: d.size(number)), or_fault(lambda: d.align(number))),
         )
         if kind in AGGREGATES:
             for name, to, offset in items:

@@ -3,15 +3,16 @@
 
 usage: session.py requests | replies
 
-A list gets as long as it may be: the integer `int`, and zero bytes behind it. What is opened of it is
-published until four times its bytes are held, which is the quota. Then drafts of other sessions get
-names that come to more bytes than a dictionary may have, a member of a type that is too big, and as
-many enumerators and types as there may be.
+A list gets as long as it may be: the integer `int`, and zero bytes behind it. What is opened of it
+is published until four times its bytes are held, which is the quota. Then drafts of other sessions
+get names that come to more bytes than a dictionary may have, a member of a type that is too big,
+and as many enumerators and types as there may be.
 """
 import json
 import sys
 
-INT = bytes.fromhex("f1cf0200" + 24 * "00" + "0c00000005000000" + "01000000000c040020000001" + "00696e7400")
+INT = bytes.fromhex("f1cf0200" + 24 * "00" + "0c00000005000000" + "01000000000c040020000001"
+                    + "00696e7400")
 LONGEST, PIECE = 67_108_864, 262_144
 # A name, and how many of them are too many for the strings of one dictionary.
 NAME, NAMES = 1_000_000, 68

@@ -49,7 +49,8 @@ compared() {
     known=$(nm stripped | awk '$3 == "_start" { print $3 "=0x" $1 }')
     env BUILD="$1" TWIN=twin EXPRESSIONS=expressions KNOWN="$known" "${@:2}" gdb -batch -nx \
         -ex 'set width 0' -ex 'set charset ASCII' -ex 'set max-value-size unlimited' \
-        -ex "source $tests/../clients/gdb/ctfgdb.py" -ex 'set ctf-debuginfo off' -ex 'ctf load' -ex 'break *stop' -ex 'run' \
+        -ex "source $tests/../clients/gdb/ctfgdb.py" -ex 'set ctf-debuginfo off' \
+        -ex 'ctf load' -ex 'break *stop' -ex 'run' \
         -x "$tests/gdb/compare.py" stripped || failed=1
 }
 

@@ -2,8 +2,9 @@
 # Checks that what a dictionary lends cannot outlive it: two programs that must not compile, and one
 # that is right and does, so that nothing else was wrong with the two.
 # usage: tests/lending.sh
-# Works on a copy, in a crate of its own there; proves nothing (`rt try`), about half a minute for each
-# program. Prints a row for each, which ends in "yes" or in what was seen; the status is 1 where one was wrong.
+# Works on a copy, in a crate of its own there; proves nothing (`rt try`), about half a minute for
+# each program. Prints a row for each, which ends in "yes" or in what was seen; the status is 1
+# where one was wrong.
 set -eu
 top=$(cd "$(dirname "$0")/.." && pwd)
 copy=$(mktemp -d)

@@ -1,5 +1,6 @@
 #!/usr/bin/env bash
-# Checks how a built ctfd ends: its exit status, and what stands on standard output and standard error.
+# Checks how a built ctfd ends: its exit status, and what stands on standard output and standard
+# error.
 # usage: tests/program.sh PROGRAM
 # PROGRAM is crates/ctfd/out/ctfd once `rt run` in crates/ctfd has built it. Prints a row for each
 # case, which ends in "yes" or in what was wrong; the status is 1 where one was wrong.
@@ -12,8 +13,8 @@ work=$(mktemp -d)
 trap 'rm -r "$work"' EXIT
 failed=0
 
-# expect NAME STATUS OUT ERR: the run just made, whose outputs are $work/out and $work/err, ended so.
-# OUT and ERR are patterns that a line must match; an empty one says that nothing was written.
+# expect NAME STATUS OUT ERR: the run just made, whose outputs are $work/out and $work/err, ended
+# so. OUT and ERR are patterns that a line must match; an empty one says that nothing was written.
 expect() {
     local well=yes
     [ "$status" = "$2" ] || well="status $status"
@@ -77,10 +78,12 @@ for _ in $(seq 600); do [ -s "$work/all" ] && break; sleep 0.1; done
 cp "$work/all" "$work/out"
 exec 3>&-
 wait $service
-status=$?;                      expect "a reply before the next line" 0 '^{"ok":{"length":53},"s":7}$' ''
+status=$?;                      expect "a reply before the next line" 0 \
+                                    '^{"ok":{"length":53},"s":7}$' ''
 
 yes '{"s":7,"op":"reset"}' | head -n 200000 > "$work/many"
-{ "$program" serve < "$work/many" 2> "$work/err"; echo $? > "$work/status"; } | head -n 1 > "$work/out"
+{ "$program" serve < "$work/many" 2> "$work/err"; echo $? > "$work/status"; } |
+    head -n 1 > "$work/out"
 status=$(cat "$work/status");   expect "a reader that leaves" 3 '^{"ok":{},"s":7}$' '^ctfd: Write$'
 
 # A session that holds as much as it may.
@@ -88,7 +91,8 @@ status=$(cat "$work/status");   expect "a reader that leaves" 3 '^{"ok":{},"s":7
 "$examples/../tests/full_session.py" replies > "$work/full.replies"
 ends "$work/full" serve
 cmp -s "$work/out" "$work/full.replies" || status="$status, other replies"
-                                expect "a session to its quota" 0 '^{"ok":{"d":1,"types":1},"s":2}$' ''
+                                expect "a session to its quota" 0 \
+                                    '^{"ok":{"d":1,"types":1},"s":2}$' ''
 
 # Dumps. A dictionary of an int; a child that names type 3 of its parent; one with two types.
 cd "$work" || exit 1
@@ -132,12 +136,15 @@ dumps "a dump of the default model" child.dump child --parent three --model lp64
 dumps "a dump of another model" int.dump int --model ilp32
 dumps "short pointers over a parent" short.dump child --model ilp32 --parent three
 dumps "short pointers of a parent" const.dump const --model=ilp32 --parent three
-dumps "a dump of a real program" "$examples/lua.dump" "$examples/lua.ctf" --sym "$examples/lua.sym" --str "$examples/lua.str"
+dumps "a dump of a real program" "$examples/lua.dump" "$examples/lua.ctf" \
+    --sym "$examples/lua.sym" --str "$examples/lua.str"
 "$examples/../tests/dump.py" "$examples"/zlib.{ctf,sym,str} > zlib.dump
-dumps "a dump of another, by two programs" zlib.dump "$examples/zlib.ctf" --sym "$examples/zlib.sym" --str "$examples/zlib.str"
+dumps "a dump of another, by two programs" zlib.dump "$examples/zlib.ctf" \
+    --sym "$examples/zlib.sym" --str "$examples/zlib.str"
 for of in lua zlib; do
     "$examples/../tests/dump.py" --model ilp32 "$examples/$of".{ctf,sym,str} > short-$of.dump
-    dumps "$of with short pointers" short-$of.dump "$examples/$of.ctf" --model ilp32 --sym "$examples/$of.sym" --str "$examples/$of.str"
+    dumps "$of with short pointers" short-$of.dump "$examples/$of.ctf" --model ilp32 \
+        --sym "$examples/$of.sym" --str "$examples/$of.str"
 done
 dumps "a file at the limit" int.dump longest
 
@@ -160,7 +167,8 @@ ends /dev/null dump int --model lp64 --model lp64
 ends /dev/null dump none --model lp32
                                 expect "a model before a missing file" 2 '' "'lp32'"
 ends /dev/null dump --help;     expect "help of dump" 0 '^Usage: .* <CTF>$' ''
-ends /dev/null dump --help;     expect "help of dump tells the models" 0 'default: lp64. .possible values: lp64, ilp32.$' ''
+ends /dev/null dump --help;     expect "help of dump tells the models" 0 \
+                                    'default: lp64. .possible values: lp64, ilp32.$' ''
 ends /dev/null dump none;       expect "a missing file" 3 '' '^ctfd: none: Read$'
 ends /dev/null dump '';         expect "a file without a name" 3 '' '^ctfd: : Read$'
 ends /dev/null dump folder;     expect "a folder" 3 '' '^ctfd: folder: Read$'
@@ -170,18 +178,23 @@ ends /dev/null dump /dev/null;  expect "an empty file" 1 '' '^ctfd: /dev/null: T
 ends /dev/null dump int --sym child
                                 expect "a refused symbol table" 1 '' '^ctfd: int: BadSymtab at 0$'
 ends /dev/null dump child --parent "$first"
-                                expect "a refused parent" 1 '' '^ctfd: .*first.jsonl: BadMagic at 0$'
+                                expect "a refused parent" 1 \
+                                    '' '^ctfd: .*first.jsonl: BadMagic at 0$'
 ends /dev/null dump child --parent two
-                                expect "a parent that is too short" 1 '' '^ctfd: child: ParentShort at 3$'
+                                expect "a parent that is too short" 1 \
+                                    '' '^ctfd: child: ParentShort at 3$'
 ends /dev/null dump child --parent two --model ilp32
-                                expect "short pointers, and a short parent" 1 '' '^ctfd: child: ParentShort at 3$'
+                                expect "short pointers, and a short parent" 1 \
+                                    '' '^ctfd: child: ParentShort at 3$'
 ends /dev/null dump child --parent child
-                                expect "a parent that is a child" 1 '' '^ctfd: child: ParentIsChild at 0$'
+                                expect "a parent that is a child" 1 \
+                                    '' '^ctfd: child: ParentIsChild at 0$'
 ends /dev/null dump int --parent two
                                 expect "a parent of no child" 1 '' '^ctfd: int: NotChild at 0$'
 # Files are read in the order dictionary, parent, symbols, strings, and judged when all were read.
 ends /dev/null dump long --parent none
-                                expect "a long file before a missing one" 1 '' '^ctfd: long: StageFull at 0$'
+                                expect "a long file before a missing one" 1 \
+                                    '' '^ctfd: long: StageFull at 0$'
 ends /dev/null dump /dev/null --str c --sym b --parent a
                                 expect "the order of files: a parent" 3 '' '^ctfd: a: Read$'
 ends /dev/null dump /dev/null --str c --sym b --parent int
@@ -191,7 +204,8 @@ ends /dev/null dump /dev/null --str c --sym int
 fills /dev/null dump int;       expect "a dump, and a full output" 3 '' '^ctfd: Write$'
 "$program" dump int 2> err >&-
 status=$?;                      expect "a dump, and a closed output" 3 '' '^ctfd: Write$'
-"$program" dump "$examples/lua.ctf" --sym "$examples/lua.sym" --str "$examples/lua.str" 2> err | head -n 1 > out
+"$program" dump "$examples/lua.ctf" --sym "$examples/lua.sym" --str "$examples/lua.str" 2> err |
+    head -n 1 > out
 status=${PIPESTATUS[0]};        expect "a dump, and a reader that leaves" 141 '^ctf types=526 ' ''
 (ulimit -v 32768; "$program" dump longest > out 2> err)
 status=$?;                      expect "a dump without memory" 4 '' '^ctfd: Memory$'
@@ -215,7 +229,8 @@ ends take serve "${name64}=int" base=int
 ends take serve -- -._=int base=int
                                 expect "a name that begins with -" 0 "$found" ''
 ends take serve "base=$examples/lua.ctf"
-                                expect "a real program to be taken" 0 '^{"ok":{"d":1,"types":526},"s":1}$' ''
+                                expect "a real program to be taken" 0 \
+                                    '^{"ok":{"d":1,"types":526},"s":1}$' ''
 ends "$examples/meeting.jsonl" serve base=int
 cmp -s out "$examples/meeting.replies" || status="$status, other replies"
                                 expect "sessions that meet" 0 "$found" ''
@@ -232,11 +247,16 @@ ends take serve --bad;          expect "serve with an option" 2 '' '--bad'
 ends take serve base=none;      expect "a served file that is missing" 3 '' '^ctfd: none: Read$'
 ends take serve base=;          expect "a served file without a name" 3 '' '^ctfd: : Read$'
 ends take serve base=folder;    expect "a folder to be served" 3 '' '^ctfd: folder: Read$'
-ends take serve base=long;      expect "a served file above the limit" 1 '' '^ctfd: long: StageFull at 0$'
-ends take serve base=/dev/zero; expect "a served file without end" 1 '' '^ctfd: /dev/zero: StageFull at 0$'
-ends take serve base=/dev/null; expect "a served file that is empty" 1 '' '^ctfd: /dev/null: TooShort at 0$'
-ends take serve base=outer;     expect "names in strings that are not there" 1 '' '^ctfd: outer: BadName at 36$'
-ends take serve base=take;      expect "a served file of another kind" 1 '' '^ctfd: take: BadMagic at 0$'
+ends take serve base=long;      expect "a served file above the limit" 1 \
+                                    '' '^ctfd: long: StageFull at 0$'
+ends take serve base=/dev/zero; expect "a served file without end" 1 \
+                                    '' '^ctfd: /dev/zero: StageFull at 0$'
+ends take serve base=/dev/null; expect "a served file that is empty" 1 \
+                                    '' '^ctfd: /dev/null: TooShort at 0$'
+ends take serve base=outer;     expect "names in strings that are not there" 1 \
+                                    '' '^ctfd: outer: BadName at 36$'
+ends take serve base=take;      expect "a served file of another kind" 1 \
+                                    '' '^ctfd: take: BadMagic at 0$'
 ends take serve base=int base=two
                                 expect "a name twice" 1 '' '^ctfd: two: NameTaken at 0$'
 ends take serve base=int base=take

@@ -51,7 +51,8 @@ def faults_in(refusals: str, known: dict[int, str]) -> set[str]:
 
 
 def of_words(page: str, known: dict[int, str]) -> set[Pair]:
-    """Each word of the table with each of its refusals: a question on a type has those of `kind`."""
+    """Each word of the table with each of its refusals: a question on a type has those of
+    `kind`."""
     pairs: set[Pair] = set()
     of_kind: set[str] = set()
     for word, fields, _, refusals in filter(None, map(cells, page.splitlines())):
@@ -69,7 +70,8 @@ def cells(line: str) -> tuple[str, ...] | None:
 
 
 def of_additions(page: str, known: dict[int, str]) -> set[Pair]:
-    """What is added with each of its refusals; a line behind `- then` goes on with the one above."""
+    """What is added with each of its refusals; a line behind `- then` goes on with the one
+    above."""
     pairs: set[Pair] = set()
     added = ""
     for line in page.partition("\n## add\n")[2].partition("\n## ")[0].splitlines():

@@ -183,6 +183,7 @@ count "types of the program before it was stripped" \
     eval "client ctfd-show --pid $pid --types table.ctf 'head->next->number' | grep -qx 20"
 count "types alone, with an address" eval "client ctfd-show --pid $pid --types types \
     '((struct node *) ${address%% *})->number' 2> lines | grep -qx 10"
-count "and no symbols" grep -q 'ctfd-show: types: the file was linked, stripped or changed after its types were written' lines
+told='ctfd-show: types: the file was linked, stripped or changed after its types were written'
+count "and no symbols" grep -q "$told" lines
 echo "show: $checks checks, $wrong wrong"
 [ $wrong = 0 ]

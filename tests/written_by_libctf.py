@@ -3,15 +3,17 @@
 
 usage: tests/written_by_libctf.py
 
-Prints `yes`, or the difference; the status is 1 then. Needs libctf, which comes with binutils (tried with
+Prints `yes`, or the difference; the status is 1 then. Needs libctf, which comes with binutils
+(tried with
 2.40 of Debian 12); says so and ends with status 0 where it is missing.
 
-libctf descends from the library that the format comes from, and still reads its types, but as a version 1 of
-its own: the magic is another, and the header has one word more, where variables begin. So the header of
-examples/written.ctf is written anew, and what stands behind it is as the project writes it, but for type 6,
-a function: on any function that is told in this form libctf stops with a failed assertion (`upgrade_types_v1`).
-A copy of type 2, as long, stands in its place; tests/written_by_pahole.sh shows the function. Labels of such
-a dictionary libctf looks for in the wrong place, so they are not compared.
+libctf descends from the library that the format comes from, and still reads its types, but as a
+version 1 of its own: the magic is another, and the header has one word more, where variables begin.
+So the header of examples/written.ctf is written anew, and what stands behind it is as the project
+writes it, but for type 6, a function: on any function that is told in this form libctf stops with a
+failed assertion (`upgrade_types_v1`). A copy of type 2, as long, stands in its place;
+tests/written_by_pahole.sh shows the function. Labels of such a dictionary libctf looks for in the
+wrong place, so they are not compared.
 
 What is expected was worked out by hand from the types.
 """
@@ -53,9 +55,8 @@ class Array(ctypes.Structure):
 
 def rewritten(dictionary):
     """The dictionary behind a header as libctf has it, and without its function."""
-    _, _, flags, parlabel, parname, labels, objects, functions, types, strings, length = struct.unpack_from(
-        "<HBB8I", dictionary
-    )
+    _, _, flags, parlabel, parname, labels, objects, functions, types, strings, length = (
+        struct.unpack_from("<HBB8I", dictionary))
     words = parlabel, parname, labels, objects, functions, types, types, strings, length
     function = slice(TYPE_6, TYPE_6 + LENGTH)
     body = bytearray(dictionary)
@@ -103,7 +104,8 @@ def main():
         said.append(line)
         if line.startswith("0x5:"):
             said.append(read.array(5))
-    difference = list(difflib.unified_diff(EXPECTED.splitlines(), said, "expected", "said", lineterm=""))
+    difference = list(difflib.unified_diff(EXPECTED.splitlines(), said, "expected", "said",
+                                           lineterm=""))
     print("\n".join(difference) or "yes")
     return 1 if difference else 0
 

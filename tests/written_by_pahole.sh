@@ -1,26 +1,31 @@
 #!/usr/bin/env bash
-# Gives a dictionary that this project writes to pahole, another reader of the format, and compares its listing.
+# Gives a dictionary that this project writes to pahole, another reader of the format, and compares
+# its listing.
 # usage: tests/written_by_pahole.sh
-# Prints a row for each comparison, which ends in "yes" or in "no" and the difference; the status is 1 where
-# one was no. Needs Debian's package dwarves (tried with 1.24 of Debian 12), gcc, objcopy and Python; says
-# so and ends with status 0 where one is missing.
+# Prints a row for each comparison, which ends in "yes" or in "no" and the difference; the status is
+# 1 where one was no. Needs Debian's package dwarves (tried with 1.24 of Debian 12), gcc, objcopy
+# and Python; says so and ends with status 0 where one is missing.
 #
-# The dictionary is examples/written.ctf, one type of each kind, the bytes that a test of the writer expects.
-# pahole and pdwtags, which lists all types, read it from the section .SUNW_ctf of an object file. That file
-# has to have a symbol table, and in it no function: they want to be told something of each, and nothing is
-# told here.
+# The dictionary is examples/written.ctf, one type of each kind, the bytes that a test of the writer
+# expects. pahole and pdwtags, which lists all types, read it from the section .SUNW_ctf of an
+# object file. That file has to have a symbol table, and in it no function: they want to be told
+# something of each, and nothing is told here.
 #
-# The lists below were worked out by hand from the types, with these ways of the readers, of which those on
-# the sizes of enums and on forwards were seen with the dictionary of another tool too (examples/lua.ctf):
-# - Of type 1, an unknown one, they say no more than number, place and visibility, on standard error.
-# - A float's width in a struct is that of C's type of its name. `f` is no such name, so the member has none.
-# - An enum's size in bytes is taken for bits, so 4 are no byte, and "packed". Values are without sign: -1 is
-#   4294967295.
-# - A forward is taken for a struct without members, and the kind that it declares (6, struct) for its size.
+# The lists below were worked out by hand from the types, with these ways of the readers, of which
+# those on the sizes of enums and on forwards were seen with the dictionary of another tool too
+# (examples/lua.ctf):
+# - Of type 1, an unknown one, they say no more than number, place and visibility, on standard
+#   error.
+# - A float's width in a struct is that of C's type of its name. `f` is no such name, so the member
+#   has none.
+# - An enum's size in bytes is taken for bits, so 4 are no byte, and "packed". Values are without
+#   sign: -1 is 4294967295.
+# - A forward is taken for a struct without members, and the kind that it declares (6, struct) for
+#   its size.
 # - A function's size is that of what it returns.
 # - Of a qualified type only the size of what is qualified is shown.
-# Not shown are labels, encodings, the index of an array and what qualifiers stand before. All of these but
-# labels are shown by tests/written_by_libctf.py.
+# Not shown are labels, encodings, the index of an array and what qualifiers stand before. All of
+# these but labels are shown by tests/written_by_libctf.py.
 set -u
 tests=$(realpath "$(dirname "$0")")
 for tool in pahole pdwtags gcc objcopy python3; do
@@ -41,11 +46,12 @@ same() {
     [ "$well" = yes ] || failed=1
 }
 
-# listed PROGRAM: what it lists in FILE listed, a type on each line and blanks squeezed, and in FILE said
-# what it says beside that.
+# listed PROGRAM: what it lists in FILE listed, a type on each line and blanks squeezed, and in FILE
+# said what it says beside that.
 listed() {
     { "$1" -F ctf written.o 2> said | tr -s ' \t\n' ' '; echo; } > words
-    sed -E 's#/\* ([0-9]+|Functions:) \*/#\n\1#g; s#; (union|struct) #;\n\1 #g; s/ +(\n|$)/\1/g' words > listed
+    sed -E 's#/\* ([0-9]+|Functions:) \*/#\n\1#g; s#; (union|struct) #;\n\1 #g; s/ +(\n|$)/\1/g' \
+        words > listed
 }
 
 "$tests/written_bytes.py" > bytes || failed=1

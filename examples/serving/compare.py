@@ -6,10 +6,13 @@ usage: compare.py PROGRAM [--kill] [--across]
 Starts a redis-server of its own, on a free port of the loopback and in a temporary folder, and a
 consumer for each partition, and sends the requests of twenty sessions. What each session is replied
 is compared with what one process replies that is given all requests in the order of sending. Prints
-`same` and what was compared; where a session is replied otherwise, `different`, and the status is 1.
+`same` and what was compared; where a session is replied otherwise, `different`, and the status is
+1.
 
---kill    when a third is replied all consumers are killed, and others are started when the next is put
---across  sessions take from those of other partitions too, which they must not: it is different then
+--kill    when a third is replied all consumers are killed, and others are started when the next is
+          put
+--across  sessions take from those of other partitions too, which they must not: it is different
+          then
 """
 import argparse
 import contextlib
@@ -58,9 +61,11 @@ def connected(port):
 
 
 def gathered(redis, count):
-    """The replies of each session, till there are so many; fewer where none comes for ten seconds."""
+    """The replies of each session, till there are so many; fewer where none comes for ten
+    seconds."""
     replies = {session: [] for session in SESSIONS}
-    for name, _, told in streams.follow(redis, [f"replies:{session}" for session in SESSIONS], 10_000):
+    names = [f"replies:{session}" for session in SESSIONS]
+    for name, _, told in streams.follow(redis, names, 10_000):
         replies[int(name.split(b":")[1])].append(told[b"line"].decode())
         count -= 1
         if not count:
@@ -72,7 +77,8 @@ def by_queue(program, files, requests, kill):
     """The replies of each session, by a queue and a consumer for each partition."""
     with contextlib.ExitStack() as stack:
         folder, port = stack.enter_context(tempfile.TemporaryDirectory()), free_port()
-        words = ["--bind", "127.0.0.1", "--port", port, "--dir", folder, "--save", "", "--appendonly", "no"]
+        words = ["--bind", "127.0.0.1", "--port", port, "--dir", folder, "--save", "",
+                 "--appendonly", "no"]
         stack.enter_context(running("redis-server", *words))
         redis = connected(port)
 
@@ -101,7 +107,8 @@ def by_one(program, files, requests):
     """The replies of each session, by one process that is given all requests."""
     lines = "".join(streams.line(session, request) + "\n" for session, request in requests)
     command = [program, "serve", *files]
-    told = subprocess.run(command, input=lines, stdout=subprocess.PIPE, text=True, check=True).stdout
+    told = subprocess.run(command, input=lines, stdout=subprocess.PIPE, text=True,
+                          check=True).stdout
     replies = {session: [] for session in SESSIONS}
     for line in told.splitlines():
         replies[json.loads(line)["s"]].append(line)
@@ -112,7 +119,8 @@ def granted(requests, replies, chosen):
     """How many of the chosen requests were not refused."""
     waiting = {session: iter(lines) for session, lines in replies.items()}
     told = [(session, request, next(waiting[session])) for session, request in requests]
-    return sum(chosen(session, request) and line.startswith('{"ok"') for session, request, line in told)
+    return sum(chosen(session, request) and line.startswith('{"ok"')
+               for session, request, line in told)
 
 
 def refused(replies, name):
@@ -133,7 +141,8 @@ def withdraws(session, request):
 
 
 def main():
-    parser = argparse.ArgumentParser(description=__doc__, formatter_class=argparse.RawDescriptionHelpFormatter)
+    parser = argparse.ArgumentParser(description=__doc__,
+                                     formatter_class=argparse.RawDescriptionHelpFormatter)
     parser.add_argument("program")
     parser.add_argument("--kill", action="store_true")
     parser.add_argument("--across", action="store_true")
@@ -149,7 +158,8 @@ def main():
         queue = by_queue(words.program, files, requests, words.kill)
     other = [session for session in SESSIONS if one[session] != queue[session]]
     print("different" if other else "same")
-    print(f"{len(requests)} requests of {len(SESSIONS)} sessions in {PARTITIONS} partitions, granted", end=" ")
+    print(f"{len(requests)} requests of {len(SESSIONS)} sessions in {PARTITIONS} partitions,"
+          " granted", end=" ")
     print(granted(requests, one, lambda *_: True), end=", of these")
     print(f" {granted(requests, one, withdraws)} withdrawals", end=",")
     print(f" {granted(requests, one, takes_loaded)} takes of what was loaded", end=" and")

@@ -44,7 +44,8 @@ def serve(redis, service, number, request):
     if told is None:
         redis.ask("XADD", replies, number, "line", reply)
     elif told != reply:
-        sys.exit(f"{number.decode()} was replied otherwise before: {told.decode()}, now {reply.decode()}")
+        sys.exit(f"{number.decode()} was replied otherwise before: {told.decode()},"
+                 f" now {reply.decode()}")
 
 
 def main(port, partitions, program, *files):

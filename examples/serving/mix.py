@@ -1,4 +1,5 @@
-"""Requests of some sessions that publish for each other, withdraw and take; the same at each run."""
+"""Requests of some sessions that publish for each other, withdraw and take; the same at each
+run."""
 import json
 import pathlib
 import random
@@ -46,14 +47,16 @@ def request(owners, chance):
         + [published, published, {"op": "take", "owner": 0, "name": "zlib"}]
         + [{"op": "take", "owner": 0, "name": "large"}, {"op": "model"} | slot]
         + [{"op": op, "name": chance.choice(NAMES)} | slot for op in ("publish", "withdraw")]
-        + [{"op": "create", **more} | chance.choice(MODELS) for more in ({}, {"parent": slot["d"], "parname": "p"})]
+        + [{"op": "create", **more} | chance.choice(MODELS)
+           for more in ({}, {"parent": slot["d"], "parname": "p"})]
         + [{"op": "import", "parent": chance.randint(1, 4)} | slot]
         + [chance.choice([{"op": "reset"}, {"op": "close"} | slot, {"op": "info"} | slot])]
     )
 
 
 def mix(sessions, owners, count, seed=1):
-    """So many requests, each a session and its fields; `owners(s)` are those that session s takes from."""
+    """So many requests, each a session and its fields; `owners(s)` are those that session s takes
+    from."""
     chance, dictionaries = random.Random(seed), list(sections())
     waiting = [list(begun(session, chance, dictionaries)) for session in sessions]
     for _ in range(count):

@@ -51,7 +51,8 @@ def follow(redis, names, wait):
 
     Ends when nothing has come for so many milliseconds; 0 is never."""
     seen = {name.encode(): b"0-0" for name in names}
-    while found := redis.ask("XREAD", "COUNT", 100, "BLOCK", wait, "STREAMS", *seen, *seen.values()):
+    while found := redis.ask("XREAD", "COUNT", 100, "BLOCK", wait,
+                             "STREAMS", *seen, *seen.values()):
         for name, entries in found:
             for entry in entries:
                 seen[name], told = fields(entry)
@@ -65,4 +66,5 @@ def line(session, request):
 
 def send(redis, partitions, session, request):
     """Puts a request of a session into its partition's stream."""
-    redis.ask("XADD", f"requests:{session % partitions}", "*", "s", session, "line", line(session, request))
+    redis.ask("XADD", f"requests:{session % partitions}", "*",
+              "s", session, "line", line(session, request))

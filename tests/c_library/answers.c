@@ -83,7 +83,8 @@ static void figures(uint16_t t)
         printf("array %u: %s\n", t, ctfd_status_name(status));
 }
 
-/* A member's place by its name, by a path of this one name, and by one with a name that isn't there. */
+/* A member's place by its name, by a path of this one name, and by one with a name that isn't
+ * there. */
 static void places(uint16_t t, const char *name, uint64_t name_len)
 {
     uint64_t offset = 0, place = 0;

@@ -38,7 +38,8 @@ class Service:
                               capture_output=True).stdout
         replies = [json.loads(line) for line in said.splitlines()][len(self.front):]
         assert len(replies) == len(questions)
-        return [one["ok"] if "ok" in one else {"fault": one["fault"]["name"], "place": one["fault"]["place"]}
+        return [one["ok"] if "ok" in one
+                else {"fault": one["fault"]["name"], "place": one["fault"]["place"]}
                 for one in replies]
 
 

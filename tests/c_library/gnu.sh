@@ -8,8 +8,8 @@
 # Of the tests that are there these ask of types that a compiler wrote, by calls that have a like
 # here. The others write dictionaries, which GNU's libctf shows before an update, or try its linker.
 # Prints a line for each; the status is 1 where one printed something else than binutils wants. A
-# name in that is a pattern: where it ends in a word and a blank, the name of a struct without one is
-# `(anon)` here, as illumos writes it.
+# name in that is a pattern: where it ends in a word and a blank, the name of a struct without one
+# is `(anon)` here, as illumos writes it.
 set -eu
 program=$(realpath "$1")
 sources=$(realpath "$2")/libctf/testsuite/libctf-lookup

@@ -166,7 +166,8 @@ def _is_unknown(theirs: Struct, ours: Struct) -> bool:
 
 def tell(number: int, name: str, theirs: Struct, ours: List[Struct]) -> None:
     if number <= MOST:
-        print(name, f"  pahole {theirs}", *(f"  ctfd   {one}" for one in ours or ["none"]), sep="\n")
+        print(name, f"  pahole {theirs}", *(f"  ctfd   {one}" for one in ours or ["none"]),
+              sep="\n")
 
 
 def main(service: str, *paths: str) -> int:

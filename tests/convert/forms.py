@@ -4,14 +4,14 @@ pahole and gdb say of it.
 
 usage: forms.py SERVICE
 
-SERVICE is a built ctfd. The program of tests/convert/forms is built by gcc and clang, as far as they
-are here, with DWARF 4 and 5: as program, library, object file and archive; for 32 bits; with split
-debug information, packages of it, type units, compressed sections; optimized as one; after dwz, by
-itself and with a common file; and stripped in four ways, with a debug file beside it and with the
-dictionary in it. Of each form ctfd-convert makes a dictionary. Each struct and union has to be as
-pahole lists it of the plain program, and none may be missing that is in the form; each symbol of
-which something is told has to be as gdb declares it, and where the form has all symbols, something
-is told of each.
+SERVICE is a built ctfd. The program of tests/convert/forms is built by gcc and clang, as far as
+they are here, with DWARF 4 and 5: as program, library, object file and archive; for 32 bits; with
+split debug information, packages of it, type units, compressed sections; optimized as one; after
+dwz, by itself and with a common file; and stripped in four ways, with a debug file beside it and
+with the dictionary in it. Of each form ctfd-convert makes a dictionary. Each struct and union has
+to be as pahole lists it of the plain program, and none may be missing that is in the form; each
+symbol of which something is told has to be as gdb declares it, and where the form has all symbols,
+something is told of each.
 
 Prints each that differs, then counts; the status is 1 where one does. What a tool that is missing
 would have made is skipped, by a line.
@@ -131,7 +131,8 @@ class Forms:
             self.compare(name)
         run("ld", "-r", "-o", "both.o", "one.o", "two.o")
         self.compare("both.o", is_whole=True)
-        run(*self.builder.command, "-fPIC", "-shared", *self.builder.objects("-fPIC"), "-o", "lib.so")
+        run(*self.builder.command, "-fPIC", "-shared", *self.builder.objects("-fPIC"),
+            "-o", "lib.so")
         self.compare("lib.so", is_whole=True)
 
     def compressed(self) -> None:

@@ -5,9 +5,9 @@ usage: headers.py SERVICE [COUNT]
 
 SERVICE is a built ctfd. The headers of Debian's libc6-dev and linux-libc-dev, or the first COUNT of
 them, are compiled with debug information, as many in one unit as go together, and linked into one
-object file. ctfd-convert takes its types; each struct and union is then listed by the client, and by
-pahole from the debug information, and the name, place and size of each member compared. Prints what
-differs, then how many there are; the status is 1 where one differs.
+object file. ctfd-convert takes its types; each struct and union is then listed by the client, and
+by pahole from the debug information, and the name, place and size of each member compared. Prints
+what differs, then how many there are; the status is 1 where one differs.
 """
 from __future__ import annotations
 
@@ -31,7 +31,8 @@ MOST = 40
 OPTIONS = ("-g", "-w", "-c", "-D_GNU_SOURCE", "-fno-eliminate-unused-debug-types")
 
 _BEGINS = re.compile(r"(struct|union) (\w+) \{")
-_PLACED = re.compile(r"(?P<text>.*?);\s*/\*\s*(?P<byte>\d+)(?:: ?(?P<bit>\d+))?\s+(?P<size>\d+) \*/")
+_PLACED = re.compile(r"(?P<text>.*?);\s*/\*\s*(?P<byte>\d+)(?:: ?(?P<bit>\d+))?\s+"
+                     r"(?P<size>\d+) \*/")
 _NAME = re.compile(r"\(\s*\*+\s*(?:const |volatile )*(\w+)|(\w+)\s*(?:\[[^]]*\]|:\d+)*\s*\Z")
 _ATTRIBUTE = re.compile(r"\s*__attribute__\(\(\w+(?:\(\d*\))?\)\)")
 _SIZE = re.compile(r"\t/\* size: (\d+)")

@@ -1,5 +1,6 @@
 #!/usr/bin/env python3
-"""Converts a kernel's BTF within a minute and two gigabytes, and compares its structs with pahole's.
+"""Converts a kernel's BTF within a minute and two gigabytes, and compares its structs with
+pahole's.
 
 usage: kernel.py SERVICE BTF
 

@@ -254,8 +254,8 @@ class Text(NamedTuple):
 
 
 def file(seed: int, model: str, is_plain: bool = False) -> Text:
-    """The file of a seed. A plain one has nothing that gcc 12 writes wrongly as GNU's CTF: arrays of
-    arrays, unnamed bit-fields, atomic types and packed enums, and on i386 a long double."""
+    """The file of a seed. A plain one has nothing that gcc 12 writes wrongly as GNU's CTF: arrays
+    of arrays, unnamed bit-fields, atomic types and packed enums, and on i386 a long double."""
     made = File(model, random.Random(f"{seed}"), is_plain)
     made.types(made.chance.randint(4, 14))
     types = "\n".join(made.texts) + "\n"

@@ -1,5 +1,6 @@
 #!/usr/bin/env python3
-"""Converts random C files, and compares what the service says of them with what their compiler says.
+"""Converts random C files, and compares what the service says of them with what their compiler
+says.
 
 usage: run.py SERVICE COUNT [FIRST] [--gnu COUNT]
 

@@ -24,6 +24,7 @@ llvm-dwarfdump --verify it.debug | tail -n 1
 placed=$("$tests/placed.py" "$module")
 for one in "first $module" "ours it.debug"; do
     NAMES=names OUT=${one% *} gdb -batch -nx -iex 'set debug-file-directory /none' \
-        -ex "add-symbol-file ${one#* } $placed" -x "$tests/dump.py" > log 2>&1 || { cat log; exit 1; }
+        -ex "add-symbol-file ${one#* } $placed" -x "$tests/dump.py" > log 2>&1 ||
+        { cat log; exit 1; }
 done
 "$tests/module.py" "$module" first ours

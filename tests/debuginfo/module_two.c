@@ -1,7 +1,9 @@
-/* The other of two files of a module. It has a variable and a function of the names of the first. */
+/* The other of two files of a module. It has a variable and a function of the names of the
+ * first. */
 #include "module.h"
 static long count = 5;
-static __attribute__((noinline)) long open_device(const struct device *one, long more) { return more + count++; }
+static __attribute__((noinline)) long open_device(const struct device *one, long more)
+{ return more + count++; }
 static long long big[8] IN(".bss.big");
 int close_device(struct device *one, long flags)
 {

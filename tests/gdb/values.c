@@ -95,7 +95,10 @@ struct node {
 };
 
 struct deep {
-	struct { struct pair pair; int row[2]; char text[4]; struct { union { struct pair both; int one; }; }; };
+	struct {
+		struct pair pair; int row[2]; char text[4];
+		struct { union { struct pair both; int one; }; };
+	};
 	struct { struct { struct { int x[2]; } c; } b; } a;
 	wchar_t wide[3];
 };
@@ -167,7 +170,8 @@ enum gapped gappeds[4] = { 0, 9, 11, 16 };
 enum access access = OPEN | SEALED, accesses[6] = { 0, 3, 8, 12, 4, LAST | HIDDEN };
 enum wide wides[3] = { NONE, TOP, (enum wide) 0x40000001 };
 float single = 0.1f, singles[6] = { 1, -2.5f, 1e30f, 1e-40f, 3.0e-5f, 16777216 };
-double twofold = 0.1, doubles[8] = { 0, -0.0, 1e100, 5e-324, 3.141592653589793, 1e16, 123456789, 100 };
+double twofold = 0.1;
+double doubles[8] = { 0, -0.0, 1e100, 5e-324, 3.141592653589793, 1e16, 123456789, 100 };
 long double extended = 0.1L, extendeds[5] = { 0, -1.5L, 1e4000L, 1e-4940L, 12345678.9L };
 float odd[4] = { __builtin_inff(), -__builtin_inff(), __builtin_nanf(""), -__builtin_nanf("5") };
 double odds[3] = { __builtin_inf(), __builtin_nan(""), -__builtin_nan("7") };
@@ -177,8 +181,8 @@ struct floats floats = { 1.5f, -2.25, 3.125L };
 struct bits bits = { 5, -3, 1234, 1, NARROW, 2, -9, -77 };
 struct bits more_bits[2] = { { 7, 15, 2047, 0, 1, 3, 63, 1 }, { 0, -16, 1, 1, -1, 0, -64, -1 } };
 union any any = { .bytes = { 0, 0, 0x80, 0x3f, 1, 2, 3, 4 } };
-struct nested nested = { 1, { 2, { 3 }, { 'd', BLUE } }, { 4, 5 }, { { 6, 7 }, { 8, 9 }, { 10, 11 } },
-	{ .i = 12 }, { { 13 } } };
+struct nested nested = { 1, { 2, { 3 }, { 'd', BLUE } }, { 4, 5 },
+	{ { 6, 7 }, { 8, 9 }, { 10, 11 } }, { .i = 12 }, { { 13 } } };
 struct deep deep = { { { 1, 2 }, { 3, 4 }, "txt", { { { 5, 6 } } } }, { { { { 7, 8 } } } }, L"w" };
 struct nested *at_nested = &nested;
 struct qualified qualified = { 1, 2, 3, "constant", word_of };
@@ -190,14 +194,16 @@ struct pair table[2][3] = { { { 1, 2 }, { 3, 4 }, { 5, 6 } }, { { 7, 8 } } };
 int squares[30][20];
 union any unions[2] = { { .f = 1.5f }, { .low = 3, .high = 4 } };
 unsigned short wides_of[4] = { 65, 0x263a, 0xffff, 0 };
-wchar_t wide_letter = L'w', wide_other = 0x263a, wide_negative = -1, wide_all[3] = { -2, 200, 0x263a };
+wchar_t wide_letter = L'w', wide_other = 0x263a, wide_negative = -1;
+wchar_t wide_all[3] = { -2, 200, 0x263a };
 struct flexible flexible = { 2, { { 1, 2 }, { 3, 4 } } };
 struct trailing trailing = { 5, "text" };
 struct pair pairs[4] = { { 1, 2 }, { 1, 2 }, { 3, 4 } }, *at_pair = &pairs[2];
 struct node first, second, *head = &first, *const nodes[3] = { &first, &second, 0 };
 struct node **at_head = &head;
 struct link list = { &list, &list };
-struct item items[3] = { { 10, { 0, 0 }, "ten" }, { 20, { 0, 0 }, "twenty" }, { 30, { 0, 0 }, "30" } };
+struct item items[3] = { { 10, { 0, 0 }, "ten" }, { 20, { 0, 0 }, "twenty" },
+	{ 30, { 0, 0 }, "30" } };
 const char *text = "a text", *no_text, *texts[3] = { "one", 0, "three" };
 char *at_text = escaped + 4;
 byte *at_octets = octets;

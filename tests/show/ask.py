@@ -14,7 +14,8 @@ from pathlib import Path
 import gdb
 
 MEMBERS, MOST = 4, 4000
-VARIABLE = re.compile(r"^\d+:.*?\(\*+(?:const )?(\w+)(?:\[\d*\])*\)|^\d+:.*?(\w+)(?:\[\d*\])*;$", re.M)
+VARIABLE = re.compile(r"^\d+:.*?\(\*+(?:const )?(\w+)(?:\[\d*\])*\)|"
+                      r"^\d+:.*?(\w+)(?:\[\d*\])*;$", re.M)
 RECORDS = (gdb.TYPE_CODE_STRUCT, gdb.TYPE_CODE_UNION)
 
 

@@ -17,8 +17,12 @@ TEXT = """
 typedef unsigned char u8;                 /* a comment */
 enum level { LOW = 1, MIDDLE, HIGH = LOW << 4 };
 struct __attribute__((packed)) tight { char a; int *p; u8 b : 3, c : 5; };
-struct loose { char a; int *p __attribute__((aligned(16))); enum level level : 6; _Alignas(8) u8 z; };
-typedef struct node { struct node *next; int (*call)(const char *, ...); u8 rest[HIGH + 1]; } node_t;
+struct loose {
+    char a; int *p __attribute__((aligned(16))); enum level level : 6; _Alignas(8) u8 z;
+};
+typedef struct node {
+    struct node *next; int (*call)(const char *, ...); u8 rest[HIGH + 1];
+} node_t;
 union all { char bytes[sizeof(struct tight)]; node_t node; } __attribute__((aligned(64)));
 typedef int aligned_t __attribute__((aligned(8)));
 static inline int ignored(int a) { return a ? a : 1; }

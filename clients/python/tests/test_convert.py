@@ -95,7 +95,8 @@ class Dwarf(WithFiles):
         self.assertEqual((told, node.size), ("", 32))
         self.assertEqual(self.members(node), [
             ("next", 0, "struct node *"), ("flags", 64, "u32"), ("inner", 72, "const struct inner"),
-            ("call", 128, "int (*)(int, ...)"), ("", 192, "union {...}"), ("rest", 256, "char [0]")])
+            ("call", 128, "int (*)(int, ...)"), ("", 192, "union {...}"),
+            ("rest", 256, "char [0]")])
         bits = node.member("flags").type
         self.assertEqual((bits.is_root, bits.bit_field and bits.bit_field.bits), (False, 3))
         self.assertEqual(types.find("u32").bit_field, None)

@@ -37,7 +37,8 @@ class Easy(unittest.TestCase):
                 types["luaL_reg"]
             with self.assertRaisesRegex(KeyError, "no type has the number 527"):
                 types[527]
-            with self.assertRaisesRegex(ctfd.NoSuchType, "lua_State has no member statis; the near"):
+            with self.assertRaisesRegex(ctfd.NoSuchType,
+                                        "lua_State has no member statis; the near"):
                 types["struct lua_State"].offsetof("statis")
             with self.assertRaisesRegex(ctfd.Error, "int has no members"):
                 types["int"].offsetof("a")

@@ -36,7 +36,8 @@ static struct hidden hidden;
 struct node first; union both both; int total;
 int find(struct node *n, int key) { return n->key == key; }
 long scale(word by, unsigned long bytes) { return by * (long)bytes; }
-void walk(struct near *start, int (*each)(struct opaque *, char *)) { each(0, 0); start->far->a = 1; }
+void walk(struct near *start, int (*each)(struct opaque *, char *))
+{ each(0, 0); start->far->a = 1; }
 void gone(void) { hidden.q = total; }
 static int helper(struct hidden *h) { return h->q; }
 int used(void) { return helper(&hidden); }
@@ -72,13 +73,15 @@ MADE = (
     Made("an argument's type", "word by", "long by", 4, "function scale: argument 1 is long int"),
     Made("an argument added", "(void) { hidden", "(int n) { hidden", 4,
          "function gone: takes 1 arguments, took 0"),
-    Made("what is returned", "long scale", "int scale", 4, "function scale: what it returns is int"),
+    Made("what is returned", "long scale", "int scale", 4,
+         "function scale: what it returns is int"),
     Made("a typedef of another", "typedef unsigned int word", "typedef unsigned long word", 4,
          "function scale: argument 1 is another word"),
     Made("a typedef renamed", "word", "wide", 0),
     Made("a base type spelled otherwise", "unsigned long bytes", "long unsigned int bytes", 0),
     Made("a bit-field wider", "low : 3, high : 5", "low : 4, high : 5", 4, "low 3 bits -> 4 bits"),
-    Made("a bit-field moved", "low : 3, high : 5", "high : 5, low : 3", 4, "low moved from 36 to 36:5; high moved from 36:3 to 36"),
+    Made("a bit-field moved", "low : 3, high : 5", "high : 5, low : 3", 4,
+         "low moved from 36 to 36:5; high moved from 36:3 to 36"),
     Made("an alignment", "struct inner {", "struct __attribute__((aligned(64))) inner {", 4,
          "struct inner: size 16 -> 64"),
     Made("packed", "struct inner {", "struct __attribute__((packed)) inner {", 4,
@@ -87,7 +90,8 @@ MADE = (
     Made("static alone", "struct hidden { int q; }", "struct hidden { long q, r; }", 0),
     Made("a function removed", "void gone(void) { hidden.q = total; }", "", 4,
          "function gone: removed"),
-    Made("a function made static", "void gone(void)", "static __attribute__((used)) void gone(void)",
+    Made("a function made static", "void gone(void)",
+         "static __attribute__((used)) void gone(void)",
          4, "function gone: removed"),
     Made("a function hidden", "void gone(void)",
          "__attribute__((visibility(\"hidden\"))) void gone(void)", 4, "function gone: removed"),
@@ -192,9 +196,11 @@ class Guard(unittest.TestCase):
     def test_a_version_of_a_symbol_and_a_name(self) -> None:
         script = Path(self.folder, "map")
         script.write_text("V1 { global: find; gone; local: *; };\n")
-        first = self.library("first", CODE, f"-Wl,--version-script={script}", "-Wl,-soname,lib.so.1")
+        first = self.library("first", CODE, f"-Wl,--version-script={script}",
+                             "-Wl,-soname,lib.so.1")
         script.write_text("V1 { global: gone; local: *; };\nV2 { global: find; };\n")
-        other = self.library("other", CODE, f"-Wl,--version-script={script}", "-Wl,-soname,lib.so.2")
+        other = self.library("other", CODE, f"-Wl,--version-script={script}",
+                             "-Wl,-soname,lib.so.2")
         told = self.told(first, other, status=4)
         self.assertIn("function find@V1: removed", told)
         self.assertIn("function find@V2: added", told)

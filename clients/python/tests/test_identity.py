@@ -74,8 +74,8 @@ class Symbols(WithPrograms):
 
     def test_that_entries_go_by_the_exported_symbols_is_told(self) -> None:
         told = self.converted(self.program("program", "-rdynamic"), "--symbols", "dynsym")[1]
-        self.assertRegex(told, r"^ctfd-convert: .*its types are for the \d+ functions and objects of"
-                               r" \.dynsym, which strip keeps.*\n\Z")
+        self.assertRegex(told, r"^ctfd-convert: .*its types are for the \d+ functions and objects"
+                               r" of \.dynsym, which strip keeps.*\n\Z")
         file = self.compiled("code.o", CODE)
         self.assertIn("no .dynsym", self.converted(file, "--symbols", "dynsym", status=2)[1])
 

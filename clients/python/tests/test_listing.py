@@ -74,8 +74,8 @@ OTHERS = {"expdesc", "global_State", "inflate_state"}
 
 class Declarations(WithService):
     def test_all_types_are_declared_as_the_service_spells_them(self) -> None:
-        """But for arguments, which the service leaves out, and for the qualifiers of an array, which
-        C says of what it holds, and the service in front of all, as libctf does."""
+        """But for arguments, which the service leaves out, and for the qualifiers of an array,
+        which C says of what it holds, and the service in front of all, as libctf does."""
         for name in ("lua.ctf", "zlib.ctf"):
             types = self.example(name).types()
             for t in types:

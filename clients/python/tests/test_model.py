@@ -134,7 +134,8 @@ class Narrow(WithService):
         super().setUp()
         node = member(NUMBER, 1, 0) + member(NEXT, 2, 32)
         self.types = self.opened(dictionary(
-            [integer(INT), record(POINTER, 0, 3), record(STRUCT, 2, 8, NODE, node)], NAMES), "ilp32")
+            [integer(INT), record(POINTER, 0, 3), record(STRUCT, 2, 8, NODE, node)],
+            NAMES), "ilp32")
         data = struct.pack("<iIiIiI", 1, START + 8, 2, START + 16, 3, 0)
         self.target = Memory(self.types, data, {
             "first": Located(self.types.type(3), START),
@@ -153,7 +154,8 @@ class Narrow(WithService):
     def test_a_pointer_that_the_dictionary_has_not(self) -> None:
         made = PointerTo(self.types.type(2))
         wanted = [Wanted(made, START + 4), Wanted(made, START + 22)]
-        self.assertEqual(values(wanted, self.target.read), [Leaf("0x00001008"), Lost("ShortMemory")])
+        self.assertEqual(values(wanted, self.target.read),
+                         [Leaf("0x00001008"), Lost("ShortMemory")])
 
     def test_members_and_elements(self) -> None:
         for expression, number in (

@@ -29,7 +29,8 @@ class Package(unittest.TestCase):
 
     def test_public_modules(self) -> None:
         """Each is imported where it is first asked for, and `layout` is the function."""
-        code = ("import ctfd; print(ctfd.values.Bounds().elements, ctfd.build.Types('lp64').names(),"
+        code = ("import ctfd;"
+                " print(ctfd.values.Bounds().elements, ctfd.build.Types('lp64').names(),"
                 " ctfd.formats.Style().repeats, ctfd.expressions.evaluate.__name__,"
                 " ctfd.replies.Opened.__name__, ctfd.text.raw('x'), ctfd.layout.__name__);"
                 " from ctfd import *; print(values.__name__, layout.__name__)")

@@ -87,7 +87,8 @@ class Questions(unittest.TestCase):
         code += "\n_Static_assert(sizeof(struct holes) == 32, \"\");\n"
         subprocess.run(["gcc", "-x", "c", "-fsyntax-only", "-"], input=code, text=True, check=True)
         self.assertEqual(self.told("--reorganize", "struct inner"),
-                         ["/* struct inner: no order of its members is smaller than its 4 bytes */"])
+                         ["/* struct inner: no order of its members is smaller than its 4 bytes"
+                          " */"])
         self.assertIn("no struct", self.refused("--reorganize", "enum mode"))
         everything = self.told("--reorganize")
         self.assertIn("struct holes {", everything)
@@ -101,7 +102,8 @@ class Questions(unittest.TestCase):
     def test_records_of_a_file(self) -> None:
         raw = Path(self.folder, "raw")
         raw.write_bytes(bytes.fromhex("ffff 0100 0200 0300 0400 0500"))
-        shown = ["       0  {a = -1, b = 1}", "       4  {a = 2, b = 3}", "       8  {a = 4, b = 5}"]
+        shown = ["       0  {a = -1, b = 1}", "       4  {a = 2, b = 3}",
+                 "       8  {a = 4, b = 5}"]
         self.assertEqual(self.told("--show", "struct inner", str(raw)), shown)
         self.assertEqual(self.told("--show", "struct inner", str(raw), "4", "1"), shown[1:2])
         self.assertEqual(self.told("--hex", "--show", "struct inner", str(raw), "0x8"),

@@ -335,8 +335,8 @@ impl<'d> Type<'d> {
         Ok((offset, Type::some(self.of, to)))
     }
 
-    /// The same of a member of a member, the outermost first. The place of a refusal is the number of
-    /// its step, from 0.
+    /// The same of a member of a member, the outermost first. The place of a refusal is the number
+    /// of its step, from 0.
     pub fn path(self, names: &[&[u8]]) -> Result<(u64, Option<Type<'d>>), Refusal> {
         let (mut offset, mut to, mut place) = (0, 0, 0);
         let steps: Vec<u8> = names
