@@ -1,7 +1,7 @@
 #!/usr/bin/env python3
 """Measures how many lines pass through ctfd-front in a second, beside a pipe to `ctfd serve`.
 
-usage: front.py PROGRAM [--lines N] [--library libctfd.a]
+usage: front.py PROGRAM [--lines N] [--library libctfd.a] [--nginx /usr/sbin/nginx]
 
 The lines are questions of `kind` on a dictionary of one type: 200,000 in all, by one client and by
 50, written without waiting for replies, while replies are read. The pipe is written and read in the
@@ -36,6 +36,14 @@ BEGIN = b'{"s":7,"op":"part","section":"ctf","bytes":"%s"}\n{"s":7,"op":"open"}\
 PIECE = 65_536
 RUNS = 3
 SERVICES = 4
+NGINX = """load_module /usr/lib/nginx/modules/ngx_stream_module.so;
+daemon off;
+master_process off;
+pid {folder}/pid;
+error_log {folder}/errors;
+events {{ worker_connections 1024; }}
+stream {{ server {{ listen unix:{folder}/front; proxy_pass unix:{folder}/back; }} }}
+"""
 Ends = Tuple[int, int]  # a file that is written and one that is read; neither blocks
 
 
@@ -118,32 +126,77 @@ def by_pipe(program: str, lines: int) -> Measured:
     return measured
 
 
+@contextlib.contextmanager
+def connected(path: str, clients: int) -> Iterator[List[Ends]]:
+    """Clients of a socket."""
+    sockets = [socket.socket(socket.AF_UNIX) for _ in range(clients)]
+    ends: List[Ends] = []
+    try:
+        for one in sockets:
+            one.connect(path)
+            one.setblocking(False)
+            ends.append((one.fileno(), os.dup(one.fileno())))
+        yield ends
+    finally:
+        for one in sockets:
+            one.close()
+        for _, read in ends:
+            os.close(read)
+
+
+def wait_for(path: str) -> None:
+    """Waits until somebody listens at a path, for two seconds at most."""
+    for _ in range(200):
+        with socket.socket(socket.AF_UNIX) as one, contextlib.suppress(OSError):
+            one.connect(path)
+            return
+        time.sleep(0.01)
+    sys.exit(f"nobody listens at {path}")
+
+
+@contextlib.contextmanager
+def running(*command: object) -> Iterator[subprocess.Popen[bytes]]:
+    """A program that runs, and is ended."""
+    child = subprocess.Popen([str(word) for word in command], stderr=subprocess.PIPE)
+    try:
+        yield child
+    finally:
+        child.terminate()
+        child.wait()
+        assert child.stderr
+        child.stderr.close()
+
+
 def by_front(program: str, lines: int, clients: int, services: int = 1,
              exchange: Callable[[Sequence[Ends], int], None] = pipelined) -> Measured:
     with tempfile.TemporaryDirectory() as folder:
         path = f"{folder}/front"
-        child = subprocess.Popen([sys.executable, COMMAND, "--service", program, "--socket", path,
-                                  "--processes", str(services)], stderr=subprocess.PIPE)
-        assert child.stderr
-        child.stderr.readline()  # it listens
-        sockets: List[socket.socket] = []
-        ends: List[Ends] = []
-        for _ in range(clients):
-            sockets.append(socket.socket(socket.AF_UNIX))
-            sockets[-1].connect(path)
-            sockets[-1].setblocking(False)
-            ends.append((sockets[-1].fileno(), os.dup(sockets[-1].fileno())))
-        before, began = used(child.pid), time.monotonic()
-        exchange(ends, lines // clients)
-        measured = Measured(time.monotonic() - began, sum(map(used, started_by(child.pid))),
-                            used(child.pid) - before)
-        for one, (_, read) in zip(sockets, ends):
-            one.close()
-            os.close(read)
-        child.terminate()
-        child.wait()
-        child.stderr.close()
-    return measured
+        with running(sys.executable, COMMAND, "--service", program, "--socket", path,
+                     "--processes", services) as child:
+            assert child.stderr
+            child.stderr.readline()  # it listens
+            with connected(path, clients) as ends:
+                before, began = used(child.pid), time.monotonic()
+                exchange(ends, lines // clients)
+                return Measured(time.monotonic() - began, sum(map(used, started_by(child.pid))),
+                                used(child.pid) - before)
+
+
+def by_nginx(nginx: str, lines: int, clients: int,
+             exchange: Callable[[Sequence[Ends], int], None] = pipelined) -> Measured:
+    """Through nginx's stream proxy, to a process that gives back what it reads."""
+    with tempfile.TemporaryDirectory() as folder:
+        path, back, settings = (f"{folder}/{name}" for name in ("front", "back", "nginx.conf"))
+        Path(settings).write_text(NGINX.format(folder=folder), encoding="ascii")
+        with running(sys.executable, Path(__file__).with_name("echo.py"), back) as echo, \
+                running(nginx, "-p", folder, "-c", settings) as proxy:
+            for listening in (back, path):
+                wait_for(listening)
+            with connected(path, clients) as ends:
+                before, service, began = used(proxy.pid), used(echo.pid), time.monotonic()
+                exchange(ends, lines // clients)
+                return Measured(time.monotonic() - began, used(echo.pid) - service,
+                                used(proxy.pid) - before)
 
 
 class Handle(ctypes.Structure):
@@ -186,6 +239,7 @@ def main() -> int:
     parser.add_argument("program")
     parser.add_argument("--lines", type=int, default=200_000)
     parser.add_argument("--library", metavar="libctfd.a")
+    parser.add_argument("--nginx", metavar="nginx")
     given = parser.parse_args()
     program, lines = os.path.abspath(given.program), given.lines
     ways: Dict[str, Callable[[], Measured]] = {
@@ -194,6 +248,11 @@ def main() -> int:
         "50 clients": lambda: by_front(program, lines, 50),
         "50 that wait": lambda: by_front(program, lines, 50, exchange=one_by_one),
         f"50, {SERVICES} services": lambda: by_front(program, lines, 50, SERVICES)}
+    if given.nginx:
+        ways.update({
+            "nginx, 1": lambda: by_nginx(given.nginx, lines, 1),
+            "nginx, 50": lambda: by_nginx(given.nginx, lines, 50),
+            "nginx, 50 wait": lambda: by_nginx(given.nginx, lines, 50, one_by_one)})
     if given.library:
         ways["in process"] = lambda: in_process(given.library, lines)
     for name, way in ways.items():

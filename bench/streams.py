@@ -9,8 +9,8 @@ large     32,766 integers without names are opened once, and the last is asked f
 line      20 requests of 1,048,576 bytes, resets padded with blanks
 sessions  80,000 sessions, each with one reset
 again     10,000 sessions with one reset each, and then the last of them 10,000 times
-kind      20,000 types of mixed kinds are opened once, and 10,000 of them, spread over all, asked for
-          their kind
+kind      20,000 types of mixed kinds are opened once, and 10,000 of them, spread over all, asked
+          for their kind
 record    the same, asked for their kind, name and what goes with it
 members   the same dictionary, of whose 5,000 structs each is asked for its 14 members twice
 size      the same dictionary, 10,000 of its types asked for their size

@@ -152,7 +152,8 @@ char most_of[200] = "two hundred bytes";
 char lines[3][6] = { "one", "two", "three" };
 char running[64] = "aaaaaaaaaabbbbbbbbbbbccccccccccccdd";
 byte octets[5] = { 1, 2, 65, 0, 255 };
-char long_text[300] = "a text that is longer than the limit of gdb, two hundred characters, and which"
+char long_text[300] =
+	"a text that is longer than the limit of gdb, two hundred characters, and which"
 	" goes on from here for another line and then a little more, so that it is cut, and where"
 	" the dots stand is seen: it goes on and on, up to the end of it, which is here.";
 wchar_t wide_text[6] = L"w\tide";
