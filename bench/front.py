@@ -257,9 +257,9 @@ def main() -> int:
         ways["in process"] = lambda: in_process(given.library, lines)
     for name, way in ways.items():
         best = min(way() for _ in range(RUNS))
-        told = f"service {1e6 * best.service / lines:.1f}"
+        told = f"service {1e6 * best.service / lines:.2f}"
         if best.front is not None:
-            told += f", front {1e6 * best.front / lines:.1f}"
+            told += f", front {1e6 * best.front / lines:.2f}"
         print(f"{name:15} {lines / best.clock:10,.0f} lines/s; microseconds of a processor for a"
               f" line: {told}", flush=True)
     return 0
