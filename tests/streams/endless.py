@@ -3,6 +3,7 @@ from __future__ import annotations
 
 import re
 import subprocess
+import threading
 from pathlib import Path
 
 from runs import ask, joined
@@ -12,6 +13,8 @@ MEBIBYTE = 1 << 20
 ENDLESS = 2048 * MEBIBYTE
 # A kernel counts the memory of a process by parts of each processor.
 SPARE_KIB = 32 * 1024
+# A service that has not replied by then is ended: it would wait for more to read.
+LONGEST_SECONDS = 120
 REPLIES = (b'{"fault":{"code":59,"name":"LongLine","place":0},"s":0}\n'
            b'{"ok":{},"s":7}\n')
 
@@ -28,11 +31,14 @@ def answered_long_line(program: str, length: int) -> tuple[bytes, int]:
     piece, pipe = MEBIBYTE * b" ", subprocess.PIPE
     with subprocess.Popen([program, "serve"], stdin=pipe, stdout=pipe) as child:
         assert child.stdin and child.stdout
+        late = threading.Timer(LONGEST_SECONDS, child.kill)
+        late.start()
         for _ in range(length // MEBIBYTE):
             child.stdin.write(piece)
         child.stdin.write(b"\n" + joined([ask(7, "reset")]))
         child.stdin.flush()
         out = child.stdout.readline() + child.stdout.readline()
+        late.cancel()
         memory = high_water(child.pid)
         child.stdin.close()
     return out, memory
