@@ -203,7 +203,7 @@ count "an object of a module by print" grep -Fqx "\$1 = $wanted" seen
 count "and by ctf print" grep -Fqx "$wanted" seen
 address=$(nm module | sed -n 's/^0*\(.*\) T close_device$/\1/p')
 address=$(printf '0x%x' $((${placed%% *} + 0x$address)))
-wanted="{int (struct device *, long int)} $address <close_device>"
+wanted="{int (struct device *, long)} $address <close_device>"  # as gdb 13 spells it
 count "a function of a module" grep -Fqx "$wanted" seen
 count "a name of two files of a module" \
     grep -q '^module is an object file with several symbols count: ' seen
