@@ -1,4 +1,4 @@
-# Completion for bash of the commands: their options, the values of those that have a few, and files.
+# Completion for bash of the commands: their options, values of those that have a few, and files.
 _ctfd()
 {
     local word=${COMP_WORDS[COMP_CWORD]} before=${COMP_WORDS[COMP_CWORD - 1]} options

@@ -30,7 +30,8 @@ def main() -> None:
             untold = [name for name in others if is_none(ours[kind][question].get(name))]
             told = [name for name in others if name not in untold]
             print(f"{kind}, {question}: {len(firm) - len(others)} of {len(firm)} the same,"
-                  f" {len(untold)} not told", *untold[:12], *(["other:", *told[:12]] if told else []))
+                  f" {len(untold)} not told", *untold[:12],
+                  *(["other:", *told[:12]] if told else []))
 
 
 if __name__ == "__main__":

@@ -83,10 +83,10 @@ class Entry:
         where = self.address(attributes.LOW_PC)
         if where is not None:
             return [where]
-        if attributes.RANGES not in self.said:
+        listed = self.said.get(attributes.RANGES)
+        if not isinstance(listed, int):
             return []
-        return ranges.starts(self.unit, self.shape.forms[attributes.RANGES],
-                             self.said[attributes.RANGES])
+        return ranges.starts(self.unit, self.shape.forms[attributes.RANGES], listed)
 
     def base(self, *among: int) -> Optional[int]:
         """Where something begins in another section, as the first of some attributes says that is
