@@ -121,7 +121,8 @@ class Places:
             yield self.prefix / "lib/systemd/system" / unit.name, unit, 0o644
         for name in COMMANDS:
             yield self.prefix / "bin" / name, CLIENT / name, 0o755
-            completions = self.prefix / "share/bash-completion/completions"
+        completions = self.prefix / "share/bash-completion/completions"
+        for name in (*COMMANDS, "ctfd"):
             yield completions / name, COMPLETIONS / "ctfd.bash", 0o644
         yield self.prefix / "share/zsh/site-functions/_ctfd", COMPLETIONS / "_ctfd", 0o644
 

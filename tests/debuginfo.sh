@@ -203,7 +203,7 @@ count "an object of a module by print" grep -Fqx "\$1 = $wanted" seen
 count "and by ctf print" grep -Fqx "$wanted" seen
 address=$(nm module | sed -n 's/^0*\(.*\) T close_device$/\1/p')
 address=$(printf '0x%x' $((${placed%% *} + 0x$address)))
-wanted="{int (struct device *, long int)} $address <close_device>"
+wanted="{int (struct device *, long)} $address <close_device>"  # as gdb 13 spells it
 count "a function of a module" grep -Fqx "$wanted" seen
 count "a name of two files of a module" \
     grep -q '^module is an object file with several symbols count: ' seen
@@ -331,6 +331,7 @@ count "that print would do is not said then" [ "$(hinted -ex 'set ctf-debuginfo 
 # lldb 14 of Debian looks for its package in another folder than it has.
 packages=$(echo /usr/lib/llvm-*/lib/python3*/dist-packages)
 export PYTHONPATH=${packages// /:}
+path=$PATH PATH=/usr/bin:$PATH  # of the Pythons on the path it wants its own first
 if lldb -b -o 'script import lldb; print(lldb.SBTarget)' 2>&1 | grep -q "^<class"; then
     lldb -b -o "command script import $top/clients/lldb/ctfdlldb.py" -o 'target create waits' \
         -o ctfload -o 'expression sizeof(struct point)' -o 'target variable first' > seen 2>&1
@@ -363,6 +364,7 @@ else
     echo "not possible here: lldb has no Python"
 fi
 unset PYTHONPATH
+PATH=$path
 chmod 777 cache/ctfd
 loads > seen 2>&1
 count "a folder of others" grep -q 'is not a folder that its owner alone may write to' seen

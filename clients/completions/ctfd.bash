@@ -1,14 +1,23 @@
-# Completion for bash of the commands of the Python package: their options, and files.
+# Completion for bash of the commands: their options, values of those that have a few, and files.
 _ctfd()
 {
-    local word=${COMP_WORDS[COMP_CWORD]} options
+    local word=${COMP_WORDS[COMP_CWORD]} before=${COMP_WORDS[COMP_CWORD - 1]} options
     COMPREPLY=()
     if [[ $word == -* ]]; then
         options=$("$1" --help 2> /dev/null | grep -oE -e '--[a-z][a-z-]*' | sort -u)
+    elif [[ $before == --* ]]; then
+        options=$("$1" --help 2> /dev/null | grep -m1 -oE -e "$before \{[a-z0-9,]+\}")
+        options=${options#*\{}
+        options=${options//[\},]/ }
+    elif [[ ${1##*/} == ctfd && $COMP_CWORD == 1 ]]; then
+        options="serve dump"
+    fi
+    if [[ -n $options ]]; then
         mapfile -t COMPREPLY < <(compgen -W "$options" -- "$word")
     else
         mapfile -t COMPREPLY < <(compgen -f -- "$word")
-        compopt -o filenames
+        compopt -o filenames 2> /dev/null
     fi
 }
-complete -F _ctfd ctfd-convert ctfd-debuginfo ctfd-diff ctfd-explore ctfd-front ctfd-show ctfd-types
+complete -F _ctfd ctfd ctfd-convert ctfd-debuginfo ctfd-diff ctfd-explore ctfd-front ctfd-show \
+    ctfd-types

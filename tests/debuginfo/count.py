@@ -4,13 +4,19 @@
 usage: count.py ORIGINAL AGAIN OURS
 
 The words are those of compare.py. Prints for each question how many answers are the same, of how
-many that do not vary from run to run, and the names of the others.
+many that do not vary from run to run, how many are none, and the names of these and the others.
 """
 from __future__ import annotations
 
 import json
 import sys
 from pathlib import Path
+from typing import Optional
+
+
+def is_none(answer: Optional[str]) -> bool:
+    """Whether gdb has nothing to tell."""
+    return answer is None or answer.startswith("error: ")
 
 
 def main() -> None:
@@ -21,8 +27,11 @@ def main() -> None:
             firm = [name for name, answer in answers.items()
                     if again[kind][question].get(name) == answer]
             others = [name for name in firm if ours[kind][question].get(name) != answers[name]]
-            print(f"{kind}, {question}: {len(firm) - len(others)} of {len(firm)} the same",
-                  *(["other:", *others[:12]] if others else []))
+            untold = [name for name in others if is_none(ours[kind][question].get(name))]
+            told = [name for name in others if name not in untold]
+            print(f"{kind}, {question}: {len(firm) - len(others)} of {len(firm)} the same,"
+                  f" {len(untold)} not told", *untold[:12],
+                  *(["other:", *told[:12]] if told else []))
 
 
 if __name__ == "__main__":

@@ -27,7 +27,7 @@ print(f"{used.ru_utime + used.ru_stime:.2f} s, {used.ru_maxrss >> 10} MB")' "$@"
 }
 
 # by SCRIPT OUT WORD..: what dump.py or arguments.py writes at the start of main, in gdb that gets
-# the words.
+# the words. The names OUT are of one length: they stand on the program's stack, in its environment.
 by() {
     NAMES=names OUT=$2 gdb -batch -nx -iex 'set debug-file-directory /none' -ex 'break *main' \
         -ex "run $words < /dev/null > /dev/null 2>&1" -ex 'delete' -x "$tests/$1.py" "${@:3}" \
@@ -48,7 +48,7 @@ echo "gdb alone: $(spent "${asks[@]}" -ex 'whatis main' bare)"
 echo "gdb with it: $(spent "${asks[@]}" -ex "$given" -ex 'whatis main' bare)"
 for script in dump arguments; do
     for out in first first again; do by $script $out full; done
-    by $script ours -iex "file bare" -iex "$given"
-    python3 "$tests/count.py" first again ours
+    by $script third -iex "file bare" -iex "$given"
+    python3 "$tests/count.py" first again third
 done
 echo "load: $(cut -d' ' -f1 /proc/loadavg)"

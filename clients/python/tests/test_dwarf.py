@@ -1,6 +1,7 @@
 """Debug information in the forms that compilers, linkers, objcopy, dwz and dwp give it."""
 from __future__ import annotations
 
+import contextlib
 import random
 import shutil
 import struct
@@ -13,6 +14,8 @@ import ctfd
 from ctfd.convert.joining import Joiner
 from ctfd.convert.merge import merged
 from ctfd.layout.records import Part, Record, Table
+from ctfd.values.program import open_program
+from ctfd.view.declare import function
 
 from .support import TOOLS, compiles
 from .test_convert import CODE, WithFiles
@@ -20,6 +23,22 @@ from .test_convert import CODE, WithFiles
 MAIN = CODE + "int main(void) { return add(first, 1); }\n"
 OTHER = "#include <stddef.h>\nstruct inner { char c; }; struct own { struct inner i; } own;\n"
 
+
+DIVIDED = """
+#include <stdlib.h>
+static __attribute__((noinline, noclone)) int pick(int n, const char *s) {
+  switch (n) {
+  case 1: return s[1] * 3; case 2: return s[2] + atoi(s); case 3: return s[7];
+  case 4: return s[9] * n; default: abort();
+  }
+}
+int both(int n, const char *s) { return pick(n, s) + pick(n + 1, s); }
+int main(int count, char **words) { return both(count, words[0]); }
+"""
+ALIKE = """
+static __attribute__((noinline, noclone)) long pick(long *n) { return *n * 3; }
+long other(long *n) { return pick(n) + pick(n + 1); }
+"""
 
 MACHINES = """
 enum color { RED, GREEN };
@@ -163,6 +182,50 @@ class Forms(WithFiles):
         found = whole.symbol("all")
         assert isinstance(found, ctfd.Type)
         self.assertEqual(ctfd.declaration(found, "all"), "int all[3]")
+
+
+@unittest.skipUnless(TOOLS, "no gcc or objcopy here")
+class Divided(WithFiles):
+    def told(self, compiler: str, *options: str) -> List[str]:
+        """What is told of each function `pick`, in the order of their addresses."""
+        names = [Path(self.file(f"{name}.c", code.encode())).name
+                 for name, code in (("alike", ALIKE), ("divided", DIVIDED))]
+        made = str(self.folder / "program")
+        subprocess.run([compiler, "-O2", "-w", *options, *names, "-o", made], check=True,
+                       cwd=self.folder)
+        out = self.converted(made, "--section")[0]
+        found = open_program(self.session, out)
+        listed = sorted(found.symbols["pick"], key=lambda one: one.address)
+        return [function(found.types.function(one.number), "pick") for one in listed]
+
+    def test_it_is_told_by_its_ranges(self) -> None:
+        """Not by its name, which another function has too."""
+        forms = [("gcc", f"-gdwarf-{version}", *split) for version in (2, 3, 4, 5)
+                 for split in ((), ("-gsplit-dwarf",)) if version > 3 or not split]
+        if shutil.which("clang"):
+            forms += [("clang", "-fbasic-block-sections=all", f"-gdwarf-{version}", *split)
+                      for version in (4, 5) for split in ((), ("-gsplit-dwarf",))]
+        for compiler, *options in forms:
+            with self.subTest(compiler, options=options):
+                self.assertEqual(sorted(self.told(compiler, *options)),
+                                 ["int pick(int, const char *)", "long int pick(long int *)"]
+                                 if compiler == "gcc" else
+                                 ["int pick(int, const char *)", "long pick(long *)"])
+
+    def test_a_name_alone_does_not_tell_what_no_other_file_sees(self) -> None:
+        source = self.file("plain.c", b"static int pick(char c) { return c; }"
+                                      b" int (*used)(char) = pick;")
+        plain = str(self.folder / "plain.o")
+        subprocess.run(["gcc", "-c", source, "-o", plain], check=True)
+        made = self.compiled("alike.o", ALIKE + "int main(void) { return other(0); }", "-g", "-O2")
+        program = str(self.folder / "two")
+        subprocess.run(["gcc", plain, made, "-o", program], check=True)
+        found = open_program(self.session, self.converted(program, "--section")[0])
+        told = []
+        for one in found.symbols["pick"]:
+            with contextlib.suppress(ctfd.NotFound):
+                told.append(function(found.types.function(one.number), "pick"))
+        self.assertEqual(told, ["long int pick(long int *)"])
 
 
 class Joined(unittest.TestCase):

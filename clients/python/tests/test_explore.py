@@ -13,9 +13,10 @@ from ctfd.view.page import Rows, page
 
 from .browser import CHROMIUM, Browser
 from .support import EXAMPLES, PROGRAM, STRUCT, WithService, dictionary, integer, member, record
-from .tools import command, whole_of, written
+from .tools import command, converted, whole_of, written
 
 LUA = str(EXAMPLES / "lua.ctf")
+BITS = "typedef unsigned word; struct s { word a : 3, b : 5; char c : 8; char d; word e; } s;"
 EVIL = b"<script>window.bad=1</script></script><img src=x onerror=bad=1>\"'&"
 
 
@@ -34,6 +35,20 @@ class Page(WithService):
         rows = Rows([whole, whole], None)
         self.assertEqual(len(rows.rows), 2 * 526 + 1)
         self.assertTrue(all(rows.rows))
+
+    def test_hidden_copies_of_bit_fields_are_known(self) -> None:
+        path = converted(self.folder_of_files(), "bits.c", BITS)
+        rows = Rows([whole_of(self, path)], None)
+        told = rows.told()
+        by_name = [row[1] for row in told["types"]]
+        self.assertEqual({by_name[one] for one in told["copies"]}, {"unsigned int", "word", "char"})
+        self.assertEqual(by_name.count("word") - 1, sum(by_name[one] == "word"
+                                                        for one in told["copies"]))
+
+    def folder_of_files(self) -> str:
+        folder = tempfile.mkdtemp()
+        self.addCleanup(shutil.rmtree, folder)
+        return folder
 
     def test_the_command(self) -> None:
         with tempfile.TemporaryDirectory() as folder:
@@ -130,6 +145,16 @@ class InBrowser(WithService):
             for place in whole.catalog.layout(number).places:
                 if place.member.name != "strcache":  # lines that it fills alone are left out
                     self.assertEqual(told[place.member.name], place.bits, place.member.name)
+        self.assertEqual(page.errors, [])
+
+    def test_copies_of_bit_fields_are_not_listed(self) -> None:
+        page = self.opened(converted(self.folder, "bits.c", BITS))
+        names = page.value("[...document.querySelectorAll('#found a')].map(a => a.textContent)")
+        self.assertEqual(names, ["char", "struct s", "unsigned int", "word"])
+        page.value("location.hash = '#struct%20s'")
+        page.until("document.title === 'struct s'")
+        self.assertIn("char c:8;",
+                      page.value("document.querySelector('#declaration').textContent"))
         self.assertEqual(page.errors, [])
 
     def test_names_are_no_markup(self) -> None:

@@ -11,7 +11,7 @@ from ctfd.files import source
 from ctfd.layout import repeated
 
 from .support import EXAMPLES, PROGRAM, dictionary, integer, record
-from .tools import CONVERTS, WHY_NOT, compiled, within
+from .tools import CONVERTS, WHY_NOT, compiled, converted, within
 
 LUA = str(EXAMPLES / "lua.ctf")
 CODE = """
@@ -126,6 +126,15 @@ class Numbers(unittest.TestCase):
         done = within("ctfd-types", LUA, "--number", "527")
         self.assertEqual((done.returncode, done.stderr),
                          (1, "ctfd-types: no type has the number 527: they go from 1 to 526\n"))
+
+    @unittest.skipUnless(CONVERTS, WHY_NOT)
+    def test_copies_that_bit_fields_have_are_no_types_of_a_name(self) -> None:
+        code = "typedef unsigned word; struct s { word a : 3, b : 5; word c; } s;"
+        with tempfile.TemporaryDirectory() as folder:
+            made = converted(folder, "bits", code)
+            for words in ((), ("--all",)):
+                done = within("ctfd-types", made, "word", *words)
+                self.assertEqual((done.stdout, done.stderr), ("typedef unsigned int word;\n", ""))
 
     def test_types_of_one_name_are_told(self) -> None:
         two = dictionary([integer(1), integer(1, 16, 2), record(6, 0, 4, 5)], b"\0int\0s\0")

@@ -30,11 +30,15 @@ class Said(NamedTuple):
 
 
 class Told(NamedTuple):
-    """What was said by a name, and by an address where there was one."""
+    """What was said by a name, and by an address where there was one. A function that the compiler
+    divided has `others` too, one of which may be where it begins. `is_own` says that no other file
+    sees it, so that its name alone does not tell it."""
 
     name: str
     where: Optional[int]
     said: Said
+    others: Tuple[int, ...] = ()
+    is_own: bool = False
 
 
 class DebugSymbols:
@@ -46,30 +50,37 @@ class DebugSymbols:
         self._names |= {bare(name) for name in self._names}
         self._addresses = {one.address for one in wanted}
         self._by_address: Dict[Tuple[str, int], Said] = {}
-        self._by_name: Dict[str, Said] = {}
+        self._by_part: Dict[Tuple[str, int], Said] = {}
+        self._by_name: Dict[str, Told] = {}
 
     def has(self, name: str, where: Optional[int]) -> bool:
         """Whether something that is wanted has a name or an address."""
         return name in self._names or where in self._addresses
 
     def tell(self, told: Told) -> None:
-        """Takes something in. A definition wins over declarations, whatever comes first."""
-        name, where, said = told
+        """Takes something in. By name what other files see wins, and a definition over
+        declarations, whatever comes first."""
+        name, where, said = told[:3]
         if where is not None:
             self._by_address.setdefault((name, where), said)
             self._by_address.setdefault(("", where), said)
+        for other in told.others:
+            self._by_part.setdefault((name, other), said)
         known = self._by_name.get(name)
-        if known is None or said.is_whole > known.is_whole:
-            self._by_name[name] = said
+        if known is None or (told.is_own, not said.is_whole) < (known.is_own,
+                                                                not known.said.is_whole):
+            self._by_name[name] = told
 
     def said(self, wanted: Wanted, is_linked: bool) -> Optional[Said]:
         """What is told of a symbol: by name and address, else by one of these. In an object file
-        many have one address."""
+        many have one address; in what is linked, what no other file sees is elsewhere."""
         name = wanted.name.split("@")[0]
+        named = self._by_name.get(name)
         found = (self._by_address.get((name, wanted.address))
+                 or self._by_part.get((name, wanted.address))
                  or self._by_address.get((bare(name), wanted.address))
                  or (self._by_address.get(("", wanted.address)) if is_linked else None)
-                 or self._by_name.get(name))
+                 or (named.said if named and not (is_linked and named.is_own) else None))
         if found is None or (found.function is not None) != wanted.is_function:
             return None
         return found

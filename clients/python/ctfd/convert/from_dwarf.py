@@ -291,16 +291,18 @@ class Reader:
             name = debug_symbols.called(chain)
             if self.symbols.has(name, where):
                 said = Said(self._type_of(chain), None, is_whole)
-                self._told.append(Told(name, where, said))
+                self._told.append(Told(name, where, said, is_own=_is_own(chain, where)))
 
     def _subprogram(self, entry: Entry, insides: Dict[int, List[Listed]]) -> None:
-        where = entry.address(attributes.LOW_PC)
+        starts = entry.starts()
+        where = starts[0] if starts else None
         chain = debug_symbols.chain(entry)
         if where is None and not any(attributes.EXTERNAL in one.said for one in chain):
             return
         name = debug_symbols.called(chain)
         if self.symbols.has(name, where):
-            self._told.append(Told(name, where, self._signature(chain, insides, where is not None)))
+            said = self._signature(chain, insides, where is not None)
+            self._told.append(Told(name, where, said, tuple(starts[1:]), _is_own(chain, where)))
 
     def _signature(self, chain: List[Entry], insides: Dict[int, List[Listed]],
                    is_whole: bool) -> Said:
@@ -338,6 +340,11 @@ class Reader:
                                 for one, said in found if one.is_function]
         self.table.losses += [f"{one} of the program: types of C alone are read; what it tells is"
                               " left out" for one in listed]
+
+
+def _is_own(chain: List[Entry], where: Optional[int]) -> bool:
+    """Whether no other file sees what has an address."""
+    return where is not None and not any(attributes.EXTERNAL in one.said for one in chain)
 
 
 def _base(entry: Entry, name: str, size: int) -> Record:

@@ -10,6 +10,13 @@ from .dwarf import Address
 # What compilers append to the names of copies of functions.
 COPIES = (".isra.", ".constprop.", ".part.", ".cold", ".lto_priv.", ".localalias")
 _OF_FUNCTION = re.compile(r"(.+)\.\d+\Z")
+_WHOLE = re.compile(r"\.(?:isra|constprop|lto_priv)\.\d+\Z")
+
+
+def of_whole(name: str) -> str:
+    """The name in C of a function, of which a symbol may be a copy, but no part of it."""
+    shorter = _WHOLE.sub("", name)
+    return of_whole(shorter) if shorter != name else name
 
 
 class Told(NamedTuple):

@@ -10,6 +10,7 @@ from typing import AbstractSet, Dict, Iterator, List, NamedTuple, Sequence, Set
 
 from .. import text
 from ..client.dictionary import normal, spellings
+from ..client.types import Type
 from ..convert.written import CHILD, FUNCTION, KINDS, LONG_MEMBERS, LONG_SIZE
 from ..files import identity
 from ..text import printable
@@ -56,12 +57,20 @@ def of_name(ctf: bytes, name: text.Name) -> List[int]:
     return found if len(found) > 1 else []
 
 
-def others(numbers: Sequence[int], name: str) -> str:
+def without_copies(found: Sequence[Type]) -> List[Type]:
+    """Types but for hidden copies, which only bit-fields have."""
+    if found:
+        found[0].dictionary.gather([one.number for one in found])
+    return [one for one in found if one.is_root or one.resolved.is_root
+            or one.resolved.kind != "integer"]
+
+
+def others(found: Sequence[Type], name: str) -> str:
     """That there are more types of a name than the one that is told; "" where there are none."""
-    if len(numbers) < 2:
+    if len(found) < 2:
         return ""
-    return (f"{len(numbers)} types are called {printable(name)}, and this is the first: --all shows"
-            f" them all, --number N one ({', '.join(map(str, numbers))})")
+    return (f"{len(found)} types are called {printable(name)}, and this is the first: --all shows"
+            f" them all, --number N one ({', '.join(str(one.number) for one in found)})")
 
 
 def _places(types: bytes, references: Dict[str, Set[int]]) -> Set[int]:

@@ -13,7 +13,7 @@ from typing import Optional, Sequence, Union
 from ..client.faults import Error, NotFound
 from ..client.wire import Session
 from ..tools import running
-from ..values import expressions, formats, linked
+from ..values import expressions, formats, linked, spelling
 from ..values.operands import BadExpression, Code, Located, Operand, Steps, Untold
 from ..values.reading import Bounds
 from ..view.declare import declaration, function
@@ -146,7 +146,9 @@ class Shower:
         return self.printer.top(t, value, at)
 
     def _function(self, told: str, address: int) -> str:
-        return f"{{{told}}} 0x{address:x} {self.target.label(address, is_code=True)}".rstrip()
+        self.target.read(address, 1)  # refused where nothing is
+        label = self.target.label(address, is_code=True)
+        return f"{{{spelling.spelled(told)}}} 0x{address:x} {label}".rstrip()
 
 
 def _missing(error: NotFound) -> str:

@@ -18,6 +18,8 @@ from .modules import Module, OtherBuild
 from .space import Space
 from .target import Typed
 
+RENAMED = ".lto_priv."
+
 
 def modules(space: Space, needs_program: bool, warn: Callable[[str], None]) -> List[Module]:
     """The files that are mapped and can be read. A line says so of a library that was replaced;
@@ -98,6 +100,7 @@ class Opener:
         if told.sym and told.strings and types.how != "refused":
             for symbol in elf.symbols(told.sym, told.strings):
                 program.symbols.setdefault(symbol.name, []).append(symbol)
+            _name_as_written(program)
         return program
 
     def _import(self, types: Dictionary, path: str, parent: Optional[str]) -> None:
@@ -107,6 +110,15 @@ class Opener:
         with told_of(f"{parent}, as the parent of {path}"):
             found = source.read(parent)
             types.import_parent(open_source(self.session, found._replace(model=types.model)))
+
+
+def _name_as_written(program: Program) -> None:
+    """Finds what link-time optimisation renamed by its name in C too, where no other has that."""
+    taken = set(program.symbols)
+    for name in list(program.symbols):
+        written, mark, number = name.partition(RENAMED)
+        if mark and number.isdecimal() and written not in taken:
+            program.symbols.setdefault(written, []).extend(program.symbols[name])
 
 
 def _widened(told: Source, image: Image) -> Source:

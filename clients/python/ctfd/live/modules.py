@@ -7,6 +7,7 @@ from typing import List, NamedTuple, Optional
 
 from ..client.faults import Unreadable
 from ..debuginfo.image import Image, Symbol
+from ..debuginfo.told import of_whole
 from ..files import source
 from ..files.elf import MAGIC, NOBITS
 from ..files.mapped import linked
@@ -39,6 +40,11 @@ class Place(NamedTuple):
 
 def _rank(symbol: Symbol) -> int:
     return 2 * bool(symbol.size) + symbol.is_global
+
+
+def _name(symbol: Symbol) -> str:
+    """What is told of an address in a symbol: a function's name in C, as gdb tells it."""
+    return of_whole(symbol.name) if symbol.is_function else symbol.name
 
 
 class Module:
@@ -84,7 +90,7 @@ class Module:
         if self._places is None:
             image = self.image
             table = image.elf.named(".symtab") or image.elf.named(".dynsym")
-            self._places = sorted(Place(one.address + self.slide, _rank(one), one.name, one.size)
+            self._places = sorted(Place(one.address + self.slide, _rank(one), _name(one), one.size)
                                   for one in image.symbols(table))
         return self._places
 

@@ -9,7 +9,7 @@ import ctfd
 from ..client.nearest import offered
 from ..text import printable
 from ..debuginfo.keeping import has_types
-from ..values import expressions, formats, linked
+from ..values import expressions, formats, linked, spelling
 from ..values.operands import BadExpression, Code, Located, Number, Operand, Steps, Untold
 from ..view.declare import declaration, declarator, function
 
@@ -26,7 +26,7 @@ UNTYPED = "<text variable, no type>"
 def shown(target: Inferior, operand: Operand, hexadecimal: bool = False) -> str:
     """An operand as gdb prints it."""
     if isinstance(operand, Code):
-        return f"{{{declared(operand)}}} {gdb.format_address(operand.address)}"
+        return f"{{{spelling.spelled(declared(operand))}}} {gdb.format_address(operand.address)}"
     if isinstance(operand, Untold):
         raise untold(operand)
     if operand.type is None:
@@ -34,7 +34,7 @@ def shown(target: Inferior, operand: Operand, hexadecimal: bool = False) -> str:
     t = operand.type.gather()
     at = operand.address if isinstance(operand, Located) else None
     if t.resolved.kind == "function" and at is not None:
-        return f"{{{declaration(t)}}} {gdb.format_address(at)}"
+        return f"{{{spelling.of_type(t)}}} {gdb.format_address(at)}"
     if t.resolved.kind == "void":
         raise BadExpression("void has no value: cast the pointer")
     if t.size is None:

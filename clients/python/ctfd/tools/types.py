@@ -223,8 +223,9 @@ def _numbered(types: Dictionary, number: int) -> Type:
 
 def _named(types: Dictionary, name: str, wanted: argparse.Namespace, ctf: bytes) -> Optional[str]:
     """A type of a name, or all of them; None where there is none."""
-    found = types.find_all(name) if wanted.all else []
-    more = "" if wanted.all else repeated.others(repeated.of_name(ctf, name), name)
+    found = repeated.without_copies(types.find_all(name)) if wanted.all else []
+    alike = [] if wanted.all else [types.type(one) for one in repeated.of_name(ctf, name)]
+    more = repeated.others(repeated.without_copies(alike), name)
     if more:
         _warn(more)
     try:

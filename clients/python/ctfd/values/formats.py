@@ -6,8 +6,7 @@ from typing import Callable, List, Optional, Protocol, Sequence
 
 from ..text import printable
 from ..client.types import Enumerator, Type
-from ..view.declare import declaration
-from . import floats
+from . import floats, spelling
 from .parse import CHARACTER, Characters, Leaf, Lost, Parts, Value, is_character
 from .quoting import DOTS, one, prefix, quoted
 
@@ -54,7 +53,7 @@ class Formatter:
         pointer = t.stripped
         plain = pointer.kind == "pointer" and is_text(pointer.reference)
         if t.resolved.kind == "pointer" and not plain and not self.style.hexadecimal:
-            return f"({declaration(t)}) {self.value(t, value, at)}"
+            return f"({spelling.of_type(t)}) {self.value(t, value, at)}"
         return self.value(t, value, at)
 
     def value(self, t: Type, value: Value, at: Optional[int] = None, depth: int = 0) -> str:

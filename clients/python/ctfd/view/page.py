@@ -34,12 +34,13 @@ class Rows:
     def __init__(self, files: Sequence[Whole], parent: Optional[str]) -> None:
         self.rows: List[Row] = [[0, ""]]
         self.files: List[Row] = []
+        self.copies: List[int] = []
         self._parents: Dict[int, int] = {}
         for whole in files:
             self._add(whole, parent)
 
     def told(self) -> Dict[str, Any]:
-        return {"kinds": KINDS, "files": self.files, "types": self.rows}
+        return {"kinds": KINDS, "files": self.files, "types": self.rows, "copies": self.copies}
 
     def _add(self, whole: Whole, parent: Optional[str]) -> None:
         catalog, own = whole.catalog, set(whole.catalog.own)
@@ -50,6 +51,8 @@ class Rows:
         for number in catalog.numbers:
             if number in own or self.rows[places[number]] == []:
                 self.rows[places[number]] = _row(catalog, number, places)
+                if _is_copy(catalog, number):
+                    self.copies.append(places[number])
 
     def _numbered(self, catalog: Catalog, numbers: Sequence[int], path: str) -> Dict[int, int]:
         """Room for some types."""
@@ -64,7 +67,15 @@ def _row(catalog: Catalog, number: int, places: Dict[int, int]) -> Row:
     """`kind, name, size`, and what the kind has behind that."""
     record = catalog[number]
     row: Row = [KINDS.index(record.kind), printable(record.name), catalog.size(number)]
+    if record.kind in ("integer", "float"):
+        return row + _number(record, catalog.span(number)[2] is not None)
     return row + _BEHIND.get(record.kind, _reference)(record, places)
+
+
+def _is_copy(catalog: Catalog, number: int) -> bool:
+    """Whether it is a hidden copy of a type, which only bit-fields have."""
+    end = catalog[catalog.resolved(number)]
+    return not catalog[number].root and end.kind == "integer" and not end.root
 
 
 def _members(record: Record, places: Dict[int, int]) -> Row:
@@ -85,8 +96,8 @@ def _function(record: Record, places: Dict[int, int]) -> Row:
             int(record.varargs)]
 
 
-def _number(record: Record, places: Dict[int, int]) -> Row:
-    return [record.encoding.bits, record.encoding.offset, record.encoding.flags]
+def _number(record: Record, is_bit_field: bool) -> Row:
+    return [record.encoding.bits, record.encoding.offset, int(is_bit_field)]
 
 
 def _forward(record: Record, places: Dict[int, int]) -> Row:
@@ -99,5 +110,5 @@ def _reference(record: Record, places: Dict[int, int]) -> Row:
 
 _BEHIND: Dict[str, Callable[[Record, Dict[int, int]], Row]] = {
     "struct": _members, "union": _members, "enum": _enumerators, "array": _array,
-    "function": _function, "integer": _number, "float": _number, "forward": _forward,
+    "function": _function, "forward": _forward,
 }

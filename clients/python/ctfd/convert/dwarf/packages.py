@@ -6,8 +6,9 @@ from typing import Dict, Tuple
 
 from ...files.strings import Data
 
-INFO, TYPES, ABBREV, STR_OFFSETS = 1, 2, 3, 6
-NAMES = {INFO: "info", TYPES: "types", ABBREV: "abbrev", STR_OFFSETS: "str_offsets"}
+INFO, TYPES, ABBREV, STR_OFFSETS, RNGLISTS = 1, 2, 3, 6, 8
+NAMES = {INFO: "info", TYPES: "types", ABBREV: "abbrev", STR_OFFSETS: "str_offsets",
+         RNGLISTS: "rnglists"}
 GNU_VERSION, VERSION = 2, 5
 
 Parts = Dict[Tuple[str, int], Dict[str, int]]

@@ -14,7 +14,7 @@ from functools import cached_property
 from typing import TYPE_CHECKING, Any, Dict, Iterator, List, NamedTuple, Optional, Tuple
 
 from ...files.strings import Data
-from . import attributes, forms, operations, tags
+from . import attributes, forms, operations, ranges, tags
 from .encoding import Sizes, decoded, index, uleb
 from .shapes import Shape
 
@@ -76,6 +76,17 @@ class Entry:
         if form in forms.ADDRESS_INDEXES:
             return self.unit.address(index(raw))
         return int(raw) if form == forms.ADDR else None
+
+    def starts(self) -> List[int]:
+        """The addresses where a function and its parts begin, in most cases its own first; none
+        where it is declared or inlined alone."""
+        where = self.address(attributes.LOW_PC)
+        if where is not None:
+            return [where]
+        listed = self.said.get(attributes.RANGES)
+        if not isinstance(listed, int):
+            return []
+        return ranges.starts(self.unit, self.shape.forms[attributes.RANGES], listed)
 
     def base(self, *among: int) -> Optional[int]:
         """Where something begins in another section, as the first of some attributes says that is

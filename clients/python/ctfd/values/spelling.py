@@ -1,0 +1,32 @@
+"""Types in front of values, spelled as gdb 13 spells them.
+
+gdb has one spelling for each of C's integers, whatever the compiler wrote, and blanks on both sides
+of a pointer's qualifiers.
+"""
+from __future__ import annotations
+
+import re
+from typing import Dict
+
+from ..client.types import Type
+from ..view.declare import declaration
+
+INTEGERS: Dict[str, str] = {
+    "short int": "short", "short unsigned int": "unsigned short",
+    "long int": "long", "long unsigned int": "unsigned long",
+    "long long int": "long long", "long long unsigned int": "unsigned long long",
+}
+_INTEGER = re.compile(r"\b(?:" + "|".join(sorted(INTEGERS, key=len, reverse=True)) + r")\b")
+_QUALIFIER = re.compile(r"\*(?=(?:const|volatile|restrict)\b)")
+_ATOMIC = re.compile(r"\b_Atomic\(([\w ]+)\)")
+
+
+def spelled(text: str) -> str:
+    """What C has for a type, as gdb writes it."""
+    text = _INTEGER.sub(lambda found: INTEGERS[found[0]], text)
+    return _ATOMIC.sub(r"_Atomic \1", _QUALIFIER.sub("* ", text))
+
+
+def of_type(t: Type) -> str:
+    """A type as gdb writes it."""
+    return spelled(declaration(t))
