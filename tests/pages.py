@@ -46,6 +46,7 @@ FOR_MAINTAINERS = {
     "docs/PERFORMANCE.md": 3000,
     "docs/PROMISES.md": 2200,
     "docs/PROVING.md": 3000,
+    "docs/READING.md": 700,
 }
 MOST = {**FOR_USERS, **FOR_MAINTAINERS}
 MOST_OF_A_CRATE = 150
