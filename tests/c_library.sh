@@ -183,6 +183,8 @@ for name in lua zlib; do
     ./answers "$top"/examples/$name.{ctf,sym,str} | sort > seen
     "$tests/answers.py" "$program" "$top"/examples/$name.{ctf,sym,str} | sort > wanted
     count "answers of $name: $(wc -l < wanted)" same wanted seen
+    ./answers "$top"/examples/$name.{ctf,sym,str} lent | sort > seen
+    count "answers of $name, lent" same wanted seen
 done
 count "enough was asked" [ "$(wc -l < wanted)" -gt 1000 ]
 dumped "lua, pointers of 4 bytes" "$top/examples/lua.ctf" --model ilp32

@@ -1,6 +1,7 @@
 #!/usr/bin/env bash
-# Checks that what a dictionary lends cannot outlive it: two programs that must not compile, and one
-# that is right and does, so that nothing else was wrong with the two.
+# Checks that what a dictionary lends cannot outlive it, nor a dictionary the lists that it was lent:
+# three programs that must not compile, and two that are right and do, so that nothing else was wrong
+# with the three.
 # usage: tests/lending.sh
 # Works on a copy, in a crate of its own there; proves nothing (`rt try`), about half a minute for
 # each program. Prints a row for each, which ends in "yes" or in what was seen; the status is 1
@@ -11,7 +12,7 @@ copy=$(mktemp -d)
 trap 'rm -r "$copy"' EXIT
 tar -C "$top" --exclude=out -cf - crates crates.txt HANDLES | tar -C "$copy" -xf -
 mkdir -p "$copy/crates/lending/src"
-echo 'lending: ctf_model ctf_views ctf_space' >> "$copy/crates.txt"
+echo 'lending: ctf_model ctf_check ctf_views ctf_space' >> "$copy/crates.txt"
 cd "$copy/crates/lending"
 failed=0
 
@@ -20,8 +21,9 @@ cat > "$copy/shared" <<'RATTLE'
 //! Lends from a dictionary.
 #![tactic(auto)]
 
-use ctf_model::{DataModel, TypeNum, no_parts};
-use ctf_space::{Opened, Space};
+use ctf_check::{Judged, LentLists};
+use ctf_model::{DataModel, Parts, TypeNum, no_parts};
+use ctf_space::Space;
 use ctf_views::Variant;
 use std::alloc::Global;
 use std::test::Fail;
@@ -33,19 +35,36 @@ const POINT: &[u8] = b"\xf1\xcf\x02\x00\
     \x00\x00\x00\x00\x01\x30\x04\x00\x01\x00\x00\x00\x00\x00\x00\x00\
     \x00x\x00";
 
-fn opened(alloc: Global) -> Option<Opened> {
+fn lists(alloc: Global) -> Option<Parts> {
     let mut parts = no_parts(alloc);
     if parts.ctf.append(POINT).is_err() {
         return None;
     }
-    match Opened::build(alloc, parts, DataModel::Lp64) {
+    Some(parts)
+}
+
+fn opened(alloc: Global) -> Option<Judged<'static>> {
+    match Judged::build(alloc, lists(alloc)?, DataModel::Lp64) {
+        Ok(dictionary) => Some(dictionary),
+        Err(_) => None,
+    }
+}
+
+/// A dictionary over lists that are lent to it.
+fn over<'a>(alloc: Global, parts: &'a Parts) -> Option<Judged<'a>> {
+    let lent = LentLists {
+        ctf: parts.ctf.as_slice(),
+        sym: None,
+        strs: None,
+    };
+    match Judged::lent(alloc, lent, DataModel::Lp64) {
         Ok(dictionary) => Some(dictionary),
         Err(_) => None,
     }
 }
 
 /// The name of the struct's member.
-fn first_name<'a>(dictionary: &'a Opened) -> &'a [u8] {
+fn first_name<'a>(dictionary: &'a Judged<'_>) -> &'a [u8] {
     let space = Space::own(dictionary.view(), dictionary.model());
     match space.variant(TypeNum(1)) {
         Ok(Variant::Members(members)) => match members.get(0) {
@@ -56,7 +75,9 @@ fn first_name<'a>(dictionary: &'a Opened) -> &'a [u8] {
     }
 }
 
-fn end(_dictionary: Opened) {}
+fn end(_dictionary: Judged<'_>) {}
+
+fn end_lists(_parts: Parts) {}
 
 RATTLE
 
@@ -129,4 +150,38 @@ fn lends(rt: HostRuntime) -> Result<(), Fail> {
 }
 RATTLE
 refused "a dictionary, moved away while a space lends from it" e0505
+
+program <<'RATTLE'
+#[test]
+fn lends(rt: HostRuntime) -> Result<(), Fail> {
+    let Some(parts) = lists(rt.alloc()) else {
+        panic!(rt; "there is memory for lists")
+    };
+    let Some(dictionary) = over(rt.alloc(), &parts) else {
+        panic!(rt; "it is a dictionary")
+    };
+    assert_eq!(rt; first_name(&dictionary).len(), 1);
+    end(dictionary);
+    end_lists(parts);
+    Ok(())
+}
+RATTLE
+compiles "a dictionary over lent lists, its end, and then theirs"
+
+program <<'RATTLE'
+#[test]
+fn lends(rt: HostRuntime) -> Result<(), Fail> {
+    let Some(parts) = lists(rt.alloc()) else {
+        panic!(rt; "there is memory for lists")
+    };
+    let Some(dictionary) = over(rt.alloc(), &parts) else {
+        panic!(rt; "it is a dictionary")
+    };
+    end_lists(parts);
+    assert_eq!(rt; first_name(&dictionary).len(), 1);
+    end(dictionary);
+    Ok(())
+}
+RATTLE
+refused "lists, moved away while a dictionary is over them" e0505
 exit $failed

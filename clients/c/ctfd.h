@@ -28,7 +28,7 @@
  * What a caller is given
  * - A call that is refused changes nothing of what is open, and writes nothing but `place`, which
  *   says where the fault lies: 0 where it has no place (docs/FAULTS.md).
- * - All that is handed in is copied: the caller's bytes may go at once.
+ * - All that is handed in is copied, except by ctfd_open_lent: the caller's bytes may go at once.
  * - A text is written from the front of `text`, as far as `text_len` bytes reach, with no zero byte
  *   behind it. `*len` is the length of all of it: where that is more, ask again with as much room.
  * - Each call may answer CTFD_NO_SLOT, where nothing is open. Those that name a type may answer
@@ -189,6 +189,15 @@ enum ctfd_model {
 enum ctfd_status ctfd_open(struct ctfd *handle, const void *ctf, size_t ctf_len, const void *sym,
     size_t sym_len, const void *strs, size_t strs_len, bool has_sym, bool has_strs, bool ilp32,
     uint64_t *place);
+
+/* The same, but nothing is copied: for files that are mapped. The lists stay as they are, and where
+ * they are, as long as `handle` has the dictionary and as long as another handle has it as a parent,
+ * by ctfd_import or ctfd_create_child. A call that closes it, or that opens, creates or imports
+ * another in its place, ends that; one that is refused does not. Takes memory for tables: at most
+ * 48 bytes a type and 20 a symbol. */
+enum ctfd_status ctfd_open_lent(struct ctfd *handle, const void *ctf, size_t ctf_len,
+    const void *sym, size_t sym_len, const void *strs, size_t strs_len, bool has_sym, bool has_strs,
+    bool ilp32, uint64_t *place);
 
 /* Closes what is open, if anything is. Who imported it keeps it. */
 void ctfd_close(struct ctfd *handle);

@@ -1,6 +1,6 @@
 /* Prints what the calls of ctfd.h answer of each type, for tests/c_library/answers.py to compare.
  *
- * usage: answers CTF SYM STR
+ * usage: answers CTF SYM STR [lent]
  */
 #include "common.h"
 
@@ -193,13 +193,14 @@ int main(int argc, char **argv)
     static const uint16_t others[] = { 32767, 32768, 32769, 65535 };
     struct bytes ctf, sym, strs;
     uint64_t place = 0, count = 0, t;
-    if (argc != 4)
+    if (argc != 4 && argc != 5)
         return 2;
     ctf = read_file(argv[1]);
     sym = read_file(argv[2]);
     strs = read_file(argv[3]);
-    if (ctfd_open(&types, ctf.at, ctf.len, sym.at, sym.len, strs.at, strs.len, true, true, false,
-        &place) != CTFD_OK)
+    /* With a word more the lists are lent. */
+    if ((argc == 5 ? ctfd_open_lent : ctfd_open)(&types, ctf.at, ctf.len, sym.at, sym.len, strs.at,
+        strs.len, true, true, false, &place) != CTFD_OK)
         return 1;
     ctfd_count(&types, &count);
     for (t = 0; t <= count + 1 + sizeof others / sizeof others[0]; t++) {

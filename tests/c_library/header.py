@@ -57,7 +57,7 @@ def crossed(name: str, kind: str, handle: str) -> list[tuple[str, str]]:
     """A parameter of an export, as it crosses: nothing, one word or two."""
     if kind == "Global":
         return []
-    if found := re.fullmatch(r"&(mut )?\[(\w+)\]", kind):
+    if found := re.fullmatch(r"&(?:'static )?(mut )?\[(\w+)\]", kind):
         return [(name, f"*{'mut' if found[1] else 'const'} {found[2]}"), (f"{name}_len", "usize")]
     if found := re.fullmatch(r"&(mut )?(\w+)", kind):
         to = found[2] if found[2] in NUMBERS.values() else given(found[2], handle)
@@ -235,7 +235,7 @@ BROKEN = [
     ("ctfd_size(struct ctfd *handle, uint16_t t, ", "ctfd_size(struct ctfd *handle, uint32_t t, "),
     ("ctfd_align(struct ctfd *handle, uint16_t t, uint64_t *out)",
      "ctfd_align(struct ctfd *handle, uint64_t *out, uint16_t t)"),
-    ("bool has_sym, bool has_strs,", "bool has_strs, bool has_sym,"),
+    ("bool has_sym, bool has_strs, bool ilp32,", "bool has_strs, bool has_sym, bool ilp32,"),
     ("ctfd_pointer(", "ctfd_points("),
     ("enum ctfd_status ctfd_kind(struct ctfd *handle, uint16_t t, uint32_t *out);", ""),
     ("void ctfd_close(struct ctfd *handle);", "enum ctfd_status ctfd_close(struct ctfd *handle);"),

@@ -264,6 +264,35 @@ static void refuse_imports(struct ctfd *lua)
     free_bytes(&made);
 }
 
+/* Lists that are lent are read where they are: they are judged as others are, and a child keeps
+ * those of its parent. */
+static void lend(const struct bytes *ctf)
+{
+    struct ctfd types = CTFD_NONE, child = CTFD_NONE;
+    struct bytes lent = { (uint8_t *)malloc(ctf->len), ctf->len };
+    uint64_t place = 77, count = 0;
+    uint16_t t = 0;
+    if (lent.at == NULL)
+        exit(2);
+    memcpy(lent.at, ctf->at, ctf->len);
+    CHECK(ctfd_open_lent(&types, "", 0, "", 0, "", 0, false, false, false, &place) ==
+        CTFD_TOO_SHORT);
+    CHECK(place == 0 && !types.full);
+    CHECK(ctfd_open_lent(&types, lent.at, lent.len, "", 0, "", 0, false, false, true, &place) ==
+        CTFD_OK);
+    CHECK(ctfd_open_lent(&types, lent.at, lent.len - 1, "", 0, "", 0, false, false, false,
+        &place) == CTFD_PAST_END);
+    CHECK(ctfd_open_lent(&types, lent.at, lent.len, "abc", 3, "", 0, true, false, false,
+        &place) == CTFD_BAD_SYMTAB);
+    CHECK(ctfd_count(&types, &count) == CTFD_OK && count == 526);
+    CHECK(ctfd_create_child(&child, &types, "lua", 3, "", 0, &place) == CTFD_OK);
+    ctfd_close(&types);
+    CHECK(ctfd_find(&child, "struct lua_State", 16, &t) == CTFD_OK);
+    CHECK(ctfd_length(&child, t, &count) == CTFD_OK && count == 24);
+    ctfd_close(&child);
+    free(lent.at);
+}
+
 int main(int argc, char **argv)
 {
     struct ctfd types = CTFD_NONE;
@@ -288,6 +317,7 @@ int main(int argc, char **argv)
     cut_texts(&types);
     refuse_opens(&types, &ctf);
     refuse_imports(&types);
+    lend(&ctf);
     ctfd_close(&types);
     refuse_all(&types);
     free_bytes(&ctf);

@@ -58,6 +58,12 @@ static enum ctfd_status open_lua(void)
         false, &place);
 }
 
+static enum ctfd_status lend_lua(void)
+{
+    return ctfd_open_lent(&fresh, ctf.at, ctf.len, sym.at, sym.len, strs.at, strs.len, true, true,
+        false, &place);
+}
+
 static enum ctfd_status create(void)
 {
     return ctfd_create(&fresh, false, &place);
@@ -233,6 +239,7 @@ int main(int argc, char **argv)
     memset(&fresh, 0, sizeof fresh);
     make_child();
     refuse("open in place of another", open_lua);
+    refuse("open what is lent", lend_lua);
     CHECK(open_alone(&fresh, &child_ctf, false, &place) == CTFD_OK);
     refuse("import", import);
     refuse("import again", import);

@@ -11,7 +11,8 @@ pub(crate) fn apart<'a>(list: &'a [u8], others: &[&[u8]]) -> Cow<'a, [u8]> {
     }
 }
 
-fn overlap(one: &[u8], other: &[u8]) -> bool {
+/// Whether two lists share a byte.
+pub(crate) fn overlap(one: &[u8], other: &[u8]) -> bool {
     let (one, other) = (one.as_ptr_range(), other.as_ptr_range());
     one.start < other.end && other.start < one.end
 }

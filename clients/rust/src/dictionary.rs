@@ -1,6 +1,6 @@
 //! Dictionaries that are open.
 
-use crate::apart::apart;
+use crate::apart::{apart, overlap};
 use crate::faults::{told, told_at, Refusal};
 use crate::names::{text, Name};
 use crate::raw;
@@ -30,21 +30,27 @@ pub struct Options<'a> {
     pub model: Model,
 }
 
-/// A dictionary that was judged and opened. It keeps a copy of what was handed in.
-pub struct Dictionary {
+/// A dictionary that was judged and opened. It keeps a copy of what was handed in, or, if it was
+/// opened by [`open_lent`](Dictionary::open_lent), borrows that for `'b`.
+pub struct Dictionary<'b> {
     raw: UnsafeCell<raw::Handle>,
     // A child and its parent share counts that are for one thread.
     here: PhantomData<*mut ()>,
+    // A child also keeps what its parent borrows, so both have one lifetime.
+    bytes: PhantomData<&'b [u8]>,
 }
 
-impl Dictionary {
+impl Dictionary<'static> {
     /// Opens the CTF section of a program: without symbols, and of the data model LP64.
-    pub fn open(ctf: &[u8]) -> Result<Dictionary, Refusal> {
+    pub fn open(ctf: &[u8]) -> Result<Dictionary<'static>, Refusal> {
         Dictionary::open_with(ctf, Options::default())
     }
 
     /// Opens the CTF section of a program with what stands beside it.
-    pub fn open_with(ctf: &[u8], options: Options<'_>) -> Result<Dictionary, Refusal> {
+    pub fn open_with(
+        ctf: &[u8],
+        options: Options<'_>,
+    ) -> Result<Dictionary<'static>, Refusal> {
         let symbols = apart(options.symbols.unwrap_or_default(), &[ctf]);
         let strings = apart(options.strings.unwrap_or_default(), &[ctf, &symbols]);
         let made = Dictionary::none();
@@ -69,12 +75,61 @@ impl Dictionary {
         told_at(status, place)?;
         Ok(made)
     }
+}
+
+impl<'b> Dictionary<'b> {
+    /// Opens the CTF section of a program with what stands beside it, and copies none of it: for
+    /// files that are mapped. Lists that share bytes with each other are copied.
+    ///
+    /// ```
+    /// let bytes = std::fs::read("../../examples/lua.ctf").unwrap();
+    /// let types = ctfd::Dictionary::open_lent(&bytes, Default::default()).unwrap();
+    /// assert!(types.find("struct lua_State").is_ok());
+    /// ```
+    ///
+    /// The bytes are borrowed for as long as the dictionary, or a child of it, is open:
+    ///
+    /// ```compile_fail,E0505
+    /// let bytes = std::fs::read("../../examples/lua.ctf").unwrap();
+    /// let types = ctfd::Dictionary::open_lent(&bytes, Default::default()).unwrap();
+    /// drop(bytes);
+    /// types.count();
+    /// ```
+    pub fn open_lent(ctf: &'b [u8], options: Options<'b>) -> Result<Dictionary<'b>, Refusal> {
+        let symbols = options.symbols.unwrap_or_default();
+        let strings = options.strings.unwrap_or_default();
+        if overlap(symbols, ctf) || overlap(strings, ctf) || overlap(strings, symbols) {
+            return Dictionary::open_with(ctf, options);
+        }
+        let made = Dictionary::none();
+        let mut place = 0;
+        // SAFETY: the handle is this function's own and begins empty. The slices share no byte, and
+        // live for `'b`; whatever keeps them after the call has that lifetime.
+        let status = unsafe {
+            raw::ctfd_open_lent(
+                made.handle(),
+                ctf.as_ptr(),
+                ctf.len(),
+                symbols.as_ptr(),
+                symbols.len(),
+                strings.as_ptr(),
+                strings.len(),
+                options.symbols.is_some(),
+                options.strings.is_some(),
+                options.model == Model::Ilp32,
+                &mut place,
+            )
+        };
+        told_at(status, place)?;
+        Ok(made)
+    }
 
     /// A handle with nothing open, for a function that opens.
-    pub(crate) fn none() -> Dictionary {
+    pub(crate) fn none() -> Dictionary<'b> {
         Dictionary {
             raw: UnsafeCell::new(raw::Handle::NONE),
             here: PhantomData,
+            bytes: PhantomData,
         }
     }
 
@@ -87,7 +142,7 @@ impl Dictionary {
     }
 
     /// Imports a parent, in place of an earlier one. They share it.
-    pub fn import(&mut self, parent: &Dictionary) -> Result<(), Refusal> {
+    pub fn import(&mut self, parent: &Dictionary<'b>) -> Result<(), Refusal> {
         let mut place = 0;
         // SAFETY: `self` is borrowed alone, so the handles are two.
         let status = unsafe { raw::ctfd_import(self.handle(), parent.handle(), &mut place) };
@@ -241,14 +296,14 @@ impl Dictionary {
     }
 }
 
-impl Drop for Dictionary {
+impl Drop for Dictionary<'_> {
     fn drop(&mut self) {
         // SAFETY: nothing borrows it any more.
         unsafe { raw::ctfd_close(self.handle()) }
     }
 }
 
-impl fmt::Debug for Dictionary {
+impl fmt::Debug for Dictionary<'_> {
     fn fmt(&self, to: &mut fmt::Formatter<'_>) -> fmt::Result {
         to.debug_struct("Dictionary")
             .field("types", &self.count())
@@ -278,7 +333,7 @@ pub struct Function<'d> {
 /// The types of a dictionary: [`Dictionary::types`].
 #[derive(Clone, Debug)]
 pub struct Types<'d> {
-    of: &'d Dictionary,
+    of: &'d Dictionary<'d>,
     next: u32,
     end: u32,
 }
@@ -324,7 +379,7 @@ pub struct Label {
 /// The labels of a dictionary: [`Dictionary::labels`].
 #[derive(Clone, Debug)]
 pub struct Labels<'d> {
-    of: &'d Dictionary,
+    of: &'d Dictionary<'d>,
     next: usize,
     end: usize,
 }

@@ -50,12 +50,12 @@ impl<'a> From<&'a str> for Named<'a> {
 /// # }
 /// ```
 #[derive(Debug)]
-pub struct Draft(Dictionary);
+pub struct Draft<'b>(Dictionary<'b>);
 
-impl Deref for Draft {
-    type Target = Dictionary;
+impl<'b> Deref for Draft<'b> {
+    type Target = Dictionary<'b>;
 
-    fn deref(&self) -> &Dictionary {
+    fn deref(&self) -> &Dictionary<'b> {
         &self.0
     }
 }
@@ -106,9 +106,9 @@ macro_rules! adds_with_an_encoding {
     };
 }
 
-impl Draft {
+impl<'b> Draft<'b> {
     /// An empty draft.
-    pub fn new(model: Model) -> Result<Draft, Refusal> {
+    pub fn new(model: Model) -> Result<Draft<'b>, Refusal> {
         let (made, mut place) = (Dictionary::none(), 0);
         // SAFETY: as `Dictionary::handle` says; so are all calls below.
         let status = unsafe { raw::ctfd_create(made.handle(), model == Model::Ilp32, &mut place) };
@@ -118,7 +118,11 @@ impl Draft {
 
     /// An empty draft over a parent, which is fixed for good, with the names that its header will
     /// have for that and for its label.
-    pub fn child(parent: &Dictionary, name: &str, label: &str) -> Result<Draft, Refusal> {
+    pub fn child(
+        parent: &Dictionary<'b>,
+        name: &str,
+        label: &str,
+    ) -> Result<Draft<'b>, Refusal> {
         let (made, mut place) = (Dictionary::none(), 0);
         let label = apart(label.as_bytes(), &[name.as_bytes()]);
         let status = unsafe {
@@ -293,7 +297,7 @@ impl Draft {
     }
 
     /// Takes the dictionary of the last update, as one that is not added to.
-    pub fn into_dictionary(self) -> Result<Dictionary, Refusal> {
+    pub fn into_dictionary(self) -> Result<Dictionary<'static>, Refusal> {
         Dictionary::open_with(
             &self.bytes(),
             crate::Options {

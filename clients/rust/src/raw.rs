@@ -70,6 +70,19 @@ extern "C" {
         ilp32: bool,
         place: *mut u64,
     ) -> u32;
+    pub fn ctfd_open_lent(
+        handle: *mut Handle,
+        ctf: *const u8,
+        ctf_len: usize,
+        sym: *const u8,
+        sym_len: usize,
+        strs: *const u8,
+        strs_len: usize,
+        has_sym: bool,
+        has_strs: bool,
+        ilp32: bool,
+        place: *mut u64,
+    ) -> u32;
     pub fn ctfd_close(handle: *mut Handle);
     pub fn ctfd_import(handle: *mut Handle, parent: *mut Handle, place: *mut u64) -> u32;
     pub fn ctfd_count(handle: *mut Handle, out: *mut u64) -> u32;

@@ -92,7 +92,7 @@ pub struct Array<'d> {
 /// void.
 #[derive(Clone, Copy)]
 pub struct Type<'d> {
-    of: &'d Dictionary,
+    of: &'d Dictionary<'d>,
     number: u16,
 }
 
@@ -122,24 +122,24 @@ impl fmt::Display for Type<'_> {
 
 impl<'d> Type<'d> {
     /// The type of a number that an answer had.
-    pub(crate) fn known(of: &'d Dictionary, number: u16) -> Type<'d> {
+    pub(crate) fn known(of: &'d Dictionary<'d>, number: u16) -> Type<'d> {
         Type { of, number }
     }
 
     /// The same, where 0 is no type.
-    pub(crate) fn some(of: &'d Dictionary, number: u16) -> Option<Type<'d>> {
+    pub(crate) fn some(of: &'d Dictionary<'d>, number: u16) -> Option<Type<'d>> {
         (number != 0).then_some(Type { of, number })
     }
 
     /// The type of a number that a caller has.
-    pub(crate) fn get(of: &'d Dictionary, number: u16) -> Result<Type<'d>, Refusal> {
+    pub(crate) fn get(of: &'d Dictionary<'d>, number: u16) -> Result<Type<'d>, Refusal> {
         let mut kind = 0;
         // SAFETY: as `Dictionary::handle` says; so are all calls below.
         told(unsafe { raw::ctfd_kind(of.handle(), number, &mut kind) })?;
         Ok(Type { of, number })
     }
 
-    pub(crate) fn dictionary(self) -> &'d Dictionary {
+    pub(crate) fn dictionary(self) -> &'d Dictionary<'d> {
         self.of
     }
 

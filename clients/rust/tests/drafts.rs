@@ -9,7 +9,7 @@ const INT: Encoding = Encoding {
 };
 
 /// `int`, and `struct node { int value; struct node *next; }`.
-fn nodes() -> Draft {
+fn nodes() -> Draft<'static> {
     let mut draft = Draft::new(Model::Lp64).unwrap();
     let int = draft.integer("int", INT, 4).unwrap();
     let node = draft.structure("node", 0).unwrap();

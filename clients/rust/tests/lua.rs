@@ -9,7 +9,7 @@ fn read(name: &str) -> Vec<u8> {
     fs::read(format!("{EXAMPLES}/{name}")).expect(name)
 }
 
-fn lua() -> Dictionary {
+fn lua() -> Dictionary<'static> {
     let options = Options {
         symbols: Some(&read("lua.sym")),
         strings: Some(&read("lua.str")),

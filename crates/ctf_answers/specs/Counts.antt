@@ -5,9 +5,9 @@ use Rattle.ctf_protocol.specs.answers.Answers as answers
 use Rattle.ctf_answers.specs.declared.count.Count.{Count}
 use Rattle.ctf_answers.specs.declared.counts.Counts.{Counts}
 
-abbrev pub count_said : Option Count → List Field
-count_said None = []
-count_said (Some a) = says a.key.now (answers.number a.number) ∷ []
+abbrev pub count_view : Option Count → List Field
+count_view None = []
+count_view (Some a) = says a.key.now (answers.number a.number) ∷ []
 
-abbrev pub counts_said : Counts → Answer
-counts_said c = count_said c.first ++ count_said c.second
+abbrev pub counts_view : Counts → Answer
+counts_view c = count_view c.first ++ count_view c.second

@@ -2,7 +2,7 @@
 use Rattle.std.specs.Prelude.{ℕ, Result, Ok, Err}
 use Rattle.ctf_protocol.specs.answers.Answers as answers
 use Rattle.ctf_model.specs.declared.faults.Fault.{Fault}
-use Rattle.ctf_answers.specs.Counts.{counts_said}
+use Rattle.ctf_answers.specs.Counts.{counts_view}
 use Rattle.ctf_answers.specs.declared.counts.Counts.{Counts}
 use Rattle.ctf_answers.specs.declared.replies.Reply.{Reply}
 
@@ -10,7 +10,7 @@ abbrev pub reply_of : Reply → answers.Reply
 reply_of r = record { session = r.session; outcome = r.outcome }
 
 abbrev pub changed : Result Counts Fault → Result answers.Answer Fault
-changed (Ok counts) = Ok (counts_said counts)
+changed (Ok counts) = Ok (counts_view counts)
 changed (Err fault) = Err fault
 
 -- the reply to a change

@@ -3,14 +3,14 @@ ghost use Rattle.std.specs.Prelude.{◌≡◌, ◌<◌, [], ◌∷◌, codes, le
 ghost use Rattle.ctf_protocol.specs.answers.Answers.{says, lists, number, truth, text as said_text};
 ghost use Rattle.ctf_answers.specs.Singles.{single_of};
 ghost use Rattle.ctf_answers.specs.Fields.{field_of};
-ghost use Rattle.ctf_answers.specs.Said.{entry_said, fields_said};
-ghost use Rattle.ctf_answers.specs.Told.{record_told, info_told};
+ghost use Rattle.ctf_answers.specs.Said.{entry_view, fields_view};
+ghost use Rattle.ctf_answers.specs.Told.{record_view, info_view};
 
 use crate::fields::{Field, Value};
 use crate::listed::Listed;
 use crate::said::Said;
 use crate::singles::{Entry, Single};
-use crate::told::{InfoTold, RecordTold, field};
+use crate::told::{InfoAnswer, RecordAnswer, field};
 use ctf_protocol::Bytes;
 use std::marker::Model;
 
@@ -22,15 +22,15 @@ pub struct Answer<'a> {
 
 impl<'a> Model for Answer<'a> {
     ghost use Rattle.ctf_protocol.specs.answers.Answers.{Answer as SaidAnswer};
-    ghost use Rattle.ctf_answers.specs.Said.{fields_said};
+    ghost use Rattle.ctf_answers.specs.Said.{fields_view};
 
     ghost Value = { SaidAnswer };
 
-    ghost view = { λ a. fields_said a.said };
+    ghost view = { λ a. fields_view a.said };
 }
 
 fn entry<'a>(key: &'static str, value: Single<'a>) -> Entry<'a>
-    ensures { entry_said result ≡ says key.now (single_of value.entry) }
+    ensures { entry_view result ≡ says key.now (single_of value.entry) }
 {
     Entry { key, value }
 }
@@ -104,8 +104,8 @@ impl<'a> Answer<'a> {
     }
 
     /// A type without its list.
-    pub fn record_of(told: RecordTold<'a>) -> Answer<'a>
-        ensures { result ≡ record_told told.entry }
+    pub fn record_of(told: RecordAnswer<'a>) -> Answer<'a>
+        ensures { result ≡ record_view told.entry }
     {
         Answer {
             said: Said::Record(told),
@@ -113,8 +113,8 @@ impl<'a> Answer<'a> {
     }
 
     /// A dictionary as a whole.
-    pub fn info(told: InfoTold<'a>) -> Answer<'a>
-        ensures { result ≡ info_told told.entry }
+    pub fn info(told: InfoAnswer<'a>) -> Answer<'a>
+        ensures { result ≡ info_view told.entry }
     {
         Answer {
             said: Said::Info(told),
@@ -189,7 +189,7 @@ fn made_field<'a, 'b>(key: &'static str, text: &'b Bytes) -> Field<'a, 'b>
 fn pick_two<'a, 'b>(a: Entry<'a>, b: Entry<'a>, index: usize) -> Field<'a, 'b>
     requires { index < 2 }
     ensures { Some (field_of result)
-        ≡ slice_get (entry_said a.entry ∷ entry_said b.entry ∷ []) index }
+        ≡ slice_get (entry_view a.entry ∷ entry_view b.entry ∷ []) index }
 {
     match index {
         0 => field(a.key, a.value),
@@ -200,7 +200,7 @@ fn pick_two<'a, 'b>(a: Entry<'a>, b: Entry<'a>, index: usize) -> Field<'a, 'b>
 fn pick_three<'a, 'b>(a: Entry<'a>, b: Entry<'a>, c: Entry<'a>, index: usize) -> Field<'a, 'b>
     requires { index < 3 }
     ensures { Some (field_of result)
-        ≡ slice_get (entry_said a.entry ∷ entry_said b.entry ∷ entry_said c.entry ∷ []) index }
+        ≡ slice_get (entry_view a.entry ∷ entry_view b.entry ∷ entry_view c.entry ∷ []) index }
 {
     match index {
         0 => field(a.key, a.value),

@@ -1,7 +1,7 @@
 //! What a change is answered: few numbers, owned.
 ghost use Rattle.std.specs.Prelude.{◌≡◌, ◌≤◌, [], ◌∷◌, length};
 ghost use Rattle.ctf_protocol.specs.answers.Answers.{says, number as number_said};
-ghost use Rattle.ctf_answers.specs.Counts.{counts_said};
+ghost use Rattle.ctf_answers.specs.Counts.{counts_view};
 
 use crate::answers::Answer;
 use crate::count::Count;
@@ -16,7 +16,7 @@ pub struct Counts {
 
 impl Counts {
     pub fn done() -> Counts
-        ensures { counts_said result ≡ [] }
+        ensures { counts_view result ≡ [] }
     {
         Counts {
             first: None,
@@ -26,7 +26,7 @@ impl Counts {
 
     pub fn one(key: &'static str, number: u64) -> Counts
         requires { length key.now ≤ 6 }
-        ensures { counts_said result ≡ says key.now (number_said number) ∷ [] }
+        ensures { counts_view result ≡ says key.now (number_said number) ∷ [] }
     {
         Counts {
             first: Some(Count { key, number }),
@@ -37,7 +37,7 @@ impl Counts {
     pub fn two(key: &'static str, number: u64, key2: &'static str, number2: u64) -> Counts
         requires first { length key.now ≤ 6 }
         requires second { length key2.now ≤ 6 }
-        ensures { counts_said result ≡ says key.now (number_said number)
+        ensures { counts_view result ≡ says key.now (number_said number)
             ∷ says key2.now (number_said number2) ∷ [] }
     {
         Counts {
@@ -51,7 +51,7 @@ impl Counts {
 
     /// The answer that says so.
     pub fn answer<'a>(self) -> Answer<'a>
-        ensures { result ≡ counts_said self }
+        ensures { result ≡ counts_view self }
     {
         match (self.first, self.second) {
             (None, None) => Answer::done(),

@@ -2,7 +2,7 @@
 
 use crate::listed::Listed;
 use crate::singles::Entry;
-use crate::told::{InfoTold, RecordTold};
+use crate::told::{InfoAnswer, RecordAnswer};
 use ctf_protocol::Bytes;
 
 /// What is answered. Its fields are made where they are asked for.
@@ -24,8 +24,8 @@ pub enum Said<'a> {
         ret: u64,
         varargs: bool,
     },
-    Record(RecordTold<'a>),
-    Info(InfoTold<'a>),
+    Record(RecordAnswer<'a>),
+    Info(InfoAnswer<'a>),
     /// A text that was made for the answer, which owns it.
     Made {
         key: &'static str,

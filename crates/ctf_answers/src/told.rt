@@ -1,19 +1,19 @@
 //! What a type and a dictionary are told as: their fields are made where they are asked for.
 ghost use Rattle.std.specs.Prelude.{◌≡◌, ◌<◌, length, Some, slice_get};
 ghost use Rattle.ctf_protocol.specs.answers.Answers.{says};
-ghost use Rattle.ctf_answers.specs.Told.{record_told, size_on, tag_on, type_on, info_told};
+ghost use Rattle.ctf_answers.specs.Told.{record_view, size_on, tag_on, type_on, info_view};
 ghost use Rattle.ctf_answers.specs.Singles.{single_of};
 ghost use Rattle.ctf_answers.specs.Fields.{field_of};
 
 use crate::fields::{Field, Value};
-use crate::names::{kind_name, tag_name};
+use crate::fixed_words::{kind_name, tag_name};
 use crate::singles::Single;
 use ctf_protocol::{Kind, TypeNum};
 use ctf_records::Tag;
 
 /// A type without its list.
 #[derive(Clone, Copy)]
-pub struct RecordTold<'a> {
+pub struct RecordAnswer<'a> {
     pub kind: Kind,
     pub name: &'a [u8],
     pub root: bool,
@@ -25,7 +25,7 @@ pub struct RecordTold<'a> {
 
 /// A dictionary as a whole, and how much its draft has pending.
 #[derive(Clone, Copy)]
-pub struct InfoTold<'a> {
+pub struct InfoAnswer<'a> {
     pub child: bool,
     pub draft: bool,
     pub imported: bool,
@@ -46,10 +46,10 @@ pub fn field<'a, 'b>(key: &'static str, value: Single<'a>) -> Field<'a, 'b>
     }
 }
 
-impl<'a> RecordTold<'a> {
+impl<'a> RecordAnswer<'a> {
     /// How many fields it has.
     pub fn len(self) -> usize
-        ensures { result ≡ length (record_told self.entry) }
+        ensures { result ≡ length (record_view self.entry) }
     {
         let size = if self.size.is_some() { 5 } else { 4 };
         let tag = if self.tag.is_some() { size + 1 } else { size };
@@ -62,8 +62,8 @@ impl<'a> RecordTold<'a> {
 
     /// The field with a number, from 0.
     pub fn get<'b>(self, index: usize) -> Field<'a, 'b>
-        requires { index < length (record_told self) }
-        ensures { Some (field_of result) ≡ slice_get (record_told self.entry) index }
+        requires { index < length (record_view self) }
+        ensures { Some (field_of result) ≡ slice_get (record_view self.entry) index }
     {
         match index {
             0 => field("kind", Single::Word(kind_name(self.kind))),
@@ -122,11 +122,11 @@ impl<'a> RecordTold<'a> {
     }
 }
 
-impl<'a> InfoTold<'a> {
+impl<'a> InfoAnswer<'a> {
     /// The field with a number, from 0.
     pub fn get<'b>(self, index: usize) -> Field<'a, 'b>
         requires { index < 8 }
-        ensures { Some (field_of result) ≡ slice_get (info_told self.entry) index }
+        ensures { Some (field_of result) ≡ slice_get (info_view self.entry) index }
     {
         match index {
             0 => field("child", Single::Truth(self.child)),

@@ -14,7 +14,6 @@ use crate::libraries::{found_by, publish_in, step_in};
 use ctf_answers::{Answer, Counts};
 use ctf_library::{Library, Loaded, MODEL_UNSAID, Pool};
 use ctf_protocol::{Bytes, Change, Fault, Parts, PublicationName, Question, SlotNumber, placeless};
-use ctf_space::Opened;
 use std::alloc::Global;
 use std::collections::BTreeMap;
 use std::marker::Model;
@@ -57,17 +56,14 @@ impl Broker {
     }
 
     /// Publishes a dictionary for the operator, under a name that has none yet.
-    pub fn load(&mut self, name: &PublicationName, dictionary: Opened) -> Result<Counts, Fault>
+    pub fn load(&mut self, name: &PublicationName, dictionary: Loaded) -> Result<Counts, Fault>
         ensures own { Answered (library_at self.old 0)
             (publishes_kept name.now dictionary (library_at self.old 0))
             (said result) (library_at self.new 0) }
         ensures others { (other : ℕ) → other ≢ 0
             → kept_for self.new other ≡ kept_for self.old other }
     {
-        let Ok(loaded) = Loaded::of(self.alloc, dictionary) else {
-            return Err(placeless(Fault::MEMORY));
-        };
-        publish_in(self.alloc, &mut self.libraries, OPERATOR, name, loaded)
+        publish_in(self.alloc, &mut self.libraries, OPERATOR, name, dictionary)
     }
 
     /// Publishes a CTF section for the operator, without the symbols

@@ -5,4 +5,4 @@ mod broker;
 mod libraries;
 
 pub use broker::Broker;
-pub use ctf_library::{Library, Pool};
+pub use ctf_library::{Library, Loaded, Pool};

@@ -9,6 +9,7 @@ use Rattle.ctf_model.specs.declared.kinds.Kind.TheVariants.{KUnknown, KInteger, 
 use Rattle.ctf_model.specs.format.Shown.{ArrayParts, EncodingParts, Shape, arguments_in, array_in, encoding_in, enumerators_in, is_variadic, list_length, members_in, named_arguments, shape}
 use Rattle.ctf_model.specs.figures.Paths.{Position}
 use Rattle.ctf_model.specs.format.Dictionary.{Label}
+use Rattle.ctf_model.specs.format.Lists.{Lists}
 use Rattle.ctf_model.specs.format.Term.{Enumerator, Member, Tag, Term, struct_tag, union_tag, enum_tag}
 use Rattle.ctf_model.specs.rules.Faults.{first_fault}
 use Rattle.ctf_model.specs.rules.Refusals.{placeless, want_of_memory}
@@ -91,19 +92,19 @@ number_of_tag enum_tag = 8
 -- ---- functions of a program
 
 -- how many arguments a function names, whether more may follow, and what it returns
-pub record FunctionTold : Type 0 where
+pub record FunctionAnswer : Type 0 where
   pub arguments : ℕ
   pub varargs : ℕ
   pub ret : ℕ
 
-abbrev pub function_said : Result Signature Fault → Result FunctionTold Fault
-function_said (Ok f) =
+abbrev pub function_answer : Result Signature Fault → Result FunctionAnswer Fault
+function_answer (Ok f) =
     Ok (record {
       arguments = length (named_arguments f.args);
       varargs = flag (is_variadic f.args);
       ret = f.ret;
     })
-function_said (Err fault) = Err fault
+function_answer (Err fault) = Err fault
 
 -- ---- texts
 
@@ -186,6 +187,11 @@ abbrev pub Changes : Option Fault → ℕ → ℕ → ℕ → Option Open → Op
 Changes fault status was place old changed new =
     ((status ≡ 0) × (fault ≡ None) × (place ≡ was) × (new ≡ changed))
     ⊎ ((f : Fault) × (Refuses fault f × (status ≡ status_of f) × (place ≡ f.place) × (new ≡ old)))
+
+-- what is open of lists by themselves
+abbrev pub open_alone : Lists → DataModel → Open
+open_alone lists model =
+    record { own = record { lists = lists; model = model }; parent = None; draft = None }
 
 -- a dictionary was opened in place of what was open
 abbrev pub Opens : Kept → ℕ → ℕ → ℕ → Option Open → Option Open → Type 0

@@ -2,6 +2,6 @@ pub mod Drafting
 pub mod Given
 pub mod Naming
 pub mod Owned
-pub mod Slots
+pub mod OptionBoxes
 pub mod handles
 pub mod service

@@ -13,5 +13,5 @@ names_from front (b ∷ bytes) =
     if b == 0 then front ∷ names_from [] bytes else names_from (front ++ b ∷ []) bytes
 
 -- the names in some bytes, each closed by a zero byte
-abbrev pub names_said : List ℕ → List (List ℕ)
-names_said bytes = names_from [] bytes
+abbrev pub names_given : List ℕ → List (List ℕ)
+names_given bytes = names_from [] bytes

@@ -9,8 +9,8 @@ use Rattle.std_heap.specs.contracts.GlobalAllocator.TheImpl.{ghosts}
 use Rattle.ctf_c.specs.handles.Owned.{held_owns}
 use Rattle.ctf_open.specs.contracts.opened.OpenDictionary.{the_row}
 
-abbrev pub place_owns : Global → Ptr → Option the_row.Denot → Fml
-place_owns alloc = held_owns (ghosts.dealloc_token alloc) the_row
+abbrev pub pointer_owns : Global → Ptr → Option the_row.Denot → Fml
+pointer_owns alloc = held_owns (ghosts.dealloc_token alloc) the_row
 
-abbrev pub place_coded : Coded (Option the_row.Denot)
-place_coded = coded_option the_row.coded
+abbrev pub pointer_coded : Coded (Option the_row.Denot)
+pointer_coded = coded_option the_row.coded

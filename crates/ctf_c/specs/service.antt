@@ -1,4 +1,4 @@
 pub mod Given
 pub mod Owned
 pub mod Served
-pub mod Slots
+pub mod OptionBoxes

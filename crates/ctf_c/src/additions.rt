@@ -31,7 +31,7 @@ fn add(
         (type_added (record { name = name.now; root = root; body = new_body_of body })))
         result out.old out.new handle.old.held.session handle.new.held.session }
 {
-    let Some(session) = handle.slot().get_mut() else {
+    let Some(session) = handle.option_box().get_mut() else {
         return NOT_OPEN;
     };
     match session.add(alloc, name, root, body) {
@@ -48,7 +48,7 @@ fn add_part(alloc: Global, handle: &mut Handle, part: Part<'_>, out: &mut u64) -
     ensures { Steps (asked handle.old.held.session (enlarged (part_in part.entry))) result
         out.old out.new handle.old.held.session handle.new.held.session }
 {
-    let Some(session) = handle.slot().get_mut() else {
+    let Some(session) = handle.option_box().get_mut() else {
         return NOT_OPEN;
     };
     match session.add_part(alloc, part) {

@@ -48,7 +48,7 @@ pub extern "C" fn ctfd_create(
 {
     match drafted(alloc, None, &[], &[], model_of(ilp32)) {
         Ok(session) => {
-            handle.slot().hold(session);
+            handle.option_box().hold(session);
             0
         }
         Err(fault) => {
@@ -92,13 +92,13 @@ pub extern "C" fn ctfd_create_child(
         (created_under parent.old.held.session parname.now parlabel.now) result
         place.old place.new handle.old.held.session handle.new.held.session }
 {
-    let Some(source) = parent.slot().get() else {
+    let Some(source) = parent.option_box().get() else {
         *place = 0;
         return NOT_OPEN;
     };
     match drafted_under(alloc, source, parname, parlabel) {
         Ok(session) => {
-            handle.slot().hold(session);
+            handle.option_box().hold(session);
             0
         }
         Err(fault) => {
@@ -120,7 +120,7 @@ pub extern "C" fn ctfd_update(
     ensures { StepsAt (asked handle.old.held.session updated) result types.old types.new
         place.old place.new handle.old.held.session handle.new.held.session }
 {
-    let Some(session) = handle.slot().get_mut() else {
+    let Some(session) = handle.option_box().get_mut() else {
         *place = 0;
         return NOT_OPEN;
     };
@@ -142,7 +142,7 @@ pub extern "C" fn ctfd_discard(handle: &mut Handle, types: &mut u64) -> u32
     ensures { Does (asked handle.old.held.session dropped) result types.old types.new
         handle.old.held.session handle.new.held.session }
 {
-    let Some(session) = handle.slot().get_mut() else {
+    let Some(session) = handle.option_box().get_mut() else {
         return NOT_OPEN;
     };
     match session.discard() {

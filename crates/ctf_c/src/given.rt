@@ -14,7 +14,7 @@ pub const NOT_OPEN: u32 = 50;
 /// What is open behind a handle. Where nothing is, the export that asks is left with that status.
 macro_rules! session_of {
     ($handle:ident) => {
-        match $handle.slot().get() {
+        match $handle.option_box().get() {
             Some(session) => session,
             None => return $crate::given::NOT_OPEN,
         }
@@ -126,7 +126,7 @@ pub fn kind_number(kind: Kind) -> u32
 
 /// The same, where there is a type.
 #[inline(always)]
-pub fn kind_told(kind: Result<Kind, Fault>) -> Result<u32, Fault>
+pub fn kind_result(kind: Result<Kind, Fault>) -> Result<u32, Fault>
     ensures { result ≡ told_of number_of_kind kind }
 {
     match kind {
@@ -136,7 +136,7 @@ pub fn kind_told(kind: Result<Kind, Fault>) -> Result<u32, Fault>
 }
 
 /// The number of what a forward declares, if there is one.
-pub fn tag_told(tag: Result<Tag, Fault>) -> Result<u32, Fault>
+pub fn tag_result(tag: Result<Tag, Fault>) -> Result<u32, Fault>
     ensures { result ≡ told_of number_of_tag (result_map_both tag_shown (λ f. f) tag) }
 {
     match tag {
@@ -148,7 +148,7 @@ pub fn tag_told(tag: Result<Tag, Fault>) -> Result<u32, Fault>
 }
 
 /// 1 for what holds, else 0, where there is a type.
-pub fn flag_told(holds: Result<bool, Fault>) -> Result<u32, Fault>
+pub fn flag_result(holds: Result<bool, Fault>) -> Result<u32, Fault>
     ensures { result ≡ told_of flag_of holds }
 {
     match holds {

@@ -1,9 +1,9 @@
 //! A handle, as C has it.
 ghost use Rattle.std.specs.Prelude.{◌≡◌, Option, is_some};
-ghost use Rattle.ctf_c.specs.Owned.{place_coded, place_owns};
+ghost use Rattle.ctf_c.specs.Owned.{pointer_coded, pointer_owns};
 ghost use Rattle.ctf_model.specs.opened.Open.{Open};
 
-use crate::handles::Slot;
+use crate::handles::OptionBox;
 use ctf_open::OpenDictionary;
 use std::alloc::Global;
 use std::marker::Model;
@@ -11,35 +11,35 @@ use std::marker::Model;
 /// A session on the heap, or nothing: `Held` without type parameters, since C is given none.
 #[repr(C)]
 #[derive(Drop)]
-pub struct Place {
+pub struct HeapPointer {
     at: *mut u8,
     alloc: Global,
-    pub ghost session: { Option Open } by { place_coded },
+    pub ghost session: { Option Open } by { pointer_coded },
 }
 
-impl Model for Place {
-    ghost also_owns = { λ p. place_owns p.alloc p.at p.session };
+impl Model for HeapPointer {
+    ghost also_owns = { λ p. pointer_owns p.alloc p.at p.session };
 }
 
-/// What is open, if anything is: a `Slot` without type parameters.
+/// What is open, if anything is: an `OptionBox` without type parameters.
 #[repr(C)]
 #[derive(Drop)]
 pub struct Handle {
     full: bool,
-    pub held: Place,
+    pub held: HeapPointer,
     ghost tells: { full ≡ is_some held.session },
 }
 
 impl Handle {
     ghost use Rattle.std.specs.Borrow.{sem};
-    ghost use Rattle.ctf_c.specs.Slots.{HandleLends};
+    ghost use Rattle.ctf_c.specs.OptionBoxes.{HandleLends};
 
-    /// The slot that it is in memory.
+    /// The optional box that it is in memory.
     #[inline(always)]
-    pub fn slot(&mut self) -> &mut Slot<OpenDictionary>
+    pub fn option_box(&mut self) -> &mut OptionBox<OpenDictionary>
         ensures* writes_back { sem 𝓛 (HandleLends self.entry result) }
         ensures same { result.now.held.value ≡ self.old.held.session }
     {
-        unsafe { &mut *(self as *mut Handle as *mut Slot<OpenDictionary>) }
+        unsafe { &mut *(self as *mut Handle as *mut OptionBox<OpenDictionary>) }
     }
 }

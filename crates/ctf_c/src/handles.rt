@@ -1,7 +1,7 @@
 //! What C holds of a value on the heap: a pointer to it, or nothing.
 
 mod held;
-mod slot;
+mod option_box;
 
 pub use held::Held;
-pub use slot::Slot;
+pub use option_box::OptionBox;

@@ -3,7 +3,7 @@
 
 mod additions;
 mod drafts;
-mod figures;
+mod encodings;
 mod given;
 mod handle;
 mod handles;

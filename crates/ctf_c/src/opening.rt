@@ -1,6 +1,7 @@
 //! Exports that open, close and import.
 ghost use Rattle.std.specs.Prelude.{◌≡◌, None, IfOk, IfErr, OnOk, option_copied};
-ghost use Rattle.ctf_c.specs.Given.{Imports, Opens, list_if as list_there, model_if};
+ghost use Rattle.ctf_c.specs.Given.{Imports, Opens, list_if as list_there, model_if, open_alone};
+ghost use Rattle.ctf_check.specs.ListsView.{given};
 ghost use Rattle.ctf_model.specs.opened.Steps.{Refuses};
 ghost use Rattle.ctf_model.specs.rules.Faults.{first_fault};
 
@@ -10,7 +11,7 @@ use ctf_model::{DataModel, Fault, placeless};
 use ctf_open::OpenDictionary;
 use std::alloc::Global;
 
-/// A session on the heap.
+/// A session on the heap, over copies of lists.
 fn opened(
     alloc: Global,
     ctf: &[u8],
@@ -18,30 +19,38 @@ fn opened(
     strs: Option<&[u8]>,
     model: DataModel,
 ) -> Result<Box<OpenDictionary>, Fault>
-    ensures ok { IfOk result (λ s. s.value ≡ record {
-      own = record {
-        lists = record {
-          ctf = ctf.now;
-          sym = option_copied sym.entry;
-          strs = option_copied strs.entry;
-        };
-        model = model;
-      };
-      parent = None;
-      draft = None;
-    }) }
-    ensures exact_ok { OnOk result (first_fault (record {
-      ctf = ctf.now;
-      sym = option_copied sym.entry;
-      strs = option_copied strs.entry;
-    }) ≡ None) }
-    ensures exact_err { IfErr result (λ f. Refuses (first_fault (record {
-      ctf = ctf.now;
-      sym = option_copied sym.entry;
-      strs = option_copied strs.entry;
-    })) f) }
+    ensures ok { IfOk result (λ s. s.value
+        ≡ open_alone (given ctf.now (option_copied sym.entry) (option_copied strs.entry)) model) }
+    ensures exact_ok { OnOk result (first_fault
+        (given ctf.now (option_copied sym.entry) (option_copied strs.entry)) ≡ None) }
+    ensures exact_err { IfErr result (λ f. Refuses (first_fault
+        (given ctf.now (option_copied sym.entry) (option_copied strs.entry))) f) }
 {
     match OpenDictionary::open(alloc, ctf, sym, strs, model) {
+        Ok(session) => match Box::new(alloc, session) {
+            Ok(session) => Ok(session),
+            Err(_) => Err(placeless(Fault::MEMORY)),
+        },
+        Err(fault) => Err(fault),
+    }
+}
+
+/// A session on the heap, over lists that are lent to it.
+fn opened_lent(
+    alloc: Global,
+    ctf: &'static [u8],
+    sym: Option<&'static [u8]>,
+    strs: Option<&'static [u8]>,
+    model: DataModel,
+) -> Result<Box<OpenDictionary>, Fault>
+    ensures ok { IfOk result (λ s. s.value
+        ≡ open_alone (given ctf.now (option_copied sym.entry) (option_copied strs.entry)) model) }
+    ensures exact_ok { OnOk result (first_fault
+        (given ctf.now (option_copied sym.entry) (option_copied strs.entry)) ≡ None) }
+    ensures exact_err { IfErr result (λ f. Refuses (first_fault
+        (given ctf.now (option_copied sym.entry) (option_copied strs.entry))) f) }
+{
+    match OpenDictionary::open_lent(alloc, ctf, sym, strs, model) {
         Ok(session) => match Box::new(alloc, session) {
             Ok(session) => Ok(session),
             Err(_) => Err(placeless(Fault::MEMORY)),
@@ -82,7 +91,47 @@ pub extern "C" fn ctfd_open(
         model,
     ) {
         Ok(session) => {
-            handle.slot().hold(session);
+            handle.option_box().hold(session);
+            0
+        }
+        Err(fault) => {
+            *place = fault.place;
+            status(fault)
+        }
+    }
+}
+
+/// Opens a dictionary over lists that are lent to it, in place of what was open: nothing of them is
+/// copied. Where it is refused, `place` says where its fault is, and what was open stays.
+///
+/// The type says that the lists stay for good. A caller gives them back once no handle has the
+/// dictionary, or has it as its parent: only these keep the lists.
+#[unsafe(no_mangle)]
+pub extern "C" fn ctfd_open_lent(
+    alloc: Global,
+    handle: &mut Handle,
+    ctf: &'static [u8],
+    sym: &'static [u8],
+    strs: &'static [u8],
+    has_sym: bool,
+    has_strs: bool,
+    ilp32: bool,
+    place: &mut u64,
+) -> u32
+    ensures { Opens (record {
+      lists = record {
+        ctf = ctf.now;
+        sym = list_there has_sym sym.now;
+        strs = list_there has_strs strs.now;
+      };
+      model = model_if ilp32;
+    }) result place.old place.new handle.old.held.session handle.new.held.session }
+{
+    let sym = list_if(has_sym, sym);
+    let strs = list_if(has_strs, strs);
+    match opened_lent(alloc, ctf, sym, strs, model_of(ilp32)) {
+        Ok(session) => {
+            handle.option_box().hold(session);
             0
         }
         Err(fault) => {
@@ -97,7 +146,7 @@ pub extern "C" fn ctfd_open(
 pub extern "C" fn ctfd_close(alloc: Global, handle: &mut Handle)
     ensures { handle.new.held.session ≡ None }
 {
-    drop(handle.slot().take(alloc));
+    drop(handle.option_box().take(alloc));
 }
 
 /// Imports what is open in another handle as the parent. They share it. A refusal changes nothing.
@@ -112,10 +161,10 @@ pub extern "C" fn ctfd_import(
     ensures answer { Imports handle.old.held.session parent.old.held.session result
         place.old place.new handle.new.held.session }
 {
-    let Some(child) = handle.slot().get_mut() else {
+    let Some(child) = handle.option_box().get_mut() else {
         return NOT_OPEN;
     };
-    let Some(source) = parent.slot().get() else {
+    let Some(source) = parent.option_box().get() else {
         return NOT_OPEN;
     };
     match child.import(alloc, source) {

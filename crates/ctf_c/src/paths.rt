@@ -1,7 +1,7 @@
 //! The export that follows a path of names.
 ghost use Rattle.std.specs.Prelude.{◌≡◌, ◌⊎◌, Err, IfOk, IfErr, Ok, map};
 ghost use Rattle.ctf_c.specs.Given.{MayGivePath, asked};
-ghost use Rattle.ctf_c.specs.Naming.{names_said};
+ghost use Rattle.ctf_c.specs.Naming.{names_given};
 ghost use Rattle.ctf_model.specs.opened.Open.{space_in};
 ghost use Rattle.ctf_layout.specs.Reached.{position_of};
 ghost use Rattle.ctf_model.specs.opened.Questions.{path_said};
@@ -15,7 +15,7 @@ use std::alloc::{AllocError, Global};
 
 /// The names in some bytes, each closed by a zero byte; the last one may stand without it.
 fn names_in(alloc: Global, bytes: &[u8]) -> Result<Vec<&[u8]>, AllocError>
-    ensures { IfOk result (λ names. map (λ name. name.now) names.items ≡ names_said bytes.now) }
+    ensures { IfOk result (λ names. map (λ name. name.now) names.items ≡ names_given bytes.now) }
 {
     let mut names = Vec::new(alloc);
     let mut from = 0;
@@ -39,9 +39,9 @@ fn path_along(
     names: &[u8],
 ) -> Result<(u64, TypeNum), Fault>
     ensures ok { IfOk result (λ at.
-        path_said (space_in session.now) (names_said names.now) t.0 ≡ Ok (position_of at)) }
+        path_said (space_in session.now) (names_given names.now) t.0 ≡ Ok (position_of at)) }
     ensures exact_err { IfErr result (λ f. (f ≡ want_of_memory)
-        ⊎ (path_said (space_in session.now) (names_said names.now) t.0 ≡ Err f)) }
+        ⊎ (path_said (space_in session.now) (names_given names.now) t.0 ≡ Err f)) }
 {
     let names = names_in(alloc, names)?;
     session.path(t, names.as_slice())
@@ -61,11 +61,11 @@ pub extern "C" fn ctfd_path(
 ) -> u32
     ensures same { handle.new.held.session ≡ handle.old.held.session }
     ensures answer { MayGivePath (asked handle.old.held.session (λ s.
-        path_said (space_in s) (names_said names.now) t)) result
+        path_said (space_in s) (names_given names.now) t)) result
         (record { offset = offset.old; tnum = to.old; place = place.old })
         (record { offset = offset.new; tnum = to.new; place = place.new }) }
 {
-    let Some(session) = handle.slot().get() else {
+    let Some(session) = handle.option_box().get() else {
         *place = 0;
         return NOT_OPEN;
     };

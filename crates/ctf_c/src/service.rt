@@ -28,7 +28,7 @@ pub extern "C" fn ctfd_begin(alloc: Global, handle: &mut Handle) -> u32
     };
     match Box::new(alloc, service) {
         Ok(service) => {
-            handle.slot().hold(service);
+            handle.option_box().hold(service);
             0
         }
         Err(_) => MEMORY,
@@ -40,7 +40,7 @@ pub extern "C" fn ctfd_begin(alloc: Global, handle: &mut Handle) -> u32
 pub extern "C" fn ctfd_end(alloc: Global, handle: &mut Handle)
     ensures { handle.new.held.service ≡ None }
 {
-    drop(handle.slot().take(alloc));
+    drop(handle.option_box().take(alloc));
 }
 
 /// Answers a line, without its newline. As much of the reply is written as fits.
@@ -50,7 +50,7 @@ pub extern "C" fn ctfd_line(handle: &mut Handle, line: &[u8], text: &mut [u8], l
         (record { text = text.old; len = len.old }) (record { text = text.new; len = len.new })
         handle.new.held.service }
 {
-    let Some(service) = handle.slot().get_mut() else {
+    let Some(service) = handle.option_box().get_mut() else {
         return NOT_OPEN;
     };
     service.answer(line);
@@ -65,7 +65,7 @@ pub extern "C" fn ctfd_reply(handle: &mut Handle, text: &mut [u8], len: &mut u64
     ensures answer { Repeats handle.old.held.service result
         (record { text = text.old; len = len.old }) (record { text = text.new; len = len.new }) }
 {
-    let Some(service) = handle.slot().get() else {
+    let Some(service) = handle.option_box().get() else {
         return NOT_OPEN;
     };
     tell(service.reply(), text, len);

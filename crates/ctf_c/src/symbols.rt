@@ -1,6 +1,6 @@
 //! Exports that answer of a program's functions and symbols, and of labels.
 ghost use Rattle.std.specs.Prelude.{◌≡◌, Ok, length};
-ghost use Rattle.ctf_c.specs.Given.{Gives, GivesLabel, GivesText, asked, function_said};
+ghost use Rattle.ctf_c.specs.Given.{Gives, GivesLabel, GivesText, asked, function_answer};
 ghost use Rattle.ctf_model.specs.opened.Questions.{label_at, named_said};
 ghost use Rattle.ctf_model.specs.opened.Open.{own_in};
 ghost use Rattle.ctf_model.specs.symbols.SymbolQuestions.{function_of, name_of_symbol};
@@ -52,7 +52,7 @@ pub extern "C" fn ctfd_symbol_name(
 pub extern "C" fn ctfd_function(handle: &mut Handle, number: u32, out: &mut GivenFunction) -> u32
     ensures same { handle.new.held.session ≡ handle.old.held.session }
     ensures answer { Gives (asked handle.old.held.session (λ s.
-        function_said (function_of (own_in s) number))) result
+        function_answer (function_of (own_in s) number))) result
         (record { arguments = out.old.arguments; varargs = out.old.varargs; ret = out.old.ret })
         (record { arguments = out.new.arguments; varargs = out.new.varargs; ret = out.new.ret }) }
 {

@@ -6,7 +6,7 @@ ghost use Rattle.ctf_model.specs.opened.Open.{space_in};
 ghost use Rattle.ctf_model.specs.figures.Figures.{reference as reference_of};
 ghost use Rattle.ctf_model.specs.spaces.Space.{space_type};
 
-use crate::given::{flag_told, give, give_short, give_type, kind_told, session_of, tag_told};
+use crate::given::{flag_result, give, give_short, give_type, kind_result, session_of, tag_result};
 use crate::handle::Handle;
 use ctf_model::TypeNum;
 
@@ -19,7 +19,7 @@ pub extern "C" fn ctfd_kind(handle: &mut Handle, t: u16, out: &mut u32) -> u32
         result out.old out.new }
 {
     let session = session_of!(handle);
-    give_short(kind_told(session.kind(TypeNum(t))), out)
+    give_short(kind_result(session.kind(TypeNum(t))), out)
 }
 
 /// 1 where look-ups by name see a type, else 0.
@@ -31,7 +31,7 @@ pub extern "C" fn ctfd_root(handle: &mut Handle, t: u16, out: &mut u32) -> u32
         result out.old out.new }
 {
     let session = session_of!(handle);
-    give_short(flag_told(session.root(TypeNum(t))), out)
+    give_short(flag_result(session.root(TypeNum(t))), out)
 }
 
 /// The number of the kind that a forward declares: 6 for a struct, 7 for a union, 8 for an enum.
@@ -43,7 +43,7 @@ pub extern "C" fn ctfd_tag(handle: &mut Handle, t: u16, out: &mut u32) -> u32
         result out.old out.new }
 {
     let session = session_of!(handle);
-    give_short(tag_told(session.tag(TypeNum(t))), out)
+    give_short(tag_result(session.tag(TypeNum(t))), out)
 }
 
 /// How many members, enumerators or arguments a type has: 0 for kinds without a list.

@@ -12,7 +12,7 @@ use Rattle.ctf_records.specs.declared.record.Record.{Record}
 
 -- the lists that it was handed in as
 abbrev pub lists_of : Checked → Lists
-lists_of d = d.judged.now
+lists_of d = d.judged.now.kept.lists
 
 -- its tables of names
 abbrev pub tables_of : Checked → Tables

@@ -6,8 +6,8 @@ use Rattle.ctf_views.specs.VariantView.{seen}
 use Rattle.ctf_check.specs.declared.facts.Facts.{Facts}
 use Rattle.ctf_check.specs.declared.facts.Shape.{Shape}
 
-abbrev pub shape_seen : Shape → shown.Shape
-shape_seen x =
+abbrev pub shape_view : Shape → shown.Shape
+shape_view x =
     record {
       kind = x.kind;
       size = x.size;
@@ -16,5 +16,5 @@ shape_seen x =
       behind = seen x.behind;
     }
 
-abbrev pub facts_seen : Facts → shown.Facts
-facts_seen x = record { name = x.name.now; root = x.root; shape = shape_seen x.shape }
+abbrev pub facts_view : Facts → shown.Facts
+facts_view x = record { name = x.name.now; root = x.root; shape = shape_view x.shape }

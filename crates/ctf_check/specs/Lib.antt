@@ -1,8 +1,10 @@
 pub mod CheckedView
 pub mod EndsView
+pub mod FactsView
+pub mod HeldView
+pub mod Holdings
 pub mod ListsView
 pub mod Named
 pub mod Needed
 pub mod Stages
 pub mod TypedView
-pub mod FactsView

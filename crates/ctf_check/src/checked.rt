@@ -28,8 +28,8 @@ use ctf_views::{Variant, variant};
 /// as.
 #[derive(Clone, Copy)]
 pub struct Checked<'a> {
-    judged: &'a Judged,
-    pub ghost faultless: { first_fault judged.now ≡ None },
+    judged: &'a Judged<'a>,
+    pub ghost faultless: { first_fault judged.now.kept.lists ≡ None },
 }
 
 /// The record with a number of a section, by the places at which all begin.
@@ -52,9 +52,9 @@ impl<'a> Checked<'a> {
     ghost use Rattle.ctf_records.specs.RecordView.{index_of, bytes_of};
 
     /// What was judged, lent.
-    pub(crate) fn of(judged: &'a Judged) -> Checked<'a>
-        requires { first_fault judged.now ≡ None }
-        ensures { lists_of result ≡ judged.now }
+    pub(crate) fn of(judged: &'a Judged<'a>) -> Checked<'a>
+        requires { first_fault judged.now.kept.lists ≡ None }
+        ensures { lists_of result ≡ judged.now.kept.lists }
     {
         Checked { judged }
     }

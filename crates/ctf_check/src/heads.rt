@@ -4,7 +4,7 @@ ghost use Rattle.std.specs.Option.{option_map};
 ghost use Rattle.ctf_model.specs.rules.Chains.{by_value};
 ghost use Rattle.ctf_model.specs.format.Shown.{kind_of, reference_of, shape, size_of};
 ghost use Rattle.ctf_model.specs.format.Spelling.{term_of};
-ghost use Rattle.ctf_check.specs.FactsView.{shape_seen};
+ghost use Rattle.ctf_check.specs.FactsView.{shape_view};
 
 use crate::checked::Checked;
 use crate::facts::Shape;
@@ -21,7 +21,7 @@ impl<'a> Checked<'a> {
     pub fn shape(&self, term: &Record<'a>) -> Shape<'a>
         requires own { IsOwn self.now term.now }
         ensures { option_map (λ x. shape x.body) (term_of (tables_of self.now) (bytes_of term.now))
-            ≡ Some (shape_seen result) }
+            ≡ Some (shape_view result) }
     {
         Shape {
             kind: term.kind(),

@@ -8,10 +8,10 @@ ghost use Rattle.ctf_check.specs.ListsView.{given};
 ghost use Rattle.ctf_check.specs.Named.{first_that_misnames};
 ghost use Rattle.ctf_check.specs.Stages.{IsTypesFault, fault_before_chains, records_fault, want_of_memory};
 
+use crate::bad_names::bad_name;
 use crate::ends::NameEnds;
 use crate::judging::judge_chains;
 use crate::lists::LentLists;
-use crate::names::bad_name;
 use crate::references::{Numbers, bad_reference};
 use crate::sections::bytes_in;
 use crate::symbols::judge_symbols;

@@ -1,7 +1,8 @@
-//! The lists of a dictionary that breaks no rule.
-ghost use Rattle.std.specs.Prelude.{◌≡◌, ◌⊎◌, ◌<◌, ◌^◌, IfOk, IfErr, OnOk, None, Some, length};
+//! A dictionary that breaks no rule.
+ghost use Rattle.std.specs.Prelude.{◌≡◌, ◌⊎◌, ◌<◌, ◌^◌, IfOk, IfErr, OnOk, None, Some, length, option_map};
 ghost use Rattle.ctf_chains.specs.Starts.{starts_in};
 ghost use Rattle.ctf_check.specs.CheckedView.{lists_of};
+ghost use Rattle.ctf_check.specs.Holdings.{lent as lent_for, lists_owned_by, owning};
 ghost use Rattle.ctf_check.specs.ListsView.{lists_in};
 ghost use Rattle.ctf_check.specs.Stages.{fault_before_chains};
 ghost use Rattle.ctf_model.specs.format.Header.{fields, section as section_of};
@@ -10,50 +11,59 @@ ghost use Rattle.ctf_model.specs.rules.Faults.{first_fault, types as types_of};
 ghost use Rattle.ctf_model.specs.rules.Refusals.{want_of_memory};
 
 use crate::checked::Checked;
+use crate::held::HeldLists;
 use crate::judge::{Findings, check};
 use crate::lists::{LentLists, lent};
 use crate::sections::bytes_in;
 use ctf_chains::Starts;
-use ctf_model::{Fault, Parts, Section};
+use ctf_model::{DataModel, Fault, Parts, Section};
 use ctf_sections::Header;
 use std::alloc::Global;
 use std::marker::Model;
 
-/// The lists of a dictionary that breaks no rule, with its header and the places at which its
-/// types begin.
+/// A dictionary that breaks no rule, with the data model of its program. Its lists are its own, or
+/// lent: then nothing of them is copied.
 ///
-/// The header is read once, and a type is found in constant time. The places take four bytes a
-/// type. A contract sees the lists alone.
+/// The header is read once, and a type is found in constant time. The places at which types begin
+/// take four bytes a type. A contract sees the lists, whether they are its own, and the data model.
 #[derive(Drop)]
-pub struct Judged {
-    parts: Parts,
+pub struct Judged<'a> {
+    held: HeldLists<'a>,
     header: Header,
     starts: Starts,
+    model: DataModel,
 }
 
-impl Model for Judged {
+impl<'a> Model for Judged<'a> {
     ghost use Rattle.std.specs.Prelude.{◌≡◌, ◌≤◌, ◌+◌, length, None};
     ghost use Rattle.ctf_chains.specs.Starts.{starts_in};
+    ghost use Rattle.ctf_check.specs.HeldView.{is_owned, lists_held};
+    ghost use Rattle.ctf_check.specs.Holdings.{Holding};
     ghost use Rattle.ctf_model.specs.format.Header.{fields};
-    ghost use Rattle.ctf_model.specs.format.Lists.{Lists};
-    ghost use Rattle.ctf_model.specs.format.OwnedLists.{lists_owned};
     ghost use Rattle.ctf_model.specs.rules.Faults.{first_fault, types as types_of};
 
-    ghost Value = { Lists };
+    ghost Value = { Holding };
 
-    ghost view = { λ j. lists_owned j.parts };
+    ghost view = { λ j. record {
+      kept = record { lists = lists_held j.held; model = j.model };
+      owned = is_owned j.held;
+    } };
 
-    ghost invariant = { λ j. (first_fault (lists_owned j.parts) ≡ None)
-        × (j.header ≡ fields j.parts.ctf)
-        × (36 + j.header.stroff + j.header.strlen ≤ length j.parts.ctf)
-        × (j.starts ≡ starts_in (types_of j.parts.ctf)) };
+    ghost invariant = { λ j. (first_fault (lists_held j.held) ≡ None)
+        × (j.header ≡ fields (lists_held j.held).ctf)
+        × (36 + j.header.stroff + j.header.strlen ≤ length (lists_held j.held).ctf)
+        × (j.starts ≡ starts_in (types_of (lists_held j.held).ctf)) };
 }
 
-impl Judged {
+impl<'a> Judged<'a> {
     /// Judges the lists, and keeps them, or hands them back beside the first fault. Where memory is
     /// refused, the rules before those of chains are kept.
-    pub fn build(alloc: Global, parts: Parts) -> Result<Judged, (Fault, Parts)>
-        ensures ok { IfOk result (λ j. j ≡ lists_owned parts) }
+    pub fn build(
+        alloc: Global,
+        parts: Parts,
+        model: DataModel,
+    ) -> Result<Judged<'a>, (Fault, Parts)>
+        ensures ok { IfOk result (λ j. j ≡ owning (lists_owned parts) model) }
         ensures exact_ok { OnOk result (first_fault (lists_owned parts) ≡ None) }
         ensures exact_err { IfErr result (λ e. (e.0 ≡ want_of_memory)
             ⊎ (first_fault (lists_owned parts) ≡ Some e.0)) }
@@ -64,54 +74,84 @@ impl Judged {
         let lists = lent(&parts);
         match check(alloc, lists.ctf, lists.sym, lists.strs) {
             Ok(Findings { header, starts }) => Ok(Judged {
-                parts,
+                held: HeldLists::Owned(parts),
                 header,
                 starts,
+                model,
             }),
             Err(fault) => Err((fault, parts)),
         }
     }
 
+    /// Judges lists that are lent, and keeps them so, or tells the first fault. Where memory is
+    /// refused, the rules before those of chains are kept.
+    pub fn lent(alloc: Global, lists: LentLists<'a>, model: DataModel) -> Result<Judged<'a>, Fault>
+        ensures ok { IfOk result (λ j. j ≡ lent_for (lists_in lists.entry) model) }
+        ensures exact_ok { OnOk result (first_fault (lists_in lists.entry) ≡ None) }
+        ensures exact_err { IfErr result (λ f. (f ≡ want_of_memory)
+            ⊎ (first_fault (lists_in lists.entry) ≡ Some f)) }
+        ensures late { IfErr result (λ f. (fault_before_chains (lists_in lists.entry) ≡ None)
+            ⊎ (first_fault (lists_in lists.entry) ≡ Some f)) }
+    {
+        let Findings { header, starts } = check(alloc, lists.ctf, lists.sym, lists.strs)?;
+        Ok(Judged {
+            held: HeldLists::Lent(lists),
+            header,
+            starts,
+            model,
+        })
+    }
+
     /// The dictionary, lent.
     pub fn view(&self) -> Checked<'_>
-        ensures { lists_of result ≡ self.now }
+        ensures { lists_of result ≡ self.now.kept.lists }
     {
         // A look at a field tells the proof the invariant.
-        let _ = &self.parts;
+        let _ = &self.held;
         Checked::of(self)
     }
 
-    /// Its lists, handed back.
-    pub fn into_parts(self) -> Parts
-        ensures { lists_owned result ≡ self }
+    /// Its lists, handed back where they are its own.
+    pub fn into_parts(self) -> Option<Parts>
+        ensures { option_map lists_owned result ≡ lists_owned_by self.entry }
     {
-        let Judged { parts, .. } = self;
-        parts
+        let Judged { held, .. } = self;
+        match held {
+            HeldLists::Owned(parts) => Some(parts),
+            HeldLists::Lent(_) => None,
+        }
+    }
+
+    /// The data model of its program.
+    pub fn model(&self) -> DataModel
+        ensures { result ≡ self.now.kept.model }
+    {
+        self.model
     }
 
     pub(crate) fn lists(&self) -> LentLists<'_>
-        ensures { lists_in result ≡ self.now }
+        ensures { lists_in result ≡ self.now.kept.lists }
     {
-        lent(&self.parts)
+        self.held.lists()
     }
 
     pub(crate) fn header(&self) -> Header
-        ensures { result ≡ fields self.now.ctf }
+        ensures { result ≡ fields self.now.kept.lists.ctf }
     {
         self.header
     }
 
     /// The bytes of a section.
     pub(crate) fn section(&self, section: Section) -> &[u8]
-        ensures bytes { result.now ≡ section_of self.now.ctf section }
+        ensures bytes { result.now ≡ section_of self.now.kept.lists.ctf section }
         ensures short { length result.now < 2 ^ 32 }
     {
-        bytes_in(self.parts.ctf.as_slice(), self.header, section)
+        bytes_in(self.held.ctf(), self.header, section)
     }
 
     /// The places at which its types begin.
     pub(crate) fn starts(&self) -> &[u32]
-        ensures { result.now ≡ starts_in (types_of self.now.ctf) }
+        ensures { result.now ≡ starts_in (types_of self.now.kept.lists.ctf) }
     {
         self.starts.as_slice()
     }

@@ -1,17 +1,18 @@
 //! The check of a dictionary, and what a dictionary that passed it answers.
 #![tactic(auto)]
 
+mod bad_names;
 mod checked;
 mod ends;
 mod entries;
 mod facts;
 mod heads;
+mod held;
 mod judge;
 mod judged;
 mod judging;
 mod labels;
 mod lists;
-mod names;
 mod needs;
 mod references;
 mod sections;

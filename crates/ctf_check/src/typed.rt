@@ -7,7 +7,7 @@ ghost use Rattle.ctf_records.specs.RecordView.{index_of};
 ghost use Rattle.ctf_views.specs.VariantView.{seen};
 ghost use Rattle.ctf_check.specs.CheckedView.{dictionary_of, tables_of, type_at, IsOwn};
 ghost use Rattle.ctf_model.specs.format.Name.{name as named_by};
-ghost use Rattle.ctf_check.specs.FactsView.{facts_seen, shape_seen};
+ghost use Rattle.ctf_check.specs.FactsView.{facts_view, shape_view};
 
 use crate::checked::Checked;
 use crate::facts::{Facts, Shape};
@@ -107,7 +107,7 @@ impl<'a> Typed<'a> {
     /// What it is, apart from its name. It takes constant time.
     #[inline(always)]
     pub fn shape(&self) -> Shape<'a>
-        ensures { option_map (λ x. shape x.body) (spelled self.now) ≡ Some (shape_seen result) }
+        ensures { option_map (λ x. shape x.body) (spelled self.now) ≡ Some (shape_view result) }
     {
         self.dictionary.shape(&self.source)
     }
@@ -124,7 +124,7 @@ impl<'a> Typed<'a> {
 
     /// All that it says of itself.
     pub fn facts(&self) -> Facts<'a>
-        ensures { option_map facts (spelled self.now) ≡ Some (facts_seen result) }
+        ensures { option_map facts (spelled self.now) ≡ Some (facts_view result) }
     {
         Facts {
             name: self.name(),

@@ -16,5 +16,5 @@ pub use files::read_file;
 pub use models::model_named;
 pub use serving::serve_lines;
 pub use starts::NotStarted;
-pub use status::{MISUSED, end, status_told};
+pub use status::{MISUSED, end, usage_status};
 pub use wanted::{Wanted, all_wanted};

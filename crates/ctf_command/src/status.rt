@@ -28,7 +28,7 @@ pub fn status_of(fault: RunFault) -> u8
 }
 
 /// The status beside a text that was asked for, or that says what is wrong with the words.
-pub fn status_told(kind: ErrorKind) -> u8
+pub fn usage_status(kind: ErrorKind) -> u8
     ensures { result ≡ status_beside kind }
 {
     match kind {

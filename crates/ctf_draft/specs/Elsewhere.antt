@@ -16,7 +16,7 @@ pub record NamesNone (d : Draft) (n : ℕ) : Type 0 where
 
 -- it names one of the parent, if that has so many
 pub record NamesParents (d : Draft) (n : ℕ) (p : Parent) : Type 0 where
-  pub is : d.parent ≡ Some (said_by p.opened.value.lists)
+  pub is : d.parent ≡ Some (said_by p.judged.value.kept.lists)
   pub fits : FitsParent d.model p
   pub index : ℕ
   pub at : place true n ≡ Parents index

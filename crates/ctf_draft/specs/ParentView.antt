@@ -8,8 +8,8 @@ use Rattle.ctf_space.specs.SpaceView.{alone}
 use Rattle.ctf_draft.specs.declared.parents.Parent.{Parent}
 
 abbrev pub parent_in : Option Parent → Option Dictionary
-parent_in parent = option_map (λ p. said_by p.opened.value.lists) parent
+parent_in parent = option_map (λ p. said_by p.judged.value.kept.lists) parent
 
 -- its sizes and alignments are those of its types
 abbrev pub FitsParent : DataModel → Parent → Type 0
-FitsParent model p = Fits (alone (said_by p.opened.value.lists) model) p.layout
+FitsParent model p = Fits (alone (said_by p.judged.value.kept.lists) model) p.layout

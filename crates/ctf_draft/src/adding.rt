@@ -31,7 +31,7 @@ impl Draft {
             Place::Nowhere => true,
             Place::Own(i) => i >= self.types.len(),
             Place::Parents(i) => match &self.parent {
-                Some(parent) => i >= parent.opened.view().count(),
+                Some(parent) => i >= parent.judged.view().count(),
                 None => true,
             },
         }

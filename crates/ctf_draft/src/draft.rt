@@ -14,8 +14,8 @@ use crate::marks::Marks;
 use crate::naming::has_zero;
 use crate::parents::Parent;
 use crate::types::DraftType;
+use ctf_check::Judged;
 use ctf_model::{Bytes, DataModel, Fault, placeless};
-use ctf_space::Opened;
 use std::alloc::{AllocError, Global};
 use std::marker::Model;
 use std::rc::Rc;
@@ -31,7 +31,7 @@ pub struct Draft {
     parlabel: Bytes,
     pub(crate) parent: Option<Parent>,
     pub(crate) model: DataModel,
-    dictionary: Option<Rc<Opened>>,
+    dictionary: Option<Rc<Judged<'static>>>,
     pub(crate) types: Vec<DraftType>,
     pub(crate) updated: usize,
     pub(crate) labels: Labels,
@@ -54,7 +54,7 @@ impl Model for Draft {
     ghost view = { λ d. record {
       draft = made_of d.parname d.parlabel (parent_in d.parent) d.model d.updated d.updated_labels
           (map type_of d.types.items) d.labels;
-      dictionary = option_map (λ p. p.value) d.dictionary;
+      dictionary = option_map (λ p. p.value.kept) d.dictionary;
     } };
 
     ghost invariant = { λ d. (d.updated ≤ vec_len d.types)
@@ -74,16 +74,18 @@ impl Draft {
     #[tactic(auto, unfolding(ctf_model::specs::drafts::Drafts::new_draft))]
     pub fn new(
         alloc: Global,
-        parent: Option<Rc<Opened>>,
+        parent: Option<Rc<Judged<'static>>>,
         parname: Bytes,
         parlabel: Bytes,
         model: DataModel,
     ) -> Result<Draft, Fault>
         requires named { is_some parent ≡ not (length parname == 0) }
-        ensures ok { IfOk result (λ d. (new_draft (option_map (λ p. modelled_by p.value) parent)
-            parname parlabel model ≡ Ok d.draft) × (d.dictionary ≡ None)) }
+        ensures ok { IfOk result (λ d. (new_draft
+            (option_map (λ p. modelled_by p.value.kept) parent.entry) parname parlabel model
+            ≡ Ok d.draft) × (d.dictionary ≡ None)) }
         ensures exact_err { IfErr result (λ f. (f ≡ want_of_memory) ⊎ (new_draft
-            (option_map (λ p. modelled_by p.value) parent) parname parlabel model ≡ Err f)) }
+            (option_map (λ p. modelled_by p.value.kept) parent.entry) parname parlabel model
+            ≡ Err f)) }
     {
         if has_zero(parname.as_slice()) {
             return Err(placeless(Fault::NAME_HAS_ZERO));
@@ -131,11 +133,11 @@ impl Draft {
     }
 
     /// Makes all that was added part of the dictionary, which is the given one from now on.
-    pub fn settle(&mut self, dictionary: Rc<Opened>)
-        requires denotes { Denotes dictionary.value.lists (held self.old.draft) }
-        requires model { dictionary.value.model ≡ self.old.draft.model }
+    pub fn settle(&mut self, dictionary: Rc<Judged<'static>>)
+        requires denotes { Denotes dictionary.value.kept.lists (held self.old.draft) }
+        requires model { dictionary.value.kept.model ≡ self.old.draft.model }
         ensures draft { self.new.draft ≡ settled self.old.draft }
-        ensures dictionary { self.new.dictionary ≡ Some dictionary.value }
+        ensures dictionary { self.new.dictionary ≡ Some dictionary.entry.value.kept }
     {
         self.updated = self.types.len();
         self.updated_labels = self.labels.len();
@@ -169,18 +171,18 @@ impl Draft {
         self.parlabel.as_slice()
     }
 
-    pub fn parent(&self) -> Option<&Rc<Opened>>
-        ensures { option_map (λ p. said_by p.now.value.lists) result ≡ self.now.draft.parent }
+    pub fn parent(&self) -> Option<&Rc<Judged<'static>>>
+        ensures { option_map (λ p. said_by p.now.value.kept.lists) result ≡ self.now.draft.parent }
     {
         match &self.parent {
-            Some(parent) => Some(&parent.opened),
+            Some(parent) => Some(&parent.judged),
             None => None,
         }
     }
 
     /// What the last update made; nothing before the first one.
-    pub fn dictionary(&self) -> Option<&Rc<Opened>>
-        ensures { option_map (λ p. p.now.value) result ≡ self.now.dictionary }
+    pub fn dictionary(&self) -> Option<&Rc<Judged<'static>>>
+        ensures { option_map (λ p. p.now.value.kept) result ≡ self.now.dictionary }
     {
         self.dictionary.as_ref()
     }
@@ -193,8 +195,9 @@ impl Draft {
 }
 
 /// Whether a parent is a child itself.
-fn is_childs(parent: &Option<Rc<Opened>>) -> bool
-    ensures { result ≡ is_childs_parent (above (option_map (λ p. modelled_by p.value) parent.now)) }
+fn is_childs(parent: &Option<Rc<Judged<'static>>>) -> bool
+    ensures { result ≡ is_childs_parent
+        (above (option_map (λ p. modelled_by p.value.kept) parent.now)) }
 {
     match parent {
         Some(parent) => parent.view().child(),
@@ -203,8 +206,9 @@ fn is_childs(parent: &Option<Rc<Opened>>) -> bool
 }
 
 /// Whether a parent is of another data model.
-fn is_of_other(model: DataModel, parent: &Option<Rc<Opened>>) -> bool
-    ensures { result ≡ is_of_other_model model (option_map (λ p. modelled_by p.value) parent.now) }
+fn is_of_other(model: DataModel, parent: &Option<Rc<Judged<'static>>>) -> bool
+    ensures { result ≡ is_of_other_model model
+        (option_map (λ p. modelled_by p.value.kept) parent.now) }
 {
     match parent {
         Some(parent) => parent.model() != model,
@@ -215,11 +219,11 @@ fn is_of_other(model: DataModel, parent: &Option<Rc<Opened>>) -> bool
 /// A parent as a draft keeps it.
 fn kept(
     alloc: Global,
-    parent: Option<Rc<Opened>>,
+    parent: Option<Rc<Judged<'static>>>,
     model: DataModel,
 ) -> Result<Option<Parent>, AllocError>
     ensures same { IfOk result (λ kept. parent_in kept
-        ≡ option_map (λ p. said_by p.value.lists) parent) }
+        ≡ option_map (λ p. said_by p.value.kept.lists) parent.entry) }
     ensures fits { IfOk result (λ kept. ForSome kept (FitsParent model)) }
 {
     match parent {

@@ -109,7 +109,7 @@ impl Draft {
             resolving (parents_figure resolving s.parent) s.own (suc k) n.0 }
     {
         match self.parent_of(n) {
-            Some(parent) => resolve(&Space::own(parent.opened.view(), self.model), n),
+            Some(parent) => resolve(&Space::own(parent.judged.view(), self.model), n),
             None => Err(placeless(Fault::NO_TYPE)),
         }
     }

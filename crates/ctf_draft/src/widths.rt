@@ -60,7 +60,7 @@ impl Draft {
                 }
             }
             Place::Parents(i) => match &self.parent {
-                Some(parent) => parents_width(parent.opened.view(), i),
+                Some(parent) => parents_width(parent.judged.view(), i),
                 None => Err(placeless(Fault::NO_PARENT)),
             },
         }

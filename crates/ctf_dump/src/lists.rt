@@ -1,9 +1,10 @@
 //! A dump of files that were read: they are judged, and then dumped.
-ghost use Rattle.std.specs.Prelude.{◌≡◌, ◌⊎◌, IfOk, IfErr, OnOk, None, Some};
+ghost use Rattle.std.specs.Prelude.{◌≡◌, ◌⊎◌, IfOk, IfErr, OnOk, None, Some, option_copied};
+ghost use Rattle.ctf_check.specs.ListsView.{lists_in};
 ghost use Rattle.std.specs.Option.{option_map};
 ghost use Rattle.std.specs.Io.KnownBytes.{Appends, Keeps};
 ghost use Rattle.ctf_dump.specs.Progress.{HasBegun};
-ghost use Rattle.ctf_dump.specs.Refused.{EndsBy, MayAnswer, RefusedBy, bytes_of, in_file, refusal, space_in, status_after};
+ghost use Rattle.ctf_dump.specs.Refused.{EndsBy, MayAnswer, RefusedBy, bytes_of, in_file, own_kept, own_lists, parent_lists, refusal, space_in, status_after};
 ghost use Rattle.ctf_model.specs.dumps.Dump.{dump as text_of};
 ghost use Rattle.ctf_model.specs.rules.Faults.{first_fault};
 ghost use Rattle.ctf_model.specs.rules.Refusals.{want_of_memory};
@@ -13,9 +14,9 @@ ghost use Rattle.ctf_space.specs.SpaceView.{space_of};
 use crate::dumping::dump;
 use crate::ends::{DONE, DumpEnd};
 use crate::inputs::{InputFile, Inputs};
-use ctf_check::Judged;
+use ctf_check::{Judged, LentLists};
 use ctf_layout::Layout;
-use ctf_model::{Bytes, DataModel, Fault, Parts};
+use ctf_model::{DataModel, Fault};
 use ctf_space::Space;
 use std::alloc::Global;
 use std::io::Write;
@@ -33,40 +34,67 @@ fn refused(file: &str, fault: Fault) -> DumpEnd<'_>
 }
 
 /// The bytes of a file, if it is there.
-fn bytes(file: Option<InputFile<'_>>) -> Option<Bytes>
-    ensures { result ≡ bytes_of file.entry }
+fn bytes<'l>(file: &'l Option<InputFile<'_>>) -> Option<&'l [u8]>
+    ensures { option_copied result ≡ bytes_of file.now }
 {
     match file {
-        Some(file) => Some(file.bytes),
+        Some(file) => Some(file.bytes.as_slice()),
         None => None,
     }
 }
 
-/// Judges the dictionary in a file, with the symbols and strings of its program.
-fn judged<'a>(
+/// Judges lists, of which the CTF section is a file's.
+fn judged<'l, 'a>(
     alloc: Global,
-    file: InputFile<'a>,
-    sym: Option<InputFile<'_>>,
-    strs: Option<InputFile<'_>>,
-) -> Result<Judged, DumpEnd<'a>>
-    ensures ok { IfOk result (λ j. j
-        ≡ record { ctf = file.entry.bytes; sym = bytes_of sym.entry; strs = bytes_of strs.entry }) }
-    ensures exact_ok { OnOk result (first_fault
-        (record { ctf = file.entry.bytes; sym = bytes_of sym.entry; strs = bytes_of strs.entry })
-        ≡ None) }
-    ensures exact_err { IfErr result (λ e. RefusedBy (in_file file.entry (first_fault
-        (record { ctf = file.entry.bytes; sym = bytes_of sym.entry; strs = bytes_of strs.entry })))
-        e) }
+    file: &InputFile<'a>,
+    lists: LentLists<'l>,
+    model: DataModel,
+) -> Result<Judged<'l>, DumpEnd<'a>>
+    ensures ok { IfOk result
+        (λ j. j.kept ≡ record { lists = lists_in lists.entry; model = model }) }
+    ensures exact_ok { OnOk result (first_fault (lists_in lists.entry) ≡ None) }
+    ensures exact_err { IfErr result (λ e. RefusedBy
+        (in_file file.now (first_fault (lists_in lists.entry))) e) }
 {
-    let parts = Parts {
-        ctf: file.bytes,
-        sym: bytes(sym),
-        strs: bytes(strs),
-    };
-    match Judged::build(alloc, parts) {
+    match Judged::lent(alloc, lists, model) {
         Ok(judged) => Ok(judged),
-        Err((fault, _)) => Err(refused(file.name, fault)),
+        Err(fault) => Err(refused(file.name, fault)),
     }
+}
+
+/// Judges the dictionary, with the symbols and strings of its program, where the files have it.
+fn own_judged<'l, 'a>(alloc: Global, inputs: &'l Inputs<'a>) -> Result<Judged<'l>, DumpEnd<'a>>
+    ensures ok { IfOk result (λ j. j.kept ≡ own_kept inputs.now) }
+    ensures exact_ok { OnOk result (first_fault (own_lists inputs.now) ≡ None) }
+    ensures exact_err { IfErr result (λ e. RefusedBy
+        (in_file inputs.now.ctf (first_fault (own_lists inputs.now))) e) }
+{
+    let lists = LentLists {
+        ctf: inputs.ctf.bytes.as_slice(),
+        sym: bytes(&inputs.sym),
+        strs: bytes(&inputs.str),
+    };
+    judged(alloc, &inputs.ctf, lists, inputs.model)
+}
+
+/// Judges a parent, which has no symbols, where its file has it.
+fn parent_judged<'l, 'a>(
+    alloc: Global,
+    file: &'l InputFile<'a>,
+    model: DataModel,
+) -> Result<Judged<'l>, DumpEnd<'a>>
+    ensures ok { IfOk result
+        (λ j. j.kept ≡ record { lists = parent_lists file.now; model = model }) }
+    ensures exact_ok { OnOk result (first_fault (parent_lists file.now) ≡ None) }
+    ensures exact_err { IfErr result (λ e. RefusedBy
+        (in_file file.now (first_fault (parent_lists file.now))) e) }
+{
+    let lists = LentLists {
+        ctf: file.bytes.as_slice(),
+        sym: None,
+        strs: None,
+    };
+    judged(alloc, file, lists, model)
 }
 
 /// Dumps a space, and passes on what was written.
@@ -93,62 +121,49 @@ fn dump_space<'a, W: Write>(
 fn dump_over<'a, W: Write>(
     alloc: Global,
     name: &'a str,
-    own: &Judged,
-    parent: &Judged,
-    model: DataModel,
+    own: &Judged<'_>,
+    parent: &Judged<'_>,
     out: &mut W,
 ) -> Result<(), DumpEnd<'a>>
     ensures written { OnOk result (Appends (W.contents out.old) (W.contents out.new)
-        (text_of (kept_space (record { lists = own.now; model = model })
-        (Some (record { lists = parent.now; model = model }))))) }
-    ensures exact_ok { OnOk result (fault_over (record { lists = own.now; model = model })
-        (record { lists = parent.now; model = model }) ≡ None) }
+        (text_of (kept_space own.now.kept (Some parent.now.kept)))) }
+    ensures exact_ok { OnOk result (fault_over own.now.kept parent.now.kept ≡ None) }
     ensures exact_err { IfErr result (λ e. EndsBy
         (option_map (λ x. record { file = name.now; fault = x })
-        (fault_over (record { lists = own.now; model = model })
-        (record { lists = parent.now; model = model }))) e) }
+        (fault_over own.now.kept parent.now.kept)) e) }
     ensures quiet { IfErr result (λ e. status_after e ≡ 1
         → Keeps (W.contents out.old) (W.contents out.new)) }
     ensures begun { IfErr result (λ e. e ≡ DumpEnd.Memory
         → HasBegun (W.contents out.old) (W.contents out.new)
-        (text_of (kept_space (record { lists = own.now; model = model })
-        (Some (record { lists = parent.now; model = model }))))) }
+        (text_of (kept_space own.now.kept (Some parent.now.kept)))) }
 {
-    match Space::over(own.view(), model, parent.view(), model) {
+    match Space::over(own.view(), own.model(), parent.view(), parent.model()) {
         Ok(space) => dump_space(alloc, &space, out),
         Err(fault) => Err(DumpEnd::Refused(name, fault)),
     }
 }
 
-/// Dumps the files, unless one of them is refused.
+/// Dumps the files, unless one of them is refused. Nothing of them is copied.
 fn dump_inputs<'a, W: Write>(
     alloc: Global,
-    inputs: Inputs<'a>,
+    inputs: &Inputs<'a>,
     out: &mut W,
 ) -> Result<(), DumpEnd<'a>>
     ensures written { OnOk result (Appends (W.contents out.old) (W.contents out.new)
-        (text_of (space_in inputs.entry))) }
-    ensures exact_ok { OnOk result (refusal inputs.entry ≡ None) }
-    ensures exact_err { IfErr result (λ e. EndsBy (refusal inputs.entry) e) }
+        (text_of (space_in inputs.now))) }
+    ensures exact_ok { OnOk result (refusal inputs.now ≡ None) }
+    ensures exact_err { IfErr result (λ e. EndsBy (refusal inputs.now) e) }
     ensures quiet { IfErr result (λ e. status_after e ≡ 1
         → Keeps (W.contents out.old) (W.contents out.new)) }
     ensures begun { IfErr result (λ e. e ≡ DumpEnd.Memory
-        → HasBegun (W.contents out.old) (W.contents out.new) (text_of (space_in inputs.entry))) }
+        → HasBegun (W.contents out.old) (W.contents out.new) (text_of (space_in inputs.now))) }
 {
-    let Inputs {
-        ctf,
-        parent,
-        sym,
-        str,
-        model,
-    } = inputs;
-    let name = ctf.name;
-    let own = judged(alloc, ctf, sym, str)?;
-    match parent {
-        None => dump_space(alloc, &Space::own(own.view(), model), out),
+    let own = own_judged(alloc, inputs)?;
+    match &inputs.parent {
+        None => dump_space(alloc, &Space::own(own.view(), own.model()), out),
         Some(file) => {
-            let parent = judged(alloc, file, None, None)?;
-            dump_over(alloc, name, &own, &parent, model, out)
+            let parent = parent_judged(alloc, file, inputs.model)?;
+            dump_over(alloc, inputs.ctf.name, &own, &parent, out)
         }
     }
 }
@@ -170,7 +185,7 @@ pub fn dump_lists<W: Write, E: Write>(
     ensures begun { result ≡ 4 → HasBegun (W.contents out.old) (W.contents out.new)
         (text_of (space_in inputs.entry)) }
 {
-    match dump_inputs(alloc, inputs, out) {
+    match dump_inputs(alloc, &inputs, out) {
         Ok(()) => DONE,
         Err(end) => {
             let _ = writeln!(err, "ctfd: {end}");

@@ -2,7 +2,7 @@
 ghost use Rattle.std.specs.Prelude.{◌≡◌, ◌++◌, [], codes, decimal, option_map, IfErr, OnOk, Ok};
 ghost use Rattle.std.specs.List.{flat_map};
 ghost use Rattle.std.specs.Io.KnownBytes.{Appends, Keeps};
-ghost use Rattle.ctf_check.specs.FactsView.{facts_seen, shape_seen};
+ghost use Rattle.ctf_check.specs.FactsView.{facts_view, shape_view};
 ghost use Rattle.ctf_dump.specs.Progress.{HasBegun};
 ghost use Rattle.ctf_dump.specs.Words.{array_text, encoding_text, facts_text, figures_text, lines_behind, lines_of_type, returned_text, root_text, shape_text, size_text, to_text, typed_text};
 ghost use Rattle.ctf_layout.specs.Fitting.{Fits};
@@ -106,7 +106,7 @@ fn put_encoding(line: &mut Line, info: Encoding) -> Result<(), AllocError>
 
 /// What a type says of itself, apart from its name and its list.
 fn put_detail(line: &mut Line, x: Shape<'_>) -> Result<(), AllocError>
-    ensures { OnOk result (line.new ≡ line.old ++ shape_text (shape_seen x.entry)) }
+    ensures { OnOk result (line.new ≡ line.old ++ shape_text (shape_view x.entry)) }
 {
     let Shape {
         size,
@@ -166,7 +166,7 @@ fn root_word(root: bool) -> &'static str
 
 /// The words of a type up to what it says of itself.
 fn put_facts(line: &mut Line, number: TypeNum, x: Facts<'_>) -> Result<(), AllocError>
-    ensures { OnOk result (line.new ≡ line.old ++ facts_text number.0 (facts_seen x.entry)) }
+    ensures { OnOk result (line.new ≡ line.old ++ facts_text number.0 (facts_view x.entry)) }
 {
     line.word("type ", u64::from(number.0))?;
     line.text(" ")?;
@@ -305,7 +305,7 @@ fn type_line<W: Write>(
     requires { line.old ≡ [] }
     ensures written { Fits names.old layout.now → OnOk result
         (Appends (W.contents out.old) (W.contents out.new)
-        (typed_text names.old number.0 (facts_seen facts.entry))) }
+        (typed_text names.old number.0 (facts_view facts.entry))) }
     ensures empty { OnOk result (line.new ≡ []) }
     ensures kept { names.new ≡ names.old }
     ensures quiet { IfErr result (λ f. f ≡ DumpFault.Memory

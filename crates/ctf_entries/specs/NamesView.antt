@@ -1,6 +1,6 @@
 -- What `SymbolNames` shows.
 use Rattle.std.specs.Prelude.{ℕ, List, Option, option_copied}
-use Rattle.ctf_entries.specs.declared.names.SymbolNames.{SymbolNames}
+use Rattle.ctf_entries.specs.declared.symbol_strings.SymbolNames.{SymbolNames}
 
 -- the strings
 abbrev pub strings_of : SymbolNames → Option (List ℕ)

@@ -5,8 +5,8 @@ ghost use Rattle.ctf_model.specs.symbols.Symbols.{considered, considered_from, s
 ghost use Rattle.ctf_entries.specs.NamesView.{strings_of};
 ghost use Rattle.ctf_entries.specs.SymbolView.{numbered};
 
-use crate::names::SymbolNames;
 use crate::symbol::Symbol;
+use crate::symbol_strings::SymbolNames;
 use std::marker::Model;
 
 /// A symbol with its number, from 0.

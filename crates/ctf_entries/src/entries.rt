@@ -10,10 +10,10 @@ ghost use Rattle.ctf_entries.specs.SymbolView.{symbol};
 
 use crate::considered::{Found, first_considered};
 use crate::function::{behind_function, signature_of};
-use crate::names::SymbolNames;
 use crate::object::{behind_object, type_in};
 use crate::signature::Signature;
 use crate::symbol::Symbol;
+use crate::symbol_strings::SymbolNames;
 use crate::untold::Untold;
 use ctf_model::TypeNum;
 use std::marker::Model;

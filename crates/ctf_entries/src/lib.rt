@@ -5,16 +5,16 @@ mod considered;
 mod entries;
 mod function;
 mod marks;
-mod names;
 mod object;
 mod signature;
 mod symbol;
+mod symbol_strings;
 mod untold;
 
 pub use considered::{Considered, Numbered};
 pub use entries::{Entries, Entry, Told};
 pub use function::{behind_function, is_bad_entry, signature_of};
-pub use names::SymbolNames;
 pub use object::{behind_object, type_in};
 pub use signature::Signature;
 pub use symbol::Symbol;
+pub use symbol_strings::SymbolNames;

@@ -5,7 +5,7 @@ ghost use Rattle.ctf_entries.specs.NamesView.{strings_of};
 ghost use Rattle.ctf_entries.specs.SymbolView.{symbol, numbered_symbol};
 
 use crate::marks::begins_mark;
-use crate::names::SymbolNames;
+use crate::symbol_strings::SymbolNames;
 use ctf_sections::bytes::{u16_at, u32_at, u64_at};
 use ctf_sections::up_to_zero;
 

@@ -4,7 +4,7 @@ ghost use Rattle.ctf_model.specs.symbols.Symbols.{considered_from, symbols_of};
 ghost use Rattle.ctf_entries.specs.NamesView.{strings_of};
 ghost use Rattle.ctf_entries.specs.Sound.{bad_place};
 
-use crate::names::SymbolNames;
+use crate::symbol_strings::SymbolNames;
 
 /// Symbols that are numbered from `number` on, and what is left of the sections with their entries.
 #[derive(Clone, Copy)]

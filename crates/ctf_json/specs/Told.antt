@@ -1,4 +1,5 @@
--- What the tree of a text says, in the words of serde_json, and whether each of its numbers has a value there.
+-- What the tree of a text says, in the words of serde_json, and whether each of its numbers has a
+-- value there.
 use Rattle.std.specs.Prelude.{◌&&◌, List, Bool, true, is_some, Option, Some, None}
 use Rattle.json.specs.Json as json
 use Rattle.json.specs.Value as tree
@@ -49,5 +50,5 @@ abbrev mutual
 abbrev pub said : {A : Type 0} → Value A → Data
 said v = told (tree.value_view v)
 
-abbrev pub items_said : {A : Type 0} → List (Value A) → Items
-items_said vs = told_items (tree.items_view vs)
+abbrev pub items_view : {A : Type 0} → List (Value A) → Items
+items_view vs = told_items (tree.items_view vs)

@@ -4,7 +4,7 @@ ghost use Rattle.std.specs.Str.{bytes_eq};
 ghost use Rattle.json.specs.Find.{get as member_under, get_member};
 ghost use Rattle.json.specs.Value.{value_view, members_view};
 ghost use Rattle.serde_json.specs.Find.{get as found_under, as_array as array_said, as_bool as truth_said, as_i64 as signed_said, as_number as number_said, as_str as text_said, as_u64 as unsigned_said};
-ghost use Rattle.ctf_json.specs.Told.{said, items_said};
+ghost use Rattle.ctf_json.specs.Told.{said, items_view};
 ghost use Rattle.serde_json.specs.View.{number_view};
 
 use crate::numbers::number;
@@ -93,7 +93,7 @@ pub fn as_i64(value: &Value<'_>) -> Option<i64>
 }
 
 pub fn as_array<'v, 'a>(value: &'v Value<'a>) -> Option<&'v [Value<'a>]>
-    ensures { option_map (λ vs. items_said vs.now) result ≡ array_said (said value.now) }
+    ensures { option_map (λ vs. items_view vs.now) result ≡ array_said (said value.now) }
 {
     match value {
         Value::Array(items) => Some(items.as_slice()),

@@ -1,7 +1,7 @@
 //! The type that a type stands for, and the one that it refers to.
 ghost use Rattle.std.specs.Prelude.{◌≡◌, Ok, option_map};
 ghost use Rattle.std.specs.Result.{result_map_both};
-ghost use Rattle.ctf_check.specs.FactsView.{shape_seen};
+ghost use Rattle.ctf_check.specs.FactsView.{shape_view};
 ghost use Rattle.ctf_layout.specs.Following.{followed, onward as onward_of, renamed as renamed_of};
 ghost use Rattle.ctf_model.specs.figures.Figures.{parents_figure, reference as reference_of, referred as referred_of, resolved, resolving};
 ghost use Rattle.ctf_space.specs.SpaceView.{alone, space_of};
@@ -18,7 +18,7 @@ const MOST_NUMBERS: u16 = 514;
 
 /// The type that a typedef or a qualifier stands for.
 fn renamed(x: &Shape<'_>) -> Option<TypeNum>
-    ensures { option_map (λ t. t.0) result ≡ renamed_of (shape_seen x.now) }
+    ensures { option_map (λ t. t.0) result ≡ renamed_of (shape_view x.now) }
 {
     match x.kind {
         Kind::KTypedef | Kind::KVolatile | Kind::KConst | Kind::KRestrict => x.reference,
@@ -90,7 +90,7 @@ pub fn resolve(space: &Space<'_>, number: TypeNum) -> Result<TypeNum, Fault>
 
 /// What a type refers to, by its shape.
 pub fn referred(x: Shape<'_>) -> Result<TypeNum, Fault>
-    ensures { result_map_both (λ t. t.0) (λ f. f) result ≡ referred_of (shape_seen x.entry) }
+    ensures { result_map_both (λ t. t.0) (λ f. f) result ≡ referred_of (shape_view x.entry) }
 {
     match (x.behind, x.reference) {
         (Variant::Args(_), _) | (_, None) => Err(placeless(Fault::NOT_REFERENCE)),

@@ -14,7 +14,7 @@ ghost use Rattle.ctf_open.specs.Fitting.{Serve};
 ghost use Rattle.ctf_layout.specs.Reached.{position_of};
 ghost use Rattle.ctf_answers.specs.Items.{items_of};
 ghost use Rattle.ctf_answers.specs.Singles.{single_of};
-ghost use Rattle.ctf_check.specs.FactsView.{facts_seen};
+ghost use Rattle.ctf_check.specs.FactsView.{facts_view};
 ghost use Rattle.ctf_entries.specs.FunctionView.{signature};
 ghost use Rattle.ctf_model.specs.symbols.SymbolQuestions.{or_refused};
 ghost use Rattle.ctf_model.specs.declared.faults.TheConstants.Fault.{WRONG_KIND};
@@ -29,7 +29,7 @@ ghost use Rattle.ctf_model.specs.spaces.TypeNumbers.{or_no_type};
 
 use crate::slots::Slot;
 use crate::whole::whole_answer;
-use ctf_answers::{Answer, Items, Listed, RecordTold, Single, kind_name};
+use ctf_answers::{Answer, Items, Listed, RecordAnswer, Single, kind_name};
 use ctf_check::{Facts, Typed};
 use ctf_entries::Signature;
 use ctf_layout::{Layout, path, referred, resolve};
@@ -190,9 +190,9 @@ fn encoding_answer<'a>(found: Result<Encoding, Fault>) -> Result<Answer<'a>, Fau
 
 /// A type without its list.
 fn record_of<'a>(x: Facts<'a>) -> Answer<'a>
-    ensures { result ≡ record_fields (facts_seen x.entry) }
+    ensures { result ≡ record_fields (facts_view x.entry) }
 {
-    Answer::record_of(RecordTold {
+    Answer::record_of(RecordAnswer {
         kind: x.shape.kind,
         name: x.name,
         root: x.root,

@@ -6,7 +6,7 @@ ghost use Rattle.ctf_protocol.specs.sessions.Opened.{open_of};
 ghost use Rattle.ctf_protocol.specs.answers.HeldAnswers.{bytes_fields, held_said, info_fields};
 
 use crate::slots::Slot;
-use ctf_answers::{Answer, InfoTold, Single, model_name};
+use ctf_answers::{Answer, InfoAnswer, Single, model_name};
 use ctf_check::Checked;
 use ctf_protocol::HeldQuestion;
 
@@ -14,7 +14,7 @@ use ctf_protocol::HeldQuestion;
 fn info<'a>(dictionary: &Checked<'a>, draft: bool, imported: bool, pending: usize) -> Answer<'a>
     ensures { result ≡ info_fields (dictionary_of dictionary.now) draft imported pending }
 {
-    Answer::info(InfoTold {
+    Answer::info(InfoAnswer {
         child: dictionary.child(),
         draft,
         imported,

@@ -182,7 +182,7 @@ impl Library {
         if let Some(fault) = self.stage.known_fault() {
             return Err(fault);
         }
-        self.slots.reserve(1)?;
+        self.slots.reserve_exact(1)?;
         let stage = mem::replace(&mut self.stage, Stage::new(self.alloc));
         match pool.open(stage.into_parts(), model) {
             Ok(loaded) => {
@@ -320,7 +320,7 @@ impl Library {
         if !fits(self.charge(), bytes) {
             return Err(placeless(Fault::QUOTA_FULL));
         }
-        self.slots.reserve(1)?;
+        self.slots.reserve_exact(1)?;
         let number = self.next as u32;
         let types = loaded.view().count() as u64;
         self.slot_bytes += bytes;
@@ -349,7 +349,7 @@ impl Library {
     fn create(&mut self, creation: &Creation) -> Result<Counts, Fault>
         ensures { Makes self.old (creates creation.now self.old) result self.new }
     {
-        self.slots.reserve(1)?;
+        self.slots.reserve_exact(1)?;
         let slot = self.created(creation)?;
         let number = slot.number;
         self.slot_bytes += slot.bytes();

@@ -5,7 +5,7 @@ use Rattle.std.specs.Prelude.{option_and_then}
 use Rattle.std.specs.Option.{option_map}
 use Rattle.std.proofs.lemmas.List.{drop_more, drop_all}
 use Rattle.serde_json.specs.Data.{Data}
-use Rattle.ctf_json.specs.Told.{said as view, items_said as items_view}
+use Rattle.ctf_json.specs.Told.{said as view, items_view}
 use Rattle.json.specs.declared.value.Value.{Value as Tree}
 use Rattle.ctf_protocol.specs.lines.LineFields.{each_said}
 

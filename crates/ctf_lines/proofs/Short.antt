@@ -6,7 +6,7 @@ use Rattle.std.proofs.lemmas.Bool.{leb-true, le-leb, lt-leb}
 use Rattle.std.proofs.lemmas.Fmt.{length-decimal-le}
 use Rattle.ctf_protocol.specs.answers.Answers.{Field, says}
 use Rattle.ctf_protocol.specs.answers.Answers as answers
-use Rattle.ctf_answers.specs.Counts.{count_said, counts_said}
+use Rattle.ctf_answers.specs.Counts.{count_view, counts_view}
 use Rattle.ctf_answers.specs.declared.count.Count.{Count}
 use Rattle.ctf_answers.specs.declared.counts.Counts.{Counts}
 use Rattle.ctf_model.specs.rules.FaultNames.{fault_names, name_beside, name_of_fault}
@@ -86,7 +86,7 @@ length-count : (a : Count) → length (field_text (says a.key.now (answers.numbe
 length-count a = let one = length-number a.key.now a.number a.fits in let short = a.short in omega (arith, one, short)
 
 -- and all of them
-counts_total : (a b : Option Count) → total (map field_text (count_said a ++ count_said b)) + length (map field_text (count_said a ++ count_said b)) ≤ 60
+counts_total : (a b : Option Count) → total (map field_text (count_view a ++ count_view b)) + length (map field_text (count_view a ++ count_view b)) ≤ 60
 counts_total None None = lit≤ tt
 counts_total None (Some b) = let one = length-count b in omega (arith, one)
 counts_total (Some a) None = let one = length-count a in omega (arith, one)
@@ -121,8 +121,8 @@ pub fitting_short : (s : ℕ) (line : List ℕ) → length line ≤ 96 → lengt
 fitting_short s line h = let same = ap length (fitting_fits s line (omega (arith, h))) in omega (arith, same, h)
 
 -- a change's line
-pub counts_short : (s : ℕ) (c : Counts) → s < 2 ^ 32 → length (fitting_line s (answer_line s (counts_said c))) ≤ 96
+pub counts_short : (s : ℕ) (c : Counts) → s < 2 ^ 32 → length (fitting_line s (answer_line s (counts_view c))) ≤ 96
 counts_short s c h =
-    let line = length-object (codes "ok") s (counts_said c) h in
+    let line = length-object (codes "ok") s (counts_view c) h in
     let fields = counts_total c.first c.second in
-    fitting_short s (answer_line s (counts_said c)) (omega (arith, line, fields))
+    fitting_short s (answer_line s (counts_view c)) (omega (arith, line, fields))

@@ -1,12 +1,12 @@
 //! Reads what is added to a draft.
 ghost use Rattle.std.specs.Prelude.{◌≡◌, ◌≢◌, IfOk, codes, option_and_then};
-ghost use Rattle.ctf_json.specs.Told.{said as view, items_said as items_view};
+ghost use Rattle.ctf_json.specs.Told.{said as view, items_view};
 ghost use Rattle.ctf_protocol.specs.lines.LineFields.{text_in, type_under as type_asked_under};
 ghost use Rattle.ctf_protocol.specs.lines.AskAdditions.{addition_asked, addition_with as addition_asked_with, declared_named, kind_with, new_array_asked, new_enumerator_asked, new_function_asked, new_label_asked, new_member_asked, new_type_asked, offset_asked, root_asked, scalar_asked, size_or as size_or_asked, type_said as type_said_by, types_said as types_said_by, value_asked_for};
 ghost use Rattle.ctf_protocol.specs.declared.addables.Addable.TheVariants as adds;
 
 use crate::drafts::name_or_empty;
-use crate::reading::{items, number, number_said, text, type_number};
+use crate::reading::{items, number, number_within, text, type_number};
 use ctf_json::{Value, as_bool, as_i64, get};
 use ctf_protocol::{Addable, Addition, Declared, NewArray, NewKind, NewScalar, TypeNum, TypeNums};
 use std::alloc::{AllocError, Global};
@@ -24,7 +24,7 @@ fn size_or(value: &Value<'_>, size: u64) -> Option<u64>
     ensures { result ≡ size_or_asked size (view value.now) }
 {
     match get(value, "size") {
-        Some(size) => number_said(size, 0, u64::MAX),
+        Some(size) => number_within(size, 0, u64::MAX),
         None => Some(size),
     }
 }
@@ -61,7 +61,7 @@ fn array(value: &Value<'_>) -> Option<NewArray>
 fn type_said(value: &Value<'_>) -> Option<TypeNum>
     ensures { result ≡ type_said_by (view value.now) }
 {
-    let number = number_said(value, 0, u64::from(u16::MAX))?;
+    let number = number_within(value, 0, u64::from(u16::MAX))?;
     Some(TypeNum(number as u16))
 }
 
@@ -141,7 +141,7 @@ fn offset(value: &Value<'_>) -> Option<Option<u64>>
     ensures { result ≡ offset_asked (view value.now) }
 {
     match get(value, "offset") {
-        Some(offset) => Some(Some(number_said(offset, 0, u64::MAX)?)),
+        Some(offset) => Some(Some(number_within(offset, 0, u64::MAX)?)),
         None => Some(None),
     }
 }

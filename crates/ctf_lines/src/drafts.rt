@@ -6,7 +6,7 @@ ghost use Rattle.ctf_protocol.specs.lines.LineFields.{name_or_empty as name_or_e
 
 use crate::additions::addition;
 use crate::models::model;
-use crate::reading::{slot, slot_said};
+use crate::reading::{as_slot_number, slot};
 use crate::spelled::name;
 use ctf_json::{Value, get};
 use ctf_protocol::{Change, Creation, DraftStep, Piece, Request, SlotNumber};
@@ -31,7 +31,7 @@ fn parent(value: &Value<'_>) -> Option<Option<SlotNumber>>
     ensures { result ≡ parent_asked (view value.now) }
 {
     match get(value, "parent") {
-        Some(parent) => Some(Some(slot_said(parent)?)),
+        Some(parent) => Some(Some(as_slot_number(parent)?)),
         None => Some(None),
     }
 }

@@ -4,12 +4,12 @@
 mod additions;
 mod digits;
 mod drafts;
+mod escapes;
 mod fields;
 mod line_buffers;
-mod lines;
+mod line_traits;
 mod measures;
 mod models;
-mod names;
 mod no_memory;
 mod reading;
 mod series;
@@ -21,7 +21,7 @@ mod writing;
 
 /// Memory that is kept from line to line.
 pub use ctf_json::Scratch;
-pub use lines::{FromLine, ToLine};
+pub use line_traits::{FromLine, ToLine};
 pub use no_memory::memory_line;
 pub use reading::LONGEST_LINE;
 pub use writing::{SHORT_LINE, SHORT_PASS, write_change};

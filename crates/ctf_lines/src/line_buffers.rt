@@ -2,7 +2,7 @@
 ghost use Rattle.std.specs.Prelude.{◌≡◌, ◌+◌, ◌≤◌, ◌++◌, false, length, vec_len, vec_capacity};
 ghost use Rattle.ctf_lines.specs.Appending.{HasRoom, Appended};
 
-use crate::names::append_hex;
+use crate::escapes::append_hex;
 use crate::text_sinks::TextSink;
 use crate::texts::appended;
 use std::mem::replace;

@@ -2,7 +2,7 @@
 ghost use Rattle.std.specs.Prelude.{◌≡◌, ◌≢◌, ◌≤◌, IfSome, Option, None, Some, IfOk, IfErr, Ok, Err, codes, option_map, option_and_then};
 ghost use Rattle.serde_json.specs.Find.{as_array, as_number, as_u64, get};
 ghost use Rattle.serde_json.specs.Read.{read as read_json};
-ghost use Rattle.ctf_json.specs.Told.{items_said as items_view, said as view};
+ghost use Rattle.ctf_json.specs.Told.{items_view, said as view};
 ghost use Rattle.ctf_protocol.specs.lines.Ask.{ask, open_asked, list_named, close_asked, import_asked, publication_asked, publish_asked, take_asked, withdraw_asked, about_type as type_question_asked, about_slot as slot_question_asked, about_held as held_question_asked, bytes_asked, symbol_asked, show_asked, names_asked, part_asked, word_asked, asked_with, request_asked, value_asked};
 ghost use Rattle.ctf_protocol.specs.lines.LineFields.{within, number_in, text_in, slot_under as slot_named, slot_in, type_in, name_under as name_asked, from_asked, count_asked, window_asked};
 ghost use Rattle.ctf_protocol.specs.words.Words.{word_named, words};
@@ -12,7 +12,7 @@ ghost use Rattle.ctf_protocol.specs.declared.questions.SlotQuestion.TheVariants 
 ghost use Rattle.ctf_protocol.specs.declared.questions.TypeQuestion.TheVariants as about;
 
 use crate::drafts::{add, create, discard, update};
-use crate::lines::FromLine;
+use crate::line_traits::FromLine;
 use crate::models::model;
 use crate::spelled::{name, names, piece};
 use ctf_json::{NotRead, Scratch, Value, as_array, as_str, as_u64, get};
@@ -90,7 +90,7 @@ fn read_value(alloc: Global, value: &Value<'_>) -> Result<(u32, Request), (u32, 
 }
 
 /// The number that a value is, where it is in a range.
-pub(crate) fn number_said(value: &Value<'_>, low: u64, high: u64) -> Option<u64>
+pub(crate) fn number_within(value: &Value<'_>, low: u64, high: u64) -> Option<u64>
     ensures number { result ≡ option_and_then (within low high)
         (option_and_then as_u64 (as_number (view value.now))) }
     ensures in_range { IfSome result (λ n. (low ≤ n) × (n ≤ high)) }
@@ -108,7 +108,7 @@ pub(crate) fn number(value: &Value<'_>, key: &str, low: u64, high: u64) -> Optio
     ensures number { result ≡ number_in low high key.now (view value.now) }
     ensures in_range { IfSome result (λ n. (low ≤ n) × (n ≤ high)) }
 {
-    number_said(get(value, key)?, low, high)
+    number_within(get(value, key)?, low, high)
 }
 
 /// The text of a field.
@@ -213,11 +213,11 @@ fn read_other(alloc: Global, value: &Value<'_>, word: Word) -> Result<Option<Req
 }
 
 /// The number of a slot that a value is.
-pub(crate) fn slot_said(value: &Value<'_>) -> Option<SlotNumber>
+pub(crate) fn as_slot_number(value: &Value<'_>) -> Option<SlotNumber>
     ensures { result ≡ option_and_then (within 1 4294967295)
         (option_and_then as_u64 (as_number (view value.now))) }
 {
-    let number = number_said(value, 0, u64::from(u32::MAX))?;
+    let number = number_within(value, 0, u64::from(u32::MAX))?;
     SlotNumber::new(number as u32)
 }
 
@@ -225,7 +225,7 @@ pub(crate) fn slot_said(value: &Value<'_>) -> Option<SlotNumber>
 fn slot_under(value: &Value<'_>, key: &str) -> Option<SlotNumber>
     ensures { result ≡ slot_named key.now (view value.now) }
 {
-    slot_said(get(value, key)?)
+    as_slot_number(get(value, key)?)
 }
 
 pub(crate) fn slot(value: &Value<'_>) -> Option<SlotNumber>
@@ -317,7 +317,7 @@ fn from(value: &Value<'_>) -> Option<u32>
 {
     match get(value, "from") {
         None => Some(0),
-        Some(from) => Some(number_said(from, 0, u64::from(u32::MAX))? as u32),
+        Some(from) => Some(number_within(from, 0, u64::from(u32::MAX))? as u32),
     }
 }
 
@@ -327,7 +327,7 @@ fn count(value: &Value<'_>) -> Option<Option<u32>>
 {
     match get(value, "count") {
         None => Some(None),
-        Some(count) => Some(Some(number_said(count, 0, u64::from(u32::MAX))? as u32)),
+        Some(count) => Some(Some(number_within(count, 0, u64::from(u32::MAX))? as u32)),
     }
 }
 

@@ -4,7 +4,7 @@ ghost use Rattle.ctf_protocol.specs.lines.ReplyLines.{single_text, entry_text, k
 ghost use Rattle.ctf_protocol.specs.lines.Text.{text_of, hex_of};
 ghost use Rattle.ctf_answers.specs.Singles.{single_of, entry_of};
 
-use crate::names::{are_plain, put_name};
+use crate::escapes::{are_plain, put_name};
 use crate::text_sinks::TextSink;
 use crate::texts::{put_number, put_signed};
 use ctf_answers::{Entry, Single};

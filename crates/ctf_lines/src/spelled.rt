@@ -1,12 +1,12 @@
 //! Bytes that texts of a line spell: by hexadecimal digits, or as a name with its escapes.
 ghost use Rattle.std.specs.Prelude.{◌≡◌, ◌<◌, IfOk, IfSome, length, option_map, option_and_then};
-ghost use Rattle.ctf_json.specs.Told.{said as view, items_said as items_view};
+ghost use Rattle.ctf_json.specs.Told.{said as view, items_view};
 ghost use Rattle.ctf_protocol.specs.lines.LineFields.{bytes_spelled, not_too_many, not_too_many_names, name_spelled, names_spelled};
 ghost use Rattle.ctf_protocol.specs.lines.Text.{digit_value as digit_value_of, byte_value as byte_value_of, bytes_spelled_by};
 ghost use Rattle.ctf_lines.specs.Fronts.{IsFront, escape as escape_of};
 
 use crate::digits::decode;
-use crate::names::{are_plain, is_plain};
+use crate::escapes::{are_plain, is_plain};
 use ctf_json::{Value, as_str};
 use ctf_protocol::{LONGEST_PIECE, Names, Piece};
 use std::alloc::{AllocError, Global};

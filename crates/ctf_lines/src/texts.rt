@@ -3,7 +3,7 @@ ghost use Rattle.std.specs.Prelude.{◌≡◌, ◌+◌, ◌<◌, ◌≤◌, ◌+
 ghost use Rattle.ctf_model.specs.dumps.Texts.{signed_decimal};
 ghost use Rattle.ctf_lines.specs.Appending.{HasRoom, Appended};
 
-use crate::names::append_hex;
+use crate::escapes::append_hex;
 use crate::text_sinks::TextSink;
 use itoa::Buffer;
 use std::mem::replace;

@@ -1,12 +1,12 @@
 //! Writes the line of a reply.
 ghost use Rattle.std.specs.Prelude.{◌≡◌, ◌≤◌, length, MatchBool};
 ghost use Rattle.ctf_protocol.specs.lines.ReplyLines.{answer_line, fault_fields, fault_line, fitting_answer, object_line, reply_line};
-ghost use Rattle.ctf_answers.specs.Counts.{counts_said};
+ghost use Rattle.ctf_answers.specs.Counts.{counts_view};
 ghost use Rattle.ctf_answers.specs.Replies.{reply_of, said_to};
 ghost use Rattle.ctf_lines.specs.Appending.{Appended, IsAsBefore, Writes, and_text};
 
 use crate::line_buffers::LineBuffer;
-use crate::lines::ToLine;
+use crate::line_traits::ToLine;
 use crate::measures::Measure;
 use crate::series::put_series;
 use crate::text_sinks::TextSink;
@@ -131,8 +131,8 @@ fn write_answer(out: &mut Vec<u8>, session: u32, answer: &Answer<'_>) -> Result<
 
 #[tactic(auto, using(crate::proofs::Short::counts_short))]
 fn write_counts(out: &mut Vec<u8>, session: u32, counts: Counts) -> Result<(), AllocError>
-    ensures written { Writes out.old (fitting_answer session (counts_said counts)) result out.new }
-    ensures short { length (fitting_answer session (counts_said counts)) ≤ 96 }
+    ensures written { Writes out.old (fitting_answer session (counts_view counts)) result out.new }
+    ensures short { length (fitting_answer session (counts_view counts)) ≤ 96 }
 {
     write_answer(out, session, &counts.answer())
 }

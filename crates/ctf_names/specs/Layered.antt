@@ -5,6 +5,6 @@ use Rattle.ctf_names.specs.declared.inside.Inside.{Inside}
 use Rattle.ctf_names.specs.declared.inside.Inside.TheVariants as found
 use Rattle.ctf_records.specs.RecordView.{tag_of}
 
-abbrev pub inside_seen : Inside → inside.Inside
-inside_seen (found.Name tag) = inside.a_name (option_map tag_of tag)
-inside_seen (found.Layer layer t) = inside.a_layer layer t.0
+abbrev pub inside_view : Inside → inside.Inside
+inside_view (found.Name tag) = inside.a_name (option_map tag_of tag)
+inside_view (found.Layer layer t) = inside.a_layer layer t.0

@@ -1,12 +1,12 @@
 //! What is inside of a type's name: the next layer and the type that it is round, or a name.
 ghost use Rattle.std.specs.Prelude.{◌≡◌, ◌+◌, ◌≤◌, ◌++◌, length, min, option_map, vec_len, vec_capacity};
-ghost use Rattle.ctf_check.specs.FactsView.{shape_seen};
+ghost use Rattle.ctf_check.specs.FactsView.{shape_view};
 ghost use Rattle.ctf_model.specs.names.KindNames.{name_of_tag};
 ghost use Rattle.ctf_model.specs.format.Shown.{array_in};
 ghost use Rattle.ctf_model.specs.names.TypeNames.{or_anon as named};
 ghost use Rattle.ctf_names.specs.Bases.{base_text};
 ghost use Rattle.ctf_names.specs.Inside.{inside as inside_of, layer_round, of_array};
-ghost use Rattle.ctf_names.specs.Layered.{inside_seen};
+ghost use Rattle.ctf_names.specs.Layered.{inside_view};
 ghost use Rattle.ctf_records.specs.RecordView.{tag_of};
 ghost use Rattle.ctf_views.specs.VariantView.{seen};
 
@@ -27,7 +27,7 @@ pub enum Inside {
 
 /// A layer round a type that a head refers to.
 fn round(layer: Layer, reference: Option<TypeNum>) -> Inside
-    ensures { inside_seen result ≡ layer_round layer (option_map (λ t. t.0) reference) }
+    ensures { inside_view result ≡ layer_round layer (option_map (λ t. t.0) reference) }
 {
     match reference {
         Some(number) => Inside::Layer(layer, number),
@@ -36,7 +36,7 @@ fn round(layer: Layer, reference: Option<TypeNum>) -> Inside
 }
 
 fn array(behind: &Variant<'_>) -> Inside
-    ensures { inside_seen result ≡ of_array (array_in (seen behind.now)) }
+    ensures { inside_view result ≡ of_array (array_in (seen behind.now)) }
 {
     match behind {
         Variant::Array(parts) => Inside::Layer(Layer::Array(parts.count), parts.contents),
@@ -46,7 +46,7 @@ fn array(behind: &Variant<'_>) -> Inside
 
 /// What a type is in its own name, by its shape.
 pub fn found_inside(x: &Shape<'_>) -> Inside
-    ensures { inside_seen result ≡ inside_of (shape_seen x.now) }
+    ensures { inside_view result ≡ inside_of (shape_view x.now) }
 {
     match x.kind {
         Kind::KUnknown | Kind::KInteger | Kind::KFloat | Kind::KTypedef => Inside::Name(None),

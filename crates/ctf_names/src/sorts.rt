@@ -1,6 +1,6 @@
 //! Which word stands in front of the name of a type.
 ghost use Rattle.std.specs.Prelude.{◌≡◌};
-ghost use Rattle.ctf_check.specs.FactsView.{shape_seen};
+ghost use Rattle.ctf_check.specs.FactsView.{shape_view};
 ghost use Rattle.ctf_model.specs.names.Found.{same_tag};
 ghost use Rattle.ctf_names.specs.Sorts.{tag_in, tag_shown};
 
@@ -20,7 +20,7 @@ pub(crate) enum Sort {
 
 /// That of a type. A forward has that of what it declares.
 pub(crate) fn sort_of(x: &Shape<'_>) -> Sort
-    ensures { tag_in result ≡ tag_shown (shape_seen x.now) }
+    ensures { tag_in result ≡ tag_shown (shape_view x.now) }
 {
     match (x.kind, x.declares) {
         (Kind::KStruct, _) | (Kind::KForward, Some(Tag::Struct)) => Sort::Struct,

@@ -17,9 +17,9 @@ use crate::loaded::Loaded;
 use crate::opened::{Imported, OpenDictionary};
 use crate::rooms::{Room, has_room};
 use crate::tables::tables_over;
+use ctf_check::Judged;
 use ctf_draft::Draft;
 use ctf_model::{Bytes, DataModel, Fault, Parts, placeless};
-use ctf_space::Opened;
 use ctf_writer::write;
 use std::alloc::{AllocError, Global};
 use std::rc::Rc;
@@ -49,7 +49,7 @@ fn imported_over(
 #[derive(Drop)]
 struct Updated {
     own: Loaded,
-    opened: Rc<Opened>,
+    judged: Rc<Judged<'static>>,
     imported: Option<Imported>,
 }
 
@@ -91,7 +91,7 @@ fn updated_over(
     requires { IsUnder draft.now.draft (option_copied parent) }
     ensures written { IfOk result (λ u. IsWritten draft.now.draft u.own) }
     ensures denotes { IfOk result (λ u. Denotes u.own.lists (held draft.now.draft)) }
-    ensures opened { IfOk result (λ u. u.opened.value ≡ u.own) }
+    ensures judged { IfOk result (λ u. u.judged.value.kept ≡ u.own) }
     ensures parent { IfOk result (λ u. option_map (λ i. i.parent) u.imported
         ≡ option_copied parent.entry) }
     ensures fits { IfOk result (λ u. ForSome u.imported (λ i. fault_over u.own i.parent ≡ None)) }
@@ -105,10 +105,10 @@ fn updated_over(
 {
     let own = loaded(alloc, draft, bytes_above(parent), room)?;
     let imported = imported_over(alloc, &own, parent)?;
-    let opened = own.opened()?;
+    let judged = own.judged()?;
     Ok(Updated {
         own,
-        opened,
+        judged,
         imported,
     })
 }
@@ -124,11 +124,11 @@ fn parent_of(imported: &Option<Imported>) -> Option<&Loaded>
 }
 
 /// A dictionary, if there is one, to be the parent of a draft.
-fn opened(parent: Option<&Loaded>) -> Result<Option<Rc<Opened>>, AllocError>
-    ensures { IfOk result (λ o. option_map (λ p. p.value) o ≡ option_copied parent.entry) }
+fn judged(parent: Option<&Loaded>) -> Result<Option<Rc<Judged<'static>>>, AllocError>
+    ensures { IfOk result (λ j. option_map (λ p. p.value.kept) j ≡ option_copied parent.entry) }
 {
     match parent {
-        Some(parent) => Ok(Some(parent.opened()?)),
+        Some(parent) => Ok(Some(parent.judged()?)),
         None => Ok(None),
     }
 }
@@ -152,7 +152,7 @@ fn new_draft(
 {
     let parname = Bytes::from_slice(alloc, parname)?;
     let parlabel = Bytes::from_slice(alloc, parlabel)?;
-    let parent = opened(parent)?;
+    let parent = judged(parent)?;
     Draft::new(alloc, parent, parname, parlabel, model)
 }
 
@@ -201,7 +201,7 @@ impl OpenDictionary {
     {
         let mut draft = new_draft(alloc, parent, parname, parlabel, model)?;
         let update = updated_over(alloc, &draft, parent, room)?;
-        draft.settle(update.opened);
+        draft.settle(update.judged);
         Ok(OpenDictionary {
             own: update.own,
             imported: update.imported,
@@ -235,7 +235,7 @@ impl OpenDictionary {
             return Err(placeless(Fault::READ_ONLY));
         };
         let update = updated_over(alloc, draft, parent_of(&self.imported), room)?;
-        draft.settle(update.opened);
+        draft.settle(update.judged);
         self.own = update.own;
         self.imported = update.imported;
         Ok(types_of(&self.own))

@@ -1,6 +1,7 @@
 //! A dictionary with all that is kept of it by itself.
-ghost use Rattle.std.specs.Prelude.{◌≡◌, ◌⊎◌, None, Some, IfOk, IfErr, OnOk};
+ghost use Rattle.std.specs.Prelude.{◌≡◌, ◌⊎◌, None, Some, IfOk, IfErr, OnOk, true};
 ghost use Rattle.ctf_check.specs.CheckedView.{lists_of};
+ghost use Rattle.ctf_check.specs.ListsView.{lists_in};
 ghost use Rattle.ctf_check.specs.Stages.{fault_before_chains};
 ghost use Rattle.ctf_open.specs.Fitting.{AreTablesOf};
 ghost use Rattle.ctf_model.specs.rules.Faults.{first_fault};
@@ -9,9 +10,8 @@ ghost use Rattle.ctf_model.specs.rules.Refusals.{want_of_memory};
 ghost use Rattle.ctf_symbols.specs.Fitting.{Fits};
 
 use crate::tables::Tables;
-use ctf_check::Checked;
+use ctf_check::{Checked, Judged, LentLists};
 use ctf_model::{DataModel, Fault, Parts, placeless};
-use ctf_space::Opened;
 use ctf_symbols::SymbolMap;
 use std::alloc::{AllocError, Global};
 use std::marker::Model;
@@ -34,7 +34,7 @@ pub(crate) struct Derived {
 /// share it. A contract sees its lists and its data model alone.
 #[derive(Drop)]
 pub struct Loaded {
-    dictionary: Rc<Opened>,
+    dictionary: Rc<Judged<'static>>,
     derived: Rc<Derived>,
 }
 
@@ -46,16 +46,16 @@ impl Model for Loaded {
 
     ghost Value = { Kept };
 
-    ghost view = { λ l. l.dictionary.value };
+    ghost view = { λ l. l.dictionary.value.kept };
 
-    ghost invariant = { λ l. Fits l.dictionary.value.lists l.derived.value.symbols
-        × AreTablesOf l.dictionary.value None l.derived.value.tables };
+    ghost invariant = { λ l. Fits l.dictionary.value.kept.lists l.derived.value.symbols
+        × AreTablesOf l.dictionary.value.kept None l.derived.value.tables };
 }
 
 /// What is kept beside a dictionary.
-fn kept(alloc: Global, dictionary: &Opened) -> Result<Rc<Derived>, AllocError>
-    ensures mapped { IfOk result (λ k. Fits dictionary.now.lists k.value.symbols) }
-    ensures made { IfOk result (λ k. AreTablesOf dictionary.now None k.value.tables) }
+fn kept(alloc: Global, dictionary: &Judged<'_>) -> Result<Rc<Derived>, AllocError>
+    ensures mapped { IfOk result (λ k. Fits dictionary.now.kept.lists k.value.symbols) }
+    ensures made { IfOk result (λ k. AreTablesOf dictionary.now.kept None k.value.tables) }
 {
     let symbols = SymbolMap::build(alloc, &dictionary.view())?;
     let tables = Tables::build(alloc, dictionary)?;
@@ -65,11 +65,22 @@ fn kept(alloc: Global, dictionary: &Opened) -> Result<Rc<Derived>, AllocError>
     }
 }
 
+/// The lists of a dictionary that owns them.
+fn own_parts(dictionary: Judged<'static>) -> Parts
+    requires { dictionary.owned ≡ true }
+    ensures { lists_owned result ≡ dictionary.entry.kept.lists }
+{
+    match dictionary.into_parts() {
+        Some(parts) => parts,
+        None => unreachable!(),
+    }
+}
+
 impl Loaded {
-    /// A dictionary that was opened, or the same again where memory was refused.
-    pub fn of(alloc: Global, dictionary: Opened) -> Result<Loaded, Opened>
-        ensures ok { IfOk result (λ l. l ≡ dictionary) }
-        ensures back { IfErr result (λ d. d ≡ dictionary) }
+    /// A dictionary that was judged, or the same again where memory was refused.
+    fn of(alloc: Global, dictionary: Judged<'static>) -> Result<Loaded, Judged<'static>>
+        ensures ok { IfOk result (λ l. l ≡ dictionary.entry.kept) }
+        ensures back { IfErr result (λ d. d ≡ dictionary.entry) }
     {
         let Ok(derived) = kept(alloc, &dictionary) else {
             return Err(dictionary);
@@ -93,10 +104,25 @@ impl Loaded {
             ⊎ (first_fault (lists_owned parts) ≡ Some e.0)) }
         ensures back { IfErr result (λ e. lists_owned e.1 ≡ lists_owned parts) }
     {
-        let dictionary = Opened::build(alloc, parts, model)?;
+        let dictionary = Judged::build(alloc, parts, model)?;
         match Loaded::of(alloc, dictionary) {
             Ok(loaded) => Ok(loaded),
-            Err(dictionary) => Err((placeless(Fault::MEMORY), dictionary.into_parts())),
+            Err(dictionary) => Err((placeless(Fault::MEMORY), own_parts(dictionary))),
+        }
+    }
+
+    /// The dictionary of lists that are lent, for programs of a data model, or its first fault.
+    /// Nothing of the lists is copied.
+    pub fn lent(alloc: Global, lists: LentLists<'static>, model: DataModel) -> Result<Loaded, Fault>
+        ensures ok { IfOk result (λ l. l ≡ record { lists = lists_in lists.entry; model = model }) }
+        ensures exact_ok { OnOk result (first_fault (lists_in lists.entry) ≡ None) }
+        ensures exact_err { IfErr result (λ f. (f ≡ want_of_memory)
+            ⊎ (first_fault (lists_in lists.entry) ≡ Some f)) }
+    {
+        let dictionary = Judged::lent(alloc, lists, model)?;
+        match Loaded::of(alloc, dictionary) {
+            Ok(loaded) => Ok(loaded),
+            Err(_) => Err(placeless(Fault::MEMORY)),
         }
     }
 
@@ -113,8 +139,8 @@ impl Loaded {
     }
 
     /// The dictionary, shared once more, to be kept by a draft over it or by its own draft.
-    pub fn opened(&self) -> Result<Rc<Opened>, AllocError>
-        ensures { IfOk result (λ o. o.value ≡ self.now) }
+    pub fn judged(&self) -> Result<Rc<Judged<'static>>, AllocError>
+        ensures { IfOk result (λ j. j.value.kept ≡ self.now) }
     {
         self.dictionary.clone()
     }

@@ -15,7 +15,7 @@ ghost use Rattle.ctf_symbols.specs.Fitting.{Fits};
 
 use crate::loaded::Loaded;
 use crate::tables::{Tables, tables_over};
-use ctf_check::Checked;
+use ctf_check::{Checked, LentLists};
 use ctf_draft::Draft;
 use ctf_model::{Bytes, DataModel, Fault, Parts, placeless};
 use ctf_space::Space;
@@ -126,13 +126,44 @@ impl OpenDictionary {
     {
         let parts = parts_of(alloc, ctf, sym, strs)?;
         match Loaded::build(alloc, parts, model) {
-            Ok(own) => Ok(OpenDictionary {
-                own,
-                imported: None,
-                draft: None,
-            }),
+            Ok(own) => Ok(OpenDictionary::of(own)),
             Err((fault, _)) => Err(fault),
         }
+    }
+
+    /// The same over lists that are lent, of which nothing is copied.
+    pub fn open_lent(
+        alloc: Global,
+        ctf: &'static [u8],
+        sym: Option<&'static [u8]>,
+        strs: Option<&'static [u8]>,
+        model: DataModel,
+    ) -> Result<OpenDictionary, Fault>
+        ensures ok { IfOk result (λ s. s ≡ record {
+          own = record {
+            lists = record {
+              ctf = ctf.now;
+              sym = option_copied sym.entry;
+              strs = option_copied strs.entry;
+            };
+            model = model;
+          };
+          parent = None;
+          draft = None;
+        }) }
+        ensures exact_ok { OnOk result (first_fault (record {
+          ctf = ctf.now;
+          sym = option_copied sym.entry;
+          strs = option_copied strs.entry;
+        }) ≡ None) }
+        ensures exact_err { IfErr result (λ f. Refuses (first_fault (record {
+          ctf = ctf.now;
+          sym = option_copied sym.entry;
+          strs = option_copied strs.entry;
+        })) f) }
+    {
+        let own = Loaded::lent(alloc, LentLists { ctf, sym, strs }, model)?;
+        Ok(OpenDictionary::of(own))
     }
 
     /// Imports the dictionary of another session as its parent, which they share. The parent of a

@@ -3,7 +3,7 @@ ghost use Rattle.std.specs.Prelude.{◌≡◌, ◌⊎◌, [], ◌∷◌, Ok, Err
 ghost use Rattle.std.specs.Result.{result_map_both};
 ghost use Rattle.ctf_model.specs.opened.Questions.{align_said, argument_said, array_said, encoding_said, enumerator_said, kind_said, length_said, member_said, name_said, parent_types, path_said, pointer_said, resolved_said, return_said, root_said, said_of, signature_said, shape_of, size_said, tag_said, value_said};
 ghost use Rattle.ctf_model.specs.opened.Open.{own_in, space_in};
-ghost use Rattle.ctf_check.specs.FactsView.{shape_seen};
+ghost use Rattle.ctf_check.specs.FactsView.{shape_view};
 ghost use Rattle.ctf_entries.specs.FunctionView.{signature};
 ghost use Rattle.ctf_layout.specs.Reached.{position_of};
 ghost use Rattle.ctf_model.specs.figures.Figures.{reference as reference_of};
@@ -29,7 +29,7 @@ use std::alloc::Global;
 
 /// What a type declares, if it is a forward.
 fn tag_of(x: Shape<'_>) -> Result<Tag, Fault>
-    ensures { result_map_both tag_shown (λ f. f) result ≡ tag_said (shape_seen x.entry) }
+    ensures { result_map_both tag_shown (λ f. f) result ≡ tag_said (shape_view x.entry) }
 {
     match x.declares {
         Some(tag) => Ok(tag),
@@ -40,7 +40,7 @@ fn tag_of(x: Shape<'_>) -> Result<Tag, Fault>
 /// How many members, enumerators or arguments there are.
 #[inline(always)]
 fn length_of(x: Shape<'_>) -> Result<u64, Fault>
-    ensures { result ≡ length_said (shape_seen x.entry) }
+    ensures { result ≡ length_said (shape_view x.entry) }
 {
     Ok(match x.behind {
         Variant::Members(members) => members.len() as u64,
@@ -52,7 +52,7 @@ fn length_of(x: Shape<'_>) -> Result<u64, Fault>
 
 #[inline(always)]
 pub fn encoding_of(x: Shape<'_>) -> Result<Encoding, Fault>
-    ensures { result_map_both encoding_info (λ f. f) result ≡ encoding_said (shape_seen x.entry) }
+    ensures { result_map_both encoding_info (λ f. f) result ≡ encoding_said (shape_view x.entry) }
 {
     match x.behind {
         Variant::Encoding(info) => Ok(info),
@@ -62,7 +62,7 @@ pub fn encoding_of(x: Shape<'_>) -> Result<Encoding, Fault>
 
 #[inline(always)]
 pub fn array_of(x: Shape<'_>) -> Result<ArrayInfo, Fault>
-    ensures { result_map_both array_info (λ f. f) result ≡ array_said (shape_seen x.entry) }
+    ensures { result_map_both array_info (λ f. f) result ≡ array_said (shape_view x.entry) }
 {
     match x.behind {
         Variant::Array(info) => Ok(info),
@@ -73,7 +73,7 @@ pub fn array_of(x: Shape<'_>) -> Result<ArrayInfo, Fault>
 /// What a function returns and takes.
 #[inline(always)]
 pub fn signature_of(x: Shape<'_>) -> Result<Signature<'_>, Fault>
-    ensures { result_map_both signature (λ f. f) result ≡ signature_said (shape_seen x.entry) }
+    ensures { result_map_both signature (λ f. f) result ≡ signature_said (shape_view x.entry) }
 {
     match (x.behind, x.reference) {
         (Variant::Args(args), Some(ret)) => Ok(Signature { ret, args }),
@@ -82,7 +82,7 @@ pub fn signature_of(x: Shape<'_>) -> Result<Signature<'_>, Fault>
 }
 
 fn return_of(x: Shape<'_>) -> Result<TypeNum, Fault>
-    ensures { result_map_both (λ t. t.0) (λ f. f) result ≡ return_said (shape_seen x.entry) }
+    ensures { result_map_both (λ t. t.0) (λ f. f) result ≡ return_said (shape_view x.entry) }
 {
     match signature_of(x) {
         Ok(signature) => Ok(signature.ret),
@@ -93,7 +93,7 @@ fn return_of(x: Shape<'_>) -> Result<TypeNum, Fault>
 #[inline(always)]
 fn member_of(x: Shape<'_>, index: usize) -> Result<Member<'_>, Fault>
     ensures { result_map_both member_seen (λ f. f) result
-        ≡ member_said index (shape_seen x.entry) }
+        ≡ member_said index (shape_view x.entry) }
 {
     match x.behind {
         Variant::Members(members) => match members.get(index) {
@@ -107,7 +107,7 @@ fn member_of(x: Shape<'_>, index: usize) -> Result<Member<'_>, Fault>
 #[inline(always)]
 fn enumerator_of(x: Shape<'_>, index: usize) -> Result<Enumerator<'_>, Fault>
     ensures { result_map_both enumerator_seen (λ f. f) result
-        ≡ enumerator_said index (shape_seen x.entry) }
+        ≡ enumerator_said index (shape_view x.entry) }
 {
     match x.behind {
         Variant::Enumerators(enumerators) => match enumerators.get(index) {
@@ -121,7 +121,7 @@ fn enumerator_of(x: Shape<'_>, index: usize) -> Result<Enumerator<'_>, Fault>
 #[inline(always)]
 fn argument_of(x: Shape<'_>, index: usize) -> Result<TypeNum, Fault>
     ensures { result_map_both (λ t. t.0) (λ f. f) result
-        ≡ argument_said index (shape_seen x.entry) }
+        ≡ argument_said index (shape_view x.entry) }
 {
     match x.behind {
         Variant::Args(args) => match args.get(index) {
@@ -160,7 +160,7 @@ impl OpenDictionary {
     /// What a type is, apart from its name.
     #[inline(always)]
     fn shape(&self, t: TypeNum) -> Result<Shape<'_>, Fault>
-        ensures { result_map_both shape_seen (λ f. f) result
+        ensures { result_map_both shape_view (λ f. f) result
             ≡ shape_of (space_type (space_in self.now) t.0) }
     {
         match self.space().term(t) {

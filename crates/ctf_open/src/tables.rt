@@ -7,10 +7,11 @@ ghost use Rattle.ctf_model.specs.rules.Refusals.{want_of_memory};
 ghost use Rattle.ctf_model.specs.spaces.Kept.{fault_over};
 
 use crate::loaded::Loaded;
+use ctf_check::Judged;
 use ctf_layout::Layout;
 use ctf_model::{Fault, placeless};
 use ctf_names::NameIndex;
-use ctf_space::{Opened, Space};
+use ctf_space::Space;
 use std::alloc::{AllocError, Global};
 
 /// What the types of a dictionary come to, and its names, with those of its parent if it has one.
@@ -22,8 +23,8 @@ pub struct Tables {
 
 impl Tables {
     /// The tables of a dictionary without a parent.
-    pub(crate) fn build(alloc: Global, dictionary: &Opened) -> Result<Tables, AllocError>
-        ensures { IfOk result (λ t. AreTablesOf dictionary.now None t) }
+    pub(crate) fn build(alloc: Global, dictionary: &Judged<'_>) -> Result<Tables, AllocError>
+        ensures { IfOk result (λ t. AreTablesOf dictionary.now.kept None t) }
     {
         let space = Space::own(dictionary.view(), dictionary.model());
         Ok(Tables {

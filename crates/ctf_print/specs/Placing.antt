@@ -32,8 +32,12 @@ enumerators_of _ = None
 
 -- what is kept of an enum is right
 unfoldable pub AreKept : Space → BTreeMap ℕ (Option Places) → Type 0
-AreKept s m = (q : ℕ) (p : Places) → get nat_cmp m q ≡ Some (Some p) → (es : List Enumerator) → enumerators_of (told_of s q) ≡ Some es → ArePlaces es p
+AreKept s m =
+    (q : ℕ) (p : Places) → get nat_cmp m q ≡ Some (Some p) → (es : List Enumerator)
+    → enumerators_of (told_of s q) ≡ Some es → ArePlaces es p
 
 -- a value stands there first in the enum that a number names, if that names one
 unfoldable pub IsPlaceOf : Space → ℕ → ℤ → Option ℕ → Type 0
-IsPlaceOf s n value place = (es : List Enumerator) → enumerators_of (told_of s n) ≡ Some es → place ≡ first_with value 0 es
+IsPlaceOf s n value place =
+    (es : List Enumerator) → enumerators_of (told_of s n) ≡ Some es
+    → place ≡ first_with value 0 es

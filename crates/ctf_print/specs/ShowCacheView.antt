@@ -14,7 +14,8 @@ abbrev pub AreRight : Space → BTreeMap ℕ Behind → Type 0
 AreRight s m = (q : ℕ) (b : Behind) → get nat_cmp m q ≡ Some b → StandsFor s q b.steps b.number.0
 
 -- and so is what is kept of enums
-pub record IsRight (s : Space) (steps : BTreeMap ℕ Behind) (kept : BTreeMap ℕ (Option Places)) (last : Option Sought) : Type 0 where
+pub record IsRight (s : Space) (steps : BTreeMap ℕ Behind)
+    (kept : BTreeMap ℕ (Option Places)) (last : Option Sought) : Type 0 where
   pub behind : AreRight s steps
   pub places : AreKept s kept
   pub sought : (x : Sought) → last ≡ Some x → IsPlaceOf s x.number.0 x.value x.place

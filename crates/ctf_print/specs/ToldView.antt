@@ -4,12 +4,12 @@ use Rattle.ctf_print.specs.Telling as telling
 use Rattle.ctf_print.specs.declared.telling.Told.{Told}
 use Rattle.ctf_print.specs.declared.telling.Told.TheVariants as told
 
-abbrev pub told_seen : Told → telling.Told
-told_seen (told.Integer encoding) = telling.integer (encoding_info encoding)
-told_seen (told.Float encoding) = telling.float (encoding_info encoding)
-told_seen told.Pointer = telling.pointer
-told_seen (told.Enum said es) = telling.enum said es
-told_seen (told.Members ms) = telling.members ms
-told_seen (told.Array info) = telling.array (array_info info)
-told_seen (told.As t) = telling.like t.0
-told_seen told.Incomplete = telling.untold
+abbrev pub told_view : Told → telling.Told
+told_view (told.Integer encoding) = telling.integer (encoding_info encoding)
+told_view (told.Float encoding) = telling.float (encoding_info encoding)
+told_view told.Pointer = telling.pointer
+told_view (told.Enum said es) = telling.enum said es
+told_view (told.Members ms) = telling.members ms
+told_view (told.Array info) = telling.array (array_info info)
+told_view (told.As t) = telling.like t.0
+told_view told.Incomplete = telling.untold

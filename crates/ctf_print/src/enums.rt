@@ -14,7 +14,7 @@ use crate::text::Text;
 use ctf_model::{Fault, TypeNum};
 use ctf_views::Enumerators;
 
-/// Puts the name of the first enumerator with a value, which stands at a place, or the value itself.
+/// Puts the name of the first enumerator with a value, which stands at a place, or the value.
 /// Only that name is read.
 fn put_name(
     enumerators: &Enumerators<'_>,

@@ -1,9 +1,9 @@
 //! How the value of a type is shown.
 ghost use Rattle.std.specs.Prelude.{◌≡◌};
 ghost use Rattle.std.specs.Option.{option_map};
-ghost use Rattle.ctf_check.specs.FactsView.{shape_seen};
+ghost use Rattle.ctf_check.specs.FactsView.{shape_view};
 ghost use Rattle.ctf_print.specs.Telling.{of_head, of_reference, told_in};
-ghost use Rattle.ctf_print.specs.ToldView.{told_seen};
+ghost use Rattle.ctf_print.specs.ToldView.{told_view};
 
 use ctf_check::Shape;
 use ctf_model::{Kind, TypeNum};
@@ -28,7 +28,7 @@ pub enum Told<'a> {
 
 /// A typedef or a qualifier, by the type that it refers to.
 fn by_reference<'a>(reference: Option<TypeNum>) -> Told<'a>
-    ensures { told_seen result ≡ of_reference (option_map (λ t. t.0) reference) }
+    ensures { told_view result ≡ of_reference (option_map (λ t. t.0) reference) }
 {
     match reference {
         Some(number) => Told::As(number),
@@ -38,7 +38,7 @@ fn by_reference<'a>(reference: Option<TypeNum>) -> Told<'a>
 
 /// A type with nothing behind its head.
 fn by_head<'a>(kind: Kind, reference: Option<TypeNum>) -> Told<'a>
-    ensures { told_seen result ≡ of_head kind (option_map (λ t. t.0) reference) }
+    ensures { told_view result ≡ of_head kind (option_map (λ t. t.0) reference) }
 {
     match kind {
         Kind::KPointer => Told::Pointer,
@@ -51,7 +51,7 @@ fn by_head<'a>(kind: Kind, reference: Option<TypeNum>) -> Told<'a>
 
 /// How the value of a type of a shape is shown.
 pub fn told_by(x: Shape<'_>) -> Told<'_>
-    ensures { told_seen result ≡ told_in (shape_seen x.entry) }
+    ensures { told_view result ≡ told_in (shape_view x.entry) }
 {
     let Shape {
         kind,

@@ -9,7 +9,7 @@ ghost use Rattle.ctf_views.specs.ItemsView.{member as member_seen};
 ghost use Rattle.ctf_print.specs.ImageView.{memory_of, shows, types_of};
 ghost use Rattle.ctf_print.specs.Placing.{told_of};
 ghost use Rattle.ctf_print.specs.Telling.{told_shown};
-ghost use Rattle.ctf_print.specs.ToldView.{told_seen};
+ghost use Rattle.ctf_print.specs.ToldView.{told_view};
 ghost use Rattle.ctf_print.specs.Written.{Refused, written};
 
 use crate::enums::show_enum;
@@ -172,13 +172,13 @@ fn show_told(
     out: &mut Text,
 ) -> Result<(), Fault>
     requires known { known.old ≡ types_of image.now }
-    requires how { told_of (types_of image.now) found.now.number.0 ≡ told_seen found.now.how }
+    requires how { told_of (types_of image.now) found.now.number.0 ≡ told_view found.now.how }
     ensures ok { OnOk result (written out.old
         (told_shown (types_of image.now) (memory_of image.now) (shows image.now found.now.nesting)
-        at (told_seen found.now.how)) ≡ Ok out.new) }
+        at (told_view found.now.how)) ≡ Ok out.new) }
     ensures err { IfErr result (Refused out.old
         (told_shown (types_of image.now) (memory_of image.now) (shows image.now found.now.nesting)
-        at (told_seen found.now.how))) }
+        at (told_view found.now.how))) }
     ensures kept { known.new ≡ known.old }
 {
     let nesting = found.nesting;

@@ -7,9 +7,9 @@ mod by_number;
 mod items;
 mod map;
 mod named;
-mod names;
 mod rows;
+mod symbol_names;
 
 pub use map::SymbolMap;
 pub use named::NamedSymbol;
-pub use names::symbol_name;
+pub use symbol_names::symbol_name;

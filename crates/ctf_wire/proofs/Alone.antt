@@ -14,6 +14,7 @@ use Rattle.ctf_protocol.specs.answers.Answers.{Reply}
 use Rattle.ctf_protocol.specs.declared.requests.Request.{Request}
 use Rattle.ctf_protocol.proofs.Asking.{ask-long}
 use Rattle.ctf_protocol.proofs.SessionRuns.{found_same}
+use Rattle.ctf_wire.specs.Memory.{IsGrantedUnless, MayNeedMemory}
 use Rattle.ctf_wire.specs.Served.{Answers}
 use Rattle.ctf_laws.proofs.Promises.{runs_promise}
 use Rattle.ctf_wire.specs.Serving.{AllStay, AreMarked, BrokerStep, IsMarked, LineSteps, Said, ServesAlone}
@@ -71,28 +72,37 @@ refused_stays old new s request reply st m q false t =
 -- a line's mark, what was written for it, and that the libraries are the own runs after it
 record Done (start : ℕ → State) (calls : List Call) (line : List ℕ) (said : Result (ℕ × Request) (ℕ × Fault)) (written : List ℕ) (new : ℕ → State) : Type 0 where
   pub mark : Mark
-  pub marked : IsMarked line mark
+  pub marked : IsMarked (own_state start calls) line said mark
   pub wrote : written ≡ line_out start calls mark said
   pub holds : Holds start (calls_after calls mark said) new
 
-request_done : (start old new : ℕ → State) (calls : List Call) (line : List ℕ) (s : ℕ) (request : Request) (reply : Reply) (written : List ℕ) → Holds start calls old → written ≡ reply_line reply → Steps old s request reply new
-    → IsGranted old s request reply new ⊎ IsRefused old s reply new → Done start calls line (Ok (s, request)) written new
-request_done start old new calls line s request reply written held w st (inr m) = record {
+refused_done : (start old new : ℕ → State) (calls : List Call) (line : List ℕ) (s : ℕ) (request : Request) (reply : Reply) (written : List ℕ) → Holds start calls old → written ≡ reply_line reply → Steps old s request reply new
+    → MayNeedMemory s (old s) request → IsRefused old s reply new → Done start calls line (Ok (s, request)) written new
+refused_done start old new calls line s request reply written held w st may m = record {
   mark = refused;
-  marked = tt;
+  marked = subst (λ (l : State). MayNeedMemory s l request) (held s) may;
   wrote = w ∙ ap reply_line m.0;
   holds = λ q. refused_stays old new s request reply st m q (eqb s q) refl ∙ held q;
 }
-request_done start old new calls line s request reply written held w st (inl m) = record {
+
+granted_done : (start old new : ℕ → State) (calls : List Call) (line : List ℕ) (s : ℕ) (request : Request) (reply : Reply) (written : List ℕ) → Holds start calls old → written ≡ reply_line reply → Steps old s request reply new
+    → IsGranted old s request reply new → Done start calls line (Ok (s, request)) written new
+granted_done start old new calls line s request reply written held w st m = record {
   mark = answered;
   marked = tt;
   wrote = w ∙ ap reply_line (m.0 ∙ ap (λ (o : Outcome). addressed s o.reply) (own_step start old calls s request held));
   holds = λ q. granted_holds start old new calls s request reply held st m q (eqb s q) refl;
 }
 
+request_done : (start old new : ℕ → State) (calls : List Call) (line : List ℕ) (s : ℕ) (request : Request) (reply : Reply) (written : List ℕ) → Holds start calls old → written ≡ reply_line reply → Steps old s request reply new
+    → IsGrantedUnless old s request reply new → IsGranted old s request reply new ⊎ IsRefused old s reply new → Done start calls line (Ok (s, request)) written new
+request_done start old new calls line s request reply written held w st (inl granted) own = granted_done start old new calls line s request reply written held w st granted
+request_done start old new calls line s request reply written held w st (inr may) (inl granted) = granted_done start old new calls line s request reply written held w st granted
+request_done start old new calls line s request reply written held w st (inr may) (inr m) = refused_done start old new calls line s request reply written held w st may m
+
 said_done : (start old new : ℕ → State) (calls : List Call) (line : List ℕ) (said : Result (ℕ × Request) (ℕ × Fault)) (written : List ℕ) → Holds start calls old → Said old said written new → Done start calls line said written new
 said_done start old new calls line (Err refusal) written held told = record { mark = answered; marked = tt; wrote = told.0; holds = λ q. told.1 q ∙ held q }
-said_done start old new calls line (Ok said) written held told = request_done start old new calls line said.0 said.1 told.0 written held told.1 told.2 told.2.own
+said_done start old new calls line (Ok said) written held told = request_done start old new calls line said.0 said.1 told.0 written held told.1 told.2 told.3 told.2.own
 
 line_done : (start old new : ℕ → State) (calls : List Call) (line : List ℕ) (written : List ℕ) → Holds start calls old → Did old line written new → Done start calls line (ask line) written new
 line_done start old new calls line written held (inl none) = record { mark = unread; marked = none.0; wrote = none.1; holds = λ q. none.2 q ∙ held q }
@@ -101,7 +111,7 @@ line_done start old new calls line written held (inr told) = said_done start old
 -- after a history, the same for all that follows
 record RunsOn (start : ℕ → State) (calls : List Call) (lines replies : List (List ℕ)) (new : ℕ → State) : Type 0 where
   pub marks : List Mark
-  pub marked : AreMarked lines marks
+  pub marked : AreMarked start calls lines marks
   pub replies_are : replies ≡ out start calls lines marks
   pub libraries_are : Holds start (calls_made calls lines marks) new
 

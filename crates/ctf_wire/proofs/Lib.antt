@@ -1,4 +1,5 @@
 pub mod QuestionSteps
+pub mod ChangeSteps
 pub mod Cutting
 pub mod Passing
 pub mod Replying

@@ -1,7 +1,8 @@
 -- A question among the libraries of all sessions.
-use Rattle.std.proofs.Common.{◌≡◌, ℕ, Result, refl, ap, ◌⊎◌, inl, inr}
+use Rattle.std.proofs.Common.{◌≡◌, ◌<◌, ℕ, length, Bool, true, false, Result, refl, ap, subst, ◌⊎◌, inl, inr}
 use Rattle.std.specs.Prelude.{Vec}
 use Rattle.std.specs.declared.alloc.Global.{Global}
+use Rattle.ctf_library.specs.Telling.{makes_text}
 use Rattle.ctf_protocol.specs.answers.Answers.{Answer, Reply}
 use Rattle.ctf_protocol.specs.lines.ReplyLines.{reply_line}
 use Rattle.ctf_protocol.specs.sessions.Runs.{Steps, IsGranted, IsRefused, no_memory}
@@ -11,6 +12,7 @@ use Rattle.ctf_model.specs.declared.faults.Fault.{Fault}
 use Rattle.ctf_protocol.specs.declared.questions.Question.{Question}
 use Rattle.ctf_protocol.specs.declared.requests.Request.{Request}
 use Rattle.ctf_protocol.specs.declared.requests.Request.TheVariants.{Asks}
+use Rattle.ctf_wire.specs.Memory.{IsGrantedUnless}
 use Rattle.ctf_wire.specs.Room.{Replies}
 
 abbrev reply_to : ℕ → Result Answer Fault → Reply
@@ -20,10 +22,38 @@ reply_to s outcome = record { session = s; outcome = outcome }
 stays : (old : ℕ → State) (s : ℕ) (request : Request) (reply : Reply) → IsGranted old s request reply old ⊎ IsRefused old s reply old → Steps old s request reply old
 stays old s request reply own = record { own = own; others = λ other ne. refl }
 
+-- the line of the answer was written, or one that says that memory for it was refused
+abbrev Wrote : ℕ → Result Answer Fault → Vec ℕ Global → Vec ℕ Global → Type 0
+Wrote s result before after =
+    Replies before (reply_line (reply_to s result)) after
+    ⊎ (Replies before (reply_line (no_memory s)) after × (131072 < length (reply_line (reply_to s result))))
+
+-- a reply that was written, and the step that it belongs to
+abbrev Happened : (ℕ → State) → ℕ → Request → Vec ℕ Global → Vec ℕ Global → Type 0
+Happened old s request before after =
+    (reply : Reply) × Steps old s request reply old × IsGrantedUnless old s request reply old × Replies before (reply_line reply) after
+
+-- a text was to be made: memory may be refused to it
+text_step : (old : ℕ → State) (s d : ℕ) (q : Question) (result : Result Answer Fault) (before after : Vec ℕ Global) → makes_text q ≡ true → MayAnswer (answer_to d q (old s)) result → Wrote s result before after
+    → Happened old s (Asks d q) before after
+text_step old s d q result before after made may (inr line) = (no_memory s, stays old s (Asks d q) (no_memory s) (inr (refl, refl)), inr (inl made), line.0)
+text_step old s d q result before after made (inl said) (inl line) = (reply_to s result, stays old s (Asks d q) (reply_to s result) (inl (ap (reply_to s) said, refl)), inr (inl made), line)
+text_step old s d q result before after made (inr none) (inl line) = (reply_to s result, stays old s (Asks d q) (reply_to s result) (inr (ap (reply_to s) none, refl)), inr (inl made), line)
+
+-- the answer is lent: memory may be refused to a long reply alone
+lent_step : (old : ℕ → State) (s d : ℕ) (q : Question) (result : Result Answer Fault) (before after : Vec ℕ Global) → result ≡ answer_to d q (old s) → Wrote s result before after → Happened old s (Asks d q) before after
+lent_step old s d q result before after said (inl line) =
+    let granted : IsGranted old s (Asks d q) (reply_to s result) old = (ap (reply_to s) said, refl) in
+    (reply_to s result, stays old s (Asks d q) (reply_to s result) (inl granted), inl granted, line)
+lent_step old s d q result before after said (inr line) =
+    let long = subst (λ (r : Result Answer Fault). 131072 < length (reply_line (reply_to s r))) said line.1 in
+    (no_memory s, stays old s (Asks d q) (no_memory s) (inr (refl, refl)), inr (inr long), line.0)
+
 -- whichever line was written
 pub question_step : (old : ℕ → State) (s d : ℕ) (q : Question) (result : Result Answer Fault) (before after : Vec ℕ Global) → MayAnswer (answer_to d q (old s)) result
-    → Replies before (reply_line (reply_to s result)) after ⊎ Replies before (reply_line (no_memory s)) after
-    → (reply : Reply) × Steps old s (Asks d q) reply old × Replies before (reply_line reply) after
-question_step old s d q result before after may (inr line) = (no_memory s, stays old s (Asks d q) (no_memory s) (inr (refl, refl)), line)
-question_step old s d q result before after (inl said) (inl line) = (reply_to s result, stays old s (Asks d q) (reply_to s result) (inl (ap (reply_to s) said, refl)), line)
-question_step old s d q result before after (inr none) (inl line) = (reply_to s result, stays old s (Asks d q) (reply_to s result) (inr (ap (reply_to s) none, refl)), line)
+    → (makes_text q ≡ false → result ≡ answer_to d q (old s)) → Wrote s result before after → Happened old s (Asks d q) before after
+question_step old s d q result before after may lent wrote = by_text (makes_text q) refl
+  where
+    by_text : (t : Bool) → makes_text q ≡ t → Happened old s (Asks d q) before after
+    by_text true made = text_step old s d q result before after made may wrote
+    by_text false none = lent_step old s d q result before after (lent none) wrote

@@ -2,10 +2,10 @@
 use Rattle.std.specs.Prelude.{◌≡◌, ◌≢◌, ℕ, ◌≤◌, List, [], ◌∷◌, ◌++◌, length, Option, None, Some, Result, Ok, Err, ◌⊎◌}
 use Rattle.ctf_protocol.specs.lines.Ask.{ask}
 use Rattle.ctf_protocol.specs.lines.Lines.{longest_line}
-use Rattle.ctf_protocol.specs.lines.Output.{Mark, calls_made, out, unread}
+use Rattle.ctf_protocol.specs.lines.Output.{Mark, answered, calls_after, calls_made, out, refused, unread}
 use Rattle.ctf_model.specs.rules.Refusals.{placeless}
 use Rattle.ctf_protocol.specs.lines.ReplyLines.{fault_line, reply_line}
-use Rattle.ctf_protocol.specs.sessions.Runs.{Steps, no_memory, own_state}
+use Rattle.ctf_protocol.specs.sessions.Runs.{Call, Steps, no_memory, own_state}
 use Rattle.ctf_protocol.specs.sessions.State.{State}
 use Rattle.ctf_model.specs.declared.faults.Fault.{Fault}
 use Rattle.ctf_model.specs.declared.faults.TheConstants.Fault.{LONG_LINE}
@@ -14,6 +14,7 @@ use Rattle.ctf_protocol.specs.declared.requests.Request.{Request}
 use Rattle.ctf_laws.specs.Good.{AreGood}
 use Rattle.ctf_laws.specs.GoodLaws.{Promised}
 use Rattle.ctf_wire.specs.Endings.{EndsBy}
+use Rattle.ctf_wire.specs.Memory.{IsGrantedUnless, MayRefuse}
 use Rattle.ctf_wire.specs.Served.{Answers, BeginsWith, Sent, SentFront}
 use Rattle.ctf_wire.specs.Streams.{Pulled, Pushed}
 use Rattle.ctf_broker.specs.Table.{Libraries, library_at}
@@ -33,6 +34,7 @@ abbrev pub Said : (ℕ → State) → Result (ℕ × Request) (ℕ × Fault) →
 Said old (Err refusal) written new = (written ≡ fault_line refusal.0 refusal.1) × AllStay old new
 Said old (Ok said) written new =
     (reply : Reply) × (written ≡ reply_line reply) × Steps old said.0 said.1 reply new
+    × IsGrantedUnless old said.0 said.1 reply new
 
 -- memory may be refused to reading a line, but to none that is too long
 abbrev pub MayWant : Option (List ℕ) → Type 0
@@ -50,14 +52,19 @@ LineSteps old line written new =
 abbrev pub BrokerStep : Libraries → Option (List ℕ) → List ℕ → Libraries → Type 0
 BrokerStep old line written new = LineSteps (library_at old) line written (library_at new)
 
--- a mark that says that memory was refused to reading a line stands at none that is too long
-abbrev pub IsMarked : List ℕ → Mark → Type 0
-IsMarked line unread = length line ≤ longest_line
-IsMarked line _ = Unit {0}
+-- a mark that memory was refused to reading a line stands at none that is too long, and one that
+-- it was refused to a request stands at none that needs no memory
+abbrev pub IsMarked : (ℕ → State) → List ℕ → Result (ℕ × Request) (ℕ × Fault) → Mark → Type 0
+IsMarked libraries line said unread = length line ≤ longest_line
+IsMarked libraries line said refused = MayRefuse libraries said
+IsMarked libraries line said answered = Unit {0}
 
-abbrev pub AreMarked : List (List ℕ) → List Mark → Type 0
-AreMarked (line ∷ lines) (mark ∷ marks) = IsMarked line mark × AreMarked lines marks
-AreMarked _ _ = Unit {0}
+-- the same of each line, among the libraries that it meets
+abbrev pub AreMarked : (ℕ → State) → List Call → List (List ℕ) → List Mark → Type 0
+AreMarked start calls (line ∷ lines) (mark ∷ marks) =
+    IsMarked (own_state start calls) line (ask line) mark
+    × AreMarked start (calls_after calls mark (ask line)) lines marks
+AreMarked start calls _ _ = Unit {0}
 
 -- these lines are served: each has the reply that its session's own run gives, each session's
 -- library is that of its own run, and where all libraries were good, all is kept that is promised
@@ -66,7 +73,7 @@ AreMarked _ _ = Unit {0}
 pub record RunsAlone (old : Libraries) (lines replies : List (List ℕ))
     (new : Libraries) : Type 0 where
   pub marks : List Mark
-  pub marked : AreMarked lines marks
+  pub marked : AreMarked (library_at old) [] lines marks
   pub replies_are : replies ≡ out (library_at old) [] lines marks
   pub libraries_are : (s : ℕ)
       → library_at new s ≡ own_state (library_at old) (calls_made [] lines marks) s

@@ -19,7 +19,7 @@ impl Batch {
     pub fn new(alloc: Global) -> Result<Self, AllocError>
         ensures empty { IfOk result (λ b. b.bytes.items ≡ []) }
         ensures none { IfOk result (λ b. b.waits ≡ false) }
-        ensures room { IfOk result (λ b. 65536 + 96 ≤ vec_capacity b.bytes) }
+        ensures room { IfOk result (λ b. 65536 + 131072 ≤ vec_capacity b.bytes) }
     {
         Ok(Batch {
             bytes: Vec::with_capacity(alloc, BATCH + SHORT_PASS)?,

@@ -1,7 +1,7 @@
 //! What one read took in: lines to a machine, replies into a batch, and the batch to a sink.
 ghost use Rattle.std.specs.Prelude.{◌≡◌, ℕ, ◌≤◌, ◌+◌, ◌++◌, ◌∷◌, [], List, true, false, vec_capacity};
 ghost use Rattle.ctf_protocol.specs.lines.Lines.{whole_lines};
-ghost use Rattle.ctf_wire.specs.Room.{HasShortRoom, Replies};
+ghost use Rattle.ctf_wire.specs.Room.{HasReplyRoom, Replies};
 ghost use Rattle.ctf_wire.specs.Gathering.{Feeds};
 ghost use Rattle.ctf_wire.specs.Standing.{Finishes, TakesIn};
 
@@ -15,7 +15,7 @@ use ctf_lines::Scratch;
 
 /// Answers the pending line. The reply waits.
 fn answer<M: Machine>(machine: &mut M, scratch: &mut Scratch, pending: &Pending, batch: &mut Batch)
-    requires { HasShortRoom batch.old.bytes }
+    requires { HasReplyRoom batch.old.bytes }
     ensures answers { (reply : List ℕ) × M.Step machine.old pending.now reply machine.new
         × Replies batch.old.bytes reply batch.new.bytes }
     ensures waits { batch.new.waits ≡ true }
@@ -37,7 +37,7 @@ fn end_line<M: Machine, K: Sink>(
     batch: &mut Batch,
     piece: &[u8],
 ) -> bool
-    requires room { 65536 + 96 ≤ vec_capacity batch.old.bytes }
+    requires room { 65536 + 131072 ≤ vec_capacity batch.old.bytes }
     requires piece { whole_lines piece.now ≡ [] }
     ensures feeds { Feeds M.Step machine.old pending.old batch.old (K.pushed sink.old)
         (piece.now ++ 10 ∷ []) result machine.new pending.new batch.new (K.pushed sink.new) }
@@ -63,7 +63,7 @@ fn feed<M: Machine, K: Sink>(
     batch: &mut Batch,
     bytes: &[u8],
 ) -> bool
-    requires { 65536 + 96 ≤ vec_capacity batch.old.bytes }
+    requires { 65536 + 131072 ≤ vec_capacity batch.old.bytes }
     ensures feeds { Feeds M.Step machine.old pending.old batch.old (K.pushed sink.old)
         bytes.now result machine.new pending.new batch.new (K.pushed sink.new) }
     ensures empty { result ≡ false → batch.new.bytes.items ≡ [] }
@@ -90,7 +90,7 @@ pub fn take_in<M: Machine, K: Sink>(
     batch: &mut Batch,
     bytes: &[u8],
 ) -> bool
-    requires room { 65536 + 96 ≤ vec_capacity batch.old.bytes }
+    requires room { 65536 + 131072 ≤ vec_capacity batch.old.bytes }
     requires empty { batch.old.bytes.items ≡ [] }
     requires none { batch.old.waits ≡ false }
     ensures takes { TakesIn M.Step machine.old pending.old (K.pushed sink.old)
@@ -113,7 +113,7 @@ pub fn finish<M: Machine, K: Sink>(
     sink: &mut K,
     batch: &mut Batch,
 ) -> bool
-    requires room { 65536 + 96 ≤ vec_capacity batch.old.bytes }
+    requires room { 65536 + 131072 ≤ vec_capacity batch.old.bytes }
     requires empty { batch.old.bytes.items ≡ [] }
     requires none { batch.old.waits ≡ false }
     ensures finishes { Finishes M.Step machine.old pending.now (K.pushed sink.old)

@@ -18,7 +18,7 @@ mod turns;
 mod writers;
 
 pub use ctf_answers::{Answer, Counts, Reply, Single};
-pub use ctf_broker::{Broker, Library, Pool};
+pub use ctf_broker::{Broker, Library, Loaded, Pool};
 pub use ctf_lines::{FromLine, ToLine, memory_line};
 pub use machines::Machine;
 pub use readers::FromReader;

@@ -1,6 +1,6 @@
 //! What answers lines.
 ghost use Rattle.std.specs.Prelude.{ℕ, List, Option, Some, None};
-ghost use Rattle.ctf_wire.specs.Room.{HasShortRoom, Replies};
+ghost use Rattle.ctf_wire.specs.Room.{HasReplyRoom, Replies};
 
 use ctf_lines::Scratch;
 
@@ -13,13 +13,13 @@ pub trait Machine {
     /// Answers a line, with memory that is kept from line to line. The reply stands in `out` after
     /// what was there.
     fn step(&mut self, scratch: &mut Scratch, line: &[u8], out: &mut Vec<u8>)
-        requires { HasShortRoom out.old }
+        requires { HasReplyRoom out.old }
         ensures { (reply : List ℕ) × Step self.old (Some line.now) reply self.new
             × Replies out.old reply out.new };
 
     /// Answers a line that was too long to be stored.
     fn step_too_long(&mut self, out: &mut Vec<u8>)
-        requires { HasShortRoom out.old }
+        requires { HasReplyRoom out.old }
         ensures { (reply : List ℕ) × Step self.old None reply self.new
             × Replies out.old reply out.new };
 }

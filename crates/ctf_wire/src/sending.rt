@@ -48,7 +48,7 @@ fn send_batch<K: Sink>(sink: &mut K, batch: &mut Batch) -> bool
 
 /// Sends what waits where it is much, so that there is room for a short reply.
 pub fn make_room<K: Sink>(sink: &mut K, batch: &mut Batch) -> bool
-    requires { 65536 + 96 ≤ vec_capacity batch.old.bytes }
+    requires { 65536 + 131072 ≤ vec_capacity batch.old.bytes }
     ensures makes { MakesRoom batch.old (K.pushed sink.old) result batch.new (K.pushed sink.new) }
     ensures room { vec_len batch.new.bytes < 65536 }
     ensures empty { result ≡ false → batch.new.bytes.items ≡ [] }

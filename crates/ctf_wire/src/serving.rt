@@ -1,11 +1,12 @@
 //! Serves the lines of all sessions.
-ghost use Rattle.std.specs.Prelude.{◌≡◌, ◌≢◌, ◌⊎◌, ◌^◌, Err};
+ghost use Rattle.std.specs.Prelude.{◌≡◌, ◌≢◌, ◌⊎◌, ◌<◌, ◌^◌, length, Err};
 ghost use Rattle.ctf_protocol.specs.answers.Answers.{Reply as SaidReply};
 ghost use Rattle.ctf_protocol.specs.lines.ReplyLines.{reply_line};
 ghost use Rattle.ctf_protocol.specs.sessions.Runs.{Steps, no_memory};
 ghost use Rattle.ctf_answers.specs.Replies.{reply_of, said_to};
 ghost use Rattle.ctf_wire.specs.Endings.{IsReady, PullsAtMost};
-ghost use Rattle.ctf_wire.specs.Room.{HasShortRoom, Replies};
+ghost use Rattle.ctf_wire.specs.Memory.{IsGrantedUnless};
+ghost use Rattle.ctf_wire.specs.Room.{HasReplyRoom, Replies};
 ghost use Rattle.ctf_wire.specs.Serving.{BrokerStep, ServesAlone, ServesTo};
 ghost use Rattle.ctf_broker.specs.Table.{library_at};
 
@@ -14,6 +15,7 @@ use crate::machines::Machine;
 use crate::run_faults::RunFault;
 use crate::sinks::Sink;
 use crate::sources::Source;
+use crate::turns::Run;
 use ctf_answers::{Counts, Reply};
 use ctf_broker::Broker;
 use ctf_lines::{FromLine, SHORT_LINE, Scratch, ToLine, memory_line, write_change};
@@ -22,7 +24,7 @@ use std::alloc::Global;
 
 /// Appends the line of a short reply.
 fn append_short(out: &mut Vec<u8>, session: u32, outcome: Result<Counts, Fault>)
-    requires { HasShortRoom out.old }
+    requires { HasReplyRoom out.old }
     ensures { Replies out.old (reply_line (said_to session outcome)) out.new }
 {
     let _ = write_change(out, session, outcome);
@@ -30,7 +32,7 @@ fn append_short(out: &mut Vec<u8>, session: u32, outcome: Result<Counts, Fault>)
 
 /// Appends the line that says that memory was refused.
 fn append_memory(out: &mut Vec<u8>, session: u32)
-    requires { HasShortRoom out.old }
+    requires { HasReplyRoom out.old }
     ensures { Replies out.old (reply_line (no_memory session)) out.new }
 {
     let mut line = [0; SHORT_LINE];
@@ -38,11 +40,13 @@ fn append_memory(out: &mut Vec<u8>, session: u32)
     let _ = out.extend_from_slice(&line[..len]);
 }
 
-/// Appends the line of the answer to a question, or that memory for it was refused.
+/// Appends the line of the answer to a question; or, where it is longer than the room that is
+/// there, that memory for it was refused.
 fn append_answer(out: &mut Vec<u8>, reply: &Reply<'_>)
-    requires { HasShortRoom out.old }
+    requires { HasReplyRoom out.old }
     ensures { Replies out.old (reply_line (reply_of reply.now)) out.new
-        ⊎ Replies out.old (reply_line (no_memory reply.now.session)) out.new }
+        ⊎ (Replies out.old (reply_line (no_memory reply.now.session)) out.new
+        × (131072 < length (reply_line (reply_of reply.now)))) }
 {
     match reply.write(out) {
         Ok(()) => {}
@@ -68,9 +72,11 @@ impl Machine for Broker {
 /// Answers a request of a session.
 fn answer_request(broker: &mut Broker, session: u32, request: &Request, out: &mut Vec<u8>)
     requires session { session ≢ 0 }
-    requires room { HasShortRoom out.old }
+    requires room { HasReplyRoom out.old }
     ensures { (reply : SaidReply)
         × Steps (library_at broker.old) session request.now reply (library_at broker.new)
+        × IsGrantedUnless (library_at broker.old) session request.now reply
+        (library_at broker.new)
         × Replies out.old (reply_line reply) out.new }
 {
     match request {
@@ -106,7 +112,10 @@ pub fn serve_bounded<S: Source, K: Sink>(
         (source.new ≡ source.old) × (sink.new ≡ sink.old) × (broker.new ≡ broker.old) }
     ensures pulls { PullsAtMost reads (S.pulled source.old) (S.pulled source.new) }
 {
-    answer_bounded(alloc, broker, source, sink, reads)
+    let Ok(mut run) = Run::new(alloc) else {
+        return Err(RunFault::Memory);
+    };
+    answer_bounded(&mut run, broker, source, sink, reads)
 }
 
 /// How many reads `serve` makes at most.

@@ -33,7 +33,7 @@ impl Model for Run {
 
     ghost view = { λ r. r.pending };
 
-    ghost invariant = { λ r. (65536 + 96 ≤ vec_capacity r.batch.bytes)
+    ghost invariant = { λ r. (65536 + 131072 ≤ vec_capacity r.batch.bytes)
         × (r.batch.bytes.items ≡ []) × (r.batch.waits ≡ false) × (vec_len r.chunk ≡ 65536) };
 }
 

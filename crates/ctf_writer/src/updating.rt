@@ -7,17 +7,17 @@ ghost use Rattle.ctf_model.specs.writing.Written.{lists_of, written};
 ghost use Rattle.ctf_writer.specs.Updating.{IsMadeOf};
 
 use crate::writing::write;
+use ctf_check::Judged;
 use ctf_draft::Draft;
 use ctf_model::{Bytes, DataModel, Fault, Parts, placeless};
-use ctf_space::Opened;
 use std::alloc::Global;
 use std::rc::Rc;
 
 /// The dictionary that bytes without a fault are.
-fn opened(alloc: Global, bytes: Vec<u8>, model: DataModel) -> Result<Rc<Opened>, Fault>
+fn judged(alloc: Global, bytes: Vec<u8>, model: DataModel) -> Result<Rc<Judged<'static>>, Fault>
     requires faultless { first_fault (lists_of bytes.items) ≡ None }
     ensures ok { IfOk result
-        (λ d. d.value ≡ record { lists = lists_of bytes.items; model = model }) }
+        (λ d. d.value.kept ≡ record { lists = lists_of bytes.items; model = model }) }
     ensures err { IfErr result (λ f. f ≡ want_of_memory) }
 {
     let parts = Parts {
@@ -25,7 +25,7 @@ fn opened(alloc: Global, bytes: Vec<u8>, model: DataModel) -> Result<Rc<Opened>,
         sym: None,
         strs: None,
     };
-    let dictionary = match Opened::build(alloc, parts, model) {
+    let dictionary = match Judged::build(alloc, parts, model) {
         Ok(dictionary) => dictionary,
         Err((fault, _)) => return Err(fault),
     };
@@ -48,7 +48,7 @@ pub fn update(alloc: Global, draft: &mut Draft) -> Result<(), Fault>
     ensures kept { OnErr result (draft.new ≡ draft.old) }
 {
     let bytes = write(alloc, draft)?;
-    let dictionary = opened(alloc, bytes, draft.model())?;
+    let dictionary = judged(alloc, bytes, draft.model())?;
     draft.settle(dictionary);
     Ok(())
 }

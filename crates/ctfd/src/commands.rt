@@ -3,7 +3,7 @@
 use crate::{dumping, serving};
 use clap::error::ErrorKind;
 use clap::{Arg, ArgMatches, Command, Error};
-use ctf_command::{MISUSED, RunFault, end, status_told};
+use ctf_command::{MISUSED, RunFault, end, usage_status};
 use std::alloc::{AllocError, Global};
 use std::{env, io};
 
@@ -110,7 +110,7 @@ fn tell(rt: &HostRuntime, error: &Error) -> u8 {
         return end(rt, Err(RunFault::Memory));
     }
     match error.print(rt) {
-        Ok(()) => status_told(error.kind()),
+        Ok(()) => usage_status(error.kind()),
         Err(_) => end(rt, Err(RunFault::Write)),
     }
 }

@@ -51,8 +51,8 @@ fn read_option<'a>(
     }
 }
 
-/// Reads the files, dumps them, and answers the exit status; an error where not all were read. Where
-/// the reader of the text has left, nothing is said, as by a program that SIGPIPE ends.
+/// Reads the files, dumps them, and answers the exit status; an error where not all were read.
+/// Where the reader of the text has left, nothing is said, as by a program that SIGPIPE ends.
 fn dump_files<'a>(
     rt: &HostRuntime,
     words: &ArgMatches<'a>,

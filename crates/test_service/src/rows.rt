@@ -5,10 +5,12 @@
 mod batches;
 mod bounds;
 mod calls;
+mod each_call;
 mod failures;
 mod first_run;
 mod loads;
 mod marks;
+mod names_run;
 mod noted;
 mod pools;
 mod reading;

@@ -3,9 +3,9 @@ use Rattle.core.specs.declared.alloc.Allocator.{Ghosts}
 use Rattle.std.specs.Prelude.{Option, Some, true}
 use Rattle.std.specs.Borrow.{Fml, Lends, LendsIf, MutBor, RattleType}
 use Rattle.std.proofs.Common.{refl}
-use Rattle.ctf_c.specs.declared.handles.slot.Slot.{Slot}
+use Rattle.ctf_c.specs.declared.handles.option_box.OptionBox.{OptionBox}
 use Rattle.ctf_c.specs.declared.handles.held.Held.{Held}
-use Rattle.ctf_c.specs.contracts.handles.slot.Slot.{the_row as slot_row}
+use Rattle.ctf_c.specs.contracts.handles.option_box.OptionBox.{the_row as box_row}
 use Rattle.ctf_c.specs.contracts.handles.held.Held.{the_row as held_row}
 
 -- the same place with another value
@@ -16,9 +16,9 @@ with_held h w = record { at = h.at; alloc = h.alloc; value = Some w }
 abbrev pub HeldLends : (R Z : RattleType) (g : Ghosts Z.Denot) → MutBor (Held R.Denot Z.Denot) → MutBor R.Denot → Fml
 HeldLends R Z g h r = Lends (held_row R Z g) R h r (with_held h.now)
 
-abbrev pub with_value : {X : Type 0} → Slot X → X → Slot X
+abbrev pub with_value : {X : Type 0} → OptionBox X → X → OptionBox X
 with_value s w = record { full = true; held = with_held s.held w; tells = refl }
 
--- the same of a slot, which stays as it is if it holds nothing
-abbrev pub SlotLends : (R : RattleType) → MutBor (Slot R.Denot) → Option (MutBor R.Denot) → Fml
-SlotLends R s r = LendsIf (slot_row R) R s r (with_value s.now) s.now
+-- the same of an optional box, which stays as it is if it holds nothing
+abbrev pub OptionBoxLends : (R : RattleType) → MutBor (OptionBox R.Denot) → Option (MutBor R.Denot) → Fml
+OptionBoxLends R s r = LendsIf (box_row R) R s r (with_value s.now) s.now

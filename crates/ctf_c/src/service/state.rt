@@ -4,7 +4,7 @@ ghost use Rattle.ctf_broker.specs.Table.{library_at};
 ghost use Rattle.ctf_protocol.specs.sessions.State.{empty_state};
 ghost use Rattle.ctf_wire.specs.Serving.{BrokerStep};
 
-use ctf_lines::{SHORT_LINE, Scratch};
+use ctf_lines::{SHORT_PASS, Scratch};
 use ctf_wire::{Broker, Machine};
 use std::alloc::{AllocError, Global};
 use std::marker::Model;
@@ -25,7 +25,7 @@ impl Model for Service {
 
     ghost view = { λ s. record { libraries = s.broker; reply = s.reply.items } };
 
-    ghost invariant = { λ s. 96 ≤ vec_capacity s.reply };
+    ghost invariant = { λ s. 131072 ≤ vec_capacity s.reply };
 }
 
 impl Service {
@@ -35,7 +35,7 @@ impl Service {
             → library_at s.libraries session ≡ empty_state) }
         ensures silent { IfOk result (λ s. s.reply ≡ []) }
     {
-        let reply = Vec::with_capacity(alloc, SHORT_LINE)?;
+        let reply = Vec::with_capacity(alloc, SHORT_PASS)?;
         Ok(Service {
             broker: Broker::new(alloc),
             scratch: Scratch::new(alloc),

@@ -1,7 +1,8 @@
 //! What a dictionary that breaks no rule answers.
 
-use crate::check::inputs::{EMPTY, INT, LABELLED, OUTER, changed, judge};
-use ctf_model::Kind;
+use crate::check::inputs::{EMPTY, INT, LABELLED, OUTER, alone, changed, judge};
+use ctf_check::Judged;
+use ctf_model::{DataModel, Fault, Kind, placeless};
 use std::test::Fail;
 
 /// `INT`'s record in long form.
@@ -67,7 +68,26 @@ fn answers_again(rt: HostRuntime) -> Result<(), Fail> {
     };
     assert!(rt; (record.index(), again.name(&record)) == (2, b"int".as_slice()));
     assert!(rt; (checked.count(), checked.term(2).is_some()) == (2, true));
-    assert!(rt; judged.into_parts().ctf.as_slice() == LABELLED.as_slice());
+    let Some(parts) = judged.into_parts() else {
+        panic!(rt; "its lists are its own")
+    };
+    assert!(rt; parts.ctf.as_slice() == LABELLED.as_slice());
+    Ok(())
+}
+
+/// A dictionary over lent lists answers as one that owns them, and has none to hand back.
+#[test]
+fn answers_of_lent_lists(rt: HostRuntime) -> Result<(), Fail> {
+    let Ok(judged) = Judged::lent(rt.alloc(), alone(&LABELLED), DataModel::Ilp32) else {
+        panic!(rt; "it breaks no rule")
+    };
+    let checked = judged.view();
+    assert!(rt; (checked.count(), checked.child(), checked.term(2).is_some()) == (2, false, true));
+    assert!(rt; checked.lists().ctf == LABELLED.as_slice());
+    assert!(rt; judged.model() == DataModel::Ilp32);
+    assert!(rt; judged.into_parts().is_none());
+    let refused = Judged::lent(rt.alloc(), alone(&LABELLED[..35]), DataModel::Ilp32).err();
+    assert!(rt; refused == Some(placeless(Fault::TOO_SHORT)));
     Ok(())
 }
 

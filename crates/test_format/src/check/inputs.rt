@@ -2,7 +2,7 @@
 
 use crate::check::framed;
 use ctf_check::{Judged, LentLists, check};
-use ctf_model::{Bytes, Parts};
+use ctf_model::{Bytes, DataModel, Parts};
 use std::alloc::{AllocError, Global};
 
 /// A header alone.
@@ -109,13 +109,13 @@ pub fn judge(
     ctf: &[u8],
     sym: Option<&[u8]>,
     strs: Option<&[u8]>,
-) -> Result<Option<Judged>, AllocError> {
+) -> Result<Option<Judged<'static>>, AllocError> {
     let parts = Parts {
         ctf: Bytes::from_slice(alloc, ctf)?,
         sym: copied(alloc, sym)?,
         strs: copied(alloc, strs)?,
     };
-    Ok(Judged::build(alloc, parts).ok())
+    Ok(Judged::build(alloc, parts, DataModel::Lp64).ok())
 }
 
 /// The code and the place of the fault of a dictionary, if it has one.

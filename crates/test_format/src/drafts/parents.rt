@@ -2,9 +2,9 @@
 ghost use Rattle.std.specs.Prelude.{◌≡◌, ◌==◌, false, length};
 
 use crate::drafts::making::{a_struct, add, put};
+use ctf_check::Judged;
 use ctf_draft::{Draft, NewBody, ReferenceKind};
 use ctf_model::{Bytes, DataModel, Fault, Parts, TypeNum, placeless};
-use ctf_space::Opened;
 use std::alloc::{AllocError, Global};
 use std::rc::Rc;
 
@@ -18,13 +18,13 @@ const PARENT: [u8; 73] = *b"\xf1\xcf\x02\x00\
     \x00\x00\x00\x00\x00\x0c\x01\x00\x08\x00\x00\x01\
     \x00int\x00";
 
-fn opened(alloc: Global, model: DataModel) -> Result<Rc<Opened>, AllocError> {
+fn opened(alloc: Global, model: DataModel) -> Result<Rc<Judged<'static>>, AllocError> {
     let parts = Parts {
         ctf: Bytes::from_slice(alloc, PARENT.as_slice())?,
         sym: None,
         strs: None,
     };
-    match Opened::build(alloc, parts, model) {
+    match Judged::build(alloc, parts, model) {
         Ok(dictionary) => Ok(Rc::new(alloc, dictionary)?),
         Err(_) => Err(AllocError),
     }

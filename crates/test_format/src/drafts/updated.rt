@@ -1,9 +1,9 @@
 //! What an update makes of a draft, and what it leaves.
 
 use crate::drafts::making::{a_struct, add, fresh, integer, named};
+use ctf_check::Judged;
 use ctf_draft::Draft;
 use ctf_model::{Bytes, DataModel, Fault, Parts, TypeNum, placeless};
-use ctf_space::Opened;
 use ctf_writer::{update, write};
 use std::alloc::Global;
 use std::rc::Rc;
@@ -32,7 +32,12 @@ fn settle(alloc: Global, draft: &mut Draft) -> Result<(), Fault> {
         sym: None,
         strs: None,
     };
-    let Ok(dictionary) = Opened::build(alloc, parts, draft.model()) else {
+    let judged: Result<Judged<'static>, (Fault, Parts)> = Judged::build(
+        alloc,
+        parts,
+        draft.model(),
+    );
+    let Ok(dictionary) = judged else {
         return Err(placeless(Fault::MEMORY));
     };
     match Rc::new(alloc, dictionary) {

@@ -1,15 +1,16 @@
 //! A dump of a space.
 
 use crate::values::inputs::{dictionary, opened};
+use ctf_check::Judged;
 use ctf_dump::dump;
 use ctf_layout::Layout;
 use ctf_model::DataModel;
-use ctf_space::{Opened, Space};
+use ctf_space::Space;
 use std::alloc::{AllocError, Global};
 use std::test::Fail;
 
 /// Whether the dump of a dictionary by itself is this text.
-fn dumps(alloc: Global, kept: &Opened, text: &str) -> Result<bool, AllocError> {
+fn dumps(alloc: Global, kept: &Judged<'_>, text: &str) -> Result<bool, AllocError> {
     let space = Space::own(kept.view(), DataModel::Lp64);
     let layout = Layout::build(alloc, &space)?;
     let mut out = Vec::new(alloc);

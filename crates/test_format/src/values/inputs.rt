@@ -1,10 +1,11 @@
 //! Dictionaries, and how the tests show their values.
 
 use crate::values::put_body;
+use ctf_check::Judged;
 use ctf_layout::Layout;
 use ctf_model::{Bytes, DataModel, Parts, TypeNum, fault_name};
 use ctf_print::show;
-use ctf_space::{Opened, Space};
+use ctf_space::Space;
 use std::alloc::{AllocError, Global};
 
 /// 1 int, 2 char, 3 a struct of a char `c` and an int `i`, 4 three bits behind six, 5 an enum with
@@ -62,13 +63,17 @@ pub fn unions(alloc: Global) -> Result<Vec<u8>, AllocError> {
     dictionary(alloc, 0, &types, 12_300, b"\0int\0", 5)
 }
 
-pub fn opened(alloc: Global, ctf: Vec<u8>, model: DataModel) -> Result<Opened, AllocError> {
+pub fn opened(
+    alloc: Global,
+    ctf: Vec<u8>,
+    model: DataModel,
+) -> Result<Judged<'static>, AllocError> {
     let parts = Parts {
         ctf: Bytes::from(ctf),
         sym: None,
         strs: None,
     };
-    match Opened::build(alloc, parts, model) {
+    match Judged::build(alloc, parts, model) {
         Ok(dictionary) => Ok(dictionary),
         Err(_) => Err(AllocError),
     }

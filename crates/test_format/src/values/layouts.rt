@@ -1,9 +1,10 @@
 //! Layouts by their public calls: what they cost, and pointers of another data model.
 
 use crate::values::inputs::{opened, unions};
+use ctf_check::Judged;
 use ctf_layout::Layout;
 use ctf_model::{DataModel, Fault, TypeNum, placeless};
-use ctf_space::{Opened, Space};
+use ctf_space::Space;
 use std::alloc::{AllocError, Global};
 use std::test::Fail;
 
@@ -29,7 +30,11 @@ pub const CHILD: &[u8] = b"\xf1\xcf\x02\x00\
     \x00p\x00";
 
 /// The dictionary of these bytes.
-pub fn of_bytes(alloc: Global, ctf: &[u8], model: DataModel) -> Result<Opened, AllocError> {
+pub fn of_bytes(
+    alloc: Global,
+    ctf: &[u8],
+    model: DataModel,
+) -> Result<Judged<'static>, AllocError> {
     opened(alloc, Vec::from_slice(alloc, ctf)?, model)
 }
 

@@ -1,9 +1,10 @@
 //! A look-up of a name that many have, by the public call.
 
 use crate::values::inputs::{dictionary, opened};
+use ctf_check::Judged;
 use ctf_model::{DataModel, Fault, placeless};
 use ctf_names::{NameIndex, find};
-use ctf_space::{Opened, Space};
+use ctf_space::Space;
 use std::alloc::{AllocError, Global};
 use std::test::Fail;
 
@@ -13,7 +14,7 @@ const COUNT: u32 = 32_766;
 const LENGTH: u32 = 8_000_000;
 
 /// Structs whose names are the ends of two texts of one length and one letter.
-fn overlapping(alloc: Global) -> Result<Opened, AllocError> {
+fn overlapping(alloc: Global) -> Result<Judged<'static>, AllocError> {
     let mut types = Vec::new(alloc);
     for i in 0..COUNT {
         let start = if i % 2 == 0 { 1 } else { LENGTH + 2 };

@@ -2,8 +2,7 @@
 
 use crate::serving::served_by;
 use ctf_protocol::{Bytes, DataModel, Fault, Parts, PublicationName, placeless};
-use ctf_space::Opened;
-use ctf_wire::Broker;
+use ctf_wire::{Broker, Loaded};
 use std::alloc::{AllocError, Global};
 use std::test::Fail;
 
@@ -33,13 +32,13 @@ const REPLIES: &str = "{\"ok\":{\"d\":1,\"types\":1},\"s\":1}\n\
     {\"ok\":{\"d\":1,\"types\":1},\"s\":3}\n";
 
 /// The dictionary of a list.
-fn opened(alloc: Global, ctf: &[u8]) -> Result<Opened, AllocError> {
+fn opened(alloc: Global, ctf: &[u8]) -> Result<Loaded, AllocError> {
     let parts = Parts {
         ctf: Bytes::from_slice(alloc, ctf)?,
         sym: None,
         strs: None,
     };
-    match Opened::build(alloc, parts, DataModel::Lp64) {
+    match Loaded::build(alloc, parts, DataModel::Lp64) {
         Ok(dictionary) => Ok(dictionary),
         Err(_) => Err(AllocError),
     }

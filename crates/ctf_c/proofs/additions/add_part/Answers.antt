@@ -5,4 +5,4 @@ use Rattle.ctf_c.proofs.NotOpen.{no_step}
 use Rattle.ctf_c.proofs.additions.add_part.Goals as goal
 
 pub returns-in_default : goal.returns-in_default
-returns-in_default c = no_step (enlarged (part_in c.args.part)) _ _ _ (sym (c.in_default.ensures.value ∙ c.slot.ensures.same)) (sym c.in_default.ensures.value)
+returns-in_default c = no_step (enlarged (part_in c.args.part)) _ _ _ (sym (c.in_default.ensures.value ∙ c.option_box.ensures.same)) (sym c.in_default.ensures.value)

@@ -34,29 +34,29 @@ returns-in_err-parent-in-Some-clause-begun g c =
 
 pub returns-in-None-clause-written : goal.returns-in-None-clause-written
 returns-in-None-clause-written g c =
-    let same : space_of c.own-in-None.result ≡ space_in c.args.inputs = rw (c.in-None.is, c.own-in-None.ensures.space, c.view.ensures, c.in_ok-own.ensures.ok) refl in
+    let same : space_of c.own-in-None.result ≡ space_in c.args.inputs.now = rw (c.in-None.is, c.own-in-None.ensures.space, c.view.ensures, c.model.ensures, c.in_ok-own.ensures.ok) refl in
     subst (λ (s : Space). OnOk c.dump_space.result (Appends (g.W.Write.contents c.args.out.now) (g.W.Write.contents c.dump_space.new.out) (dump s))) same c.dump_space.ensures.written
 
 pub returns-in-None-clause-begun : goal.returns-in-None-clause-begun
 returns-in-None-clause-begun g c =
-    let same : space_of c.own-in-None.result ≡ space_in c.args.inputs = rw (c.in-None.is, c.own-in-None.ensures.space, c.view.ensures, c.in_ok-own.ensures.ok) refl in
+    let same : space_of c.own-in-None.result ≡ space_in c.args.inputs.now = rw (c.in-None.is, c.own-in-None.ensures.space, c.view.ensures, c.model.ensures, c.in_ok-own.ensures.ok) refl in
     subst (λ (s : Space). IfErr c.dump_space.result (λ e. e ≡ Memory → HasBegun (g.W.Write.contents c.args.out.now) (g.W.Write.contents c.dump_space.new.out) (dump s))) same c.dump_space.ensures.begun
 
 pub returns-clause-written : goal.returns-clause-written
 returns-clause-written g c =
-    let same = over_is c.args.inputs c.in-Some.file c.in-Some.is in
+    let same = over_is c.args.inputs.now c.in-Some.file c.in-Some.is in
     let told = rw (c.in_ok-own.ensures.ok, c.in_ok-parent-in-Some.ensures.ok) at c.dump_over.ensures.written in
     subst (λ (s : Space). OnOk c.dump_over.result (Appends (g.W.Write.contents c.args.out.now) (g.W.Write.contents c.dump_over.new.out) (dump s))) same told
 
 pub returns-clause-begun : goal.returns-clause-begun
 returns-clause-begun g c =
-    let same = over_is c.args.inputs c.in-Some.file c.in-Some.is in
+    let same = over_is c.args.inputs.now c.in-Some.file c.in-Some.is in
     let told = rw (c.in_ok-own.ensures.ok, c.in_ok-parent-in-Some.ensures.ok) at c.dump_over.ensures.begun in
     subst (λ (s : Space). IfErr c.dump_over.result (λ e. e ≡ Memory → HasBegun (g.W.Write.contents c.args.out.now) (g.W.Write.contents c.dump_over.new.out) (dump s))) same told
 
 pub returns-clause-exact_ok : goal.returns-clause-exact_ok
 returns-clause-exact_ok g c =
-    let i = c.args.inputs in
+    let i = c.args.inputs.now in
     let same = refusal_is i c.in-Some.file c.in-Some.is c.in_ok-own.ensures.exact_ok c.in_ok-parent-in-Some.ensures.exact_ok in
     let told = rw (c.in_ok-own.ensures.ok, c.in_ok-parent-in-Some.ensures.ok) at c.dump_over.ensures.exact_ok in
     subst (λ (r : Option Refusal). OnOk c.dump_over.result (r ≡ None)) same
@@ -64,6 +64,6 @@ returns-clause-exact_ok g c =
 
 pub returns-clause-exact_err : goal.returns-clause-exact_err
 returns-clause-exact_err g c =
-    let same = refusal_is c.args.inputs c.in-Some.file c.in-Some.is c.in_ok-own.ensures.exact_ok c.in_ok-parent-in-Some.ensures.exact_ok in
+    let same = refusal_is c.args.inputs.now c.in-Some.file c.in-Some.is c.in_ok-own.ensures.exact_ok c.in_ok-parent-in-Some.ensures.exact_ok in
     let told = rw (c.in_ok-own.ensures.ok, c.in_ok-parent-in-Some.ensures.ok) at c.dump_over.ensures.exact_err in
     subst (λ (r : Option Refusal). IfErr c.dump_over.result (λ e. EndsBy r e)) same told

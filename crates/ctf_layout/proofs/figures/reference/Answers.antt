@@ -1,9 +1,9 @@
 use Rattle.std.proofs.Common.{sym, ap, ◌∙◌}
 use Rattle.ctf_model.specs.figures.Figures.{referred_by}
-use Rattle.ctf_check.specs.FactsView.{shape_seen}
+use Rattle.ctf_check.specs.FactsView.{shape_view}
 use Rattle.ctf_check.specs.TypedView.{spelled}
 use Rattle.ctf_layout.proofs.Follow.{referred_shape}
 use Rattle.ctf_layout.proofs.figures.reference.Goals as goal
 
 pub returns-in-Ok : goal.returns-in-Ok
-returns-in-Ok c = c.referred.ensures ∙ sym (referred_shape (spelled c.in-Ok.found) (shape_seen c.shape.result) c.shape.ensures) ∙ ap referred_by (rw c.in-Ok.is at c.term.ensures)
+returns-in-Ok c = c.referred.ensures ∙ sym (referred_shape (spelled c.in-Ok.found) (shape_view c.shape.result) c.shape.ensures) ∙ ap referred_by (rw c.in-Ok.is at c.term.ensures)

@@ -1,6 +1,6 @@
 use Rattle.std.proofs.Common.{◌+◌, ◌++◌, List, drop, arith, ap, sym, ◌∙◌, Some}
 use Rattle.std.specs.Option.{option_map}
-use Rattle.ctf_json.specs.Told.{items_said as items_view}
+use Rattle.ctf_json.specs.Told.{items_view}
 use Rattle.ctf_protocol.specs.lines.AskAdditions.{type_said, types_said}
 use Rattle.ctf_model.specs.declared.numbers.TypeNum.{TypeNum}
 use Rattle.ctf_lines.proofs.SaidItems.{next_said, none_said, all_said}

@@ -1,6 +1,6 @@
 use Rattle.std.proofs.Common.{◌≡◌, ◌≤◌, ◌++◌, drop, length, vec_len, vec_capacity}
 use Rattle.std.specs.Option.{option_map}
-use Rattle.ctf_json.specs.Told.{items_said as items_view}
+use Rattle.ctf_json.specs.Told.{items_view}
 use Rattle.ctf_protocol.specs.lines.AskAdditions.{types_said}
 use Rattle.ctf_lines.proofs.additions.types_said.Given as goal
 

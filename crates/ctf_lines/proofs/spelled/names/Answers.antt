@@ -1,7 +1,7 @@
 use Rattle.std.proofs.Common.{◌+◌, ◌++◌, List, ℕ, drop, arith, ap, sym, ◌∙◌}
 use Rattle.std.specs.Prelude.{option_and_then}
 use Rattle.std.specs.Option.{option_map}
-use Rattle.ctf_json.specs.Told.{items_said as items_view}
+use Rattle.ctf_json.specs.Told.{items_view}
 use Rattle.ctf_protocol.specs.lines.LineFields.{name_spelled, names_spelled, not_too_many_names}
 use Rattle.ctf_lines.proofs.SaidItems.{next_said, none_said, all_said}
 use Rattle.ctf_lines.proofs.spelled.names.Goals as goal

@@ -1,6 +1,6 @@
 use Rattle.std.proofs.Common.{◌≡◌, ◌≤◌, ◌++◌, drop, length, vec_len, vec_capacity}
 use Rattle.std.specs.Option.{option_map}
-use Rattle.ctf_json.specs.Told.{items_said as items_view}
+use Rattle.ctf_json.specs.Told.{items_view}
 use Rattle.ctf_protocol.specs.lines.LineFields.{names_spelled}
 use Rattle.ctf_lines.proofs.spelled.names.Given as goal
 

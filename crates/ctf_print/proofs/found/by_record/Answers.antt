@@ -1,5 +1,5 @@
 use Rattle.std.proofs.Common.{◌≡◌, ◌-◌, ◌∙◌, sym, ap, arith}
-use Rattle.ctf_check.specs.FactsView.{shape_seen}
+use Rattle.ctf_check.specs.FactsView.{shape_view}
 use Rattle.ctf_check.specs.TypedView.{spelled}
 use Rattle.ctf_model.specs.figures.Figures.{incomplete}
 use Rattle.ctf_model.specs.values.Pieces.{ends}
@@ -18,9 +18,9 @@ returns-then-nesting-eq0-clause-fault c p =
 
 pub returns-in-Ok-clause-found : goal.returns-in-Ok-clause-found
 returns-in-Ok-clause-found c = record {
-  told = told_is (types_of c.args.image.now) c.args.number.0 (spelled c.in-Ok.found) (shape_seen c.shape.result) (rw c.in-Ok.is at c.term.ensures) c.shape.ensures ∙ sym c.told_by.ensures;
+  told = told_is (types_of c.args.image.now) c.args.number.0 (spelled c.in-Ok.found) (shape_view c.shape.result) (rw c.in-Ok.is at c.term.ensures) c.shape.ensures ∙ sym c.told_by.ensures;
   fewer = omega (arith, c.if-nesting-eq0.false);
-  shown = λ p. type_shown (types_of c.args.image.now) (memory_of c.args.image.now) c.args.nesting c.args.number.0 p (spelled c.in-Ok.found) (shape_seen c.shape.result) c.if-nesting-eq0.false c.if-number-eq0.false (rw c.in-Ok.is at c.term.ensures) c.shape.ensures ∙ ap (told_shown (types_of c.args.image.now) (memory_of c.args.image.now) (shows c.args.image.now (c.args.nesting - 1)) p) (sym c.told_by.ensures);
+  shown = λ p. type_shown (types_of c.args.image.now) (memory_of c.args.image.now) c.args.nesting c.args.number.0 p (spelled c.in-Ok.found) (shape_view c.shape.result) c.if-nesting-eq0.false c.if-number-eq0.false (rw c.in-Ok.is at c.term.ensures) c.shape.ensures ∙ ap (told_shown (types_of c.args.image.now) (memory_of c.args.image.now) (shows c.args.image.now (c.args.nesting - 1)) p) (sym c.told_by.ensures);
 }
 
 pub returns-in-Err-clause-fault : goal.returns-in-Err-clause-fault

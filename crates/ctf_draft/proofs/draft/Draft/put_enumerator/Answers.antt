@@ -26,7 +26,7 @@ pub returns-clause-as_before : goal.returns-clause-as_before
 returns-clause-as_before c =
     let d = c.self.inside in
     let parent = parent_in d.parent in
-    on_err_weaker c.push_enumerator.result (λ same. ap (λ (e : Draft). let o : Owned = record { draft = e; dictionary = option_map (λ p. p.value) d.dictionary } in o) (left_here d.parname d.parlabel parent d.model d.updated d.updated_labels d.types.items d.labels c.args.n.0 c.args.i c.index_mut.result.now c.index_mut.ensures.value (omega (arith, c.self.invariant.0, d.types.ok.0)) c.args.self.now.draft (ap (λ o. o.draft) c.self.view_is) c.requires.pending c.push_enumerator.new.to same) ∙ c.self.view_is) c.push_enumerator.ensures.as_before
+    on_err_weaker c.push_enumerator.result (λ same. ap (λ (e : Draft). let o : Owned = record { draft = e; dictionary = option_map (λ p. p.value.kept) d.dictionary } in o) (left_here d.parname d.parlabel parent d.model d.updated d.updated_labels d.types.items d.labels c.args.n.0 c.args.i c.index_mut.result.now c.index_mut.ensures.value (omega (arith, c.self.invariant.0, d.types.ok.0)) c.args.self.now.draft (ap (λ o. o.draft) c.self.view_is) c.requires.pending c.push_enumerator.new.to same) ∙ c.self.view_is) c.push_enumerator.ensures.as_before
 
 pub invariant_of-self : goal.invariant_of-self
 invariant_of-self c =

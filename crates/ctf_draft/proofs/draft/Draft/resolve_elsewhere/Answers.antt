@@ -11,7 +11,7 @@ pub returns-in-Some : goal.returns-in-Some
 returns-in-Some c =
     let d = c.args.self.now.draft in
     let model = c.self.inside.model in
-    let p = said_by c.in-Some.parent.now.opened.value.lists in
+    let p = said_by c.in-Some.parent.now.judged.value.kept.lists in
     let h = rw c.in-Some.is at c.parent_of.ensures in
-    let same : space_of c.own.result ≡ alone p model = c.own.ensures.space ∙ ap (λ (l : Lists). alone (said_by l) model) (c.view.ensures ∙ ap (λ k. k.lists) c.deref.ensures) in
+    let same : space_of c.own.result ≡ alone p model = c.own.ensures.space ∙ ap (λ (l : Lists). alone (said_by l) model) (c.view.ensures ∙ ap (λ k. k.kept.lists) c.deref.ensures) in
     λ k. c.resolve.ensures ∙ ap (λ (s : Space). resolved s c.args.n.0) same ∙ sym (parents_step d p model resolving k c.args.n.0 h.index h.is h.at)

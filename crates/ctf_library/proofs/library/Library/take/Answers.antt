@@ -29,7 +29,7 @@ invariant_of-self-2 c =
     let count = c.bytes-bytes.ensures.count in
     let pushed = c.push_slot.ensures.bytes in
     let slot : slot_bytes (slot_of c.of.result) ≡ kept_bytes c.in-Some.loaded + 0 = ap slot_bytes c.of.ensures in
-    let items : bytes_in c.reserve.new.self.items ≡ bytes_in c.self.inside.slots.items = ap bytes_in c.reserve.ensures.items in
+    let items : bytes_in c.reserve_exact.new.self.items ≡ bytes_in c.self.inside.slots.items = ap bytes_in c.reserve_exact.ensures.items in
     let was = c.self.invariant.2.slots in
     (search rules, search rules, record { slots = omega (arith, pushed, slot, items, was, count); published = c.self.invariant.2.published; small = omega (arith, le, charged) })
 

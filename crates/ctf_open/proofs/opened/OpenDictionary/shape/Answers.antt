@@ -1,6 +1,6 @@
 use Rattle.std.proofs.Common.{ap, ◌∙◌}
 use Rattle.ctf_model.specs.opened.Questions.{shape_of}
-use Rattle.ctf_check.specs.FactsView.{shape_seen}
+use Rattle.ctf_check.specs.FactsView.{shape_view}
 use Rattle.ctf_check.specs.TypedView.{spelled}
 use Rattle.ctf_model.specs.spaces.Space.{space_type}
 use Rattle.ctf_open.proofs.ByShape.{shape_known}
@@ -8,5 +8,5 @@ use Rattle.ctf_open.proofs.opened.OpenDictionary.shape.Goals as goal
 
 pub returns-in-Ok : goal.returns-in-Ok
 returns-in-Ok c =
-    shape_known (spelled c.in-Ok.found) (shape_seen c.shape.result) c.shape.ensures
+    shape_known (spelled c.in-Ok.found) (shape_view c.shape.result) c.shape.ensures
     ∙ (ap (λ r. shape_of r) c.in-Ok.ensures ∙ ap (λ s. shape_of (space_type s c.args.t.0)) c.space.ensures.space)

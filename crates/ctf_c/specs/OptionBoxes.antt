@@ -1,0 +1,31 @@
+-- A handle is an optional box for a session.
+use denote.RattleType.{RattleType}
+use Rattle.std.specs.Borrow.{Fml, Lends, MutBor}
+use Rattle.ctf_c.specs.declared.handles.option_box.OptionBox.{OptionBox}
+use Rattle.ctf_c.specs.contracts.handles.option_box.OptionBox as OptionBoxes
+use Rattle.ctf_model.specs.opened.Open.{Open}
+use Rattle.ctf_c.specs.declared.handle.Handle.{Handle}
+use Rattle.ctf_c.specs.contracts.handle.Handle as Handles
+use Rattle.ctf_open.specs.contracts.opened.OpenDictionary as Sessions
+
+-- the row of such a box
+abbrev pub box_row : RattleType
+box_row = OptionBoxes.the_row Sessions.the_row
+
+abbrev pub as_option_box : Handle → OptionBox Open
+as_option_box h = record {
+  full = h.full;
+  held = record { at = h.held.at; alloc = h.held.alloc; value = h.held.session };
+  tells = h.tells;
+}
+
+abbrev pub as_handle : OptionBox Open → Handle
+as_handle s = record {
+  full = s.full;
+  held = record { at = s.held.at; alloc = s.held.alloc; session = s.held.value };
+  tells = s.tells;
+}
+
+-- what the box holds at the end is open
+abbrev pub HandleLends : MutBor Handle → MutBor (OptionBox Open) → Fml
+HandleLends h r = Lends Handles.the_row box_row h r as_handle
