@@ -11,9 +11,10 @@ ghost use Rattle.ctf_records.specs.RecordView.{tag_of as tag_shown};
 
 use crate::given::{NOT_OPEN, status};
 use crate::handle::Handle;
+use crate::handles::OptionBox;
 use ctf_draft::{AggregateKind, NewBody, ReferenceKind, ScalarKind};
 use ctf_model::{Fault, TypeNum, placeless};
-use ctf_open::Part;
+use ctf_open::{OpenDictionary, Part};
 use ctf_records::Tag;
 use ctf_views::{ArrayInfo, Encoding};
 use std::alloc::{AllocError, Global};
@@ -21,17 +22,17 @@ use std::alloc::{AllocError, Global};
 /// Adds a type to the draft that is open, and gives its number.
 fn add(
     alloc: Global,
-    handle: &mut Handle,
+    open: &mut OptionBox<OpenDictionary>,
     name: &[u8],
     root: bool,
     body: NewBody,
     out: &mut u16,
 ) -> u32
-    ensures { Steps (asked handle.old.held.session
+    ensures { Steps (asked open.old.held.value
         (type_added (record { name = name.now; root = root; body = new_body_of body })))
-        result out.old out.new handle.old.held.session handle.new.held.session }
+        result out.old out.new open.old.held.value open.new.held.value }
 {
-    let Some(session) = handle.option_box().get_mut() else {
+    let Some(session) = open.get_mut() else {
         return NOT_OPEN;
     };
     match session.add(alloc, name, root, body) {
@@ -44,11 +45,16 @@ fn add(
 }
 
 /// Adds to the draft that is open, and gives what is answered.
-fn add_part(alloc: Global, handle: &mut Handle, part: Part<'_>, out: &mut u64) -> u32
-    ensures { Steps (asked handle.old.held.session (enlarged (part_in part.entry))) result
-        out.old out.new handle.old.held.session handle.new.held.session }
+fn add_part(
+    alloc: Global,
+    open: &mut OptionBox<OpenDictionary>,
+    part: Part<'_>,
+    out: &mut u64,
+) -> u32
+    ensures { Steps (asked open.old.held.value (enlarged (part_in part.entry))) result
+        out.old out.new open.old.held.value open.new.held.value }
 {
-    let Some(session) = handle.option_box().get_mut() else {
+    let Some(session) = open.get_mut() else {
         return NOT_OPEN;
     };
     match session.add_part(alloc, part) {
@@ -90,7 +96,7 @@ pub extern "C" fn ctfd_add_integer(
         bits,
     };
     let body = NewBody::Scalar(ScalarKind::Integer, size, encoding);
-    add(alloc, handle, name, root, body, out)
+    add(alloc, handle.option_box(), name, root, body, out)
 }
 
 /// Adds a float, and gives its number.
@@ -118,7 +124,7 @@ pub extern "C" fn ctfd_add_float(
         bits,
     };
     let body = NewBody::Scalar(ScalarKind::Float, size, encoding);
-    add(alloc, handle, name, root, body, out)
+    add(alloc, handle.option_box(), name, root, body, out)
 }
 
 /// Adds a pointer to a type; 0 is void, and gives its number.
@@ -136,7 +142,7 @@ pub extern "C" fn ctfd_add_pointer(
         result out.old out.new handle.old.held.session handle.new.held.session }
 {
     let body = NewBody::Reference(ReferenceKind::Pointer, TypeNum(to));
-    add(alloc, handle, name, root, body, out)
+    add(alloc, handle.option_box(), name, root, body, out)
 }
 
 /// Adds a typedef of a type, and gives its number.
@@ -154,7 +160,7 @@ pub extern "C" fn ctfd_add_typedef(
         result out.old out.new handle.old.held.session handle.new.held.session }
 {
     let body = NewBody::Reference(ReferenceKind::Typedef, TypeNum(to));
-    add(alloc, handle, name, root, body, out)
+    add(alloc, handle.option_box(), name, root, body, out)
 }
 
 /// Adds a volatile type, and gives its number.
@@ -172,7 +178,7 @@ pub extern "C" fn ctfd_add_volatile(
         result out.old out.new handle.old.held.session handle.new.held.session }
 {
     let body = NewBody::Reference(ReferenceKind::Volatile, TypeNum(to));
-    add(alloc, handle, name, root, body, out)
+    add(alloc, handle.option_box(), name, root, body, out)
 }
 
 /// Adds a const type, and gives its number.
@@ -190,7 +196,7 @@ pub extern "C" fn ctfd_add_const(
         result out.old out.new handle.old.held.session handle.new.held.session }
 {
     let body = NewBody::Reference(ReferenceKind::Const, TypeNum(to));
-    add(alloc, handle, name, root, body, out)
+    add(alloc, handle.option_box(), name, root, body, out)
 }
 
 /// Adds a restrict type, and gives its number.
@@ -208,7 +214,7 @@ pub extern "C" fn ctfd_add_restrict(
         result out.old out.new handle.old.held.session handle.new.held.session }
 {
     let body = NewBody::Reference(ReferenceKind::Restrict, TypeNum(to));
-    add(alloc, handle, name, root, body, out)
+    add(alloc, handle.option_box(), name, root, body, out)
 }
 
 /// Adds an array, and gives its number.
@@ -236,7 +242,7 @@ pub extern "C" fn ctfd_add_array(
         index: TypeNum(index),
         count,
     });
-    add(alloc, handle, name, root, body, out)
+    add(alloc, handle.option_box(), name, root, body, out)
 }
 
 /// Adds a struct without members yet, and gives its number.
@@ -254,7 +260,7 @@ pub extern "C" fn ctfd_add_struct(
         result out.old out.new handle.old.held.session handle.new.held.session }
 {
     let body = NewBody::Aggregate(AggregateKind::Struct, size);
-    add(alloc, handle, name, root, body, out)
+    add(alloc, handle.option_box(), name, root, body, out)
 }
 
 /// Adds a union without members yet, and gives its number.
@@ -272,7 +278,7 @@ pub extern "C" fn ctfd_add_union(
         result out.old out.new handle.old.held.session handle.new.held.session }
 {
     let body = NewBody::Aggregate(AggregateKind::Union, size);
-    add(alloc, handle, name, root, body, out)
+    add(alloc, handle.option_box(), name, root, body, out)
 }
 
 /// Adds an enum without enumerators yet, and gives its number.
@@ -289,7 +295,7 @@ pub extern "C" fn ctfd_add_enum(
         (type_added (record { name = name.now; root = root; body = new.enum size })))
         result out.old out.new handle.old.held.session handle.new.held.session }
 {
-    add(alloc, handle, name, root, NewBody::Enum(size), out)
+    add(alloc, handle.option_box(), name, root, NewBody::Enum(size), out)
 }
 
 /// Adds a type of no known kind, and gives its number.
@@ -305,7 +311,7 @@ pub extern "C" fn ctfd_add_unknown(
         (type_added (record { name = name.now; root = root; body = new.unknown })))
         result out.old out.new handle.old.held.session handle.new.held.session }
 {
-    add(alloc, handle, name, root, NewBody::Unknown, out)
+    add(alloc, handle.option_box(), name, root, NewBody::Unknown, out)
 }
 
 /// Numbers of types.
@@ -339,7 +345,7 @@ pub extern "C" fn ctfd_add_function(
         return status(placeless(Fault::MEMORY));
     };
     let body = NewBody::Function(TypeNum(ret), args);
-    add(alloc, handle, name, root, body, out)
+    add(alloc, handle.option_box(), name, root, body, out)
 }
 
 /// What a number says that a forward declares: 6 for a struct, 7 for a union, 8 for an enum.
@@ -369,7 +375,7 @@ pub extern "C" fn ctfd_add_forward(
         out.old out.new handle.old.held.session handle.new.held.session }
 {
     match tag_of(tag) {
-        Some(tag) => add(alloc, handle, name, root, NewBody::Forward(tag), out),
+        Some(tag) => add(alloc, handle.option_box(), name, root, NewBody::Forward(tag), out),
         None => status(placeless(Fault::WRONG_KIND)),
     }
 }
@@ -400,7 +406,7 @@ pub extern "C" fn ctfd_add_member(
 {
     let offset = number_if(has_offset, offset);
     let part = Part::Member(TypeNum(t), name, TypeNum(tnum), offset);
-    add_part(alloc, handle, part, out)
+    add_part(alloc, handle.option_box(), part, out)
 }
 
 /// Adds an enumerator to an enum that was added since the last update.
@@ -419,7 +425,7 @@ pub extern "C" fn ctfd_add_enumerator(
     let mut none = 0;
     add_part(
         alloc,
-        handle,
+        handle.option_box(),
         Part::Enumerator(TypeNum(t), name, value),
         &mut none,
     )
@@ -433,5 +439,5 @@ pub extern "C" fn ctfd_add_label(alloc: Global, handle: &mut Handle, name: &[u8]
         result handle.old.held.session handle.new.held.session }
 {
     let mut none = 0;
-    add_part(alloc, handle, Part::Label(name, last), &mut none)
+    add_part(alloc, handle.option_box(), Part::Label(name, last), &mut none)
 }

@@ -7,6 +7,7 @@ ghost use Rattle.ctf_model.specs.rules.Refusals.{want_of_memory};
 
 use crate::given::{NOT_OPEN, model_of, session_of, status, write_front};
 use crate::handle::Handle;
+use crate::handles::OptionBox;
 use ctf_model::{DataModel, Fault, placeless};
 use ctf_open::{Loaded, OpenDictionary};
 use std::alloc::Global;
@@ -108,19 +109,17 @@ pub extern "C" fn ctfd_create_child(
     }
 }
 
-/// Makes all that was added part of the dictionary, and gives how many types that has. Where it is
-/// refused, `place` says where, and nothing changes.
-#[unsafe(no_mangle)]
-pub extern "C" fn ctfd_update(
+/// Updates the draft that is open.
+fn update(
     alloc: Global,
-    handle: &mut Handle,
+    open: &mut OptionBox<OpenDictionary>,
     types: &mut u64,
     place: &mut u64,
 ) -> u32
-    ensures { StepsAt (asked handle.old.held.session updated) result types.old types.new
-        place.old place.new handle.old.held.session handle.new.held.session }
+    ensures { StepsAt (asked open.old.held.value updated) result types.old types.new
+        place.old place.new open.old.held.value open.new.held.value }
 {
-    let Some(session) = handle.option_box().get_mut() else {
+    let Some(session) = open.get_mut() else {
         *place = 0;
         return NOT_OPEN;
     };
@@ -136,13 +135,27 @@ pub extern "C" fn ctfd_update(
     }
 }
 
-/// Drops what was added since the last update, and gives how many types the dictionary has.
+/// Makes all that was added part of the dictionary, and gives how many types that has. Where it is
+/// refused, `place` says where, and nothing changes.
 #[unsafe(no_mangle)]
-pub extern "C" fn ctfd_discard(handle: &mut Handle, types: &mut u64) -> u32
-    ensures { Does (asked handle.old.held.session dropped) result types.old types.new
-        handle.old.held.session handle.new.held.session }
+pub extern "C" fn ctfd_update(
+    alloc: Global,
+    handle: &mut Handle,
+    types: &mut u64,
+    place: &mut u64,
+) -> u32
+    ensures { StepsAt (asked handle.old.held.session updated) result types.old types.new
+        place.old place.new handle.old.held.session handle.new.held.session }
 {
-    let Some(session) = handle.option_box().get_mut() else {
+    update(alloc, handle.option_box(), types, place)
+}
+
+/// Drops what the draft that is open has pending.
+fn discard(open: &mut OptionBox<OpenDictionary>, types: &mut u64) -> u32
+    ensures { Does (asked open.old.held.value dropped) result types.old types.new
+        open.old.held.value open.new.held.value }
+{
+    let Some(session) = open.get_mut() else {
         return NOT_OPEN;
     };
     match session.discard() {
@@ -152,6 +165,15 @@ pub extern "C" fn ctfd_discard(handle: &mut Handle, types: &mut u64) -> u32
         }
         Err(fault) => status(fault),
     }
+}
+
+/// Drops what was added since the last update, and gives how many types the dictionary has.
+#[unsafe(no_mangle)]
+pub extern "C" fn ctfd_discard(handle: &mut Handle, types: &mut u64) -> u32
+    ensures { Does (asked handle.old.held.session dropped) result types.old types.new
+        handle.old.held.session handle.new.held.session }
+{
+    discard(handle.option_box(), types)
 }
 
 /// What stands behind a place.

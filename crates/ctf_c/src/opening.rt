@@ -7,6 +7,7 @@ ghost use Rattle.ctf_model.specs.rules.Faults.{first_fault};
 
 use crate::given::{NOT_OPEN, list_if, model_of, status};
 use crate::handle::Handle;
+use crate::handles::OptionBox;
 use ctf_model::{DataModel, Fault, placeless};
 use ctf_open::OpenDictionary;
 use std::alloc::Global;
@@ -149,6 +150,31 @@ pub extern "C" fn ctfd_close(alloc: Global, handle: &mut Handle)
     drop(handle.option_box().take(alloc));
 }
 
+/// Imports what another box has open.
+fn import(
+    alloc: Global,
+    open: &mut OptionBox<OpenDictionary>,
+    parent: &OptionBox<OpenDictionary>,
+    place: &mut u64,
+) -> u32
+    ensures { Imports open.old.held.value parent.now.held.value result place.old place.new
+        open.new.held.value }
+{
+    let Some(child) = open.get_mut() else {
+        return NOT_OPEN;
+    };
+    let Some(source) = parent.get() else {
+        return NOT_OPEN;
+    };
+    match child.import(alloc, source) {
+        Ok(()) => 0,
+        Err(fault) => {
+            *place = fault.place;
+            status(fault)
+        }
+    }
+}
+
 /// Imports what is open in another handle as the parent. They share it. A refusal changes nothing.
 #[unsafe(no_mangle)]
 pub extern "C" fn ctfd_import(
@@ -161,17 +187,5 @@ pub extern "C" fn ctfd_import(
     ensures answer { Imports handle.old.held.session parent.old.held.session result
         place.old place.new handle.new.held.session }
 {
-    let Some(child) = handle.option_box().get_mut() else {
-        return NOT_OPEN;
-    };
-    let Some(source) = parent.option_box().get() else {
-        return NOT_OPEN;
-    };
-    match child.import(alloc, source) {
-        Ok(()) => 0,
-        Err(fault) => {
-            *place = fault.place;
-            status(fault)
-        }
-    }
+    import(alloc, handle.option_box(), parent.option_box(), place)
 }

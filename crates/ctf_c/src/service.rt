@@ -7,6 +7,7 @@ mod given;
 mod handle;
 mod state;
 
+use crate::handles::OptionBox;
 use crate::service::given::tell;
 use crate::service::handle::Handle;
 use crate::service::state::Service;
@@ -43,6 +44,20 @@ pub extern "C" fn ctfd_end(alloc: Global, handle: &mut Handle)
     drop(handle.option_box().take(alloc));
 }
 
+/// Answers a line by the service that is open.
+fn answer(open: &mut OptionBox<Service>, line: &[u8], text: &mut [u8], len: &mut u64) -> u32
+    ensures { Serves open.old.held.value line.now result
+        (record { text = text.old; len = len.old }) (record { text = text.new; len = len.new })
+        open.new.held.value }
+{
+    let Some(service) = open.get_mut() else {
+        return NOT_OPEN;
+    };
+    service.answer(line);
+    tell(service.reply(), text, len);
+    0
+}
+
 /// Answers a line, without its newline. As much of the reply is written as fits.
 #[unsafe(no_mangle)]
 pub extern "C" fn ctfd_line(handle: &mut Handle, line: &[u8], text: &mut [u8], len: &mut u64) -> u32
@@ -50,12 +65,7 @@ pub extern "C" fn ctfd_line(handle: &mut Handle, line: &[u8], text: &mut [u8], l
         (record { text = text.old; len = len.old }) (record { text = text.new; len = len.new })
         handle.new.held.service }
 {
-    let Some(service) = handle.option_box().get_mut() else {
-        return NOT_OPEN;
-    };
-    service.answer(line);
-    tell(service.reply(), text, len);
-    0
+    answer(handle.option_box(), line, text, len)
 }
 
 /// Gives the last reply again.
