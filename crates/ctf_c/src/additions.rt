@@ -341,11 +341,13 @@ pub extern "C" fn ctfd_add_function(
         (type_added (record { name = name.now; root = root; body = new.function ret args.now })))
         result out.old out.new handle.old.held.session handle.new.held.session }
 {
-    let Ok(args) = numbers(alloc, args) else {
-        return status(placeless(Fault::MEMORY));
-    };
-    let body = NewBody::Function(TypeNum(ret), args);
-    add(alloc, handle.option_box(), name, root, body, out)
+    match numbers(alloc, args) {
+        Ok(args) => {
+            let body = NewBody::Function(TypeNum(ret), args);
+            add(alloc, handle.option_box(), name, root, body, out)
+        }
+        Err(error) => status(Fault::from(error)),
+    }
 }
 
 /// What a number says that a forward declares: 6 for a struct, 7 for a union, 8 for an enum.

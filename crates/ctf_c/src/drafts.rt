@@ -7,7 +7,7 @@ ghost use Rattle.ctf_model.specs.rules.Refusals.{want_of_memory};
 
 use crate::given::{NOT_OPEN, model_of, session_of, status, write_front};
 use crate::handle::Handle;
-use crate::handles::OptionBox;
+use crate::handles::{OptionBox, boxed};
 use ctf_model::{DataModel, Fault, placeless};
 use ctf_open::{Loaded, OpenDictionary};
 use std::alloc::Global;
@@ -26,13 +26,8 @@ fn drafted(
     ensures exact_err { IfErr result (λ f. (f ≡ want_of_memory)
         ⊎ (created (option_copied parent.entry) parname.now parlabel.now model ≡ Err f)) }
 {
-    match OpenDictionary::create(alloc, parent, parname, parlabel, model) {
-        Ok(session) => match Box::new(alloc, session) {
-            Ok(session) => Ok(session),
-            Err(_) => Err(placeless(Fault::MEMORY)),
-        },
-        Err(fault) => Err(fault),
-    }
+    let draft = OpenDictionary::create(alloc, parent, parname, parlabel, model)?;
+    Ok(boxed(alloc, draft)?)
 }
 
 /// Makes a draft without a parent, in place of what was open. Where it is refused, what was open

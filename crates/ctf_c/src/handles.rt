@@ -1,7 +1,20 @@
 //! What C holds of a value on the heap: a pointer to it, or nothing.
 
+ghost use Rattle.std.specs.Prelude.{◌≡◌, IfOk};
+
 mod held;
 mod option_box;
 
 pub use held::Held;
 pub use option_box::OptionBox;
+
+use std::alloc::{AllocError, Global};
+
+/// Puts a value on the heap.
+pub fn boxed<T>(alloc: Global, value: T) -> Result<Box<T>, AllocError>
+where
+    T: Drop,
+    ensures { IfOk result (λ b. b.value ≡ value) }
+{
+    Ok(Box::new(alloc, value)?)
+}

@@ -7,8 +7,8 @@ ghost use Rattle.ctf_model.specs.rules.Faults.{first_fault};
 
 use crate::given::{NOT_OPEN, list_if, model_of, status};
 use crate::handle::Handle;
-use crate::handles::OptionBox;
-use ctf_model::{DataModel, Fault, placeless};
+use crate::handles::{OptionBox, boxed};
+use ctf_model::{DataModel, Fault};
 use ctf_open::OpenDictionary;
 use std::alloc::Global;
 
@@ -27,13 +27,8 @@ fn opened(
     ensures exact_err { IfErr result (λ f. Refuses (first_fault
         (given ctf.now (option_copied sym.entry) (option_copied strs.entry))) f) }
 {
-    match OpenDictionary::open(alloc, ctf, sym, strs, model) {
-        Ok(session) => match Box::new(alloc, session) {
-            Ok(session) => Ok(session),
-            Err(_) => Err(placeless(Fault::MEMORY)),
-        },
-        Err(fault) => Err(fault),
-    }
+    let dictionary = OpenDictionary::open(alloc, ctf, sym, strs, model)?;
+    Ok(boxed(alloc, dictionary)?)
 }
 
 /// A session on the heap, over lists that are lent to it.
@@ -51,13 +46,8 @@ fn opened_lent(
     ensures exact_err { IfErr result (λ f. Refuses (first_fault
         (given ctf.now (option_copied sym.entry) (option_copied strs.entry))) f) }
 {
-    match OpenDictionary::open_lent(alloc, ctf, sym, strs, model) {
-        Ok(session) => match Box::new(alloc, session) {
-            Ok(session) => Ok(session),
-            Err(_) => Err(placeless(Fault::MEMORY)),
-        },
-        Err(fault) => Err(fault),
-    }
+    let dictionary = OpenDictionary::open_lent(alloc, ctf, sym, strs, model)?;
+    Ok(boxed(alloc, dictionary)?)
 }
 
 /// Opens a dictionary from copies of its lists, in place of what was open. Where it is refused,

@@ -13,12 +13,14 @@ abbrev pub with_held : {X Z : Type 0} → Held X Z → X → Held X Z
 with_held h w = record { at = h.at; alloc = h.alloc; value = Some w }
 
 -- the last value written through r is held
-abbrev pub HeldLends : (R Z : RattleType) (g : Ghosts Z.Denot) → MutBor (Held R.Denot Z.Denot) → MutBor R.Denot → Fml
+abbrev pub HeldLends : (R Z : RattleType) (g : Ghosts Z.Denot)
+    → MutBor (Held R.Denot Z.Denot) → MutBor R.Denot → Fml
 HeldLends R Z g h r = Lends (held_row R Z g) R h r (with_held h.now)
 
 abbrev pub with_value : {X : Type 0} → OptionBox X → X → OptionBox X
 with_value s w = record { full = true; held = with_held s.held w; tells = refl }
 
 -- the same of an optional box, which stays as it is if it holds nothing
-abbrev pub OptionBoxLends : (R : RattleType) → MutBor (OptionBox R.Denot) → Option (MutBor R.Denot) → Fml
+abbrev pub OptionBoxLends : (R : RattleType)
+    → MutBor (OptionBox R.Denot) → Option (MutBor R.Denot) → Fml
 OptionBoxLends R s r = LendsIf (box_row R) R s r (with_value s.now) s.now
