@@ -295,7 +295,8 @@ pub extern "C" fn ctfd_add_enum(
         (type_added (record { name = name.now; root = root; body = new.enum size })))
         result out.old out.new handle.old.held.session handle.new.held.session }
 {
-    add(alloc, handle.option_box(), name, root, NewBody::Enum(size), out)
+    let body = NewBody::Enum(size);
+    add(alloc, handle.option_box(), name, root, body, out)
 }
 
 /// Adds a type of no known kind, and gives its number.
@@ -311,7 +312,8 @@ pub extern "C" fn ctfd_add_unknown(
         (type_added (record { name = name.now; root = root; body = new.unknown })))
         result out.old out.new handle.old.held.session handle.new.held.session }
 {
-    add(alloc, handle.option_box(), name, root, NewBody::Unknown, out)
+    let body = NewBody::Unknown;
+    add(alloc, handle.option_box(), name, root, body, out)
 }
 
 /// Numbers of types.
@@ -377,7 +379,10 @@ pub extern "C" fn ctfd_add_forward(
         out.old out.new handle.old.held.session handle.new.held.session }
 {
     match tag_of(tag) {
-        Some(tag) => add(alloc, handle.option_box(), name, root, NewBody::Forward(tag), out),
+        Some(tag) => {
+            let body = NewBody::Forward(tag);
+            add(alloc, handle.option_box(), name, root, body, out)
+        }
         None => status(placeless(Fault::WRONG_KIND)),
     }
 }
@@ -425,12 +430,8 @@ pub extern "C" fn ctfd_add_enumerator(
         result handle.old.held.session handle.new.held.session }
 {
     let mut none = 0;
-    add_part(
-        alloc,
-        handle.option_box(),
-        Part::Enumerator(TypeNum(t), name, value),
-        &mut none,
-    )
+    let part = Part::Enumerator(TypeNum(t), name, value);
+    add_part(alloc, handle.option_box(), part, &mut none)
 }
 
 /// Adds a label, with the last type that it covers.
@@ -441,5 +442,6 @@ pub extern "C" fn ctfd_add_label(alloc: Global, handle: &mut Handle, name: &[u8]
         result handle.old.held.session handle.new.held.session }
 {
     let mut none = 0;
-    add_part(alloc, handle.option_box(), Part::Label(name, last), &mut none)
+    let part = Part::Label(name, last);
+    add_part(alloc, handle.option_box(), part, &mut none)
 }

@@ -7,7 +7,6 @@ mod option_box;
 
 pub use held::Held;
 pub use option_box::OptionBox;
-
 use std::alloc::{AllocError, Global};
 
 /// Puts a value on the heap.

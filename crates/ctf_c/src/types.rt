@@ -28,7 +28,7 @@ pub extern "C" fn ctfd_root(handle: &mut Handle, t: u16, out: &mut u32) -> u32
     ensures same { handle.new.held.session ≡ handle.old.held.session }
     ensures answer { Gives
         (asked handle.old.held.session (λ s.
-            told_of flag_of (root_said (space_type (space_in s) t))))
+        told_of flag_of (root_said (space_type (space_in s) t))))
         result out.old out.new }
 {
     let session = session_of!(handle);
