@@ -22,17 +22,17 @@ use std::alloc::{AllocError, Global};
 /// Adds a type to the draft that is open, and gives its number.
 fn add(
     alloc: Global,
-    open: &mut OptionBox<OpenDictionary>,
+    dictionary: &mut OptionBox<OpenDictionary>,
     name: &[u8],
     root: bool,
     body: NewBody,
     out: &mut u16,
 ) -> u32
-    ensures { Steps (asked open.old.held.value
+    ensures { Steps (asked dictionary.old.held.value
         (type_added (record { name = name.now; root = root; body = new_body_of body })))
-        result out.old out.new open.old.held.value open.new.held.value }
+        result out.old out.new dictionary.old.held.value dictionary.new.held.value }
 {
-    let Some(session) = open.get_mut() else {
+    let Some(session) = dictionary.get_mut() else {
         return NOT_OPEN;
     };
     match session.add(alloc, name, root, body) {
@@ -47,14 +47,14 @@ fn add(
 /// Adds to the draft that is open, and gives what is answered.
 fn add_part(
     alloc: Global,
-    open: &mut OptionBox<OpenDictionary>,
+    dictionary: &mut OptionBox<OpenDictionary>,
     part: Part<'_>,
     out: &mut u64,
 ) -> u32
-    ensures { Steps (asked open.old.held.value (enlarged (part_in part.entry))) result
-        out.old out.new open.old.held.value open.new.held.value }
+    ensures { Steps (asked dictionary.old.held.value (enlarged (part_in part.entry))) result
+        out.old out.new dictionary.old.held.value dictionary.new.held.value }
 {
-    let Some(session) = open.get_mut() else {
+    let Some(session) = dictionary.get_mut() else {
         return NOT_OPEN;
     };
     match session.add_part(alloc, part) {

@@ -107,14 +107,14 @@ pub extern "C" fn ctfd_create_child(
 /// Updates the draft that is open.
 fn update(
     alloc: Global,
-    open: &mut OptionBox<OpenDictionary>,
+    dictionary: &mut OptionBox<OpenDictionary>,
     types: &mut u64,
     place: &mut u64,
 ) -> u32
-    ensures { StepsAt (asked open.old.held.value updated) result types.old types.new
-        place.old place.new open.old.held.value open.new.held.value }
+    ensures { StepsAt (asked dictionary.old.held.value updated) result types.old types.new
+        place.old place.new dictionary.old.held.value dictionary.new.held.value }
 {
-    let Some(session) = open.get_mut() else {
+    let Some(session) = dictionary.get_mut() else {
         *place = 0;
         return NOT_OPEN;
     };
@@ -146,11 +146,11 @@ pub extern "C" fn ctfd_update(
 }
 
 /// Drops what the draft that is open has pending.
-fn discard(open: &mut OptionBox<OpenDictionary>, types: &mut u64) -> u32
-    ensures { Does (asked open.old.held.value dropped) result types.old types.new
-        open.old.held.value open.new.held.value }
+fn discard(dictionary: &mut OptionBox<OpenDictionary>, types: &mut u64) -> u32
+    ensures { Does (asked dictionary.old.held.value dropped) result types.old types.new
+        dictionary.old.held.value dictionary.new.held.value }
 {
-    let Some(session) = open.get_mut() else {
+    let Some(session) = dictionary.get_mut() else {
         return NOT_OPEN;
     };
     match session.discard() {

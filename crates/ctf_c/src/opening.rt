@@ -143,14 +143,14 @@ pub extern "C" fn ctfd_close(alloc: Global, handle: &mut Handle)
 /// Imports what another box has open.
 fn import(
     alloc: Global,
-    open: &mut OptionBox<OpenDictionary>,
+    dictionary: &mut OptionBox<OpenDictionary>,
     parent: &OptionBox<OpenDictionary>,
     place: &mut u64,
 ) -> u32
-    ensures { Imports open.old.held.value parent.now.held.value result place.old place.new
-        open.new.held.value }
+    ensures { Imports dictionary.old.held.value parent.now.held.value result place.old place.new
+        dictionary.new.held.value }
 {
-    let Some(child) = open.get_mut() else {
+    let Some(child) = dictionary.get_mut() else {
         return NOT_OPEN;
     };
     let Some(source) = parent.get() else {

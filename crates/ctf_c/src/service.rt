@@ -45,12 +45,12 @@ pub extern "C" fn ctfd_end(alloc: Global, handle: &mut Handle)
 }
 
 /// Answers a line by the service that is open.
-fn answer(open: &mut OptionBox<Service>, line: &[u8], text: &mut [u8], len: &mut u64) -> u32
-    ensures { Serves open.old.held.value line.now result
+fn answer(service: &mut OptionBox<Service>, line: &[u8], text: &mut [u8], len: &mut u64) -> u32
+    ensures { Serves service.old.held.value line.now result
         (record { text = text.old; len = len.old }) (record { text = text.new; len = len.new })
-        open.new.held.value }
+        service.new.held.value }
 {
-    let Some(service) = open.get_mut() else {
+    let Some(service) = service.get_mut() else {
         return NOT_OPEN;
     };
     service.answer(line);
