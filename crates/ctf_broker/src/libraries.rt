@@ -1,5 +1,7 @@
 //! Sessions and their libraries.
-ghost use Rattle.std.specs.Prelude.{◌≡◌, ◌≢◌, ℕ, IfOk, OnErr, true, false};
+ghost use Rattle.std.specs.Prelude.{◌≡◌, ◌≢◌, ℕ, IfOk, OnOk, OnErr, Some, true, false};
+ghost use Rattle.std.specs.Ordering.{nat_cmp};
+ghost use Rattle.std.specs.BTreeMap.{IsUnchanged, Updates};
 ghost use Rattle.std.specs.Option.{option_map};
 ghost use Rattle.ctf_answers.specs.Replies.{said, said_to};
 ghost use Rattle.ctf_protocol.specs.sessions.Runs.{Answered, IsGranted, Steps, found_in};
@@ -10,9 +12,23 @@ ghost use Rattle.ctf_broker.specs.Table.{kept_for, library_at};
 
 use ctf_answers::Counts;
 use ctf_library::{Library, Loaded, Pool};
-use ctf_protocol::{Change, Fault, PublicationName, placeless};
+use ctf_protocol::{Change, Fault, PublicationName};
 use std::alloc::{AllocError, Global};
 use std::collections::BTreeMap;
+
+/// Gives a session its library.
+fn insert(
+    libraries: &mut BTreeMap<u32, Library>,
+    session: u32,
+    library: Library,
+) -> Result<(), AllocError>
+    ensures ok { OnOk result
+        (Updates nat_cmp libraries.old libraries.new session (Some library)) }
+    ensures err { OnErr result (IsUnchanged libraries.old libraries.new) }
+{
+    libraries.insert(session, library)?;
+    Ok(())
+}
 
 /// What a change finds: a take, what its owner has published under the name.
 pub fn found_by(
@@ -60,10 +76,8 @@ pub fn step_in(
     }
     let mut library = Library::new(alloc);
     let outcome = library.step(change, found, pool);
-    match libraries.insert(session, library) {
-        Ok(_) => outcome,
-        Err(_) => Err(placeless(Fault::MEMORY)),
-    }
+    insert(libraries, session, library)?;
+    outcome
 }
 
 /// Publishes a dictionary in the library of a session, which is made where there is none yet.
@@ -85,8 +99,6 @@ pub fn publish_in(
     }
     let mut library = Library::new(alloc);
     let outcome = library.publish_loaded(name, loaded);
-    match libraries.insert(session, library) {
-        Ok(_) => outcome,
-        Err(_) => Err(placeless(Fault::MEMORY)),
-    }
+    insert(libraries, session, library)?;
+    outcome
 }

@@ -28,10 +28,8 @@ pub fn answer_bounded<M: Machine, S: Source, K: Sink>(
     ensures pulls { PullsAtMost reads (S.pulled source.old) (S.pulled source.new) }
 {
     for turn in 0..reads {
-        match run.turn(machine, source, sink) {
-            Ok(true) => {}
-            Ok(false) => return Ok(()),
-            Err(fault) => return Err(fault),
+        if !run.turn(machine, source, sink)? {
+            return Ok(());
         }
     }
     Err(RunFault::ReadBound)

@@ -1,9 +1,8 @@
-use Rattle.std.proofs.Common.{arith, ◌≡◌, ◌≢◌, ◌∙◌, ap, sym, subst, List, [], ℕ, Option, ◌+◌, ◌++◌, append_assoc, append-nil, Bool, Result, Ok, Err, true, false}
+use Rattle.std.proofs.Common.{arith, ◌∙◌, ap, sym, subst, List, [], ℕ, Option, ◌+◌, ◌++◌, append_assoc, append-nil, Bool, Result, Ok, true, false}
 use Rattle.std.proofs.KnownBytes.{Consumes-nil, Consumes-trans}
+use Rattle.std.proofs.lemmas.Result.{err_from_is_err_and}
 use Rattle.ctf_wire.specs.Standing.{Stands}
 use Rattle.ctf_wire.specs.Turning.{Turns}
-use Rattle.ctf_wire.specs.declared.run_faults.RunFault.{RunFault}
-use Rattle.ctf_wire.specs.declared.run_faults.RunFault.TheVariants as fault
 use Rattle.ctf_wire.proofs.Turning.{Stands-none, turn_ends, turn_fails}
 use Rattle.ctf_wire.proofs.engine.answer_bounded.Goals as goal
 
@@ -25,8 +24,8 @@ pub loop-turn-preserved : goal.loop-turn-preserved
 loop-turn-preserved g c =
     let i = c.loop-turn.invariant in
     let T : Bool → Type 0 = λ b. Turns g.M.Machine.Step c.loop-turn.machine c.loop-turn.run (g.S.Source.pulled c.loop-turn.source) (g.K.Sink.pushed c.loop-turn.sink) (Ok b) c.turn.new.machine c.turn.new.self (g.S.Source.pulled c.turn.new.source) (g.K.Sink.pushed c.turn.new.sink) in
-    let t = subst T c.in-Ok-true.field-0-test c.in-Ok-true.ensures.turns in
-    let counted = c.in-Ok-true.ensures.once in
+    let t = subst T c.if-not-branch.false c.in_ok-turn.ensures.turns in
+    let counted = c.in_ok-turn.ensures.once in
     let before = i.counted in
     let stands = t.stands _ _ _ i.stands in
     record {
@@ -40,24 +39,15 @@ loop-turn-preserved g c =
       well = stands.served.sent.well ∙ c.requires.ready.writable;
     }
 
-pub returns-in-Ok-false-clause-ends : goal.returns-in-Ok-false-clause-ends
-returns-in-Ok-false-clause-ends g c =
+pub returns-then-not-branch-clause-ends : goal.returns-then-not-branch-clause-ends
+returns-then-not-branch-clause-ends g c =
     let i = c.loop-turn.invariant in
     let T : Bool → Type 0 = λ b. Turns g.M.Machine.Step c.loop-turn.machine c.loop-turn.run (g.S.Source.pulled c.loop-turn.source) (g.K.Sink.pushed c.loop-turn.sink) (Ok b) c.turn.new.machine c.turn.new.self (g.S.Source.pulled c.turn.new.source) (g.K.Sink.pushed c.turn.new.sink) in
-    let t = subst T c.in-Ok-false.field-0-test c.in-Ok-false.ensures.turns in
+    let t = subst T c.if-not-branch.true c.in_ok-turn.ensures.turns in
     turn_ends g.M.Machine.Step _ _ _ _ c.turn.new.self c.args.reads _ _ _ _ _ _ i.read i.pulled i.consumed i.stands i.unended i.sound c.requires.ready.writable t
 
-pub returns-in-Err-clause-ends : goal.returns-in-Err-clause-ends
-returns-in-Err-clause-ends g c =
+pub returns-in_err-turn-clause-ends : goal.returns-in_err-turn-clause-ends
+returns-in_err-turn-clause-ends g c =
     let i = c.loop-turn.invariant in
-    turn_fails g.M.Machine.Step _ _ _ _ c.turn.new.self c.args.reads _ _ _ _ _ _ i.read i.pulled i.consumed i.stands i.unended i.sound c.requires.ready.writable c.in-Err.fault c.in-Err.ensures.turns
-
--- a turn never ends for want of memory
-pub returns-in-Err-clause-granted : goal.returns-in-Err-clause-granted
-returns-in-Err-clause-granted g c = never_memory c.in-Err.fault c.in-Err.ensures.turns
-  where
-    never_memory : (f : RunFault) → Turns g.M.Machine.Step c.loop-turn.machine c.loop-turn.run (g.S.Source.pulled c.loop-turn.source) (g.K.Sink.pushed c.loop-turn.sink) (Err f) c.turn.new.machine c.turn.new.self (g.S.Source.pulled c.turn.new.source) (g.K.Sink.pushed c.turn.new.sink) → ◌≢◌ {A = Result (Unit {0}) RunFault} (Err f) (Err fault.Memory)
-    never_memory fault.Memory t = absurd t
-    never_memory fault.Read t = λ e. cc
-    never_memory fault.Write t = λ e. cc
-    never_memory fault.ReadBound t = absurd t
+    let p = err_from_is_err_and c.from_residual.result c.from_residual.ensures.1 in
+    rw (p.1, p.2) (turn_fails g.M.Machine.Step _ _ _ _ c.turn.new.self c.args.reads _ _ _ _ _ _ i.read i.pulled i.consumed i.stands i.unended i.sound c.requires.ready.writable c.in_err-turn.field-0.0 c.in_err-turn.ensures.turns)
