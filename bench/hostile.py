@@ -3,10 +3,11 @@
 
 usage: hostile.py PROGRAM [--growth] [--limit FACTOR] [WORD]..
 
-Each case is a dictionary and one request (or a dump), behind others if it says so. Told are the megabytes that were read and
-written, the milliseconds of processor time that the request took, the least of three runs, and
-those for each megabyte. Wanted are at most 10 ms for each MB; what takes no more than 5 ms in all
-is within that. With --limit, the status is 1 where a case takes more than FACTOR times as long.
+Each case is a dictionary and one request (or a dump), some behind many others. Told are the
+megabytes that were read and written, the milliseconds of processor time that the request took, the
+least of three runs, and those for each megabyte. Wanted are at most 10 ms for each MB; what takes
+no more than 5 ms in all is within that. With --limit, the status is 1 where a case takes more than
+FACTOR times as long.
 With --growth, instructions are counted by valgrind for each case and for one of half its size:
 twice as many are linear. WORDs pick cases by their names.
 """
@@ -191,7 +192,7 @@ def measure(run):
         said = said.rsplit(b"\n", 2)[-2]
         if not said.startswith(b'{"ok"') and not any(name in said for name in EXPECTED):
             sys.exit(f"{run.fields}: {said[:200]}")
-    return run.megabytes(len(said)), 1000 * best
+    return run.megabytes(len(said)), max(0.0, 1000 * best)
 
 
 def instructions(command, file):
