@@ -1,5 +1,5 @@
 -- What stands in the order of turns.
-use Rattle.std.proofs.Common.{◌≡◌, ℕ, ◌+◌, ◌<◌, ◌≤◌, List, [], ◌∷◌, ◌++◌, Bool, true, false, leb, ltb, sum_by, refl, sym, ◌∙◌, ap, arith}
+use Rattle.std.proofs.Common.{◌≡◌, ℕ, ◌+◌, ◌<◌, ◌≤◌, List, [], ◌∷◌, ◌++◌, Bool, true, false, leb, ltb, sum_by, refl, sym, ap, arith}
 use Rattle.std.specs.Prelude.{◌&&◌, filter, nat_le, nat_lt}
 use Rattle.std.specs.Cmp.Derive.{both_true}
 use Rattle.std.specs.List.{list_all}

@@ -1,4 +1,4 @@
-use Rattle.std.proofs.Common.{◌≡◌, ◌≤◌, ◌<◌, ◌+◌, ◌-◌, ◌++◌, ◌⊎◌, ℕ, List, [], ◌∷◌, map, sum_by, Option, Some, None, IfSome, Result, Ok, Err, Bool, true, false, is_some, rules, refl, inl, inr, ap, sym, subst, ◌∙◌, arith}
+use Rattle.std.proofs.Common.{◌≡◌, ◌<◌, ◌+◌, ◌-◌, ◌⊎◌, List, map, Option, Some, None, IfSome, false, is_some, rules, refl, inl, ap, sym, subst, ◌∙◌, arith}
 use Rattle.std.proofs.lemmas.Result.{err_from_is_err_and}
 use Rattle.ctf_library.specs.Charged.{bytes_in}
 use Rattle.ctf_library.specs.SlotView.{slot_of}
@@ -8,7 +8,7 @@ use Rattle.ctf_library.proofs.Quota.{imports_done, imports_refused}
 use Rattle.ctf_library.proofs.Rooms.{room_le, room_lt}
 use Rattle.ctf_library.proofs.Rising.{in_order, non_decreasing}
 use Rattle.ctf_protocol.proofs.Charged.{slot_counts, without_bytes}
-use Rattle.ctf_protocol.specs.sessions.Charges.{charge, slot_bytes}
+use Rattle.ctf_protocol.specs.sessions.Charges.{charge}
 use Rattle.ctf_model.specs.rules.Refusals.{want_of_memory}
 use Rattle.ctf_model.specs.spaces.Kept.{Kept, fault_over}
 use Rattle.ctf_open.specs.Quotas.{IsUnserved}

@@ -1,4 +1,4 @@
-use Rattle.std.proofs.Common.{◌≡◌, ◌≤◌, ◌<◌, ◌+◌, ◌-◌, ◌++◌, ℕ, List, [], ◌∷◌, Option, Some, None, Result, Ok, Err, Bool, true, false, rules, refl, inl, inr, ap, sym, subst, ◌∙◌, arith}
+use Rattle.std.proofs.Common.{◌≡◌, ◌<◌, ◌+◌, Ok, false, ap, sym, subst, ◌∙◌, arith}
 use Rattle.ctf_library.proofs.Counting.{counted_charge, staged_counted}
 use Rattle.ctf_library.proofs.Quota.{part_makes, part_refused}
 use Rattle.ctf_library.proofs.Rooms.{room_le, room_lt}

@@ -1,4 +1,4 @@
-use Rattle.std.proofs.Common.{◌≡◌, ◌≤◌, ◌<◌, ◌+◌, ◌-◌, ◌++◌, ℕ, List, [], ◌∷◌, sum_by, ap, ◌∙◌, arith}
+use Rattle.std.proofs.Common.{List, ap, ◌∙◌, arith}
 use Rattle.std.proofs.lemmas.List.Sums.{sum_by_push}
 use Rattle.ctf_library.proofs.Counting.{counted_charge}
 use Rattle.ctf_library.specs.Charged.{bytes_published}

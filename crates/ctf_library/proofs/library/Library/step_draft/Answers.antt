@@ -1,8 +1,7 @@
-use Rattle.std.proofs.Common.{◌≡◌, ◌≤◌, ◌<◌, ◌+◌, ◌-◌, ◌++◌, ◌⊎◌, ℕ, List, [], ◌∷◌, map, set, sum_by, Option, Some, None, Result, Ok, Err, Bool, true, false, ltb, rules, refl, inl, inr, ap, sym, subst, ◌∙◌, arith}
+use Rattle.std.proofs.Common.{◌≡◌, ◌-◌, map, ap, subst, ◌∙◌, arith}
 use Rattle.ctf_library.proofs.Counting.{counted_charge}
 use Rattle.ctf_library.proofs.DraftQuota.{made}
 use Rattle.ctf_library.proofs.Rising.{non_decreasing}
-use Rattle.ctf_library.specs.Drafting.{HaveStepped}
 use Rattle.ctf_library.specs.SlotView.{slot_of}
 use Rattle.ctf_protocol.specs.sessions.Charges.{charge}
 use Rattle.ctf_library.specs.Stepping.{Makes}

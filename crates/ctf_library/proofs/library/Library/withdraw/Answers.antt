@@ -1,5 +1,5 @@
-use Rattle.std.proofs.Common.{◌≡◌, ◌+◌, ◌≤◌, ◌<◌, ℕ, List, Bool, false, rules, ap, sym, ◌∙◌, arith}
-use Rattle.std.specs.Prelude.{filter, is_some, map, nat_eq, not, sum_by}
+use Rattle.std.proofs.Common.{◌≡◌, ℕ, List, false, rules, ap, sym, ◌∙◌, arith}
+use Rattle.std.specs.Prelude.{is_some, map, nat_eq, not, sum_by}
 use Rattle.std.specs.Cmp.Lexicographic.{pointwise}
 use Rattle.ctf_library.proofs.ByName.{missing}
 use Rattle.ctf_library.specs.SlotView.{slot_of}

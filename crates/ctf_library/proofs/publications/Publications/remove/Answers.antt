@@ -1,4 +1,4 @@
-use Rattle.std.proofs.Common.{◌≡◌, sym, ap, ◌∙◌}
+use Rattle.std.proofs.Common.{sym, ap, ◌∙◌}
 use Rattle.std.specs.Prelude.{is_some, option_map}
 use Rattle.ctf_library.proofs.Published.{found_in, removed_kept, removed_le, removed_seen}
 use Rattle.ctf_library.specs.declared.publication.Publication as own
