@@ -3,10 +3,11 @@
 
 usage: hostile.py PROGRAM [--growth] [--limit FACTOR] [WORD]..
 
-Each case is a dictionary and one request (or a dump). Told are the megabytes that were read and
-written, the milliseconds of processor time that the request took, the least of three runs, and
-those for each megabyte. Wanted are at most 10 ms for each MB; what takes no more than 5 ms in all
-is within that. With --limit, the status is 1 where a case takes more than FACTOR times as long.
+Each case is a dictionary and one request (or a dump), some behind many others. Told are the
+megabytes that were read and written, the milliseconds of processor time that the request took, the
+least of three runs, and those for each megabyte. Wanted are at most 10 ms for each MB; what takes
+no more than 5 ms in all is within that. With --limit, the status is 1 where a case takes more than
+FACTOR times as long.
 With --growth, instructions are counted by valgrind for each case and for one of half its size:
 twice as many are linear. WORDs pick cases by their names.
 """
@@ -21,6 +22,7 @@ from dataclasses import dataclass
 from typing import Callable
 
 import hostile_dictionaries as made
+from charging import EMPTY
 from dictionaries import all_parts
 
 WANTED, LEAST = 10.0, 5.0
@@ -28,13 +30,15 @@ WANTED, LEAST = 10.0, 5.0
 
 @dataclass(frozen=True)
 class Case:
-    """What is asked of a dictionary of a size. `make` gives its lists and a type's number; `ask`
-    gives the fields of a request on it, or None for a dump."""
+    """What is asked of a dictionary of a size. `make` gives its lists and a number, as a type's;
+    `ask` gives the fields of a request on it, or None for a dump; `before` gives those of the
+    requests before that, by the size."""
 
     name: str
     size: int
     make: Callable
     ask: Callable | None
+    before: Callable = lambda size: ()
 
 
 def show(memory):
@@ -54,6 +58,20 @@ def opened(t):
     return None
 
 
+def named(op, end="", rest=""):
+    """A request for the name in the middle, with something behind it."""
+    return lambda n: '"op":"%s"%s,"name":"p%06d%s"' % (op, rest, n // 2, end)
+
+
+def publications(count):
+    publish = '"op":"publish","d":1,"name":"p%06d"'
+    return (publish % number for number in shuffled(count))
+
+
+def empty(count):
+    return (bytes.fromhex(EMPTY), b"", b""), count
+
+
 def shuffled(count):
     numbers = list(range(count))
     random.Random(1).shuffle(numbers)
@@ -62,7 +80,7 @@ def shuffled(count):
 
 MEGABYTE = 1_000_000
 # What a request may be refused as here: by what it found at the end of its work.
-EXPECTED = (b'"TooLong"', b'"NoMember"', b'"LongReply"')
+EXPECTED = (b'"TooLong"', b'"NoMember"', b'"LongReply"', b'"NotPublished"')
 WINDOW = ',"from":0,"count":20'
 
 CASES = [
@@ -92,6 +110,11 @@ CASES = [
     Case("members: 20 of a name of 15 MB", 15 * MEGABYTE, made.long_names, word("members", WINDOW)),
     Case("find: among 16,000 names alike in front", 16000, made.alike,
          lambda t: '"op":"find","d":1,"text":"%s"' % ("%d" % 15999).rjust(79, "n")),
+    Case("publish: one more than 16,000", 16_000, empty,
+         named("publish", "-", ',"d":1'), publications),
+    Case("take: a name that none of 16,000 has", 16_000, empty,
+         named("take", "-", ',"owner":1'), publications),
+    Case("withdraw: one of 16,000", 16_000, empty, named("withdraw"), publications),
     Case("open: 699,048 symbols in order", 699_048, lambda n: made.named_symbols(n, range), opened),
     Case("open: the same, shuffled", 699_048, lambda n: made.named_symbols(n, shuffled), opened),
     Case("open: 1,900 unions of 1,023 members", 1900, made.unions, opened),
@@ -104,14 +127,14 @@ CASES = [
 ]
 
 
-def stream(lists, fields, word):
+def stream(lists, before, fields, word):
     """The lines that hand in a dictionary, open it and ask, or stop where `word` says."""
     yield from all_parts(1, lists)
     if word == "parts":
         return
     yield '{"s":1,"op":"open"}\n'
-    if word == "asked" and fields:
-        yield '{"s":1,%s}\n' % fields
+    asked = [*before, fields] if word == "asked" and fields else before
+    yield from ('{"s":1,%s}\n' % one for one in asked)
 
 
 class Run:
@@ -122,6 +145,7 @@ class Run:
         self.program, self.is_dump, self.folder = program, case.ask is None, folder
         self.lists = lists
         self.fields = None if self.is_dump else case.ask(number)
+        self.before = list(case.before(size))
         self.files = [os.path.join(folder, name) for name in ("ctf", "sym", "str")]
         for file, data in zip(self.files, lists):
             with open(file, "wb") as out:
@@ -139,7 +163,7 @@ class Run:
     def lines(self, word):
         file = os.path.join(self.folder, word)
         with open(file, "w") as out:
-            out.writelines(stream(self.lists, self.fields, word))
+            out.writelines(stream(self.lists, self.before, self.fields, word))
         return file
 
     def megabytes(self, written):
@@ -168,7 +192,7 @@ def measure(run):
         said = said.rsplit(b"\n", 2)[-2]
         if not said.startswith(b'{"ok"') and not any(name in said for name in EXPECTED):
             sys.exit(f"{run.fields}: {said[:200]}")
-    return run.megabytes(len(said)), 1000 * best
+    return run.megabytes(len(said)), max(0.0, 1000 * best)
 
 
 def instructions(command, file):

@@ -11,3 +11,6 @@ pub mod Creating
 pub mod Counting
 pub mod Pooled
 pub mod DraftQuota
+pub mod InTurn
+pub mod ByName
+pub mod Published

@@ -1,21 +1,20 @@
 -- What slots and publications come to. The words are ours.
 use Rattle.std.specs.Prelude.{◌≡◌, ◌+◌, ◌<◌, ◌^◌, ℕ, List, map, sum_by}
 use Rattle.ctf_model.specs.format.Lists.{Lists}
-use Rattle.ctf_library.specs.SlotView.{publication_of, slot_of}
-use Rattle.ctf_library.specs.declared.publications.Publication.{Publication}
+use Rattle.ctf_library.specs.SlotView.{slot_of}
 use Rattle.ctf_library.specs.declared.slots.Slot.{Slot}
 use Rattle.ctf_protocol.specs.sessions.Charges.{publication_bytes, slot_bytes}
+use Rattle.ctf_protocol.specs.sessions.State.{Publication}
 use Rattle.ctf_model.specs.opened.Sizes.{lists_bytes}
 
 abbrev pub bytes_in : List Slot → ℕ
 bytes_in slots = sum_by slot_bytes (map slot_of slots)
 
 abbrev pub bytes_published : List Publication → ℕ
-bytes_published published = sum_by publication_bytes (map publication_of published)
+bytes_published published = sum_by publication_bytes published
 
--- what is kept of the sums is right, and all of it is less than 2^128
-pub record IsCounted (held : List Slot) (out : List Publication) (stage : Lists)
-    (in_slots in_published : ℕ) : Type 0 where
+-- what is kept of the slots' sum is right, and all of it is less than 2^128
+pub record IsCounted (held : List Slot) (out : List Publication) (stage : Lists) (in_slots : ℕ)
+    : Type 0 where
   pub slots : in_slots ≡ bytes_in held
-  pub published : in_published ≡ bytes_published out
-  pub small : lists_bytes stage + (in_slots + in_published) < 2 ^ 128
+  pub small : lists_bytes stage + (in_slots + bytes_published out) < 2 ^ 128

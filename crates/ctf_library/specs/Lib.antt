@@ -2,6 +2,8 @@ pub mod Charged
 pub mod Quotas
 pub mod Drafting
 pub mod SlotView
+pub mod Turns
+pub mod Published
 pub mod Stepping
 pub mod SlotPlaces
 pub mod SlotOrder

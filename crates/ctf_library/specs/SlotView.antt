@@ -1,11 +1,7 @@
--- What slots and publications show.
+-- What a slot shows.
 use Rattle.ctf_protocol.specs.sessions.Opened.{slot_with}
 use Rattle.ctf_protocol.specs.sessions.State as state
-use Rattle.ctf_library.specs.declared.publications.Publication.{Publication}
 use Rattle.ctf_library.specs.declared.slots.Slot.{Slot}
 
 abbrev pub slot_of : Slot → state.Slot
 slot_of slot = slot_with slot.number slot.dictionary
-
-abbrev pub publication_of : Publication → state.Publication
-publication_of p = record { name = p.name; kept = p.loaded }

@@ -2,13 +2,12 @@
 //!
 //! The sums are of `u128`: the lengths of three lists, each of which memory has room for,
 //! may not fit in 64 bits.
-ghost use Rattle.std.specs.Prelude.{◌≡◌, ◌+◌, ◌<◌, ◌^◌, nat_lt, not, map, sum_by};
-ghost use Rattle.ctf_library.specs.SlotView.{publication_of, slot_of};
-ghost use Rattle.ctf_protocol.specs.sessions.Charges.{publication_bytes, slot_bytes};
-ghost use Rattle.ctf_model.specs.opened.Sizes.{kept_bytes, lists_bytes, parent_bytes};
+ghost use Rattle.std.specs.Prelude.{◌≡◌, ◌+◌, ◌<◌, ◌^◌, nat_lt, not};
+ghost use Rattle.ctf_library.specs.SlotView.{slot_of};
+ghost use Rattle.ctf_protocol.specs.sessions.Charges.{slot_bytes};
+ghost use Rattle.ctf_model.specs.opened.Sizes.{parent_bytes};
 ghost use Rattle.ctf_protocol.specs.sessions.Steps.{quota};
 
-use crate::publications::Publication;
 use crate::slots::Slot;
 
 /// The greatest charge that a request may leave a library with.
@@ -36,16 +35,4 @@ impl Slot {
     {
         self.dictionary.bytes()
     }
-}
-
-/// How many bytes all publications have, where that is less than 2^128.
-pub(crate) fn published_bytes(published: &[Publication]) -> u128
-    requires { sum_by publication_bytes (map publication_of published.now) < 2 ^ 128 }
-    ensures { result ≡ sum_by publication_bytes (map publication_of published.now) }
-{
-    let mut bytes = 0;
-    for publication in published {
-        bytes += publication.loaded.bytes();
-    }
-    bytes
 }

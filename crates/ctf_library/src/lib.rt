@@ -9,6 +9,7 @@ mod held;
 mod library;
 mod places;
 mod pool;
+mod publication;
 mod publications;
 mod slots;
 mod staging;

@@ -13,10 +13,10 @@ ghost use Rattle.ctf_library.specs.Stepping.{Does, Makes};
 ghost use Rattle.std.specs.Option.{ForSome};
 ghost use Rattle.ctf_library.specs.Telling.{makes_text};
 
-use crate::charges::{fits, published_bytes};
+use crate::charges::fits;
 use crate::places::{find_slot, push_slot, remove_slot, set_parent, step_draft};
 use crate::pool::Pool;
-use crate::publications::{Publication, find_published, remove_published};
+use crate::publications::Publications;
 use crate::slots::Slot;
 use crate::staging::Stage;
 use ctf_answers::{Answer, Counts};
@@ -33,7 +33,7 @@ use std::mem;
 const MOST_SLOTS: usize = 1023;
 
 /// What one session holds: its slots, the number of the next one, the staged lists, and what it
-/// published. How many bytes slots and publications have is kept beside them.
+/// published. How many bytes the slots have is kept beside them.
 #[derive(Drop)]
 pub struct Library {
     alloc: Global,
@@ -41,8 +41,7 @@ pub struct Library {
     slot_bytes: u128,
     next: u64,
     stage: Stage,
-    published: Vec<Publication>,
-    published_bytes: u128,
+    published: Publications,
 }
 
 impl Model for Library {
@@ -50,7 +49,7 @@ impl Model for Library {
     ghost use Rattle.ctf_library.specs.Charged.{IsCounted};
     ghost use Rattle.ctf_library.specs.SlotOrder.{rise_between};
     ghost use Rattle.ctf_protocol.specs.sessions.State.{State};
-    ghost use Rattle.ctf_library.specs.SlotView.{publication_of, slot_of};
+    ghost use Rattle.ctf_library.specs.SlotView.{slot_of};
 
     ghost Value = { State };
 
@@ -58,13 +57,12 @@ impl Model for Library {
       slots = map slot_of l.slots.items;
       next = l.next;
       stage = l.stage;
-      published = map publication_of l.published.items;
+      published = l.published;
     } };
 
     ghost invariant = { λ l. (l.next ≤ 2 ^ 32)
         × (rise_between 0 l.slots.items l.next ≡ true)
-        × IsCounted l.slots.items l.published.items l.stage l.slot_bytes
-        l.published_bytes };
+        × IsCounted l.slots.items l.published l.stage l.slot_bytes };
 }
 
 impl Library {
@@ -78,8 +76,7 @@ impl Library {
             slot_bytes: 0,
             next: 1,
             stage: Stage::new(alloc),
-            published: Vec::new(alloc),
-            published_bytes: 0,
+            published: Publications::new(alloc),
         }
     }
 
@@ -87,7 +84,7 @@ impl Library {
     pub fn published(&self, name: &[u8]) -> Option<&Loaded>
         ensures { option_map (λ l. l.now) result ≡ published_as name.now self.now.published }
     {
-        find_published(&self.published, name)
+        self.published.find(name)
     }
 
     /// Makes the step of a change, with what was found for a take, whatever the pool holds. Want of
@@ -143,7 +140,7 @@ impl Library {
     fn charge(&self) -> u128
         ensures { result ≡ charge self.now }
     {
-        self.stage.bytes() + (self.slot_bytes + self.published_bytes)
+        self.stage.bytes() + (self.slot_bytes + self.published.bytes())
     }
 
     fn part(&mut self, list: ListName, piece: &[u8]) -> Result<Counts, Fault>
@@ -284,25 +281,19 @@ impl Library {
         if self.published(name.as_slice()).is_some() {
             return Err(placeless(Fault::NAME_TAKEN));
         }
-        let bytes = loaded.bytes();
-        if bytes > u128::MAX - self.charge() {
+        if loaded.bytes() > u128::MAX - self.charge() {
             return Err(placeless(Fault::MEMORY));
         }
-        let name = name.copied(self.alloc)?;
-        self.published.reserve(1)?;
-        self.published_bytes += bytes;
-        self.published.push_reserved(Publication { name, loaded });
+        self.published.add(name, loaded)?;
         Ok(Counts::done())
     }
 
     fn withdraw(&mut self, name: &PublicationName) -> Result<Counts, Fault>
         ensures { Does (withdraws name.now self.old) result self.new }
     {
-        if self.published(name.as_slice()).is_none() {
+        if !self.published.remove(name.as_slice()) {
             return Err(placeless(Fault::NOT_PUBLISHED));
         }
-        remove_published(&mut self.published, name.as_slice());
-        self.published_bytes = published_bytes(&self.published);
         Ok(Counts::done())
     }
 

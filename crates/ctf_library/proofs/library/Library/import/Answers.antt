@@ -1,4 +1,4 @@
-use Rattle.std.proofs.Common.{◌≡◌, ◌≤◌, ◌<◌, ◌+◌, ◌-◌, ◌++◌, ◌⊎◌, ℕ, List, [], ◌∷◌, map, sum_by, Option, Some, None, IfSome, Result, Ok, Err, Bool, true, false, is_some, rules, refl, inl, inr, ap, sym, subst, ◌∙◌, arith}
+use Rattle.std.proofs.Common.{◌≡◌, ◌<◌, ◌+◌, ◌-◌, ◌⊎◌, List, map, Option, Some, None, IfSome, false, is_some, rules, refl, inl, ap, sym, subst, ◌∙◌, arith}
 use Rattle.std.proofs.lemmas.Result.{err_from_is_err_and}
 use Rattle.ctf_library.specs.Charged.{bytes_in}
 use Rattle.ctf_library.specs.SlotView.{slot_of}
@@ -8,7 +8,7 @@ use Rattle.ctf_library.proofs.Quota.{imports_done, imports_refused}
 use Rattle.ctf_library.proofs.Rooms.{room_le, room_lt}
 use Rattle.ctf_library.proofs.Rising.{in_order, non_decreasing}
 use Rattle.ctf_protocol.proofs.Charged.{slot_counts, without_bytes}
-use Rattle.ctf_protocol.specs.sessions.Charges.{charge, slot_bytes}
+use Rattle.ctf_protocol.specs.sessions.Charges.{charge}
 use Rattle.ctf_model.specs.rules.Refusals.{want_of_memory}
 use Rattle.ctf_model.specs.spaces.Kept.{Kept, fault_over}
 use Rattle.ctf_open.specs.Quotas.{IsUnserved}
@@ -76,7 +76,7 @@ overflow_sub-self c =
 pub overflow_add-self : goal.overflow_add-self
 overflow_add-self c =
     let le = room_le ((c.charge.result - c.parent_bytes-old.result) + c.bytes-new.result) (sym c.fits-has_room.ensures ∙ c.in_ok-tables.ensures.fits) in
-    let charged = c.charge.ensures ∙ counted_charge _ _ _ _ _ _ _ c.self.view_is c.self.invariant.2 in
+    let charged = c.charge.ensures ∙ counted_charge _ _ _ _ _ _ c.self.view_is c.self.invariant.2 in
     omega (arith, le, charged)
 
 pub invariant_of-self : goal.invariant_of-self
@@ -87,14 +87,14 @@ invariant_of-self c =
     let new = c.bytes-new.ensures.count ∙ ap kept_bytes c.own.ensures in
     let known = c.charge.ensures in
     let le = room_le ((c.charge.result - c.parent_bytes-old.result) + c.bytes-new.result) (sym c.fits-has_room.ensures ∙ c.in_ok-tables.ensures.fits) in
-    let charged = c.charge.ensures ∙ counted_charge _ _ _ _ _ _ _ c.self.view_is c.self.invariant.2 in
+    let charged = c.charge.ensures ∙ counted_charge _ _ _ _ _ _ c.self.view_is c.self.invariant.2 in
     let child = slot_of c.in-Some.child.now in
     let moved : bytes_in c.set_parent.new.slots.items + parent_bytes child.parent ≡ bytes_in c.self.inside.slots.items + kept_bytes c.in_ok-parent.parent = subst (λ (o : Option Slot). IfSome o (λ slot. bytes_in c.set_parent.new.slots.items + parent_bytes slot.parent ≡ bytes_in c.self.inside.slots.items + kept_bytes c.in_ok-parent.parent)) own_child c.set_parent.ensures.bytes in
     let shared = ap kept_bytes (c.in_ok-parent.ensures ∙ c.own-4.ensures) in
     let less = without_bytes c.args.d child (map slot_of c.self.inside.slots.items) own_child in
     let slots = c.self.invariant.2.slots in
     let counts = slot_counts c.args.d child c.args.self.now child_at in
-    (c.self.invariant.0, c.set_parent.ensures.rise _ c.self.invariant.1, record { slots = omega (arith, moved, shared, less, slots, old, new); published = c.self.invariant.2.published; small = omega (arith, le, charged, less, slots, old) })
+    (c.self.invariant.0, c.set_parent.ensures.rise _ c.self.invariant.1, record { slots = omega (arith, moved, shared, less, slots, old, new); small = omega (arith, le, charged, less, slots, old) })
 
 pub returns : goal.returns
 returns c =

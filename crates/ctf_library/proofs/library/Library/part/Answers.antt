@@ -1,10 +1,10 @@
-use Rattle.std.proofs.Common.{◌≡◌, ◌≤◌, ◌<◌, ◌+◌, ◌-◌, ◌++◌, ℕ, List, [], ◌∷◌, Option, Some, None, Result, Ok, Err, Bool, true, false, rules, refl, inl, inr, ap, sym, subst, ◌∙◌, arith}
+use Rattle.std.proofs.Common.{◌≡◌, ◌<◌, ◌+◌, Ok, false, ap, sym, subst, ◌∙◌, arith}
 use Rattle.ctf_library.proofs.Counting.{counted_charge, staged_counted}
 use Rattle.ctf_library.proofs.Quota.{part_makes, part_refused}
 use Rattle.ctf_library.proofs.Rooms.{room_le, room_lt}
 use Rattle.std.proofs.Common.{length, map}
 use Rattle.ctf_answers.specs.Replies.{changed}
-use Rattle.ctf_library.specs.SlotView.{publication_of, slot_of}
+use Rattle.ctf_library.specs.SlotView.{slot_of}
 use Rattle.ctf_library.specs.Stepping.{Makes}
 use Rattle.ctf_protocol.specs.answers.Answers.{Answer}
 use Rattle.ctf_protocol.specs.sessions.Charges.{charge}
@@ -15,12 +15,12 @@ use Rattle.ctf_library.proofs.library.Library.part.Goals as goal
 
 pub invariant_of-self : goal.invariant_of-self
 invariant_of-self c =
-    let charged = c.charge.ensures ∙ counted_charge _ _ _ _ _ _ _ c.self.view_is c.self.invariant.2 in
-    (c.self.invariant.0, c.self.invariant.1, staged_counted c.add-added.result c.args.list c.args.piece.now _ _ _ _ _ _ c.charge.result c.fits-has_room.result c.add-added.ensures.staged c.add-added.ensures.fits c.add-added.ensures.err c.fits-has_room.ensures charged c.self.invariant.2)
+    let charged = c.charge.ensures ∙ counted_charge _ _ _ _ _ _ c.self.view_is c.self.invariant.2 in
+    (c.self.invariant.0, c.self.invariant.1, staged_counted c.add-added.result c.args.list c.args.piece.now _ _ _ _ _ c.charge.result c.fits-has_room.result c.add-added.ensures.staged c.add-added.ensures.fits c.add-added.ensures.err c.fits-has_room.ensures charged c.self.invariant.2)
 
 pub returns : goal.returns
 returns c =
-    let inside : State = record { slots = map slot_of c.self.inside.slots.items; next = c.self.inside.next; stage = c.self.inside.stage; published = map publication_of c.self.inside.published.items } in
+    let inside : State = record { slots = map slot_of c.self.inside.slots.items; next = c.self.inside.next; stage = c.self.inside.stage; published = c.self.inside.published } in
     let stage = c.add-added.new.self in
     let known = c.charge.ensures in
     let same : charge inside ≡ charge c.args.self.now = ap charge c.self.view_is in

@@ -1,9 +1,8 @@
-use Rattle.std.proofs.Common.{◌≡◌, ◌≤◌, ◌<◌, ◌+◌, ◌-◌, ◌++◌, ◌⊎◌, ℕ, List, [], ◌∷◌, map, set, sum_by, Option, Some, None, Result, Ok, Err, Bool, true, false, ltb, rules, refl, inl, inr, ap, sym, subst, ◌∙◌, arith}
+use Rattle.std.proofs.Common.{◌≡◌, ◌-◌, map, ap, subst, ◌∙◌, arith}
 use Rattle.ctf_library.proofs.Counting.{counted_charge}
 use Rattle.ctf_library.proofs.DraftQuota.{made}
 use Rattle.ctf_library.proofs.Rising.{non_decreasing}
-use Rattle.ctf_library.specs.Drafting.{HaveStepped}
-use Rattle.ctf_library.specs.SlotView.{publication_of, slot_of}
+use Rattle.ctf_library.specs.SlotView.{slot_of}
 use Rattle.ctf_protocol.specs.sessions.Charges.{charge}
 use Rattle.ctf_library.specs.Stepping.{Makes}
 use Rattle.ctf_protocol.specs.sessions.State.{State}
@@ -12,7 +11,7 @@ use Rattle.ctf_library.proofs.library.Library.step_draft.Goals as goal
 
 pub overflow_sub-others : goal.overflow_sub-others
 overflow_sub-others c =
-    let charged = c.charge.ensures ∙ counted_charge _ _ _ _ _ _ _ c.self.view_is c.self.invariant.2 in
+    let charged = c.charge.ensures ∙ counted_charge _ _ _ _ _ _ c.self.view_is c.self.invariant.2 in
     omega (arith, charged)
 
 pub step_draft-requires-clause-order : goal.step_draft-requires-clause-order
@@ -20,14 +19,14 @@ step_draft-requires-clause-order c = non_decreasing _ _ _ c.self.invariant.1
 
 pub invariant_of-self : goal.invariant_of-self
 invariant_of-self c =
-    let charged = c.charge.ensures ∙ counted_charge _ _ _ _ _ _ _ c.self.view_is c.self.invariant.2 in
+    let charged = c.charge.ensures ∙ counted_charge _ _ _ _ _ _ c.self.view_is c.self.invariant.2 in
     let small = c.step_draft.ensures.small in
-    (c.self.invariant.0, c.step_draft.ensures.rise _ c.self.invariant.1, record { slots = c.step_draft.ensures.counted; published = c.self.invariant.2.published; small = omega (arith, charged, small) })
+    (c.self.invariant.0, c.step_draft.ensures.rise _ c.self.invariant.1, record { slots = c.step_draft.ensures.counted; small = omega (arith, charged, small) })
 
 pub returns-clause-step : goal.returns-clause-step
 returns-clause-step c =
-    let inside : State = record { slots = map slot_of c.self.inside.slots.items; next = c.self.inside.next; stage = c.self.inside.stage; published = map publication_of c.self.inside.published.items } in
-    let charged = c.charge.ensures ∙ counted_charge _ _ _ _ _ _ _ c.self.view_is c.self.invariant.2 in
+    let inside : State = record { slots = map slot_of c.self.inside.slots.items; next = c.self.inside.next; stage = c.self.inside.stage; published = c.self.inside.published } in
+    let charged = c.charge.ensures ∙ counted_charge _ _ _ _ _ _ c.self.view_is c.self.invariant.2 in
     let same : charge inside ≡ charge c.args.self.now = ap charge c.self.view_is in
     let known = c.charge.ensures in
     let slots = c.self.invariant.2.slots in

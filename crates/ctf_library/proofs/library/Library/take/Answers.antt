@@ -1,4 +1,4 @@
-use Rattle.std.proofs.Common.{◌≡◌, ◌≤◌, ◌<◌, ◌+◌, ◌-◌, ◌++◌, ℕ, List, [], ◌∷◌, Option, Some, None, Result, Ok, Err, Bool, true, false, rules, refl, inl, inr, ap, sym, subst, ◌∙◌, arith}
+use Rattle.std.proofs.Common.{◌≡◌, ◌+◌, rules, refl, inl, ap, sym, ◌∙◌, arith}
 use Rattle.ctf_library.specs.Charged.{bytes_in}
 use Rattle.ctf_protocol.specs.sessions.Charges.{slot_bytes}
 use Rattle.ctf_model.specs.opened.Sizes.{kept_bytes}
@@ -19,19 +19,19 @@ returns-then-not-fits c =
 pub overflow_add-self : goal.overflow_add-self
 overflow_add-self c =
     let le = room_le (c.charge.result + c.bytes-bytes.result) (sym c.fits.ensures ∙ c.if-not-fits.false) in
-    let charged = c.charge.ensures ∙ counted_charge _ _ _ _ _ _ _ c.self.view_is c.self.invariant.2 in
+    let charged = c.charge.ensures ∙ counted_charge _ _ _ _ _ _ c.self.view_is c.self.invariant.2 in
     omega (arith, le, charged)
 
 pub invariant_of-self-2 : goal.invariant_of-self-2
 invariant_of-self-2 c =
     let le = room_le (c.charge.result + c.bytes-bytes.result) (sym c.fits.ensures ∙ c.if-not-fits.false) in
-    let charged = c.charge.ensures ∙ counted_charge _ _ _ _ _ _ _ c.self.view_is c.self.invariant.2 in
+    let charged = c.charge.ensures ∙ counted_charge _ _ _ _ _ _ c.self.view_is c.self.invariant.2 in
     let count = c.bytes-bytes.ensures.count in
     let pushed = c.push_slot.ensures.bytes in
     let slot : slot_bytes (slot_of c.of.result) ≡ kept_bytes c.in-Some.loaded + 0 = ap slot_bytes c.of.ensures in
     let items : bytes_in c.reserve_exact.new.self.items ≡ bytes_in c.self.inside.slots.items = ap bytes_in c.reserve_exact.ensures.items in
     let was = c.self.invariant.2.slots in
-    (search rules, search rules, record { slots = omega (arith, pushed, slot, items, was, count); published = c.self.invariant.2.published; small = omega (arith, le, charged) })
+    (search rules, search rules, record { slots = omega (arith, pushed, slot, items, was, count); small = omega (arith, le, charged) })
 
 pub returns : goal.returns
 returns c =

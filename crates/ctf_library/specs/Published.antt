@@ -1,0 +1,29 @@
+-- What a session published, as it is kept. The words are ours.
+use Rattle.std.specs.Prelude.{◌≡◌, ℕ, List, map, sum_by, nat_lt, true, Vec}
+use Rattle.std.specs.BTreeMap.{BTreeMap, IsOrdered}
+use Rattle.std.specs.Cmp.Lexicographic.{slice_cmp}
+use Rattle.std.specs.List.{list_all}
+use Rattle.std.specs.Ordering.{nat_cmp}
+use Rattle.std.specs.declared.alloc.Global.{Global}
+use Rattle.ctf_library.specs.Turns.{in_turn}
+use Rattle.ctf_library.specs.declared.publication.Publication as own
+use Rattle.ctf_protocol.specs.sessions.Charges.{publication_bytes}
+use Rattle.ctf_protocol.specs.sessions.State.{Publication}
+
+-- a name, and what is kept under it
+abbrev pub Named : Type 0
+Named = Vec ℕ Global × own.Publication
+
+abbrev pub publication_of : Named → Publication
+publication_of named = record { name = named.0.items; kept = named.1.loaded }
+
+-- all of them, in the order in which they were published
+abbrev pub published_in : List Named → List Publication
+published_in entries = map publication_of (in_turn (λ named. named.1.turn) entries)
+
+-- names are in order, the next turn is later than all, and the sum of the bytes is right
+pub record IsKept (by_name : BTreeMap (Vec ℕ Global) own.Publication) (turns bytes : ℕ)
+    : Type 0 where
+  pub ordered : IsOrdered (λ x y. slice_cmp nat_cmp x.items y.items) by_name
+  pub later : list_all (λ named. nat_lt named.1.turn turns) by_name.entries ≡ true
+  pub sum : bytes ≡ sum_by publication_bytes (published_in by_name.entries)
