@@ -1,15 +1,20 @@
 #!/usr/bin/env python3
-"""Times requests on dictionaries that are made to be slow, and how their cost grows.
+"""Times requests that are made to be slow, and how their cost grows.
 
 usage: hostile.py PROGRAM [--growth] [--limit FACTOR] [WORD]..
 
-Each case is a dictionary and one request (or a dump), some behind many others. Told are the
-megabytes that were read and written, the milliseconds of processor time that the request took, the
-least of three runs, and those for each megabyte. Wanted are at most 10 ms for each MB; what takes
-no more than 5 ms in all is within that. With --limit, the status is 1 where a case takes more than
-FACTOR times as long.
-With --growth, instructions are counted by valgrind for each case and for one of half its size:
-twice as many are linear. WORDs pick cases by their names.
+Each case is a dictionary and one request (or a dump), some behind many others; or a session and its
+last request (hostile_sessions.py). Told are the megabytes that were read and written, the
+milliseconds of processor time that the request took, the least of three runs, and those for each
+megabyte. Wanted are at most 10 ms for each MB; what takes no more than 5 ms in all is within that.
+What is known to take more is told with what it took when this was written. With --limit, the status
+is 1 where a case takes more than FACTOR times as long as is wanted, or as is known.
+
+Then come requests of so many sessions, slots and pending types, and how much longer they take than
+those of half as many: with --limit, more than three times as long is too much.
+
+With --growth, instructions are counted by valgrind for each case that has a size, and for one of
+half its size: twice as many are linear. WORDs pick cases by their names.
 """
 import argparse
 import os
@@ -22,10 +27,15 @@ from dataclasses import dataclass
 from typing import Callable
 
 import hostile_dictionaries as made
+from asking import Service
 from charging import EMPTY
 from dictionaries import all_parts
+from hostile_sessions import GROWTHS, SESSIONS
 
 WANTED, LEAST = 10.0, 5.0
+# How many times as long twice as much may take.
+GROWN = 3.0
+RUNS = 3
 
 
 @dataclass(frozen=True)
@@ -186,9 +196,9 @@ def timed(command, file):
 def measure(run):
     """The megabytes and the milliseconds of what is asked."""
     with_it, without = run.commands()
-    best, said = min(timed(*with_it) for _ in range(3))
+    best, said = min(timed(*with_it) for _ in range(RUNS))
     if without:
-        best -= min(timed(*without) for _ in range(3))[0]
+        best -= min(timed(*without) for _ in range(RUNS))[0]
         said = said.rsplit(b"\n", 2)[-2]
         if not said.startswith(b'{"ok"') and not any(name in said for name in EXPECTED):
             sys.exit(f"{run.fields}: {said[:200]}")
@@ -215,6 +225,88 @@ def growth(program, case):
         return counted(Run(program, case, case.size, large)) / half
 
 
+@dataclass(frozen=True)
+class Row:
+    """What a case took, and what it is known to take where that is more than is wanted."""
+
+    name: str
+    megabytes: float
+    milliseconds: float
+    known: float = 0.0
+    grown: float | None = None
+
+    def is_over(self, factor):
+        wanted = max(LEAST, WANTED * self.megabytes, self.known)
+        return factor is not None and self.milliseconds > factor * wanted
+
+    def told(self, factor):
+        rate = self.milliseconds / self.megabytes
+        words = [f"{self.name:52}{self.megabytes:8.2f} MB{self.milliseconds:9.1f} ms"
+                 f"{rate:9.1f} ms/MB"]
+        words += [f"x{self.grown:.2f}"] if self.grown else []
+        words += [f"known: {self.known:.0f} ms"] if self.known else []
+        words += ["TOO SLOW"] if self.is_over(factor) else []
+        return "  ".join(words)
+
+
+def dictionary_row(program, case, is_grown):
+    with tempfile.TemporaryDirectory() as folder:
+        megabytes, milliseconds = measure(Run(program, case, case.size, folder))
+    return Row(case.name, megabytes, milliseconds,
+               grown=growth(program, case) if is_grown else None)
+
+
+def session_row(program, case):
+    taken = []
+    for _ in range(RUNS):
+        with Service(program) as service:
+            taken.append(service.timed(case.lines()))
+    seconds, moved, _ = min(taken)
+    return Row(case.name, case.read + moved / 1_000_000, 1000 * seconds, case.known)
+
+
+def all_seconds(program, case, size):
+    """What the requests of a case take together."""
+    taken = []
+    for _ in range(RUNS):
+        with Service(program) as service:
+            taken.append(service.ask_all(case.lines(size)))
+    return min(taken)
+
+
+def all_instructions(program, case, size):
+    with tempfile.NamedTemporaryFile("w") as file:
+        file.writelines(case.lines(size))
+        file.flush()
+        return instructions([program, "serve"], file.name)
+
+
+def growth_row(program, case, is_counted, limit):
+    """A row of what grows, and whether that is too much."""
+    cost = all_instructions if is_counted else all_seconds
+    half, whole = (cost(program, case, size) for size in (case.size // 2, case.size))
+    used = f"{whole / 1e6:9.1f} million" if is_counted else f"{1000 * whole:9.1f} ms"
+    is_over = limit is not None and whole > GROWN * half
+    return f"{case.name:52}{case.size:8}   {used}  x{whole / half:.2f}" \
+           f"{'  TOO SLOW' if is_over else ''}", is_over
+
+
+def rows(program, options):
+    """Each row, and whether it is over."""
+
+    def is_picked(case):
+        return not options.words or any(word in case.name for word in options.words)
+
+    for case in filter(is_picked, CASES):
+        row = dictionary_row(program, case, options.growth)
+        yield row.told(options.limit), row.is_over(options.limit)
+    for case in filter(is_picked, SESSIONS):
+        row = session_row(program, case)
+        yield row.told(options.limit), row.is_over(options.limit)
+    for case in filter(is_picked, GROWTHS):
+        yield growth_row(program, case, options.growth, options.limit)
+
+
 def main():
     parser = argparse.ArgumentParser(description=__doc__,
                                      formatter_class=argparse.RawDescriptionHelpFormatter)
@@ -222,20 +314,11 @@ def main():
     parser.add_argument("words", nargs="*")
     parser.add_argument("--growth", action="store_true")
     parser.add_argument("--limit", type=float)
-    options = parser.parse_args()
-    program = os.path.abspath(options.program)
+    options = parser.parse_intermixed_args()
     slow = 0
-    for case in CASES:
-        if options.words and not any(word in case.name for word in options.words):
-            continue
-        with tempfile.TemporaryDirectory() as folder:
-            megabytes, milliseconds = measure(Run(program, case, case.size, folder))
-        rate = milliseconds / megabytes
-        over = options.limit and milliseconds > options.limit * max(LEAST, WANTED * megabytes)
-        slow += bool(over)
-        grown = f"  x{growth(program, case):.2f}" if options.growth else ""
-        print(f"{case.name:52}{megabytes:8.2f} MB{milliseconds:9.1f} ms{rate:9.1f} ms/MB{grown}"
-              f"{'  TOO SLOW' if over else ''}", flush=True)
+    for told, is_over in rows(os.path.abspath(options.program), options):
+        print(told, flush=True)
+        slow += is_over
     return 1 if slow else 0
 
 

@@ -89,6 +89,7 @@ def parts(program: str) -> list[Part]:
         Part("packages", ["tests/packages.sh", program], after=of_library),
         Part("install", ["tests/install.sh", program], after=of_library),
         Part("rust", ["tests/rust.sh"], after=of_library),
+        Part("stack", ["tests/stack.sh", program], after=of_library),
         Part("streams", ["tests/streams.sh", program]),
         Part("damage", ["tests/damage.py", program, "--all"]),
         Part("program", ["tests/program.sh", program]),

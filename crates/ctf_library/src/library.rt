@@ -20,7 +20,7 @@ use crate::publications::Publications;
 use crate::slots::Slot;
 use crate::staging::Stage;
 use ctf_answers::{Answer, Counts};
-use ctf_open::{Imported, Loaded, tables_over};
+use ctf_open::Loaded;
 use ctf_protocol::{
     Change, Creation, DataModel, DraftStep, Fault, ListName, PublicationName, Question, SlotNumber,
     placeless,
@@ -235,17 +235,12 @@ impl Library {
         if child.dictionary.is_drafted() {
             return Err(placeless(Fault::FIXED_PARENT));
         }
+        let parent = source.dictionary.own();
         let old = child.parent_bytes();
-        let new = source.dictionary.own().bytes();
+        let new = parent.bytes();
         let has_room = fits(self.charge() - old, new);
-        let tables = tables_over(
-            self.alloc,
-            child.dictionary.own(),
-            source.dictionary.own(),
-            has_room,
-        )?;
-        let parent = source.dictionary.own().share()?;
-        set_parent(&mut self.slots, d, Imported { parent, tables });
+        let imported = child.dictionary.over(self.alloc, parent, has_room)?;
+        set_parent(&mut self.slots, d, imported);
         self.slot_bytes = self.slot_bytes - old + new;
         Ok(Counts::done())
     }

@@ -84,7 +84,7 @@ pub fn set_parent(slots: &mut Vec<Slot>, number: u32, imported: Imported)
     requires undrafted { IfSome (slot_at number (map slot_of slots.old.items))
         (λ slot. slot.draft ≡ None) }
     requires made { IfSome (slot_at number (map slot_of slots.old.items))
-        (λ slot. AreTablesOf slot.kept (Some imported.parent) imported.tables) }
+        (λ slot. AreTablesOf slot.kept (Some imported.parent) imported.tables.value) }
     ensures slots { map slot_of slots.new.items
         ≡ slots_with_parent number imported.parent (map slot_of slots.old.items) }
     ensures bytes { IfSome (slot_at number (map slot_of slots.old.items))

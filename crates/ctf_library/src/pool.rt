@@ -1,6 +1,5 @@
 //! Dictionaries that were opened lately.
 ghost use Rattle.std.specs.Prelude.{◌≡◌, ◌⊎◌, ◌≤◌, ◌<◌, ◌^◌, [], IfOk, IfErr, IfSome, OnOk, Some, None, sum_by, true};
-ghost use Rattle.ctf_check.specs.ListsView.{lists_in};
 ghost use Rattle.ctf_check.specs.Stages.{fault_before_chains};
 ghost use Rattle.ctf_library.specs.Pooling.{Holds, have_room, most_bytes, with_room};
 ghost use Rattle.ctf_model.specs.opened.Sizes.{kept_bytes};
@@ -8,7 +7,7 @@ ghost use Rattle.ctf_model.specs.rules.Faults.{first_fault};
 ghost use Rattle.ctf_model.specs.format.OwnedLists.{lists_owned};
 ghost use Rattle.ctf_model.specs.rules.Refusals.{want_of_memory};
 
-use ctf_check::{LentLists, lent};
+use ctf_check::lent;
 use ctf_open::Loaded;
 use ctf_protocol::{DataModel, Fault, Parts, placeless};
 use std::alloc::Global;
@@ -44,14 +43,6 @@ impl Model for Pool {
 
     ghost invariant = { λ p. (length p.held.items ≤ most_held)
         × (sum_by kept_bytes p.held.items ≤ most_bytes) };
-}
-
-/// Whether these are the same lists, byte for byte.
-fn are_same(a: LentLists<'_>, b: LentLists<'_>) -> bool
-    ensures same { result ≡ true → lists_in a.entry ≡ lists_in b.entry }
-    ensures found { lists_in a.entry ≡ lists_in b.entry → result ≡ true }
-{
-    a.ctf == b.ctf && a.sym == b.sym && a.strs == b.strs
 }
 
 /// How many bytes dictionaries have, where that is no more than a pool holds.
@@ -112,7 +103,7 @@ impl Pool {
     {
         let lists = lent(parts);
         for held in &self.held {
-            if held.model() == model && are_same(held.view().lists(), lists) {
+            if held.is_of(lists, model) {
                 return Some(held);
             }
         }

@@ -1,5 +1,5 @@
--- What is added to a draft changes neither its parent nor its data model.
-use Rattle.std.proofs.Common.{◌≡◌, ℕ, Option, Result, Ok, Err, refl, sym, subst, ◌∙◌}
+-- What stays of a draft that something is added to.
+use Rattle.std.proofs.Common.{◌≡◌, ℕ, Option, Result, Ok, Err, refl, ap, sym, subst, ◌∙◌}
 use Rattle.std.specs.Prelude.{IfOk, OnErr}
 use Rattle.ctf_model.specs.opened.Steps.{silent}
 use Rattle.ctf_open.specs.PartView.{part_in}
@@ -7,9 +7,9 @@ use Rattle.ctf_open.specs.declared.adding.Part.{Part}
 use Rattle.ctf_open.specs.declared.adding.Part.TheVariants as part
 use Rattle.ctf_draft.specs.DraftView.{Owned}
 use Rattle.ctf_open.proofs.DraftParents.{AreAlike, enumerator_alike, label_alike, member_alike}
-use Rattle.ctf_open.specs.Drafting.{IsUnder}
+use Rattle.ctf_open.specs.Drafting.{IsUnder, IsWritten}
 use Rattle.ctf_model.specs.drafts.Adders.{Added, add_enumerator, add_label}
-use Rattle.ctf_model.specs.drafts.Drafts.{Draft}
+use Rattle.ctf_model.specs.drafts.Drafts.{Draft, discarded}
 use Rattle.ctf_model.specs.spaces.Kept.{Kept}
 use Rattle.ctf_model.specs.declared.faults.Fault.{Fault}
 
@@ -28,6 +28,16 @@ part_alike d (part.Label name last) a e = silent_alike d (add_label d (record { 
 pub still_under : {A : Type 0} (number : A → ℕ) (result : Result A Fault) (adds : Draft → Result Added Fault) (old new : Owned) (above : Option Kept) → ((a : Added) → adds old.draft ≡ Ok a → AreAlike old.draft a.draft) → IfOk result (λ n. adds old.draft ≡ Ok (record { draft = new.draft; answer = number n })) → OnErr result (new ≡ old) → IsUnder old.draft above → IsUnder new.draft above
 still_under number (Ok n) adds old new above alike ok err under =
     let same = alike (record { draft = new.draft; answer = number n }) ok in
-    record { parent = same.parent ∙ under.parent; model = λ p h. under.model p h ∙ sym same.model }
+    let parent = ap (λ (d : Draft). d.parent) same in
+    let model = ap (λ (d : Draft). d.model) same in
+    record { parent = parent ∙ under.parent; model = λ p h. under.model p h ∙ sym model }
 still_under number (Err f) adds old new above alike ok err under =
     subst (λ (d : Owned). IsUnder d.draft above) (sym err) under
+
+-- and its dictionary is still what it was written as
+pub still_written : {A : Type 0} (number : A → ℕ) (result : Result A Fault) (adds : Draft → Result Added Fault) (old new : Owned) (kept : Kept) → ((a : Added) → adds old.draft ≡ Ok a → AreAlike old.draft a.draft) → IfOk result (λ n. adds old.draft ≡ Ok (record { draft = new.draft; answer = number n })) → OnErr result (new ≡ old) → IsWritten (discarded old.draft) kept → IsWritten (discarded new.draft) kept
+still_written number (Ok n) adds old new kept alike ok err w =
+    let same = alike (record { draft = new.draft; answer = number n }) ok in
+    subst (λ (d : Draft). IsWritten d kept) (sym same) w
+still_written number (Err f) adds old new kept alike ok err w =
+    subst (λ (d : Owned). IsWritten (discarded d.draft) kept) (sym err) w

@@ -1,11 +1,11 @@
--- What is added to a draft changes neither its parent nor its data model.
+-- What is added to a draft changes neither its parent nor its data model, nor what was updated.
 use Rattle.std.proofs.Common.{◌≡◌, ℕ, List, [], ◌∷◌, Bool, true, false, Option, Some, None, Result, Ok, Err, refl, ap, sym, subst, ◌∙◌}
 use Rattle.std.specs.Prelude.{◌||◌, option_map, is_some, not}
 use Rattle.std.specs.Option.{ForSome}
 use Rattle.ctf_open.specs.Drafting.{IsUnder}
 use Rattle.ctf_model.specs.drafts.Adders.{Added, add_enumerator, add_label, add_member, add_type, against_enumerator, against_label, against_member, against_place, against_type, body_at, put_member, replaced, replaced_at, size_with, with_enumerator, with_label, with_member, with_type}
 use Rattle.ctf_model.specs.format.Dictionary.{Label}
-use Rattle.ctf_model.specs.drafts.Drafts.{Draft, above as dictionary_above, against_draft, empty_draft, has_zero, is_childs, is_of_other, new_draft, next_number, pending_place, space_of}
+use Rattle.ctf_model.specs.drafts.Drafts.{Draft, above as dictionary_above, against_draft, discarded, empty_draft, has_zero, is_childs, is_of_other, new_draft, next_number, pending_place, space_of}
 use Rattle.ctf_model.specs.rules.Judgements.{Row, first_met, unless, ◌then◌}
 use Rattle.ctf_model.specs.spaces.Imports.{Modelled, same_model}
 use Rattle.ctf_model.specs.spaces.Kept.{Kept, kept_dictionary, modelled_by}
@@ -18,9 +18,9 @@ use Rattle.ctf_model.specs.declared.data_model.DataModel.TheVariants.{Lp64, Ilp3
 use Rattle.ctf_model.specs.declared.faults.Fault.{Fault}
 use Rattle.ctf_model.specs.declared.faults.TheConstants.Fault.{MODEL_DIFFERS, NAME_HAS_ZERO, PARENT_IS_CHILD}
 
-pub record AreAlike (a b : Draft) : Type 0 where
-  pub parent : b.parent ≡ a.parent
-  pub model : b.model ≡ a.model
+-- without what is pending the two are the same
+abbrev pub AreAlike : Draft → Draft → Type 0
+AreAlike a b = discarded b ≡ discarded a
 
 -- what is answered where nothing is refused
 unless_ok : {A : Type 0} (fault : Option Fault) (done : Result A Fault) (a : A) → unless fault done ≡ Ok a → done ≡ Ok a
@@ -42,16 +42,16 @@ replaced_alike : (d : Draft) (n : ℕ) (body : Body) → AreAlike d (replaced d 
 replaced_alike d n body = at (pending_place d n) (space_type (space_of d) n)
   where
     at : (o : Option ℕ) (r : Result Term Fault) → AreAlike d (replaced_at d o r body)
-    at (Some i) (Ok x) = record { parent = refl; model = refl }
-    at (Some i) (Err f) = record { parent = refl; model = refl }
-    at None (Ok x) = record { parent = refl; model = refl }
-    at None (Err f) = record { parent = refl; model = refl }
+    at (Some i) (Ok x) = refl
+    at (Some i) (Err f) = refl
+    at None (Ok x) = refl
+    at None (Err f) = refl
 
 pub type_alike : (d : Draft) (x : NewType) (a : Added) → add_type d x ≡ Ok a → AreAlike d a.draft
 unfolding add_type
 type_alike d x a e =
     let done = unless_ok (first_met (against_type d (new_term x))) (Ok (record { draft = with_type d (new_term x); answer = next_number d })) a e in
-    added_alike d (record { draft = with_type d (new_term x); answer = next_number d }) a (record { parent = refl; model = refl }) done
+    added_alike d (record { draft = with_type d (new_term x); answer = next_number d }) a refl done
 
 put_alike : (d : Draft) (n : ℕ) (m : Member) (bits : ℕ) (a : Added) → put_member d n m bits ≡ Ok a → AreAlike d a.draft
 put_alike d n m bits a e =
@@ -78,7 +78,7 @@ pub label_alike : (d : Draft) (x : Label) (a : Draft) → add_label d x ≡ Ok a
 unfolding add_label
 label_alike d x a e =
     let done = unless_ok (first_met (against_label d x.name)) (Ok (with_label d x)) a e in
-    draft_alike d (with_label d x) a (record { parent = refl; model = refl }) done
+    draft_alike d (with_label d x) a refl done
 
 -- ---- new drafts
 

@@ -5,3 +5,4 @@ pub mod DraftParents
 pub mod Fitting
 pub mod Importing
 pub mod Late
+pub mod Settled

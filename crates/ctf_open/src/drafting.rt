@@ -1,22 +1,24 @@
 //! Drafts of sessions: how they are made, updated and dropped.
-ghost use Rattle.std.specs.Prelude.{◌≡◌, ◌==◌, ◌⊎◌, ◌+◌, ◌<◌, ◌^◌, true, not, length, is_some, IfErr, IfOk, OnErr, Ok, Err, None, Some, option_map, option_copied, option_and_then};
+ghost use Rattle.std.specs.Prelude.{◌≡◌, ◌==◌, ◌⊎◌, ◌+◌, ◌<◌, ◌^◌, true, false, not, length, is_some, IfErr, IfOk, OnErr, OnOk, Ok, Err, None, Some, option_map, option_copied, option_and_then};
 ghost use Rattle.std.specs.Option.{ForSome};
 ghost use Rattle.ctf_model.specs.opened.Steps.{created, dropped, updated};
 ghost use Rattle.ctf_open.specs.Drafting.{IsUnder, IsWritten};
 ghost use Rattle.ctf_open.specs.Fitting.{AreTablesOf};
-ghost use Rattle.ctf_open.specs.Quotas.{IsRefused, IsUncreated, IsUnwritten, fits_in};
+ghost use Rattle.ctf_open.specs.Quotas.{IsRefused, IsUncreated, IsUnwritten, fits_in, open_bytes};
+ghost use Rattle.ctf_model.specs.opened.Open.{own_in};
 ghost use Rattle.ctf_model.specs.opened.Sizes.{kept_bytes, parent_bytes};
 ghost use Rattle.ctf_model.specs.drafts.Drafts.{held, new_draft as new_draft_of};
 ghost use Rattle.ctf_model.specs.format.Dictionary.{Denotes};
-ghost use Rattle.ctf_model.specs.rules.Refusals.{want_of_memory};
+ghost use Rattle.ctf_model.specs.rules.Refusals.{placeless as refusal, want_of_memory};
+ghost use Rattle.ctf_model.specs.declared.faults.TheConstants.Fault.{QUOTA_FULL};
 ghost use Rattle.ctf_model.specs.spaces.Kept.{Kept, fault_over, kept_dictionary, modelled_by};
 ghost use Rattle.ctf_model.specs.writing.Written.{written};
 
 use crate::bytes::bytes_above;
+use crate::imports::Imported;
 use crate::loaded::Loaded;
-use crate::opened::{Imported, OpenDictionary};
+use crate::opened::OpenDictionary;
 use crate::rooms::{Room, has_room};
-use crate::tables::tables_over;
 use ctf_check::Judged;
 use ctf_draft::Draft;
 use ctf_model::{Bytes, DataModel, Fault, Parts, placeless};
@@ -33,16 +35,14 @@ fn imported_over(
     ensures parent { IfOk result (λ i. option_map (λ i. i.parent) i ≡ option_copied parent.entry) }
     ensures fits { IfOk result (λ i. ForSome i (λ i. fault_over own.now i.parent ≡ None)) }
     ensures made { IfOk result (λ i. ForSome i
-        (λ i. AreTablesOf own.now (Some i.parent) i.tables)) }
+        (λ i. AreTablesOf own.now (Some i.parent) i.tables.value)) }
     ensures exact_err { IfErr result (λ f. (f ≡ want_of_memory)
         ⊎ (option_and_then (λ p. fault_over own.now p) (option_copied parent.entry) ≡ Some f)) }
 {
     let Some(parent) = parent else {
         return Ok(None);
     };
-    let tables = tables_over(alloc, own, parent, true)?;
-    let parent = parent.share()?;
-    Ok(Some(Imported { parent, tables }))
+    Ok(Some(Imported::build(alloc, own, parent, true)?))
 }
 
 /// The bytes of a draft as a dictionary, which is kept for its draft as well.
@@ -96,7 +96,7 @@ fn updated_over(
         ≡ option_copied parent.entry) }
     ensures fits { IfOk result (λ u. ForSome u.imported (λ i. fault_over u.own i.parent ≡ None)) }
     ensures made { IfOk result (λ u. ForSome u.imported
-        (λ i. AreTablesOf u.own (Some i.parent) i.tables)) }
+        (λ i. AreTablesOf u.own (Some i.parent) i.tables.value)) }
     ensures room { IfOk result (λ u. fits_in room (length u.own.lists.ctf
         + parent_bytes (option_copied parent.entry)) ≡ true) }
     ensures exact_err { IfErr result (λ f. (f ≡ want_of_memory)
@@ -209,6 +209,19 @@ impl OpenDictionary {
         })
     }
 
+    /// How many types the dictionary has, where there is room for it as it stands.
+    fn types_within(&self, room: Option<Room>) -> Result<u64, Fault>
+        ensures ok { IfOk result (λ n. n ≡ length (own_in self.now).terms) }
+        ensures room { OnOk result (fits_in room (open_bytes self.now) ≡ true) }
+        ensures exact_err { IfErr result (λ f. (f ≡ refusal QUOTA_FULL)
+            × (fits_in room (open_bytes self.now) ≡ false)) }
+    {
+        if !has_room(room, self.bytes()) {
+            return Err(placeless(Fault::QUOTA_FULL));
+        }
+        Ok(types_of(&self.own))
+    }
+
     /// Makes all that was added to its draft part of the dictionary, and answers how many types
     /// that has. A refusal changes nothing.
     pub fn update(&mut self, alloc: Global) -> Result<u64, Fault>
@@ -220,7 +233,7 @@ impl OpenDictionary {
         self.update_within(alloc, None)
     }
 
-    /// The same where there is room for what it makes.
+    /// The same where there is room for what it makes. Nothing is built where nothing is pending.
     pub fn update_within(&mut self, alloc: Global, room: Option<Room>) -> Result<u64, Fault>
         ensures ok { IfOk result (λ n.
             updated self.old ≡ Ok (record { served = self.new; answer = n })) }
@@ -234,6 +247,9 @@ impl OpenDictionary {
         let Some(draft) = &mut self.draft else {
             return Err(placeless(Fault::READ_ONLY));
         };
+        if draft.pending() == 0 {
+            return self.types_within(room);
+        }
         let update = updated_over(alloc, draft, parent_of(&self.imported), room)?;
         draft.settle(update.judged);
         self.own = update.own;

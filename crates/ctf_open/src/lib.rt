@@ -5,18 +5,21 @@
 mod adding;
 mod bytes;
 mod drafting;
+mod imports;
 mod loaded;
 mod opened;
 mod programs;
 mod questions;
 mod rooms;
+mod same;
 mod tables;
 
 pub use adding::Part;
 pub use bytes::owned_bytes;
+pub use imports::Imported;
 pub use loaded::{Loaded, MODEL_UNSAID};
-pub use opened::{Imported, OpenDictionary, parts_of};
+pub use opened::{OpenDictionary, parts_of};
 pub use programs::named_count;
 pub use questions::{array_of, encoding_of, signature_of};
 pub use rooms::Room;
-pub use tables::{Tables, tables_over};
+pub use tables::Tables;

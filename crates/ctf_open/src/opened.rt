@@ -1,7 +1,7 @@
 //! A dictionary that is open: the parent that it imported, and its draft.
 ghost use Rattle.std.specs.Prelude.{◌≡◌, ◌⊎◌, None, Some, IfOk, IfErr, OnOk, is_some, option_copied, option_map};
 ghost use Rattle.std.specs.Option.{ForSome};
-ghost use Rattle.ctf_model.specs.opened.Steps.{Refuses, import_refusal};
+ghost use Rattle.ctf_model.specs.opened.Steps.{Refuses};
 ghost use Rattle.ctf_model.specs.opened.Open.{own_in, pending_in, space_in};
 ghost use Rattle.ctf_check.specs.CheckedView.{dictionary_of, lists_of};
 ghost use Rattle.ctf_open.specs.Drafting.{IsUnder};
@@ -13,8 +13,9 @@ ghost use Rattle.ctf_model.specs.spaces.Kept.{fault_over};
 ghost use Rattle.ctf_space.specs.SpaceView.{own_lists, parent_lists, space_of};
 ghost use Rattle.ctf_symbols.specs.Fitting.{Fits};
 
+use crate::imports::Imported;
 use crate::loaded::Loaded;
-use crate::tables::{Tables, tables_over};
+use crate::tables::Tables;
 use ctf_check::{Checked, LentLists};
 use ctf_draft::Draft;
 use ctf_model::{Bytes, DataModel, Fault, Parts, placeless};
@@ -22,13 +23,6 @@ use ctf_space::Space;
 use ctf_symbols::SymbolMap;
 use std::alloc::{AllocError, Global};
 use std::marker::Model;
-
-/// The parent that was imported, and the tables of the dictionary over it.
-#[derive(Drop)]
-pub struct Imported {
-    pub parent: Loaded,
-    pub tables: Tables,
-}
 
 /// A dictionary, and its parent if it imported one. They may be shared with other sessions. Where
 /// there is a draft, the dictionary is what the draft's last update made, and the parent is the
@@ -43,8 +37,9 @@ pub struct OpenDictionary {
 impl Model for OpenDictionary {
     ghost use Rattle.std.specs.Prelude.{◌≡◌, None, Some, option_map};
     ghost use Rattle.std.specs.Option.{ForSome};
+    ghost use Rattle.ctf_model.specs.drafts.Drafts.{discarded};
     ghost use Rattle.ctf_model.specs.opened.Open.{Open};
-    ghost use Rattle.ctf_open.specs.Drafting.{IsUnder};
+    ghost use Rattle.ctf_open.specs.Drafting.{IsUnder, IsWritten};
     ghost use Rattle.ctf_open.specs.Fitting.{AreTablesOf};
     ghost use Rattle.ctf_model.specs.spaces.Kept.{fault_over};
 
@@ -57,8 +52,9 @@ impl Model for OpenDictionary {
     } };
 
     ghost invariant = { λ s. ForSome s.imported (λ i. fault_over s.own i.parent ≡ None)
-        × ForSome s.imported (λ i. AreTablesOf s.own (Some i.parent) i.tables)
-        × ForSome s.draft (λ d. IsUnder d.draft (option_map (λ i. i.parent) s.imported)) };
+        × ForSome s.imported (λ i. AreTablesOf s.own (Some i.parent) i.tables.value)
+        × ForSome s.draft (λ d. IsUnder d.draft (option_map (λ i. i.parent) s.imported))
+        × ForSome s.draft (λ d. IsWritten (discarded d.draft) s.own) };
 }
 
 /// A copy of a list, if it is there.
@@ -166,25 +162,6 @@ impl OpenDictionary {
         Ok(OpenDictionary::of(own))
     }
 
-    /// Imports the dictionary of another session as its parent, which they share. The parent of a
-    /// draft is that of its making. A refusal changes nothing.
-    pub fn import(&mut self, alloc: Global, parent: &OpenDictionary) -> Result<(), Fault>
-        ensures ok { OnOk result (self.new
-            ≡ record { own = self.old.own; parent = Some parent.now.own; draft = None }) }
-        ensures exact_ok { OnOk result (import_refusal self.old parent.now ≡ None) }
-        ensures exact_err { IfErr result (λ f.
-            Refuses (import_refusal self.old parent.now) f) }
-        ensures kept { IfErr result (λ f. self.new ≡ self.old) }
-    {
-        if self.draft.is_some() {
-            return Err(placeless(Fault::FIXED_PARENT));
-        }
-        let tables = tables_over(alloc, &self.own, &parent.own, true)?;
-        let parent = parent.own.share()?;
-        self.imported = Some(Imported { parent, tables });
-        Ok(())
-    }
-
     /// A dictionary without a parent.
     pub fn of(own: Loaded) -> OpenDictionary
         ensures { result ≡ record { own = own; parent = None; draft = None } }
@@ -194,17 +171,6 @@ impl OpenDictionary {
             imported: None,
             draft: None,
         }
-    }
-
-    /// Takes a parent that serves it, and its tables over that.
-    pub fn adopt(&mut self, imported: Imported)
-        requires undrafted { self.old.draft ≡ None }
-        requires fits { fault_over self.old.own imported.parent ≡ None }
-        requires made { AreTablesOf self.old.own (Some imported.parent) imported.tables }
-        ensures { self.new
-            ≡ record { own = self.old.own; parent = Some imported.parent; draft = None } }
-    {
-        self.imported = Some(imported);
     }
 
     /// Whether it has a parent.

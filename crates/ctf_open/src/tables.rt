@@ -47,7 +47,7 @@ impl Tables {
 
 /// The tables of a dictionary over another as its parent, or the fault of such an import. Whether
 /// the session has room for the parent is said; where it has not, none are built.
-pub fn tables_over(
+pub(crate) fn tables_over(
     alloc: Global,
     child: &Loaded,
     parent: &Loaded,

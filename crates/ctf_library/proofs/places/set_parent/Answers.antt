@@ -39,7 +39,7 @@ pub adopt-requires-clause-made : goal.adopt-requires-clause-made
 adopt-requires-clause-made c =
     let placed = ap (λ (xs : List own.Slot). place_of c.args.number (map slot_of xs)) (sym c.deref.ensures.value) ∙ sym c.in-Some.ensures in
     let here = (is_place c.args.number c.args.slots.now.items c.in-Some.place placed).found c.index_mut-slot.result.now ∙ ap (λ (s : own.Slot). Some (slot_of s)) (sym c.index_mut-slot.ensures.value) in
-    let L : Option Slot → Type 0 = λ o. IfSome o (λ slot. AreTablesOf slot.kept (Some c.args.imported.parent) c.args.imported.tables) in
+    let L : Option Slot → Type 0 = λ o. IfSome o (λ slot. AreTablesOf slot.kept (Some c.args.imported.parent) c.args.imported.tables.value) in
     subst L here c.requires.made
 
 pub returns-in-Some-clause-slots : goal.returns-in-Some-clause-slots

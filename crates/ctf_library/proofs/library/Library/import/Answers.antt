@@ -42,13 +42,13 @@ overflow_sub-charge c =
     let own_child = ap (λ (xs : List own.Slot). slot_at c.args.d (map slot_of xs)) (sym c.deref.ensures.value) ∙ sym c.in-Some.ensures in
     let child_at = ap (λ (s : State). slot_at c.args.d s.slots) (sym c.self.view_is) ∙ own_child in
     let old = c.parent_bytes-old.ensures.count in
-    let new = c.bytes-new.ensures.count ∙ ap kept_bytes c.own.ensures in
+    let new = c.bytes-new.ensures.count ∙ ap kept_bytes c.own-parent.ensures in
     let known = c.charge.ensures in
     let counts = slot_counts c.args.d (slot_of c.in-Some.child.now) c.args.self.now child_at in
     omega (arith, old, known, counts)
 
-pub returns-in_err-tables : goal.returns-in_err-tables
-returns-in_err-tables c =
+pub returns-in_err-imported : goal.returns-in_err-imported
+returns-in_err-imported c =
     let own_child = ap (λ (xs : List own.Slot). slot_at c.args.d (map slot_of xs)) (sym c.deref.ensures.value) ∙ sym c.in-Some.ensures in
     let child_at = ap (λ (s : State). slot_at c.args.d s.slots) (sym c.self.view_is) ∙ own_child in
     let parent_at = ap (λ (s : State). slot_at c.args.parent s.slots) (sym c.self.view_is) ∙ ap (λ (xs : List own.Slot). slot_at c.args.parent (map slot_of xs)) (sym c.deref-2.ensures.value) ∙ sym c.in-Some-find_slot.ensures in
@@ -56,13 +56,13 @@ returns-in_err-tables c =
     let child = slot_of c.in-Some.child.now in
     let parent = slot_of c.in-Some-find_slot.source.now in
     let old = c.parent_bytes-old.ensures.count in
-    let new = c.bytes-new.ensures.count ∙ ap kept_bytes c.own.ensures in
+    let new = c.bytes-new.ensures.count ∙ ap kept_bytes c.own-parent.ensures in
     let known = c.charge.ensures in
     let counts = slot_counts c.args.d child c.args.self.now child_at in
     let over : c.fits-has_room.result ≡ false → quota + parent_bytes child.parent < charge c.args.self.now + kept_bytes parent.kept = λ e. let lt = room_lt ((c.charge.result - c.parent_bytes-old.result) + c.bytes-new.result) (sym c.fits-has_room.ensures ∙ e) in omega (arith, lt, old, new, known, counts) in
-    let refused = subst (λ (k : Kept). (c.in_err-tables.field-0.0 ≡ want_of_memory) ⊎ IsUnserved c.fits-has_room.result (fault_over child.kept k) c.in_err-tables.field-0.0) c.own-3.ensures (subst (λ (k : Kept). (c.in_err-tables.field-0.0 ≡ want_of_memory) ⊎ IsUnserved c.fits-has_room.result (fault_over k c.own-3.result.now) c.in_err-tables.field-0.0) c.own-2.ensures c.in_err-tables.ensures.exact_err) in
+    let refused = subst (λ (k : Kept). (c.in_err-imported.field-0.0 ≡ want_of_memory) ⊎ IsUnserved c.fits-has_room.result (fault_over child.kept k) c.in_err-imported.field-0.0) c.own-parent.ensures c.in_err-imported.ensures.exact_err in
     let p = err_from_is_err_and c.from_residual.result c.from_residual.ensures.1 in
-    rw (p.1, p.2) (imports_refused c.args.d c.args.parent child parent c.args.self.now c.in_err-tables.field-0.0 c.fits-has_room.result child_at parent_at plain over refused)
+    rw (p.1, p.2) (imports_refused c.args.d c.args.parent child parent c.args.self.now c.in_err-imported.field-0.0 c.fits-has_room.result child_at parent_at plain over refused)
 
 pub overflow_sub-self : goal.overflow_sub-self
 overflow_sub-self c =
@@ -75,7 +75,7 @@ overflow_sub-self c =
 
 pub overflow_add-self : goal.overflow_add-self
 overflow_add-self c =
-    let le = room_le ((c.charge.result - c.parent_bytes-old.result) + c.bytes-new.result) (sym c.fits-has_room.ensures ∙ c.in_ok-tables.ensures.fits) in
+    let le = room_le ((c.charge.result - c.parent_bytes-old.result) + c.bytes-new.result) (sym c.fits-has_room.ensures ∙ c.in_ok-imported.ensures.fits) in
     let charged = c.charge.ensures ∙ counted_charge _ _ _ _ _ _ c.self.view_is c.self.invariant.2 in
     omega (arith, le, charged)
 
@@ -84,13 +84,13 @@ invariant_of-self c =
     let own_child = ap (λ (xs : List own.Slot). slot_at c.args.d (map slot_of xs)) (sym c.deref.ensures.value) ∙ sym c.in-Some.ensures in
     let child_at = ap (λ (s : State). slot_at c.args.d s.slots) (sym c.self.view_is) ∙ own_child in
     let old = c.parent_bytes-old.ensures.count in
-    let new = c.bytes-new.ensures.count ∙ ap kept_bytes c.own.ensures in
+    let new = c.bytes-new.ensures.count ∙ ap kept_bytes c.own-parent.ensures in
     let known = c.charge.ensures in
-    let le = room_le ((c.charge.result - c.parent_bytes-old.result) + c.bytes-new.result) (sym c.fits-has_room.ensures ∙ c.in_ok-tables.ensures.fits) in
+    let le = room_le ((c.charge.result - c.parent_bytes-old.result) + c.bytes-new.result) (sym c.fits-has_room.ensures ∙ c.in_ok-imported.ensures.fits) in
     let charged = c.charge.ensures ∙ counted_charge _ _ _ _ _ _ c.self.view_is c.self.invariant.2 in
     let child = slot_of c.in-Some.child.now in
-    let moved : bytes_in c.set_parent.new.slots.items + parent_bytes child.parent ≡ bytes_in c.self.inside.slots.items + kept_bytes c.in_ok-parent.parent = subst (λ (o : Option Slot). IfSome o (λ slot. bytes_in c.set_parent.new.slots.items + parent_bytes slot.parent ≡ bytes_in c.self.inside.slots.items + kept_bytes c.in_ok-parent.parent)) own_child c.set_parent.ensures.bytes in
-    let shared = ap kept_bytes (c.in_ok-parent.ensures ∙ c.own-4.ensures) in
+    let moved : bytes_in c.set_parent.new.slots.items + parent_bytes child.parent ≡ bytes_in c.self.inside.slots.items + kept_bytes c.in_ok-imported.imported.parent = subst (λ (o : Option Slot). IfSome o (λ slot. bytes_in c.set_parent.new.slots.items + parent_bytes slot.parent ≡ bytes_in c.self.inside.slots.items + kept_bytes c.in_ok-imported.imported.parent)) own_child c.set_parent.ensures.bytes in
+    let shared = ap kept_bytes (c.in_ok-imported.ensures.parent ∙ c.own-parent.ensures) in
     let less = without_bytes c.args.d child (map slot_of c.self.inside.slots.items) own_child in
     let slots = c.self.invariant.2.slots in
     let counts = slot_counts c.args.d child c.args.self.now child_at in
@@ -105,10 +105,10 @@ returns c =
     let child = slot_of c.in-Some.child.now in
     let parent = slot_of c.in-Some-find_slot.source.now in
     let old = c.parent_bytes-old.ensures.count in
-    let new = c.bytes-new.ensures.count ∙ ap kept_bytes c.own.ensures in
+    let new = c.bytes-new.ensures.count ∙ ap kept_bytes c.own-parent.ensures in
     let known = c.charge.ensures in
     let counts = slot_counts c.args.d child c.args.self.now child_at in
-    let le = room_le ((c.charge.result - c.parent_bytes-old.result) + c.bytes-new.result) (sym c.fits-has_room.ensures ∙ c.in_ok-tables.ensures.fits) in
-    let served = subst (λ (k : Kept). fault_over child.kept k ≡ None) c.own-3.ensures (subst (λ (k : Kept). fault_over k c.own-3.result.now ≡ None) c.own-2.ensures c.in_ok-tables.ensures.exact_ok) in
+    let le = room_le ((c.charge.result - c.parent_bytes-old.result) + c.bytes-new.result) (sym c.fits-has_room.ensures ∙ c.in_ok-imported.ensures.fits) in
+    let served = subst (λ (k : Kept). fault_over child.kept k ≡ None) c.own-parent.ensures c.in_ok-imported.ensures.exact_ok in
     let to = imports_done c.args.d c.args.parent child parent c.args.self.now child_at parent_at plain served (omega (arith, le, old, new, known, counts)) in
     rw to (inl (search rules, search rules))

@@ -1,0 +1,221 @@
+"""Sessions whose last request is made to be slow, and what grows with their number.
+
+Each function gives the lines of requests: all but the last make ready, and the last is timed."""
+import json
+import struct
+from dataclasses import dataclass
+from typing import Callable, Iterator
+
+import hostile_dictionaries as made
+from dictionaries import all_parts, dictionary, record
+
+LINE = 1_048_576
+INT = '"what":"integer","name":"int","size":4,"encoding":1,"offset":0,"bits":32'
+
+
+@dataclass(frozen=True)
+class Session:
+    """Requests that make ready, and the last, which is timed. `read` is how many megabytes of a
+    dictionary it reads, and `known` how many milliseconds it takes today where that is more than
+    is wanted."""
+
+    name: str
+    lines: Callable[[], Iterator[str]]
+    read: float = 0.0
+    known: float = 0.0
+
+
+@dataclass(frozen=True)
+class Growth:
+    """Requests of so many sessions, slots or types."""
+
+    name: str
+    size: int
+    lines: Callable[[int], Iterator[str]]
+
+
+def line(op, rest="", session=1):
+    return '{"s":%d,"op":"%s"%s}\n' % (session, op, "," + rest if rest else "")
+
+
+def opened(lists, session=1):
+    """The requests that hand in lists and open them."""
+    yield from all_parts(session, lists)
+    yield line("open", session=session)
+
+
+def added(what, d=1):
+    return line("add", '"d":%d,%s' % (d, what))
+
+
+def member(t, tnum, name="", d=1):
+    return added('"what":"member","t":%d,"type":%d,"name":"%s"' % (t, tnum, name), d)
+
+
+# ---- lines of a MB
+
+
+def filled(front, item, back, limit=LINE):
+    """A line of items, separated by commas, that is as long as a line may be."""
+    room = limit - len(front) - len(back)
+    return front + ",".join([item] * (room // (len(item) + 1))) + back + "\n"
+
+
+def unknown_field(item):
+    """A question with a list of items in a field that it does not have."""
+    yield from opened((dictionary(made.integer(0), b"\0"), b"", b""))
+    yield filled('{"s":1,"op":"kind","d":1,"t":1,"x":[', item, "]}")
+
+
+def too_deep():
+    """The same, with as many brackets in each other as there is room for."""
+    yield from opened((dictionary(made.integer(0), b"\0"), b"", b""))
+    front, half = '{"s":1,"op":"kind","d":1,"t":1,"x":', (LINE - 60) // 2
+    yield front + "[" * half + "]" * half + "}\n"
+
+
+def many_names():
+    yield from opened((dictionary(made.integer(0), b"\0"), b"", b""))
+    yield filled('{"s":1,"op":"path","d":1,"t":1,"names":[', '"a"', "]}")
+
+
+def many_arguments():
+    yield line("create")
+    yield added(INT)
+    yield filled('{"s":1,"op":"add","d":1,"what":"function","type":1,"args":[', "1", "]}")
+
+
+# ---- paths
+
+
+def steps(count, at_front):
+    """Structs of 1,023 members in each other, each member by a name of 2,000 bytes that the others
+    share but for one end, and the way through the last ones."""
+    length = 2000
+    names = [b"%04d" % i for i in range(1023)]
+    fill = b"a" * (length - 4)
+    texts = [name + fill if at_front else fill + name for name in names]
+    types = made.integer(0)
+    for i in range(count):
+        items = b"".join(struct.pack("<IHH", 1 + k * (length + 1), 1 + i, 0) for k in range(1023))
+        types += record(0, 6, 1023, 4, items)
+    yield from opened((dictionary(types, b"\0" + b"".join(t + b"\0" for t in texts)), b"", b""))
+    way = json.dumps([texts[-1].decode()] * count, separators=(",", ":"))
+    yield line("path", '"d":1,"t":%d,"names":%s' % (1 + count, way))
+
+
+# ---- values
+
+
+def nested_structs(depth):
+    """A value of structs in each other."""
+    types = made.integer(0)
+    for i in range(depth):
+        types += record(0, 6, 1, 4, struct.pack("<IHH", 0, 1 + i, 0))
+    yield from opened((dictionary(types, b"\0"), b"", b""))
+    yield line("show", '"d":1,"t":%d,"bytes":"00000000","offset":0' % (1 + depth))
+
+
+# ---- drafts
+
+
+def chained_draft(depth, width):
+    """A member at the bottom of a chain of structs, and then one at its top, which contains all."""
+    yield line("create")
+    yield added(INT)
+    for i in range(depth + 1):
+        yield added('"what":"struct","name":"s%d"' % i)
+    for i in range(1, depth):
+        for _ in range(width):
+            yield member(2 + i, 1 + i)
+    yield member(2, 1)
+    yield member(2 + depth, 1 + depth)
+
+
+def updated_again(megabytes):
+    """An update of a draft to which nothing was added since the last one. Its members have names
+    of a MB."""
+    yield line("create")
+    yield added(INT)
+    yield added('"what":"struct","name":"s"')
+    for i in range(megabytes):
+        yield member(2, 1, ("%03d" % i).rjust(1_000_000, "n"))
+    yield line("update", '"d":1')
+    yield line("update", '"d":1')
+
+
+# ---- what is staged or imported again
+
+
+def checked_again():
+    """A judgement of lists of 155 MB that were judged already."""
+    lists, _ = made.untold(2_600_000, 60_000_000)
+    filling = dictionary(made.integer(0), b"\0" + b"n" * 31_000_000 + b"\0")
+    yield from all_parts(1, (filling, *lists[1:]))
+    yield line("check")
+    yield line("check")
+
+
+def imported_again(count):
+    """An import of the parent that a child of unions has already."""
+    yield from opened((dictionary(made.integer(0), b"\0"), b"", b""))
+    items = struct.pack("<IHH", 0, 1, 0) * 1023
+    types = record(0, 7, 1023, 4, items) * count
+    yield from opened((dictionary(types, b"\0p\0", 1), b"", b""))
+    yield line("import", '"d":2,"parent":1')
+    yield line("import", '"d":2,"parent":1')
+
+
+SESSIONS = [
+    Session("line: 1 MB of lists, 100 deep, in an unknown field",
+            lambda: unknown_field("[" * 100 + "]" * 100), known=127),
+    Session("line: 1 MB of brackets in each other", too_deep),
+    Session("line: 1 MB of [],[],.. in an unknown field", lambda: unknown_field("[]"), known=19),
+    Session("line: 1 MB of 0,0,.. in an unknown field", lambda: unknown_field("0"), known=26),
+    Session("line: 1 MB of names of a path", many_names, known=34),
+    Session("line: 1 MB of arguments", many_arguments, known=34),
+    Session("path: 500 steps, 1,023 names unlike at the front", lambda: steps(500, True),
+            read=6.1, known=92),
+    Session("path: 500 steps, 1,023 names unlike at the end", lambda: steps(500, False),
+            read=6.1, known=130),
+    Session("show: 500 structs in each other", lambda: nested_structs(500)),
+    Session("add: a member on top of 500,000", lambda: chained_draft(500, 1000), known=7),
+    Session("update: nothing pending, 60 MB", lambda: updated_again(60)),
+    Session("check: 155 MB again", checked_again),
+    Session("import: the same parent, 65 MB", lambda: imported_again(7940)),
+]
+
+
+# ---- what grows
+
+
+def sessions(count):
+    """So many sessions, and a request of each."""
+    for session in range(1, 1 + count):
+        yield line("clear", session=session)
+    for session in range(1, 1 + count):
+        yield line("clear", session=session)
+
+
+def slots(count):
+    """Slots of one session, and a question to each."""
+    for d in range(1, 1 + count):
+        yield line("create")
+    for d in range(1, 1 + count):
+        yield line("info", '"d":%d' % d)
+
+
+def pending(count):
+    """Types of a draft, each of which names the one before it, and an update."""
+    yield line("create")
+    yield added(INT)
+    for i in range(1, count):
+        yield added('"what":"typedef","name":"t%d","type":%d' % (i, i if i % 400 else 1))
+    yield line("update", '"d":1')
+
+
+GROWTHS = [
+    Growth("sessions", 40_000, sessions),
+    Growth("slots", 1_000, slots),
+    Growth("pending types", 32_000, pending),
+]

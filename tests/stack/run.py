@@ -1,0 +1,234 @@
+#!/usr/bin/env python3
+"""Asks what goes deepest with as little stack as docs/LIMITS.md says is enough.
+
+usage: run.py PROGRAM [--thread THREAD] [--least]
+
+Each case is a dictionary or a draft as deep as the format's rules let it be, and one layer deeper,
+which is refused; or a line of brackets. PROGRAM answers its lines under `ulimit -s` as it does
+without: of SHOWN KiB where `show` is among them, and of ENOUGH KiB where it is not. THREAD is
+thread.c, compiled: it answers them on a thread with a stack of as much. With --least, the least
+stack that each case works with is told, in steps of 4 KiB. The status is 1 where something is
+answered otherwise.
+"""
+from __future__ import annotations
+
+import argparse
+import os
+import resource
+import struct
+import subprocess
+import sys
+from dataclasses import dataclass
+from typing import Callable, Iterable, Sequence
+
+from runs import ask, joined
+
+# What docs/LIMITS.md and clients/c/ctfd.h say that is needed, in KiB: for `show`, and for all else.
+SHOWN, ENOUGH = 448, 256
+STEP, MOST = 4, 8192
+LAYERS = 512
+INT = struct.pack("<I", 0x01000020)
+INTEGER, POINTER, ARRAY, FUNCTION, STRUCT, UNION, TYPEDEF, CONST = 1, 3, 4, 5, 6, 7, 10, 12
+
+
+@dataclass(frozen=True)
+class Case:
+    """Lines, and the KiB of stack that are enough for them."""
+
+    name: str
+    lines: list[bytes]
+    enough: int = ENOUGH
+
+
+def record(kind: int, vlen: int, field: int, rest: bytes = b"") -> bytes:
+    return struct.pack("<IHH", 0, kind << 11 | vlen, field) + rest
+
+
+def dictionary(types: Iterable[bytes]) -> bytes:
+    """An integer, and types behind it."""
+    body = record(INTEGER, 0, 4, INT) + b"".join(types)
+    return b"\xf1\xcf\x02\x00" + struct.pack("<8I", 0, 0, 0, 0, 0, 0, len(body), 1) + body + b"\0"
+
+
+# ---- types over the one of a number
+
+
+def aggregate(kind: int, count: int) -> Callable[[int], bytes]:
+    """A struct or union whose last member is the one that goes on."""
+    first = struct.pack("<IHH", 0, 1, 0) * (count - 1)
+    return lambda t: record(kind, count, 4, first + struct.pack("<IHH", 0, t, 0))
+
+
+def array(t: int) -> bytes:
+    return record(ARRAY, 0, 0, struct.pack("<HHI", t, 1, 1))
+
+
+def function(t: int) -> bytes:
+    """A function that takes and returns what it stands over."""
+    return record(FUNCTION, 2, t, struct.pack("<HH", t, 0))
+
+
+def taking(t: int) -> bytes:
+    """A function that takes it and returns an integer."""
+    return record(FUNCTION, 2, 1, struct.pack("<HH", t, 0))
+
+
+def plain(kind: int) -> Callable[[int], bytes]:
+    return lambda t: record(kind, 0, t)
+
+
+def turns(*kinds: Callable[[int], bytes]) -> Callable[[int, int], bytes]:
+    return lambda i, t: kinds[i % len(kinds)](t)
+
+
+VALUES = {
+    "structs": turns(aggregate(STRUCT, 1)),
+    "structs of two members": turns(aggregate(STRUCT, 2)),
+    "unions": turns(aggregate(UNION, 2)),
+    "arrays": turns(array),
+    "typedefs": turns(plain(TYPEDEF)),
+    "constants": turns(plain(CONST)),
+    "structs of arrays of typedefs": turns(aggregate(STRUCT, 2), array, plain(TYPEDEF)),
+}
+DECLARATIONS = {
+    "pointers": turns(plain(POINTER)),
+    "pointers to arrays": turns(array, plain(POINTER)),
+    "pointers to constants": turns(plain(CONST), plain(POINTER)),
+    "functions that return pointers to functions": turns(function, plain(POINTER)),
+    "functions that take pointers to functions": turns(taking, plain(POINTER)),
+}
+
+
+def handed_in(data: bytes) -> list[bytes]:
+    return [ask(1, "part", section="ctf", bytes=data.hex()), ask(1, "check"), ask(1, "open")]
+
+
+def chain(over: Callable[[int, int], bytes], layers: int) -> bytes:
+    return dictionary(over(i, 1 + i) for i in range(layers))
+
+
+def asked(layers: int, **words: dict[str, object]) -> list[bytes]:
+    """Words that go down a type, asked of some of them, of the top too."""
+    return [ask(1, word, d=1, t=t, **fields)
+            for t in (layers + 1, layers, layers // 2) for word, fields in words.items()]
+
+
+def shown(layers: int) -> list[bytes]:
+    return asked(layers, show={"bytes": "0000000000000000", "offset": 0})
+
+
+def questions(layers: int) -> list[bytes]:
+    return asked(layers, name={}, size={}, align={}, resolve={}, pointer={},
+                 path={"names": [""] * layers})
+
+
+def deep_types() -> Iterable[Case]:
+    """Types as deep as they may be, and one layer deeper, which is refused."""
+    for name, over in {**VALUES, **DECLARATIONS}.items():
+        for layers in (LAYERS, LAYERS + 1):
+            opened = handed_in(chain(over, layers))
+            yield Case(f"{layers} {name}", opened + questions(layers))
+            yield Case(f"{layers} {name}, shown", opened + shown(layers), SHOWN)
+    yield Case("32,000 structs in each other", handed_in(chain(VALUES["structs"], 32_000)))
+    yield Case("32,000 pointers", handed_in(chain(DECLARATIONS["pointers"], 32_000)))
+
+
+def deep_drafts() -> Iterable[Case]:
+    """Structs in each other, a member at the bottom, one on top, and an update."""
+    for layers in (LAYERS, LAYERS + 1):
+        lines = [ask(1, "create"),
+                 ask(1, "add", d=1, what="integer", size=4, encoding=1, offset=0, bits=32)]
+        lines += [ask(1, "add", d=1, what="struct") for _ in range(layers + 1)]
+        lines += [ask(1, "add", d=1, what="member", t=3 + i, type=2 + i) for i in range(layers)]
+        lines += [ask(1, "add", d=1, what="member", t=2, type=1),
+                  ask(1, "add", d=1, what="member", t=1 + layers, type=layers),
+                  ask(1, "update", d=1)]
+        yield Case(f"a draft of {layers} structs in each other", lines + questions(layers))
+        yield Case(f"a draft of {layers} structs, shown", lines + shown(layers), SHOWN)
+
+
+def found_by_name() -> Case:
+    """Long names that are written in a question."""
+    stars = "int" + "*" * 500_000
+    return Case("names of 500,000 stars",
+                handed_in(dictionary([])) + [ask(1, "find", d=1, text=stars)])
+
+
+def bracketed() -> Case:
+    """Lines of brackets in each other."""
+    lines = [b'{"s":1,"op":"clear","x":' + b"[" * n + b"]" * n + b"}"
+             for n in (126, 127, 500_000)]
+    lines += [b'{"s":1,"op":"clear","x":' + b'{"a":' * n + b"1" + b"}" * n + b"}"
+              for n in (126, 127, 100_000)]
+    return Case("lines of brackets in each other", lines)
+
+
+def cases() -> list[Case]:
+    return [*deep_types(), *deep_drafts(), found_by_name(), bracketed()]
+
+
+# ---- who answers
+
+
+@dataclass(frozen=True)
+class Answering:
+    """A command that answers lines with so many KiB of stack."""
+
+    name: str
+    command: Callable[[int], Sequence[str]]
+    is_bounded: bool
+
+    def answers(self, case: Case, kibibytes: int) -> bytes:
+        """What is replied with so much stack, and how that ends."""
+
+        def bound() -> None:
+            if self.is_bounded:
+                resource.setrlimit(resource.RLIMIT_STACK, (kibibytes * 1024, kibibytes * 1024))
+
+        done = subprocess.run(self.command(kibibytes), input=joined(case.lines),
+                              capture_output=True, preexec_fn=bound, env={}, check=False)
+        return done.stdout + b"status %d\n" % done.returncode
+
+    def least(self, case: Case, wanted: bytes) -> int:
+        """The least stack of so many KiB that a case works with."""
+        low, high = 0, MOST
+        while high - low > STEP:
+            middle = (low + high) // 2 // STEP * STEP
+            if self.answers(case, middle) == wanted:
+                high = middle
+            else:
+                low = middle
+        return high
+
+
+def answering(program: str, thread: str | None) -> list[Answering]:
+    service = Answering("a service", lambda _: [program, "serve"], True)
+    if thread is None:
+        return [service]
+    return [service, Answering("a thread", lambda kibibytes: [thread, str(kibibytes)], False)]
+
+
+def main() -> int:
+    parser = argparse.ArgumentParser(description=__doc__,
+                                     formatter_class=argparse.RawDescriptionHelpFormatter)
+    parser.add_argument("program")
+    parser.add_argument("--thread")
+    parser.add_argument("--least", action="store_true")
+    options = parser.parse_args()
+    who = answering(os.path.abspath(options.program), options.thread)
+    checks = wrong = 0
+    for case in cases():
+        wanted = who[0].answers(case, MOST)
+        for one in who:
+            checks += 1
+            if options.least:
+                print(f"{case.name:58}{one.name:12}{one.least(case, wanted):6} KiB", flush=True)
+            elif one.answers(case, case.enough) != wanted:
+                print(f"{case.name}: {one.name} answers otherwise with {case.enough} KiB of stack")
+                wrong += 1
+    print(f"stack: {checks} checks, {wrong} wrong")
+    return 1 if wrong else 0
+
+
+if __name__ == "__main__":
+    sys.exit(main())
