@@ -1,14 +1,13 @@
 //! Dictionaries under the names that a session published them by.
-ghost use Rattle.std.specs.Prelude.{◌≡◌, ◌+◌, ◌<◌, ◌^◌, ◌++◌, [], ◌∷◌, None, IfErr, OnErr, OnOk, is_some, option_map, sum_by};
+ghost use Rattle.std.specs.Prelude.{◌≡◌, ◌+◌, ◌<◌, ◌^◌, ◌++◌, [], ◌∷◌, None, OnErr, OnOk, is_some, option_map, sum_by};
 ghost use Rattle.ctf_model.specs.opened.Sizes.{kept_bytes};
-ghost use Rattle.ctf_model.specs.rules.Refusals.{want_of_memory};
 ghost use Rattle.ctf_protocol.specs.sessions.Charges.{publication_bytes};
 ghost use Rattle.ctf_protocol.specs.sessions.Publications.{published_as, published_without};
 
 use crate::publication::Publication;
 use ctf_open::Loaded;
-use ctf_protocol::{Fault, PublicationName, placeless};
-use std::alloc::Global;
+use ctf_protocol::PublicationName;
+use std::alloc::{AllocError, Global};
 use std::collections::BTreeMap;
 use std::marker::Model;
 
@@ -67,16 +66,15 @@ impl Publications {
 
     /// Publishes a dictionary under a name that has none yet. Where memory is refused, nothing
     /// changes; so it is too where 64 bits can't count one publication more.
-    pub fn add(&mut self, name: &PublicationName, loaded: Loaded) -> Result<(), Fault>
+    pub fn add(&mut self, name: &PublicationName, loaded: Loaded) -> Result<(), AllocError>
         requires free { published_as name.now self.old ≡ None }
         requires small { sum_by publication_bytes self.old + kept_bytes loaded < 2 ^ 128 }
         ensures ok { OnOk result (self.new
             ≡ self.old ++ (record { name = name.now; kept = loaded }) ∷ []) }
-        ensures err { IfErr result (λ f. f ≡ want_of_memory) }
-        ensures exact_err { OnErr result (self.new ≡ self.old) }
+        ensures err { OnErr result (self.new ≡ self.old) }
     {
         if self.turns == u64::MAX {
-            return Err(placeless(Fault::MEMORY));
+            return Err(AllocError);
         }
         let bytes = loaded.bytes();
         let publication = Publication {
@@ -84,9 +82,7 @@ impl Publications {
             loaded,
         };
         let key = Vec::from_slice(self.alloc, name.as_slice())?;
-        let Ok(_) = self.by_name.insert(key, publication) else {
-            return Err(placeless(Fault::MEMORY));
-        };
+        self.by_name.insert(key, publication)?;
         self.turns += 1;
         self.bytes += bytes;
         Ok(())

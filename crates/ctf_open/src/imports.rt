@@ -10,7 +10,7 @@ use crate::loaded::Loaded;
 use crate::opened::OpenDictionary;
 use crate::tables::{Tables, tables_over};
 use ctf_model::{Fault, placeless};
-use std::alloc::Global;
+use std::alloc::{AllocError, Global};
 use std::rc::Rc;
 
 /// The parent that was imported, and the tables of the dictionary over it, which an import of the
@@ -19,6 +19,15 @@ use std::rc::Rc;
 pub struct Imported {
     pub parent: Loaded,
     pub tables: Rc<Tables>,
+}
+
+/// A value, to be shared.
+fn shared<T>(alloc: Global, value: T) -> Result<Rc<T>, AllocError>
+where
+    T: Drop,
+    ensures { IfOk result (λ shared. shared.value ≡ value) }
+{
+    Ok(Rc::new(alloc, value)?)
 }
 
 /// The tables of a dictionary over a parent, to be shared.
@@ -30,10 +39,7 @@ fn new_tables(alloc: Global, own: &Loaded, parent: &Loaded, fits: bool) -> Resul
         ⊎ IsUnserved fits (fault_over own.now parent.now) f) }
 {
     let tables = tables_over(alloc, own, parent, fits)?;
-    match Rc::new(alloc, tables) {
-        Ok(tables) => Ok(tables),
-        Err(_) => Err(placeless(Fault::MEMORY)),
-    }
+    Ok(shared(alloc, tables)?)
 }
 
 impl Imported {

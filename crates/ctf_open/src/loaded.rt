@@ -59,10 +59,7 @@ fn kept(alloc: Global, dictionary: &Judged<'_>) -> Result<Rc<Derived>, AllocErro
 {
     let symbols = SymbolMap::build(alloc, &dictionary.view())?;
     let tables = Tables::build(alloc, dictionary)?;
-    match Rc::new(alloc, Derived { symbols, tables }) {
-        Ok(kept) => Ok(kept),
-        Err(_) => Err(AllocError),
-    }
+    Ok(Rc::new(alloc, Derived { symbols, tables })?)
 }
 
 /// The lists of a dictionary that owns them.
