@@ -302,6 +302,13 @@ enum ctfd_status ctfd_member(struct ctfd *handle, uint16_t t, size_t index, char
 enum ctfd_status ctfd_enumerator(struct ctfd *handle, uint16_t t, size_t index, char *name,
     size_t name_len, int32_t *value, uint64_t *len);
 
+/* The name of the first enumerator of an enum that has a value, and the value of the first that has
+ * a name. CTFD_NO_MEMBER where none has it; of other kinds CTFD_WRONG_KIND. */
+enum ctfd_status ctfd_enum_name(struct ctfd *handle, uint16_t t, int32_t value, char *text,
+    size_t text_len, uint64_t *len);
+enum ctfd_status ctfd_enum_value(struct ctfd *handle, uint16_t t, const char *name,
+    size_t name_len, int32_t *value);
+
 /* What a function type returns, and the type of an argument: a last 0 says that more may follow.
  * Refused alike. */
 enum ctfd_status ctfd_return(struct ctfd *handle, uint16_t t, uint16_t *out);

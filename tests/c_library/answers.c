@@ -107,6 +107,18 @@ static void places(uint16_t t, const char *name, uint64_t name_len)
     free(step);
 }
 
+/* The first enumerator that has the name in the room, and the first that has a value. */
+static void firsts(uint16_t t, uint64_t name_len, int32_t value)
+{
+    int32_t found = 0;
+    uint64_t len = 0;
+    enum ctfd_status status = ctfd_enum_value(&types, t, room, name_len, &found);
+    printf("enum value %u %s: %s %d\n", t, shown(room, name_len), ctfd_status_name(status), found);
+    status = ctfd_enum_name(&types, t, value, room, sizeof room, &len);
+    printf("enum name %u %d: %s\n", t, value,
+        status == CTFD_OK ? shown(room, len) : ctfd_status_name(status));
+}
+
 static void lists(uint16_t t)
 {
     struct ctfd_member member;
@@ -126,6 +138,7 @@ static void lists(uint16_t t)
         if (status != CTFD_OK)
             break;
         printf("enumerator %u %zu: %s %d\n", t, i, shown(room, len), value);
+        firsts(t, len, value);
     }
     printf("enumerators %u: %zu %s\n", t, i, ctfd_status_name(status));
     for (i = 0; (status = ctfd_argument(&types, t, i, &to)) == CTFD_OK; i++)

@@ -158,17 +158,19 @@ static void ask_name(struct ctfd *d)
     char *text = some_text(&len);
     uint64_t offset = 77, place;
     uint32_t number = 77;
+    int32_t value = 77;
     uint16_t to = 77;
     enum ctfd_status status;
-    switch (below(5)) {
+    switch (below(6)) {
     case 0: status = ctfd_find(d, text, len, &to); break;
     case 1: status = ctfd_symbol(d, text, len, &number); break;
     case 2: status = ctfd_label_last(d, text, len, &number); break;
     case 3: status = ctfd_field(d, some_type(), text, len, &offset, &to); break;
+    case 4: status = ctfd_enum_value(d, some_type(), text, len, &value); break;
     default: status = ctfd_path(d, some_type(), text, len + below(2), &offset, &to, &place); break;
     }
     count(status);
-    CHECK(status == CTFD_OK || (offset == 77 && number == 77 && to == 77));
+    CHECK(status == CTFD_OK || (offset == 77 && number == 77 && value == 77 && to == 77));
     free(text);
 }
 
@@ -187,7 +189,7 @@ static void ask_text(struct ctfd *d)
     memory.at = (uint8_t *)calloc(1, memory.len != 0 ? memory.len : 1);
     if (memory.at == NULL)
         exit(2);
-    switch (below(10)) {
+    switch (below(11)) {
     case 0: status = ctfd_name(d, t, text, room, &len); break;
     case 1: status = ctfd_declared_name(d, t, text, room, &len); break;
     case 2:
@@ -199,6 +201,7 @@ static void ask_text(struct ctfd *d)
     case 6: status = ctfd_label(d, some_index(), text, room, &label); break;
     case 7: status = ctfd_parent_name(d, text, room, &len); break;
     case 8: status = ctfd_parent_label(d, text, room, &len); break;
+    case 9: status = ctfd_enum_name(d, t, (int32_t)below(100), text, room, &len); break;
     default: status = ctfd_bytes(d, below(30000), text, room, &len); break;
     }
     count(status);

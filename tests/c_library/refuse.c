@@ -197,6 +197,8 @@ static void take_none(void)
         (void)ctfd_encoding(&types, (uint16_t)t, &encoding);
         (void)ctfd_member(&types, (uint16_t)t, 1, text, sizeof text, &member);
         (void)ctfd_enumerator(&types, (uint16_t)t, 1, text, sizeof text, &value, &wide);
+        (void)ctfd_enum_name(&types, (uint16_t)t, 1, text, sizeof text, &wide);
+        (void)ctfd_enum_value(&types, (uint16_t)t, "OP_MOVE", 7, &value);
         (void)ctfd_field(&types, (uint16_t)t, "next", 4, &wide, &to);
         (void)ctfd_declared_name(&types, (uint16_t)t, text, sizeof text, &wide);
         (void)ctfd_object(&types, (uint32_t)t, &to);

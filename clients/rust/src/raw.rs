@@ -146,6 +146,21 @@ extern "C" {
         value: *mut i32,
         len: *mut u64,
     ) -> u32;
+    pub fn ctfd_enum_name(
+        handle: *mut Handle,
+        t: u16,
+        value: i32,
+        text: *mut u8,
+        text_len: usize,
+        len: *mut u64,
+    ) -> u32;
+    pub fn ctfd_enum_value(
+        handle: *mut Handle,
+        t: u16,
+        name: *const u8,
+        name_len: usize,
+        value: *mut i32,
+    ) -> u32;
     pub fn ctfd_return(handle: *mut Handle, t: u16, out: *mut u16) -> u32;
     pub fn ctfd_argument(handle: *mut Handle, t: u16, index: usize, out: *mut u16) -> u32;
     pub fn ctfd_resolve(handle: *mut Handle, t: u16, out: *mut u16) -> u32;

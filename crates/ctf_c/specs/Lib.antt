@@ -4,4 +4,5 @@ pub mod Naming
 pub mod Owned
 pub mod OptionBoxes
 pub mod handles
+pub mod names
 pub mod service

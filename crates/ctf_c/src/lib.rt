@@ -4,10 +4,12 @@
 mod additions;
 mod drafts;
 mod encodings;
+mod enumerators;
 mod given;
 mod handle;
 mod handles;
 mod lists;
+mod names;
 mod opening;
 mod paths;
 mod service;
