@@ -211,6 +211,30 @@ static void ask_text(struct ctfd *d)
     free(memory.at);
 }
 
+/* Rows in a block of just their length. */
+static void ask_rows(struct ctfd *d)
+{
+    size_t len = below(5), room = len != 0 ? len : 1;
+    struct ctfd_member_row *members =
+        (struct ctfd_member_row *)calloc(room, sizeof *members);
+    struct ctfd_enumerator_row *enumerators =
+        (struct ctfd_enumerator_row *)calloc(room, sizeof *enumerators);
+    uint64_t all = 77;
+    uint16_t t = some_type();
+    enum ctfd_status status;
+    if (members == NULL || enumerators == NULL)
+        exit(2);
+    status = ctfd_members(d, t, some_index(), members, len, &all);
+    count(status);
+    CHECK(status == CTFD_OK || (all == 77 && members[0].type == 0));
+    all = 77;
+    status = ctfd_enumerators(d, t, some_index(), enumerators, len, &all);
+    count(status);
+    CHECK(status == CTFD_OK || (all == 77 && enumerators[0].name_at == 0));
+    free(members);
+    free(enumerators);
+}
+
 /* Something is added to what may be a draft. */
 static void add(struct ctfd *d)
 {
@@ -249,9 +273,10 @@ static void add(struct ctfd *d)
 static void call(void)
 {
     struct ctfd *d = &open_ones[below(HANDLES)];
-    switch (below(6)) {
+    switch (below(7)) {
     case 0: ask_parts(d); break;
     case 1: ask_name(d); break;
+    case 4: ask_rows(d); break;
     case 2: ask_text(d); break;
     case 3: add(d); break;
     default: ask_number(d); break;

@@ -43,6 +43,23 @@ pub struct Member {
 
 #[repr(C)]
 #[derive(Default)]
+pub struct MemberRow {
+    pub offset: u64,
+    pub name_at: u64,
+    pub name_list: u32,
+    pub tnum: u16,
+}
+
+#[repr(C)]
+#[derive(Default)]
+pub struct EnumeratorRow {
+    pub name_at: u64,
+    pub name_list: u32,
+    pub value: i32,
+}
+
+#[repr(C)]
+#[derive(Default)]
 pub struct Label {
     pub name_len: u64,
     pub last: u32,
@@ -160,6 +177,22 @@ extern "C" {
         name: *const u8,
         name_len: usize,
         value: *mut i32,
+    ) -> u32;
+    pub fn ctfd_members(
+        handle: *mut Handle,
+        t: u16,
+        from: usize,
+        rows: *mut MemberRow,
+        rows_len: usize,
+        count: *mut u64,
+    ) -> u32;
+    pub fn ctfd_enumerators(
+        handle: *mut Handle,
+        t: u16,
+        from: usize,
+        rows: *mut EnumeratorRow,
+        rows_len: usize,
+        count: *mut u64,
     ) -> u32;
     pub fn ctfd_return(handle: *mut Handle, t: u16, out: *mut u16) -> u32;
     pub fn ctfd_argument(handle: *mut Handle, t: u16, index: usize, out: *mut u16) -> u32;

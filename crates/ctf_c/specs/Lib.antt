@@ -6,3 +6,4 @@ pub mod OptionBoxes
 pub mod handles
 pub mod names
 pub mod service
+pub mod Rowed

@@ -12,6 +12,7 @@ mod lists;
 mod names;
 mod opening;
 mod paths;
+mod rows;
 mod service;
 mod symbols;
 mod texts;
