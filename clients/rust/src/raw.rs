@@ -41,20 +41,31 @@ pub struct Member {
     pub tnum: u16,
 }
 
+/// A member, and where its name stands: so many bytes behind the beginning of a list, and a zero byte
+/// behind it. List 0 is the CTF section, 1 the strings of the symbol table; 2 is no list, of an empty
+/// name. In a child, types below 32769 are the parent's, and so are their lists.
 #[repr(C)]
-#[derive(Default)]
+#[derive(Clone, Copy, Debug, Default, PartialEq, Eq)]
 pub struct MemberRow {
+    /// Where it begins, in bits.
     pub offset: u64,
+    /// How many bytes stand in front of its name.
     pub name_at: u64,
+    /// The number of the list that its name stands in.
     pub name_list: u32,
+    /// The number of its type.
     pub tnum: u16,
 }
 
+/// An enumerator, and where its name stands, as of a [`MemberRow`].
 #[repr(C)]
-#[derive(Default)]
+#[derive(Clone, Copy, Debug, Default, PartialEq, Eq)]
 pub struct EnumeratorRow {
+    /// How many bytes stand in front of its name.
     pub name_at: u64,
+    /// The number of the list that its name stands in.
     pub name_list: u32,
+    /// Its value.
     pub value: i32,
 }
 
