@@ -1,7 +1,7 @@
 #!/usr/bin/env python3
 """Measures calls of libctfd.a by both headers, beside those of GNU libctf, on real dictionaries.
 
-usage: bench/c_library.py [--profile QUESTION] [--no-gnu] [CTF..]
+usage: bench/c_library.py [--profile QUESTION] [--no-gnu] [--first] [CTF..]
 
 Each CTF is a dictionary of version 2, by itself: examples/lua.ctf where none is named. The archive
 is the one that CTFD_ARCHIVE names, else crates/ctf_c/out/libctfd.a. The same types are written by
@@ -9,7 +9,8 @@ GNU libctf for itself (gnu_dictionary.py), so both are asked of the same.
 
 Each question is asked of all that it is for, again and again for some 0.2 s of processor time, five
 times, and the least counts; instructions are what callgrind counts more for more rounds. So what is
-kept of a first round helps the others, in each library. Prints a table in Markdown for each
+kept of a first round helps the others, in each library. With --first only instructions are counted,
+those of the first round of a file that was just opened. Prints a table in Markdown for each
 dictionary. With --profile it prints where callgrind says that a question's instructions go, by the
 calls of libctf.
 
@@ -101,6 +102,12 @@ def instructions(command: list[str], question: str) -> float:
     return per * 1e6 / size if question == "open" else per
 
 
+def first_instructions(command: list[str], question: str) -> float:
+    """What a call of the first round takes, before anything is kept."""
+    calls = asked(command, question, 1)[0]
+    return (counted(command, question, 1) - counted(command, question, 0)) / calls
+
+
 def profile(command: list[str], question: str, work: Path) -> None:
     """Prints the functions that a question's instructions are in."""
     out = work / "callgrind.out"
@@ -111,20 +118,25 @@ def profile(command: list[str], question: str, work: Path) -> None:
     print(*said.splitlines()[:60], sep="\n")
 
 
-def cells(command: list[str], question: str) -> list[str]:
-    """What a call costs, in nanoseconds and instructions; nothing where there is no such call."""
+def cells(command: list[str], question: str, is_first: bool) -> list[str]:
+    """What a call costs, in nanoseconds and instructions, or in instructions of the first round;
+    nothing where there is no such call."""
     if asked(command, question, 1)[0] == 0:
-        return ["", ""]
+        return [""] if is_first else ["", ""]
+    if is_first:
+        return [f"{first_instructions(command, question):,.0f}"]
     return [f"{nanoseconds(command, question):,.0f}", f"{instructions(command, question):,.0f}"]
 
 
-def show(commands: dict[str, list[str]], ctf: Path) -> None:
+def show(commands: dict[str, list[str]], ctf: Path, is_first: bool) -> None:
     """Prints the table of a dictionary, and the machine's load before and behind it."""
     print(f"{ctf}; load before: {os.getloadavg()[0]:.1f}", file=sys.stderr)
-    heads = [f"{name}: {what}" for name in commands for what in ("ns", "instructions")]
+    told = ["first"] if is_first else ["ns", "instructions"]
+    heads = [f"{name}: {what}" for name in commands for what in told]
     print(f"| call | {' | '.join(heads)} |", "|---" * (len(heads) + 1) + "|", sep="\n")
     for question, shown in QUESTIONS.items():
-        row = [cell for command in commands.values() for cell in cells(command, question)]
+        row = [cell for command in commands.values()
+               for cell in cells(command, question, is_first)]
         print(f"| {shown} | {' | '.join(row)} |", flush=True)
     print(f"load after: {os.getloadavg()[0]:.1f}", file=sys.stderr)
 
@@ -134,6 +146,7 @@ def main() -> int:
     options = argparse.ArgumentParser(usage=__doc__.split("usage: ")[1].split("\n")[0])
     options.add_argument("--profile", choices=QUESTIONS)
     options.add_argument("--no-gnu", action="store_true")
+    options.add_argument("--first", action="store_true")
     options.add_argument("ctf", type=Path, nargs="*", default=[TOP / "examples" / "lua.ctf"])
     given = options.parse_args()
     archive = subprocess.run([TOP / "tests" / "archive.py", "--kept"], check=True, text=True,
@@ -145,7 +158,7 @@ def main() -> int:
             if given.profile:
                 profile(commands["ctfd_libctf.h"], given.profile, work)
             else:
-                show(commands, ctf)
+                show(commands, ctf, given.first)
     return 0
 
 

@@ -304,6 +304,45 @@ enum ctfd_status ctfd_member(struct ctfd *handle, uint16_t t, size_t index, char
 enum ctfd_status ctfd_enumerator(struct ctfd *handle, uint16_t t, size_t index, char *name,
     size_t name_len, int32_t *value, uint64_t *len);
 
+/* The name of the first enumerator of an enum that has a value, and the value of the first that has
+ * a name. CTFD_NO_MEMBER where none has it; of other kinds CTFD_WRONG_KIND. */
+enum ctfd_status ctfd_enum_name(struct ctfd *handle, uint16_t t, int32_t value, char *text,
+    size_t text_len, uint64_t *len);
+enum ctfd_status ctfd_enum_value(struct ctfd *handle, uint16_t t, const char *name,
+    size_t name_len, int32_t *value);
+
+/* Members and enumerators by the row. The name of one stands `name_at` bytes behind the beginning
+ * of a list of the dictionary that has the type, with a zero byte behind it: of the CTF section
+ * where `name_list` is 0, of the strings of the symbol table where it is 1. Where it is 2 the name
+ * is empty. These lists are the bytes that ctfd_open or ctfd_open_lent was given, or, of a draft,
+ * what ctfd_bytes gives. In a child, types below 32769 are the parent's, and so are their lists. */
+enum ctfd_list {
+    CTFD_IN_SECTION = 0,
+    CTFD_IN_STRINGS = 1,
+    CTFD_NOWHERE = 2
+};
+
+struct ctfd_member_row {
+    uint64_t offset;
+    uint64_t name_at;
+    uint32_t name_list;
+    uint16_t type;
+};
+
+struct ctfd_enumerator_row {
+    uint64_t name_at;
+    uint32_t name_list;
+    int32_t value;
+};
+
+/* Fills rows with the members of a struct or union, or the enumerators of an enum, from number
+ * `from` on and as far as both reach; rows behind the last stay. `*count` is how many the type has
+ * in all. Of other kinds CTFD_WRONG_KIND. */
+enum ctfd_status ctfd_members(struct ctfd *handle, uint16_t t, size_t from,
+    struct ctfd_member_row *rows, size_t rows_len, uint64_t *count);
+enum ctfd_status ctfd_enumerators(struct ctfd *handle, uint16_t t, size_t from,
+    struct ctfd_enumerator_row *rows, size_t rows_len, uint64_t *count);
+
 /* What a function type returns, and the type of an argument: a last 0 says that more may follow.
  * Refused alike. */
 enum ctfd_status ctfd_return(struct ctfd *handle, uint16_t t, uint16_t *out);
@@ -478,6 +517,7 @@ CTFD_ASSERT(sizeof(struct ctfd) == 16 && sizeof(bool) == 1 && sizeof(size_t) == 
 CTFD_ASSERT(sizeof(struct ctfd_encoding) == 12 && sizeof(struct ctfd_array) == 8);
 CTFD_ASSERT(sizeof(struct ctfd_member) == 24 && sizeof(struct ctfd_label) == 16);
 CTFD_ASSERT(sizeof(struct ctfd_function) == 16);
+CTFD_ASSERT(sizeof(struct ctfd_member_row) == 24 && sizeof(struct ctfd_enumerator_row) == 16);
 #undef CTFD_ASSERT
 
 #ifdef __cplusplus

@@ -6,6 +6,9 @@
 
 static struct ctfd types = CTFD_NONE;
 
+/* The lists that names stand in, by their numbers. */
+static struct bytes section, strings;
+
 /* Room for a text of any length that is answered. */
 static char room[1 << 17];
 static char escaped[4 * sizeof room];
@@ -107,6 +110,18 @@ static void places(uint16_t t, const char *name, uint64_t name_len)
     free(step);
 }
 
+/* The first enumerator that has the name in the room, and the first that has a value. */
+static void firsts(uint16_t t, uint64_t name_len, int32_t value)
+{
+    int32_t found = 0;
+    uint64_t len = 0;
+    enum ctfd_status status = ctfd_enum_value(&types, t, room, name_len, &found);
+    printf("enum value %u %s: %s %d\n", t, shown(room, name_len), ctfd_status_name(status), found);
+    status = ctfd_enum_name(&types, t, value, room, sizeof room, &len);
+    printf("enum name %u %d: %s\n", t, value,
+        status == CTFD_OK ? shown(room, len) : ctfd_status_name(status));
+}
+
 static void lists(uint16_t t)
 {
     struct ctfd_member member;
@@ -126,11 +141,69 @@ static void lists(uint16_t t)
         if (status != CTFD_OK)
             break;
         printf("enumerator %u %zu: %s %d\n", t, i, shown(room, len), value);
+        firsts(t, len, value);
     }
     printf("enumerators %u: %zu %s\n", t, i, ctfd_status_name(status));
     for (i = 0; (status = ctfd_argument(&types, t, i, &to)) == CTFD_OK; i++)
         printf("argument %u %zu: %u\n", t, i, to);
     printf("arguments %u: %zu %s\n", t, i, ctfd_status_name(status));
+}
+
+/* Whether a name stands where a row says, with a zero byte behind it. */
+static bool stands(uint32_t list, uint64_t at, const char *name, uint64_t len)
+{
+    const struct bytes *bytes = list == CTFD_IN_SECTION ? &section : &strings;
+    if (list == CTFD_NOWHERE)
+        return len == 0;
+    return at < bytes->len && len < bytes->len - at && memcmp(bytes->at + at, name, len) == 0 &&
+        bytes->at[at + len] == 0;
+}
+
+/* Rows say what is answered of each, and rows behind the last stay; else it is printed. */
+static void members_by_rows(uint16_t t)
+{
+    struct ctfd_member_row rows[3];
+    struct ctfd_member one;
+    uint64_t count = 1;
+    size_t i, from;
+    for (from = 0; from < count + 3; from += 2) {
+        memset(rows, 0x5a, sizeof rows);
+        if (ctfd_members(&types, t, from, rows, 3, &count) != CTFD_OK)
+            return;
+        for (i = 0; i < 3 && ctfd_member(&types, t, from + i, room, sizeof room, &one) == CTFD_OK;
+             i++) {
+            if (from + i >= count || rows[i].offset != one.offset || rows[i].type != one.type ||
+                !stands(rows[i].name_list, rows[i].name_at, room, one.name_len))
+                printf("member %u %zu: another row\n", t, from + i);
+        }
+        for (; i < 3; i++) {
+            if (from + i < count || rows[i].offset != 0x5a5a5a5a5a5a5a5a)
+                printf("member %u %zu: a row is written\n", t, from + i);
+        }
+    }
+}
+
+static void enumerators_by_rows(uint16_t t)
+{
+    struct ctfd_enumerator_row rows[3];
+    uint64_t count = 1, len;
+    int32_t value;
+    size_t i, from;
+    for (from = 0; from < count + 3; from += 2) {
+        memset(rows, 0x5a, sizeof rows);
+        if (ctfd_enumerators(&types, t, from, rows, 3, &count) != CTFD_OK)
+            return;
+        for (i = 0; i < 3 && ctfd_enumerator(&types, t, from + i, room, sizeof room, &value,
+                                 &len) == CTFD_OK; i++) {
+            if (from + i >= count || rows[i].value != value ||
+                !stands(rows[i].name_list, rows[i].name_at, room, len))
+                printf("enumerator %u %zu: another row\n", t, from + i);
+        }
+        for (; i < 3; i++) {
+            if (from + i < count || rows[i].name_at != 0x5a5a5a5a5a5a5a5a)
+                printf("enumerator %u %zu: a row is written\n", t, from + i);
+        }
+    }
 }
 
 static void texts(uint16_t t)
@@ -198,6 +271,8 @@ int main(int argc, char **argv)
     ctf = read_file(argv[1]);
     sym = read_file(argv[2]);
     strs = read_file(argv[3]);
+    section = ctf;
+    strings = strs;
     /* With a word more the lists are lent. */
     if ((argc == 5 ? ctfd_open_lent : ctfd_open)(&types, ctf.at, ctf.len, sym.at, sym.len, strs.at,
         strs.len, true, true, false, &place) != CTFD_OK)
@@ -208,6 +283,8 @@ int main(int argc, char **argv)
         numbers(type);
         figures(type);
         lists(type);
+        members_by_rows(type);
+        enumerators_by_rows(type);
         texts(type);
     }
     symbols((uint32_t)(sym.len / 24));

@@ -74,8 +74,14 @@ def of_lists(t: int, members: Reply, enumerators: Reply) -> list[str]:
         lines.append(f"members {t}: {members['total']} NoMember")
     if "fault" in enumerators:
         return [*lines, f"enumerators {t}: 0 {enumerators['fault']}"]
-    lines += [f"enumerator {t} {i}: {one['name']} {one['value']}"
-              for i, one in enumerate(enumerators["enumerators"])]
+    listed = [(one["name"], one["value"]) for one in enumerators["enumerators"]]
+    lines += [f"enumerator {t} {i}: {name} {value}" for i, (name, value) in enumerate(listed)]
+    by_name, by_value = {}, {}
+    for name, value in listed:
+        by_name.setdefault(name, value)
+        by_value.setdefault(value, name)
+    lines += [f"enum value {t} {name}: Ok {by_name[name]}" for name, _ in listed]
+    lines += [f"enum name {t} {value}: {by_value[value]}" for _, value in listed]
     return [*lines, f"enumerators {t}: {enumerators['total']} NoMember"]
 
 

@@ -158,17 +158,19 @@ static void ask_name(struct ctfd *d)
     char *text = some_text(&len);
     uint64_t offset = 77, place;
     uint32_t number = 77;
+    int32_t value = 77;
     uint16_t to = 77;
     enum ctfd_status status;
-    switch (below(5)) {
+    switch (below(6)) {
     case 0: status = ctfd_find(d, text, len, &to); break;
     case 1: status = ctfd_symbol(d, text, len, &number); break;
     case 2: status = ctfd_label_last(d, text, len, &number); break;
     case 3: status = ctfd_field(d, some_type(), text, len, &offset, &to); break;
+    case 4: status = ctfd_enum_value(d, some_type(), text, len, &value); break;
     default: status = ctfd_path(d, some_type(), text, len + below(2), &offset, &to, &place); break;
     }
     count(status);
-    CHECK(status == CTFD_OK || (offset == 77 && number == 77 && to == 77));
+    CHECK(status == CTFD_OK || (offset == 77 && number == 77 && value == 77 && to == 77));
     free(text);
 }
 
@@ -187,7 +189,7 @@ static void ask_text(struct ctfd *d)
     memory.at = (uint8_t *)calloc(1, memory.len != 0 ? memory.len : 1);
     if (memory.at == NULL)
         exit(2);
-    switch (below(10)) {
+    switch (below(11)) {
     case 0: status = ctfd_name(d, t, text, room, &len); break;
     case 1: status = ctfd_declared_name(d, t, text, room, &len); break;
     case 2:
@@ -199,6 +201,7 @@ static void ask_text(struct ctfd *d)
     case 6: status = ctfd_label(d, some_index(), text, room, &label); break;
     case 7: status = ctfd_parent_name(d, text, room, &len); break;
     case 8: status = ctfd_parent_label(d, text, room, &len); break;
+    case 9: status = ctfd_enum_name(d, t, (int32_t)below(100), text, room, &len); break;
     default: status = ctfd_bytes(d, below(30000), text, room, &len); break;
     }
     count(status);
@@ -206,6 +209,30 @@ static void ask_text(struct ctfd *d)
         (len == 77 && value == 77 && member.name_len == 77 && label.name_len == 77));
     free(text);
     free(memory.at);
+}
+
+/* Rows in a block of just their length. */
+static void ask_rows(struct ctfd *d)
+{
+    size_t len = below(5), room = len != 0 ? len : 1;
+    struct ctfd_member_row *members =
+        (struct ctfd_member_row *)calloc(room, sizeof *members);
+    struct ctfd_enumerator_row *enumerators =
+        (struct ctfd_enumerator_row *)calloc(room, sizeof *enumerators);
+    uint64_t all = 77;
+    uint16_t t = some_type();
+    enum ctfd_status status;
+    if (members == NULL || enumerators == NULL)
+        exit(2);
+    status = ctfd_members(d, t, some_index(), members, len, &all);
+    count(status);
+    CHECK(status == CTFD_OK || (all == 77 && members[0].type == 0));
+    all = 77;
+    status = ctfd_enumerators(d, t, some_index(), enumerators, len, &all);
+    count(status);
+    CHECK(status == CTFD_OK || (all == 77 && enumerators[0].name_at == 0));
+    free(members);
+    free(enumerators);
 }
 
 /* Something is added to what may be a draft. */
@@ -246,9 +273,10 @@ static void add(struct ctfd *d)
 static void call(void)
 {
     struct ctfd *d = &open_ones[below(HANDLES)];
-    switch (below(6)) {
+    switch (below(7)) {
     case 0: ask_parts(d); break;
     case 1: ask_name(d); break;
+    case 4: ask_rows(d); break;
     case 2: ask_text(d); break;
     case 3: add(d); break;
     default: ask_number(d); break;

@@ -57,12 +57,12 @@ def crossed(name: str, kind: str, handle: str) -> list[tuple[str, str]]:
     """A parameter of an export, as it crosses: nothing, one word or two."""
     if kind == "Global":
         return []
-    if found := re.fullmatch(r"&(?:'static )?(mut )?\[(\w+)\]", kind):
-        return [(name, f"*{'mut' if found[1] else 'const'} {found[2]}"), (f"{name}_len", "usize")]
-    if found := re.fullmatch(r"&(mut )?(\w+)", kind):
-        to = found[2] if found[2] in NUMBERS.values() else given(found[2], handle)
-        return [(name, f"*{'mut' if found[1] else 'const'} {to}")]
-    return [(name, kind)]
+    found = re.fullmatch(r"&(?:'static )?(mut )?(\[)?(\w+)\]?", kind)
+    if not found:
+        return [(name, kind)]
+    to = found[3] if found[3] in NUMBERS.values() else given(found[3], handle)
+    length = [(f"{name}_len", "usize")] if found[2] else []
+    return [(name, f"*{'mut' if found[1] else 'const'} {to}"), *length]
 
 
 def fields(name: str, source: str) -> list[tuple[str, str]]:
@@ -245,6 +245,10 @@ BROKEN = [
      "enum ctfd_status ctfd_begin(struct ctfd *handle);"),
     ("    uint64_t name_len;\n    uint16_t type;\n",
      "    uint32_t name_len;\n    uint16_t type;\n"),
+    ("    uint32_t name_list;\n    uint16_t type;\n",
+     "    uint32_t name_list;\n    uint32_t type;\n"),
+    ("struct ctfd_enumerator_row *rows, size_t rows_len",
+     "struct ctfd_member_row *rows, size_t rows_len"),
     ("    uint16_t contents;\n    uint16_t index;\n",
      "    uint16_t index;\n    uint16_t contents;\n"),
     ("    bool full;\n    void *at;\n};\n\n/* A service",

@@ -426,6 +426,66 @@ static void drafts(const char *folder)
     ctf_close(read);
 }
 
+/* Whether a name stands in a block. */
+static bool stands_in(const char *name, const char *block, size_t size)
+{
+    return name >= block && name < block + size;
+}
+
+/* Opens a copy of what a draft has: int, struct node with a member, and enum color with red = -1. */
+static ctf_file_t *open_copy(char **copy, size_t *size)
+{
+    static const ctf_encoding_t signed_int = { CTF_INT_SIGNED, 0, 32 };
+    ctf_file_t *made, *fp = ctf_create(NULL);
+    const void *data = NULL;
+    ctf_sect_t section;
+    memset(&section, 0, sizeof section);
+    CHECK(ctf_add_integer(fp, CTF_ADD_ROOT, "int", &signed_int) == 1);
+    CHECK(ctf_add_struct(fp, CTF_ADD_ROOT, "node") == 2);
+    CHECK(ctf_add_member(fp, 2, "value", 1, ULONG_MAX) == 0);
+    CHECK(ctf_add_enum(fp, CTF_ADD_ROOT, "color", 0) == 3);
+    CHECK(ctf_add_enumerator(fp, 3, "red", -1) == 0 && ctf_update(fp) == 0);
+    ctf_dataptr(fp, &data, size);
+    *copy = (char *)malloc(*size);
+    memcpy(*copy, data, *size);
+    ctf_close(fp);
+    section.cts_data = *copy;
+    section.cts_size = *size;
+    made = ctf_bufopen(&section, NULL, NULL, NULL);
+    CHECK(made != NULL);
+    return made;
+}
+
+/* Names stand in a file's own sections; who keeps only a child of it has copies. */
+static void lent_names(void)
+{
+    char *copy;
+    size_t size;
+    int value = 0;
+    ctf_file_t *fp = open_copy(&copy, &size), *child = ctf_create(NULL);
+    const char *name = ctf_enum_name(fp, 3, -1);
+    CHECK(is(name, "red") && stands_in(name, copy, size));
+    CHECK(ctf_setmodel(fp, CTF_MODEL_ILP32) == 0 && ctf_enum_name(fp, 3, -1) == name);
+    CHECK(ctf_enum_value(fp, 3, "red", &value) == 0 && value == -1);
+    CHECK(ctf_import(child, fp) == 0);
+    name = ctf_enum_name(child, 3, -1);
+    CHECK(is(name, "red") && !stands_in(name, copy, size));
+    ctf_close(fp);
+    memset(copy, 0xff, size);
+    free(copy);
+    CHECK(is(ctf_enum_name(ctf_parent_file(child), 3, -1), "red"));
+    CHECK(ctf_enum_value(ctf_parent_file(child), 3, "red", &value) == 0 && value == -1);
+    CHECK(ctf_enum_value(ctf_parent_file(child), 3, "blue", &value) == -1);
+    begin(0);
+    CHECK(ctf_member_iter(ctf_parent_file(child), 2, on_member, &seen) == 0);
+    CHECK(seen.calls == 1 && is(seen.first_name, "value"));
+    begin(0);
+    CHECK(ctf_member_iter(child, 2, on_member, &seen) == 0 && is(seen.first_name, "value"));
+    CHECK(ctf_enum_value(child, 3, "red", &value) == 0 && value == -1);
+    CHECK(ctf_enum_name(child, 3, 0) == NULL && ctf_errno(child) == CTFD_NO_MEMBER);
+    ctf_close(child);
+}
+
 int main(int argc, char **argv)
 {
     struct bytes ctf, sym, strs;
@@ -463,6 +523,7 @@ int main(int argc, char **argv)
     declarations();
     refused_files(argv[2]);
     drafts(argv[2]);
+    lent_names();
     free_bytes(&ctf);
     free_bytes(&sym);
     free_bytes(&strs);

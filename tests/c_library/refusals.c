@@ -13,6 +13,8 @@ static struct results {
     struct ctfd_encoding encoding;
     struct ctfd_array array;
     struct ctfd_member member;
+    struct ctfd_member_row members[2];
+    struct ctfd_enumerator_row enumerators[2];
     struct ctfd_function function;
     struct ctfd_label label;
     char text[64];
@@ -53,6 +55,10 @@ static void refuse_type(struct ctfd *d, uint16_t t, enum ctfd_status status)
     REFUSED(ctfd_length(d, t, &got.wide), status);
     REFUSED(ctfd_member(d, t, 0, TEXT, &got.member), status);
     REFUSED(ctfd_enumerator(d, t, 0, TEXT, &got.value, &got.len), status);
+    REFUSED(ctfd_members(d, t, 0, got.members, 2, &got.wide), status);
+    REFUSED(ctfd_enumerators(d, t, 0, got.enumerators, 2, &got.wide), status);
+    REFUSED(ctfd_enum_name(d, t, 0, TEXT, &got.len), status);
+    REFUSED(ctfd_enum_value(d, t, "x", 1, &got.value), status);
     REFUSED(ctfd_return(d, t, &got.to), status);
     REFUSED(ctfd_argument(d, t, 0, &got.to), status);
     REFUSED(ctfd_resolve(d, t, &got.to), status);
@@ -129,6 +135,14 @@ static void refuse_kinds(struct ctfd *d)
     REFUSED(ctfd_array(d, s, &got.array), CTFD_WRONG_KIND);
     REFUSED(ctfd_tag(d, s, &got.number), CTFD_WRONG_KIND);
     REFUSED(ctfd_enumerator(d, s, 0, TEXT, &got.value, &got.len), CTFD_WRONG_KIND);
+    REFUSED(ctfd_members(d, i, 0, got.members, 2, &got.wide), CTFD_WRONG_KIND);
+    REFUSED(ctfd_members(d, e, 0, got.members, 2, &got.wide), CTFD_WRONG_KIND);
+    REFUSED(ctfd_enumerators(d, i, 0, got.enumerators, 2, &got.wide), CTFD_WRONG_KIND);
+    REFUSED(ctfd_enumerators(d, s, 0, got.enumerators, 2, &got.wide), CTFD_WRONG_KIND);
+    REFUSED(ctfd_enum_name(d, s, 0, TEXT, &got.len), CTFD_WRONG_KIND);
+    REFUSED(ctfd_enum_name(d, i, 0, TEXT, &got.len), CTFD_WRONG_KIND);
+    REFUSED(ctfd_enum_value(d, s, "x", 1, &got.value), CTFD_WRONG_KIND);
+    REFUSED(ctfd_enum_value(d, i, "x", 1, &got.value), CTFD_WRONG_KIND);
     REFUSED(ctfd_member(d, i, 0, TEXT, &got.member), CTFD_WRONG_KIND);
     REFUSED(ctfd_member(d, e, 0, TEXT, &got.member), CTFD_WRONG_KIND);
     REFUSED(ctfd_argument(d, i, 0, &got.to), CTFD_WRONG_KIND);
@@ -141,6 +155,9 @@ static void refuse_kinds(struct ctfd *d)
     CHECK(ctfd_length(d, e, &count) == CTFD_OK);
     REFUSED(ctfd_enumerator(d, e, count, TEXT, &got.value, &got.len), CTFD_NO_MEMBER);
     REFUSED(ctfd_enumerator(d, e, SIZE_MAX, TEXT, &got.value, &got.len), CTFD_NO_MEMBER);
+    REFUSED(ctfd_enum_name(d, e, INT32_MIN, TEXT, &got.len), CTFD_NO_MEMBER);
+    REFUSED(ctfd_enum_value(d, e, "", 0, &got.value), CTFD_NO_MEMBER);
+    REFUSED(ctfd_enum_value(d, e, "OP_MOVE\0", 8, &got.value), CTFD_NO_MEMBER);
 }
 
 static void refuse_names(struct ctfd *d)

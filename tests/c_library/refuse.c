@@ -185,6 +185,8 @@ static void take_none(void)
     uint32_t number = 0;
     uint16_t to = 0;
     int32_t value = 0;
+    struct ctfd_member_row members[4];
+    struct ctfd_enumerator_row enumerators[4];
     char text[64];
     calls = 0;
     for (t = 0; t <= 527; t++) {
@@ -197,6 +199,10 @@ static void take_none(void)
         (void)ctfd_encoding(&types, (uint16_t)t, &encoding);
         (void)ctfd_member(&types, (uint16_t)t, 1, text, sizeof text, &member);
         (void)ctfd_enumerator(&types, (uint16_t)t, 1, text, sizeof text, &value, &wide);
+        (void)ctfd_members(&types, (uint16_t)t, 0, members, 4, &wide);
+        (void)ctfd_enumerators(&types, (uint16_t)t, 0, enumerators, 4, &wide);
+        (void)ctfd_enum_name(&types, (uint16_t)t, 1, text, sizeof text, &wide);
+        (void)ctfd_enum_value(&types, (uint16_t)t, "OP_MOVE", 7, &value);
         (void)ctfd_field(&types, (uint16_t)t, "next", 4, &wide, &to);
         (void)ctfd_declared_name(&types, (uint16_t)t, text, sizeof text, &wide);
         (void)ctfd_object(&types, (uint32_t)t, &to);

@@ -29,24 +29,75 @@ void ctfd__forget_details(ctf_file_t *fp)
     fp->details_bytes = 0;
 }
 
-/* An item, without its name. */
-static enum ctfd_status read_item(ctf_file_t *fp, uint16_t t, uint32_t kind, uint32_t i,
-    struct ctfd__item *item)
+/* How many rows are read by one call. */
+#define ROWS 32
+
+/* A name in the file's own lists; NULL where it is copied later. */
+static const char *lent(const ctf_file_t *fp, bool is_lent, uint32_t list, uint64_t at)
 {
-    enum ctfd_status status;
-    if (kind == CTFD_FUNCTION) {
-        status = ctfd_argument(&fp->types, t, i, &item->type);
-    } else if (kind == CTFD_ENUM) {
-        int32_t value = 0;
-        uint64_t len = 0;
-        status = ctfd_enumerator(&fp->types, t, i, fp->room, 0, &value, &len);
-        item->at = (uint32_t)value;
-    } else {
-        struct ctfd_member member = { 0, 0, 0 };
-        status = ctfd_member(&fp->types, t, i, fp->room, 0, &member);
-        item->at = member.offset;
-        item->type = member.type;
+    if (!is_lent)
+        return NULL;
+    switch (list) {
+    case CTFD_IN_SECTION:
+        return (const char *)fp->lists.data[0] + at;
+    case CTFD_IN_STRINGS:
+        return (const char *)fp->lists.data[2] + at;
+    default:
+        return "";
     }
+}
+
+/* The least of what is left and of what a call reads. */
+static uint32_t some(uint32_t left)
+{
+    return left < ROWS ? left : ROWS;
+}
+
+static enum ctfd_status read_members(ctf_file_t *fp, uint16_t t, struct ctfd__details *made)
+{
+    struct ctfd_member_row rows[ROWS];
+    bool is_lent = ctfd__is_lent(fp, t);
+    enum ctfd_status status = CTFD_OK;
+    uint64_t count;
+    uint32_t i, from;
+    for (from = 0; status == CTFD_OK && from < made->count; from += ROWS) {
+        uint32_t more = some(made->count - from);
+        status = ctfd_members(&fp->types, t, from, rows, more, &count);
+        for (i = 0; status == CTFD_OK && i < more; i++) {
+            struct ctfd__item *item = &made->items[from + i];
+            item->at = rows[i].offset;
+            item->type = rows[i].type;
+            item->name = lent(fp, is_lent, rows[i].name_list, rows[i].name_at);
+        }
+    }
+    return status;
+}
+
+static enum ctfd_status read_enumerators(ctf_file_t *fp, uint16_t t, struct ctfd__details *made)
+{
+    struct ctfd_enumerator_row rows[ROWS];
+    bool is_lent = ctfd__is_lent(fp, t);
+    enum ctfd_status status = CTFD_OK;
+    uint64_t count;
+    uint32_t i, from;
+    for (from = 0; status == CTFD_OK && from < made->count; from += ROWS) {
+        uint32_t more = some(made->count - from);
+        status = ctfd_enumerators(&fp->types, t, from, rows, more, &count);
+        for (i = 0; status == CTFD_OK && i < more; i++) {
+            struct ctfd__item *item = &made->items[from + i];
+            item->at = (uint32_t)rows[i].value;
+            item->name = lent(fp, is_lent, rows[i].name_list, rows[i].name_at);
+        }
+    }
+    return status;
+}
+
+static enum ctfd_status read_arguments(ctf_file_t *fp, uint16_t t, struct ctfd__details *made)
+{
+    enum ctfd_status status = CTFD_OK;
+    uint32_t i;
+    for (i = 0; status == CTFD_OK && i < made->count; i++)
+        status = ctfd_argument(&fp->types, t, i, &made->items[i].type);
     return status;
 }
 
@@ -68,11 +119,12 @@ static enum ctfd_status read_head(ctf_file_t *fp, uint16_t t, struct ctfd__detai
 
 static enum ctfd_status read_all(ctf_file_t *fp, uint16_t t, struct ctfd__details *made)
 {
-    uint32_t i;
     enum ctfd_status status = read_head(fp, t, made);
-    for (i = 0; status == CTFD_OK && i < made->count; i++)
-        status = read_item(fp, t, made->kind, i, &made->items[i]);
-    return status;
+    if (status != CTFD_OK)
+        return status;
+    if (made->kind == CTFD_ENUM)
+        return read_enumerators(fp, t, made);
+    return ctfd__has_members(made) ? read_members(fp, t, made) : read_arguments(fp, t, made);
 }
 
 /* How many items a type of a kind has. */

@@ -41,7 +41,8 @@ ctf_file_t *ctfd__new(int *error)
     return ctfd__refused(error, CTFD_MEMORY);
 }
 
-void ctf_close(ctf_file_t *fp)
+/* Ends a use of a file, and closes it with the last one. */
+static void end_use(ctf_file_t *fp)
 {
     while (fp != NULL && --fp->uses == 0) {
         ctf_file_t *parent = fp->parent;
@@ -49,6 +50,16 @@ void ctf_close(ctf_file_t *fp)
         ctfd__free(fp);
         fp = parent;
     }
+}
+
+/* Where children keep the file, its names are no longer those in the caller's lists. */
+void ctf_close(ctf_file_t *fp)
+{
+    if (fp != NULL && fp->uses > 1 && !fp->is_left) {
+        fp->is_left = true;
+        ctfd__forget_details(fp);
+    }
+    end_use(fp);
 }
 
 /* ---- sections */
@@ -306,7 +317,7 @@ int ctf_import(ctf_file_t *fp, ctf_file_t *parent)
         fp->model = parent->model;
     }
     ctfd__forget(fp);
-    ctf_close(fp->parent);
+    end_use(fp->parent);
     fp->parent = parent;
     return 0;
 }

@@ -1,5 +1,7 @@
 /* indexes.c - enumerators by their values and names. The first question is answered by looking at
  * each; the second makes an index, by hashes that nobody outside can foresee. */
+#define _DEFAULT_SOURCE
+
 #include "private.h"
 
 #include <stdlib.h>
@@ -86,79 +88,39 @@ uint32_t ctfd__of_value(ctf_file_t *fp, struct ctfd__details *details, int32_t v
     return i != 0 ? i - 1 : count;
 }
 
-/* ---- by names */
+/* ---- by names, where all stand in the file's lists */
 
-static uint32_t hash_of_name(ctf_file_t *fp, const char *name, uint64_t len)
+static uint32_t hash_of_name(ctf_file_t *fp, const char *name)
 {
-    return (uint32_t)ctfd__hash(&fp->texts, name, len < HASHED ? (size_t)len : HASHED);
+    return (uint32_t)ctfd__hash(&fp->texts, name, strnlen(name, HASHED));
 }
 
-static struct ctfd__index *index_names(ctf_file_t *fp, uint16_t t, uint32_t count)
+static struct ctfd__index *index_names(ctf_file_t *fp, const struct ctfd__details *details)
 {
-    char text[HASHED];
     uint32_t i;
-    struct ctfd__index *made = new_index(fp, count);
-    for (i = count; made != NULL && i-- > 0;) {
-        uint64_t len = 0;
-        int32_t value = 0;
-        if (ctfd_enumerator(&fp->types, t, i, text, sizeof text, &value, &len) != CTFD_OK) {
-            free(made);
-            return NULL;
-        }
-        put(made, count, i, hash_of_name(fp, text, len));
-    }
+    struct ctfd__index *made = new_index(fp, details->count);
+    for (i = details->count; made != NULL && i-- > 0;)
+        put(made, details->count, i, hash_of_name(fp, details->items[i].name));
     return made;
 }
 
-/* Whether an enumerator has a name; there is room for as many bytes. */
-static enum ctfd_status is_named(ctf_file_t *fp, uint16_t t, uint32_t i, const char *name,
-    size_t wanted, bool *is)
-{
-    uint64_t len = 0;
-    int32_t value = 0;
-    enum ctfd_status status = ctfd_enumerator(&fp->types, t, i, fp->room, wanted, &value, &len);
-    *is = len == wanted && memcmp(fp->room, name, wanted) == 0;
-    return status;
-}
-
-/* Looks at each. */
-static enum ctfd_status scan_names(ctf_file_t *fp, uint16_t t, uint32_t count, const char *name,
-    size_t wanted, uint32_t *found)
-{
-    enum ctfd_status status = CTFD_OK;
-    bool is = false;
-    for (*found = 0; *found < count; ++*found) {
-        status = is_named(fp, t, *found, name, wanted, &is);
-        if (status != CTFD_OK || is)
-            break;
-    }
-    return status;
-}
-
-enum ctfd_status ctfd__of_name(ctf_file_t *fp, uint16_t t, struct ctfd__details *details,
-    const char *name, uint32_t *found)
+uint32_t ctfd__of_name(ctf_file_t *fp, struct ctfd__details *details, const char *name)
 {
     struct ctfd__index *index;
-    uint32_t i, hash, count = details->count;
-    size_t wanted = strlen(name);
-    if (!ctfd__make_room(fp, wanted))
-        return CTFD_MEMORY;
+    uint32_t i = 0, hash, count = details->count;
     if (details->was_asked && details->by_name == NULL)
-        details->by_name = index_names(fp, t, count);
+        details->by_name = index_names(fp, details);
     details->was_asked = true;
     index = details->by_name;
-    if (index == NULL)
-        return scan_names(fp, t, count, name, wanted, found);
-    hash = hash_of_name(fp, name, wanted);
-    for (i = heads_of(index, count)[hash & index->mask]; i != 0; i = index->entries[i - 1].next) {
-        bool is = false;
-        enum ctfd_status status = CTFD_OK;
-        *found = i - 1;
-        if (index->entries[i - 1].hash == hash)
-            status = is_named(fp, t, i - 1, name, wanted, &is);
-        if (status != CTFD_OK || is)
-            return status;
+    if (index == NULL) {
+        while (i < count && strcmp(details->items[i].name, name) != 0)
+            i++;
+        return i;
     }
-    *found = count;
-    return CTFD_OK;
+    hash = hash_of_name(fp, name);
+    i = heads_of(index, count)[hash & index->mask];
+    while (i != 0 && (index->entries[i - 1].hash != hash ||
+                         strcmp(details->items[i - 1].name, name) != 0))
+        i = index->entries[i - 1].next;
+    return i != 0 ? i - 1 : count;
 }

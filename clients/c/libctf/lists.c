@@ -136,20 +136,30 @@ const char *ctf_enum_name(ctf_file_t *fp, ctf_id_t type, int value)
     return NULL;
 }
 
+/* The value of the first enumerator of a name. */
+static enum ctfd_status find_value(ctf_file_t *fp, uint16_t t, struct ctfd__details *details,
+    const char *name, int32_t *value)
+{
+    uint32_t i;
+    if (!ctfd__is_lent(fp, t))
+        return ctfd_enum_value(&fp->types, t, name, strlen(name), value);
+    i = ctfd__of_name(fp, details, name);
+    if (i == details->count)
+        return CTFD_NO_MEMBER;
+    *value = (int32_t)value_of(&details->items[i]);
+    return CTFD_OK;
+}
+
 int ctf_enum_value(ctf_file_t *fp, ctf_id_t type, const char *name, int *value)
 {
     struct ctfd__details *details;
-    enum ctfd_status status;
-    uint32_t i = 0;
+    int32_t found = 0;
     type = ctf_type_resolve(fp, type);
     if (type == CTF_ERR || (details = details_of(fp, (uint16_t)type, true)) == NULL)
         return (int)CTF_ERR;
-    status = ctfd__of_name(fp, (uint16_t)type, details, name, &i);
-    if (status == CTFD_OK && i == details->count)
-        status = CTFD_NO_MEMBER;
-    if (ctfd__done(fp, status) != 0)
+    if (ctfd__done(fp, find_value(fp, (uint16_t)type, details, name, &found)) != 0)
         return (int)CTF_ERR;
     if (value != NULL)
-        *value = value_of(&details->items[i]);
+        *value = (int)found;
     return 0;
 }

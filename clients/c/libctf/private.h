@@ -34,8 +34,8 @@ struct ctfd__lists {
     bool has[3];
 };
 
-/* A member with its offset in bits, an enumerator with its value, or an argument. Its name is kept
- * once somebody has been told it, and is NULL before. */
+/* A member with its offset in bits, an enumerator with its value, or an argument. Its name stands in
+ * the file's own lists; else it is kept once somebody has been told it, and is NULL before. */
 struct ctfd__item {
     const char *name;
     uint64_t at;
@@ -78,6 +78,7 @@ struct ctf_file {
     int model;
     bool is_draft;
     bool is_touched;
+    bool is_left; /* closed, and kept by a child: the lists may go at any time */
     void *specific;
     void *owned[3]; /* copies of lists, where the caller keeps none */
     void *bytes; /* those of a draft, for ctf_dataptr and ctf_string_iter */
@@ -176,6 +177,13 @@ static inline struct ctfd__details *ctfd__details(ctf_file_t *fp, uint16_t t)
 /* Drops all of them. */
 HIDDEN void ctfd__forget_details(ctf_file_t *fp);
 
+/* Whether the names of a type are told where they stand in the file's lists, which its caller keeps
+ * until it is closed: those of a parent's types and of drafts are copied. */
+static inline bool ctfd__is_lent(const ctf_file_t *fp, uint16_t t)
+{
+    return !fp->is_draft && !fp->is_left && (fp->parent == NULL || t > CTF_MAX_PTYPE);
+}
+
 /* Keeps the name of an item; NULL and the error where there is no memory. */
 HIDDEN const char *ctfd__keep_name(ctf_file_t *fp, uint16_t t, uint32_t i);
 
@@ -185,11 +193,10 @@ static inline bool ctfd__has_members(const struct ctfd__details *details)
 }
 
 /* ---- indexes.c: the first enumerator of a value or a name, by its number; the number of all where
- * there is none */
+ * there is none. Names are looked for where ctfd__is_lent says that all are there. */
 
 HIDDEN uint32_t ctfd__of_value(ctf_file_t *fp, struct ctfd__details *details, int32_t value);
-HIDDEN enum ctfd_status ctfd__of_name(ctf_file_t *fp, uint16_t t, struct ctfd__details *details,
-    const char *name, uint32_t *found);
+HIDDEN uint32_t ctfd__of_name(ctf_file_t *fp, struct ctfd__details *details, const char *name);
 
 /* ---- files.c */
 

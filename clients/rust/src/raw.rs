@@ -41,6 +41,34 @@ pub struct Member {
     pub tnum: u16,
 }
 
+/// A member, and where its name stands: so many bytes behind the beginning of a list, and a zero byte
+/// behind it. List 0 is the CTF section, 1 the strings of the symbol table; 2 is no list, of an empty
+/// name. In a child, types below 32769 are the parent's, and so are their lists.
+#[repr(C)]
+#[derive(Clone, Copy, Debug, Default, PartialEq, Eq)]
+pub struct MemberRow {
+    /// Where it begins, in bits.
+    pub offset: u64,
+    /// How many bytes stand in front of its name.
+    pub name_at: u64,
+    /// The number of the list that its name stands in.
+    pub name_list: u32,
+    /// The number of its type.
+    pub tnum: u16,
+}
+
+/// An enumerator, and where its name stands, as of a [`MemberRow`].
+#[repr(C)]
+#[derive(Clone, Copy, Debug, Default, PartialEq, Eq)]
+pub struct EnumeratorRow {
+    /// How many bytes stand in front of its name.
+    pub name_at: u64,
+    /// The number of the list that its name stands in.
+    pub name_list: u32,
+    /// Its value.
+    pub value: i32,
+}
+
 #[repr(C)]
 #[derive(Default)]
 pub struct Label {
@@ -145,6 +173,37 @@ extern "C" {
         name_len: usize,
         value: *mut i32,
         len: *mut u64,
+    ) -> u32;
+    pub fn ctfd_enum_name(
+        handle: *mut Handle,
+        t: u16,
+        value: i32,
+        text: *mut u8,
+        text_len: usize,
+        len: *mut u64,
+    ) -> u32;
+    pub fn ctfd_enum_value(
+        handle: *mut Handle,
+        t: u16,
+        name: *const u8,
+        name_len: usize,
+        value: *mut i32,
+    ) -> u32;
+    pub fn ctfd_members(
+        handle: *mut Handle,
+        t: u16,
+        from: usize,
+        rows: *mut MemberRow,
+        rows_len: usize,
+        count: *mut u64,
+    ) -> u32;
+    pub fn ctfd_enumerators(
+        handle: *mut Handle,
+        t: u16,
+        from: usize,
+        rows: *mut EnumeratorRow,
+        rows_len: usize,
+        count: *mut u64,
     ) -> u32;
     pub fn ctfd_return(handle: *mut Handle, t: u16, out: *mut u16) -> u32;
     pub fn ctfd_argument(handle: *mut Handle, t: u16, index: usize, out: *mut u16) -> u32;

@@ -5,7 +5,7 @@ use crate::dictionary::Dictionary;
 use crate::faults::{told, told_at, Refusal};
 use crate::lists::{Arguments, Enumerators, Member, Members};
 use crate::names::{fill, text, Name};
-use crate::raw;
+use crate::raw::{self, EnumeratorRow, MemberRow};
 use std::fmt;
 
 /// The kinds of types, by their numbers in sys/ctf.h.
@@ -316,6 +316,39 @@ impl<'d> Type<'d> {
             offset: raw.offset,
             kind: Type::some(self.of, raw.tnum),
         })
+    }
+
+    /// The name of the first enumerator that has a value.
+    pub fn enumerator_name(self, value: i32) -> Result<Name, Refusal> {
+        let (handle, number) = (self.of.handle(), self.number);
+        text(|at, len, told| unsafe { raw::ctfd_enum_name(handle, number, value, at, len, told) })
+    }
+
+    /// The value of the first enumerator that has a name.
+    pub fn enumerator_value(self, name: impl AsRef<[u8]>) -> Result<i32, Refusal> {
+        let (name, mut value) = (name.as_ref(), 0);
+        let handle = self.of.handle();
+        told(unsafe {
+            raw::ctfd_enum_value(handle, self.number, name.as_ptr(), name.len(), &mut value)
+        })?;
+        Ok(value)
+    }
+
+    /// Fills rows with the members of a struct or union, from a number on, and answers how many it
+    /// has. Rows behind the last stay.
+    pub fn member_rows(self, from: usize, rows: &mut [MemberRow]) -> Result<u64, Refusal> {
+        let (at, len, mut count) = (rows.as_mut_ptr(), rows.len(), 0);
+        let handle = self.of.handle();
+        told(unsafe { raw::ctfd_members(handle, self.number, from, at, len, &mut count) })?;
+        Ok(count)
+    }
+
+    /// The same of the enumerators of an enum.
+    pub fn enumerator_rows(self, from: usize, rows: &mut [EnumeratorRow]) -> Result<u64, Refusal> {
+        let (at, len, mut count) = (rows.as_mut_ptr(), rows.len(), 0);
+        let handle = self.of.handle();
+        told(unsafe { raw::ctfd_enumerators(handle, self.number, from, at, len, &mut count) })?;
+        Ok(count)
     }
 
     /// Where the first member of a name lies, in bits, and its type.

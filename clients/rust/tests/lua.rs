@@ -1,6 +1,6 @@
 //! What is told of lua's types is what a dump of them says.
 
-use ctfd::{Dictionary, Fault, Kind, Model, Options, Service};
+use ctfd::{Dictionary, EnumeratorRow, Fault, Kind, MemberRow, Model, Options, Service};
 use std::fs;
 
 const EXAMPLES: &str = concat!(env!("CARGO_MANIFEST_DIR"), "/../../examples");
@@ -132,6 +132,57 @@ fn names_find_their_types() {
     assert_eq!(types.get(527).unwrap_err().fault, Fault::NoType);
     assert_eq!(state.enumerators().unwrap_err().fault, Fault::WrongKind);
     assert_eq!(state.field("none").unwrap_err().fault, Fault::NoMember);
+}
+
+/// The name that stands at a place of the section.
+fn name_at(section: &[u8], list: u32, at: u64) -> &[u8] {
+    if list == 2 {
+        return &[];
+    }
+    assert_eq!(list, 0);
+    let rest = &section[at as usize..];
+    &rest[..rest.iter().position(|&byte| byte == 0).unwrap()]
+}
+
+#[test]
+fn rows_say_where_names_stand() {
+    let section = read("lua.ctf");
+    let types = lua();
+    for t in types.types() {
+        for (i, member) in t.members().into_iter().flatten().enumerate() {
+            let mut rows = [MemberRow::default()];
+            t.member_rows(i, &mut rows).unwrap();
+            let name = name_at(&section, rows[0].name_list, rows[0].name_at);
+            assert_eq!((rows[0].offset, name), (member.offset, &*member.name));
+        }
+        for (i, one) in t.enumerators().into_iter().flatten().enumerate() {
+            let mut rows = [EnumeratorRow::default(); 2];
+            assert!(t.enumerator_rows(i, &mut rows).unwrap() > i as u64);
+            let name = name_at(&section, rows[0].name_list, rows[0].name_at);
+            assert_eq!((rows[0].value, name), (one.value, &*one.name));
+            assert_eq!(t.enumerator_value(name).unwrap(), one.value);
+        }
+    }
+}
+
+#[test]
+fn enumerators_are_found_by_value_and_name() {
+    let types = lua();
+    let modes = types.find("enum OpMode").unwrap();
+    assert_eq!(modes.enumerator_name(1).unwrap(), "iABx");
+    assert_eq!(modes.enumerator_value("iABx").unwrap(), 1);
+    let refused = [
+        (modes.enumerator_name(-1).err(), Fault::NoMember),
+        (modes.enumerator_value("").err(), Fault::NoMember),
+    ];
+    let state = types.find("struct lua_State").unwrap();
+    let wrong = [
+        (state.enumerator_name(1).err(), Fault::WrongKind),
+        (state.enumerator_value("x").err(), Fault::WrongKind),
+    ];
+    for (refusal, fault) in refused.into_iter().chain(wrong) {
+        assert_eq!(refusal.unwrap().fault, fault);
+    }
 }
 
 #[test]

@@ -4,4 +4,6 @@ pub mod Naming
 pub mod Owned
 pub mod OptionBoxes
 pub mod handles
+pub mod names
 pub mod service
+pub mod Rowed

@@ -4,12 +4,15 @@
 mod additions;
 mod drafts;
 mod encodings;
+mod enumerators;
 mod given;
 mod handle;
 mod handles;
 mod lists;
+mod names;
 mod opening;
 mod paths;
+mod rows;
 mod service;
 mod symbols;
 mod texts;

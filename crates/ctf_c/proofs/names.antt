@@ -1,0 +1,6 @@
+pub mod Finding
+pub mod NamedRows
+pub mod Texts
+pub mod Asked
+pub mod Filled
+pub mod Into

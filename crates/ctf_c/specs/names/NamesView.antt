@@ -1,0 +1,15 @@
+-- What rows with names show.
+use Rattle.std.specs.Prelude.{ℕ, List}
+use Rattle.ctf_model.specs.format.Name.{Tables}
+use Rattle.ctf_sections.specs.StringsView.{tables}
+use Rattle.ctf_views.specs.Lists.{items_in}
+use Rattle.ctf_c.specs.names.Names.{name_at}
+use Rattle.ctf_c.specs.declared.names.named.NameRows.{NameRows}
+
+-- the tables in which their names stand
+abbrev pub tables_for : NameRows → Tables
+tables_for r = tables r.strings
+
+-- the names of all rows
+abbrev pub names_in : NameRows → List (List ℕ)
+names_in r = items_in (name_at (tables r.strings)) r.width r.count r.bytes.now

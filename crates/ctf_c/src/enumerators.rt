@@ -1,0 +1,81 @@
+//! Exports that find an enumerator by its value or its name.
+ghost use Rattle.std.specs.Prelude.{◌≡◌};
+ghost use Rattle.std.specs.Result.{result_map_both};
+ghost use Rattle.ctf_c.specs.Given.{Gives, GivesText, asked};
+ghost use Rattle.ctf_c.specs.names.Firsts.{named_said, valued_said};
+ghost use Rattle.ctf_model.specs.opened.Questions.{said_of, shape_of, told_of};
+ghost use Rattle.ctf_model.specs.opened.Open.{space_in};
+ghost use Rattle.ctf_model.specs.spaces.Space.{space_type};
+ghost use Rattle.ctf_views.specs.ItemsView.{enumerator as enumerator_seen};
+
+use crate::given::{session_of, status, write_front};
+use crate::handle::Handle;
+use crate::names::{with_name, with_value};
+use ctf_model::{Fault, TypeNum};
+use ctf_open::OpenDictionary;
+use ctf_views::Enumerator;
+
+/// The first enumerator of an enum that has a value.
+fn valued(session: &OpenDictionary, t: TypeNum, value: i32) -> Result<Enumerator<'_>, Fault>
+    ensures { result_map_both enumerator_seen (λ f. f) result
+        ≡ said_of (valued_said value) (shape_of (space_type (space_in session.now) t.0)) }
+{
+    match session.space().term(t) {
+        Ok(found) => with_value(&found, value),
+        Err(fault) => Err(fault),
+    }
+}
+
+/// The first enumerator of an enum that has a name.
+fn named<'a>(session: &'a OpenDictionary, t: TypeNum, name: &[u8]) -> Result<Enumerator<'a>, Fault>
+    ensures { result_map_both enumerator_seen (λ f. f) result
+        ≡ said_of (named_said name.now) (shape_of (space_type (space_in session.now) t.0)) }
+{
+    match session.space().term(t) {
+        Ok(found) => with_name(&found, name),
+        Err(fault) => Err(fault),
+    }
+}
+
+/// The name of the first enumerator that has a value. As much of it is written as fits.
+#[unsafe(no_mangle)]
+pub extern "C" fn ctfd_enum_name(
+    handle: &mut Handle,
+    t: u16,
+    value: i32,
+    text: &mut [u8],
+    len: &mut u64,
+) -> u32
+    ensures same { handle.new.held.session ≡ handle.old.held.session }
+    ensures answer { GivesText (asked handle.old.held.session (λ s. told_of (λ e. e.name)
+        (said_of (valued_said value) (shape_of (space_type (space_in s) t))))) result
+        (record { text = text.old; len = len.old }) (record { text = text.new; len = len.new }) }
+{
+    let session = session_of!(handle);
+    match valued(session, TypeNum(t), value) {
+        Ok(enumerator) => {
+            write_front(enumerator.name, text);
+            *len = enumerator.name.len() as u64;
+            0
+        }
+        Err(fault) => status(fault),
+    }
+}
+
+/// The value of the first enumerator that has a name.
+#[unsafe(no_mangle)]
+pub extern "C" fn ctfd_enum_value(handle: &mut Handle, t: u16, name: &[u8], value: &mut i32) -> u32
+    ensures same { handle.new.held.session ≡ handle.old.held.session }
+    ensures answer { Gives (asked handle.old.held.session (λ s. told_of (λ e. e.value)
+        (said_of (named_said name.now) (shape_of (space_type (space_in s) t)))))
+        result value.old value.new }
+{
+    let session = session_of!(handle);
+    match named(session, TypeNum(t), name) {
+        Ok(enumerator) => {
+            *value = enumerator.value;
+            0
+        }
+        Err(fault) => status(fault),
+    }
+}

@@ -1,0 +1,144 @@
+//! Fills rows of a caller with the members or enumerators of a type.
+ghost use Rattle.std.specs.Prelude.{◌≡◌, ◌<◌, length, map, slice_get, Some, IfSome};
+ghost use Rattle.ctf_c.specs.names.Filling.{Fills, FillsFrom, TellsEnumerator, TellsMember};
+ghost use Rattle.ctf_c.specs.names.NamesView.{names_in, tables_for};
+ghost use Rattle.ctf_check.specs.CheckedView.{lists_of, tables_of};
+ghost use Rattle.ctf_check.specs.TypedView.{dictionary_in, spelled};
+ghost use Rattle.ctf_model.specs.opened.Questions.{enumerators_said, members_said, said_of, shape_of};
+ghost use Rattle.ctf_model.specs.spaces.TypeNumbers.{or_no_type};
+
+use crate::names::found::name_rows;
+use crate::names::named::NameRows;
+use crate::names::places::place_of;
+use crate::rows::{GivenEnumeratorRow, GivenMemberRow};
+use ctf_check::{Checked, Typed};
+use ctf_model::{Fault, placeless};
+use ctf_views::{Enumerators, Members, Variant};
+
+/// What is told of an enumerator, from 0.
+fn enumerator_row(
+    dictionary: &Checked<'_>,
+    names: &NameRows<'_>,
+    enumerators: &Enumerators<'_>,
+    index: usize,
+) -> GivenEnumeratorRow
+    requires inside { index < length enumerators.now }
+    requires names { names_in names.now ≡ map (λ e. e.name) enumerators.now }
+    requires tables { tables_for names.now ≡ tables_of dictionary.now }
+    ensures { IfSome (slice_get enumerators.now index)
+        (λ e. TellsEnumerator (Some (lists_of dictionary.now)) e result) }
+{
+    let place = place_of(dictionary, names.reference(index));
+    GivenEnumeratorRow {
+        name_at: place.at,
+        name_list: place.list,
+        value: enumerators.value(index),
+    }
+}
+
+/// What is told of a member, from 0.
+fn member_row(
+    dictionary: &Checked<'_>,
+    names: &NameRows<'_>,
+    members: &Members<'_>,
+    index: usize,
+) -> GivenMemberRow
+    requires inside { index < length members.now }
+    requires names { names_in names.now ≡ map (λ m. m.name) members.now }
+    requires tables { tables_for names.now ≡ tables_of dictionary.now }
+    ensures { IfSome (slice_get members.now index)
+        (λ m. TellsMember (Some (lists_of dictionary.now)) m result) }
+{
+    let place = place_of(dictionary, names.reference(index));
+    let member = members.get(index).unwrap();
+    GivenMemberRow {
+        offset: member.offset,
+        name_at: place.at,
+        name_list: place.list,
+        tnum: member.tnum.0,
+    }
+}
+
+/// Fills rows with the enumerators from a number on.
+fn fill_enumerators(
+    dictionary: &Checked<'_>,
+    names: &NameRows<'_>,
+    enumerators: &Enumerators<'_>,
+    from: usize,
+    rows: &mut [GivenEnumeratorRow],
+)
+    requires names { names_in names.now ≡ map (λ e. e.name) enumerators.now }
+    requires tables { tables_for names.now ≡ tables_of dictionary.now }
+    ensures { Fills (TellsEnumerator (Some (lists_of dictionary.now))) enumerators.now from
+        rows.old rows.new }
+{
+    let left = enumerators.len().saturating_sub(from);
+    let count = left.min(rows.len());
+    for i in 0..count {
+        rows[i] = enumerator_row(dictionary, names, enumerators, from + i);
+    }
+}
+
+/// Fills rows with the members from a number on.
+fn fill_members(
+    dictionary: &Checked<'_>,
+    names: &NameRows<'_>,
+    members: &Members<'_>,
+    from: usize,
+    rows: &mut [GivenMemberRow],
+)
+    requires names { names_in names.now ≡ map (λ m. m.name) members.now }
+    requires tables { tables_for names.now ≡ tables_of dictionary.now }
+    ensures { Fills (TellsMember (Some (lists_of dictionary.now))) members.now from
+        rows.old rows.new }
+{
+    let left = members.len().saturating_sub(from);
+    let count = left.min(rows.len());
+    for i in 0..count {
+        rows[i] = member_row(dictionary, names, members, from + i);
+    }
+}
+
+/// Fills rows with the enumerators of a type, and answers how many it has.
+pub fn enumerators_into(
+    found: &Typed<'_>,
+    from: usize,
+    rows: &mut [GivenEnumeratorRow],
+) -> Result<u64, Fault>
+    ensures { FillsFrom (TellsEnumerator (Some (lists_of (dictionary_in found.now))))
+        (said_of enumerators_said (shape_of (or_no_type (spelled found.now)))) from result
+        rows.old rows.new }
+{
+    let Some(names) = name_rows(found) else {
+        return Err(placeless(Fault::WRONG_KIND));
+    };
+    match found.variant() {
+        Variant::Enumerators(enumerators) => {
+            fill_enumerators(&found.dictionary(), &names, &enumerators, from, rows);
+            Ok(enumerators.len() as u64)
+        }
+        _ => Err(placeless(Fault::WRONG_KIND)),
+    }
+}
+
+/// Fills rows with the members of a type, and answers how many it has.
+pub fn members_into(
+    found: &Typed<'_>,
+    from: usize,
+    rows: &mut [GivenMemberRow],
+) -> Result<u64, Fault>
+    ensures { FillsFrom (TellsMember (Some (lists_of (dictionary_in found.now))))
+        (said_of members_said (shape_of (or_no_type (spelled found.now)))) from result
+        rows.old rows.new }
+{
+    let Some(names) = name_rows(found) else {
+        return Err(placeless(Fault::WRONG_KIND));
+    };
+    match found.variant() {
+        Variant::Members(members) => {
+            fill_members(&found.dictionary(), &names, &members, from, rows);
+            Ok(members.len() as u64)
+        }
+        _ => Err(placeless(Fault::WRONG_KIND)),
+    }
+}

@@ -1,0 +1,54 @@
+//! Where names stand in the lists of a dictionary.
+ghost use Rattle.std.specs.Prelude.{◌≡◌, ◌<◌, ◌+◌, ◌^◌, ℕ, List, Some};
+ghost use Rattle.ctf_model.specs.format.Header.{fields};
+ghost use Rattle.ctf_model.specs.format.Name.{name as named};
+ghost use Rattle.ctf_check.specs.CheckedView.{lists_of, tables_of};
+ghost use Rattle.ctf_c.specs.names.Places.{text_in};
+
+use ctf_check::Checked;
+use ctf_sections::bytes::u32_at;
+
+/// The number of the CTF section as a list that names stand in.
+pub const IN_CTF: u32 = 0;
+
+/// The number of the strings of the symbol table.
+pub const IN_STRINGS: u32 = 1;
+
+/// Stands for no list: the name is empty.
+pub const NOWHERE: u32 = 2;
+
+/// Where a name stands: the number of a list, and how many bytes behind its beginning.
+#[derive(Clone, Copy)]
+pub struct Place {
+    pub list: u32,
+    pub at: u64,
+}
+
+/// Where the strings of a dictionary begin in its CTF section.
+fn strings_begin(dictionary: &Checked<'_>) -> u64
+    ensures begin { result ≡ 36 + (fields (lists_of dictionary.now).ctf).stroff }
+    ensures short { result < 2 ^ 33 }
+{
+    36 + u64::from(u32_at(dictionary.lists().ctf, 28))
+}
+
+/// Where the name of a reference stands.
+pub fn place_of(dictionary: &Checked<'_>, reference: u32) -> Place
+    ensures { (name : List ℕ) → named (tables_of dictionary.now) reference ≡ Some name
+        → text_in (lists_of dictionary.now) result.list result.at ≡ Some name }
+{
+    let at = u64::from(reference % 0x8000_0000);
+    if at == 0 {
+        return Place { list: NOWHERE, at };
+    }
+    if reference / 0x8000_0000 == 0 {
+        return Place {
+            list: IN_CTF,
+            at: strings_begin(dictionary) + at,
+        };
+    }
+    Place {
+        list: IN_STRINGS,
+        at,
+    }
+}

@@ -1,0 +1,120 @@
+//! Exports that answer many members or enumerators at once, and where their names stand.
+ghost use Rattle.std.specs.Prelude.{◌≡◌, Some};
+ghost use Rattle.ctf_c.specs.Given.{asked};
+ghost use Rattle.ctf_c.specs.Rowed.{GivesRows, lists_with};
+ghost use Rattle.ctf_c.specs.names.Filling.{FillsFrom, TellsEnumerator, TellsMember};
+ghost use Rattle.ctf_model.specs.opened.Questions.{enumerators_said, members_said, said_of, shape_of};
+ghost use Rattle.ctf_model.specs.opened.Open.{space_in};
+ghost use Rattle.ctf_model.specs.spaces.Space.{space_type};
+
+use crate::given::{session_of, status};
+use crate::handle::Handle;
+use crate::names::{enumerators_into, held_type, members_into};
+use ctf_model::{Fault, TypeNum};
+use ctf_open::OpenDictionary;
+
+/// A member: `struct ctfd_member_row`. Its name stands so many bytes behind the beginning of a list,
+/// a zero byte behind it. The offset is in bits.
+#[repr(C)]
+#[derive(Clone, Copy)]
+pub struct GivenMemberRow {
+    pub offset: u64,
+    pub name_at: u64,
+    pub name_list: u32,
+    pub tnum: u16,
+}
+
+/// An enumerator: `struct ctfd_enumerator_row`.
+#[repr(C)]
+#[derive(Clone, Copy)]
+pub struct GivenEnumeratorRow {
+    pub name_at: u64,
+    pub name_list: u32,
+    pub value: i32,
+}
+
+/// Fills rows with the members of a type from a number on, and answers how many it has.
+fn members(
+    session: &OpenDictionary,
+    t: TypeNum,
+    from: usize,
+    rows: &mut [GivenMemberRow],
+) -> Result<u64, Fault>
+    ensures { FillsFrom (TellsMember (lists_with (Some session.now) t.0))
+        (said_of members_said (shape_of (space_type (space_in session.now) t.0))) from result
+        rows.old rows.new }
+{
+    match held_type(&session.space(), t) {
+        Ok(found) => members_into(&found, from, rows),
+        Err(fault) => Err(fault),
+    }
+}
+
+/// The same of the enumerators of a type.
+fn enumerators(
+    session: &OpenDictionary,
+    t: TypeNum,
+    from: usize,
+    rows: &mut [GivenEnumeratorRow],
+) -> Result<u64, Fault>
+    ensures { FillsFrom (TellsEnumerator (lists_with (Some session.now) t.0))
+        (said_of enumerators_said (shape_of (space_type (space_in session.now) t.0))) from result
+        rows.old rows.new }
+{
+    match held_type(&session.space(), t) {
+        Ok(found) => enumerators_into(&found, from, rows),
+        Err(fault) => Err(fault),
+    }
+}
+
+/// The members of a struct or union from a number on, as many as there are rows, and how many it has
+/// in all.
+#[unsafe(no_mangle)]
+pub extern "C" fn ctfd_members(
+    handle: &mut Handle,
+    t: u16,
+    from: usize,
+    rows: &mut [GivenMemberRow],
+    count: &mut u64,
+) -> u32
+    ensures same { handle.new.held.session ≡ handle.old.held.session }
+    ensures answer { GivesRows (TellsMember (lists_with handle.old.held.session t))
+        (asked handle.old.held.session (λ s.
+        said_of members_said (shape_of (space_type (space_in s) t)))) from result
+        rows.old rows.new count.old count.new }
+{
+    let session = session_of!(handle);
+    match members(session, TypeNum(t), from, rows) {
+        Ok(all) => {
+            *count = all;
+            0
+        }
+        Err(fault) => status(fault),
+    }
+}
+
+/// The enumerators of an enum from a number on, as many as there are rows, and how many it has in
+/// all.
+#[unsafe(no_mangle)]
+pub extern "C" fn ctfd_enumerators(
+    handle: &mut Handle,
+    t: u16,
+    from: usize,
+    rows: &mut [GivenEnumeratorRow],
+    count: &mut u64,
+) -> u32
+    ensures same { handle.new.held.session ≡ handle.old.held.session }
+    ensures answer { GivesRows (TellsEnumerator (lists_with handle.old.held.session t))
+        (asked handle.old.held.session (λ s.
+        said_of enumerators_said (shape_of (space_type (space_in s) t)))) from result
+        rows.old rows.new count.old count.new }
+{
+    let session = session_of!(handle);
+    match enumerators(session, TypeNum(t), from, rows) {
+        Ok(all) => {
+            *count = all;
+            0
+        }
+        Err(fault) => status(fault),
+    }
+}
