@@ -104,8 +104,9 @@ def instructions(command: list[str], question: str) -> float:
 
 def first_instructions(command: list[str], question: str) -> float:
     """What a call of the first round takes, before anything is kept."""
-    calls = asked(command, question, 1)[0]
-    return (counted(command, question, 1) - counted(command, question, 0)) / calls
+    calls, _, size = asked(command, question, 1)
+    per = (counted(command, question, 1) - counted(command, question, 0)) / calls
+    return per * 1e6 / size if question == "open" else per
 
 
 def profile(command: list[str], question: str, work: Path) -> None:

@@ -12,8 +12,9 @@
  * docs/C.md has a table of all calls, with those that are not here.
  *
  * A ctf_file_t, and those that share its parent, are for one thread at a time (ctfd.h). Names that
- * are handed out, to callbacks too, live as long as their ctf_file_t. A callback may make any call
- * but ctf_close of the file that it is called for.
+ * are handed out, to callbacks too, live as long as their ctf_file_t; those of members and
+ * enumerators stand in the sections that it was given. A callback may make any call but ctf_close
+ * of the file that it is called for.
  */
 #ifndef CTFD_LIBCTF_H
 #define CTFD_LIBCTF_H

@@ -13,8 +13,8 @@ use crate::names::{enumerators_into, held_type, members_into};
 use ctf_model::{Fault, TypeNum};
 use ctf_open::OpenDictionary;
 
-/// A member: `struct ctfd_member_row`. Its name stands so many bytes behind the beginning of a list,
-/// a zero byte behind it. The offset is in bits.
+/// A member: `struct ctfd_member_row`. Its name stands so many bytes behind the beginning of a
+/// list, a zero byte behind it. The offset is in bits.
 #[repr(C)]
 #[derive(Clone, Copy)]
 pub struct GivenMemberRow {
@@ -67,8 +67,8 @@ fn enumerators(
     }
 }
 
-/// The members of a struct or union from a number on, as many as there are rows, and how many it has
-/// in all.
+/// The members of a struct or union from a number on, as many as there are rows, and how many it
+/// has in all.
 #[unsafe(no_mangle)]
 pub extern "C" fn ctfd_members(
     handle: &mut Handle,

@@ -8,14 +8,16 @@ use Rattle.ctf_c.specs.declared.rows.GivenEnumeratorRow.{GivenEnumeratorRow}
 use Rattle.ctf_c.specs.declared.rows.GivenMemberRow.{GivenMemberRow}
 
 -- the rows tell of the items from a number on, as far as both reach, and rows behind them stay
-pub record Fills {A R : Type 0} (Tells : A → R → Type 0) (items : List A) (from : ℕ) (old new : List R) : Type 0 where
+pub record Fills {A R : Type 0} (Tells : A → R → Type 0) (items : List A) (from : ℕ)
+    (old new : List R) : Type 0 where
   pub many : length new ≡ length old
-  pub told : (i : ℕ) (x : A) (r : R) → slice_get items (from + i) ≡ Some x → slice_get new i ≡ Some r → Tells x r
+  pub told : (i : ℕ) (x : A) (r : R) → slice_get items (from + i) ≡ Some x
+      → slice_get new i ≡ Some r → Tells x r
   pub stays : (i : ℕ) → length items ≤ from + i → slice_get new i ≡ slice_get old i
 
 -- the same of a list, if there is one: how many items it has is answered; else no row changes
-abbrev pub FillsFrom : {A R : Type 0} → (A → R → Type 0) → Result (List A) Fault → ℕ → Result ℕ Fault
-    → List R → List R → Type 0
+abbrev pub FillsFrom : {A R : Type 0} → (A → R → Type 0) → Result (List A) Fault → ℕ
+    → Result ℕ Fault → List R → List R → Type 0
 FillsFrom Tells (Ok items) from answer old new =
     (answer ≡ Ok (length items)) × Fills Tells items from old new
 FillsFrom Tells (Err fault) from answer old new = (answer ≡ Err fault) × (new ≡ old)

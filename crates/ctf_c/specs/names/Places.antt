@@ -1,11 +1,12 @@
 -- Where names stand in the lists of a dictionary. The words are ours.
-use Rattle.std.specs.Prelude.{ℕ, ◌==◌, List, [], Option, Some, if◌then◌else◌}
+use Rattle.std.specs.Prelude.{ℕ, ◌==◌, List, [], Option, Some, None, if◌then◌else◌}
 use Rattle.ctf_model.specs.format.Lists.{Lists}
 use Rattle.ctf_model.specs.format.Name.{text_at}
 
--- the text at a place: list 0 is the CTF section, 1 the strings of the symbol table, and any other
--- stands for the empty text
+-- the text at a place: list 0 is the CTF section, 1 the strings of the symbol table, and 2 stands
+-- for the empty text
 abbrev pub text_in : Lists → ℕ → ℕ → Option (List ℕ)
 text_in s list at =
     if list == 0 then text_at (Some s.ctf) at
-    else if list == 1 then text_at s.strs at else Some []
+    else if list == 1 then text_at s.strs at
+    else if list == 2 then Some [] else None

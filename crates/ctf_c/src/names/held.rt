@@ -16,7 +16,8 @@ use ctf_space::Space;
 /// The own type of a dictionary with a number from 0.
 fn own_type<'a>(dictionary: Checked<'a>, i: usize) -> Result<Typed<'a>, Fault>
     requires { i < 65536 }
-    ensures found { type_found result ≡ or_no_type (slice_get (dictionary_of dictionary.entry).terms i) }
+    ensures found { type_found result
+        ≡ or_no_type (slice_get (dictionary_of dictionary.entry).terms i) }
     ensures lists { IfOk result (λ x. lists_of (dictionary_in x) ≡ lists_of dictionary.entry) }
 {
     match dictionary.typed(i + 1) {

@@ -35,7 +35,8 @@ impl<'a> NameRows<'a> {
     pub fn new(bytes: &'a [u8], width: usize, count: usize, strings: Strings<'a>) -> NameRows<'a>
         requires good { AreGood (name_at (tables strings)) width count bytes.now }
         requires wide { 4 ≤ width }
-        ensures names { items_in (name_at (tables strings.entry)) width count bytes.now ≡ names_in result }
+        ensures names { items_in (name_at (tables strings.entry)) width count bytes.now
+            ≡ names_in result }
         ensures tables { tables_for result ≡ tables strings.entry }
     {
         NameRows {
