@@ -1,4 +1,4 @@
--- A handle is an optional box for a session.
+-- A handle is an optional box for a dictionary.
 use denote.RattleType.{RattleType}
 use Rattle.std.specs.Borrow.{Fml, Lends, MutBor}
 use Rattle.ctf_c.specs.declared.handles.option_box.OptionBox.{OptionBox}
@@ -6,23 +6,23 @@ use Rattle.ctf_c.specs.contracts.handles.option_box.OptionBox as OptionBoxes
 use Rattle.ctf_model.specs.opened.Open.{Open}
 use Rattle.ctf_c.specs.declared.handle.Handle.{Handle}
 use Rattle.ctf_c.specs.contracts.handle.Handle as Handles
-use Rattle.ctf_open.specs.contracts.opened.OpenDictionary as Sessions
+use Rattle.ctf_open.specs.contracts.opened.OpenDictionary as Dictionaries
 
 -- the row of such a box
 abbrev pub box_row : RattleType
-box_row = OptionBoxes.the_row Sessions.the_row
+box_row = OptionBoxes.the_row Dictionaries.the_row
 
 abbrev pub as_option_box : Handle → OptionBox Open
 as_option_box h = record {
   full = h.full;
-  held = record { at = h.held.at; alloc = h.held.alloc; value = h.held.session };
+  held = record { at = h.held.at; alloc = h.held.alloc; value = h.held.dictionary };
   tells = h.tells;
 }
 
 abbrev pub as_handle : OptionBox Open → Handle
 as_handle s = record {
   full = s.full;
-  held = record { at = s.held.at; alloc = s.held.alloc; session = s.held.value };
+  held = record { at = s.held.at; alloc = s.held.alloc; dictionary = s.held.value };
   tells = s.tells;
 }
 

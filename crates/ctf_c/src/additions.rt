@@ -32,10 +32,10 @@ fn add(
         (type_added (record { name = name.now; root = root; body = new_body_of body })))
         result out.old out.new dictionary.old.held.value dictionary.new.held.value }
 {
-    let Some(session) = dictionary.get_mut() else {
+    let Some(dictionary) = dictionary.get_mut() else {
         return NOT_OPEN;
     };
-    match session.add(alloc, name, root, body) {
+    match dictionary.add(alloc, name, root, body) {
         Ok(t) => {
             *out = t.0;
             0
@@ -54,10 +54,10 @@ fn add_part(
     ensures { Steps (asked dictionary.old.held.value (enlarged (part_in part.entry))) result
         out.old out.new dictionary.old.held.value dictionary.new.held.value }
 {
-    let Some(session) = dictionary.get_mut() else {
+    let Some(dictionary) = dictionary.get_mut() else {
         return NOT_OPEN;
     };
-    match session.add_part(alloc, part) {
+    match dictionary.add_part(alloc, part) {
         Ok(answer) => {
             *out = answer;
             0
@@ -79,7 +79,7 @@ pub extern "C" fn ctfd_add_integer(
     size: u64,
     out: &mut u16,
 ) -> u32
-    ensures { Steps (asked handle.old.held.session (type_added (record {
+    ensures { Steps (asked handle.old.held.dictionary (type_added (record {
       name = name.now;
       root = root;
       body = new.integer (record {
@@ -88,7 +88,7 @@ pub extern "C" fn ctfd_add_integer(
         offset = offset;
         bits = bits;
       });
-    }))) result out.old out.new handle.old.held.session handle.new.held.session }
+    }))) result out.old out.new handle.old.held.dictionary handle.new.held.dictionary }
 {
     let encoding = Encoding {
         encoding,
@@ -112,11 +112,11 @@ pub extern "C" fn ctfd_add_float(
     size: u64,
     out: &mut u16,
 ) -> u32
-    ensures { Steps (asked handle.old.held.session (type_added (record {
+    ensures { Steps (asked handle.old.held.dictionary (type_added (record {
       name = name.now;
       root = root;
       body = new.float (record { size = size; encoding = encoding; offset = offset; bits = bits });
-    }))) result out.old out.new handle.old.held.session handle.new.held.session }
+    }))) result out.old out.new handle.old.held.dictionary handle.new.held.dictionary }
 {
     let encoding = Encoding {
         encoding,
@@ -137,9 +137,9 @@ pub extern "C" fn ctfd_add_pointer(
     to: u16,
     out: &mut u16,
 ) -> u32
-    ensures { Steps (asked handle.old.held.session
+    ensures { Steps (asked handle.old.held.dictionary
         (type_added (record { name = name.now; root = root; body = new.pointer to })))
-        result out.old out.new handle.old.held.session handle.new.held.session }
+        result out.old out.new handle.old.held.dictionary handle.new.held.dictionary }
 {
     let body = NewBody::Reference(ReferenceKind::Pointer, TypeNum(to));
     add(alloc, handle.option_box(), name, root, body, out)
@@ -155,9 +155,9 @@ pub extern "C" fn ctfd_add_typedef(
     to: u16,
     out: &mut u16,
 ) -> u32
-    ensures { Steps (asked handle.old.held.session
+    ensures { Steps (asked handle.old.held.dictionary
         (type_added (record { name = name.now; root = root; body = new.typedef to })))
-        result out.old out.new handle.old.held.session handle.new.held.session }
+        result out.old out.new handle.old.held.dictionary handle.new.held.dictionary }
 {
     let body = NewBody::Reference(ReferenceKind::Typedef, TypeNum(to));
     add(alloc, handle.option_box(), name, root, body, out)
@@ -173,9 +173,9 @@ pub extern "C" fn ctfd_add_volatile(
     to: u16,
     out: &mut u16,
 ) -> u32
-    ensures { Steps (asked handle.old.held.session
+    ensures { Steps (asked handle.old.held.dictionary
         (type_added (record { name = name.now; root = root; body = new.volatile to })))
-        result out.old out.new handle.old.held.session handle.new.held.session }
+        result out.old out.new handle.old.held.dictionary handle.new.held.dictionary }
 {
     let body = NewBody::Reference(ReferenceKind::Volatile, TypeNum(to));
     add(alloc, handle.option_box(), name, root, body, out)
@@ -191,9 +191,9 @@ pub extern "C" fn ctfd_add_const(
     to: u16,
     out: &mut u16,
 ) -> u32
-    ensures { Steps (asked handle.old.held.session
+    ensures { Steps (asked handle.old.held.dictionary
         (type_added (record { name = name.now; root = root; body = new.const to })))
-        result out.old out.new handle.old.held.session handle.new.held.session }
+        result out.old out.new handle.old.held.dictionary handle.new.held.dictionary }
 {
     let body = NewBody::Reference(ReferenceKind::Const, TypeNum(to));
     add(alloc, handle.option_box(), name, root, body, out)
@@ -209,9 +209,9 @@ pub extern "C" fn ctfd_add_restrict(
     to: u16,
     out: &mut u16,
 ) -> u32
-    ensures { Steps (asked handle.old.held.session
+    ensures { Steps (asked handle.old.held.dictionary
         (type_added (record { name = name.now; root = root; body = new.restrict to })))
-        result out.old out.new handle.old.held.session handle.new.held.session }
+        result out.old out.new handle.old.held.dictionary handle.new.held.dictionary }
 {
     let body = NewBody::Reference(ReferenceKind::Restrict, TypeNum(to));
     add(alloc, handle.option_box(), name, root, body, out)
@@ -229,13 +229,13 @@ pub extern "C" fn ctfd_add_array(
     count: u32,
     out: &mut u16,
 ) -> u32
-    ensures { Steps (asked handle.old.held.session
+    ensures { Steps (asked handle.old.held.dictionary
         (type_added (record {
           name = name.now;
           root = root;
           body = new.array (record { contents = contents; index = index; count = count });
         })))
-        result out.old out.new handle.old.held.session handle.new.held.session }
+        result out.old out.new handle.old.held.dictionary handle.new.held.dictionary }
 {
     let body = NewBody::Array(ArrayInfo {
         contents: TypeNum(contents),
@@ -255,9 +255,9 @@ pub extern "C" fn ctfd_add_struct(
     size: u64,
     out: &mut u16,
 ) -> u32
-    ensures { Steps (asked handle.old.held.session
+    ensures { Steps (asked handle.old.held.dictionary
         (type_added (record { name = name.now; root = root; body = new.struct size })))
-        result out.old out.new handle.old.held.session handle.new.held.session }
+        result out.old out.new handle.old.held.dictionary handle.new.held.dictionary }
 {
     let body = NewBody::Aggregate(AggregateKind::Struct, size);
     add(alloc, handle.option_box(), name, root, body, out)
@@ -273,9 +273,9 @@ pub extern "C" fn ctfd_add_union(
     size: u64,
     out: &mut u16,
 ) -> u32
-    ensures { Steps (asked handle.old.held.session
+    ensures { Steps (asked handle.old.held.dictionary
         (type_added (record { name = name.now; root = root; body = new.union size })))
-        result out.old out.new handle.old.held.session handle.new.held.session }
+        result out.old out.new handle.old.held.dictionary handle.new.held.dictionary }
 {
     let body = NewBody::Aggregate(AggregateKind::Union, size);
     add(alloc, handle.option_box(), name, root, body, out)
@@ -291,9 +291,9 @@ pub extern "C" fn ctfd_add_enum(
     size: u64,
     out: &mut u16,
 ) -> u32
-    ensures { Steps (asked handle.old.held.session
+    ensures { Steps (asked handle.old.held.dictionary
         (type_added (record { name = name.now; root = root; body = new.enum size })))
-        result out.old out.new handle.old.held.session handle.new.held.session }
+        result out.old out.new handle.old.held.dictionary handle.new.held.dictionary }
 {
     let body = NewBody::Enum(size);
     add(alloc, handle.option_box(), name, root, body, out)
@@ -308,9 +308,9 @@ pub extern "C" fn ctfd_add_unknown(
     root: bool,
     out: &mut u16,
 ) -> u32
-    ensures { Steps (asked handle.old.held.session
+    ensures { Steps (asked handle.old.held.dictionary
         (type_added (record { name = name.now; root = root; body = new.unknown })))
-        result out.old out.new handle.old.held.session handle.new.held.session }
+        result out.old out.new handle.old.held.dictionary handle.new.held.dictionary }
 {
     let body = NewBody::Unknown;
     add(alloc, handle.option_box(), name, root, body, out)
@@ -339,9 +339,9 @@ pub extern "C" fn ctfd_add_function(
     args: &[u16],
     out: &mut u16,
 ) -> u32
-    ensures { Steps (asked handle.old.held.session
+    ensures { Steps (asked handle.old.held.dictionary
         (type_added (record { name = name.now; root = root; body = new.function ret args.now })))
-        result out.old out.new handle.old.held.session handle.new.held.session }
+        result out.old out.new handle.old.held.dictionary handle.new.held.dictionary }
 {
     match numbers(alloc, args) {
         Ok(args) => {
@@ -375,8 +375,8 @@ pub extern "C" fn ctfd_add_forward(
     tag: u32,
     out: &mut u16,
 ) -> u32
-    ensures { Steps (forward_asked name.now root (tag_numbered tag) handle.old.held.session) result
-        out.old out.new handle.old.held.session handle.new.held.session }
+    ensures { Steps (forward_asked name.now root (tag_numbered tag) handle.old.held.dictionary) result
+        out.old out.new handle.old.held.dictionary handle.new.held.dictionary }
 {
     match tag_of(tag) {
         Some(tag) => {
@@ -407,9 +407,9 @@ pub extern "C" fn ctfd_add_member(
     offset: u64,
     out: &mut u64,
 ) -> u32
-    ensures { Steps (asked handle.old.held.session
+    ensures { Steps (asked handle.old.held.dictionary
         (member_added t name.now tnum (number_there has_offset offset)))
-        result out.old out.new handle.old.held.session handle.new.held.session }
+        result out.old out.new handle.old.held.dictionary handle.new.held.dictionary }
 {
     let offset = number_if(has_offset, offset);
     let part = Part::Member(TypeNum(t), name, TypeNum(tnum), offset);
@@ -425,9 +425,9 @@ pub extern "C" fn ctfd_add_enumerator(
     name: &[u8],
     value: i32,
 ) -> u32
-    ensures { Adds (asked handle.old.held.session
+    ensures { Adds (asked handle.old.held.dictionary
         (enumerator_added t (record { name = name.now; value = value })))
-        result handle.old.held.session handle.new.held.session }
+        result handle.old.held.dictionary handle.new.held.dictionary }
 {
     let mut none = 0;
     let part = Part::Enumerator(TypeNum(t), name, value);
@@ -437,9 +437,9 @@ pub extern "C" fn ctfd_add_enumerator(
 /// Adds a label, with the last type that it covers.
 #[unsafe(no_mangle)]
 pub extern "C" fn ctfd_add_label(alloc: Global, handle: &mut Handle, name: &[u8], last: u32) -> u32
-    ensures { Adds (asked handle.old.held.session
+    ensures { Adds (asked handle.old.held.dictionary
         (label_added (record { name = name.now; last = last })))
-        result handle.old.held.session handle.new.held.session }
+        result handle.old.held.dictionary handle.new.held.dictionary }
 {
     let mut none = 0;
     let part = Part::Label(name, last);

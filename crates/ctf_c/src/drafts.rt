@@ -5,7 +5,7 @@ ghost use Rattle.ctf_model.specs.opened.Steps.{created, dropped, updated};
 ghost use Rattle.ctf_c.specs.Given.{GivesBytes, asked, model_if};
 ghost use Rattle.ctf_model.specs.rules.Refusals.{want_of_memory};
 
-use crate::given::{NOT_OPEN, model_of, session_of, status, write_front};
+use crate::given::{NOT_OPEN, dictionary_of, model_of, status, write_front};
 use crate::handle::Handle;
 use crate::handles::{OptionBox, boxed};
 use ctf_model::{DataModel, Fault, placeless};
@@ -40,11 +40,11 @@ pub extern "C" fn ctfd_create(
     place: &mut u64,
 ) -> u32
     ensures { Creates (created None [] [] (model_if ilp32)) result place.old place.new
-        handle.old.held.session handle.new.held.session }
+        handle.old.held.dictionary handle.new.held.dictionary }
 {
     match drafted(alloc, None, &[], &[], model_of(ilp32)) {
-        Ok(session) => {
-            handle.option_box().hold(session);
+        Ok(dictionary) => {
+            handle.option_box().hold(dictionary);
             0
         }
         Err(fault) => {
@@ -83,18 +83,18 @@ pub extern "C" fn ctfd_create_child(
     parlabel: &[u8],
     place: &mut u64,
 ) -> u32
-    ensures parent { parent.new.held.session ≡ parent.old.held.session }
+    ensures parent { parent.new.held.dictionary ≡ parent.old.held.dictionary }
     ensures answer { Creates
-        (created_under parent.old.held.session parname.now parlabel.now) result
-        place.old place.new handle.old.held.session handle.new.held.session }
+        (created_under parent.old.held.dictionary parname.now parlabel.now) result
+        place.old place.new handle.old.held.dictionary handle.new.held.dictionary }
 {
     let Some(source) = parent.option_box().get() else {
         *place = 0;
         return NOT_OPEN;
     };
     match drafted_under(alloc, source, parname, parlabel) {
-        Ok(session) => {
-            handle.option_box().hold(session);
+        Ok(dictionary) => {
+            handle.option_box().hold(dictionary);
             0
         }
         Err(fault) => {
@@ -114,11 +114,11 @@ fn update(
     ensures { StepsAt (asked dictionary.old.held.value updated) result types.old types.new
         place.old place.new dictionary.old.held.value dictionary.new.held.value }
 {
-    let Some(session) = dictionary.get_mut() else {
+    let Some(dictionary) = dictionary.get_mut() else {
         *place = 0;
         return NOT_OPEN;
     };
-    match session.update(alloc) {
+    match dictionary.update(alloc) {
         Ok(count) => {
             *types = count;
             0
@@ -139,8 +139,8 @@ pub extern "C" fn ctfd_update(
     types: &mut u64,
     place: &mut u64,
 ) -> u32
-    ensures { StepsAt (asked handle.old.held.session updated) result types.old types.new
-        place.old place.new handle.old.held.session handle.new.held.session }
+    ensures { StepsAt (asked handle.old.held.dictionary updated) result types.old types.new
+        place.old place.new handle.old.held.dictionary handle.new.held.dictionary }
 {
     update(alloc, handle.option_box(), types, place)
 }
@@ -150,10 +150,10 @@ fn discard(dictionary: &mut OptionBox<OpenDictionary>, types: &mut u64) -> u32
     ensures { Does (asked dictionary.old.held.value dropped) result types.old types.new
         dictionary.old.held.value dictionary.new.held.value }
 {
-    let Some(session) = dictionary.get_mut() else {
+    let Some(dictionary) = dictionary.get_mut() else {
         return NOT_OPEN;
     };
-    match session.discard() {
+    match dictionary.discard() {
         Ok(count) => {
             *types = count;
             0
@@ -165,8 +165,8 @@ fn discard(dictionary: &mut OptionBox<OpenDictionary>, types: &mut u64) -> u32
 /// Drops what was added since the last update, and gives how many types the dictionary has.
 #[unsafe(no_mangle)]
 pub extern "C" fn ctfd_discard(handle: &mut Handle, types: &mut u64) -> u32
-    ensures { Does (asked handle.old.held.session dropped) result types.old types.new
-        handle.old.held.session handle.new.held.session }
+    ensures { Does (asked handle.old.held.dictionary dropped) result types.old types.new
+        handle.old.held.dictionary handle.new.held.dictionary }
 {
     discard(handle.option_box(), types)
 }
@@ -181,13 +181,13 @@ fn behind(bytes: &[u8], from: u64) -> &[u8]
 /// The bytes of the dictionary from a place on, as much as fits, and how many it has in all.
 #[unsafe(no_mangle)]
 pub extern "C" fn ctfd_bytes(handle: &mut Handle, from: u64, bytes: &mut [u8], len: &mut u64) -> u32
-    ensures same { handle.new.held.session ≡ handle.old.held.session }
-    ensures answer { GivesBytes (asked handle.old.held.session (λ s. Ok s.own.lists.ctf)) from
+    ensures same { handle.new.held.dictionary ≡ handle.old.held.dictionary }
+    ensures answer { GivesBytes (asked handle.old.held.dictionary (λ s. Ok s.own.lists.ctf)) from
         result (record { text = bytes.old; len = len.old })
         (record { text = bytes.new; len = len.new }) }
 {
-    let session = session_of!(handle);
-    let ctf = session.ctf();
+    let dictionary = dictionary_of!(handle);
+    let ctf = dictionary.ctf();
     write_front(behind(ctf, from), bytes);
     *len = ctf.len() as u64;
     0

@@ -5,7 +5,7 @@ ghost use Rattle.ctf_model.specs.opened.Questions.{array_said, encoding_said, pa
 ghost use Rattle.ctf_model.specs.opened.Open.{space_in};
 ghost use Rattle.ctf_model.specs.spaces.Space.{space_type};
 
-use crate::given::{session_of, status};
+use crate::given::{dictionary_of, status};
 use crate::handle::Handle;
 use ctf_model::TypeNum;
 
@@ -30,14 +30,14 @@ pub struct GivenArray {
 /// How an integer or a float is encoded.
 #[unsafe(no_mangle)]
 pub extern "C" fn ctfd_encoding(handle: &mut Handle, t: u16, out: &mut GivenEncoding) -> u32
-    ensures same { handle.new.held.session ≡ handle.old.held.session }
-    ensures answer { Gives (asked handle.old.held.session (λ s.
+    ensures same { handle.new.held.dictionary ≡ handle.old.held.dictionary }
+    ensures answer { Gives (asked handle.old.held.dictionary (λ s.
         said_of encoding_said (shape_of (space_type (space_in s) t)))) result
         (record { encoding = out.old.encoding; offset = out.old.offset; bits = out.old.bits })
         (record { encoding = out.new.encoding; offset = out.new.offset; bits = out.new.bits }) }
 {
-    let session = session_of!(handle);
-    match session.encoding(TypeNum(t)) {
+    let dictionary = dictionary_of!(handle);
+    match dictionary.encoding(TypeNum(t)) {
         Ok(info) => {
             *out = GivenEncoding {
                 encoding: u32::from(info.encoding),
@@ -53,14 +53,14 @@ pub extern "C" fn ctfd_encoding(handle: &mut Handle, t: u16, out: &mut GivenEnco
 /// What an array holds.
 #[unsafe(no_mangle)]
 pub extern "C" fn ctfd_array(handle: &mut Handle, t: u16, out: &mut GivenArray) -> u32
-    ensures same { handle.new.held.session ≡ handle.old.held.session }
-    ensures answer { Gives (asked handle.old.held.session (λ s.
+    ensures same { handle.new.held.dictionary ≡ handle.old.held.dictionary }
+    ensures answer { Gives (asked handle.old.held.dictionary (λ s.
         said_of array_said (shape_of (space_type (space_in s) t)))) result
         (record { contents = out.old.contents; index = out.old.index; count = out.old.count })
         (record { contents = out.new.contents; index = out.new.index; count = out.new.count }) }
 {
-    let session = session_of!(handle);
-    match session.array(TypeNum(t)) {
+    let dictionary = dictionary_of!(handle);
+    match dictionary.array(TypeNum(t)) {
         Ok(info) => {
             *out = GivenArray {
                 count: info.count,
@@ -82,14 +82,14 @@ pub extern "C" fn ctfd_field(
     offset: &mut u64,
     to: &mut u16,
 ) -> u32
-    ensures same { handle.new.held.session ≡ handle.old.held.session }
-    ensures answer { Gives (asked handle.old.held.session (λ s.
+    ensures same { handle.new.held.dictionary ≡ handle.old.held.dictionary }
+    ensures answer { Gives (asked handle.old.held.dictionary (λ s.
         path_said (space_in s) (name.now ∷ []) t)) result
         (record { offset = offset.old; tnum = to.old })
         (record { offset = offset.new; tnum = to.new }) }
 {
-    let session = session_of!(handle);
-    match session.field(TypeNum(t), name) {
+    let dictionary = dictionary_of!(handle);
+    match dictionary.field(TypeNum(t), name) {
         Ok((at, found)) => {
             *offset = at;
             *to = found.0;

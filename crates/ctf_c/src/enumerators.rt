@@ -8,7 +8,7 @@ ghost use Rattle.ctf_model.specs.opened.Open.{space_in};
 ghost use Rattle.ctf_model.specs.spaces.Space.{space_type};
 ghost use Rattle.ctf_views.specs.ItemsView.{enumerator as enumerator_seen};
 
-use crate::given::{session_of, status, write_front};
+use crate::given::{dictionary_of, status, write_front};
 use crate::handle::Handle;
 use crate::names::{with_name, with_value};
 use ctf_model::{Fault, TypeNum};
@@ -16,22 +16,26 @@ use ctf_open::OpenDictionary;
 use ctf_views::Enumerator;
 
 /// The first enumerator of an enum that has a value.
-fn valued(session: &OpenDictionary, t: TypeNum, value: i32) -> Result<Enumerator<'_>, Fault>
+fn valued(dictionary: &OpenDictionary, t: TypeNum, value: i32) -> Result<Enumerator<'_>, Fault>
     ensures { result_map_both enumerator_seen (λ f. f) result
-        ≡ said_of (valued_said value) (shape_of (space_type (space_in session.now) t.0)) }
+        ≡ said_of (valued_said value) (shape_of (space_type (space_in dictionary.now) t.0)) }
 {
-    match session.space().term(t) {
+    match dictionary.space().term(t) {
         Ok(found) => with_value(&found, value),
         Err(fault) => Err(fault),
     }
 }
 
 /// The first enumerator of an enum that has a name.
-fn named<'a>(session: &'a OpenDictionary, t: TypeNum, name: &[u8]) -> Result<Enumerator<'a>, Fault>
+fn named<'a>(
+    dictionary: &'a OpenDictionary,
+    t: TypeNum,
+    name: &[u8],
+) -> Result<Enumerator<'a>, Fault>
     ensures { result_map_both enumerator_seen (λ f. f) result
-        ≡ said_of (named_said name.now) (shape_of (space_type (space_in session.now) t.0)) }
+        ≡ said_of (named_said name.now) (shape_of (space_type (space_in dictionary.now) t.0)) }
 {
-    match session.space().term(t) {
+    match dictionary.space().term(t) {
         Ok(found) => with_name(&found, name),
         Err(fault) => Err(fault),
     }
@@ -46,13 +50,13 @@ pub extern "C" fn ctfd_enum_name(
     text: &mut [u8],
     len: &mut u64,
 ) -> u32
-    ensures same { handle.new.held.session ≡ handle.old.held.session }
-    ensures answer { GivesText (asked handle.old.held.session (λ s. told_of (λ e. e.name)
+    ensures same { handle.new.held.dictionary ≡ handle.old.held.dictionary }
+    ensures answer { GivesText (asked handle.old.held.dictionary (λ s. told_of (λ e. e.name)
         (said_of (valued_said value) (shape_of (space_type (space_in s) t))))) result
         (record { text = text.old; len = len.old }) (record { text = text.new; len = len.new }) }
 {
-    let session = session_of!(handle);
-    match valued(session, TypeNum(t), value) {
+    let dictionary = dictionary_of!(handle);
+    match valued(dictionary, TypeNum(t), value) {
         Ok(enumerator) => {
             write_front(enumerator.name, text);
             *len = enumerator.name.len() as u64;
@@ -65,13 +69,13 @@ pub extern "C" fn ctfd_enum_name(
 /// The value of the first enumerator that has a name.
 #[unsafe(no_mangle)]
 pub extern "C" fn ctfd_enum_value(handle: &mut Handle, t: u16, name: &[u8], value: &mut i32) -> u32
-    ensures same { handle.new.held.session ≡ handle.old.held.session }
-    ensures answer { Gives (asked handle.old.held.session (λ s. told_of (λ e. e.value)
+    ensures same { handle.new.held.dictionary ≡ handle.old.held.dictionary }
+    ensures answer { Gives (asked handle.old.held.dictionary (λ s. told_of (λ e. e.value)
         (said_of (named_said name.now) (shape_of (space_type (space_in s) t)))))
         result value.old value.new }
 {
-    let session = session_of!(handle);
-    match named(session, TypeNum(t), name) {
+    let dictionary = dictionary_of!(handle);
+    match named(dictionary, TypeNum(t), name) {
         Ok(enumerator) => {
             *value = enumerator.value;
             0

@@ -12,16 +12,16 @@ use ctf_records::Tag;
 pub const NOT_OPEN: u32 = 50;
 
 /// What is open behind a handle. Where nothing is, the export that asks is left with that status.
-macro_rules! session_of {
+macro_rules! dictionary_of {
     ($handle:ident) => {
         match $handle.option_box().get() {
-            Some(session) => session,
+            Some(dictionary) => dictionary,
             None => return $crate::given::NOT_OPEN,
         }
     };
 }
 
-pub(crate) use session_of;
+pub(crate) use dictionary_of;
 
 /// The status of a refusal: 1 and the number of its fault.
 #[inline(always)]

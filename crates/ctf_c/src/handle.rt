@@ -8,17 +8,17 @@ use ctf_open::OpenDictionary;
 use std::alloc::Global;
 use std::marker::Model;
 
-/// A session on the heap, or nothing: `Held` without type parameters, since C is given none.
+/// A dictionary on the heap, or nothing: `Held` without type parameters, since C is given none.
 #[repr(C)]
 #[derive(Drop)]
 pub struct HeapPointer {
     at: *mut u8,
     alloc: Global,
-    pub ghost session: { Option Open } by { pointer_coded },
+    pub ghost dictionary: { Option Open } by { pointer_coded },
 }
 
 impl Model for HeapPointer {
-    ghost also_owns = { λ p. pointer_owns p.alloc p.at p.session };
+    ghost also_owns = { λ p. pointer_owns p.alloc p.at p.dictionary };
 }
 
 /// What is open, if anything is: an `OptionBox` without type parameters.
@@ -27,7 +27,7 @@ impl Model for HeapPointer {
 pub struct Handle {
     full: bool,
     pub held: HeapPointer,
-    ghost tells: { full ≡ is_some held.session },
+    ghost tells: { full ≡ is_some held.dictionary },
 }
 
 impl Handle {
@@ -38,7 +38,7 @@ impl Handle {
     #[inline(always)]
     pub fn option_box(&mut self) -> &mut OptionBox<OpenDictionary>
         ensures* writes_back { sem 𝓛 (HandleLends self.entry result) }
-        ensures same { result.now.held.value ≡ self.old.held.session }
+        ensures same { result.now.held.value ≡ self.old.held.dictionary }
     {
         unsafe { &mut *(self as *mut Handle as *mut OptionBox<OpenDictionary>) }
     }

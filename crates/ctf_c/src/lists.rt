@@ -5,7 +5,7 @@ ghost use Rattle.ctf_model.specs.opened.Questions.{enumerator_said, member_said,
 ghost use Rattle.ctf_model.specs.opened.Open.{space_in};
 ghost use Rattle.ctf_model.specs.spaces.Space.{space_type};
 
-use crate::given::{session_of, status, write_front};
+use crate::given::{dictionary_of, status, write_front};
 use crate::handle::Handle;
 use ctf_model::TypeNum;
 
@@ -27,15 +27,15 @@ pub extern "C" fn ctfd_member(
     name: &mut [u8],
     out: &mut GivenMember,
 ) -> u32
-    ensures same { handle.new.held.session ≡ handle.old.held.session }
-    ensures answer { GivesMember (asked handle.old.held.session (λ s.
+    ensures same { handle.new.held.dictionary ≡ handle.old.held.dictionary }
+    ensures answer { GivesMember (asked handle.old.held.dictionary (λ s.
         said_of (member_said index) (shape_of (space_type (space_in s) t))))
         result name.old name.new
         (record { offset = out.old.offset; name_len = out.old.name_len; tnum = out.old.tnum })
         (record { offset = out.new.offset; name_len = out.new.name_len; tnum = out.new.tnum }) }
 {
-    let session = session_of!(handle);
-    match session.member(TypeNum(t), index) {
+    let dictionary = dictionary_of!(handle);
+    match dictionary.member(TypeNum(t), index) {
         Ok(member) => {
             write_front(member.name, name);
             *out = GivenMember {
@@ -59,14 +59,14 @@ pub extern "C" fn ctfd_enumerator(
     value: &mut i32,
     len: &mut u64,
 ) -> u32
-    ensures same { handle.new.held.session ≡ handle.old.held.session }
-    ensures answer { GivesEnumerator (asked handle.old.held.session (λ s.
+    ensures same { handle.new.held.dictionary ≡ handle.old.held.dictionary }
+    ensures answer { GivesEnumerator (asked handle.old.held.dictionary (λ s.
         said_of (enumerator_said index) (shape_of (space_type (space_in s) t)))) result
         (record { text = name.old; len = len.old }) (record { text = name.new; len = len.new })
         value.old value.new }
 {
-    let session = session_of!(handle);
-    match session.enumerator(TypeNum(t), index) {
+    let dictionary = dictionary_of!(handle);
+    match dictionary.enumerator(TypeNum(t), index) {
         Ok(enumerator) => {
             write_front(enumerator.name, name);
             *value = enumerator.value;

@@ -12,7 +12,7 @@ use ctf_model::{DataModel, Fault};
 use ctf_open::OpenDictionary;
 use std::alloc::Global;
 
-/// A session on the heap, over copies of lists.
+/// A dictionary on the heap, over copies of lists.
 fn opened(
     alloc: Global,
     ctf: &[u8],
@@ -31,7 +31,7 @@ fn opened(
     Ok(boxed(alloc, dictionary)?)
 }
 
-/// A session on the heap, over lists that are lent to it.
+/// A dictionary on the heap, over lists that are lent to it.
 fn opened_lent(
     alloc: Global,
     ctf: &'static [u8],
@@ -71,7 +71,7 @@ pub extern "C" fn ctfd_open(
         strs = list_there has_strs strs.now;
       };
       model = model_if ilp32;
-    }) result place.old place.new handle.old.held.session handle.new.held.session }
+    }) result place.old place.new handle.old.held.dictionary handle.new.held.dictionary }
 {
     let model = model_of(ilp32);
     match opened(
@@ -81,8 +81,8 @@ pub extern "C" fn ctfd_open(
         list_if(has_strs, strs),
         model,
     ) {
-        Ok(session) => {
-            handle.option_box().hold(session);
+        Ok(dictionary) => {
+            handle.option_box().hold(dictionary);
             0
         }
         Err(fault) => {
@@ -116,13 +116,13 @@ pub extern "C" fn ctfd_open_lent(
         strs = list_there has_strs strs.now;
       };
       model = model_if ilp32;
-    }) result place.old place.new handle.old.held.session handle.new.held.session }
+    }) result place.old place.new handle.old.held.dictionary handle.new.held.dictionary }
 {
     let sym = list_if(has_sym, sym);
     let strs = list_if(has_strs, strs);
     match opened_lent(alloc, ctf, sym, strs, model_of(ilp32)) {
-        Ok(session) => {
-            handle.option_box().hold(session);
+        Ok(dictionary) => {
+            handle.option_box().hold(dictionary);
             0
         }
         Err(fault) => {
@@ -135,7 +135,7 @@ pub extern "C" fn ctfd_open_lent(
 /// Closes what is open.
 #[unsafe(no_mangle)]
 pub extern "C" fn ctfd_close(alloc: Global, handle: &mut Handle)
-    ensures { handle.new.held.session ≡ None }
+    ensures { handle.new.held.dictionary ≡ None }
 {
     drop(handle.option_box().take(alloc));
 }
@@ -173,9 +173,9 @@ pub extern "C" fn ctfd_import(
     parent: &mut Handle,
     place: &mut u64,
 ) -> u32
-    ensures parent { parent.new.held.session ≡ parent.old.held.session }
-    ensures answer { Imports handle.old.held.session parent.old.held.session result
-        place.old place.new handle.new.held.session }
+    ensures parent { parent.new.held.dictionary ≡ parent.old.held.dictionary }
+    ensures answer { Imports handle.old.held.dictionary parent.old.held.dictionary result
+        place.old place.new handle.new.held.dictionary }
 {
     import(alloc, handle.option_box(), parent.option_box(), place)
 }

@@ -34,17 +34,17 @@ fn names_in(alloc: Global, bytes: &[u8]) -> Result<Vec<&[u8]>, AllocError>
 /// Where the member lies that names lead to, from a type on, and its type.
 fn path_along(
     alloc: Global,
-    session: &OpenDictionary,
+    dictionary: &OpenDictionary,
     t: TypeNum,
     names: &[u8],
 ) -> Result<(u64, TypeNum), Fault>
     ensures ok { IfOk result (λ at.
-        path_said (space_in session.now) (names_given names.now) t.0 ≡ Ok (position_of at)) }
+        path_said (space_in dictionary.now) (names_given names.now) t.0 ≡ Ok (position_of at)) }
     ensures exact_err { IfErr result (λ f. (f ≡ want_of_memory)
-        ⊎ (path_said (space_in session.now) (names_given names.now) t.0 ≡ Err f)) }
+        ⊎ (path_said (space_in dictionary.now) (names_given names.now) t.0 ≡ Err f)) }
 {
     let names = names_in(alloc, names)?;
-    session.path(t, names.as_slice())
+    dictionary.path(t, names.as_slice())
 }
 
 /// Where the member lies that names lead to, from a type on: how many bits lie in front of it, and
@@ -59,17 +59,17 @@ pub extern "C" fn ctfd_path(
     to: &mut u16,
     place: &mut u64,
 ) -> u32
-    ensures same { handle.new.held.session ≡ handle.old.held.session }
-    ensures answer { MayGivePath (asked handle.old.held.session (λ s.
+    ensures same { handle.new.held.dictionary ≡ handle.old.held.dictionary }
+    ensures answer { MayGivePath (asked handle.old.held.dictionary (λ s.
         path_said (space_in s) (names_given names.now) t)) result
         (record { offset = offset.old; tnum = to.old; place = place.old })
         (record { offset = offset.new; tnum = to.new; place = place.new }) }
 {
-    let Some(session) = handle.option_box().get() else {
+    let Some(dictionary) = handle.option_box().get() else {
         *place = 0;
         return NOT_OPEN;
     };
-    match path_along(alloc, session, TypeNum(t), names) {
+    match path_along(alloc, dictionary, TypeNum(t), names) {
         Ok((at, found)) => {
             *offset = at;
             *to = found.0;

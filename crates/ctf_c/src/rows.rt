@@ -7,7 +7,7 @@ ghost use Rattle.ctf_model.specs.opened.Questions.{enumerators_said, members_sai
 ghost use Rattle.ctf_model.specs.opened.Open.{space_in};
 ghost use Rattle.ctf_model.specs.spaces.Space.{space_type};
 
-use crate::given::{session_of, status};
+use crate::given::{dictionary_of, status};
 use crate::handle::Handle;
 use crate::names::{enumerators_into, held_type, members_into};
 use ctf_model::{Fault, TypeNum};
@@ -35,16 +35,16 @@ pub struct GivenEnumeratorRow {
 
 /// Fills rows with the members of a type from a number on, and answers how many it has.
 fn members(
-    session: &OpenDictionary,
+    dictionary: &OpenDictionary,
     t: TypeNum,
     from: usize,
     rows: &mut [GivenMemberRow],
 ) -> Result<u64, Fault>
-    ensures { FillsFrom (TellsMember (lists_with (Some session.now) t.0))
-        (said_of members_said (shape_of (space_type (space_in session.now) t.0))) from result
+    ensures { FillsFrom (TellsMember (lists_with (Some dictionary.now) t.0))
+        (said_of members_said (shape_of (space_type (space_in dictionary.now) t.0))) from result
         rows.old rows.new }
 {
-    match held_type(&session.space(), t) {
+    match held_type(&dictionary.space(), t) {
         Ok(found) => members_into(&found, from, rows),
         Err(fault) => Err(fault),
     }
@@ -52,16 +52,16 @@ fn members(
 
 /// The same of the enumerators of a type.
 fn enumerators(
-    session: &OpenDictionary,
+    dictionary: &OpenDictionary,
     t: TypeNum,
     from: usize,
     rows: &mut [GivenEnumeratorRow],
 ) -> Result<u64, Fault>
-    ensures { FillsFrom (TellsEnumerator (lists_with (Some session.now) t.0))
-        (said_of enumerators_said (shape_of (space_type (space_in session.now) t.0))) from result
+    ensures { FillsFrom (TellsEnumerator (lists_with (Some dictionary.now) t.0))
+        (said_of enumerators_said (shape_of (space_type (space_in dictionary.now) t.0))) from result
         rows.old rows.new }
 {
-    match held_type(&session.space(), t) {
+    match held_type(&dictionary.space(), t) {
         Ok(found) => enumerators_into(&found, from, rows),
         Err(fault) => Err(fault),
     }
@@ -77,14 +77,14 @@ pub extern "C" fn ctfd_members(
     rows: &mut [GivenMemberRow],
     count: &mut u64,
 ) -> u32
-    ensures same { handle.new.held.session ≡ handle.old.held.session }
-    ensures answer { GivesRows (TellsMember (lists_with handle.old.held.session t))
-        (asked handle.old.held.session (λ s.
+    ensures same { handle.new.held.dictionary ≡ handle.old.held.dictionary }
+    ensures answer { GivesRows (TellsMember (lists_with handle.old.held.dictionary t))
+        (asked handle.old.held.dictionary (λ s.
         said_of members_said (shape_of (space_type (space_in s) t)))) from result
         rows.old rows.new count.old count.new }
 {
-    let session = session_of!(handle);
-    match members(session, TypeNum(t), from, rows) {
+    let dictionary = dictionary_of!(handle);
+    match members(dictionary, TypeNum(t), from, rows) {
         Ok(all) => {
             *count = all;
             0
@@ -103,14 +103,14 @@ pub extern "C" fn ctfd_enumerators(
     rows: &mut [GivenEnumeratorRow],
     count: &mut u64,
 ) -> u32
-    ensures same { handle.new.held.session ≡ handle.old.held.session }
-    ensures answer { GivesRows (TellsEnumerator (lists_with handle.old.held.session t))
-        (asked handle.old.held.session (λ s.
+    ensures same { handle.new.held.dictionary ≡ handle.old.held.dictionary }
+    ensures answer { GivesRows (TellsEnumerator (lists_with handle.old.held.dictionary t))
+        (asked handle.old.held.dictionary (λ s.
         said_of enumerators_said (shape_of (space_type (space_in s) t)))) from result
         rows.old rows.new count.old count.new }
 {
-    let session = session_of!(handle);
-    match enumerators(session, TypeNum(t), from, rows) {
+    let dictionary = dictionary_of!(handle);
+    match enumerators(dictionary, TypeNum(t), from, rows) {
         Ok(all) => {
             *count = all;
             0

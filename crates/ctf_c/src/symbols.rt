@@ -5,7 +5,7 @@ ghost use Rattle.ctf_model.specs.opened.Questions.{label_at, named_said};
 ghost use Rattle.ctf_model.specs.opened.Open.{own_in};
 ghost use Rattle.ctf_model.specs.symbols.SymbolQuestions.{function_of, name_of_symbol};
 
-use crate::given::{flag, give, give_text, give_type, session_of, status, write_front};
+use crate::given::{dictionary_of, flag, give, give_text, give_type, status, write_front};
 use crate::handle::Handle;
 use ctf_open::named_count;
 use ctf_views::is_variadic;
@@ -36,28 +36,28 @@ pub extern "C" fn ctfd_symbol_name(
     text: &mut [u8],
     len: &mut u64,
 ) -> u32
-    ensures same { handle.new.held.session ≡ handle.old.held.session }
-    ensures answer { GivesText (asked handle.old.held.session (λ s.
+    ensures same { handle.new.held.dictionary ≡ handle.old.held.dictionary }
+    ensures answer { GivesText (asked handle.old.held.dictionary (λ s.
         name_of_symbol (own_in s) number)) result
         (record { text = text.old; len = len.old })
         (record { text = text.new; len = len.new }) }
 {
-    let session = session_of!(handle);
-    give_text(session.symbol_name(number), text, len)
+    let dictionary = dictionary_of!(handle);
+    give_text(dictionary.symbol_name(number), text, len)
 }
 
 /// What a function of the program returns, and how many arguments it names, by the number of its
 /// symbol.
 #[unsafe(no_mangle)]
 pub extern "C" fn ctfd_function(handle: &mut Handle, number: u32, out: &mut GivenFunction) -> u32
-    ensures same { handle.new.held.session ≡ handle.old.held.session }
-    ensures answer { Gives (asked handle.old.held.session (λ s.
+    ensures same { handle.new.held.dictionary ≡ handle.old.held.dictionary }
+    ensures answer { Gives (asked handle.old.held.dictionary (λ s.
         function_answer (function_of (own_in s) number))) result
         (record { arguments = out.old.arguments; varargs = out.old.varargs; ret = out.old.ret })
         (record { arguments = out.new.arguments; varargs = out.new.varargs; ret = out.new.ret }) }
 {
-    let session = session_of!(handle);
-    match session.function(number) {
+    let dictionary = dictionary_of!(handle);
+    match dictionary.function(number) {
         Ok(function) => {
             *out = GivenFunction {
                 arguments: named_count(&function.args) as u64,
@@ -78,23 +78,23 @@ pub extern "C" fn ctfd_function_argument(
     index: usize,
     out: &mut u16,
 ) -> u32
-    ensures same { handle.new.held.session ≡ handle.old.held.session }
-    ensures answer { Gives (asked handle.old.held.session (λ s.
+    ensures same { handle.new.held.dictionary ≡ handle.old.held.dictionary }
+    ensures answer { Gives (asked handle.old.held.dictionary (λ s.
         named_said index (function_of (own_in s) number))) result out.old out.new }
 {
-    let session = session_of!(handle);
-    give_type(session.function_argument(number, index), out)
+    let dictionary = dictionary_of!(handle);
+    give_type(dictionary.function_argument(number, index), out)
 }
 
 /// The number of labels.
 #[unsafe(no_mangle)]
 pub extern "C" fn ctfd_label_count(handle: &mut Handle, out: &mut u64) -> u32
-    ensures same { handle.new.held.session ≡ handle.old.held.session }
-    ensures answer { Gives (asked handle.old.held.session (λ s. Ok (length (own_in s).labels)))
+    ensures same { handle.new.held.dictionary ≡ handle.old.held.dictionary }
+    ensures answer { Gives (asked handle.old.held.dictionary (λ s. Ok (length (own_in s).labels)))
         result out.old out.new }
 {
-    let session = session_of!(handle);
-    give(Ok(session.label_count()), out)
+    let dictionary = dictionary_of!(handle);
+    give(Ok(dictionary.label_count()), out)
 }
 
 /// A label, from 0. As much of its name is written as fits.
@@ -105,14 +105,14 @@ pub extern "C" fn ctfd_label(
     name: &mut [u8],
     out: &mut GivenLabel,
 ) -> u32
-    ensures same { handle.new.held.session ≡ handle.old.held.session }
-    ensures answer { GivesLabel (asked handle.old.held.session (λ s.
+    ensures same { handle.new.held.dictionary ≡ handle.old.held.dictionary }
+    ensures answer { GivesLabel (asked handle.old.held.dictionary (λ s.
         label_at index (own_in s).labels)) result name.old name.new
         (record { name_len = out.old.name_len; last = out.old.last })
         (record { name_len = out.new.name_len; last = out.new.last }) }
 {
-    let session = session_of!(handle);
-    match session.label_numbered(index) {
+    let dictionary = dictionary_of!(handle);
+    match dictionary.label_numbered(index) {
         Ok(label) => {
             write_front(label.name, name);
             *out = GivenLabel {

@@ -6,7 +6,7 @@ ghost use Rattle.ctf_model.specs.opened.Questions.{name_said, value_said};
 ghost use Rattle.ctf_model.specs.spaces.Space.{space_type};
 ghost use Rattle.ctf_space.specs.TypeView.{name_in};
 
-use crate::given::{give_text, session_of, status, write_front};
+use crate::given::{dictionary_of, give_text, status, write_front};
 use crate::handle::Handle;
 use ctf_model::TypeNum;
 use std::alloc::Global;
@@ -19,14 +19,14 @@ pub extern "C" fn ctfd_declared_name(
     text: &mut [u8],
     len: &mut u64,
 ) -> u32
-    ensures same { handle.new.held.session ≡ handle.old.held.session }
+    ensures same { handle.new.held.dictionary ≡ handle.old.held.dictionary }
     ensures answer { GivesText
-        (asked handle.old.held.session (λ s. name_in (space_type (space_in s) t))) result
+        (asked handle.old.held.dictionary (λ s. name_in (space_type (space_in s) t))) result
         (record { text = text.old; len = len.old })
         (record { text = text.new; len = len.new }) }
 {
-    let session = session_of!(handle);
-    give_text(session.declared_name(TypeNum(t)), text, len)
+    let dictionary = dictionary_of!(handle);
+    give_text(dictionary.declared_name(TypeNum(t)), text, len)
 }
 
 /// The name of a type, as C spells it. As much of it is written as fits.
@@ -38,14 +38,14 @@ pub extern "C" fn ctfd_name(
     text: &mut [u8],
     len: &mut u64,
 ) -> u32
-    ensures same { handle.new.held.session ≡ handle.old.held.session }
+    ensures same { handle.new.held.dictionary ≡ handle.old.held.dictionary }
     ensures answer { MayGiveText
-        (asked handle.old.held.session (λ s. name_said (space_in s) t)) result
+        (asked handle.old.held.dictionary (λ s. name_said (space_in s) t)) result
         (record { text = text.old; len = len.old })
         (record { text = text.new; len = len.new }) }
 {
-    let session = session_of!(handle);
-    match session.name(alloc, TypeNum(t)) {
+    let dictionary = dictionary_of!(handle);
+    match dictionary.name(alloc, TypeNum(t)) {
         Ok(said) => {
             write_front(said.as_slice(), text);
             *len = said.len() as u64;
@@ -66,14 +66,14 @@ pub extern "C" fn ctfd_show(
     text: &mut [u8],
     len: &mut u64,
 ) -> u32
-    ensures same { handle.new.held.session ≡ handle.old.held.session }
-    ensures answer { MayGiveText (asked handle.old.held.session (λ s.
+    ensures same { handle.new.held.dictionary ≡ handle.old.held.dictionary }
+    ensures answer { MayGiveText (asked handle.old.held.dictionary (λ s.
         value_said (space_in s) memory.now offset t)) result
         (record { text = text.old; len = len.old })
         (record { text = text.new; len = len.new }) }
 {
-    let session = session_of!(handle);
-    match session.show(alloc, TypeNum(t), memory, offset) {
+    let dictionary = dictionary_of!(handle);
+    match dictionary.show(alloc, TypeNum(t), memory, offset) {
         Ok(said) => {
             write_front(said.as_slice(), text);
             *len = said.len() as u64;

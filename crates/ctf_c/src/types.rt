@@ -6,134 +6,136 @@ ghost use Rattle.ctf_model.specs.opened.Open.{space_in};
 ghost use Rattle.ctf_model.specs.figures.Figures.{reference as reference_of};
 ghost use Rattle.ctf_model.specs.spaces.Space.{space_type};
 
-use crate::given::{flag_result, give, give_short, give_type, kind_result, session_of, tag_result};
+use crate::given::{
+    dictionary_of, flag_result, give, give_short, give_type, kind_result, tag_result,
+};
 use crate::handle::Handle;
 use ctf_model::TypeNum;
 
 /// The number of a type's kind in sys/ctf.h.
 #[unsafe(no_mangle)]
 pub extern "C" fn ctfd_kind(handle: &mut Handle, t: u16, out: &mut u32) -> u32
-    ensures same { handle.new.held.session ≡ handle.old.held.session }
-    ensures answer { Gives (asked handle.old.held.session (λ s.
+    ensures same { handle.new.held.dictionary ≡ handle.old.held.dictionary }
+    ensures answer { Gives (asked handle.old.held.dictionary (λ s.
         told_of number_of_kind (said_of kind_said (shape_of (space_type (space_in s) t)))))
         result out.old out.new }
 {
-    let session = session_of!(handle);
-    give_short(kind_result(session.kind(TypeNum(t))), out)
+    let dictionary = dictionary_of!(handle);
+    give_short(kind_result(dictionary.kind(TypeNum(t))), out)
 }
 
 /// 1 where look-ups by name see a type, else 0.
 #[unsafe(no_mangle)]
 pub extern "C" fn ctfd_root(handle: &mut Handle, t: u16, out: &mut u32) -> u32
-    ensures same { handle.new.held.session ≡ handle.old.held.session }
+    ensures same { handle.new.held.dictionary ≡ handle.old.held.dictionary }
     ensures answer { Gives
-        (asked handle.old.held.session (λ s.
+        (asked handle.old.held.dictionary (λ s.
         told_of flag_of (root_said (space_type (space_in s) t))))
         result out.old out.new }
 {
-    let session = session_of!(handle);
-    give_short(flag_result(session.root(TypeNum(t))), out)
+    let dictionary = dictionary_of!(handle);
+    give_short(flag_result(dictionary.root(TypeNum(t))), out)
 }
 
 /// The number of the kind that a forward declares: 6 for a struct, 7 for a union, 8 for an enum.
 #[unsafe(no_mangle)]
 pub extern "C" fn ctfd_tag(handle: &mut Handle, t: u16, out: &mut u32) -> u32
-    ensures same { handle.new.held.session ≡ handle.old.held.session }
-    ensures answer { Gives (asked handle.old.held.session (λ s.
+    ensures same { handle.new.held.dictionary ≡ handle.old.held.dictionary }
+    ensures answer { Gives (asked handle.old.held.dictionary (λ s.
         told_of number_of_tag (said_of tag_said (shape_of (space_type (space_in s) t)))))
         result out.old out.new }
 {
-    let session = session_of!(handle);
-    give_short(tag_result(session.tag(TypeNum(t))), out)
+    let dictionary = dictionary_of!(handle);
+    give_short(tag_result(dictionary.tag(TypeNum(t))), out)
 }
 
 /// How many members, enumerators or arguments a type has: 0 for kinds without a list.
 #[unsafe(no_mangle)]
 pub extern "C" fn ctfd_length(handle: &mut Handle, t: u16, out: &mut u64) -> u32
-    ensures same { handle.new.held.session ≡ handle.old.held.session }
-    ensures answer { Gives (asked handle.old.held.session (λ s.
+    ensures same { handle.new.held.dictionary ≡ handle.old.held.dictionary }
+    ensures answer { Gives (asked handle.old.held.dictionary (λ s.
         said_of length_said (shape_of (space_type (space_in s) t))))
         result out.old out.new }
 {
-    let session = session_of!(handle);
-    give(session.length(TypeNum(t)), out)
+    let dictionary = dictionary_of!(handle);
+    give(dictionary.length(TypeNum(t)), out)
 }
 
 /// The size of a type, in bytes.
 #[unsafe(no_mangle)]
 pub extern "C" fn ctfd_size(handle: &mut Handle, t: u16, out: &mut u64) -> u32
-    ensures same { handle.new.held.session ≡ handle.old.held.session }
-    ensures answer { Gives (asked handle.old.held.session (λ s. size_said (space_in s) t))
+    ensures same { handle.new.held.dictionary ≡ handle.old.held.dictionary }
+    ensures answer { Gives (asked handle.old.held.dictionary (λ s. size_said (space_in s) t))
         result out.old out.new }
 {
-    let session = session_of!(handle);
-    give(session.size(TypeNum(t)), out)
+    let dictionary = dictionary_of!(handle);
+    give(dictionary.size(TypeNum(t)), out)
 }
 
 /// The alignment of a type, in bytes.
 #[unsafe(no_mangle)]
 pub extern "C" fn ctfd_align(handle: &mut Handle, t: u16, out: &mut u64) -> u32
-    ensures same { handle.new.held.session ≡ handle.old.held.session }
-    ensures answer { Gives (asked handle.old.held.session (λ s. align_said (space_in s) t))
+    ensures same { handle.new.held.dictionary ≡ handle.old.held.dictionary }
+    ensures answer { Gives (asked handle.old.held.dictionary (λ s. align_said (space_in s) t))
         result out.old out.new }
 {
-    let session = session_of!(handle);
-    give(session.align(TypeNum(t)), out)
+    let dictionary = dictionary_of!(handle);
+    give(dictionary.align(TypeNum(t)), out)
 }
 
 /// The type that a type stands for, along typedefs and qualifiers: 0 where that is `void`.
 #[unsafe(no_mangle)]
 pub extern "C" fn ctfd_resolve(handle: &mut Handle, t: u16, out: &mut u16) -> u32
-    ensures same { handle.new.held.session ≡ handle.old.held.session }
-    ensures answer { Gives (asked handle.old.held.session (λ s. resolved_said (space_in s) t))
+    ensures same { handle.new.held.dictionary ≡ handle.old.held.dictionary }
+    ensures answer { Gives (asked handle.old.held.dictionary (λ s. resolved_said (space_in s) t))
         result out.old out.new }
 {
-    let session = session_of!(handle);
-    give_type(session.resolve(TypeNum(t)), out)
+    let dictionary = dictionary_of!(handle);
+    give_type(dictionary.resolve(TypeNum(t)), out)
 }
 
 /// The type that a type points to, renames or qualifies.
 #[unsafe(no_mangle)]
 pub extern "C" fn ctfd_reference(handle: &mut Handle, t: u16, out: &mut u16) -> u32
-    ensures same { handle.new.held.session ≡ handle.old.held.session }
-    ensures answer { Gives (asked handle.old.held.session (λ s. reference_of (space_in s) t))
+    ensures same { handle.new.held.dictionary ≡ handle.old.held.dictionary }
+    ensures answer { Gives (asked handle.old.held.dictionary (λ s. reference_of (space_in s) t))
         result out.old out.new }
 {
-    let session = session_of!(handle);
-    give_type(session.reference(TypeNum(t)), out)
+    let dictionary = dictionary_of!(handle);
+    give_type(dictionary.reference(TypeNum(t)), out)
 }
 
 /// The least pointer to a type, or to what it stands for.
 #[unsafe(no_mangle)]
 pub extern "C" fn ctfd_pointer(handle: &mut Handle, t: u16, out: &mut u16) -> u32
-    ensures same { handle.new.held.session ≡ handle.old.held.session }
-    ensures answer { Gives (asked handle.old.held.session (λ s. pointer_said (space_in s) t))
+    ensures same { handle.new.held.dictionary ≡ handle.old.held.dictionary }
+    ensures answer { Gives (asked handle.old.held.dictionary (λ s. pointer_said (space_in s) t))
         result out.old out.new }
 {
-    let session = session_of!(handle);
-    give_type(session.pointer(TypeNum(t)), out)
+    let dictionary = dictionary_of!(handle);
+    give_type(dictionary.pointer(TypeNum(t)), out)
 }
 
 /// What a function type returns.
 #[unsafe(no_mangle)]
 pub extern "C" fn ctfd_return(handle: &mut Handle, t: u16, out: &mut u16) -> u32
-    ensures same { handle.new.held.session ≡ handle.old.held.session }
-    ensures answer { Gives (asked handle.old.held.session (λ s.
+    ensures same { handle.new.held.dictionary ≡ handle.old.held.dictionary }
+    ensures answer { Gives (asked handle.old.held.dictionary (λ s.
         said_of return_said (shape_of (space_type (space_in s) t))))
         result out.old out.new }
 {
-    let session = session_of!(handle);
-    give_type(session.returned(TypeNum(t)), out)
+    let dictionary = dictionary_of!(handle);
+    give_type(dictionary.returned(TypeNum(t)), out)
 }
 
 /// An argument of a function type, from 0, as it is stored: a last 0 says that more may follow.
 #[unsafe(no_mangle)]
 pub extern "C" fn ctfd_argument(handle: &mut Handle, t: u16, index: usize, out: &mut u16) -> u32
-    ensures same { handle.new.held.session ≡ handle.old.held.session }
-    ensures answer { Gives (asked handle.old.held.session (λ s.
+    ensures same { handle.new.held.dictionary ≡ handle.old.held.dictionary }
+    ensures answer { Gives (asked handle.old.held.dictionary (λ s.
         said_of (argument_said index) (shape_of (space_type (space_in s) t))))
         result out.old out.new }
 {
-    let session = session_of!(handle);
-    give_type(session.argument(TypeNum(t), index), out)
+    let dictionary = dictionary_of!(handle);
+    give_type(dictionary.argument(TypeNum(t), index), out)
 }

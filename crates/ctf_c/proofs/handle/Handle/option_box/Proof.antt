@@ -17,4 +17,4 @@ unfolding tables_of
 option_box_spec 𝓤 𝓛 𝓜 𝓡 wired =
     let 𝓣 : Tables 𝓤 𝓛.H = tables_of 𝓤 𝓛.H 𝓜 (tables 𝓤 𝓛.H 𝓜 𝓡 𝓡.env) in
     entered 𝓤 𝓛.H (triple_of 𝓛 F.signature (F.spec 𝓛 𝓜.mem 𝓡.returns)) 𝓣.C 𝓣.Λ #self code.function (code.unfolded 𝓤 𝓛.H 𝓜 𝓡 wired)
-    (meets the_row box_row as_option_box as_handle (λ h s. s.held.value ≡ h.held.session) tt tt _ _ _ _ (λ h vs b o. refl) (λ w vs b o. refl) (λ h. refl) 𝓛 𝓣)
+    (meets the_row box_row as_option_box as_handle (λ h s. s.held.value ≡ h.held.dictionary) tt tt _ _ _ _ (λ h vs b o. refl) (λ w vs b o. refl) (λ h. refl) 𝓛 𝓣)
