@@ -11,7 +11,8 @@
 
 static struct ctfd types;
 static struct numbers all, referring, arrays, functions, structs, enums, numeric;
-static struct named_list names, members;
+static struct named_list names, members, enumerators;
+static struct numbers values;
 
 static void open_all(void)
 {
@@ -36,6 +37,20 @@ static void collect_members(uint16_t t)
     }
 }
 
+/* Each enumerator of an enum, and its value at the same place. */
+static void collect_enumerators(uint16_t t)
+{
+    char name[256];
+    uint64_t len = 0;
+    int32_t value = 0;
+    size_t i;
+    add_number(&enums, t);
+    for (i = 0; ctfd_enumerator(&types, t, i, name, sizeof name, &value, &len) == CTFD_OK; i++) {
+        add_named(&enumerators, name, len, t);
+        add_number(&values, value);
+    }
+}
+
 static void collect_type(uint16_t t, uint32_t kind)
 {
     uint64_t len = 0;
@@ -52,7 +67,7 @@ static void collect_type(uint16_t t, uint32_t kind)
     if (kind == CTFD_INTEGER || kind == CTFD_FLOAT)
         add_number(&numeric, t);
     if (kind == CTFD_ENUM)
-        add_number(&enums, t);
+        collect_enumerators(t);
     if (kind == CTFD_STRUCT)
         collect_members(t);
     if ((kind == CTFD_STRUCT || kind == CTFD_TYPEDEF) &&
@@ -154,6 +169,25 @@ static size_t ask_named(const char *question)
     return members.len;
 }
 
+/* Enumerators by their values, or by their names. */
+static size_t ask_firsts(const char *question)
+{
+    char text[256];
+    uint64_t len = 0;
+    int32_t value = 0;
+    size_t i;
+    for (i = 0; i < enumerators.len; i++) {
+        const struct named *one = &enumerators.at[i];
+        if (strcmp(question, "value") == 0)
+            sum += ctfd_enum_name(&types, (uint16_t)one->of, (int32_t)values.at[i], text,
+                sizeof text, &len) == CTFD_OK;
+        else if (ctfd_enum_value(&types, (uint16_t)one->of, one->text, one->len, &value) ==
+            CTFD_OK)
+            sum += (uint64_t)value;
+    }
+    return enumerators.len;
+}
+
 static uint64_t ask_type(char question, uint16_t t)
 {
     static char text[256];
@@ -189,7 +223,9 @@ static size_t round_of(const char *question)
         return ask_figures(question);
     if (is_one_of(question, "find field"))
         return ask_named(question);
-    if (is_one_of(question, "value enumerated visit types"))
+    if (is_one_of(question, "value enumerated"))
+        return ask_firsts(question);
+    if (is_one_of(question, "visit types"))
         return 0;
     if (strcmp(question, "reference") == 0) {
         uint16_t to = 0;
