@@ -35,7 +35,7 @@ from hostile_sessions import GROWTHS, SESSIONS
 WANTED, LEAST = 10.0, 5.0
 # How many times as long twice as much may take.
 GROWN = 3.0
-RUNS = 3
+RUNS, RUNS_OF_GROWTH = 3, 7
 
 
 @dataclass(frozen=True)
@@ -268,7 +268,7 @@ def session_row(program, case):
 def all_seconds(program, case, size):
     """What the requests of a case take together."""
     taken = []
-    for _ in range(RUNS):
+    for _ in range(RUNS_OF_GROWTH):
         with Service(program) as service:
             taken.append(service.ask_all(case.lines(size)))
     return min(taken)
