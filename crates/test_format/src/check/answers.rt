@@ -87,7 +87,7 @@ fn answers_of_lent_lists(rt: HostRuntime) -> Result<(), Fail> {
     assert!(rt; judged.model() == DataModel::Ilp32);
     assert!(rt; judged.into_parts().is_none());
     let refused = Judged::lent(rt.alloc(), alone(&LABELLED[..35]), DataModel::Ilp32).err();
-    assert!(rt; refused == Some(placeless(Fault::TOO_SHORT)));
+    assert!(rt; refused == Some(placeless(Fault::SHORT_HEADER)));
     Ok(())
 }
 
