@@ -168,10 +168,10 @@ def imported_again(count):
 
 SESSIONS = [
     Session("line: 1 MB of lists, 100 deep, in an unknown field",
-            lambda: unknown_field("[" * 100 + "]" * 100), known=127),
+            lambda: unknown_field("[" * 100 + "]" * 100), known=13),
     Session("line: 1 MB of brackets in each other", too_deep),
-    Session("line: 1 MB of [],[],.. in an unknown field", lambda: unknown_field("[]"), known=19),
-    Session("line: 1 MB of 0,0,.. in an unknown field", lambda: unknown_field("0"), known=26),
+    Session("line: 1 MB of [],[],.. in an unknown field", lambda: unknown_field("[]")),
+    Session("line: 1 MB of 0,0,.. in an unknown field", lambda: unknown_field("0")),
     Session("line: 1 MB of names of a path", many_names, known=34),
     Session("line: 1 MB of arguments", many_arguments, known=34),
     Session("path: 500 steps, 1,023 names unlike at the front", lambda: steps(500, True),

@@ -151,9 +151,10 @@ def put_shared(made: Path, folder: Path) -> None:
     shutil.copy2(made, new)
     os.replace(new, folder / made.name)
     if made.suffix == ".so":
+        # a second name of the same file, since `rt ci` refuses symbolic links below crates/
         link = folder / soname(made.name)
         link.unlink(missing_ok=True)
-        link.symlink_to(made.name)
+        os.link(folder / made.name, link)
 
 
 def make(archive: Path, archiver: str = "ar") -> list[Path]:

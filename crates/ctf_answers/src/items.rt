@@ -3,7 +3,7 @@ ghost use Rattle.std.specs.Prelude.{◌≡◌, ◌<◌, length, Some, slice_get}
 ghost use Rattle.ctf_protocol.specs.answers.Answers.{entry as said_entry};
 ghost use Rattle.ctf_protocol.specs.answers.Questions.{member_item as said_member, enumerator_item as said_enumerator};
 ghost use Rattle.ctf_protocol.specs.answers.SlotAnswers.{label_item as said_label};
-ghost use Rattle.ctf_views.specs.ItemsView.{member as member_seen, enumerator as enumerator_seen, label as label_seen};
+ghost use Rattle.ctf_views.specs.ItemsView.{member as member_view, enumerator as enumerator_view, label as label_view};
 ghost use Rattle.ctf_answers.specs.Singles.{single_of, entry_of};
 ghost use Rattle.ctf_answers.specs.Items.{item_of, items_of};
 
@@ -34,7 +34,7 @@ fn entry<'a>(key: &'static str, value: Single<'a>) -> Entry<'a>
 }
 
 fn member_item<'a>(member: Member<'a>) -> Item<'a>
-    ensures { item_of result ≡ said_member (member_seen member.entry) }
+    ensures { item_of result ≡ said_member (member_view member.entry) }
 {
     Item::Three(
         entry("name", Single::Text(member.name)),
@@ -44,7 +44,7 @@ fn member_item<'a>(member: Member<'a>) -> Item<'a>
 }
 
 fn enumerator_item<'a>(enumerator: Enumerator<'a>) -> Item<'a>
-    ensures { item_of result ≡ said_enumerator (enumerator_seen enumerator.entry) }
+    ensures { item_of result ≡ said_enumerator (enumerator_view enumerator.entry) }
 {
     Item::Two(
         entry("name", Single::Text(enumerator.name)),
@@ -53,7 +53,7 @@ fn enumerator_item<'a>(enumerator: Enumerator<'a>) -> Item<'a>
 }
 
 fn label_item<'a>(label: Label<'a>) -> Item<'a>
-    ensures { item_of result ≡ said_label (label_seen label.entry) }
+    ensures { item_of result ≡ said_label (label_view label.entry) }
 {
     Item::Two(
         entry("last", Single::Number(u64::from(label.last))),

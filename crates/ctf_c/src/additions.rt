@@ -375,8 +375,8 @@ pub extern "C" fn ctfd_add_forward(
     tag: u32,
     out: &mut u16,
 ) -> u32
-    ensures { Steps (forward_asked name.now root (tag_numbered tag) handle.old.held.dictionary) result
-        out.old out.new handle.old.held.dictionary handle.new.held.dictionary }
+    ensures { Steps (forward_asked name.now root (tag_numbered tag) handle.old.held.dictionary)
+        result out.old out.new handle.old.held.dictionary handle.new.held.dictionary }
 {
     match tag_of(tag) {
         Some(tag) => {

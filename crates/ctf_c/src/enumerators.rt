@@ -2,11 +2,11 @@
 ghost use Rattle.std.specs.Prelude.{◌≡◌};
 ghost use Rattle.std.specs.Result.{result_map_both};
 ghost use Rattle.ctf_c.specs.Given.{Gives, GivesText, asked};
-ghost use Rattle.ctf_c.specs.names.Firsts.{named_said, valued_said};
-ghost use Rattle.ctf_model.specs.opened.Questions.{said_of, shape_of, told_of};
+ghost use Rattle.ctf_c.specs.names.Firsts.{named_answered, valued_answered};
+ghost use Rattle.ctf_model.specs.opened.Questions.{on_shape, shape_of, answer_map};
 ghost use Rattle.ctf_model.specs.opened.Open.{space_in};
 ghost use Rattle.ctf_model.specs.spaces.Space.{space_type};
-ghost use Rattle.ctf_views.specs.ItemsView.{enumerator as enumerator_seen};
+ghost use Rattle.ctf_views.specs.ItemsView.{enumerator as enumerator_view};
 
 use crate::given::{dictionary_of, status, write_front};
 use crate::handle::Handle;
@@ -17,8 +17,8 @@ use ctf_views::Enumerator;
 
 /// The first enumerator of an enum that has a value.
 fn valued(dictionary: &OpenDictionary, t: TypeNum, value: i32) -> Result<Enumerator<'_>, Fault>
-    ensures { result_map_both enumerator_seen (λ f. f) result
-        ≡ said_of (valued_said value) (shape_of (space_type (space_in dictionary.now) t.0)) }
+    ensures { result_map_both enumerator_view (λ f. f) result
+        ≡ on_shape (valued_answered value) (shape_of (space_type (space_in dictionary.now) t.0)) }
 {
     match dictionary.space().term(t) {
         Ok(found) => with_value(&found, value),
@@ -32,8 +32,8 @@ fn named<'a>(
     t: TypeNum,
     name: &[u8],
 ) -> Result<Enumerator<'a>, Fault>
-    ensures { result_map_both enumerator_seen (λ f. f) result
-        ≡ said_of (named_said name.now) (shape_of (space_type (space_in dictionary.now) t.0)) }
+    ensures { result_map_both enumerator_view (λ f. f) result
+        ≡ on_shape (named_answered name.now) (shape_of (space_type (space_in dictionary.now) t.0)) }
 {
     match dictionary.space().term(t) {
         Ok(found) => with_name(&found, name),
@@ -51,8 +51,8 @@ pub extern "C" fn ctfd_enum_name(
     len: &mut u64,
 ) -> u32
     ensures same { handle.new.held.dictionary ≡ handle.old.held.dictionary }
-    ensures answer { GivesText (asked handle.old.held.dictionary (λ s. told_of (λ e. e.name)
-        (said_of (valued_said value) (shape_of (space_type (space_in s) t))))) result
+    ensures answer { GivesText (asked handle.old.held.dictionary (λ s. answer_map (λ e. e.name)
+        (on_shape (valued_answered value) (shape_of (space_type (space_in s) t))))) result
         (record { text = text.old; len = len.old }) (record { text = text.new; len = len.new }) }
 {
     let dictionary = dictionary_of!(handle);
@@ -70,8 +70,8 @@ pub extern "C" fn ctfd_enum_name(
 #[unsafe(no_mangle)]
 pub extern "C" fn ctfd_enum_value(handle: &mut Handle, t: u16, name: &[u8], value: &mut i32) -> u32
     ensures same { handle.new.held.dictionary ≡ handle.old.held.dictionary }
-    ensures answer { Gives (asked handle.old.held.dictionary (λ s. told_of (λ e. e.value)
-        (said_of (named_said name.now) (shape_of (space_type (space_in s) t)))))
+    ensures answer { Gives (asked handle.old.held.dictionary (λ s. answer_map (λ e. e.value)
+        (on_shape (named_answered name.now) (shape_of (space_type (space_in s) t)))))
         result value.old value.new }
 {
     let dictionary = dictionary_of!(handle);

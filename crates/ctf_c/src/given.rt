@@ -2,7 +2,7 @@
 ghost use Rattle.std.specs.Prelude.{◌≡◌, ◌+◌, ◌++◌, ◌<◌, Ok, Err, drop, length, min, option_copied, take};
 ghost use Rattle.std.specs.Result.{result_map_both};
 ghost use Rattle.ctf_c.specs.Given.{Gives, GivesText, flag as flag_of, list_if as list_there, model_if, model_number as number_of_model, number_of_kind, number_of_tag, status_of};
-ghost use Rattle.ctf_model.specs.opened.Questions.{told_of};
+ghost use Rattle.ctf_model.specs.opened.Questions.{answer_map};
 ghost use Rattle.ctf_records.specs.RecordView.{tag_of as tag_shown};
 
 use ctf_model::{DataModel, Fault, Kind, TypeNum};
@@ -127,7 +127,7 @@ pub fn kind_number(kind: Kind) -> u32
 /// The same, where there is a type.
 #[inline(always)]
 pub fn kind_result(kind: Result<Kind, Fault>) -> Result<u32, Fault>
-    ensures { result ≡ told_of number_of_kind kind }
+    ensures { result ≡ answer_map number_of_kind kind }
 {
     match kind {
         Ok(kind) => Ok(kind_number(kind)),
@@ -137,7 +137,7 @@ pub fn kind_result(kind: Result<Kind, Fault>) -> Result<u32, Fault>
 
 /// The number of what a forward declares, if there is one.
 pub fn tag_result(tag: Result<Tag, Fault>) -> Result<u32, Fault>
-    ensures { result ≡ told_of number_of_tag (result_map_both tag_shown (λ f. f) tag) }
+    ensures { result ≡ answer_map number_of_tag (result_map_both tag_shown (λ f. f) tag) }
 {
     match tag {
         Ok(Tag::Struct) => Ok(6),
@@ -149,7 +149,7 @@ pub fn tag_result(tag: Result<Tag, Fault>) -> Result<u32, Fault>
 
 /// 1 for what holds, else 0, where there is a type.
 pub fn flag_result(holds: Result<bool, Fault>) -> Result<u32, Fault>
-    ensures { result ≡ told_of flag_of holds }
+    ensures { result ≡ answer_map flag_of holds }
 {
     match holds {
         Ok(holds) => Ok(flag(holds)),

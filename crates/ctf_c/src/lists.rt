@@ -1,7 +1,7 @@
 //! Exports that answer an item of a list.
 ghost use Rattle.std.specs.Prelude.{◌≡◌};
 ghost use Rattle.ctf_c.specs.Given.{GivesEnumerator, GivesMember, asked};
-ghost use Rattle.ctf_model.specs.opened.Questions.{enumerator_said, member_said, said_of, shape_of};
+ghost use Rattle.ctf_model.specs.opened.Questions.{enumerator_answered, member_answered, on_shape, shape_of};
 ghost use Rattle.ctf_model.specs.opened.Open.{space_in};
 ghost use Rattle.ctf_model.specs.spaces.Space.{space_type};
 
@@ -29,7 +29,7 @@ pub extern "C" fn ctfd_member(
 ) -> u32
     ensures same { handle.new.held.dictionary ≡ handle.old.held.dictionary }
     ensures answer { GivesMember (asked handle.old.held.dictionary (λ s.
-        said_of (member_said index) (shape_of (space_type (space_in s) t))))
+        on_shape (member_answered index) (shape_of (space_type (space_in s) t))))
         result name.old name.new
         (record { offset = out.old.offset; name_len = out.old.name_len; tnum = out.old.tnum })
         (record { offset = out.new.offset; name_len = out.new.name_len; tnum = out.new.tnum }) }
@@ -61,7 +61,7 @@ pub extern "C" fn ctfd_enumerator(
 ) -> u32
     ensures same { handle.new.held.dictionary ≡ handle.old.held.dictionary }
     ensures answer { GivesEnumerator (asked handle.old.held.dictionary (λ s.
-        said_of (enumerator_said index) (shape_of (space_type (space_in s) t)))) result
+        on_shape (enumerator_answered index) (shape_of (space_type (space_in s) t)))) result
         (record { text = name.old; len = len.old }) (record { text = name.new; len = len.new })
         value.old value.new }
 {

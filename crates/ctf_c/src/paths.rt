@@ -4,7 +4,7 @@ ghost use Rattle.ctf_c.specs.Given.{MayGivePath, asked};
 ghost use Rattle.ctf_c.specs.Naming.{names_given};
 ghost use Rattle.ctf_model.specs.opened.Open.{space_in};
 ghost use Rattle.ctf_layout.specs.Reached.{position_of};
-ghost use Rattle.ctf_model.specs.opened.Questions.{path_said};
+ghost use Rattle.ctf_model.specs.opened.Questions.{path_answered};
 ghost use Rattle.ctf_model.specs.rules.Refusals.{want_of_memory};
 
 use crate::given::{NOT_OPEN, status};
@@ -39,9 +39,9 @@ fn path_along(
     names: &[u8],
 ) -> Result<(u64, TypeNum), Fault>
     ensures ok { IfOk result (λ at.
-        path_said (space_in dictionary.now) (names_given names.now) t.0 ≡ Ok (position_of at)) }
+        path_answered (space_in dictionary.now) (names_given names.now) t.0 ≡ Ok (position_of at)) }
     ensures exact_err { IfErr result (λ f. (f ≡ want_of_memory)
-        ⊎ (path_said (space_in dictionary.now) (names_given names.now) t.0 ≡ Err f)) }
+        ⊎ (path_answered (space_in dictionary.now) (names_given names.now) t.0 ≡ Err f)) }
 {
     let names = names_in(alloc, names)?;
     dictionary.path(t, names.as_slice())
@@ -61,7 +61,7 @@ pub extern "C" fn ctfd_path(
 ) -> u32
     ensures same { handle.new.held.dictionary ≡ handle.old.held.dictionary }
     ensures answer { MayGivePath (asked handle.old.held.dictionary (λ s.
-        path_said (space_in s) (names_given names.now) t)) result
+        path_answered (space_in s) (names_given names.now) t)) result
         (record { offset = offset.old; tnum = to.old; place = place.old })
         (record { offset = offset.new; tnum = to.new; place = place.new }) }
 {

@@ -3,7 +3,7 @@ ghost use Rattle.std.specs.Prelude.{◌≡◌, Some};
 ghost use Rattle.ctf_c.specs.Given.{asked};
 ghost use Rattle.ctf_c.specs.Rowed.{GivesRows, lists_with};
 ghost use Rattle.ctf_c.specs.names.Filling.{FillsFrom, TellsEnumerator, TellsMember};
-ghost use Rattle.ctf_model.specs.opened.Questions.{enumerators_said, members_said, said_of, shape_of};
+ghost use Rattle.ctf_model.specs.opened.Questions.{enumerators_answered, members_answered, on_shape, shape_of};
 ghost use Rattle.ctf_model.specs.opened.Open.{space_in};
 ghost use Rattle.ctf_model.specs.spaces.Space.{space_type};
 
@@ -41,8 +41,8 @@ fn members(
     rows: &mut [GivenMemberRow],
 ) -> Result<u64, Fault>
     ensures { FillsFrom (TellsMember (lists_with (Some dictionary.now) t.0))
-        (said_of members_said (shape_of (space_type (space_in dictionary.now) t.0))) from result
-        rows.old rows.new }
+        (on_shape members_answered (shape_of (space_type (space_in dictionary.now) t.0)))
+        from result rows.old rows.new }
 {
     match held_type(&dictionary.space(), t) {
         Ok(found) => members_into(&found, from, rows),
@@ -58,8 +58,8 @@ fn enumerators(
     rows: &mut [GivenEnumeratorRow],
 ) -> Result<u64, Fault>
     ensures { FillsFrom (TellsEnumerator (lists_with (Some dictionary.now) t.0))
-        (said_of enumerators_said (shape_of (space_type (space_in dictionary.now) t.0))) from result
-        rows.old rows.new }
+        (on_shape enumerators_answered (shape_of (space_type (space_in dictionary.now) t.0)))
+        from result rows.old rows.new }
 {
     match held_type(&dictionary.space(), t) {
         Ok(found) => enumerators_into(&found, from, rows),
@@ -80,7 +80,7 @@ pub extern "C" fn ctfd_members(
     ensures same { handle.new.held.dictionary ≡ handle.old.held.dictionary }
     ensures answer { GivesRows (TellsMember (lists_with handle.old.held.dictionary t))
         (asked handle.old.held.dictionary (λ s.
-        said_of members_said (shape_of (space_type (space_in s) t)))) from result
+        on_shape members_answered (shape_of (space_type (space_in s) t)))) from result
         rows.old rows.new count.old count.new }
 {
     let dictionary = dictionary_of!(handle);
@@ -106,7 +106,7 @@ pub extern "C" fn ctfd_enumerators(
     ensures same { handle.new.held.dictionary ≡ handle.old.held.dictionary }
     ensures answer { GivesRows (TellsEnumerator (lists_with handle.old.held.dictionary t))
         (asked handle.old.held.dictionary (λ s.
-        said_of enumerators_said (shape_of (space_type (space_in s) t)))) from result
+        on_shape enumerators_answered (shape_of (space_type (space_in s) t)))) from result
         rows.old rows.new count.old count.new }
 {
     let dictionary = dictionary_of!(handle);

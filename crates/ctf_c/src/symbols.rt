@@ -1,7 +1,7 @@
 //! Exports that answer of a program's functions and symbols, and of labels.
 ghost use Rattle.std.specs.Prelude.{◌≡◌, Ok, length};
 ghost use Rattle.ctf_c.specs.Given.{Gives, GivesLabel, GivesText, asked, function_answer};
-ghost use Rattle.ctf_model.specs.opened.Questions.{label_at, named_said};
+ghost use Rattle.ctf_model.specs.opened.Questions.{label_at, named_answered};
 ghost use Rattle.ctf_model.specs.opened.Open.{own_in};
 ghost use Rattle.ctf_model.specs.symbols.SymbolQuestions.{function_of, name_of_symbol};
 
@@ -80,7 +80,7 @@ pub extern "C" fn ctfd_function_argument(
 ) -> u32
     ensures same { handle.new.held.dictionary ≡ handle.old.held.dictionary }
     ensures answer { Gives (asked handle.old.held.dictionary (λ s.
-        named_said index (function_of (own_in s) number))) result out.old out.new }
+        named_answered index (function_of (own_in s) number))) result out.old out.new }
 {
     let dictionary = dictionary_of!(handle);
     give_type(dictionary.function_argument(number, index), out)

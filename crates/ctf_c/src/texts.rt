@@ -2,7 +2,7 @@
 ghost use Rattle.std.specs.Prelude.{◌≡◌};
 ghost use Rattle.ctf_c.specs.Given.{GivesText, MayGiveText, asked};
 ghost use Rattle.ctf_model.specs.opened.Open.{space_in};
-ghost use Rattle.ctf_model.specs.opened.Questions.{name_said, value_said};
+ghost use Rattle.ctf_model.specs.opened.Questions.{name_answered, value_answered};
 ghost use Rattle.ctf_model.specs.spaces.Space.{space_type};
 ghost use Rattle.ctf_space.specs.TypeView.{name_in};
 
@@ -40,7 +40,7 @@ pub extern "C" fn ctfd_name(
 ) -> u32
     ensures same { handle.new.held.dictionary ≡ handle.old.held.dictionary }
     ensures answer { MayGiveText
-        (asked handle.old.held.dictionary (λ s. name_said (space_in s) t)) result
+        (asked handle.old.held.dictionary (λ s. name_answered (space_in s) t)) result
         (record { text = text.old; len = len.old })
         (record { text = text.new; len = len.new }) }
 {
@@ -68,7 +68,7 @@ pub extern "C" fn ctfd_show(
 ) -> u32
     ensures same { handle.new.held.dictionary ≡ handle.old.held.dictionary }
     ensures answer { MayGiveText (asked handle.old.held.dictionary (λ s.
-        value_said (space_in s) memory.now offset t)) result
+        value_answered (space_in s) memory.now offset t)) result
         (record { text = text.old; len = len.old })
         (record { text = text.new; len = len.new }) }
 {

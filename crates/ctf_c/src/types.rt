@@ -1,7 +1,7 @@
 //! Exports that answer a number of a type.
 ghost use Rattle.std.specs.Prelude.{◌≡◌};
 ghost use Rattle.ctf_c.specs.Given.{Gives, asked, flag as flag_of, number_of_kind, number_of_tag};
-ghost use Rattle.ctf_model.specs.opened.Questions.{align_said, argument_said, kind_said, length_said, pointer_said, resolved_said, return_said, root_said, said_of, shape_of, size_said, tag_said, told_of};
+ghost use Rattle.ctf_model.specs.opened.Questions.{align_answered, argument_answered, kind_answered, length_answered, pointer_answered, resolved_answered, return_answered, root_answered, on_shape, shape_of, size_answered, tag_answered, answer_map};
 ghost use Rattle.ctf_model.specs.opened.Open.{space_in};
 ghost use Rattle.ctf_model.specs.figures.Figures.{reference as reference_of};
 ghost use Rattle.ctf_model.specs.spaces.Space.{space_type};
@@ -17,7 +17,7 @@ use ctf_model::TypeNum;
 pub extern "C" fn ctfd_kind(handle: &mut Handle, t: u16, out: &mut u32) -> u32
     ensures same { handle.new.held.dictionary ≡ handle.old.held.dictionary }
     ensures answer { Gives (asked handle.old.held.dictionary (λ s.
-        told_of number_of_kind (said_of kind_said (shape_of (space_type (space_in s) t)))))
+        answer_map number_of_kind (on_shape kind_answered (shape_of (space_type (space_in s) t)))))
         result out.old out.new }
 {
     let dictionary = dictionary_of!(handle);
@@ -30,7 +30,7 @@ pub extern "C" fn ctfd_root(handle: &mut Handle, t: u16, out: &mut u32) -> u32
     ensures same { handle.new.held.dictionary ≡ handle.old.held.dictionary }
     ensures answer { Gives
         (asked handle.old.held.dictionary (λ s.
-        told_of flag_of (root_said (space_type (space_in s) t))))
+        answer_map flag_of (root_answered (space_type (space_in s) t))))
         result out.old out.new }
 {
     let dictionary = dictionary_of!(handle);
@@ -42,7 +42,7 @@ pub extern "C" fn ctfd_root(handle: &mut Handle, t: u16, out: &mut u32) -> u32
 pub extern "C" fn ctfd_tag(handle: &mut Handle, t: u16, out: &mut u32) -> u32
     ensures same { handle.new.held.dictionary ≡ handle.old.held.dictionary }
     ensures answer { Gives (asked handle.old.held.dictionary (λ s.
-        told_of number_of_tag (said_of tag_said (shape_of (space_type (space_in s) t)))))
+        answer_map number_of_tag (on_shape tag_answered (shape_of (space_type (space_in s) t)))))
         result out.old out.new }
 {
     let dictionary = dictionary_of!(handle);
@@ -54,7 +54,7 @@ pub extern "C" fn ctfd_tag(handle: &mut Handle, t: u16, out: &mut u32) -> u32
 pub extern "C" fn ctfd_length(handle: &mut Handle, t: u16, out: &mut u64) -> u32
     ensures same { handle.new.held.dictionary ≡ handle.old.held.dictionary }
     ensures answer { Gives (asked handle.old.held.dictionary (λ s.
-        said_of length_said (shape_of (space_type (space_in s) t))))
+        on_shape length_answered (shape_of (space_type (space_in s) t))))
         result out.old out.new }
 {
     let dictionary = dictionary_of!(handle);
@@ -65,7 +65,7 @@ pub extern "C" fn ctfd_length(handle: &mut Handle, t: u16, out: &mut u64) -> u32
 #[unsafe(no_mangle)]
 pub extern "C" fn ctfd_size(handle: &mut Handle, t: u16, out: &mut u64) -> u32
     ensures same { handle.new.held.dictionary ≡ handle.old.held.dictionary }
-    ensures answer { Gives (asked handle.old.held.dictionary (λ s. size_said (space_in s) t))
+    ensures answer { Gives (asked handle.old.held.dictionary (λ s. size_answered (space_in s) t))
         result out.old out.new }
 {
     let dictionary = dictionary_of!(handle);
@@ -76,7 +76,7 @@ pub extern "C" fn ctfd_size(handle: &mut Handle, t: u16, out: &mut u64) -> u32
 #[unsafe(no_mangle)]
 pub extern "C" fn ctfd_align(handle: &mut Handle, t: u16, out: &mut u64) -> u32
     ensures same { handle.new.held.dictionary ≡ handle.old.held.dictionary }
-    ensures answer { Gives (asked handle.old.held.dictionary (λ s. align_said (space_in s) t))
+    ensures answer { Gives (asked handle.old.held.dictionary (λ s. align_answered (space_in s) t))
         result out.old out.new }
 {
     let dictionary = dictionary_of!(handle);
@@ -87,8 +87,8 @@ pub extern "C" fn ctfd_align(handle: &mut Handle, t: u16, out: &mut u64) -> u32
 #[unsafe(no_mangle)]
 pub extern "C" fn ctfd_resolve(handle: &mut Handle, t: u16, out: &mut u16) -> u32
     ensures same { handle.new.held.dictionary ≡ handle.old.held.dictionary }
-    ensures answer { Gives (asked handle.old.held.dictionary (λ s. resolved_said (space_in s) t))
-        result out.old out.new }
+    ensures answer { Gives (asked handle.old.held.dictionary
+        (λ s. resolved_answered (space_in s) t)) result out.old out.new }
 {
     let dictionary = dictionary_of!(handle);
     give_type(dictionary.resolve(TypeNum(t)), out)
@@ -109,7 +109,7 @@ pub extern "C" fn ctfd_reference(handle: &mut Handle, t: u16, out: &mut u16) -> 
 #[unsafe(no_mangle)]
 pub extern "C" fn ctfd_pointer(handle: &mut Handle, t: u16, out: &mut u16) -> u32
     ensures same { handle.new.held.dictionary ≡ handle.old.held.dictionary }
-    ensures answer { Gives (asked handle.old.held.dictionary (λ s. pointer_said (space_in s) t))
+    ensures answer { Gives (asked handle.old.held.dictionary (λ s. pointer_answered (space_in s) t))
         result out.old out.new }
 {
     let dictionary = dictionary_of!(handle);
@@ -121,7 +121,7 @@ pub extern "C" fn ctfd_pointer(handle: &mut Handle, t: u16, out: &mut u16) -> u3
 pub extern "C" fn ctfd_return(handle: &mut Handle, t: u16, out: &mut u16) -> u32
     ensures same { handle.new.held.dictionary ≡ handle.old.held.dictionary }
     ensures answer { Gives (asked handle.old.held.dictionary (λ s.
-        said_of return_said (shape_of (space_type (space_in s) t))))
+        on_shape return_answered (shape_of (space_type (space_in s) t))))
         result out.old out.new }
 {
     let dictionary = dictionary_of!(handle);
@@ -133,7 +133,7 @@ pub extern "C" fn ctfd_return(handle: &mut Handle, t: u16, out: &mut u16) -> u32
 pub extern "C" fn ctfd_argument(handle: &mut Handle, t: u16, index: usize, out: &mut u16) -> u32
     ensures same { handle.new.held.dictionary ≡ handle.old.held.dictionary }
     ensures answer { Gives (asked handle.old.held.dictionary (λ s.
-        said_of (argument_said index) (shape_of (space_type (space_in s) t))))
+        on_shape (argument_answered index) (shape_of (space_type (space_in s) t))))
         result out.old out.new }
 {
     let dictionary = dictionary_of!(handle);

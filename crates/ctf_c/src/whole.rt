@@ -90,8 +90,8 @@ pub extern "C" fn ctfd_parent_count(handle: &mut Handle, out: &mut u64) -> u32
 #[unsafe(no_mangle)]
 pub extern "C" fn ctfd_parent_name(handle: &mut Handle, text: &mut [u8], len: &mut u64) -> u32
     ensures same { handle.new.held.dictionary ≡ handle.old.held.dictionary }
-    ensures answer { GivesText (asked handle.old.held.dictionary (λ s. Ok (own_in s).parname)) result
-        (record { text = text.old; len = len.old })
+    ensures answer { GivesText (asked handle.old.held.dictionary (λ s. Ok (own_in s).parname))
+        result (record { text = text.old; len = len.old })
         (record { text = text.new; len = len.new }) }
 {
     let dictionary = dictionary_of!(handle);
@@ -102,8 +102,8 @@ pub extern "C" fn ctfd_parent_name(handle: &mut Handle, text: &mut [u8], len: &m
 #[unsafe(no_mangle)]
 pub extern "C" fn ctfd_parent_label(handle: &mut Handle, text: &mut [u8], len: &mut u64) -> u32
     ensures same { handle.new.held.dictionary ≡ handle.old.held.dictionary }
-    ensures answer { GivesText (asked handle.old.held.dictionary (λ s. Ok (own_in s).parlabel)) result
-        (record { text = text.old; len = len.old })
+    ensures answer { GivesText (asked handle.old.held.dictionary (λ s. Ok (own_in s).parlabel))
+        result (record { text = text.old; len = len.old })
         (record { text = text.new; len = len.new }) }
 {
     let dictionary = dictionary_of!(handle);
@@ -114,8 +114,8 @@ pub extern "C" fn ctfd_parent_label(handle: &mut Handle, text: &mut [u8], len: &
 #[unsafe(no_mangle)]
 pub extern "C" fn ctfd_model(handle: &mut Handle, out: &mut u32) -> u32
     ensures same { handle.new.held.dictionary ≡ handle.old.held.dictionary }
-    ensures answer { Gives (asked handle.old.held.dictionary (λ s. Ok (number_of_model s.own.model)))
-        result out.old out.new }
+    ensures answer { Gives (asked handle.old.held.dictionary
+        (λ s. Ok (number_of_model s.own.model))) result out.old out.new }
 {
     let dictionary = dictionary_of!(handle);
     give_short(Ok(model_number(dictionary.model())), out)

@@ -5,7 +5,7 @@ use Rattle.ctf_model.specs.format.Dictionary.{said_by}
 use Rattle.ctf_model.specs.rules.Faults.{first_fault, types}
 use Rattle.ctf_model.specs.format.Lists.{Lists, tables}
 use Rattle.ctf_model.specs.format.Name.{Tables}
-use Rattle.ctf_model.specs.symbols.Entries.{Entry, types_told}
+use Rattle.ctf_model.specs.symbols.Entries.{Entry, types_named}
 use Rattle.ctf_model.specs.rules.Needs.{greatest_in_parent, named_by}
 use Rattle.ctf_model.specs.rules.References.{references}
 use Rattle.ctf_model.specs.format.Section.{Piece, terms_in}
@@ -42,14 +42,14 @@ pub types_need : (s : Lists) → first_fault s ≡ None → records_need (types 
 unfolding said_by
 types_need s e = records_need_said (tables s) (types s.ctf) (all_spelled s e)
 
-entries_need_said : (es : List Entry) → entries_need es ≡ greatest_in_parent (flat_map (λ e. types_told e.told) es)
+entries_need_said : (es : List Entry) → entries_need es ≡ greatest_in_parent (flat_map (λ e. types_named e.told) es)
 unfolding entries_need greatest_in_parent
 entries_need_said [] = refl
-entries_need_said (e ∷ es) = ap (λ (n : ℕ). max (greatest_in_parent (types_told e.told)) n) (entries_need_said es) ∙ sym (greatest_append (types_told e.told) (flat_map (λ e. types_told e.told) es))
+entries_need_said (e ∷ es) = ap (λ (n : ℕ). max (greatest_in_parent (types_named e.told)) n) (entries_need_said es) ∙ sym (greatest_append (types_named e.told) (flat_map (λ e. types_named e.told) es))
 
 -- where no rule is broken, records and entries need what the dictionary names
 pub all_need : (s : Lists) → first_fault s ≡ None → max (records_need (types s.ctf)) (entries_need (said_by s).entries) ≡ greatest_in_parent (named_by (said_by s))
 all_need s e =
     ap (λ (n : ℕ). max n (entries_need (said_by s).entries)) (types_need s e)
     ∙ ap (λ (n : ℕ). max (greatest_in_parent (flat_map (λ x. references x.body) (said_by s).terms)) n) (entries_need_said (said_by s).entries)
-    ∙ sym (greatest_append (flat_map (λ x. references x.body) (said_by s).terms) (flat_map (λ e. types_told e.told) (said_by s).entries))
+    ∙ sym (greatest_append (flat_map (λ x. references x.body) (said_by s).terms) (flat_map (λ e. types_named e.told) (said_by s).entries))

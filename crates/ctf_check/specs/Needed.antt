@@ -1,7 +1,7 @@
 -- The greatest number of a parent's type that records name, read from their bytes,
 -- and that is told of symbols.
 use Rattle.std.specs.Prelude.{ℕ, max, List, [], ◌∷◌, Result, Ok, Err}
-use Rattle.ctf_model.specs.symbols.Entries.{Entry, types_told}
+use Rattle.ctf_model.specs.symbols.Entries.{Entry, types_named}
 use Rattle.ctf_model.specs.rules.Needs.{greatest_in_parent}
 use Rattle.ctf_model.specs.format.Section.{Piece}
 use Rattle.ctf_check.specs.Named.{named_types}
@@ -18,4 +18,4 @@ records_need (Err f ∷ rest) = 0
 -- the same of what is told of symbols
 unfoldable pub entries_need : List Entry → ℕ
 entries_need [] = 0
-entries_need (e ∷ es) = max (greatest_in_parent (types_told e.told)) (entries_need es)
+entries_need (e ∷ es) = max (greatest_in_parent (types_named e.told)) (entries_need es)

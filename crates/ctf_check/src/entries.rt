@@ -3,7 +3,7 @@
 ghost use Rattle.std.specs.Prelude.{◌≡◌, IfErr, OnOk, None, Some, if◌then◌else◌};
 ghost use Rattle.std.specs.List.{list_any};
 ghost use Rattle.std.specs.Option.{option_map, option_or};
-ghost use Rattle.ctf_model.specs.symbols.Entries.{types_told};
+ghost use Rattle.ctf_model.specs.symbols.Entries.{types_named};
 ghost use Rattle.ctf_model.specs.symbols.Entries as told;
 ghost use Rattle.ctf_model.specs.rules.References.{is_missing as missing};
 ghost use Rattle.ctf_entries.specs.FunctionView.{signature};
@@ -32,7 +32,7 @@ impl Numbers {
     /// Whether an object has a type that is not there.
     fn misses_object(self, said: Option<TypeNum>) -> bool
         ensures { result ≡ list_any (missing self.child self.count)
-            (types_told (told.object (option_map (λ t. t.0) said))) }
+            (types_named (told.object (option_map (λ t. t.0) said))) }
     {
         match said {
             Some(number) => self.is_missing(number),
@@ -43,7 +43,7 @@ impl Numbers {
     /// Whether the signature of a function names a type that is not there.
     fn misses_signature(self, said: Option<Signature<'_>>) -> bool
         ensures { result ≡ list_any (missing self.child self.count)
-            (types_told (told.function (option_map signature said.entry))) }
+            (types_named (told.function (option_map signature said.entry))) }
     {
         match said {
             Some(told) => self.is_missing(told.ret) || self.misses_argument(told.args),

@@ -4,7 +4,7 @@ ghost use Rattle.ctf_model.specs.rules.Needs.{greatest_in_parent, number_in_pare
 ghost use Rattle.ctf_model.specs.format.Section.{records};
 ghost use Rattle.ctf_records.specs.ListedTypes.{listed_types};
 ghost use Rattle.ctf_records.specs.RecordView.{bytes_of};
-ghost use Rattle.ctf_model.specs.symbols.Entries.{types_told};
+ghost use Rattle.ctf_model.specs.symbols.Entries.{types_named};
 ghost use Rattle.ctf_entries.specs.EntriesView.{told_in};
 ghost use Rattle.ctf_entries.specs.FunctionView.{signature};
 ghost use Rattle.ctf_check.specs.Needed.{entries_need as entries_need_in, record_needs as record_needs_in, records_need as records_need_in};
@@ -90,7 +90,7 @@ fn signature_needs(told: Signature<'_>) -> u16
 /// The greatest number of a parent's type that is told of a symbol.
 #[tactic(auto, unfolding(ctf_model::specs::rules::Needs::greatest_in_parent))]
 fn told_needs(told: Told<'_>) -> u16
-    ensures { result ≡ greatest_in_parent (types_told (told_in told.entry)) }
+    ensures { result ≡ greatest_in_parent (types_named (told_in told.entry)) }
 {
     match told {
         Told::Object(Some(number)) => in_parent(number),

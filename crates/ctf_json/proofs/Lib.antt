@@ -1,2 +1,4 @@
 pub mod Telling
 pub mod Digits
+pub mod Turns
+pub mod Kept

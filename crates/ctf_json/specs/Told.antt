@@ -1,11 +1,13 @@
 -- What the tree of a text says, in the words of serde_json, and whether each of its numbers has a
 -- value there.
-use Rattle.std.specs.Prelude.{◌&&◌, List, Bool, true, is_some, Option, Some, None}
+use Rattle.std.specs.Prelude.{◌≡◌, ◌&&◌, ◌||◌, ℕ, List, [], ◌∷◌, Bool, true, false, is_some, Option, Some, None}
+use Rattle.std.specs.Str.{bytes_eq}
 use Rattle.json.specs.Json as json
 use Rattle.json.specs.Value as tree
 use Rattle.json.specs.declared.value.Value.{Value}
 use Rattle.serde_json.specs.Data.{Num, Data, null, boolean, number, string, array, object, Items, no_items, item, Members, no_members, put}
-use Rattle.serde_json.specs.Read.{number_of}
+use Rattle.serde_json.specs.Find.{get}
+use Rattle.serde_json.specs.Read.{number_of, read}
 
 -- a number without a value is told as null; no text with one is read
 abbrev pub told_number : Option Num → Data
@@ -52,3 +54,15 @@ said v = told (tree.value_view v)
 
 abbrev pub items_view : {A : Type 0} → List (Value A) → Items
 items_view vs = told_items (tree.items_view vs)
+
+-- ---- what is asked
+
+abbrev pub is_one_of : List ℕ → List (List ℕ) → Bool
+is_one_of key [] = false
+is_one_of key (k ∷ keys) = bytes_eq key k || is_one_of key keys
+
+-- a text is read, and at these keys `part` has what stands there
+pub record IsReadAt (keys : List (List ℕ)) (text : List ℕ) (part : Data) : Type 0 where
+  pub whole : Data
+  pub is : read text ≡ Some whole
+  pub same : (key : List ℕ) → is_one_of key keys ≡ true → get key part ≡ get key whole

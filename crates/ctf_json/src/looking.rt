@@ -12,7 +12,7 @@ use json::Value;
 use serde_json::Number;
 
 /// Whether a name is that of a key. Both are short, and mostly differ at once.
-fn is_key(name: &str, key: &str) -> bool
+pub(crate) fn is_key(name: &str, key: &str) -> bool
     ensures { result ≡ bytes_eq name.now key.now }
 {
     let name = name.as_bytes();

@@ -1,11 +1,16 @@
-//! Reads a text, with memory that is lent to each read.
-ghost use Rattle.std.specs.Prelude.{◌≡◌, IfOk, Some, None, Err};
+//! Reads what is asked of a text, with memory that is lent to each read.
+ghost use Rattle.std.specs.Prelude.{◌≡◌, ◌<◌, IfOk, OnOk, Some, None, Err, length, map, true};
+ghost use Rattle.json.specs.Json.{members as read_members, value as read_value};
+ghost use Rattle.json.specs.Value.{members_view, value_view};
 ghost use Rattle.serde_json.specs.Read.{read as read_text};
-ghost use Rattle.ctf_json.specs.Told.{said};
+ghost use Rattle.ctf_json.specs.Passed.{kept_at, members_at as members_kept, passed_members, passed_value, sifted};
+ghost use Rattle.ctf_json.specs.Told.{IsReadAt, in_range as all_in_range, is_one_of as one_of, members_in_range, said};
 ghost use Rattle.ctf_json.specs.declared.reading.NotRead.TheVariants as why;
 
+use crate::looking::is_key;
+use crate::passing::{pass, pass_from};
 use crate::ranges::in_range;
-use json::{Error, Reader, Scratch, Value};
+use json::{Error, Invalid, Reader, Scratch, Token, Value};
 use std::alloc::Global;
 
 /// How deep arrays and objects may nest.
@@ -18,28 +23,106 @@ pub enum NotRead {
     Memory,
 }
 
-/// The tree of a text, if serde_json reads it too.
-pub fn read<'a>(
+impl From<Invalid> for NotRead {
+    ghost use Rattle.std.specs.Prelude.{◌≡◌};
+    ghost use Rattle.ctf_json.specs.declared.reading.NotRead.TheVariants.{NotJson};
+
+    ghost from_gives = { λ _ e. e ≡ NotJson };
+
+    fn from(_invalid: Invalid) -> NotRead {
+        NotRead::NotJson
+    }
+}
+
+/// What a text has at these keys, if serde_json reads it. Nothing else is kept of it: an object has
+/// no other members, and any other value is null.
+pub fn read_at<'a>(
     alloc: Global,
     text: &'a str,
     scratch: &'a mut Scratch,
+    keys: &[&str],
 ) -> Result<Value<'a>, NotRead>
-    ensures ok { IfOk result (λ v. read_text text.now ≡ Some (said v)) }
+    ensures ok { IfOk result (λ v. IsReadAt (map (λ key. key.now) keys.now) text.now (said v)) }
     ensures refused { result ≡ Err why.NotJson → read_text text.now ≡ None }
 {
     let Ok(mut reader) = Reader::new(text, scratch) else {
         return Err(NotRead::Memory);
     };
-    let value = match Value::read(alloc, &mut reader, MAX_DEPTH) {
-        Ok(value) => value,
-        Err(Error::Invalid) => return Err(NotRead::NotJson),
-        Err(_) => return Err(NotRead::Memory),
-    };
+    let value = value_at(alloc, &mut reader, keys)?;
     if reader.next().is_some() {
         return Err(NotRead::NotJson);
     }
-    if !in_range(&value) {
-        return Err(NotRead::NotJson);
-    }
     Ok(value)
+}
+
+/// What the next value has at these keys.
+fn value_at<'a>(alloc: Global, reader: &mut Reader<'a>, keys: &[&str]) -> Result<Value<'a>, NotRead>
+    ensures ok { IfOk result (λ v.
+        sifted all_in_range (kept_at (map (λ key. key.now) keys.now)) (read_value 127 reader.old)
+        ≡ Some (value_view v, reader.new)) }
+    ensures refused { result ≡ Err why.NotJson → passed_value 127 reader.old ≡ None }
+{
+    let token = reader.next().ok_or(Invalid)?;
+    if let Token::BeginObject = token {
+        return Ok(Value::Object(members_at(alloc, reader, MAX_DEPTH - 1, keys)?));
+    }
+    pass_from(token, reader, MAX_DEPTH)?;
+    Ok(Value::Null)
+}
+
+/// The members at these keys of an object that has begun.
+fn members_at<'a>(
+    alloc: Global,
+    reader: &mut Reader<'a>,
+    depth: usize,
+    keys: &[&str],
+) -> Result<Vec<(&'a str, Value<'a>)>, NotRead>
+    ensures ok { IfOk result (λ v.
+        sifted members_in_range (members_kept (map (λ key. key.now) keys.now))
+        (read_members (read_value depth) (length reader.old) reader.old)
+        ≡ Some (members_view v.items, reader.new)) }
+    ensures refused { result ≡ Err why.NotJson → passed_members depth reader.old ≡ None }
+{
+    let mut found = Vec::new(alloc);
+    while let Some(key) = reader.next_key()? {
+        if is_one_of(key, keys) {
+            let value = next_value(alloc, reader, depth)?;
+            if found.push((key, value)).is_err() {
+                return Err(NotRead::Memory);
+            }
+        } else {
+            pass(reader, depth)?;
+        }
+    }
+    Ok(found)
+}
+
+/// The next value, if each of its numbers has a value.
+fn next_value<'a>(
+    alloc: Global,
+    reader: &mut Reader<'a>,
+    depth: usize,
+) -> Result<Value<'a>, NotRead>
+    ensures ok { IfOk result (λ v. read_value depth reader.old ≡ Some (value_view v, reader.new)) }
+    ensures in_range { IfOk result (λ v. all_in_range (value_view v) ≡ true) }
+    ensures shorter { OnOk result (length reader.new < length reader.old) }
+    ensures refused { result ≡ Err why.NotJson → passed_value depth reader.old ≡ None }
+{
+    match Value::read(alloc, reader, depth) {
+        Ok(value) if in_range(&value) => Ok(value),
+        Ok(_) | Err(Error::Invalid) => Err(NotRead::NotJson),
+        Err(_) => Err(NotRead::Memory),
+    }
+}
+
+/// Whether a key is one of these.
+fn is_one_of(key: &str, keys: &[&str]) -> bool
+    ensures { result ≡ one_of key.now (map (λ k. k.now) keys.now) }
+{
+    for known in keys {
+        if is_key(key, known) {
+            return true;
+        }
+    }
+    false
 }

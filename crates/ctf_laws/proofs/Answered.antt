@@ -23,8 +23,8 @@ use Rattle.ctf_model.specs.declared.data_model.DataModel.{DataModel}
 use Rattle.ctf_model.specs.declared.faults.Fault.{Fault}
 use Rattle.ctf_model.specs.declared.faults.TheConstants.Fault.{SLOTS_FULL}
 use Rattle.ctf_protocol.specs.answers.Answers.{Answer}
-use Rattle.ctf_protocol.specs.answers.Questions.{type_said}
-use Rattle.ctf_protocol.specs.answers.SlotAnswers.{whole_said}
+use Rattle.ctf_protocol.specs.answers.Questions.{type_answered}
+use Rattle.ctf_protocol.specs.answers.SlotAnswers.{whole_answered}
 use Rattle.ctf_protocol.specs.sessions.DraftSteps.{slot_step}
 use Rattle.ctf_protocol.specs.sessions.Opened.{slot_stepped, under}
 use Rattle.ctf_protocol.specs.sessions.State.{Slot, State}
@@ -64,8 +64,8 @@ space_is slot s h =
 
 pub answers_are_of_what_is_denoted : AnswersAreOfWhatIsDenoted
 answers_are_of_what_is_denoted slot s h = record {
-  types = λ question t. ap (λ (x : Space). type_said question x t.0) (space_is slot s h);
-  wholes = λ question. ap (λ (x : Space). whole_said question x) (space_is slot s h);
+  types = λ question t. ap (λ (x : Space). type_answered question x t.0) (space_is slot s h);
+  wholes = λ question. ap (λ (x : Space). whole_answered question x) (space_is slot s h);
 }
 
 -- ---- what is judged

@@ -12,7 +12,7 @@ use Rattle.ctf_model.specs.rules.Refusals.{placeless}
 use Rattle.ctf_model.specs.declared.faults.Fault.{Fault}
 use Rattle.ctf_model.specs.declared.faults.TheConstants.Fault.{LONG_LINE}
 use Rattle.ctf_protocol.specs.lines.Ask.{about_held, about_slot, about_type, ask, asked_by, asked_with, bytes_asked, json, list_named, model_asked, names_asked, or_bad_request, owner_asked, parent_asked, publication_asked, show_asked, symbol_asked, value_asked, word_asked}
-use Rattle.ctf_protocol.specs.lines.AskAdditions.{addition_asked, addition_with, kind_with, new_array_asked, new_type_asked, offset_asked, root_asked, scalar_asked, size_or, types_said, value_asked_for, within_signed}
+use Rattle.ctf_protocol.specs.lines.AskAdditions.{addition_asked, addition_with, kind_with, new_array_asked, new_type_asked, offset_asked, root_asked, scalar_asked, size_or, types_listed, value_asked_for, within_signed}
 use Rattle.ctf_protocol.specs.lines.LineFields.{bytes_spelled, name_or_empty, name_under, number_in, slot_in, slot_under, text_in, type_in, type_under, window_asked, within}
 use Rattle.ctf_protocol.specs.lines.Lines.{longest_line}
 use Rattle.ctf_protocol.specs.sessions.Additions.{body_of, scalar_of}
@@ -97,7 +97,7 @@ array_fits : (line : Data) → ForSome (new_array_asked line) (λ a. a.count < 2
 array_fits line = and_then (λ (a : NewArray). a.count < 2 ^ 32) (λ contents. option_and_then (λ index. option_map (λ count. record { contents = contents; index = index; count = count }) (number_in 0 4294967295 (codes "count") line)) (type_under (codes "index") line)) (type_under (codes "contents") line) (λ contents a. and_then (λ (a : NewArray). a.count < 2 ^ 32) (λ index. option_map (λ count. record { contents = contents; index = index; count = count }) (number_in 0 4294967295 (codes "count") line)) (type_under (codes "index") line) (λ index b. mapped (λ (a : NewArray). a.count < 2 ^ 32) (λ count. record { contents = contents; index = index; count = count }) (number_in 0 4294967295 (codes "count") line) (λ count c. let high = number_high 0 4294967295 (codes "count") line count c in omega (arith, high))))
 
 abbrev args_asked : Data → Option (List TypeNum)
-args_asked line = option_and_then types_said (option_and_then as_array (get (codes "args") line))
+args_asked line = option_and_then types_listed (option_and_then as_array (get (codes "args") line))
 
 abbrev FitsKind : NewKind → Type 0
 FitsKind kind = FitsNew (body_of kind)

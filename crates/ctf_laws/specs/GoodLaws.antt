@@ -17,15 +17,15 @@ use Rattle.ctf_model.specs.declared.data_model.DataModel.{DataModel}
 use Rattle.ctf_model.specs.declared.faults.Fault.{Fault}
 use Rattle.ctf_model.specs.declared.faults.TheConstants.Fault.{SLOTS_FULL}
 use Rattle.ctf_protocol.specs.answers.Answers.{Answer}
-use Rattle.ctf_protocol.specs.answers.Questions.{type_said}
-use Rattle.ctf_protocol.specs.answers.SlotAnswers.{whole_said}
+use Rattle.ctf_protocol.specs.answers.Questions.{type_answered}
+use Rattle.ctf_protocol.specs.answers.SlotAnswers.{whole_answered}
 use Rattle.ctf_protocol.specs.lines.Ask.{ask}
 use Rattle.ctf_protocol.specs.sessions.DraftSteps.{slot_step}
 use Rattle.ctf_protocol.specs.lines.Output.{Mark, calls_made}
 use Rattle.ctf_protocol.specs.sessions.Runs.{found_in, own_state}
 use Rattle.ctf_protocol.specs.sessions.SessionLaws.{Event, Run}
 use Rattle.ctf_protocol.specs.sessions.State.{Slot, State, empty_state}
-use Rattle.ctf_protocol.specs.sessions.Steps.{checks, opens, slot_said, slot_space, step}
+use Rattle.ctf_protocol.specs.sessions.Steps.{checks, opens, slot_answered, slot_space, step}
 use Rattle.ctf_protocol.specs.declared.questions.Question.TheVariants.{OfSlot, OfType}
 use Rattle.ctf_protocol.specs.declared.questions.SlotQuestion.{SlotQuestion}
 use Rattle.ctf_protocol.specs.declared.questions.TypeQuestion.{TypeQuestion}
@@ -90,8 +90,9 @@ SlotsDenote = (slot : Slot) → IsGoodSlot slot → IsDenoted slot (slot_space s
 -- there is no other, and questions are answered of it
 pub record AnswersOf (slot : Slot) (s : Space) : Type 0 where
   pub types : (question : TypeQuestion) (t : TypeNum)
-      → slot_said (OfType t question) slot ≡ type_said question s t.0
-  pub wholes : (question : SlotQuestion) → slot_said (OfSlot question) slot ≡ whole_said question s
+      → slot_answered (OfType t question) slot ≡ type_answered question s t.0
+  pub wholes : (question : SlotQuestion)
+      → slot_answered (OfSlot question) slot ≡ whole_answered question s
 
 abbrev pub AnswersAreOfWhatIsDenoted : Type 0
 AnswersAreOfWhatIsDenoted = (slot : Slot) (s : Space) → IsDenoted slot s → AnswersOf slot s

@@ -2,9 +2,9 @@
 ghost use Rattle.std.specs.Prelude.{◌≡◌, ◌≤◌, [], ◌∷◌, codes, length, map, take, true, false, None, Some, Ok, Err, IfOk, IfSome, IfNone, IsNone, option_map, option_and_then};
 ghost use Rattle.ctf_protocol.specs.answers.Answers.{number, says, word};
 ghost use Rattle.ctf_model.specs.names.KindNames.{name_of_kind, name_of_tag};
-ghost use Rattle.ctf_protocol.specs.answers.Questions.{list_fields, said_of, type_said, record_fields, member_fields, enumerator_fields, argument_fields, signature_fields, array_fields, encoding_fields, as_fields, type_fields, name_fields, position_fields, value_fields, number_item};
+ghost use Rattle.ctf_protocol.specs.answers.Questions.{list_fields, answer_of, type_answered, record_fields, member_fields, enumerator_fields, argument_fields, signature_fields, array_fields, encoding_fields, as_fields, type_fields, name_fields, position_fields, value_fields, number_item};
 ghost use Rattle.ctf_model.specs.format.Shown.{kind_of, members_in, enumerators_in, list_length, named_arguments};
-ghost use Rattle.ctf_protocol.specs.sessions.Steps.{is_quiet, is_quiet_on, slot_said, MayAnswer};
+ghost use Rattle.ctf_protocol.specs.sessions.Steps.{is_quiet, is_quiet_on, slot_answered, MayAnswer};
 ghost use Rattle.ctf_model.specs.names.TypeNames.{spelled_name};
 ghost use Rattle.ctf_model.specs.values.Values.{value_text};
 ghost use Rattle.ctf_layout.specs.Fitting.{Fits};
@@ -53,7 +53,8 @@ pub(crate) fn listed<'a>(key: &'static str, items: Items<'a>, window: Window) ->
 
 fn members<'a>(behind: Variant<'a>, window: Window) -> Result<Answer<'a>, Fault>
     ensures { result
-        ≡ as_fields (member_fields window) (or_refused WRONG_KIND (members_in (seen behind.entry))) }
+        ≡ as_fields (member_fields window)
+        (or_refused WRONG_KIND (members_in (seen behind.entry))) }
 {
     match behind {
         Variant::Members(members) => Ok(listed("members", Items::Members(members), window)),
@@ -261,7 +262,7 @@ fn plain_answer<'a>(
     requires kind { option_map (λ x. kind_of x.body) (spelled x.now) ≡ Some kind }
     requires tables { Serve space.now tables.now }
     ensures some { IfSome result (λ answer. answer
-        ≡ said_of (about.Plain question) (space_of space.now) t.0 (or_no_type (spelled x.now))) }
+        ≡ answer_of (about.Plain question) (space_of space.now) t.0 (or_no_type (spelled x.now))) }
     ensures none { IfNone result (question ≡ plain.Name) }
 {
     match question {
@@ -316,12 +317,12 @@ fn answer_on<'a>(
     question: &TypeQuestion,
 ) -> Result<Answer<'a>, Fault>
     requires { Serve space.now tables.now }
-    ensures answer { MayAnswer (type_said question.now (space_of space.now) t.0) result }
+    ensures answer { MayAnswer (type_answered question.now (space_of space.now) t.0) result }
     ensures quiet { is_quiet_on question.now ≡ true
-        → result ≡ type_said question.now (space_of space.now) t.0 }
+        → result ≡ type_answered question.now (space_of space.now) t.0 }
     // Only a text takes memory.
     ensures lent { makes_text_on question.now ≡ false
-        → result ≡ type_said question.now (space_of space.now) t.0 }
+        → result ≡ type_answered question.now (space_of space.now) t.0 }
 {
     let found = space.term(t)?;
     match tell(&found, found.kind(), space, tables, t, question) {
@@ -340,11 +341,11 @@ impl Slot {
         alloc: Global,
         question: &Question,
     ) -> Result<Answer<'a>, Fault>
-        ensures answer { MayAnswer (slot_said question.now (slot_of self.now)) result }
+        ensures answer { MayAnswer (slot_answered question.now (slot_of self.now)) result }
         ensures quiet { is_quiet question.now ≡ true
-            → result ≡ slot_said question.now (slot_of self.now) }
+            → result ≡ slot_answered question.now (slot_of self.now) }
         ensures lent { makes_text question.now ≡ false
-            → result ≡ slot_said question.now (slot_of self.now) }
+            → result ≡ slot_answered question.now (slot_of self.now) }
     {
         let space = self.dictionary.space();
         match question {

@@ -3,7 +3,7 @@ ghost use Rattle.std.specs.Prelude.{◌≡◌, take, drop};
 ghost use Rattle.ctf_check.specs.CheckedView.{dictionary_of};
 ghost use Rattle.ctf_library.specs.SlotView.{slot_of};
 ghost use Rattle.ctf_protocol.specs.sessions.Opened.{open_of};
-ghost use Rattle.ctf_protocol.specs.answers.HeldAnswers.{bytes_fields, held_said, info_fields};
+ghost use Rattle.ctf_protocol.specs.answers.HeldAnswers.{bytes_fields, held_answered, info_fields};
 
 use crate::slots::Slot;
 use ctf_answers::{Answer, InfoAnswer, Single, model_name};
@@ -49,7 +49,7 @@ fn bytes<'a>(ctf: &'a [u8], from: u32, count: u32) -> Answer<'a>
 impl Slot {
     /// What a question on what it holds is answered, without memory.
     pub(crate) fn held<'a>(&'a self, question: HeldQuestion) -> Answer<'a>
-        ensures { result ≡ held_said question (open_of (slot_of self.now)) }
+        ensures { result ≡ held_answered question (open_of (slot_of self.now)) }
     {
         let own = self.dictionary.dictionary();
         match question {

@@ -4,7 +4,7 @@ ghost use Rattle.std.specs.Option.{option_map};
 ghost use Rattle.ctf_open.specs.Fitting.{Serve};
 ghost use Rattle.ctf_model.specs.symbols.Entries.{owner_of};
 ghost use Rattle.ctf_protocol.specs.answers.Questions.{as_fields};
-ghost use Rattle.ctf_protocol.specs.answers.SlotAnswers.{last_fields, symbol_fields, whole_said};
+ghost use Rattle.ctf_protocol.specs.answers.SlotAnswers.{last_fields, symbol_fields, whole_answered};
 ghost use Rattle.ctf_model.specs.symbols.SymbolQuestions.{or_refused};
 ghost use Rattle.ctf_model.specs.declared.faults.TheConstants.Fault.{NO_SYMBOL};
 ghost use Rattle.ctf_space.specs.SpaceView.{own_lists, space_of};
@@ -52,7 +52,7 @@ pub(crate) fn whole_answer<'a>(
 ) -> Result<Answer<'a>, Fault>
     requires serve { Serve space.now tables.now }
     requires mapped { Fits (own_lists space.now) symbols.now }
-    ensures { result ≡ whole_said question.now (space_of space.now) }
+    ensures { result ≡ whole_answered question.now (space_of space.now) }
 {
     let own = space.dictionary();
     match question {

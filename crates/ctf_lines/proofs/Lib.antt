@@ -10,3 +10,4 @@ pub mod Plain
 pub mod Objects
 pub mod Passes
 pub mod Decimals
+pub mod AskedParts

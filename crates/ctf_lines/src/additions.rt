@@ -2,7 +2,7 @@
 ghost use Rattle.std.specs.Prelude.{◌≡◌, ◌≢◌, IfOk, codes, option_and_then};
 ghost use Rattle.ctf_json.specs.Told.{said as view, items_view};
 ghost use Rattle.ctf_protocol.specs.lines.LineFields.{text_in, type_under as type_asked_under};
-ghost use Rattle.ctf_protocol.specs.lines.AskAdditions.{addition_asked, addition_with as addition_asked_with, declared_named, kind_with, new_array_asked, new_enumerator_asked, new_function_asked, new_label_asked, new_member_asked, new_type_asked, offset_asked, root_asked, scalar_asked, size_or as size_or_asked, type_said as type_said_by, types_said as types_said_by, value_asked_for};
+ghost use Rattle.ctf_protocol.specs.lines.AskAdditions.{addition_asked, addition_with as addition_asked_with, declared_named, kind_with, new_array_asked, new_enumerator_asked, new_function_asked, new_label_asked, new_member_asked, new_type_asked, offset_asked, root_asked, scalar_asked, size_or as size_or_asked, type_listed as type_listed_by, types_listed as types_listed_by, value_asked_for};
 ghost use Rattle.ctf_protocol.specs.declared.addables.Addable.TheVariants as adds;
 
 use crate::drafts::name_or_empty;
@@ -58,20 +58,20 @@ fn array(value: &Value<'_>) -> Option<NewArray>
 }
 
 /// The number that a value is, where it is that of a type.
-fn type_said(value: &Value<'_>) -> Option<TypeNum>
-    ensures { result ≡ type_said_by (view value.now) }
+fn type_listed(value: &Value<'_>) -> Option<TypeNum>
+    ensures { result ≡ type_listed_by (view value.now) }
 {
     let number = number_within(value, 0, u64::from(u16::MAX))?;
     Some(TypeNum(number as u16))
 }
 
 /// The numbers that values are, if each is that of a type.
-fn types_said(alloc: Global, values: &[Value<'_>]) -> Result<Option<TypeNums>, AllocError>
-    ensures { IfOk result (λ types. types ≡ types_said_by (items_view values.now)) }
+fn types_listed(alloc: Global, values: &[Value<'_>]) -> Result<Option<TypeNums>, AllocError>
+    ensures { IfOk result (λ types. types ≡ types_listed_by (items_view values.now)) }
 {
     let mut types = Vec::with_capacity(alloc, values.len())?;
     for value in values {
-        match type_said(value) {
+        match type_listed(value) {
             Some(t) => types.push_reserved(t),
             None => return Ok(None),
         }
@@ -88,7 +88,7 @@ fn function(alloc: Global, value: &Value<'_>) -> Result<Option<NewKind>, AllocEr
     let Some(values) = items(value, "args") else {
         return Ok(None);
     };
-    match types_said(alloc, values)? {
+    match types_listed(alloc, values)? {
         Some(args) => Ok(Some(NewKind::Function(returned, args))),
         None => Ok(None),
     }

@@ -12,6 +12,7 @@ ghost use Rattle.ctf_protocol.specs.declared.questions.SlotQuestion.TheVariants 
 ghost use Rattle.ctf_protocol.specs.declared.questions.TypeQuestion.TheVariants as about;
 
 use crate::drafts::{add, create, discard, update};
+use crate::keys::KEYS;
 use crate::line_traits::FromLine;
 use crate::models::model;
 use crate::spelled::{name, names, piece};
@@ -64,7 +65,7 @@ fn read_text(
     ensures memory { IfErr result (λ refusal. refusal.1.code ≡ MEMORY
         → refusal ≡ (0, want_of_memory)) }
 {
-    match ctf_json::read(alloc, text, scratch) {
+    match ctf_json::read_at(alloc, text, scratch, KEYS) {
         Ok(value) => read_value(alloc, &value),
         Err(NotRead::NotJson) => Err((0, placeless(Fault::NOT_JSON))),
         Err(NotRead::Memory) => Err((0, placeless(Fault::MEMORY))),

@@ -6,7 +6,7 @@ use Rattle.std.specs.List.{list_any}
 use Rattle.std.proofs.lemmas.Bool.{false≢true}
 use Rattle.std.proofs.lemmas.Bool.Decides.{Decides-eqb, Decides-ltb, Decides-not, Decides-or, Decides-and}
 use Rattle.std.proofs.lemmas.List.Folds.{Any-from_list_any, list_any-from_Any}
-use Rattle.ctf_model.specs.symbols.Entries.{Entry, FunctionSite, is_bad_entry, is_silent, kind_number, entry_len, entries_of, entries, function_sites_of, function_sites, types_told, type_in, signature_in}
+use Rattle.ctf_model.specs.symbols.Entries.{Entry, FunctionSite, is_bad_entry, is_silent, kind_number, entry_len, entries_of, entries, function_sites_of, function_sites, types_named, type_in, signature_in}
 use Rattle.ctf_model.specs.symbols.Entries as told
 use Rattle.ctf_model.specs.rules.Faults.{first_where, bad_funcs, bad_symbol_type, bad_symtab, tells_missing, types}
 use Rattle.ctf_model.specs.format.Header.{fields, is_child, section}
@@ -123,7 +123,7 @@ IsMistold s count p = Any (λ e. (e.number ≡ p) × TellsMissing (is_child (fie
 
 mistold_agrees : (s : Lists) (count : ℕ) → Agrees (first_where (tells_missing (is_child (fields s.ctf)) count) (λ (e : Entry). e.number) (entries s)) (IsMistold s count)
 unfolding entries
-mistold_agrees s count = first_agrees (tells_missing (is_child (fields s.ctf)) count) (λ (e : Entry). e.number) (TellsMissing (is_child (fields s.ctf)) count) (λ e. missing_decides (is_child (fields s.ctf)) count (types_told e.told)) (entries s) 0 (entries_rising (considered (symbols s)) (section s.ctf SObjects) (section s.ctf SFunctions) 0 (considered_rising 0 (symbols s)))
+mistold_agrees s count = first_agrees (tells_missing (is_child (fields s.ctf)) count) (λ (e : Entry). e.number) (TellsMissing (is_child (fields s.ctf)) count) (λ e. missing_decides (is_child (fields s.ctf)) count (types_named e.told)) (entries s) 0 (entries_rising (considered (symbols s)) (section s.ctf SObjects) (section s.ctf SFunctions) 0 (considered_rising 0 (symbols s)))
 
 -- where the rules before it are kept, the rule agrees with its fact
 pub bad_symbol_type_agrees : (s : Lists) → Keeps s 18 → Agrees (bad_symbol_type s) (IsBroken s 18)

@@ -1,5 +1,5 @@
-//! A dictionary that is open: with its parent if it has one, its draft if it has one, and the tables
-//! over these; what it answers, and the steps of its draft.
+//! An open dictionary, with its parent and its draft if it has them, and the tables over these:
+//! what it answers, and the steps of its draft.
 #![tactic(auto)]
 
 mod adding;

@@ -1,13 +1,13 @@
 //! What is answered of what is open as a whole: its parent's name, its symbols and labels.
 ghost use Rattle.std.specs.Prelude.{◌≡◌, ◌≤◌, length, slice_get, take};
 ghost use Rattle.std.specs.Result.{result_map_both};
-ghost use Rattle.ctf_model.specs.opened.Questions.{label_at, named_said};
+ghost use Rattle.ctf_model.specs.opened.Questions.{label_at, named_answered};
 ghost use Rattle.ctf_model.specs.opened.Open.{own_in};
 ghost use Rattle.ctf_entries.specs.FunctionView.{signature};
 ghost use Rattle.ctf_model.specs.declared.faults.TheConstants.Fault.{NO_MEMBER};
 ghost use Rattle.ctf_model.specs.format.Shown.{named_arguments};
 ghost use Rattle.ctf_model.specs.symbols.SymbolQuestions.{function_of, name_of_symbol, or_refused};
-ghost use Rattle.ctf_views.specs.ItemsView.{label as label_seen};
+ghost use Rattle.ctf_views.specs.ItemsView.{label as label_view};
 
 use crate::loaded::Loaded;
 use crate::opened::OpenDictionary;
@@ -79,7 +79,7 @@ impl OpenDictionary {
 
     /// A label, from 0. Its name is lent.
     pub fn label_numbered(&self, index: usize) -> Result<Label<'_>, Fault>
-        ensures { result_map_both label_seen (λ f. f) result
+        ensures { result_map_both label_view (λ f. f) result
             ≡ label_at index (own_in self.now).labels }
     {
         match self.dictionary().labels().get(index) {
@@ -107,7 +107,7 @@ impl OpenDictionary {
     /// An argument that such a function names, from 0.
     pub fn function_argument(&self, number: u32, index: usize) -> Result<TypeNum, Fault>
         ensures { result_map_both (λ t. t.0) (λ f. f) result
-            ≡ named_said index (function_of (own_in self.now) number) }
+            ≡ named_answered index (function_of (own_in self.now) number) }
     {
         match self.function(number) {
             Ok(function) => named(function.args, index),

@@ -1,7 +1,7 @@
 //! What is answered of what is open.
 ghost use Rattle.std.specs.Prelude.{◌≡◌, ◌⊎◌, [], ◌∷◌, Ok, Err, IfOk, IfErr, length, map};
 ghost use Rattle.std.specs.Result.{result_map_both};
-ghost use Rattle.ctf_model.specs.opened.Questions.{align_said, argument_said, array_said, encoding_said, enumerator_said, kind_said, length_said, member_said, name_said, parent_types, path_said, pointer_said, resolved_said, return_said, root_said, said_of, signature_said, shape_of, size_said, tag_said, value_said};
+ghost use Rattle.ctf_model.specs.opened.Questions.{align_answered, argument_answered, array_answered, encoding_answered, enumerator_answered, kind_answered, length_answered, member_answered, name_answered, parent_types, path_answered, pointer_answered, resolved_answered, return_answered, root_answered, on_shape, signature_answered, shape_of, size_answered, tag_answered, value_answered};
 ghost use Rattle.ctf_model.specs.opened.Open.{own_in, space_in};
 ghost use Rattle.ctf_check.specs.FactsView.{shape_view};
 ghost use Rattle.ctf_entries.specs.FunctionView.{signature};
@@ -13,7 +13,7 @@ ghost use Rattle.ctf_model.specs.spaces.Space.{space_type};
 ghost use Rattle.ctf_model.specs.symbols.SymbolQuestions.{by_name, label_of, object_of};
 ghost use Rattle.ctf_records.specs.RecordView.{tag_of as tag_shown};
 ghost use Rattle.ctf_space.specs.TypeView.{name_in};
-ghost use Rattle.ctf_views.specs.ItemsView.{enumerator as enumerator_seen, member as member_seen};
+ghost use Rattle.ctf_views.specs.ItemsView.{enumerator as enumerator_view, member as member_view};
 ghost use Rattle.ctf_views.specs.PartsView.{array_info, encoding_info};
 
 use crate::opened::OpenDictionary;
@@ -29,7 +29,7 @@ use std::alloc::Global;
 
 /// What a type declares, if it is a forward.
 fn tag_of(x: Shape<'_>) -> Result<Tag, Fault>
-    ensures { result_map_both tag_shown (λ f. f) result ≡ tag_said (shape_view x.entry) }
+    ensures { result_map_both tag_shown (λ f. f) result ≡ tag_answered (shape_view x.entry) }
 {
     match x.declares {
         Some(tag) => Ok(tag),
@@ -40,7 +40,7 @@ fn tag_of(x: Shape<'_>) -> Result<Tag, Fault>
 /// How many members, enumerators or arguments there are.
 #[inline(always)]
 fn length_of(x: Shape<'_>) -> Result<u64, Fault>
-    ensures { result ≡ length_said (shape_view x.entry) }
+    ensures { result ≡ length_answered (shape_view x.entry) }
 {
     Ok(match x.behind {
         Variant::Members(members) => members.len() as u64,
@@ -52,7 +52,8 @@ fn length_of(x: Shape<'_>) -> Result<u64, Fault>
 
 #[inline(always)]
 pub fn encoding_of(x: Shape<'_>) -> Result<Encoding, Fault>
-    ensures { result_map_both encoding_info (λ f. f) result ≡ encoding_said (shape_view x.entry) }
+    ensures { result_map_both encoding_info (λ f. f) result
+        ≡ encoding_answered (shape_view x.entry) }
 {
     match x.behind {
         Variant::Encoding(info) => Ok(info),
@@ -62,7 +63,7 @@ pub fn encoding_of(x: Shape<'_>) -> Result<Encoding, Fault>
 
 #[inline(always)]
 pub fn array_of(x: Shape<'_>) -> Result<ArrayInfo, Fault>
-    ensures { result_map_both array_info (λ f. f) result ≡ array_said (shape_view x.entry) }
+    ensures { result_map_both array_info (λ f. f) result ≡ array_answered (shape_view x.entry) }
 {
     match x.behind {
         Variant::Array(info) => Ok(info),
@@ -73,7 +74,7 @@ pub fn array_of(x: Shape<'_>) -> Result<ArrayInfo, Fault>
 /// What a function returns and takes.
 #[inline(always)]
 pub fn signature_of(x: Shape<'_>) -> Result<Signature<'_>, Fault>
-    ensures { result_map_both signature (λ f. f) result ≡ signature_said (shape_view x.entry) }
+    ensures { result_map_both signature (λ f. f) result ≡ signature_answered (shape_view x.entry) }
 {
     match (x.behind, x.reference) {
         (Variant::Args(args), Some(ret)) => Ok(Signature { ret, args }),
@@ -82,7 +83,7 @@ pub fn signature_of(x: Shape<'_>) -> Result<Signature<'_>, Fault>
 }
 
 fn return_of(x: Shape<'_>) -> Result<TypeNum, Fault>
-    ensures { result_map_both (λ t. t.0) (λ f. f) result ≡ return_said (shape_view x.entry) }
+    ensures { result_map_both (λ t. t.0) (λ f. f) result ≡ return_answered (shape_view x.entry) }
 {
     match signature_of(x) {
         Ok(signature) => Ok(signature.ret),
@@ -92,8 +93,8 @@ fn return_of(x: Shape<'_>) -> Result<TypeNum, Fault>
 
 #[inline(always)]
 fn member_of(x: Shape<'_>, index: usize) -> Result<Member<'_>, Fault>
-    ensures { result_map_both member_seen (λ f. f) result
-        ≡ member_said index (shape_view x.entry) }
+    ensures { result_map_both member_view (λ f. f) result
+        ≡ member_answered index (shape_view x.entry) }
 {
     match x.behind {
         Variant::Members(members) => match members.get(index) {
@@ -106,8 +107,8 @@ fn member_of(x: Shape<'_>, index: usize) -> Result<Member<'_>, Fault>
 
 #[inline(always)]
 fn enumerator_of(x: Shape<'_>, index: usize) -> Result<Enumerator<'_>, Fault>
-    ensures { result_map_both enumerator_seen (λ f. f) result
-        ≡ enumerator_said index (shape_view x.entry) }
+    ensures { result_map_both enumerator_view (λ f. f) result
+        ≡ enumerator_answered index (shape_view x.entry) }
 {
     match x.behind {
         Variant::Enumerators(enumerators) => match enumerators.get(index) {
@@ -121,7 +122,7 @@ fn enumerator_of(x: Shape<'_>, index: usize) -> Result<Enumerator<'_>, Fault>
 #[inline(always)]
 fn argument_of(x: Shape<'_>, index: usize) -> Result<TypeNum, Fault>
     ensures { result_map_both (λ t. t.0) (λ f. f) result
-        ≡ argument_said index (shape_view x.entry) }
+        ≡ argument_answered index (shape_view x.entry) }
 {
     match x.behind {
         Variant::Args(args) => match args.get(index) {
@@ -173,7 +174,7 @@ impl OpenDictionary {
     #[inline(always)]
     pub fn kind(&self, t: TypeNum) -> Result<Kind, Fault>
         ensures { result
-            ≡ said_of kind_said (shape_of (space_type (space_in self.now) t.0)) }
+            ≡ on_shape kind_answered (shape_of (space_type (space_in self.now) t.0)) }
     {
         match self.space().term(t) {
             Ok(found) => Ok(found.kind()),
@@ -183,7 +184,7 @@ impl OpenDictionary {
 
     /// Whether look-ups by name see a type.
     pub fn root(&self, t: TypeNum) -> Result<bool, Fault>
-        ensures { result ≡ root_said (space_type (space_in self.now) t.0) }
+        ensures { result ≡ root_answered (space_type (space_in self.now) t.0) }
     {
         match self.space().term(t) {
             Ok(found) => Ok(found.root()),
@@ -194,7 +195,7 @@ impl OpenDictionary {
     /// What a forward declares.
     pub fn tag(&self, t: TypeNum) -> Result<Tag, Fault>
         ensures { result_map_both tag_shown (λ f. f) result
-            ≡ said_of tag_said (shape_of (space_type (space_in self.now) t.0)) }
+            ≡ on_shape tag_answered (shape_of (space_type (space_in self.now) t.0)) }
     {
         tag_of(self.shape(t)?)
     }
@@ -202,7 +203,7 @@ impl OpenDictionary {
     /// How many members, enumerators or arguments a type has.
     pub fn length(&self, t: TypeNum) -> Result<u64, Fault>
         ensures { result
-            ≡ said_of length_said (shape_of (space_type (space_in self.now) t.0)) }
+            ≡ on_shape length_answered (shape_of (space_type (space_in self.now) t.0)) }
     {
         length_of(self.shape(t)?)
     }
@@ -210,7 +211,7 @@ impl OpenDictionary {
     /// How an integer or a float is encoded.
     pub fn encoding(&self, t: TypeNum) -> Result<Encoding, Fault>
         ensures { result_map_both encoding_info (λ f. f) result
-            ≡ said_of encoding_said (shape_of (space_type (space_in self.now) t.0)) }
+            ≡ on_shape encoding_answered (shape_of (space_type (space_in self.now) t.0)) }
     {
         encoding_of(self.shape(t)?)
     }
@@ -218,7 +219,7 @@ impl OpenDictionary {
     /// What an array holds.
     pub fn array(&self, t: TypeNum) -> Result<ArrayInfo, Fault>
         ensures { result_map_both array_info (λ f. f) result
-            ≡ said_of array_said (shape_of (space_type (space_in self.now) t.0)) }
+            ≡ on_shape array_answered (shape_of (space_type (space_in self.now) t.0)) }
     {
         array_of(self.shape(t)?)
     }
@@ -226,7 +227,7 @@ impl OpenDictionary {
     /// What a function type returns.
     pub fn returned(&self, t: TypeNum) -> Result<TypeNum, Fault>
         ensures { result_map_both (λ t. t.0) (λ f. f) result
-            ≡ said_of return_said (shape_of (space_type (space_in self.now) t.0)) }
+            ≡ on_shape return_answered (shape_of (space_type (space_in self.now) t.0)) }
     {
         return_of(self.shape(t)?)
     }
@@ -234,16 +235,16 @@ impl OpenDictionary {
     /// A member of a struct or union, from 0. Its name is lent.
     #[inline(always)]
     pub fn member(&self, t: TypeNum, index: usize) -> Result<Member<'_>, Fault>
-        ensures { result_map_both member_seen (λ f. f) result
-            ≡ said_of (member_said index) (shape_of (space_type (space_in self.now) t.0)) }
+        ensures { result_map_both member_view (λ f. f) result
+            ≡ on_shape (member_answered index) (shape_of (space_type (space_in self.now) t.0)) }
     {
         member_of(self.shape(t)?, index)
     }
 
     /// An enumerator of an enum, from 0. Its name is lent.
     pub fn enumerator(&self, t: TypeNum, index: usize) -> Result<Enumerator<'_>, Fault>
-        ensures { result_map_both enumerator_seen (λ f. f) result
-            ≡ said_of (enumerator_said index) (shape_of (space_type (space_in self.now) t.0)) }
+        ensures { result_map_both enumerator_view (λ f. f) result
+            ≡ on_shape (enumerator_answered index) (shape_of (space_type (space_in self.now) t.0)) }
     {
         enumerator_of(self.shape(t)?, index)
     }
@@ -251,7 +252,7 @@ impl OpenDictionary {
     /// An argument of a function type, from 0, as it is stored.
     pub fn argument(&self, t: TypeNum, index: usize) -> Result<TypeNum, Fault>
         ensures { result_map_both (λ t. t.0) (λ f. f) result
-            ≡ said_of (argument_said index) (shape_of (space_type (space_in self.now) t.0)) }
+            ≡ on_shape (argument_answered index) (shape_of (space_type (space_in self.now) t.0)) }
     {
         argument_of(self.shape(t)?, index)
     }
@@ -266,7 +267,7 @@ impl OpenDictionary {
 
     #[inline(always)]
     pub fn size(&self, t: TypeNum) -> Result<u64, Fault>
-        ensures { result ≡ size_said (space_in self.now) t.0 }
+        ensures { result ≡ size_answered (space_in self.now) t.0 }
     {
         self.shape(t)?;
         self.tables().layout.size(t)
@@ -274,7 +275,7 @@ impl OpenDictionary {
 
     #[inline(always)]
     pub fn align(&self, t: TypeNum) -> Result<u64, Fault>
-        ensures { result ≡ align_said (space_in self.now) t.0 }
+        ensures { result ≡ align_answered (space_in self.now) t.0 }
     {
         self.shape(t)?;
         self.tables().layout.align(t)
@@ -283,7 +284,7 @@ impl OpenDictionary {
     /// The type that a type stands for, along typedefs and qualifiers.
     pub fn resolve(&self, t: TypeNum) -> Result<TypeNum, Fault>
         ensures { result_map_both (λ t. t.0) (λ f. f) result
-            ≡ resolved_said (space_in self.now) t.0 }
+            ≡ resolved_answered (space_in self.now) t.0 }
     {
         self.shape(t)?;
         resolve(&self.space(), t)
@@ -301,7 +302,7 @@ impl OpenDictionary {
     /// The least pointer to a type.
     pub fn pointer(&self, t: TypeNum) -> Result<TypeNum, Fault>
         ensures { result_map_both (λ t. t.0) (λ f. f) result
-            ≡ pointer_said (space_in self.now) t.0 }
+            ≡ pointer_answered (space_in self.now) t.0 }
     {
         self.shape(t)?;
         pointer_to(&self.space(), &self.tables().index, t)
@@ -317,7 +318,7 @@ impl OpenDictionary {
     /// Where the first member of a name lies, and its type.
     pub fn field(&self, t: TypeNum, name: &[u8]) -> Result<(u64, TypeNum), Fault>
         ensures { result_map_both position_of (λ f. f) result
-            ≡ path_said (space_in self.now) (name.now ∷ []) t.0 }
+            ≡ path_answered (space_in self.now) (name.now ∷ []) t.0 }
     {
         self.shape(t)?;
         path(&self.space(), t, &[name])
@@ -346,9 +347,9 @@ impl OpenDictionary {
 
     /// The name of a type, as C spells it.
     pub fn name(&self, alloc: Global, t: TypeNum) -> Result<Bytes, Fault>
-        ensures ok { IfOk result (λ text. name_said (space_in self.now) t.0 ≡ Ok text) }
+        ensures ok { IfOk result (λ text. name_answered (space_in self.now) t.0 ≡ Ok text) }
         ensures exact_err { IfErr result (λ f. (f ≡ want_of_memory)
-            ⊎ (name_said (space_in self.now) t.0 ≡ Err f)) }
+            ⊎ (name_answered (space_in self.now) t.0 ≡ Err f)) }
     {
         self.shape(t)?;
         let mut text = Vec::new(alloc);
@@ -365,9 +366,9 @@ impl OpenDictionary {
         offset: u64,
     ) -> Result<Bytes, Fault>
         ensures ok { IfOk result (λ text.
-            value_said (space_in self.now) memory.now offset t.0 ≡ Ok text) }
+            value_answered (space_in self.now) memory.now offset t.0 ≡ Ok text) }
         ensures exact_err { IfErr result (λ f. (f ≡ want_of_memory)
-            ⊎ (value_said (space_in self.now) memory.now offset t.0 ≡ Err f)) }
+            ⊎ (value_answered (space_in self.now) memory.now offset t.0 ≡ Err f)) }
     {
         self.shape(t)?;
         let mut text = Vec::new(alloc);
@@ -379,7 +380,7 @@ impl OpenDictionary {
     /// Where the member lies that names lead to, and its type. A name may be lent by who asks.
     pub fn path(&self, t: TypeNum, names: &[&[u8]]) -> Result<(u64, TypeNum), Fault>
         ensures { result_map_both position_of (λ f. f) result
-            ≡ path_said (space_in self.now) (map (λ name. name.now) names.now) t.0 }
+            ≡ path_answered (space_in self.now) (map (λ name. name.now) names.now) t.0 }
     {
         self.shape(t)?;
         path(&self.space(), t, names)

@@ -16,9 +16,9 @@ use Rattle.ctf_model.specs.format.Term.{Enumerator, Term}
 use Rattle.ctf_model.specs.spaces.Space.{Space, space_type}
 use Rattle.ctf_model.specs.spaces.TypeNumbers.{or_no_type}
 use Rattle.ctf_model.specs.values.Values.{name_of_value}
-use Rattle.ctf_print.specs.Placing.{ArePlaces, AreKept, IsPlaceOf, enumerators_of, first_with, told_found, told_of}
+use Rattle.ctf_print.specs.Placing.{AreFirstByValue, AreKept, IsFirstOf, enumerators_of, first_with, told_found, shown_how}
 use Rattle.ctf_print.specs.Telling.{told_in}
-use Rattle.ctf_print.specs.declared.places.Places.{Places}
+use Rattle.ctf_print.specs.declared.places.FirstByValue.{FirstByValue}
 use Rattle.ctf_print.proofs.Names.{Says}
 
 from_here : (es : List Enumerator) (i : ℕ) (e : Enumerator) → slice_get es i ≡ Some e → drop i es ≡ e ∷ drop (suc i) es
@@ -129,11 +129,11 @@ no_place es value first = no_place_from es value 0 (sym first)
 pub none_in : (m : BTreeMap ℤ ℕ) → IsEmpty m → (v : ℤ) → get int_cmp m v ≡ None
 none_in m e v = rw e refl
 
-pub none_kept : (s : Space) (m : BTreeMap ℕ (Option Places)) → IsEmpty m → AreKept s m
+pub none_kept : (s : Space) (m : BTreeMap ℕ (Option FirstByValue)) → IsEmpty m → AreKept s m
 unfolding AreKept
 none_kept s m e q p is = absurd (no_places p ((rw e at is)))
   where
-    no_places : (x : Places) → None ≡ Some (Some x) → ⊥
+    no_places : (x : FirstByValue) → None ≡ Some (Some x) → ⊥
     no_places x h = absurd cc
 
 pub not_err : {A B : Type 0} (r : Result A B) (P : Type 0) → is_err r ≡ false → OnOk r P → P
@@ -150,22 +150,22 @@ same_key n q h = elim (cases_order n q) [
     apart : false ≡ true → ⊥
     apart f = absurd cc
 
-kept_case : (s : Space) (old new : BTreeMap ℕ (Option Places)) (n : ℕ) (w : Option Places) → AreKept s old → ((p : Places) → w ≡ Some p → (es : List Enumerator) → enumerators_of (told_of s n) ≡ Some es → ArePlaces es p)
-    → (q : ℕ) (p : Places) (t : Bool) → is_at (nat_cmp n) q ≡ t → cond t (Some w) (get nat_cmp old q) ≡ Some (Some p) → (es : List Enumerator) → enumerators_of (told_of s q) ≡ Some es → ArePlaces es p
+kept_case : (s : Space) (old new : BTreeMap ℕ (Option FirstByValue)) (n : ℕ) (w : Option FirstByValue) → AreKept s old → ((p : FirstByValue) → w ≡ Some p → (es : List Enumerator) → enumerators_of (shown_how s n) ≡ Some es → AreFirstByValue es p)
+    → (q : ℕ) (p : FirstByValue) (t : Bool) → is_at (nat_cmp n) q ≡ t → cond t (Some w) (get nat_cmp old q) ≡ Some (Some p) → (es : List Enumerator) → enumerators_of (shown_how s q) ≡ Some es → AreFirstByValue es p
 unfolding AreKept
-kept_case s old new n w kept right q p true same is es told = right p (same_Some _ _ is) es (ap (λ (k : ℕ). enumerators_of (told_of s k)) (same_key n q same) ∙ told)
+kept_case s old new n w kept right q p true same is es told = right p (same_Some _ _ is) es (ap (λ (k : ℕ). enumerators_of (shown_how s k)) (same_key n q same) ∙ told)
 kept_case s old new n w kept right q p false other is es told = kept q p is es told
 
-pub kept_more : {A B : Type 0} (s t : Space) (old new : BTreeMap ℕ (Option Places)) (n : ℕ) (w : Option Places) (r : Result A B) → s ≡ t → AreKept s old → OnOk r (Updates nat_cmp old new n (Some w)) → OnErr r (IsUnchanged old new)
-    → ((p : Places) → w ≡ Some p → (es : List Enumerator) → enumerators_of (told_of t n) ≡ Some es → ArePlaces es p) → AreKept s new
+pub kept_more : {A B : Type 0} (s t : Space) (old new : BTreeMap ℕ (Option FirstByValue)) (n : ℕ) (w : Option FirstByValue) (r : Result A B) → s ≡ t → AreKept s old → OnOk r (Updates nat_cmp old new n (Some w)) → OnErr r (IsUnchanged old new)
+    → ((p : FirstByValue) → w ≡ Some p → (es : List Enumerator) → enumerators_of (shown_how t n) ≡ Some es → AreFirstByValue es p) → AreKept s new
 unfolding AreKept
 kept_more s t old new n w (Ok x) e kept updates same right q p is es told =
-    kept_case s old new n w kept (λ x from xs h. right x from xs (ap (λ (y : Space). enumerators_of (told_of y n)) (sym e) ∙ h)) q p (is_at (nat_cmp n) q) refl (sym (updates.0 q) ∙ is) es told
+    kept_case s old new n w kept (λ x from xs h. right x from xs (ap (λ (y : Space). enumerators_of (shown_how y n)) (sym e) ∙ h)) q p (is_at (nat_cmp n) q) refl (sym (updates.0 q) ∙ is) es told
 kept_more s t old new n w (Err x) e kept updates same right q p is es told = kept q p (rw same at is) es told
 
-pub places_of : (s t : Space) (m : BTreeMap ℕ (Option Places)) (q : ℕ) (p : Places) (es : List Enumerator) → s ≡ t → AreKept s m → get nat_cmp m q ≡ Some (Some p) → enumerators_of (told_of t q) ≡ Some es → ArePlaces es p
+pub places_of : (s t : Space) (m : BTreeMap ℕ (Option FirstByValue)) (q : ℕ) (p : FirstByValue) (es : List Enumerator) → s ≡ t → AreKept s m → get nat_cmp m q ≡ Some (Some p) → enumerators_of (shown_how t q) ≡ Some es → AreFirstByValue es p
 unfolding AreKept
-places_of s t m q p es e kept is told = kept q p is es (ap (λ (y : Space). enumerators_of (told_of y q)) e ∙ told)
+places_of s t m q p es e kept is told = kept q p is es (ap (λ (y : Space). enumerators_of (shown_how y q)) e ∙ told)
 
 -- ---- how a type is shown
 
@@ -176,14 +176,14 @@ told_case None x r e is = absurd (nothing_there x is)
     nothing_there y h = absurd cc
 told_case (Some z) x r e is = ap told_found (sym e) ∙ ap told_in (same_Some _ _ is)
 
-pub told_is : (s : Space) (n : ℕ) (o : Option Term) (x : Shape) → or_no_type o ≡ space_type s n → option_map (λ z. shape z.body) o ≡ Some x → told_of s n ≡ told_in x
-unfolding told_of
+pub told_is : (s : Space) (n : ℕ) (o : Option Term) (x : Shape) → or_no_type o ≡ space_type s n → option_map (λ z. shape z.body) o ≡ Some x → shown_how s n ≡ told_in x
+unfolding shown_how
 told_is s n o x e is = told_case o x (space_type s n) e is
 
 -- ---- what was looked for last
 
-pub is_place_of : (s : Space) (n : ℕ) (value : ℤ) (place : Option ℕ) (es : List Enumerator) → enumerators_of (told_of s n) ≡ Some es → place ≡ first_with value 0 es → IsPlaceOf s n value place
-unfolding IsPlaceOf
+pub is_place_of : (s : Space) (n : ℕ) (value : ℤ) (place : Option ℕ) (es : List Enumerator) → enumerators_of (shown_how s n) ≡ Some es → place ≡ first_with value 0 es → IsFirstOf s n value place
+unfolding IsFirstOf
 is_place_of s n value place es told is others h =
     let same : es ≡ others = same_Some _ _ (sym told ∙ h) in
     is ∙ ap (first_with value 0) same

@@ -1,7 +1,7 @@
 -- What is found of the values of a type. The words are ours.
 use Rattle.std.specs.Prelude.{◌≡◌, ◌<◌, ℕ}
 use Rattle.ctf_print.specs.ImageView.{memory_of, shows, types_of}
-use Rattle.ctf_print.specs.Placing.{told_of}
+use Rattle.ctf_print.specs.Placing.{shown_how}
 use Rattle.ctf_print.specs.Telling.{told_shown}
 use Rattle.ctf_print.specs.ToldView.{told_view}
 use Rattle.ctf_print.specs.declared.found.Found.{Found}
@@ -9,7 +9,7 @@ use Rattle.ctf_print.specs.declared.image.Image.{Image}
 
 -- a record says how each value of the type n is shown, where no more than so many numbers follow
 pub record IsFound (image : Image) (nesting n : ℕ) (f : Found) : Type 0 where
-  pub told : told_of (types_of image) f.number.0 ≡ told_view f.how
+  pub told : shown_how (types_of image) f.number.0 ≡ told_view f.how
   pub fewer : f.nesting < nesting
   pub shown : (p : ℕ) → shows image nesting n p
       ≡ told_shown (types_of image) (memory_of image) (shows image f.nesting) p (told_view f.how)

@@ -7,7 +7,7 @@ use Rattle.ctf_model.specs.format.Shown.{shape}
 use Rattle.ctf_model.specs.format.Term.{Enumerator, Term}
 use Rattle.ctf_model.specs.spaces.Space.{Space, space_type}
 use Rattle.ctf_print.specs.Telling.{Told, enum, told_in, untold}
-use Rattle.ctf_print.specs.declared.places.Places.{Places}
+use Rattle.ctf_print.specs.declared.places.FirstByValue.{FirstByValue}
 
 -- the number of the first enumerator with a value, where these are counted from i on
 unfoldable pub first_with : ℤ → ℕ → List Enumerator → Option ℕ
@@ -15,29 +15,29 @@ first_with value i [] = None
 first_with value i (e ∷ es) = if int_eq e.value value then Some i else first_with value (suc i) es
 
 -- each value is known by its first enumerator
-unfoldable pub ArePlaces : List Enumerator → Places → Type 0
-ArePlaces es p = (value : ℤ) → get int_cmp p.first value ≡ first_with value 0 es
+unfoldable pub AreFirstByValue : List Enumerator → FirstByValue → Type 0
+AreFirstByValue es p = (value : ℤ) → get int_cmp p.first value ≡ first_with value 0 es
 
 -- how the type of a number is shown
 abbrev pub told_found : Result Term Fault → Told
 told_found (Ok x) = told_in (shape x.body)
 told_found (Err fault) = untold
 
-unfoldable pub told_of : Space → ℕ → Told
-told_of s n = told_found (space_type s n)
+unfoldable pub shown_how : Space → ℕ → Told
+shown_how s n = told_found (space_type s n)
 
 abbrev pub enumerators_of : Told → Option (List Enumerator)
 enumerators_of (enum said es) = Some es
 enumerators_of _ = None
 
 -- what is kept of an enum is right
-unfoldable pub AreKept : Space → BTreeMap ℕ (Option Places) → Type 0
+unfoldable pub AreKept : Space → BTreeMap ℕ (Option FirstByValue) → Type 0
 AreKept s m =
-    (q : ℕ) (p : Places) → get nat_cmp m q ≡ Some (Some p) → (es : List Enumerator)
-    → enumerators_of (told_of s q) ≡ Some es → ArePlaces es p
+    (q : ℕ) (p : FirstByValue) → get nat_cmp m q ≡ Some (Some p) → (es : List Enumerator)
+    → enumerators_of (shown_how s q) ≡ Some es → AreFirstByValue es p
 
 -- a value stands there first in the enum that a number names, if that names one
-unfoldable pub IsPlaceOf : Space → ℕ → ℤ → Option ℕ → Type 0
-IsPlaceOf s n value place =
-    (es : List Enumerator) → enumerators_of (told_of s n) ≡ Some es
+unfoldable pub IsFirstOf : Space → ℕ → ℤ → Option ℕ → Type 0
+IsFirstOf s n value place =
+    (es : List Enumerator) → enumerators_of (shown_how s n) ≡ Some es
     → place ≡ first_with value 0 es

@@ -2,7 +2,7 @@
 ghost use Rattle.std.specs.Prelude.{◌≡◌, ◌<◌, IfErr, OnOk, Ok};
 ghost use Rattle.ctf_model.specs.values.Pieces.{piece};
 ghost use Rattle.ctf_model.specs.values.Values.{enum_shown, name_of_value};
-ghost use Rattle.ctf_print.specs.Placing.{first_with, told_of};
+ghost use Rattle.ctf_print.specs.Placing.{first_with, shown_how};
 ghost use Rattle.ctf_print.specs.Telling as told;
 ghost use Rattle.ctf_print.specs.Telling.{said_size};
 ghost use Rattle.ctf_print.specs.Written.{Refused, written};
@@ -55,7 +55,7 @@ pub fn show_enum(
     known: &mut ShowCache<'_>,
     out: &mut Text,
 ) -> Result<(), Fault>
-    requires { told_of known.old number.0 ≡ told.enum said enumerators.now }
+    requires { shown_how known.old number.0 ≡ told.enum said enumerators.now }
     ensures ok { OnOk result (written out.old
         (enum_shown memory.now at (said_size said) enumerators.now) ≡ Ok out.new) }
     ensures err { IfErr result (Refused out.old

@@ -3,7 +3,7 @@ ghost use Rattle.std.specs.Prelude.{◌≡◌, ◌<◌, length, slice_get, List,
 ghost use Rattle.std.specs.Option.{option_map};
 ghost use Rattle.std.specs.Ordering.{int_eq};
 ghost use Rattle.ctf_model.specs.format.Term.{Enumerator};
-ghost use Rattle.ctf_print.specs.Placing.{ArePlaces, first_with};
+ghost use Rattle.ctf_print.specs.Placing.{AreFirstByValue, first_with};
 
 use ctf_views::Enumerators;
 use std::alloc::Global;
@@ -11,14 +11,14 @@ use std::collections::BTreeMap;
 
 /// The number of the first enumerator of each value.
 #[derive(Drop)]
-pub struct Places {
+pub struct FirstByValue {
     first: BTreeMap<i64, usize>,
 }
 
-impl Places {
+impl FirstByValue {
     /// Of the enumerators of an enum, each of which is read once; `None` where memory is refused.
-    pub fn of(alloc: Global, enumerators: &Enumerators<'_>) -> Option<Places>
-        ensures { IfSome result (λ p. ArePlaces enumerators.now p) }
+    pub fn of(alloc: Global, enumerators: &Enumerators<'_>) -> Option<FirstByValue>
+        ensures { IfSome result (λ p. AreFirstByValue enumerators.now p) }
     {
         let mut first = BTreeMap::new(alloc);
         let mut left = enumerators.len();
@@ -31,12 +31,13 @@ impl Places {
                 return None;
             }
         }
-        Some(Places { first })
+        Some(FirstByValue { first })
     }
 
     /// The number of the first enumerator with a value, from 0.
     pub fn first(&self, value: i64) -> Option<usize>
-        ensures { (es : List Enumerator) → ArePlaces es self.now → result ≡ first_with value 0 es }
+        ensures { (es : List Enumerator) → AreFirstByValue es self.now
+            → result ≡ first_with value 0 es }
     {
         self.first.get(&value).copied()
     }

@@ -3,11 +3,11 @@ ghost use Rattle.std.specs.Prelude.{◌≡◌, ◌≤◌, ℕ, List, IfSome, Som
 ghost use Rattle.ctf_model.specs.values.Values.{shown_within};
 ghost use Rattle.ctf_space.specs.SpaceView.{space_of};
 ghost use Rattle.ctf_model.specs.format.Term.{Enumerator};
-ghost use Rattle.ctf_print.specs.Placing.{ArePlaces, IsPlaceOf, enumerators_of, first_with, told_of};
+ghost use Rattle.ctf_print.specs.Placing.{AreFirstByValue, IsFirstOf, enumerators_of, first_with, shown_how};
 ghost use Rattle.ctf_print.specs.Standing.{StandsFor};
-ghost use Rattle.ctf_print.specs.declared.places.Places.{Places};
+ghost use Rattle.ctf_print.specs.declared.places.FirstByValue.{FirstByValue};
 
-use crate::places::{Places, first_of};
+use crate::places::{FirstByValue, first_of};
 use crate::telling::{Told, told_by};
 use ctf_model::TypeNum;
 use ctf_space::Space;
@@ -47,7 +47,7 @@ pub struct ShowCache<'a> {
     space: Space<'a>,
     alloc: Global,
     behind: BTreeMap<u16, Behind>,
-    places: BTreeMap<u16, Option<Places>>,
+    places: BTreeMap<u16, Option<FirstByValue>>,
     last: Option<Sought>,
 }
 
@@ -151,9 +151,9 @@ impl<'a> ShowCache<'a> {
 
     /// Keeps where the values of an enum stand, or that one was looked for. Without memory for it
     /// nothing is kept.
-    fn place(&mut self, number: TypeNum, places: Option<Places>)
-        requires { (p : Places) → places ≡ Some p → (es : List Enumerator)
-            → enumerators_of (told_of self.old number.0) ≡ Some es → ArePlaces es p }
+    fn place(&mut self, number: TypeNum, places: Option<FirstByValue>)
+        requires { (p : FirstByValue) → places ≡ Some p → (es : List Enumerator)
+            → enumerators_of (shown_how self.old number.0) ≡ Some es → AreFirstByValue es p }
         ensures { self.new ≡ self.old }
     {
         let _ = self.places.insert(number.0, places);
@@ -167,7 +167,7 @@ impl<'a> ShowCache<'a> {
         enumerators: &Enumerators<'_>,
         value: i64,
     ) -> Option<usize>
-        requires { enumerators_of (told_of self.old number.0) ≡ Some enumerators.now }
+        requires { enumerators_of (shown_how self.old number.0) ≡ Some enumerators.now }
         ensures first { result ≡ first_with value 0 enumerators.now }
         ensures kept { self.new ≡ self.old }
     {
@@ -180,14 +180,14 @@ impl<'a> ShowCache<'a> {
             }
         }
         let found = first_of(enumerators, value);
-        let places = Places::of(self.alloc, enumerators);
+        let places = FirstByValue::of(self.alloc, enumerators);
         self.place(number, places);
         found
     }
 
     /// Where a value stands, if it was looked for last.
     fn last_place(&self, number: TypeNum, value: i64) -> Option<Option<usize>>
-        ensures { IfSome result (IsPlaceOf self.now number.0 value) }
+        ensures { IfSome result (IsFirstOf self.now number.0 value) }
     {
         let last = self.last?;
         if last.number.0 == number.0 && last.value == value {
@@ -198,7 +198,7 @@ impl<'a> ShowCache<'a> {
     }
 
     fn keep_last(&mut self, number: TypeNum, value: i64, place: Option<usize>)
-        requires { IsPlaceOf self.old number.0 value place }
+        requires { IsFirstOf self.old number.0 value place }
         ensures { self.new ≡ self.old }
     {
         self.last = Some(Sought {
@@ -216,7 +216,7 @@ impl<'a> ShowCache<'a> {
         enumerators: &Enumerators<'_>,
         value: i64,
     ) -> Option<usize>
-        requires { enumerators_of (told_of self.old number.0) ≡ Some enumerators.now }
+        requires { enumerators_of (shown_how self.old number.0) ≡ Some enumerators.now }
         ensures first { result ≡ first_with value 0 enumerators.now }
         ensures kept { self.new ≡ self.old }
     {

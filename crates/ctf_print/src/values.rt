@@ -5,9 +5,9 @@ ghost use Rattle.ctf_model.specs.figures.Figures.{size as size_of};
 ghost use Rattle.ctf_model.specs.values.Pieces.{separated};
 ghost use Rattle.ctf_model.specs.spaces.Space.{pointer_size};
 ghost use Rattle.ctf_model.specs.values.Values.{array_shown, elements_shown, member_shown, members_shown};
-ghost use Rattle.ctf_views.specs.ItemsView.{member as member_seen};
+ghost use Rattle.ctf_views.specs.ItemsView.{member as member_view};
 ghost use Rattle.ctf_print.specs.ImageView.{memory_of, shows, types_of};
-ghost use Rattle.ctf_print.specs.Placing.{told_of};
+ghost use Rattle.ctf_print.specs.Placing.{shown_how};
 ghost use Rattle.ctf_print.specs.Telling.{told_shown};
 ghost use Rattle.ctf_print.specs.ToldView.{told_view};
 ghost use Rattle.ctf_print.specs.Written.{Refused, written};
@@ -106,9 +106,9 @@ fn show_member(
 ) -> Result<(), Fault>
     requires known { known.old ≡ types_of image.now }
     ensures ok { OnOk result (written out.old
-        (member_shown (shows image.now nesting) at (member_seen member.entry)) ≡ Ok out.new) }
+        (member_shown (shows image.now nesting) at (member_view member.entry)) ≡ Ok out.new) }
     ensures err { IfErr result (Refused out.old
-        (member_shown (shows image.now nesting) at (member_seen member.entry))) }
+        (member_shown (shows image.now nesting) at (member_view member.entry))) }
     ensures kept { known.new ≡ known.old }
 {
     out.put_label(member.name)?;
@@ -172,7 +172,7 @@ fn show_told(
     out: &mut Text,
 ) -> Result<(), Fault>
     requires known { known.old ≡ types_of image.now }
-    requires how { told_of (types_of image.now) found.now.number.0 ≡ told_view found.now.how }
+    requires how { shown_how (types_of image.now) found.now.number.0 ≡ told_view found.now.how }
     ensures ok { OnOk result (written out.old
         (told_shown (types_of image.now) (memory_of image.now) (shows image.now found.now.nesting)
         at (told_view found.now.how)) ≡ Ok out.new) }

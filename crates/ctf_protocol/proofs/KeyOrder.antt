@@ -5,7 +5,7 @@ use Rattle.std.specs.List.{list_all}
 use Rattle.std.specs.Cmp.Derive.{both_true}
 use Rattle.std.proofs.lemmas.List.{take-append-drop}
 use Rattle.std.proofs.lemmas.List.Folds.{list_all-append}
-use Rattle.ctf_model.specs.opened.Questions.{array_said, encoding_said, enumerators_said, members_said, signature_said}
+use Rattle.ctf_model.specs.opened.Questions.{array_answered, encoding_answered, enumerators_answered, members_answered, signature_answered}
 use Rattle.ctf_protocol.specs.sessions.Additions.{added, answered}
 use Rattle.ctf_protocol.specs.sessions.Creations.{Created}
 use Rattle.ctf_protocol.specs.sessions.DraftSteps.{created_slot, slot_step}
@@ -23,8 +23,8 @@ use Rattle.ctf_protocol.specs.answers.KeyOrder.{item_in_order, in_order, IsInOrd
 use Rattle.ctf_model.specs.spaces.Kept.{Kept}
 use Rattle.ctf_model.specs.figures.Paths.{path}
 use Rattle.ctf_protocol.specs.sessions.Publications.{published_as}
-use Rattle.ctf_protocol.specs.answers.Questions.{at_most, windowed, as_fields, member_fields, member_item, enumerator_fields, enumerator_item, number_item, argument_fields, array_fields, encoding_fields, signature_fields, type_fields, size_fields, align_fields, name_fields, position_fields, value_fields, plain_said, said_on, said_of}
-use Rattle.ctf_protocol.specs.answers.SlotAnswers.{symbol_fields, label_item, last_fields, whole_said}
+use Rattle.ctf_protocol.specs.answers.Questions.{at_most, windowed, as_fields, member_fields, member_item, enumerator_fields, enumerator_item, number_item, argument_fields, array_fields, encoding_fields, signature_fields, type_fields, size_fields, align_fields, name_fields, position_fields, value_fields, plain_answered, said_on, answer_of}
+use Rattle.ctf_protocol.specs.answers.SlotAnswers.{symbol_fields, label_item, last_fields, whole_answered}
 use Rattle.ctf_model.specs.symbols.SymbolQuestions.{symbol_found, object_of, function_of, label_of}
 use Rattle.ctf_model.specs.format.Shown.{Facts, facts, list_length, named_arguments}
 use Rattle.ctf_protocol.specs.sessions.Charges.{charge}
@@ -95,12 +95,12 @@ head k n r v (Some size) None (Some t) = refl
 head k n r v (Some size) (Some tag) None = refl
 head k n r v (Some size) (Some tag) (Some t) = refl
 
-on_plain : (question : PlainQuestion) (s : Space) (t : ℕ) (x : Facts) → IsInOrder (plain_said question s t x)
+on_plain : (question : PlainQuestion) (s : Space) (t : ℕ) (x : Facts) → IsInOrder (plain_answered question s t x)
 on_plain plain.Kind s t x = refl
 on_plain plain.Record s t x = head (word (name_of_kind x.shape.kind)) (text x.name) (truth x.root) (number (list_length x.shape.behind)) _ _ _
-on_plain plain.Args s t x = figure signature_fields (λ f. arguments_rise f.ret f.args) (signature_said x.shape)
-on_plain plain.Array s t x = figure array_fields (λ a. refl) (array_said x.shape)
-on_plain plain.Encoding s t x = figure encoding_fields (λ a. refl) (encoding_said x.shape)
+on_plain plain.Args s t x = figure signature_fields (λ f. arguments_rise f.ret f.args) (signature_answered x.shape)
+on_plain plain.Array s t x = figure array_fields (λ a. refl) (array_answered x.shape)
+on_plain plain.Encoding s t x = figure encoding_fields (λ a. refl) (encoding_answered x.shape)
 on_plain plain.Reference s t x = figure type_fields (λ n. refl) (referred x.shape)
 on_plain plain.Resolve s t x = figure type_fields (λ n. refl) (resolved s t)
 on_plain plain.Size s t x = figure size_fields (λ n. refl) (size s t)
@@ -110,16 +110,16 @@ on_plain plain.Pointer s t x = figure type_fields (λ n. refl) (pointer_to s t)
 
 on_type : (question : TypeQuestion) (s : Space) (t : ℕ) (x : Facts) → IsInOrder (said_on question s t x)
 on_type (ask.Plain question) s t x = on_plain question s t x
-on_type (ask.Members window) s t x = figure (member_fields window) (λ ms. listed (windowed window (map member_item ms)) true (in_window window (map member_item ms) (each member_item (λ m. refl) ms)) refl) (members_said x.shape)
-on_type (ask.Enumerators window) s t x = figure (enumerator_fields window) (λ es. listed (windowed window (map enumerator_item es)) true (in_window window (map enumerator_item es) (each enumerator_item (λ e. refl) es)) refl) (enumerators_said x.shape)
+on_type (ask.Members window) s t x = figure (member_fields window) (λ ms. listed (windowed window (map member_item ms)) true (in_window window (map member_item ms) (each member_item (λ m. refl) ms)) refl) (members_answered x.shape)
+on_type (ask.Enumerators window) s t x = figure (enumerator_fields window) (λ es. listed (windowed window (map enumerator_item es)) true (in_window window (map enumerator_item es) (each enumerator_item (λ e. refl) es)) refl) (enumerators_answered x.shape)
 on_type (ask.Path names) s t x = figure position_fields (λ at. refl) (path s t names)
 on_type (ask.Show memory offset) s t x = figure value_fields (λ shown. refl) (value_text s memory t offset)
 
-of_type : (question : TypeQuestion) (s : Space) (t : ℕ) (found : Result Term Fault) → IsInOrder (said_of question s t found)
+of_type : (question : TypeQuestion) (s : Space) (t : ℕ) (found : Result Term Fault) → IsInOrder (answer_of question s t found)
 of_type question s t (Ok x) = on_type question s t (facts x)
 of_type question s t (Err fault) = tt
 
-on_whole : (question : SlotQuestion) (s : Space) → IsInOrder (whole_said question s)
+on_whole : (question : SlotQuestion) (s : Space) → IsInOrder (whole_answered question s)
 on_whole (whole.Find written) s = figure type_fields (λ n. refl) (found s written)
 on_whole (whole.Symbol name) s = figure symbol_fields (λ e. refl) (symbol_found s.own name)
 on_whole (whole.Object n) s = figure type_fields (λ t. refl) (object_of s.own n)

@@ -16,7 +16,7 @@ use Rattle.ctf_model.specs.rules.Faults.{first_fault}
 use Rattle.ctf_model.specs.rules.Refusals.{placeless}
 use Rattle.ctf_model.specs.spaces.Kept.{Kept, fault_over, modelled_by}
 use Rattle.ctf_model.specs.spaces.Space.{Space, space_type}
-use Rattle.ctf_model.specs.symbols.SymbolQuestions.{function_in, function_of, label_of, last_of_label, object_in, object_of, signature_told, symbol_found, told_of, type_told, or_refused}
+use Rattle.ctf_model.specs.symbols.SymbolQuestions.{function_in, function_of, label_of, last_of_label, object_in, object_of, signature_of_function, symbol_found, told_of, type_of_object, or_refused}
 use Rattle.ctf_model.specs.symbols.Symbols.{Symbol, is_function, is_object}
 use Rattle.ctf_model.specs.values.Values.{value_text}
 use Rattle.ctf_model.specs.writing.Written.{written}
@@ -30,8 +30,8 @@ use Rattle.ctf_protocol.proofs.TableTexts.{lookup_good, name_good, pointer_good,
 use Rattle.ctf_protocol.specs.answers.Answers.{Answer}
 use Rattle.ctf_model.specs.opened.Open.{Open, pending_in}
 use Rattle.ctf_model.specs.opened.Steps.{Stepped, counted, created, discarded_if, dropped, enlarged_as, enlarged_if, import_refusal, settled_as, silent, updated, updated_if, updated_over}
-use Rattle.ctf_protocol.specs.answers.Questions.{align_fields, array_fields, as_fields, encoding_fields, enumerator_fields, member_fields, name_fields, plain_said, position_fields, said_of, said_on, signature_fields, size_fields, type_fields, type_said, value_fields}
-use Rattle.ctf_protocol.specs.answers.SlotAnswers.{last_fields, symbol_fields, whole_said}
+use Rattle.ctf_protocol.specs.answers.Questions.{align_fields, array_fields, as_fields, encoding_fields, enumerator_fields, member_fields, name_fields, plain_answered, position_fields, answer_of, said_on, signature_fields, size_fields, type_fields, type_answered, value_fields}
+use Rattle.ctf_protocol.specs.answers.SlotAnswers.{last_fields, symbol_fields, whole_answered}
 use Rattle.ctf_protocol.specs.lines.Ask.{ask, asked_by, json, or_bad_request, request_asked, value_asked}
 use Rattle.ctf_protocol.specs.sessions.Additions.{added}
 use Rattle.ctf_protocol.specs.sessions.Charges.{charge}
@@ -41,7 +41,7 @@ use Rattle.ctf_protocol.specs.sessions.Opened.{open_of, slot_made, slot_stepped}
 use Rattle.ctf_protocol.specs.sessions.Publications.{published_as}
 use Rattle.ctf_protocol.specs.sessions.RefusalLaws.{BadLinesAreInTheTable}
 use Rattle.ctf_protocol.specs.sessions.State.{Slot, State}
-use Rattle.ctf_protocol.specs.sessions.Steps.{Outcome, accepts_unless, adds_created, adds_slot, becomes_by, creates_from, creates_over, has_room, imports_into, imports_unless, longest_list, opens, opens_unless, publishes_slot, publishes_within, quota, said_by_slot, slot_at, slot_becomes, slot_said, slot_space, stages, takes, takes_found, updates_within, with_slot, withdraws, within_quota}
+use Rattle.ctf_protocol.specs.sessions.Steps.{Outcome, accepts_unless, adds_created, adds_slot, becomes_by, creates_from, creates_over, has_room, imports_into, imports_unless, longest_list, opens, opens_unless, publishes_slot, publishes_within, quota, said_by_slot, slot_at, slot_becomes, slot_answered, slot_space, stages, takes, takes_found, updates_within, with_slot, withdraws, within_quota}
 use Rattle.ctf_protocol.specs.declared.additions.Addition.{Addition}
 use Rattle.ctf_protocol.specs.declared.additions.Addition.TheVariants as add
 use Rattle.ctf_protocol.specs.declared.questions.PlainQuestion.{PlainQuestion}
@@ -67,7 +67,7 @@ kind_good : {A : Type 0} → (say : A → Answer) (o : Option A) → good (as_fi
 kind_good say None = refl
 kind_good say (Some a) = refl
 
-plain_good : (q : PlainQuestion) (s : Space) (t : ℕ) (x : Facts) → good (plain_said q s t x) ≡ true
+plain_good : (q : PlainQuestion) (s : Space) (t : ℕ) (x : Facts) → good (plain_answered q s t x) ≡ true
 plain_good plain.Kind s t x = refl
 plain_good plain.Record s t x = refl
 plain_good plain.Args s t x = kind_good signature_fields _
@@ -87,22 +87,22 @@ on_good (about.Enumerators window) s t x = kind_good (enumerator_fields window) 
 on_good (about.Path names) s t x = fields_good position_fields (path s t names) (path_good s t names)
 on_good (about.Show memory offset) s t x = fields_good value_fields (value_text s memory t offset) (value_good s memory t offset)
 
-of_good : (q : TypeQuestion) (s : Space) (t : ℕ) (r : Result Term Fault) → good r ≡ true → good (said_of q s t r) ≡ true
+of_good : (q : TypeQuestion) (s : Space) (t : ℕ) (r : Result Term Fault) → good r ≡ true → good (answer_of q s t r) ≡ true
 of_good q s t (Ok x) g = on_good q s t (facts x)
 of_good q s t (Err f) g = g
 
-type_asked : (q : TypeQuestion) (s : Space) (t : ℕ) → good (type_said q s t) ≡ true
+type_asked : (q : TypeQuestion) (s : Space) (t : ℕ) → good (type_answered q s t) ≡ true
 type_asked q s t = of_good q s t (space_type s t) (type_good s t)
 
 object_good : (d : Dictionary) (n : ℕ) (x : Option Symbol) → good (object_in d n x) ≡ true
 object_good d n None = refl
-object_good d n (Some x) = either (is_object x) (or_refused NO_INFO (type_told (told_of d.entries n))) (Err (placeless NOT_DATA)) (refused NO_INFO (type_told (told_of d.entries n)) refl) refl
+object_good d n (Some x) = either (is_object x) (or_refused NO_INFO (type_of_object (told_of d.entries n))) (Err (placeless NOT_DATA)) (refused NO_INFO (type_of_object (told_of d.entries n)) refl) refl
 
 function_good : (d : Dictionary) (n : ℕ) (x : Option Symbol) → good (function_in d n x) ≡ true
 function_good d n None = refl
-function_good d n (Some x) = either (is_function x) (or_refused NO_INFO (signature_told (told_of d.entries n))) (Err (placeless NOT_FUNCTION)) (refused NO_INFO (signature_told (told_of d.entries n)) refl) refl
+function_good d n (Some x) = either (is_function x) (or_refused NO_INFO (signature_of_function (told_of d.entries n))) (Err (placeless NOT_FUNCTION)) (refused NO_INFO (signature_of_function (told_of d.entries n)) refl) refl
 
-slot_asked : (q : SlotQuestion) (s : Space) → good (whole_said q s) ≡ true
+slot_asked : (q : SlotQuestion) (s : Space) → good (whole_answered q s) ≡ true
 slot_asked (whole.Find text) s = fields_good type_fields (found s text) (lookup_good s text)
 slot_asked (whole.Symbol name) s = fields_good symbol_fields (symbol_found s.own name) (refused NO_SYMBOL _ refl)
 slot_asked (whole.Object n) s = fields_good type_fields (object_of s.own n) (object_good s.own n (slice_get s.own.symbols n))
@@ -110,7 +110,7 @@ slot_asked (whole.Function n) s = fields_good signature_fields (function_of s.ow
 slot_asked (whole.Labels window) s = refl
 slot_asked (whole.Label name) s = fields_good last_fields (label_of s.own name) (refused NO_LABEL (last_of_label s.own.labels name) refl)
 
-in_slot : (q : Question) (slot : Slot) → good (slot_said q slot) ≡ true
+in_slot : (q : Question) (slot : Slot) → good (slot_answered q slot) ≡ true
 in_slot (OfType t q) slot = type_asked q (slot_space slot) t.0
 in_slot (OfSlot q) slot = slot_asked q (slot_space slot)
 in_slot (OfHeld q) slot = refl

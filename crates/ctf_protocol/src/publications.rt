@@ -55,13 +55,4 @@ impl PublicationName {
     {
         self.bytes.as_slice()
     }
-
-    /// A copy of the name.
-    pub fn copied(&self, alloc: Global) -> Result<PublicationName, AllocError>
-        ensures { IfOk result (λ n. n ≡ self.now) }
-    {
-        Ok(PublicationName {
-            bytes: Vec::from_slice(alloc, &self.bytes)?,
-        })
-    }
 }

@@ -16,8 +16,8 @@ fn is_end(bytes: &[u8], at: usize) -> bool
     }
 }
 
-/// Whether the text in front of the first zero byte is this one. It looks at the byte behind it, and
-/// then for a zero byte from behind: of texts that overlap it compares no more than one.
+/// Whether the text in front of the first zero byte is this one. It looks at the byte behind it,
+/// and then for a zero byte from behind: of texts that overlap it compares no more than one.
 fn begins_with(bytes: &[u8], text: &[u8]) -> bool
     ensures { result ≡ is_named text.now (text_in bytes.now) }
 {

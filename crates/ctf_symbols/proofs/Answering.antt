@@ -11,7 +11,7 @@ use Rattle.ctf_model.specs.symbols.Entries.{Told, Signature, entries, entries_of
 use Rattle.ctf_model.specs.format.Header.{section}
 use Rattle.ctf_model.specs.format.Lists.{Lists}
 use Rattle.ctf_model.specs.rules.Refusals.{placeless}
-use Rattle.ctf_model.specs.symbols.SymbolQuestions.{told_of, type_told, signature_told, or_refused, object_of, function_of, name_of_symbol}
+use Rattle.ctf_model.specs.symbols.SymbolQuestions.{told_of, type_of_object, signature_of_function, or_refused, object_of, function_of, name_of_symbol}
 use Rattle.ctf_model.specs.symbols.Symbols.{Symbol, symbol_of, symbols_in, symbols_of, symbols, considered, is_object, is_function}
 use Rattle.ctf_model.specs.declared.sections.Section.TheVariants.{SObjects, SFunctions}
 use Rattle.ctf_entries.proofs.Telling.{no_signature}
@@ -87,12 +87,12 @@ kept_of s k x sound at =
 nothing : (b : List ℕ) → length (last_bytes 0 b) ≡ 0
 nothing b = omega (arith, length-drop (length b - 0) b)
 
-pub object_kept : (o f : List ℕ) (x : Symbol) (left : ℕ) (said : Option Told) → IsKept o f x left said → is_object x ≡ true → type_in (last_bytes left o) ≡ type_told said
-object_kept o f x left said (inl h) is = sym (ap type_told h.0 ∙ (rw is refl))
+pub object_kept : (o f : List ℕ) (x : Symbol) (left : ℕ) (said : Option Told) → IsKept o f x left said → is_object x ≡ true → type_in (last_bytes left o) ≡ type_of_object said
+object_kept o f x left said (inl h) is = sym (ap type_of_object h.0 ∙ (rw is refl))
 object_kept o f x left said (inr h) is = let none : type_in (last_bytes 0 o) ≡ None = rw (nil_from_length _ (nothing o)) refl in rw (h.0, h.1) none
 
-pub function_kept : (o f : List ℕ) (x : Symbol) (left : ℕ) (said : Option Told) → IsKept o f x left said → is_object x ≡ false → signature_in (last_bytes left f) ≡ signature_told said
-function_kept o f x left said (inl h) is = sym (ap signature_told h.0 ∙ (rw is refl))
+pub function_kept : (o f : List ℕ) (x : Symbol) (left : ℕ) (said : Option Told) → IsKept o f x left said → is_object x ≡ false → signature_in (last_bytes left f) ≡ signature_of_function said
+function_kept o f x left said (inl h) is = sym (ap signature_of_function h.0 ∙ (rw is refl))
 function_kept o f x left said (inr h) is = rw (h.0, h.1) (no_signature (last_bytes 0 f) (nothing f))
 
 pub function_good : (o f : List ℕ) (x : Symbol) (left : ℕ) (said : Option Told) → IsKept o f x left said → is_object x ≡ false → is_bad_entry (last_bytes left f) ≡ false
@@ -109,7 +109,7 @@ pub object_other : (s : Lists) (k : ℕ) (x : Symbol) → slice_get (symbols s) 
 unfolding said_by
 object_other s k x e is = rw (e, is) refl
 
-pub object_said : (s : Lists) (k : ℕ) (x : Symbol) (o : Option ℕ) → slice_get (symbols s) k ≡ Some x → is_object x ≡ true → o ≡ type_told (told_of (entries s) k) → or_refused 37 o ≡ object_of (said_by s) k
+pub object_said : (s : Lists) (k : ℕ) (x : Symbol) (o : Option ℕ) → slice_get (symbols s) k ≡ Some x → is_object x ≡ true → o ≡ type_of_object (told_of (entries s) k) → or_refused 37 o ≡ object_of (said_by s) k
 unfolding said_by
 object_said s k x o e is t = rw (e, is, t) refl
 
@@ -121,7 +121,7 @@ pub function_other : (s : Lists) (k : ℕ) (x : Symbol) → slice_get (symbols s
 unfolding said_by
 function_other s k x e is = rw (e, is) refl
 
-pub function_said : (s : Lists) (k : ℕ) (x : Symbol) (o : Option Signature) → slice_get (symbols s) k ≡ Some x → is_function x ≡ true → o ≡ signature_told (told_of (entries s) k) → or_refused 37 o ≡ function_of (said_by s) k
+pub function_said : (s : Lists) (k : ℕ) (x : Symbol) (o : Option Signature) → slice_get (symbols s) k ≡ Some x → is_function x ≡ true → o ≡ signature_of_function (told_of (entries s) k) → or_refused 37 o ≡ function_of (said_by s) k
 unfolding said_by
 function_said s k x o e is t = rw (e, is, t) refl
 

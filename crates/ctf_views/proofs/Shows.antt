@@ -86,9 +86,9 @@ members_good t b rest bytes count k h r p = record {
   good = rw (p.size_is, p.count_is, r) (members_shown t b k h).0;
 }
 
-pub members_seen : (t : Tables) (b rest : List ℕ) (bytes count : ℕ) (xs : List Member) → (kind b ≡ Some KStruct) ⊎ (kind b ≡ Some KUnion) → IsSome (term_of t b) → rest ≡ behind_head b → MemberParts b rest bytes count
+pub members_view : (t : Tables) (b rest : List ℕ) (bytes count : ℕ) (xs : List Member) → (kind b ≡ Some KStruct) ⊎ (kind b ≡ Some KUnion) → IsSome (term_of t b) → rest ≡ behind_head b → MemberParts b rest bytes count
     → items (member_of bytes t) (member_len bytes) count rest ≡ Some xs → shown_by t b ≡ Some (show.members xs)
-members_seen t b rest bytes count xs k h r p e = (members_shown t b k h).1 ∙ ap (option_map show.members) (rw (p.size_is, p.count_is, r) at e)
+members_view t b rest bytes count xs k h r p e = (members_shown t b k h).1 ∙ ap (option_map show.members) (rw (p.size_is, p.count_is, r) at e)
 
 pub enumerators_good : (t : Tables) (b rest : List ℕ) (count : ℕ) → kind b ≡ Some KEnum → IsSome (term_of t b) → rest ≡ behind_head b → length rest ≡ len_behind b → count ≡ listed b → AreGood (enumerator_of t) 8 count rest
 enumerators_good t b rest count k h r l n =
@@ -99,29 +99,29 @@ enumerators_good t b rest count k h r l n =
       good = rw (many, r) (enumerators_shown t b k h).0;
     }
 
-pub enumerators_seen : (t : Tables) (b rest : List ℕ) (count : ℕ) (xs : List Enumerator) → kind b ≡ Some KEnum → IsSome (term_of t b) → rest ≡ behind_head b → count ≡ listed b
+pub enumerators_view : (t : Tables) (b rest : List ℕ) (count : ℕ) (xs : List Enumerator) → kind b ≡ Some KEnum → IsSome (term_of t b) → rest ≡ behind_head b → count ≡ listed b
     → items (enumerator_of t) 8 count rest ≡ Some xs → shown_by t b ≡ Some (show.enumerators xs)
-enumerators_seen t b rest count xs k h r n e =
+enumerators_view t b rest count xs k h r n e =
     let many : count ≡ vlen b = (rw k at n) in
     (enumerators_shown t b k h).1 ∙ ap (option_map show.enumerators) (rw (many, r) at e)
 
-pub arguments_seen : (t : Tables) (b rest : List ℕ) (count : ℕ) (xs : List ℕ) → kind b ≡ Some KFunction → IsSome (term_of t b) → rest ≡ behind_head b → count ≡ listed b
+pub arguments_view : (t : Tables) (b rest : List ℕ) (count : ℕ) (xs : List ℕ) → kind b ≡ Some KFunction → IsSome (term_of t b) → rest ≡ behind_head b → count ≡ listed b
     → items argument_of 2 count rest ≡ Some xs → shown_by t b ≡ Some (show.arguments xs)
-arguments_seen t b rest count xs k h r n e =
+arguments_view t b rest count xs k h r n e =
     let many : count ≡ vlen b = (rw k at n) in
     let here : items argument_of 2 (vlen b) (behind_head b) ≡ Some xs = (rw (many, r) at e) in
     (shown_at t b KFunction k h).1 ∙ rw here refl
 
 -- ---- what has no list
 
-pub array_seen : (t : Tables) (b rest : List ℕ) (p : ArrayParts) → kind b ≡ Some KArray → IsSome (term_of t b) → rest ≡ behind_head b → p ≡ array_in rest → shown_by t b ≡ Some (show.array p)
-array_seen t b rest p k h r e = (shown_at t b KArray k h).1 ∙ rw (e, r) refl
+pub array_view : (t : Tables) (b rest : List ℕ) (p : ArrayParts) → kind b ≡ Some KArray → IsSome (term_of t b) → rest ≡ behind_head b → p ≡ array_in rest → shown_by t b ≡ Some (show.array p)
+array_view t b rest p k h r e = (shown_at t b KArray k h).1 ∙ rw (e, r) refl
 
-pub encoding_seen : (t : Tables) (b rest : List ℕ) (p : EncodingParts) → (kind b ≡ Some KInteger) ⊎ (kind b ≡ Some KFloat) → IsSome (term_of t b) → rest ≡ behind_head b → p ≡ encoding_in rest → shown_by t b ≡ Some (show.encoding p)
-encoding_seen t b rest p k h r e = ⊎_elim (λ i. (shown_at t b KInteger i h).1 ∙ rw (e, r) refl) (λ f. (shown_at t b KFloat f h).1 ∙ rw (e, r) refl) k
+pub encoding_view : (t : Tables) (b rest : List ℕ) (p : EncodingParts) → (kind b ≡ Some KInteger) ⊎ (kind b ≡ Some KFloat) → IsSome (term_of t b) → rest ≡ behind_head b → p ≡ encoding_in rest → shown_by t b ≡ Some (show.encoding p)
+encoding_view t b rest p k h r e = ⊎_elim (λ i. (shown_at t b KInteger i h).1 ∙ rw (e, r) refl) (λ f. (shown_at t b KFloat f h).1 ∙ rw (e, r) refl) k
 
-pub tag_seen : (t : Tables) (b : List ℕ) (o : Option Tag) (x : Tag) → kind b ≡ Some KForward → IsSome (term_of t b) → option_map tag_of o ≡ declared_in b → o ≡ Some x → shown_by t b ≡ Some (show.tag (tag_of x))
-tag_seen t b o x k h d e =
+pub tag_view : (t : Tables) (b : List ℕ) (o : Option Tag) (x : Tag) → kind b ≡ Some KForward → IsSome (term_of t b) → option_map tag_of o ≡ declared_in b → o ≡ Some x → shown_by t b ≡ Some (show.tag (tag_of x))
+tag_view t b o x k h d e =
     let here : declared_in b ≡ Some (tag (field b)) = rw k refl in
     let same : tag_of x ≡ tag (field b) = same_Some _ _ (ap (option_map tag_of) (sym e) ∙ d ∙ here) in
     (shown_at t b KForward k h).1 ∙ rw (← same) refl

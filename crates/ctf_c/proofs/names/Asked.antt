@@ -7,7 +7,7 @@ use Rattle.ctf_model.specs.declared.faults.TheConstants.Fault.{WRONG_KIND}
 use Rattle.ctf_model.specs.format.Shown.{Shown, enumerators_in, shown}
 use Rattle.ctf_model.specs.format.Shown as show
 use Rattle.ctf_model.specs.format.Term.{Enumerator, Term}
-use Rattle.ctf_model.specs.opened.Questions.{said_of, shape_of}
+use Rattle.ctf_model.specs.opened.Questions.{on_shape, shape_of}
 use Rattle.ctf_model.specs.rules.Refusals.{placeless}
 use Rattle.ctf_model.specs.spaces.TypeNumbers.{or_no_type}
 use Rattle.ctf_model.specs.symbols.SymbolQuestions.{or_refused}
@@ -38,7 +38,7 @@ module _ (test : Enumerator → Bool) where
   unnamed (Some x) h = ap Some (unnamed_case (shown x.body) (same_Some _ _ h))
 
   -- what a type that was found answers is what is said of it
-  pub said_by : (o : Option Term) (r : Result Enumerator Fault) → option_map (λ (x : Term). passing (shown x.body)) o ≡ Some r → r ≡ said_of (λ s. passing s.behind) (shape_of (or_no_type o))
+  pub said_by : (o : Option Term) (r : Result Enumerator Fault) → option_map (λ (x : Term). passing (shown x.body)) o ≡ Some r → r ≡ on_shape (λ s. passing s.behind) (shape_of (or_no_type o))
   said_by None r h = absurd cc
   said_by (Some x) r h = sym (same_Some _ _ h)
 

@@ -7,7 +7,7 @@ use Rattle.ctf_model.specs.declared.faults.TheConstants.Fault.{WRONG_KIND}
 use Rattle.ctf_model.specs.format.Shown.{Shown, enumerators_in, members_in, shown}
 use Rattle.ctf_model.specs.format.Shown as show
 use Rattle.ctf_model.specs.format.Term.{Member, Term}
-use Rattle.ctf_model.specs.opened.Questions.{said_of, shape_of}
+use Rattle.ctf_model.specs.opened.Questions.{on_shape, shape_of}
 use Rattle.ctf_model.specs.rules.Refusals.{placeless}
 use Rattle.ctf_model.specs.spaces.TypeNumbers.{or_no_type}
 use Rattle.ctf_model.specs.symbols.SymbolQuestions.{or_refused}
@@ -16,7 +16,7 @@ use Rattle.ctf_c.specs.names.Names.{shown_names}
 
 module _ {A R : Type 0} (listed : Shown → Option (List A)) (Tells : A → R → Type 0) (from : ℕ) (old new : List R) (answer : Result ℕ Fault) where
   abbrev pub Into : Option Term → Type 0
-  Into o = FillsFrom Tells (said_of (λ x. or_refused WRONG_KIND (listed x.behind)) (shape_of (or_no_type o))) from answer old new
+  Into o = FillsFrom Tells (on_shape (λ x. or_refused WRONG_KIND (listed x.behind)) (shape_of (or_no_type o))) from answer old new
 
   of_list : (o : Option (List A)) (items : List A) → o ≡ Some items → answer ≡ Ok (length items) → Fills Tells items from old new → FillsFrom Tells (or_refused WRONG_KIND o) from answer old new
   of_list o items e a f = rw e (a, f)

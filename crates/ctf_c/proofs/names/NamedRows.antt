@@ -20,7 +20,7 @@ use Rattle.ctf_records.specs.RecordView.{bytes_of}
 use Rattle.ctf_records.specs.declared.record.Record.{Record}
 use Rattle.ctf_records.specs.ByKind.{listed, len_behind}
 use Rattle.ctf_views.proofs.Items.{row, items_in_is, items_in_by, items_in_length}
-use Rattle.ctf_views.proofs.Shows.{MemberParts, members_good, members_seen, enumerators_good, enumerators_seen, shown_at, shown_by}
+use Rattle.ctf_views.proofs.Shows.{MemberParts, members_good, members_view, enumerators_good, enumerators_view, shown_at, shown_by}
 use Rattle.ctf_views.specs.Lists.{AreGood, items_in}
 use Rattle.ctf_c.specs.names.Names.{name_at, shown_names}
 
@@ -88,7 +88,7 @@ enum_named t b rest count k h r l n =
     let es = items_in (enumerator_of t) 8 count rest in
     let is = items_in_is (enumerator_of t) 8 count rest good in
     let named = items_in_by (name_at t) 8 count rest _ (items_named t (enumerator_of t) (λ (e : Enumerator). e.name) (enumerator_names t) 8 count rest es is) in
-    names_by t b (show.enumerators es) (enumerators_seen t b rest count es k h r n is) ∙ ap (λ (names : List (List ℕ)). Some (Some names)) (sym named)
+    names_by t b (show.enumerators es) (enumerators_view t b rest count es k h r n is) ∙ ap (λ (names : List (List ℕ)). Some (Some names)) (sym named)
 
 pub struct_good : (t : Tables) (b rest : List ℕ) (bytes count : ℕ) → (kind b ≡ Some KStruct) ⊎ (kind b ≡ Some KUnion) → IsSome (term_of t b) → rest ≡ behind_head b → MemberParts b rest bytes count → AreGood (name_at t) (member_len bytes) count rest
 struct_good t b rest bytes count k h r p =
@@ -105,7 +105,7 @@ struct_named t b rest bytes count k h r p =
     let ms = items_in (member_of bytes t) (member_len bytes) count rest in
     let is = items_in_is (member_of bytes t) (member_len bytes) count rest good in
     let named = items_in_by (name_at t) (member_len bytes) count rest _ (items_named t (member_of bytes t) (λ (m : Member). m.name) (member_names bytes t) (member_len bytes) count rest ms is) in
-    names_by t b (show.members ms) (members_seen t b rest bytes count ms k h r p is) ∙ ap (λ (names : List (List ℕ)). Some (Some names)) (sym named)
+    names_by t b (show.members ms) (members_view t b rest bytes count ms k h r p is) ∙ ap (λ (names : List (List ℕ)). Some (Some names)) (sym named)
 
 -- types of other kinds have none
 pub none_named : (t : Tables) (b : List ℕ) (k : Kind) → kind b ≡ Some k → IsSome (term_of t b) → (k ≡ KStruct → ⊥) → (k ≡ KUnion → ⊥) → (k ≡ KEnum → ⊥)

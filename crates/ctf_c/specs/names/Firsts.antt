@@ -6,7 +6,7 @@ use Rattle.ctf_model.specs.declared.faults.Fault.{Fault}
 use Rattle.ctf_model.specs.declared.faults.TheConstants.Fault.{NO_MEMBER}
 use Rattle.ctf_model.specs.format.Shown.{Shape}
 use Rattle.ctf_model.specs.format.Term.{Enumerator}
-use Rattle.ctf_model.specs.opened.Questions.{enumerators_said}
+use Rattle.ctf_model.specs.opened.Questions.{enumerators_answered}
 use Rattle.ctf_model.specs.symbols.SymbolQuestions.{or_refused}
 
 -- of a list, if there is one
@@ -15,8 +15,8 @@ first_among test (Ok items) = or_refused NO_MEMBER (find test items)
 first_among test (Err fault) = Err fault
 
 -- the first enumerator that has a value, or a name
-abbrev pub valued_said : ℤ → Shape → Result Enumerator Fault
-valued_said value x = first_among (λ e. int_eq e.value value) (enumerators_said x)
+abbrev pub valued_answered : ℤ → Shape → Result Enumerator Fault
+valued_answered value x = first_among (λ e. int_eq e.value value) (enumerators_answered x)
 
-abbrev pub named_said : List ℕ → Shape → Result Enumerator Fault
-named_said name x = first_among (λ e. bytes_eq name e.name) (enumerators_said x)
+abbrev pub named_answered : List ℕ → Shape → Result Enumerator Fault
+named_answered name x = first_among (λ e. bytes_eq name e.name) (enumerators_answered x)

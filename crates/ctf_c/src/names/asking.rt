@@ -5,8 +5,8 @@ ghost use Rattle.ctf_check.specs.TypedView.{spelled};
 ghost use Rattle.ctf_model.specs.declared.faults.TheConstants.Fault.{NO_MEMBER};
 ghost use Rattle.ctf_model.specs.format.Shown.{shape};
 ghost use Rattle.ctf_model.specs.symbols.SymbolQuestions.{or_refused};
-ghost use Rattle.ctf_views.specs.ItemsView.{enumerator as enumerator_seen};
-ghost use Rattle.ctf_c.specs.names.Firsts.{named_said, valued_said};
+ghost use Rattle.ctf_views.specs.ItemsView.{enumerator as enumerator_view};
+ghost use Rattle.ctf_c.specs.names.Firsts.{named_answered, valued_answered};
 
 use crate::names::found::{first_named, first_valued, name_rows};
 use ctf_check::Typed;
@@ -15,8 +15,8 @@ use ctf_views::{Enumerator, Variant};
 
 /// What was found, if anything was.
 fn or_no_member(found: Option<Enumerator<'_>>) -> Result<Enumerator<'_>, Fault>
-    ensures { result_map_both enumerator_seen (λ f. f) result
-        ≡ or_refused NO_MEMBER (option_map enumerator_seen found.entry) }
+    ensures { result_map_both enumerator_view (λ f. f) result
+        ≡ or_refused NO_MEMBER (option_map enumerator_view found.entry) }
 {
     match found {
         Some(enumerator) => Ok(enumerator),
@@ -26,8 +26,8 @@ fn or_no_member(found: Option<Enumerator<'_>>) -> Result<Enumerator<'_>, Fault>
 
 /// The first enumerator with a value.
 pub fn with_value<'a>(found: &Typed<'a>, value: i32) -> Result<Enumerator<'a>, Fault>
-    ensures { option_map (λ x. valued_said value (shape x.body)) (spelled found.now)
-        ≡ Some (result_map_both enumerator_seen (λ f. f) result) }
+    ensures { option_map (λ x. valued_answered value (shape x.body)) (spelled found.now)
+        ≡ Some (result_map_both enumerator_view (λ f. f) result) }
 {
     match found.variant() {
         Variant::Enumerators(enumerators) => or_no_member(first_valued(&enumerators, value)),
@@ -37,8 +37,8 @@ pub fn with_value<'a>(found: &Typed<'a>, value: i32) -> Result<Enumerator<'a>, F
 
 /// The first enumerator with a name.
 pub fn with_name<'a>(found: &Typed<'a>, name: &[u8]) -> Result<Enumerator<'a>, Fault>
-    ensures { option_map (λ x. named_said name.now (shape x.body)) (spelled found.now)
-        ≡ Some (result_map_both enumerator_seen (λ f. f) result) }
+    ensures { option_map (λ x. named_answered name.now (shape x.body)) (spelled found.now)
+        ≡ Some (result_map_both enumerator_view (λ f. f) result) }
 {
     let Some(rows) = name_rows(found) else {
         return Err(placeless(Fault::WRONG_KIND));

@@ -4,12 +4,12 @@ ghost use Rattle.ctf_c.specs.names.Filling.{Fills, FillsFrom, TellsEnumerator, T
 ghost use Rattle.ctf_c.specs.names.NamesView.{names_in, tables_for};
 ghost use Rattle.ctf_check.specs.CheckedView.{lists_of, tables_of};
 ghost use Rattle.ctf_check.specs.TypedView.{dictionary_in, spelled};
-ghost use Rattle.ctf_model.specs.opened.Questions.{enumerators_said, members_said, said_of, shape_of};
+ghost use Rattle.ctf_model.specs.opened.Questions.{enumerators_answered, members_answered, on_shape, shape_of};
 ghost use Rattle.ctf_model.specs.spaces.TypeNumbers.{or_no_type};
 
 use crate::names::found::name_rows;
 use crate::names::named::NameRows;
-use crate::names::places::place_of;
+use crate::names::places::name_position;
 use crate::rows::{GivenEnumeratorRow, GivenMemberRow};
 use ctf_check::{Checked, Typed};
 use ctf_model::{Fault, placeless};
@@ -28,7 +28,7 @@ fn enumerator_row(
     ensures { IfSome (slice_get enumerators.now index)
         (λ e. TellsEnumerator (Some (lists_of dictionary.now)) e result) }
 {
-    let place = place_of(dictionary, names.reference(index));
+    let place = name_position(dictionary, names.reference(index));
     GivenEnumeratorRow {
         name_at: place.at,
         name_list: place.list,
@@ -49,7 +49,7 @@ fn member_row(
     ensures { IfSome (slice_get members.now index)
         (λ m. TellsMember (Some (lists_of dictionary.now)) m result) }
 {
-    let place = place_of(dictionary, names.reference(index));
+    let place = name_position(dictionary, names.reference(index));
     let member = members.get(index).unwrap();
     GivenMemberRow {
         offset: member.offset,
@@ -106,7 +106,7 @@ pub fn enumerators_into(
     rows: &mut [GivenEnumeratorRow],
 ) -> Result<u64, Fault>
     ensures { FillsFrom (TellsEnumerator (Some (lists_of (dictionary_in found.now))))
-        (said_of enumerators_said (shape_of (or_no_type (spelled found.now)))) from result
+        (on_shape enumerators_answered (shape_of (or_no_type (spelled found.now)))) from result
         rows.old rows.new }
 {
     let Some(names) = name_rows(found) else {
@@ -128,7 +128,7 @@ pub fn members_into(
     rows: &mut [GivenMemberRow],
 ) -> Result<u64, Fault>
     ensures { FillsFrom (TellsMember (Some (lists_of (dictionary_in found.now))))
-        (said_of members_said (shape_of (or_no_type (spelled found.now)))) from result
+        (on_shape members_answered (shape_of (or_no_type (spelled found.now)))) from result
         rows.old rows.new }
 {
     let Some(names) = name_rows(found) else {

@@ -4,7 +4,7 @@ ghost use Rattle.std.specs.Ordering.{int_eq};
 ghost use Rattle.ctf_check.specs.CheckedView.{tables_of};
 ghost use Rattle.ctf_check.specs.TypedView.{dictionary_in, spelled};
 ghost use Rattle.ctf_model.specs.format.Shown.{shown};
-ghost use Rattle.ctf_views.specs.ItemsView.{enumerator as enumerator_seen};
+ghost use Rattle.ctf_views.specs.ItemsView.{enumerator as enumerator_view};
 ghost use Rattle.ctf_c.specs.names.Names.{shown_names};
 ghost use Rattle.ctf_c.specs.names.NamesView.{names_in, tables_for};
 
@@ -42,7 +42,7 @@ pub fn first_named<'a>(
     name: &[u8],
 ) -> Option<Enumerator<'a>>
     requires { names_in rows.now ≡ map (λ e. e.name) enumerators.now }
-    ensures { option_map enumerator_seen result
+    ensures { option_map enumerator_view result
         ≡ find (λ e. bytes_eq name.now e.name) enumerators.now }
 {
     for index in 0..enumerators.len() {
@@ -55,7 +55,7 @@ pub fn first_named<'a>(
 
 /// The first enumerator with a value. No other name is read than its own.
 pub fn first_valued<'a>(enumerators: &Enumerators<'a>, value: i32) -> Option<Enumerator<'a>>
-    ensures { option_map enumerator_seen result
+    ensures { option_map enumerator_view result
         ≡ find (λ e. int_eq e.value value) enumerators.now }
 {
     for index in 0..enumerators.len() {

@@ -19,7 +19,7 @@ pub const NOWHERE: u32 = 2;
 
 /// Where a name stands: the number of a list, and how many bytes behind its beginning.
 #[derive(Clone, Copy)]
-pub struct Place {
+pub struct NamePosition {
     pub list: u32,
     pub at: u64,
 }
@@ -33,21 +33,21 @@ fn strings_begin(dictionary: &Checked<'_>) -> u64
 }
 
 /// Where the name of a reference stands.
-pub fn place_of(dictionary: &Checked<'_>, reference: u32) -> Place
+pub fn name_position(dictionary: &Checked<'_>, reference: u32) -> NamePosition
     ensures { (name : List ℕ) → named (tables_of dictionary.now) reference ≡ Some name
         → text_in (lists_of dictionary.now) result.list result.at ≡ Some name }
 {
     let at = u64::from(reference % 0x8000_0000);
     if at == 0 {
-        return Place { list: NOWHERE, at };
+        return NamePosition { list: NOWHERE, at };
     }
     if reference / 0x8000_0000 == 0 {
-        return Place {
+        return NamePosition {
             list: IN_CTF,
             at: strings_begin(dictionary) + at,
         };
     }
-    Place {
+    NamePosition {
         list: IN_STRINGS,
         at,
     }

@@ -28,66 +28,66 @@ shape_of (Ok x) = Ok (shape x.body)
 shape_of (Err fault) = Err fault
 
 -- what is said of it
-abbrev pub said_of : {A : Type 0} → (Shape → Result A Fault) → Result Shape Fault → Result A Fault
-said_of says (Ok x) = says x
-said_of says (Err fault) = Err fault
+abbrev pub on_shape : {A : Type 0} → (Shape → Result A Fault) → Result Shape Fault → Result A Fault
+on_shape says (Ok x) = says x
+on_shape says (Err fault) = Err fault
 
-abbrev pub kind_said : Shape → Result Kind Fault
-kind_said x = Ok x.kind
+abbrev pub kind_answered : Shape → Result Kind Fault
+kind_answered x = Ok x.kind
 
 -- whether look-ups see a type, if it is there
-abbrev pub root_said : Result Term Fault → Result Bool Fault
-root_said (Ok x) = Ok x.root
-root_said (Err fault) = Err fault
+abbrev pub root_answered : Result Term Fault → Result Bool Fault
+root_answered (Ok x) = Ok x.root
+root_answered (Err fault) = Err fault
 
 -- what it declares, if it is a forward
-abbrev pub tag_said : Shape → Result Tag Fault
-tag_said x = or_refused WRONG_KIND x.declares
+abbrev pub tag_answered : Shape → Result Tag Fault
+tag_answered x = or_refused WRONG_KIND x.declares
 
 -- how many members, enumerators or arguments it has
-abbrev pub length_said : Shape → Result ℕ Fault
-length_said x = Ok (list_length x.behind)
+abbrev pub length_answered : Shape → Result ℕ Fault
+length_answered x = Ok (list_length x.behind)
 
-abbrev pub encoding_said : Shape → Result EncodingParts Fault
-encoding_said x = or_refused WRONG_KIND (encoding_in x.behind)
+abbrev pub encoding_answered : Shape → Result EncodingParts Fault
+encoding_answered x = or_refused WRONG_KIND (encoding_in x.behind)
 
-abbrev pub array_said : Shape → Result ArrayParts Fault
-array_said x = or_refused WRONG_KIND (array_in x.behind)
+abbrev pub array_answered : Shape → Result ArrayParts Fault
+array_answered x = or_refused WRONG_KIND (array_in x.behind)
 
 -- what a function returns and takes
-abbrev pub signature_said : Shape → Result Signature Fault
-signature_said x = or_refused WRONG_KIND
+abbrev pub signature_answered : Shape → Result Signature Fault
+signature_answered x = or_refused WRONG_KIND
     (option_and_then (λ ret. option_map (λ args. record { ret = ret; args = args })
     (arguments_in x.behind)) x.reference)
 
-abbrev pub members_said : Shape → Result (List Member) Fault
-members_said x = or_refused WRONG_KIND (members_in x.behind)
+abbrev pub members_answered : Shape → Result (List Member) Fault
+members_answered x = or_refused WRONG_KIND (members_in x.behind)
 
-abbrev pub enumerators_said : Shape → Result (List Enumerator) Fault
-enumerators_said x = or_refused WRONG_KIND (enumerators_in x.behind)
+abbrev pub enumerators_answered : Shape → Result (List Enumerator) Fault
+enumerators_answered x = or_refused WRONG_KIND (enumerators_in x.behind)
 
 -- what is told of something that may not be
-abbrev pub told_of : {A B : Type 0} → (A → B) → Result A Fault → Result B Fault
-told_of told (Ok a) = Ok (told a)
-told_of told (Err fault) = Err fault
+abbrev pub answer_map : {A B : Type 0} → (A → B) → Result A Fault → Result B Fault
+answer_map told (Ok a) = Ok (told a)
+answer_map told (Err fault) = Err fault
 
 -- what a function returns
-abbrev pub return_said : Shape → Result ℕ Fault
-return_said x = told_of (λ f. f.ret) (signature_said x)
+abbrev pub return_answered : Shape → Result ℕ Fault
+return_answered x = answer_map (λ f. f.ret) (signature_answered x)
 
 -- an item of a list by its number, from 0, if there is such a list
 abbrev pub item_of : {A : Type 0} → ℕ → Result (List A) Fault → Result A Fault
 item_of index (Ok items) = or_refused NO_MEMBER (slice_get items index)
 item_of index (Err fault) = Err fault
 
-abbrev pub member_said : ℕ → Shape → Result Member Fault
-member_said index x = item_of index (members_said x)
+abbrev pub member_answered : ℕ → Shape → Result Member Fault
+member_answered index x = item_of index (members_answered x)
 
-abbrev pub enumerator_said : ℕ → Shape → Result Enumerator Fault
-enumerator_said index x = item_of index (enumerators_said x)
+abbrev pub enumerator_answered : ℕ → Shape → Result Enumerator Fault
+enumerator_answered index x = item_of index (enumerators_answered x)
 
-abbrev pub argument_said : ℕ → Shape → Result ℕ Fault
-argument_said index x = item_of index (or_refused WRONG_KIND (arguments_in x.behind))
+abbrev pub argument_answered : ℕ → Shape → Result ℕ Fault
+argument_answered index x = item_of index (or_refused WRONG_KIND (arguments_in x.behind))
 
 -- ---- what a type comes to
 
@@ -97,31 +97,31 @@ if_there said (Ok x) = said
 if_there said (Err fault) = Err fault
 
 -- in bytes
-abbrev pub size_said : Space → ℕ → Result ℕ Fault
-size_said s t = if_there (size s t) (space_type s t)
+abbrev pub size_answered : Space → ℕ → Result ℕ Fault
+size_answered s t = if_there (size s t) (space_type s t)
 
-abbrev pub align_said : Space → ℕ → Result ℕ Fault
-align_said s t = if_there (align s t) (space_type s t)
+abbrev pub align_answered : Space → ℕ → Result ℕ Fault
+align_answered s t = if_there (align s t) (space_type s t)
 
 -- the type that it stands for
-abbrev pub resolved_said : Space → ℕ → Result ℕ Fault
-resolved_said s t = if_there (resolved s t) (space_type s t)
+abbrev pub resolved_answered : Space → ℕ → Result ℕ Fault
+resolved_answered s t = if_there (resolved s t) (space_type s t)
 
 -- the least pointer to it, or to what it stands for
-abbrev pub pointer_said : Space → ℕ → Result ℕ Fault
-pointer_said s t = if_there (pointer_to s t) (space_type s t)
+abbrev pub pointer_answered : Space → ℕ → Result ℕ Fault
+pointer_answered s t = if_there (pointer_to s t) (space_type s t)
 
 -- as C spells it
-abbrev pub name_said : Space → ℕ → Result (List ℕ) Fault
-name_said s t = if_there (spelled_name s t) (space_type s t)
+abbrev pub name_answered : Space → ℕ → Result (List ℕ) Fault
+name_answered s t = if_there (spelled_name s t) (space_type s t)
 
 -- where the member of a member lies
-abbrev pub path_said : Space → List (List ℕ) → ℕ → Result Position Fault
-path_said s names t = if_there (path s t names) (space_type s t)
+abbrev pub path_answered : Space → List (List ℕ) → ℕ → Result Position Fault
+path_answered s names t = if_there (path s t names) (space_type s t)
 
 -- what a value of it shows, in memory and from a bit on
-abbrev pub value_said : Space → List ℕ → ℕ → ℕ → Result (List ℕ) Fault
-value_said s memory offset t = if_there (value_text s memory t offset) (space_type s t)
+abbrev pub value_answered : Space → List ℕ → ℕ → ℕ → Result (List ℕ) Fault
+value_answered s memory offset t = if_there (value_text s memory t offset) (space_type s t)
 
 -- ---- the dictionary as a whole
 
@@ -132,9 +132,9 @@ parent_types s = or_refused NO_PARENT (option_map (λ p. length (kept_dictionary
 -- ---- functions of a program
 
 -- one of the arguments that it names, from 0
-abbrev pub named_said : ℕ → Result Signature Fault → Result ℕ Fault
-named_said index (Ok f) = or_refused NO_MEMBER (slice_get (named_arguments f.args) index)
-named_said index (Err fault) = Err fault
+abbrev pub named_answered : ℕ → Result Signature Fault → Result ℕ Fault
+named_answered index (Ok f) = or_refused NO_MEMBER (slice_get (named_arguments f.args) index)
+named_answered index (Err fault) = Err fault
 
 -- ---- labels
 

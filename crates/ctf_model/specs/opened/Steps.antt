@@ -1,5 +1,6 @@
--- What is done to an open dictionary. Source: libctf(3LIB), ctf_import, ctf_create, ctf_add_type and
--- its kin, ctf_update, ctf_discard; that a draft's dictionary is what its last update wrote is ours.
+-- The steps of an open dictionary. Source: libctf(3LIB), ctf_import, ctf_create, ctf_add_type and
+-- its kin, ctf_update, ctf_discard; that a draft's dictionary is what its last update wrote
+-- is ours.
 use Rattle.std.specs.Prelude.{◌≡◌, ◌⊎◌, ℕ, List, length, is_some, Option, None, Some, Result, Ok, Err, if◌then◌else◌}
 use Rattle.std.specs.Option.{option_map}
 use Rattle.ctf_model.specs.drafts.Adders.{Added, add_enumerator, add_label, add_member, add_type}

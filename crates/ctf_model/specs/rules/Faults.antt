@@ -5,7 +5,7 @@ use Rattle.std.specs.Prelude.{ℕ, zero, suc, ◌+◌, ◌-◌, ◌/◌, ◌%◌
 use Rattle.std.specs.List.{list_any}
 use Rattle.ctf_model.specs.format.Bytes.{u16_at, u32_at}
 use Rattle.ctf_model.specs.rules.Chains.{by_value, declarator, edges, longest_chain, within}
-use Rattle.ctf_model.specs.symbols.Entries.{Entry, entries, function_sites, is_bad_entry, types_told}
+use Rattle.ctf_model.specs.symbols.Entries.{Entry, entries, function_sites, is_bad_entry, types_named}
 use Rattle.ctf_model.specs.format.Header.{Fields, fields, is_child, section}
 use Rattle.ctf_model.specs.format.Lists.{Lists, tables}
 use Rattle.ctf_model.specs.format.Name.{Tables, name}
@@ -202,7 +202,7 @@ bad_funcs s = first_where (λ site. is_bad_entry site.left) (λ site. site.numbe
 
 -- one of so many own types is told, and it is not there
 abbrev pub tells_missing : Bool → ℕ → Entry → Bool
-tells_missing child count e = list_any (is_missing child count) (types_told e.told)
+tells_missing child count e = list_any (is_missing child count) (types_named e.told)
 
 -- of a symbol a type is told that is not there
 unfoldable pub bad_symbol_type : Lists → Option ℕ

@@ -3,7 +3,7 @@
 use Rattle.std.specs.Prelude.{ℕ, ◌+◌, max, true, List, [], ◌∷◌, ◌++◌, if◌then◌else◌}
 use Rattle.std.specs.List.{flat_map}
 use Rattle.ctf_model.specs.format.Dictionary.{Dictionary}
-use Rattle.ctf_model.specs.symbols.Entries.{types_told}
+use Rattle.ctf_model.specs.symbols.Entries.{types_named}
 use Rattle.ctf_model.specs.rules.References.{references}
 use Rattle.ctf_model.specs.spaces.TypePlaces.{place}
 use Rattle.ctf_model.specs.declared.numbers.Place.{Place}
@@ -27,7 +27,7 @@ greatest_in_parent (n ∷ ns) = max (number_in_parent n) (greatest_in_parent ns)
 -- the types that the types of a dictionary name, and those that are told of its symbols
 abbrev pub named_by : Dictionary → List ℕ
 named_by d =
-    flat_map (λ x. references x.body) d.terms ++ flat_map (λ e. types_told e.told) d.entries
+    flat_map (λ x. references x.body) d.terms ++ flat_map (λ e. types_named e.told) d.entries
 
 -- the greatest number of a parent's type that a dictionary names; 0 where it is no child
 abbrev pub needed : Dictionary → ℕ

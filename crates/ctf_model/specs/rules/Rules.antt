@@ -3,7 +3,7 @@
 use Rattle.std.specs.Prelude.{◌≡◌, ◌≢◌, ◌<◌, ◌≤◌, ℕ, ◌+◌, ◌%◌, List, [], ◌∷◌, ◌++◌, length, slice_index, slice_index_or, Bool, false, None, Any, unwrap_or, ◌⊎◌}
 use Rattle.ctf_model.specs.format.Bytes.{u16_at, u32_at}
 use Rattle.ctf_model.specs.rules.Chains.{by_value, declarator, longest_chain, BeginsChain}
-use Rattle.ctf_model.specs.symbols.Entries.{Entry, AreEntries, entry_len, function_sites, is_silent, kind_number, types_told}
+use Rattle.ctf_model.specs.symbols.Entries.{Entry, AreEntries, entry_len, function_sites, is_silent, kind_number, types_named}
 use Rattle.ctf_model.specs.format.Header.{Fields, fields, is_child, section}
 use Rattle.ctf_model.specs.format.Lists.{Lists, tables}
 use Rattle.ctf_model.specs.format.Name.{Tables, name}
@@ -139,7 +139,7 @@ BadFuncs s place = Any (λ site. (site.number ≡ place) × IsBadEntry site.left
 
 -- one of so many own types is told, and it is not there
 abbrev pub TellsMissing : Bool → ℕ → Entry → Type 0
-TellsMissing child count e = Any (IsMissing child count) (types_told e.told)
+TellsMissing child count e = Any (IsMissing child count) (types_named e.told)
 
 -- among what is told of the considered symbols, the one with the place as
 -- its number is told such a type

@@ -32,12 +32,12 @@ pub record Entry : Type 0 where
 -- ---- the entry that begins some bytes, if they are not at their end
 
 -- the type of an object; 0 says nothing
-abbrev pub type_said : ℕ → Option ℕ
-type_said n = if n == 0 then None else Some n
+abbrev pub type_or_none : ℕ → Option ℕ
+type_or_none n = if n == 0 then None else Some n
 
 -- an object's entry is the number of its type
 abbrev pub type_in : List ℕ → Option ℕ
-type_in b = if nat_lt (length b) 2 then None else type_said (u16_at b 0)
+type_in b = if nat_lt (length b) 2 then None else type_or_none (u16_at b 0)
 
 -- a function's entry begins with its kind and the number of its arguments,
 -- packed as in a type record
@@ -94,9 +94,9 @@ abbrev pub AreFunctions : List ℕ → List (Option Signature) → Type 0
 AreFunctions b [] = Unit {0}
 AreFunctions b (f ∷ fs) = (f ≡ signature_in b) × AreFunctions (drop (entry_len b) b) fs
 
-abbrev pub class_told : Told → SymbolClass
-class_told (object t) = Object
-class_told (function f) = Function
+abbrev pub class_of_told : Told → SymbolClass
+class_of_told (object t) = Object
+class_of_told (function f) = Function
 
 -- whose entry it is
 pub record Owner : Type 0 where
@@ -105,7 +105,7 @@ pub record Owner : Type 0 where
   pub class : SymbolClass
 
 abbrev pub owner_of : Entry → Owner
-owner_of e = record { number = e.number; name = e.name; class = class_told e.told }
+owner_of e = record { number = e.number; name = e.name; class = class_of_told e.told }
 
 abbrev pub owner : ℕ × Symbol → Owner
 owner x = record { number = x.0; name = x.1.name; class = class_of x.1 }
@@ -150,8 +150,8 @@ unfoldable pub function_sites : Lists → List FunctionSite
 function_sites s = function_sites_of (considered (symbols s)) (section s.ctf SFunctions)
 
 -- the types that are named of a symbol
-abbrev pub types_told : Told → List ℕ
-types_told (object None) = []
-types_told (object (Some t)) = t ∷ []
-types_told (function None) = []
-types_told (function (Some f)) = f.ret ∷ f.args
+abbrev pub types_named : Told → List ℕ
+types_named (object None) = []
+types_named (object (Some t)) = t ∷ []
+types_named (function None) = []
+types_named (function (Some f)) = f.ret ∷ f.args

@@ -21,13 +21,13 @@ abbrev pub told_of : List Entry → ℕ → Option Told
 told_of [] n = None
 told_of (e ∷ es) n = if e.number == n then Some e.told else told_of es n
 
-abbrev pub type_told : Option Told → Option ℕ
-type_told (Some (told.object t)) = t
-type_told _ = None
+abbrev pub type_of_object : Option Told → Option ℕ
+type_of_object (Some (told.object t)) = t
+type_of_object _ = None
 
-abbrev pub signature_told : Option Told → Option Signature
-signature_told (Some (told.function f)) = f
-signature_told _ = None
+abbrev pub signature_of_function : Option Told → Option Signature
+signature_of_function (Some (told.function f)) = f
+signature_of_function _ = None
 
 -- the name of the symbol with a number
 abbrev pub name_of_symbol : Dictionary → ℕ → Result (List ℕ) Fault
@@ -38,7 +38,7 @@ name_of_symbol d n = or_refused NO_SYMBOL (option_map (λ x. x.name) (slice_get 
 abbrev pub object_in : Dictionary → ℕ → Option Symbol → Result ℕ Fault
 object_in d n None = Err (placeless NO_SYMBOL)
 object_in d n (Some x) =
-    if is_object x then or_refused NO_INFO (type_told (told_of d.entries n))
+    if is_object x then or_refused NO_INFO (type_of_object (told_of d.entries n))
     else Err (placeless NOT_DATA)
 
 abbrev pub object_of : Dictionary → ℕ → Result ℕ Fault
@@ -48,7 +48,7 @@ object_of d n = object_in d n (slice_get d.symbols n)
 abbrev pub function_in : Dictionary → ℕ → Option Symbol → Result Signature Fault
 function_in d n None = Err (placeless NO_SYMBOL)
 function_in d n (Some x) =
-    if is_function x then or_refused NO_INFO (signature_told (told_of d.entries n))
+    if is_function x then or_refused NO_INFO (signature_of_function (told_of d.entries n))
     else Err (placeless NOT_FUNCTION)
 
 abbrev pub function_of : Dictionary → ℕ → Result Signature Fault

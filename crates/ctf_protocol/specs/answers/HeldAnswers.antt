@@ -29,8 +29,8 @@ bytes_fields from count ctf =
 abbrev pub model_fields : DataModel → Answer
 model_fields model = says (codes "model") (word (name_of_model model)) ∷ []
 
-abbrev pub held_said : HeldQuestion → Open → Answer
-held_said held.Info o =
+abbrev pub held_answered : HeldQuestion → Open → Answer
+held_answered held.Info o =
     info_fields (own_in o) (is_some o.draft) (is_some o.parent) (pending_in o.draft)
-held_said held.Model o = model_fields o.own.model
-held_said (held.Bytes from count) o = bytes_fields from count o.own.lists.ctf
+held_answered held.Model o = model_fields o.own.model
+held_answered (held.Bytes from count) o = bytes_fields from count o.own.lists.ctf

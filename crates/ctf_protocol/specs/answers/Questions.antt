@@ -16,7 +16,7 @@ use Rattle.ctf_model.specs.values.Values.{value_text}
 use Rattle.ctf_model.specs.declared.faults.Fault.{Fault}
 use Rattle.ctf_model.specs.declared.kinds.Kind.{Kind}
 use Rattle.ctf_model.specs.symbols.Entries.{Signature}
-use Rattle.ctf_model.specs.opened.Questions.{array_said, encoding_said, enumerators_said, kind_said, members_said, signature_said}
+use Rattle.ctf_model.specs.opened.Questions.{array_answered, encoding_answered, enumerators_answered, kind_answered, members_answered, signature_answered}
 use Rattle.ctf_protocol.specs.declared.questions.PlainQuestion.{PlainQuestion}
 use Rattle.ctf_protocol.specs.declared.questions.PlainQuestion.TheVariants as plain
 use Rattle.ctf_protocol.specs.declared.questions.TypeQuestion.{TypeQuestion}
@@ -124,34 +124,34 @@ as_fields say (Ok a) = Ok (say a)
 
 -- each question that brings no more than the type, which a number names in a space,
 -- and which says this of itself
-abbrev pub plain_said : PlainQuestion → Space → ℕ → Facts → Result Answer Fault
-plain_said plain.Kind s t x = as_fields kind_fields (kind_said x.shape)
-plain_said plain.Record s t x = Ok (record_fields x)
-plain_said plain.Args s t x = as_fields signature_fields (signature_said x.shape)
-plain_said plain.Array s t x = as_fields array_fields (array_said x.shape)
-plain_said plain.Encoding s t x = as_fields encoding_fields (encoding_said x.shape)
-plain_said plain.Reference s t x = as_fields type_fields (referred x.shape)
-plain_said plain.Resolve s t x = as_fields type_fields (resolved s t)
-plain_said plain.Size s t x = as_fields size_fields (size s t)
-plain_said plain.Align s t x = as_fields align_fields (align s t)
-plain_said plain.Name s t x = as_fields name_fields (spelled_name s t)
-plain_said plain.Pointer s t x = as_fields type_fields (pointer_to s t)
+abbrev pub plain_answered : PlainQuestion → Space → ℕ → Facts → Result Answer Fault
+plain_answered plain.Kind s t x = as_fields kind_fields (kind_answered x.shape)
+plain_answered plain.Record s t x = Ok (record_fields x)
+plain_answered plain.Args s t x = as_fields signature_fields (signature_answered x.shape)
+plain_answered plain.Array s t x = as_fields array_fields (array_answered x.shape)
+plain_answered plain.Encoding s t x = as_fields encoding_fields (encoding_answered x.shape)
+plain_answered plain.Reference s t x = as_fields type_fields (referred x.shape)
+plain_answered plain.Resolve s t x = as_fields type_fields (resolved s t)
+plain_answered plain.Size s t x = as_fields size_fields (size s t)
+plain_answered plain.Align s t x = as_fields align_fields (align s t)
+plain_answered plain.Name s t x = as_fields name_fields (spelled_name s t)
+plain_answered plain.Pointer s t x = as_fields type_fields (pointer_to s t)
 
 -- each question on such a type
 abbrev pub said_on : TypeQuestion → Space → ℕ → Facts → Result Answer Fault
-said_on (ask.Plain question) s t x = plain_said question s t x
+said_on (ask.Plain question) s t x = plain_answered question s t x
 said_on (ask.Members window) s t x =
-    as_fields (member_fields window) (members_said x.shape)
+    as_fields (member_fields window) (members_answered x.shape)
 said_on (ask.Enumerators window) s t x =
-    as_fields (enumerator_fields window) (enumerators_said x.shape)
+    as_fields (enumerator_fields window) (enumerators_answered x.shape)
 said_on (ask.Path names) s t x = as_fields position_fields (path s t names)
 said_on (ask.Show memory offset) s t x = as_fields value_fields (value_text s memory t offset)
 
 -- the same where the number may name no type
-abbrev pub said_of : TypeQuestion → Space → ℕ → Result Term Fault → Result Answer Fault
-said_of question s t (Ok x) = said_on question s t (facts x)
-said_of question s t (Err fault) = Err fault
+abbrev pub answer_of : TypeQuestion → Space → ℕ → Result Term Fault → Result Answer Fault
+answer_of question s t (Ok x) = said_on question s t (facts x)
+answer_of question s t (Err fault) = Err fault
 
 -- what a question on the type of a number is answered
-abbrev pub type_said : TypeQuestion → Space → ℕ → Result Answer Fault
-type_said question s t = said_of question s t (space_type s t)
+abbrev pub type_answered : TypeQuestion → Space → ℕ → Result Answer Fault
+type_answered question s t = answer_of question s t (space_type s t)

@@ -36,10 +36,10 @@ last_fields last = says (codes "last") (number last) ∷ []
 -- ---- questions
 
 -- what a question on a slot is answered, from what the slot sees
-abbrev pub whole_said : SlotQuestion → Space → Result Answer Fault
-whole_said (whole.Find written) s = as_fields type_fields (found s written)
-whole_said (whole.Symbol name) s = as_fields symbol_fields (symbol_found s.own name)
-whole_said (whole.Object n) s = as_fields type_fields (object_of s.own n)
-whole_said (whole.Function n) s = as_fields signature_fields (function_of s.own n)
-whole_said (whole.Labels window) s = Ok (label_fields window s.own.labels)
-whole_said (whole.Label name) s = as_fields last_fields (label_of s.own name)
+abbrev pub whole_answered : SlotQuestion → Space → Result Answer Fault
+whole_answered (whole.Find written) s = as_fields type_fields (found s written)
+whole_answered (whole.Symbol name) s = as_fields symbol_fields (symbol_found s.own name)
+whole_answered (whole.Object n) s = as_fields type_fields (object_of s.own n)
+whole_answered (whole.Function n) s = as_fields signature_fields (function_of s.own n)
+whole_answered (whole.Labels window) s = Ok (label_fields window s.own.labels)
+whole_answered (whole.Label name) s = as_fields last_fields (label_of s.own name)

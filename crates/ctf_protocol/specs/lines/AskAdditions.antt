@@ -16,7 +16,7 @@ use Rattle.ctf_protocol.specs.declared.additions.NewKind.TheVariants as kind
 use Rattle.ctf_protocol.specs.declared.additions.NewScalar.{NewScalar}
 use Rattle.ctf_model.specs.declared.numbers.TypeNum.{TypeNum}
 use Rattle.ctf_protocol.specs.words.Words.{is_text}
-use Rattle.ctf_protocol.specs.lines.LineFields.{within, number_in, text_in, type_in, type_under, each_said, name_or_empty}
+use Rattle.ctf_protocol.specs.lines.LineFields.{within, number_in, text_in, type_in, type_under, each_read, name_or_empty}
 
 -- ---- new types
 
@@ -47,18 +47,18 @@ new_array_asked line =
     (type_under (codes "contents") line)
 
 -- the number that a value is, where it is that of a type
-abbrev pub type_said : Data → Option TypeNum
-type_said value =
+abbrev pub type_listed : Data → Option TypeNum
+type_listed value =
     option_map (λ t. record { 0 = t })
     (option_and_then (within 0 65535) (option_and_then as_u64 (as_number value)))
 
-abbrev pub types_said : Items → Option (List TypeNum)
-types_said values = each_said type_said values
+abbrev pub types_listed : Items → Option (List TypeNum)
+types_listed values = each_read type_listed values
 
 abbrev pub new_function_asked : Data → Option NewKind
 new_function_asked line =
     option_and_then (λ returned. option_map (λ args. kind.Function returned args)
-    (option_and_then types_said (option_and_then as_array (get (codes "args") line))))
+    (option_and_then types_listed (option_and_then as_array (get (codes "args") line))))
     (type_under (codes "type") line)
 
 -- what a forward declares

@@ -60,14 +60,14 @@ abbrev pub name_spelled : Data → Option (List ℕ)
 name_spelled value = option_and_then not_too_many (option_and_then bytes_spelled_by (as_str value))
 
 -- what the items of a list say, if each says something
-unfoldable pub each_said : {A : Type 0} → (Data → Option A) → Items → Option (List A)
-each_said says no_items = Some []
-each_said says (item value values) =
-    option_and_then (λ first. option_map (λ others. first ∷ others) (each_said says values))
+unfoldable pub each_read : {A : Type 0} → (Data → Option A) → Items → Option (List A)
+each_read says no_items = Some []
+each_read says (item value values) =
+    option_and_then (λ first. option_map (λ others. first ∷ others) (each_read says values))
     (says value)
 
 abbrev pub names_spelled : Items → Option (List (List ℕ))
-names_spelled values = each_said name_spelled values
+names_spelled values = each_read name_spelled values
 
 -- as many names as a request may bring
 abbrev pub not_too_many_names : List (List ℕ) → Option (List (List ℕ))

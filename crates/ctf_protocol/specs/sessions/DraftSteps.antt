@@ -21,7 +21,7 @@ unfoldable pub created_slot : ℕ → Option Kept → Created → Result Slot Fa
 created_slot number parent asked =
     slot_made number (created parent asked.parname asked.parlabel (model_made parent asked))
 
--- the step of the draft in a slot; after an update or a discard how many types there are is answered
+-- the step of the draft in a slot; an update and a discard answer how many types there are then
 unfoldable pub slot_step : DraftStep → Slot → SlotOutcome
 slot_step (Add addition) slot =
     slot_stepped (answered addition) slot (added addition (open_of slot))

@@ -7,7 +7,7 @@ use Rattle.ctf_model.specs.figures.Figures.{reference}
 use Rattle.ctf_model.specs.format.Shown.{Shape}
 use Rattle.ctf_model.specs.names.Found.{found}
 use Rattle.ctf_model.specs.opened.Open.{own_in, space_in}
-use Rattle.ctf_model.specs.opened.Questions.{align_said, array_said, encoding_said, enumerators_said, kind_said, members_said, name_said, path_said, pointer_said, resolved_said, said_of, shape_of, signature_said, size_said, value_said}
+use Rattle.ctf_model.specs.opened.Questions.{align_answered, array_answered, encoding_answered, enumerators_answered, kind_answered, members_answered, name_answered, path_answered, pointer_answered, resolved_answered, on_shape, shape_of, signature_answered, size_answered, value_answered}
 use Rattle.ctf_model.specs.opened.Steps.{created, dropped, enumerator_added, import_refusal, label_added, member_added, type_added, updated}
 use Rattle.ctf_model.specs.spaces.Kept.{Kept}
 use Rattle.ctf_model.specs.spaces.Space.{space_type}
@@ -20,7 +20,7 @@ use Rattle.ctf_protocol.specs.sessions.Creations.{Created}
 use Rattle.ctf_protocol.specs.sessions.DraftSteps.{created_slot, model_made, slot_step}
 use Rattle.ctf_protocol.specs.sessions.Opened.{open_of, slot_made, slot_stepped, under, unsaid}
 use Rattle.ctf_protocol.specs.sessions.State.{Slot, State}
-use Rattle.ctf_protocol.specs.sessions.Steps.{imports_into, imports_unless, slot_said}
+use Rattle.ctf_protocol.specs.sessions.Steps.{imports_into, imports_unless, slot_answered}
 use Rattle.ctf_protocol.specs.declared.additions.Addition.TheVariants as add
 use Rattle.ctf_protocol.specs.declared.additions.NewKind.{NewKind}
 use Rattle.ctf_protocol.specs.declared.questions.PlainQuestion.{PlainQuestion}
@@ -37,56 +37,56 @@ shape_in s t = shape_of (space_type (space_in (open_of s)) t.0)
 
 -- a word that brings no more than the number of a type
 abbrev pub of_type : PlainQuestion → TypeNum → Slot → Result Answer Fault
-of_type question t s = slot_said (OfType t (ask.Plain question)) s
+of_type question t s = slot_answered (OfType t (ask.Plain question)) s
 
 -- what a type says of itself
 pub record TypesAreAsked : Type 0 where
   pub kind : (s : Slot) (t : TypeNum) → of_type plain.Kind t s
-      ≡ as_fields kind_fields (said_of kind_said (shape_in s t))
+      ≡ as_fields kind_fields (on_shape kind_answered (shape_in s t))
   pub args : (s : Slot) (t : TypeNum) → of_type plain.Args t s
-      ≡ as_fields signature_fields (said_of signature_said (shape_in s t))
+      ≡ as_fields signature_fields (on_shape signature_answered (shape_in s t))
   pub array : (s : Slot) (t : TypeNum) → of_type plain.Array t s
-      ≡ as_fields array_fields (said_of array_said (shape_in s t))
+      ≡ as_fields array_fields (on_shape array_answered (shape_in s t))
   pub encoding : (s : Slot) (t : TypeNum) → of_type plain.Encoding t s
-      ≡ as_fields encoding_fields (said_of encoding_said (shape_in s t))
-  pub members : (s : Slot) (t : TypeNum) (w : Window) → slot_said (OfType t (ask.Members w)) s
-      ≡ as_fields (member_fields w) (said_of members_said (shape_in s t))
+      ≡ as_fields encoding_fields (on_shape encoding_answered (shape_in s t))
+  pub members : (s : Slot) (t : TypeNum) (w : Window) → slot_answered (OfType t (ask.Members w)) s
+      ≡ as_fields (member_fields w) (on_shape members_answered (shape_in s t))
   pub enumerators : (s : Slot) (t : TypeNum) (w : Window)
-      → slot_said (OfType t (ask.Enumerators w)) s
-      ≡ as_fields (enumerator_fields w) (said_of enumerators_said (shape_in s t))
+      → slot_answered (OfType t (ask.Enumerators w)) s
+      ≡ as_fields (enumerator_fields w) (on_shape enumerators_answered (shape_in s t))
 
 -- what a type comes to: of a number that names none, 0 among them, nothing is said
 pub record FiguresAreAsked : Type 0 where
   pub reference_is : (s : Slot) (t : TypeNum) → of_type plain.Reference t s
       ≡ as_fields type_fields (reference (space_in (open_of s)) t.0)
   pub resolve : (s : Slot) (t : TypeNum) → of_type plain.Resolve t s
-      ≡ as_fields type_fields (resolved_said (space_in (open_of s)) t.0)
+      ≡ as_fields type_fields (resolved_answered (space_in (open_of s)) t.0)
   pub size : (s : Slot) (t : TypeNum) → of_type plain.Size t s
-      ≡ as_fields size_fields (size_said (space_in (open_of s)) t.0)
+      ≡ as_fields size_fields (size_answered (space_in (open_of s)) t.0)
   pub align : (s : Slot) (t : TypeNum) → of_type plain.Align t s
-      ≡ as_fields align_fields (align_said (space_in (open_of s)) t.0)
+      ≡ as_fields align_fields (align_answered (space_in (open_of s)) t.0)
   pub name : (s : Slot) (t : TypeNum) → of_type plain.Name t s
-      ≡ as_fields name_fields (name_said (space_in (open_of s)) t.0)
+      ≡ as_fields name_fields (name_answered (space_in (open_of s)) t.0)
   pub pointer : (s : Slot) (t : TypeNum) → of_type plain.Pointer t s
-      ≡ as_fields type_fields (pointer_said (space_in (open_of s)) t.0)
+      ≡ as_fields type_fields (pointer_answered (space_in (open_of s)) t.0)
   pub path : (s : Slot) (t : TypeNum) (names : List (List ℕ))
-      → slot_said (OfType t (ask.Path names)) s
-      ≡ as_fields position_fields (path_said (space_in (open_of s)) names t.0)
+      → slot_answered (OfType t (ask.Path names)) s
+      ≡ as_fields position_fields (path_answered (space_in (open_of s)) names t.0)
   pub show : (s : Slot) (t : TypeNum) (memory : List ℕ) (offset : ℕ)
-      → slot_said (OfType t (ask.Show memory offset)) s
-      ≡ as_fields value_fields (value_said (space_in (open_of s)) memory offset t.0)
+      → slot_answered (OfType t (ask.Show memory offset)) s
+      ≡ as_fields value_fields (value_answered (space_in (open_of s)) memory offset t.0)
 
 -- look-ups, symbols and labels
 pub record WholesAreAsked : Type 0 where
-  pub find : (s : Slot) (text : List ℕ) → slot_said (OfSlot (whole.Find text)) s
+  pub find : (s : Slot) (text : List ℕ) → slot_answered (OfSlot (whole.Find text)) s
       ≡ as_fields type_fields (found (space_in (open_of s)) text)
-  pub symbol : (s : Slot) (name : List ℕ) → slot_said (OfSlot (whole.Symbol name)) s
+  pub symbol : (s : Slot) (name : List ℕ) → slot_answered (OfSlot (whole.Symbol name)) s
       ≡ as_fields symbol_fields (symbol_found (own_in (open_of s)) name)
-  pub object : (s : Slot) (n : ℕ) → slot_said (OfSlot (whole.Object n)) s
+  pub object : (s : Slot) (n : ℕ) → slot_answered (OfSlot (whole.Object n)) s
       ≡ as_fields type_fields (object_of (own_in (open_of s)) n)
-  pub function : (s : Slot) (n : ℕ) → slot_said (OfSlot (whole.Function n)) s
+  pub function : (s : Slot) (n : ℕ) → slot_answered (OfSlot (whole.Function n)) s
       ≡ as_fields signature_fields (function_of (own_in (open_of s)) n)
-  pub label : (s : Slot) (name : List ℕ) → slot_said (OfSlot (whole.Label name)) s
+  pub label : (s : Slot) (name : List ℕ) → slot_answered (OfSlot (whole.Label name)) s
       ≡ as_fields last_fields (label_of (own_in (open_of s)) name)
 
 -- steps of a draft, new drafts, and the refusals of an import

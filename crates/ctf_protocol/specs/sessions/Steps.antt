@@ -8,7 +8,7 @@ use Rattle.ctf_model.specs.format.Dictionary.{said_by}
 use Rattle.ctf_protocol.specs.sessions.DraftSteps.{created_slot, slot_step, slots_with}
 use Rattle.ctf_protocol.specs.sessions.Opened.{SlotOutcome, open_of}
 use Rattle.ctf_model.specs.rules.Faults.{first_fault}
-use Rattle.ctf_protocol.specs.answers.HeldAnswers.{held_said}
+use Rattle.ctf_protocol.specs.answers.HeldAnswers.{held_answered}
 use Rattle.ctf_model.specs.opened.Open.{pending_in, space_in}
 use Rattle.ctf_model.specs.opened.Steps.{import_refusal}
 use Rattle.ctf_model.specs.format.Lists.{Lists}
@@ -16,8 +16,8 @@ use Rattle.ctf_model.specs.spaces.Kept.{Kept}
 use Rattle.ctf_protocol.specs.sessions.Publications.{published_as, published_without}
 use Rattle.ctf_model.specs.rules.Refusals.{placeless, want_of_memory}
 use Rattle.ctf_protocol.specs.sessions.State.{State, Slot, empty_state, empty_stage}
-use Rattle.ctf_protocol.specs.answers.Questions.{type_said}
-use Rattle.ctf_protocol.specs.answers.SlotAnswers.{whole_said}
+use Rattle.ctf_protocol.specs.answers.Questions.{type_answered}
+use Rattle.ctf_protocol.specs.answers.SlotAnswers.{whole_answered}
 use Rattle.ctf_model.specs.spaces.Space.{Space}
 use Rattle.ctf_model.specs.declared.data_model.DataModel.{DataModel}
 use Rattle.ctf_model.specs.declared.faults.Fault.{Fault}
@@ -153,14 +153,14 @@ abbrev pub slot_space : Slot → Space
 slot_space slot = space_in (open_of slot)
 
 -- what a slot answers
-abbrev pub slot_said : Question → Slot → Result Answer Fault
-slot_said (OfType t question) slot = type_said question (slot_space slot) t.0
-slot_said (OfSlot question) slot = whole_said question (slot_space slot)
-slot_said (OfHeld question) slot = Ok (held_said question (open_of slot))
+abbrev pub slot_answered : Question → Slot → Result Answer Fault
+slot_answered (OfType t question) slot = type_answered question (slot_space slot) t.0
+slot_answered (OfSlot question) slot = whole_answered question (slot_space slot)
+slot_answered (OfHeld question) slot = Ok (held_answered question (open_of slot))
 
 abbrev pub said_by_slot : Question → Option Slot → Result Answer Fault
 said_by_slot question None = Err (placeless NO_SLOT)
-said_by_slot question (Some slot) = slot_said question slot
+said_by_slot question (Some slot) = slot_answered question slot
 
 -- what a question to a slot is answered
 abbrev pub answer_to : ℕ → Question → State → Result Answer Fault

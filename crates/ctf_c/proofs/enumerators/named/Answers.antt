@@ -1,9 +1,9 @@
 use Rattle.std.proofs.Common.{ap, ◌∙◌, bytes_eq}
 use Rattle.ctf_check.specs.TypedView.{spelled}
 use Rattle.ctf_c.proofs.names.Asked.{said_by}
-use Rattle.ctf_c.specs.names.Firsts.{named_said}
+use Rattle.ctf_c.specs.names.Firsts.{named_answered}
 use Rattle.ctf_model.specs.format.Term.{Enumerator}
-use Rattle.ctf_model.specs.opened.Questions.{said_of, shape_of}
+use Rattle.ctf_model.specs.opened.Questions.{on_shape, shape_of}
 use Rattle.ctf_model.specs.spaces.Space.{space_type}
 use Rattle.ctf_c.proofs.enumerators.named.Goals as goal
 
@@ -11,4 +11,4 @@ pub returns-in-Ok : goal.returns-in-Ok
 returns-in-Ok c =
     let name = c.args.name.now in
     said_by (λ (e : Enumerator). bytes_eq name e.name) (spelled c.in-Ok.found) _ c.with_name.ensures
-    ∙ (ap (λ r. said_of (named_said name) (shape_of r)) c.in-Ok.ensures ∙ ap (λ s. said_of (named_said name) (shape_of (space_type s c.args.t.0))) c.space.ensures.space)
+    ∙ (ap (λ r. on_shape (named_answered name) (shape_of r)) c.in-Ok.ensures ∙ ap (λ s. on_shape (named_answered name) (shape_of (space_type s c.args.t.0))) c.space.ensures.space)

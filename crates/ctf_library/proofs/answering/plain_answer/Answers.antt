@@ -5,7 +5,7 @@ use Rattle.ctf_model.specs.figures.Figures.{align, referred, resolved, size}
 use Rattle.ctf_model.specs.format.Shown.{kind_of, shape}
 use Rattle.ctf_model.specs.names.Found.{pointer_to}
 use Rattle.ctf_model.specs.names.KindNames.{name_of_kind}
-use Rattle.ctf_model.specs.opened.Questions.{array_said, encoding_said, signature_said}
+use Rattle.ctf_model.specs.opened.Questions.{array_answered, encoding_answered, signature_answered}
 use Rattle.ctf_protocol.specs.answers.Answers.{says, word}
 use Rattle.ctf_protocol.specs.answers.Questions.{align_fields, array_fields, as_fields, encoding_fields, signature_fields, size_fields, type_fields}
 use Rattle.ctf_protocol.specs.declared.questions.PlainQuestion.TheVariants as plain
@@ -21,13 +21,13 @@ pub returns-in-Record-clause-some : goal.returns-in-Record-clause-some
 returns-in-Record-clause-some c = rw c.in-Record.is (told_whole (about.Plain plain.Record) (space_of c.args.space.now) c.args.t.0 (spelled c.args.x.now) _ _ c.facts.ensures (ap (λ z. Ok z) c.record_of.ensures))
 
 pub returns-in-Args-clause-some : goal.returns-in-Args-clause-some
-returns-in-Args-clause-some c = rw c.in-Args.is (told (λ b. shape b) (λ z. as_fields signature_fields (signature_said z)) (about.Plain plain.Args) (space_of c.args.space.now) c.args.t.0 (spelled c.args.x.now) _ _ c.shape.ensures (c.signature_answer.ensures ∙ ap (as_fields signature_fields) c.signature_of.ensures) (λ x. refl))
+returns-in-Args-clause-some c = rw c.in-Args.is (told (λ b. shape b) (λ z. as_fields signature_fields (signature_answered z)) (about.Plain plain.Args) (space_of c.args.space.now) c.args.t.0 (spelled c.args.x.now) _ _ c.shape.ensures (c.signature_answer.ensures ∙ ap (as_fields signature_fields) c.signature_of.ensures) (λ x. refl))
 
 pub returns-in-Array-clause-some : goal.returns-in-Array-clause-some
-returns-in-Array-clause-some c = rw c.in-Array.is (told (λ b. shape b) (λ z. as_fields array_fields (array_said z)) (about.Plain plain.Array) (space_of c.args.space.now) c.args.t.0 (spelled c.args.x.now) _ _ c.shape-in-Array.ensures (c.array_answer.ensures ∙ ap (as_fields array_fields) c.array_of.ensures) (λ x. refl))
+returns-in-Array-clause-some c = rw c.in-Array.is (told (λ b. shape b) (λ z. as_fields array_fields (array_answered z)) (about.Plain plain.Array) (space_of c.args.space.now) c.args.t.0 (spelled c.args.x.now) _ _ c.shape-in-Array.ensures (c.array_answer.ensures ∙ ap (as_fields array_fields) c.array_of.ensures) (λ x. refl))
 
 pub returns-in-Encoding-clause-some : goal.returns-in-Encoding-clause-some
-returns-in-Encoding-clause-some c = rw c.in-Encoding.is (told (λ b. shape b) (λ z. as_fields encoding_fields (encoding_said z)) (about.Plain plain.Encoding) (space_of c.args.space.now) c.args.t.0 (spelled c.args.x.now) _ _ c.shape-in-Encoding.ensures (c.encoding_answer.ensures ∙ ap (as_fields encoding_fields) c.encoding_of.ensures) (λ x. refl))
+returns-in-Encoding-clause-some c = rw c.in-Encoding.is (told (λ b. shape b) (λ z. as_fields encoding_fields (encoding_answered z)) (about.Plain plain.Encoding) (space_of c.args.space.now) c.args.t.0 (spelled c.args.x.now) _ _ c.shape-in-Encoding.ensures (c.encoding_answer.ensures ∙ ap (as_fields encoding_fields) c.encoding_of.ensures) (λ x. refl))
 
 pub returns-in-Reference-clause-some : goal.returns-in-Reference-clause-some
 returns-in-Reference-clause-some c = rw c.in-Reference.is (told (λ b. shape b) (λ z. as_fields type_fields (referred z)) (about.Plain plain.Reference) (space_of c.args.space.now) c.args.t.0 (spelled c.args.x.now) _ _ c.shape-in-Reference.ensures (c.type_answer.ensures ∙ ap (as_fields type_fields) c.referred.ensures) (λ x. refl))

@@ -4,7 +4,7 @@ use Rattle.std.proofs.lemmas.Result.{err_from_is_err_and}
 use Rattle.ctf_model.specs.figures.Figures.{size as size_of}
 use Rattle.ctf_model.specs.values.Pieces.{piece, separated}
 use Rattle.ctf_model.specs.values.Values.{elements, elements_shown, label, member_shown}
-use Rattle.ctf_views.specs.ItemsView.{member as member_seen}
+use Rattle.ctf_views.specs.ItemsView.{member as member_view}
 use Rattle.ctf_print.specs.ImageView.{memory_of, shows, types_of}
 use Rattle.ctf_print.specs.Written.{written}
 use Rattle.ctf_print.proofs.Alike.{counted}
@@ -122,7 +122,7 @@ show_each_member-loop-i-init t c = record {
 }
 
 pub show_each_member-unwrap-requires : goal.show_each_member-unwrap-requires
-show_each_member-unwrap-requires t c = some_lent member_seen c.get.result c.args.members.now c.loop-i.i c.get.ensures (rw c.len-i-end.ensures.value at c.loop-i-test.true)
+show_each_member-unwrap-requires t c = some_lent member_view c.get.result c.args.members.now c.loop-i.i c.get.ensures (rw c.len-i-end.ensures.value at c.loop-i-test.true)
 
 pub show_each_member-returns-in_err-put_comma-clause-err : goal.show_each_member-returns-in_err-put_comma-clause-err
 show_each_member-returns-in_err-put_comma-clause-err t c =
@@ -134,14 +134,14 @@ show_each_member-returns-in_err-put_comma-clause-err t c =
 pub show_each_member-returns-in_err-show_member-clause-err : goal.show_each_member-returns-in_err-show_member-clause-err
 show_each_member-returns-in_err-show_member-clause-err t c =
     let p = err_from_is_err_and c.from_residual-in_err-show_member.result c.from_residual-in_err-show_member.ensures.1 in
-    let item = item_lent member_seen c.get.result c.unwrap.result _ c.get.ensures c.unwrap.ensures in
-    rw (p.1, p.2) (member_refused (member_shown (shows c.args.image.now c.args.nesting) c.args.at) c.args.members.now c.loop-i.i (member_seen c.unwrap.result) c.args.out.now c.loop-i.out c.put_comma.new.self _ _ item c.loop-i.invariant.rest c.in_ok-put_comma.ensures.ok c.in_err-show_member.ensures.err)
+    let item = item_lent member_view c.get.result c.unwrap.result _ c.get.ensures c.unwrap.ensures in
+    rw (p.1, p.2) (member_refused (member_shown (shows c.args.image.now c.args.nesting) c.args.at) c.args.members.now c.loop-i.i (member_view c.unwrap.result) c.args.out.now c.loop-i.out c.put_comma.new.self _ _ item c.loop-i.invariant.rest c.in_ok-put_comma.ensures.ok c.in_err-show_member.ensures.err)
 
 pub show_each_member-loop-i-preserved : goal.show_each_member-loop-i-preserved
 show_each_member-loop-i-preserved t c =
-    let item = item_lent member_seen c.get.result c.unwrap.result _ c.get.ensures c.unwrap.ensures in
+    let item = item_lent member_view c.get.result c.unwrap.result _ c.get.ensures c.unwrap.ensures in
     record {
-      rest = member_turn (member_shown (shows c.args.image.now c.args.nesting) c.args.at) c.args.members.now c.loop-i.i (member_seen c.unwrap.result) c.args.out.now c.loop-i.out c.put_comma.new.self c.show_member.new.out _ item c.loop-i.invariant.rest c.in_ok-put_comma.ensures.ok c.in_ok-show_member.ensures.ok;
+      rest = member_turn (member_shown (shows c.args.image.now c.args.nesting) c.args.at) c.args.members.now c.loop-i.i (member_view c.unwrap.result) c.args.out.now c.loop-i.out c.put_comma.new.self c.show_member.new.out _ item c.loop-i.invariant.rest c.in_ok-put_comma.ensures.ok c.in_ok-show_member.ensures.ok;
       known = c.show_member.ensures.kept ∙ c.loop-i.invariant.known;
     }
 

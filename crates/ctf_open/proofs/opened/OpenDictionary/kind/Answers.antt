@@ -1,5 +1,5 @@
 use Rattle.std.proofs.Common.{ap, ◌∙◌}
-use Rattle.ctf_model.specs.opened.Questions.{kind_said, said_of, shape_of}
+use Rattle.ctf_model.specs.opened.Questions.{kind_answered, on_shape, shape_of}
 use Rattle.ctf_check.specs.TypedView.{spelled}
 use Rattle.ctf_model.specs.spaces.Space.{space_type}
 use Rattle.ctf_open.proofs.ByShape.{kind_known}
@@ -8,4 +8,4 @@ use Rattle.ctf_open.proofs.opened.OpenDictionary.kind.Goals as goal
 pub returns-in-Ok : goal.returns-in-Ok
 returns-in-Ok c =
     kind_known (spelled c.in-Ok.found) c.kind.result c.kind.ensures
-    ∙ (ap (λ r. said_of kind_said (shape_of r)) c.in-Ok.ensures ∙ ap (λ s. said_of kind_said (shape_of (space_type s c.args.t.0))) c.space.ensures.space)
+    ∙ (ap (λ r. on_shape kind_answered (shape_of r)) c.in-Ok.ensures ∙ ap (λ s. on_shape kind_answered (shape_of (space_type s c.args.t.0))) c.space.ensures.space)

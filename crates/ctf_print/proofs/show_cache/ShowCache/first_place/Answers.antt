@@ -1,11 +1,11 @@
 use Rattle.std.proofs.Common.{w64}
 use Rattle.std.proofs.Math.Facts.{to_z-of_z}
-use Rattle.ctf_print.specs.Placing.{IsPlaceOf}
+use Rattle.ctf_print.specs.Placing.{IsFirstOf}
 use Rattle.ctf_print.proofs.Placings.{is_place_of}
 use Rattle.ctf_print.proofs.show_cache.ShowCache.first_place.Goals as goal
 
 pub returns-in-Some-clause-first : goal.returns-in-Some-clause-first
-unfolding IsPlaceOf
+unfolding IsFirstOf
 returns-in-Some-clause-first c =
     let same = to_z-of_z {w = w64} {z = c.args.value} c.ranges.value in
     rw same at (c.in-Some.ensures c.args.enumerators.now c.requires)

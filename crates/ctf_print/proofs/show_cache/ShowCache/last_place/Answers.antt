@@ -1,7 +1,7 @@
 use Rattle.std.proofs.Common.{◌∙◌, sym, ap, subst, rules, to_z, w64}
 use Rattle.std.proofs.Math.Facts.{to_z-of_z}
 use mir.Val.{SFits}
-use Rattle.ctf_print.specs.Placing.{IsPlaceOf}
+use Rattle.ctf_print.specs.Placing.{IsFirstOf}
 use Rattle.ctf_print.proofs.show_cache.ShowCache.last_place.Goals as goal
 
 pub returns-then-last-value : goal.returns-then-last-value
@@ -10,4 +10,4 @@ returns-then-last-value c =
     let there = c.self.invariant.sought last c.in_ok-last.was in
     let fits : SFits w64 last.value = search rules in
     let same = sym (to_z-of_z {w = w64} {z = last.value} fits) ∙ ap (to_z w64) c.if-last-value.true ∙ to_z-of_z {w = w64} {z = c.args.value} c.ranges.value in
-    subst (λ s. IsPlaceOf s c.args.number.0 c.args.value last.place) c.self.view_is (rw (c.if-last-number.true, same) at there)
+    subst (λ s. IsFirstOf s c.args.number.0 c.args.value last.place) c.self.view_is (rw (c.if-last-number.true, same) at there)

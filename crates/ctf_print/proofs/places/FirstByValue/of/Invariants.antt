@@ -2,7 +2,7 @@ use Rattle.std.proofs.Common.{◌≡◌, ◌≤◌, ℤ, length, drop}
 use Rattle.std.specs.BTreeMap.{get}
 use Rattle.std.specs.Ordering.{int_cmp}
 use Rattle.ctf_print.specs.Placing.{first_with}
-use Rattle.ctf_print.proofs.places.Places.of.Given as goal
+use Rattle.ctf_print.proofs.places.FirstByValue.of.Given as goal
 
 abbrev pub invariant-loop-left : goal.invariant-loop-left
 invariant-loop-left l = record {

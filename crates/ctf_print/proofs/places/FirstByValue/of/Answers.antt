@@ -4,9 +4,9 @@ use Rattle.std.proofs.lemmas.Bool.{lt-ltb}
 use Rattle.std.proofs.lemmas.Float.{T_from_true}
 use Rattle.std.specs.BTreeMap.{Updates}
 use Rattle.std.specs.Ordering.{int_cmp}
-use Rattle.ctf_print.specs.Placing.{ArePlaces}
+use Rattle.ctf_print.specs.Placing.{AreFirstByValue}
 use Rattle.ctf_print.proofs.Placings.{none_in, none_left, not_err, one_more}
-use Rattle.ctf_print.proofs.places.Places.of.Goals as goal
+use Rattle.ctf_print.proofs.places.FirstByValue.of.Goals as goal
 
 pub loop-left-init : goal.loop-left-init
 loop-left-init c =
@@ -27,7 +27,7 @@ loop-left-preserved c =
     }
 
 pub returns : goal.returns
-unfolding ArePlaces
+unfolding AreFirstByValue
 returns c =
     let none : c.loop-left.left ≡ 0 = omega (arith, c.loop-left-test.false) in
     λ v. rw none at (c.loop-left.invariant.known v)

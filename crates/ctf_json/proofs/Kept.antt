@@ -1,0 +1,150 @@
+-- What is kept of a value, and what is found in it.
+use Rattle.std.proofs.Common.{◌≡◌, ◌≢◌, ℕ, List, [], ◌∷◌, Bool, true, false, cond, Option, Some, None, option_map, option_and_then, bytes_eq, refl, sym, ap, ◌∙◌, subst}
+use Rattle.std.proofs.lemmas.Bool.{false≢true}
+use Rattle.std.proofs.lemmas.Slice.Eq.{bytes_eq-Decides}
+use Rattle.json.specs.Token.{Token}
+use Rattle.json.specs.Lex.{tokens}
+use Rattle.json.specs.Json as json
+use Rattle.json.specs.Find as found
+use Rattle.json.specs.Reads.{token_of}
+use Rattle.json.specs.declared.token.Token as given
+use Rattle.json.specs.declared.token.Token.TheVariants as token
+use Rattle.json.proofs.Grammar.{value_is}
+use Rattle.serde_json.specs.Read.{of_json, max_depth, read}
+use Rattle.serde_json.specs.Find.{get}
+use Rattle.ctf_json.specs.Told.{told, in_range, items_in_range, members_in_range, is_one_of, IsReadAt}
+use Rattle.ctf_json.specs.Passed.{passed, passed_value, members_at, kept_at, sifted}
+use Rattle.ctf_json.proofs.Telling.{when, of_json-told, get-told, read-told}
+use Rattle.ctf_json.proofs.Turns.{IsNone, chosen}
+
+-- ---- the members at keys
+
+later-none : (o : Option json.Json) → found.later_or o None ≡ o
+later-none None = refl
+later-none (Some j) = refl
+
+-- a key that isn't one of these isn't that which is
+other_key : (keys : List (List ℕ)) (k q : List ℕ) (b : Bool) → is_one_of k keys ≡ false → is_one_of q keys ≡ true → bytes_eq k q ≡ b → b ≡ false
+other_key keys k q false other one e = refl
+other_key keys k q true other one e =
+    let same : k ≡ q = (bytes_eq-Decides k q).0 e in
+    absurd (false≢true (sym other ∙ ap (λ x. is_one_of x keys) same ∙ one))
+
+module _ (keys : List (List ℕ)) (q : List ℕ) (one : is_one_of q keys ≡ true) where
+  found-member : (k : List ℕ) (j : json.Json) (ms kept : json.Members) (b : Bool) → is_one_of k keys ≡ b → found.get_member q kept ≡ found.get_member q ms
+      → found.get_member q (cond b (json.member k j kept) kept) ≡ found.get_member q (json.member k j ms)
+  found-member k j ms kept true e more = ap (λ o. found.later_or o (cond (bytes_eq k q) (Some j) None)) more
+  found-member k j ms kept false e more =
+      more ∙ sym (ap (λ b. found.later_or (found.get_member q ms) (cond b (Some j) None)) (other_key keys k q (bytes_eq k q) e one refl) ∙ later-none (found.get_member q ms))
+
+  found-members : (ms : json.Members) → found.get_member q (members_at keys ms) ≡ found.get_member q ms
+  found-members json.no_members = refl
+  found-members (json.member k j ms) = found-member k j ms (members_at keys ms) (is_one_of k keys) refl (found-members ms)
+
+  found-kept : (j : json.Json) → found.get q (kept_at keys j) ≡ found.get q j
+  found-kept json.null = refl
+  found-kept (json.boolean b) = refl
+  found-kept (json.number s) = refl
+  found-kept (json.string s) = refl
+  found-kept (json.array js) = refl
+  found-kept (json.object ms) = found-members ms
+
+  said-kept : (j : json.Json) → get q (told (kept_at keys j)) ≡ get q (told j)
+  said-kept j = sym (get-told q (kept_at keys j)) ∙ ap (option_map told) (found-kept j) ∙ get-told q j
+
+-- ---- an object, and what is none
+
+object_or_none : (b : Bool) (ms : json.Members) (ts : List Token) → cond b (Some (json.object ms, ts)) None ≡ json.parse_map json.object (cond b (Some (ms, ts)) None)
+object_or_none true ms ts = refl
+object_or_none false ms ts = refl
+
+pub kept-object : (keys : List (List ℕ)) (r : Option (json.Members × List Token))
+    → sifted in_range (kept_at keys) (json.parse_map json.object r) ≡ json.parse_map json.object (sifted members_in_range (members_at keys) r)
+kept-object keys None = refl
+kept-object keys (Some p) = object_or_none (members_in_range p.0) (members_at keys p.0) p.1
+
+null_or_none : (b : Bool) (ts r : List Token) → cond b (Some ts) None ≡ Some r → cond {A = Option (json.Json × List Token)} b (Some (json.null, ts)) None ≡ Some (json.null, r)
+null_or_none true ts r e = ap (λ x. Some (json.null, x)) (chosen true ts r e).1
+null_or_none false ts r e = absurd (subst IsNone e tt)
+
+null-array : (keys : List (List ℕ)) (r : Option (json.Items × List Token)) (rest : List Token)
+    → passed in_range (json.parse_map json.array r) ≡ Some rest → sifted in_range (kept_at keys) (json.parse_map json.array r) ≡ Some (json.null, rest)
+null-array keys None rest e = absurd (subst IsNone e tt)
+null-array keys (Some p) rest e = null_or_none (items_in_range p.0) p.1 rest e
+
+module _ (keys : List (List ℕ)) (a : json.Parse json.Items) (o : json.Parse json.Members) where
+  null-with : (t : given.Token) (ts rest : List Token) → t ≢ token.BeginObject → passed in_range (json.value_with a o (token_of t ∷ ts)) ≡ Some rest
+      → sifted in_range (kept_at keys) (json.value_with a o (token_of t ∷ ts)) ≡ Some (json.null, rest)
+  null-with token.BeginObject ts rest ne e = absurd (ne refl)
+  null-with token.EndObject ts rest ne e = absurd (subst IsNone e tt)
+  null-with token.BeginArray ts rest ne e = null-array keys (a ts) rest e
+  null-with token.EndArray ts rest ne e = absurd (subst IsNone e tt)
+  null-with (token.Key s) ts rest ne e = absurd (subst IsNone e tt)
+  null-with (token.String s) ts rest ne e = null_or_none true ts rest e
+  null-with (token.Number s) ts rest ne e = null_or_none (in_range (json.number s.now)) ts rest e
+  null-with (token.Bool b) ts rest ne e = null_or_none true ts rest e
+  null-with token.Null ts rest ne e = null_or_none true ts rest e
+  null-with token.Bad ts rest ne e = absurd (subst IsNone e tt)
+
+pub kept-null : (keys : List (List ℕ)) (depth : ℕ) (t : given.Token) (ts rest : List Token) → t ≢ token.BeginObject → passed_value depth (token_of t ∷ ts) ≡ Some rest
+    → sifted in_range (kept_at keys) (json.value depth (token_of t ∷ ts)) ≡ Some (json.null, rest)
+kept-null keys depth t ts rest ne e =
+    let is = value_is depth (token_of t ∷ ts) in
+    ap (sifted in_range (kept_at keys)) is ∙ null-with keys _ _ t ts rest ne (sym (ap (passed in_range) is) ∙ e)
+
+-- ---- the whole text
+
+last_refused : (j : json.Json) (rest : List Token) → in_range j ≡ false → option_and_then of_json (json.if_last j rest) ≡ None
+last_refused j [] e = of_json-told j ∙ ap (λ b. when b (told j)) e
+last_refused j (t ∷ ts) e = refl
+
+not_good : (b : Bool) (ts : List Token) → cond b (Some ts) None ≡ None → b ≡ false
+not_good true ts e = absurd (subst IsNone (sym e) tt)
+not_good false ts e = refl
+
+refused_by : (o : Option (json.Json × List Token)) → passed in_range o ≡ None → option_and_then of_json (option_and_then (λ p. json.if_last p.0 p.1) o) ≡ None
+refused_by None e = refl
+refused_by (Some p) e = last_refused p.0 p.1 (not_good (in_range p.0) p.1 e)
+
+pub read-refused : (text : List ℕ) → passed_value max_depth (tokens text) ≡ None → read text ≡ None
+read-refused text e = refused_by (json.value max_depth (tokens text)) e
+
+abbrev first_or : json.Json → Option (json.Json × List Token) → json.Json
+first_or j None = j
+first_or j (Some p) = p.0
+
+abbrev rest_or : List Token → Option (json.Json × List Token) → List Token
+rest_or ts None = ts
+rest_or ts (Some p) = p.1
+
+-- what was sifted
+pub record Sifted (keys : List (List ℕ)) (o : Option (json.Json × List Token)) (part : json.Json) (rest : List Token) : Type 0 where
+  pub whole : json.Json
+  pub is : o ≡ Some (whole, rest)
+  pub good : in_range whole ≡ true
+  pub kept : kept_at keys whole ≡ part
+
+sifted_by : (keys : List (List ℕ)) (j : json.Json) (ts : List Token) (part : json.Json) (rest : List Token) (b : Bool) → in_range j ≡ b
+    → cond {A = Option (json.Json × List Token)} b (Some (kept_at keys j, ts)) None ≡ Some (part, rest) → Sifted keys (Some (j, ts)) part rest
+sifted_by keys j ts part rest false e is = absurd (subst IsNone is tt)
+sifted_by keys j ts part rest true e is = record {
+  whole = j;
+  is = ap (λ o. Some (j, rest_or ts o)) is;
+  good = e;
+  kept = ap (first_or part) is;
+}
+
+sifted-some : (keys : List (List ℕ)) (o : Option (json.Json × List Token)) (part : json.Json) (rest : List Token) → sifted in_range (kept_at keys) o ≡ Some (part, rest) → Sifted keys o part rest
+sifted-some keys None part rest e = absurd (subst IsNone e tt)
+sifted-some keys (Some p) part rest e = sifted_by keys p.0 p.1 part rest (in_range p.0) refl e
+
+-- what is kept of a text that is one value has what the text has at these keys
+pub read-kept : (keys : List (List ℕ)) (text : List ℕ) (part : json.Json) (rest : List Token)
+    → sifted in_range (kept_at keys) (json.value max_depth (tokens text)) ≡ Some (part, rest) → rest ≡ [] → IsReadAt keys text (told part)
+read-kept keys text part rest e last =
+    let s = sifted-some keys (json.value max_depth (tokens text)) part rest e in
+    record {
+      whole = told s.whole;
+      is = read-told text s.whole rest true s.is last (sym s.good);
+      same = λ q one. ap (λ j. get q (told j)) (sym s.kept) ∙ said-kept keys q one s.whole;
+    }

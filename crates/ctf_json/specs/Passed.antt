@@ -1,0 +1,38 @@
+-- What is left behind a value whose numbers all have a value. Only private clauses cite it.
+use Rattle.std.specs.Prelude.{ℕ, Bool, List, length, cond, Option, Some, None, option_and_then}
+use Rattle.json.specs.Token.{Token}
+use Rattle.json.specs.Json.{Json, null, boolean, number, string, array, object, Members, no_members, member, items, members, value}
+use Rattle.ctf_json.specs.Told.{in_range, items_in_range, members_in_range, is_one_of}
+
+-- what is left behind what was read, where that is good
+abbrev pub passed : {A : Type 0} → (A → Bool) → Option (A × List Token) → Option (List Token)
+passed good read = option_and_then (λ p. cond (good p.0) (Some p.1) None) read
+
+abbrev pub passed_value : ℕ → List Token → Option (List Token)
+passed_value depth ts = passed in_range (value depth ts)
+
+abbrev pub passed_items : ℕ → List Token → Option (List Token)
+passed_items depth ts = passed items_in_range (items (value depth) (length ts) ts)
+
+abbrev pub passed_members : ℕ → List Token → Option (List Token)
+passed_members depth ts = passed members_in_range (members (value depth) (length ts) ts)
+
+-- the members at these keys
+abbrev pub members_at : List (List ℕ) → Members → Members
+members_at keys no_members = no_members
+members_at keys (member k j ms) =
+    cond (is_one_of k keys) (member k j (members_at keys ms)) (members_at keys ms)
+
+-- those of an object, which is all that is kept of a value
+abbrev pub kept_at : List (List ℕ) → Json → Json
+kept_at keys null = null
+kept_at keys (boolean b) = null
+kept_at keys (number s) = null
+kept_at keys (string s) = null
+kept_at keys (array js) = null
+kept_at keys (object ms) = object (members_at keys ms)
+
+-- what was read, under f, where it is good
+abbrev pub sifted : {A : Type 0} → (A → Bool) → (A → A) → Option (A × List Token)
+    → Option (A × List Token)
+sifted good f read = option_and_then (λ p. cond (good p.0) (Some (f p.0, p.1)) None) read

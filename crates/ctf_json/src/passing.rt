@@ -1,0 +1,82 @@
+//! Passes values that no one asks for, and builds nothing.
+ghost use Rattle.std.specs.Prelude.{◌≡◌, ◌<◌, ◌≤◌, ◌∷◌, None, Some, MatchResult, OnOk, length};
+ghost use Rattle.json.specs.Reads.{token_of};
+ghost use Rattle.ctf_json.specs.Passed.{passed_items, passed_members, passed_value};
+
+use crate::numbers::has_value;
+use json::{Invalid, Reader, Token};
+
+/// Passes a value. Invalid if there is none whose arrays and objects nest no deeper than `depth`,
+/// or if one of its numbers has no value.
+#[cycle(pass)]
+#[inline(always)]
+pub(crate) fn pass(reader: &mut Reader<'_>, depth: usize) -> Result<(), Invalid>
+    ensures passed { MatchResult result (λ _. passed_value depth reader.old ≡ Some reader.new)
+        (λ _. passed_value depth reader.old ≡ None) }
+    ensures shorter { OnOk result (length reader.new < length reader.old) }
+{
+    let token = reader.next().ok_or(Invalid)?;
+    pass_from(token, reader, depth)
+}
+
+/// The same, where the first token of the value is read.
+#[cycle(pass)]
+#[inline(always)]
+pub(crate) fn pass_from(
+    token: Token<'_>,
+    reader: &mut Reader<'_>,
+    depth: usize,
+) -> Result<(), Invalid>
+    ensures passed { MatchResult result
+        (λ _. passed_value depth (token_of token.entry ∷ reader.old) ≡ Some reader.new)
+        (λ _. passed_value depth (token_of token.entry ∷ reader.old) ≡ None) }
+    ensures shorter { OnOk result (length reader.new ≤ length reader.old) }
+{
+    match token {
+        Token::Null | Token::Bool(_) | Token::String(_) => Ok(()),
+        Token::Number(text) => if has_value(text) {
+            Ok(())
+        } else {
+            Err(Invalid)
+        },
+        Token::BeginArray => if depth == 0 {
+            Err(Invalid)
+        } else {
+            pass_items(reader, depth - 1)
+        },
+        Token::BeginObject => if depth == 0 {
+            Err(Invalid)
+        } else {
+            pass_members(reader, depth - 1)
+        },
+        Token::EndObject | Token::EndArray | Token::Key(_) | Token::Bad => Err(Invalid),
+    }
+}
+
+/// Passes the items of an array that has begun, and its end.
+#[cycle(pass)]
+#[inline(never)]
+fn pass_items(reader: &mut Reader<'_>, depth: usize) -> Result<(), Invalid>
+    ensures passed { MatchResult result (λ _. passed_items depth reader.old ≡ Some reader.new)
+        (λ _. passed_items depth reader.old ≡ None) }
+    ensures shorter { OnOk result (length reader.new < length reader.old) }
+{
+    while !reader.take_end_array() {
+        pass(reader, depth)?;
+    }
+    Ok(())
+}
+
+/// Passes the members of an object that has begun, and its end.
+#[cycle(pass)]
+#[inline(never)]
+fn pass_members(reader: &mut Reader<'_>, depth: usize) -> Result<(), Invalid>
+    ensures passed { MatchResult result (λ _. passed_members depth reader.old ≡ Some reader.new)
+        (λ _. passed_members depth reader.old ≡ None) }
+    ensures shorter { OnOk result (length reader.new < length reader.old) }
+{
+    while let Some(_) = reader.next_key()? {
+        pass(reader, depth)?;
+    }
+    Ok(())
+}
