@@ -1,15 +1,16 @@
 #!/usr/bin/env python3
-"""Tells which refusals of the words no stored run has.
+"""Tells which refusals of the words no stored run has, and where page and definitions differ.
 
 usage: tests/refusals.py [-v] [PAGE]
 
 docs/PROTOCOL.md, or PAGE, has the refusals of each word in its table of words, and those of
-additions below `## add`. A row for each has to stand in the transcripts of
-crates/test_service/data, or in the run of tests/full_session.py: a request of this word with the
-reply that refuses it, its code, name and place. So whoever answers Memory, or another fault, in
-place of one of these is caught where memory is ample. `1 to 19` stands for each rule of the format.
-Prints what has no row; the status is 1 then. With -v prints each pair, and in how many rows it
-stands.
+additions below `## add`. These have to be the ones that the definitions have which the contracts of
+the library cite (tests/word_refusals.py finds them), and a row for each has to stand in the
+transcripts of crates/test_service/data, or in the run of tests/full_session.py: a request of this
+word with the reply that refuses it, its code, name and place. So whoever answers Memory, or another
+fault, in place of one of these is caught where memory is ample. `1 to 19` stands for each rule of
+the format. Prints what has no row, and what is refused by page or definitions alone; the status is
+1 then. With -v prints each pair, and in how many rows it stands.
 """
 from __future__ import annotations
 
@@ -22,6 +23,7 @@ from pathlib import Path
 from typing import Iterator
 
 import full_session
+import word_refusals
 from runs import OTHERS, TOP, TRANSCRIPTS, Told, stored
 
 FAULTS = TOP / "crates" / "ctf_model" / "src" / "faults.rt"
@@ -138,9 +140,11 @@ def main() -> int:
     missing = sorted((words | additions) - set(found))
     for word, fault in missing:
         print(f"no stored run has `{word}` refused with {fault}")
+    differing = word_refusals.compared(words | additions, known)
+    print("\n".join(differing), end="\n" if differing else "")
     print(f"refusals: {len(words)} of words and {len(additions)} of additions:"
-          f" {len(missing)} without a row")
-    return 1 if missing or not words or not additions else 0
+          f" {len(missing)} without a row, {len(differing)} by page or definitions alone")
+    return 1 if missing or differing or not words or not additions else 0
 
 
 if __name__ == "__main__":

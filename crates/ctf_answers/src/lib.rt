@@ -17,7 +17,7 @@ pub use answers::Answer;
 pub use count::Count;
 pub use counts::Counts;
 pub use fields::{Field, Value};
-pub use fixed_words::{class_name, kind_name, model_name, tag_name};
+pub use fixed_words::{class_name, tag_name};
 pub use items::{Item, Items};
 pub use listed::Listed;
 pub use replies::Reply;

@@ -6,9 +6,9 @@ ghost use Rattle.ctf_answers.specs.Singles.{single_of};
 ghost use Rattle.ctf_answers.specs.Fields.{field_of};
 
 use crate::fields::{Field, Value};
-use crate::fixed_words::{kind_name, tag_name};
+use crate::fixed_words::tag_name;
 use crate::singles::Single;
-use ctf_protocol::{Kind, TypeNum};
+use ctf_protocol::{Kind, TypeNum, kind_name};
 use ctf_records::Tag;
 
 /// A type without its list.

@@ -3,7 +3,6 @@
 #![tactic(auto)]
 
 mod files;
-mod models;
 mod serving;
 mod starts;
 mod status;
@@ -11,9 +10,9 @@ mod wanted;
 
 pub use ctf_dump::{DumpEnd, InputFile, Inputs, dump_lists};
 pub use ctf_model::{Bytes, DataModel};
+pub use ctf_protocol::model_named;
 pub use ctf_wire::{Broker, RunFault};
 pub use files::read_file;
-pub use models::model_named;
 pub use serving::serve_lines;
 pub use starts::NotStarted;
 pub use status::{MISUSED, end, usage_status};

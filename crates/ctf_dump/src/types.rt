@@ -7,7 +7,7 @@ ghost use Rattle.ctf_dump.specs.Progress.{HasBegun};
 ghost use Rattle.ctf_dump.specs.Words.{array_text, encoding_text, facts_text, figures_text, lines_behind, lines_of_type, returned_text, root_text, shape_text, size_text, to_text, typed_text};
 ghost use Rattle.ctf_layout.specs.Fitting.{Fits};
 ghost use Rattle.ctf_model.specs.dumps.Dump.{in_quotes, member_line as line_of_member, or_fault, value_line as line_of_value};
-ghost use Rattle.ctf_model.specs.names.KindNames.{name_of_kind, name_of_tag};
+ghost use Rattle.ctf_model.specs.names.KindNames.{name_of_tag};
 ghost use Rattle.ctf_model.specs.spaces.Space.{space_type};
 ghost use Rattle.ctf_model.specs.format.Term.{Term};
 ghost use Rattle.ctf_model.specs.names.TypeNames.{spelled_name};
@@ -21,34 +21,13 @@ use crate::heads::put_signature;
 use crate::line::{DumpFault, Line};
 use ctf_check::{Facts, Shape};
 use ctf_layout::Layout;
-use ctf_model::{Fault, Kind, TypeNum, fault_name};
+use ctf_model::{Fault, TypeNum, fault_name, kind_name};
 use ctf_names::KnownNames;
 use ctf_records::Tag;
 use ctf_space::Space;
 use ctf_views::{Args, ArrayInfo, Encoding, Enumerator, Enumerators, Member, Members, Variant};
 use std::alloc::{AllocError, Global};
 use std::io::Write;
-
-fn kind_word(kind: Kind) -> &'static str
-    ensures { result.now ≡ name_of_kind kind }
-{
-    match kind {
-        Kind::KUnknown => "unknown",
-        Kind::KInteger => "integer",
-        Kind::KFloat => "float",
-        Kind::KPointer => "pointer",
-        Kind::KArray => "array",
-        Kind::KFunction => "function",
-        Kind::KStruct => "struct",
-        Kind::KUnion => "union",
-        Kind::KEnum => "enum",
-        Kind::KForward => "forward",
-        Kind::KTypedef => "typedef",
-        Kind::KVolatile => "volatile",
-        Kind::KConst => "const",
-        Kind::KRestrict => "restrict",
-    }
-}
 
 fn tag_word(tag: Tag) -> &'static str
     ensures { result.now ≡ codes " tag=" ++ name_of_tag (tag_of tag) }
@@ -170,7 +149,7 @@ fn put_facts(line: &mut Line, number: TypeNum, x: Facts<'_>) -> Result<(), Alloc
 {
     line.word("type ", u64::from(number.0))?;
     line.text(" ")?;
-    line.text(kind_word(x.shape.kind))?;
+    line.text(kind_name(x.shape.kind))?;
     line.text(" ")?;
     line.quoted(x.name)?;
     line.text(root_word(x.root))?;

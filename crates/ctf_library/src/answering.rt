@@ -29,7 +29,7 @@ ghost use Rattle.ctf_model.specs.spaces.TypeNumbers.{or_no_type};
 
 use crate::slots::Slot;
 use crate::whole::whole_answer;
-use ctf_answers::{Answer, Items, Listed, RecordAnswer, Single, kind_name};
+use ctf_answers::{Answer, Items, Listed, RecordAnswer, Single};
 use ctf_check::{Facts, Typed};
 use ctf_entries::Signature;
 use ctf_layout::{Layout, path, referred, resolve};
@@ -37,7 +37,8 @@ use ctf_names::{pointer_to, spell};
 use ctf_open::{Tables, array_of, encoding_of, signature_of};
 use ctf_print::show;
 use ctf_protocol::{
-    Bytes, Fault, Kind, PlainQuestion, Question, TypeNum, TypeQuestion, Window, placeless,
+    Bytes, Fault, Kind, PlainQuestion, Question, TypeNum, TypeQuestion, Window, kind_name,
+    placeless,
 };
 use ctf_space::Space;
 use ctf_views::{Args, ArrayInfo, Encoding, Variant, is_variadic};

@@ -6,9 +6,9 @@ ghost use Rattle.ctf_protocol.specs.sessions.Opened.{open_of};
 ghost use Rattle.ctf_protocol.specs.answers.HeldAnswers.{bytes_fields, held_answered, info_fields};
 
 use crate::slots::Slot;
-use ctf_answers::{Answer, InfoAnswer, Single, model_name};
+use ctf_answers::{Answer, InfoAnswer, Single};
 use ctf_check::Checked;
-use ctf_protocol::HeldQuestion;
+use ctf_protocol::{HeldQuestion, model_name};
 
 /// What a dictionary is as a whole, and how much its draft has pending.
 fn info<'a>(dictionary: &Checked<'a>, draft: bool, imported: bool, pending: usize) -> Answer<'a>

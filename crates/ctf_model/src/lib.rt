@@ -16,7 +16,7 @@ mod symbols;
 pub use bytes::{Bytes, LONGEST_PIECE, Piece};
 pub use data_model::DataModel;
 pub use faults::{Fault, fault_name, placeless};
-pub use kinds::Kind;
+pub use kinds::{Kind, kind_name};
 pub use laws::{
     chains_are_short, drafts_are_sound, faultless_exactly_where_denoted, first_fault_is_the_least,
     members_stand_next, names_are_their_rules, no_record_begins_another,

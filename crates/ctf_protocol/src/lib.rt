@@ -5,6 +5,7 @@ mod addables;
 mod additions;
 mod creations;
 mod laws;
+mod models;
 mod names;
 mod publications;
 mod questions;
@@ -18,6 +19,7 @@ pub use addables::Addable;
 pub use additions::{Addition, Declared, NewArray, NewKind, NewScalar, TypeNums};
 pub use creations::Creation;
 pub use laws::{keys_rise, texts_are_read_back, words_ask_what_is_open};
+pub use models::{model_name, model_named};
 pub use names::Names;
 pub use publications::{LONGEST_NAME, PublicationName};
 pub use questions::{HeldQuestion, PlainQuestion, Question, SlotQuestion, TypeQuestion, Window};
@@ -39,5 +41,5 @@ pub use words::Word;
 // The names of the format that who speaks the protocol needs too.
 pub use ctf_model::{
     Bytes, DataModel, Fault, Kind, LONGEST_PIECE, Parts, Piece, SymbolClass, TypeNum, fault_name,
-    no_parts, placeless,
+    kind_name, no_parts, placeless,
 };
