@@ -6,7 +6,8 @@ ghost use Rattle.std.specs.Option.{option_map};
 ghost use Rattle.ctf_answers.specs.Replies.{said, said_to};
 ghost use Rattle.ctf_protocol.specs.sessions.Runs.{Answered, IsGranted, Steps, found_in};
 ghost use Rattle.ctf_protocol.specs.sessions.State.{empty_state};
-ghost use Rattle.ctf_protocol.specs.sessions.Steps.{is_quiet_change, publishes_kept};
+ghost use Rattle.ctf_protocol.specs.sessions.Steps.{publishes_kept};
+ghost use Rattle.ctf_protocol.specs.sessions.Quiet.{is_quiet_change};
 ghost use Rattle.ctf_protocol.specs.declared.requests.Request.TheVariants.{Changes};
 ghost use Rattle.ctf_broker.specs.Table.{kept_for, library_at};
 

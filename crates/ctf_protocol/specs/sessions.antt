@@ -5,6 +5,7 @@ pub mod Opened
 pub mod Additions
 pub mod DraftSteps
 pub mod Charges
+pub mod Quiet
 pub mod Steps
 pub mod OpenLaws
 pub mod ChargeLaws

@@ -4,7 +4,7 @@ use Rattle.std.specs.Prelude.{zero, suc}
 use Rattle.ctf_protocol.specs.answers.Answers.{Reply}
 use Rattle.ctf_protocol.specs.sessions.Runs.{IsGranted}
 use Rattle.ctf_protocol.specs.sessions.State.{Publication, Slot, State, empty_state}
-use Rattle.ctf_protocol.specs.sessions.Steps.{is_quiet_change}
+use Rattle.ctf_protocol.specs.sessions.Quiet.{is_quiet_change}
 use Rattle.ctf_protocol.specs.declared.requests.Change.{Change}
 use Rattle.ctf_protocol.specs.declared.requests.Request.TheVariants.{Changes}
 use Rattle.ctf_wire.specs.Memory.{IsGrantedUnless}

@@ -1,5 +1,5 @@
 -- The reply to a request in the library of one session, and what the library is then. Source: ours.
-use Rattle.std.specs.Prelude.{◌≡◌, ◌⊎◌, ℕ, ◌+◌, ◌==◌, ◌&&◌, List, [], ◌∷◌, ◌++◌, length, Bool, true, false, Option, None, Some, Result, Ok, Err, is_some, unwrap_or, nat_lt, nat_le, codes, if◌then◌else◌}
+use Rattle.std.specs.Prelude.{ℕ, ◌+◌, ◌==◌, ◌&&◌, List, [], ◌∷◌, ◌++◌, length, Bool, Option, None, Some, Result, Ok, Err, is_some, unwrap_or, nat_lt, nat_le, codes, if◌then◌else◌}
 use Rattle.ctf_protocol.specs.answers.Answers.{Answer, Reply, says}
 use Rattle.ctf_protocol.specs.answers.Answers as answers
 use Rattle.ctf_protocol.specs.sessions.Charges.{charge}
@@ -14,7 +14,7 @@ use Rattle.ctf_model.specs.opened.Steps.{import_refusal}
 use Rattle.ctf_model.specs.format.Lists.{Lists}
 use Rattle.ctf_model.specs.spaces.Kept.{Kept}
 use Rattle.ctf_protocol.specs.sessions.Publications.{published_as, published_without}
-use Rattle.ctf_model.specs.rules.Refusals.{placeless, want_of_memory}
+use Rattle.ctf_model.specs.rules.Refusals.{placeless}
 use Rattle.ctf_protocol.specs.sessions.State.{State, Slot, empty_state, empty_stage}
 use Rattle.ctf_protocol.specs.answers.Questions.{type_answered}
 use Rattle.ctf_protocol.specs.answers.SlotAnswers.{whole_answered}
@@ -25,14 +25,8 @@ use Rattle.ctf_model.specs.declared.faults.TheConstants.Fault.{NO_SLOT, SLOTS_FU
 use Rattle.ctf_protocol.specs.declared.requests.ListName.{ListName}
 use Rattle.ctf_protocol.specs.declared.requests.ListName.TheVariants.{Ctf, Sym, Str}
 use Rattle.ctf_protocol.specs.declared.requests.Request.{Request}
-use Rattle.ctf_protocol.specs.declared.questions.PlainQuestion.{PlainQuestion}
-use Rattle.ctf_protocol.specs.declared.questions.PlainQuestion.TheVariants as plain
-use Rattle.ctf_protocol.specs.declared.questions.TypeQuestion.{TypeQuestion}
-use Rattle.ctf_protocol.specs.declared.questions.TypeQuestion.TheVariants as about
 use Rattle.ctf_protocol.specs.declared.questions.Question.{Question}
 use Rattle.ctf_protocol.specs.declared.questions.Question.TheVariants.{OfType, OfSlot, OfHeld}
-use Rattle.ctf_protocol.specs.declared.questions.SlotQuestion.{SlotQuestion}
-use Rattle.ctf_protocol.specs.declared.questions.SlotQuestion.TheVariants as whole
 use Rattle.ctf_protocol.specs.declared.requests.DraftStep.{DraftStep}
 use Rattle.ctf_protocol.specs.declared.requests.DraftStep.TheVariants.{Add, Update, Discard}
 use Rattle.ctf_protocol.specs.declared.requests.Change.{Change}
@@ -165,35 +159,6 @@ said_by_slot question (Some slot) = slot_answered question slot
 -- what a question to a slot is answered
 abbrev pub answer_to : ℕ → Question → State → Result Answer Fault
 answer_to d question state = said_by_slot question (slot_at d state.slots)
-
--- a question that takes no memory
-abbrev pub is_quiet_plain : PlainQuestion → Bool
-is_quiet_plain plain.Kind = true
-is_quiet_plain plain.Array = true
-is_quiet_plain plain.Encoding = true
-is_quiet_plain plain.Reference = true
-is_quiet_plain plain.Resolve = true
-is_quiet_plain plain.Size = true
-is_quiet_plain plain.Align = true
-is_quiet_plain plain.Pointer = true
-is_quiet_plain _ = false
-
-abbrev pub is_quiet_on : TypeQuestion → Bool
-is_quiet_on (about.Plain question) = is_quiet_plain question
-is_quiet_on _ = false
-
-abbrev pub is_quiet_whole : SlotQuestion → Bool
-is_quiet_whole (whole.Find written) = true
-is_quiet_whole _ = false
-
-abbrev pub is_quiet : Question → Bool
-is_quiet (OfType t question) = is_quiet_on question
-is_quiet (OfSlot question) = is_quiet_whole question
-is_quiet (OfHeld question) = false
-
--- the answer to a question, or memory for it was refused
-abbrev pub MayAnswer : Result Answer Fault → Result Answer Fault → Type 0
-MayAnswer said result = (result ≡ said) ⊎ (result ≡ Err want_of_memory)
 
 -- ---- reset
 
@@ -352,15 +317,6 @@ change_step state (change.Withdraw name) found = withdraws name state
 change_step state (change.Take owner name) found = takes found state
 change_step state (change.Create asked) found = creates asked state
 change_step state (change.Draft d step) found = steps_draft d step state
-
--- a change that takes no memory
-abbrev pub is_quiet_change : Change → Bool
-is_quiet_change change.Clear = true
-is_quiet_change change.Reset = true
-is_quiet_change (change.Withdraw name) = true
-is_quiet_change (change.Close d) = true
-is_quiet_change (change.Draft d Discard) = true
-is_quiet_change _ = false
 
 -- a question leaves the library as it was
 abbrev pub step : State → Request → Option Kept → Outcome
