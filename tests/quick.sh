@@ -14,5 +14,9 @@ work=$(mktemp -d)
 trap 'rm -r "$work"' EXIT
 cd "$work"
 "$top/scripts/quick.py" --into "$work/built"
+if find built -type l | grep -q .; then
+    echo "the quick build leaves symbolic links, which rt ci refuses"
+    exit 1
+fi
 python3 "$top/bench/random_lines.py" "$program" built/ctfd "$lines"
 CTFD_ARCHIVE=$work/built/libctfd.a "$top/tests/c_library.sh" built/ctfd
