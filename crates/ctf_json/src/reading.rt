@@ -85,7 +85,7 @@ fn members_at<'a>(
 {
     let mut found = Vec::new(alloc);
     while let Some(key) = reader.next_key()? {
-        if is_one_of(key, keys) {
+        if is_one_of(key, keys, found.len()) {
             let value = next_value(alloc, reader, depth)?;
             if found.push((key, value)).is_err() {
                 return Err(NotRead::Memory);
@@ -115,8 +115,19 @@ fn next_value<'a>(
     }
 }
 
-/// Whether a key is one of these.
-fn is_one_of(key: &str, keys: &[&str]) -> bool
+/// Whether a key is one of these. Most lines have their keys in this order, so the one at `likely`
+/// is tried first.
+#[inline]
+fn is_one_of(key: &str, keys: &[&str], likely: usize) -> bool
+    ensures { result ≡ one_of key.now (map (λ k. k.now) keys.now) }
+{
+    if likely < keys.len() && is_key(key, keys[likely]) {
+        return true;
+    }
+    is_any_of(key, keys)
+}
+
+fn is_any_of(key: &str, keys: &[&str]) -> bool
     ensures { result ≡ one_of key.now (map (λ k. k.now) keys.now) }
 {
     for known in keys {
