@@ -1,5 +1,5 @@
 -- A key that stands in a list is one of the list.
-use Rattle.std.proofs.Common.{◌≡◌, ℕ, zero, suc, ◌<◌, List, [], ◌∷◌, length, get_or, map, Bool, true, false, ◌||◌, Bor, refl, ap, ◌∙◌, arith}
+use Rattle.std.proofs.Common.{◌≡◌, ℕ, zero, suc, ◌<◌, List, [], ◌∷◌, length, get_or, map, Bool, true, false, ◌||◌, Bor, refl, ap, arith}
 use Rattle.std.specs.Str.{bytes_eq}
 use Rattle.ctf_json.specs.Told.{is_one_of}
 

@@ -1,7 +1,6 @@
-use Rattle.std.proofs.Common.{◌≡◌, Some, false, sym, ap, ◌∙◌, option_and_then}
-use Rattle.fast_float.specs.Text.{scan}
+use Rattle.std.proofs.Common.{false, sym, ap, ◌∙◌, option_and_then}
 use Rattle.serde_json.specs.Find.{as_u64}
-use Rattle.serde_json.specs.Read.{number_from, number_of}
+use Rattle.serde_json.specs.Read.{number_of}
 use Rattle.ctf_json.proofs.Telling.{by_sign}
 use Rattle.ctf_json.proofs.numbers.natural.Goals as goal
 

@@ -1,4 +1,4 @@
-use Rattle.std.proofs.Common.{◌≡◌, sym, ◌∙◌}
+use Rattle.std.proofs.Common.{sym, ◌∙◌}
 use Rattle.ctf_json.proofs.Listed.{one_of_list}
 use Rattle.ctf_json.proofs.reading.is_one_of.Goals as goal
 

@@ -1,10 +1,11 @@
 use Rattle.std.proofs.Common.{◌≡◌, ◌-◌, [], ◌∷◌, ◌++◌, length, map, Some, true, false, sym, ap, ◌∙◌, arith, rules}
-use Rattle.json.specs.Json.{read_key, members, value, parse_map}
+use Rattle.json.specs.Json.{member, read_key, members, value, parse_map}
 use Rattle.json.specs.Value.{value_view}
 use Rattle.json.proofs.Grammar.{read_key-shorter, members_end, members_no_key, members_more}
 use Rattle.json.proofs.Trees.{members_before, members_before-no_members, one_more_member}
-use Rattle.ctf_json.specs.Passed.{members_at, passed, sifted}
+use Rattle.ctf_json.specs.Passed.{members_at, passed, shallow, sifted}
 use Rattle.ctf_json.specs.Told.{in_range, is_one_of, members_in_range}
+use Rattle.ctf_json.proofs.Kept.{sifted-some}
 use Rattle.ctf_json.proofs.Turns.{kept-member, dropped-member, passed-some, refuse_member, refused_behind}
 use Rattle.ctf_json.proofs.reading.members_at.Goals as goal
 
@@ -14,7 +15,7 @@ returns-in_err-key-clause-refused c is =
     let l = c.loop-found in
     let keys = map (λ key. key.now) c.args.keys.now in
     let whole = members p (length c.args.reader.now) c.args.reader.now in
-    refused_behind keys (members_before l.found.items) whole (members p l.invariant.0 l.reader) l.invariant.2 (ap (passed members_in_range) (members_no_key p l.invariant.0 l.reader c.in_err-key.ensures.value))
+    refused_behind members_in_range (members_at keys) (members_before l.found.items) whole (members p l.invariant.0 l.reader) l.invariant.2 (ap (passed members_in_range) (members_no_key p l.invariant.0 l.reader c.in_err-key.ensures.value))
 
 pub returns-in_err-value-clause-refused : goal.returns-in_err-value-clause-refused
 returns-in_err-value-clause-refused c is =
@@ -25,7 +26,7 @@ returns-in_err-value-clause-refused c is =
     let k = c.in-Some.key.now in
     let s = c.next_key.new.self in
     let key : read_key l.reader ≡ Some (Some k, s) = grind arith in
-    refused_behind keys (members_before l.found.items) whole (members p l.invariant.0 l.reader) l.invariant.2 (refuse_member p l.invariant.0 k l.reader s key (grind arith))
+    refused_behind members_in_range (members_at keys) (members_before l.found.items) whole (members p l.invariant.0 l.reader) l.invariant.2 (refuse_member p l.invariant.0 k l.reader s key (grind arith))
 
 pub returns-in_err-pass-clause-refused : goal.returns-in_err-pass-clause-refused
 returns-in_err-pass-clause-refused c is =
@@ -36,7 +37,7 @@ returns-in_err-pass-clause-refused c is =
     let k = c.in-Some.key.now in
     let s = c.next_key.new.self in
     let key : read_key l.reader ≡ Some (Some k, s) = grind arith in
-    refused_behind keys (members_before l.found.items) whole (members p l.invariant.0 l.reader) l.invariant.2 (refuse_member p l.invariant.0 k l.reader s key c.in_err-pass.ensures.passed)
+    refused_behind members_in_range (members_at keys) (members_before l.found.items) whole (members p l.invariant.0 l.reader) l.invariant.2 (refuse_member p l.invariant.0 k l.reader s key c.in_err-pass.ensures.passed)
 
 pub loop-found-preserved-else-is_err : goal.loop-found-preserved-else-is_err
 loop-found-preserved-else-is_err c =
@@ -53,9 +54,10 @@ loop-found-preserved-else-is_err c =
     let r = c.next_value.new.reader in
     let less = read_key-shorter l.reader (Some k) s key in
     let lesser = done.shorter in
+    let j = sifted-some shallow (p s) (value_view v) r done.ok in
     let known : is_one_of k keys ≡ true = sym c.is_one_of.ensures ∙ c.if-is_one_of.true in
     let pushed : c.push.new.self.items ≡ l.found.items ++ (c.in-Some.key, v) ∷ [] = search rules in
-    let turn = ap kept (members_more p n k l.reader s r (value_view v) (omega (arith, l.invariant.1)) key done.ok) ∙ kept-member keys k (value_view v) (members p (n - 1) r) done.in_range known in (
+    let turn = ap kept (members_more p n k l.reader s r j.whole (omega (arith, l.invariant.1)) key j.is) ∙ kept-member keys k j.whole (members p (n - 1) r) j.good known ∙ ap (λ x. parse_map (member k x) (kept (members p (n - 1) r))) j.kept in (
       n - 1,
       omega (arith, l.invariant.1),
       l.invariant.2 ∙ ap (parse_map (members_before l.found.items)) turn ∙ one_more_member l.found.items (c.in-Some.key, v) _
