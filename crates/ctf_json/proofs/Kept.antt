@@ -15,7 +15,7 @@ use Rattle.serde_json.specs.Read.{number_of, of_json, max_depth, read}
 use Rattle.serde_json.specs.Find.{get}
 use Rattle.ctf_json.specs.Told as told_as
 use Rattle.ctf_json.specs.Told.{told, told_items, told_number, in_range, items_in_range, members_in_range, is_one_of, IsReadAt}
-use Rattle.ctf_json.specs.Passed.{begun, passed, passed_value, plain, plain_items, shallow, members_at, kept_at, sifted}
+use Rattle.ctf_json.specs.Passed.{Keeps, begun, passed, passed_value, plain, plain_items, shallow, members_at, kept_at, sifted}
 use Rattle.ctf_json.proofs.Telling.{when, of_json-told, get-told, read-told}
 use Rattle.ctf_json.proofs.Turns.{IsNone, chosen, passed-some}
 
@@ -240,12 +240,13 @@ pub read-refused : (text : List ℕ) → passed_value max_depth (tokens text) �
 read-refused text e = refused_by (json.value max_depth (tokens text)) e
 
 -- what is kept of a text that is one value has what the text has at these keys
-pub read-kept : (keys : List (List ℕ)) (text : List ℕ) (part : json.Json) (rest : List Token)
-    → sifted in_range (kept_at keys) (json.value max_depth (tokens text)) ≡ Some (part, rest) → rest ≡ [] → IsReadAt keys text (told part)
-read-kept keys text part rest e last =
-    let s = sifted-some (kept_at keys) (json.value max_depth (tokens text)) part rest e in
+pub read-kept : (keys : List (List ℕ)) (text : List ℕ) (part : json.Json) (rest : List Token) → Keeps keys (json.value max_depth (tokens text)) part rest → rest ≡ [] → IsReadAt keys text (told part)
+read-kept keys text part rest k last =
+    let s = sifted-some (kept_at keys) (json.value max_depth (tokens text)) k.0 rest k.1 in
     record {
       whole = told s.whole;
       is = read-told text s.whole rest true s.is last (sym s.good);
-      same = λ q one. ap (λ j. get q (told j)) (sym s.kept) ∙ said-kept keys q one s.whole;
+      same = λ q one.
+          sym (get-told q part) ∙ ap (option_map told) (k.2 q) ∙ get-told q k.0 ∙ ap (λ j. get q (told j)) (sym s.kept)
+          ∙ said-kept keys q one s.whole;
     }

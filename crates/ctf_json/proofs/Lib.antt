@@ -1,3 +1,4 @@
+pub mod Forgotten
 pub mod Listed
 pub mod Telling
 pub mod Digits

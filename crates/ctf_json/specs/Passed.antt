@@ -1,6 +1,7 @@
 -- What is left behind a value whose numbers all have a value. Only private clauses cite it.
-use Rattle.std.specs.Prelude.{ℕ, Bool, List, length, cond, Option, Some, None, option_and_then}
+use Rattle.std.specs.Prelude.{◌≡◌, ℕ, Bool, List, length, cond, Option, Some, None, option_and_then}
 use Rattle.json.specs.Token.{Token}
+use Rattle.json.specs.Find.{get, get_member}
 use Rattle.json.specs.Json.{Json, null, boolean, number, string, array, object, Items, no_items, item, Members, no_members, member, items, members, value}
 use Rattle.ctf_json.specs.Told.{in_range, items_in_range, members_in_range, is_one_of}
 
@@ -71,3 +72,17 @@ kept_at keys (object ms) = object (members_at keys ms)
 abbrev pub sifted : {A : Type 0} → (A → Bool) → (A → A) → Option (A × List Token)
     → Option (A × List Token)
 sifted good f read = option_and_then (λ p. cond (good p.0) (Some (f p.0, p.1)) None) read
+
+-- the same is last under each name
+abbrev pub SameLast : Members → Members → Type 0
+SameLast a b = (q : List ℕ) → get_member q a ≡ get_member q b
+
+-- what is kept of members that were read has the same last as these, and this is behind them
+abbrev pub KeepsMembers : (keys : List (List ℕ)) → Option (Members × List Token) → Members → List Token → Type 0
+KeepsMembers keys read found rest =
+    (ms : Members) × (sifted members_in_range (members_at keys) read ≡ Some (ms, rest)) × SameLast found ms
+
+-- what is kept of a value that was read has the same under each name as this, and this is behind it
+abbrev pub Keeps : (keys : List (List ℕ)) → Option (Json × List Token) → Json → List Token → Type 0
+Keeps keys read found rest =
+    (j : Json) × (sifted in_range (kept_at keys) read ≡ Some (j, rest)) × ((q : List ℕ) → get q found ≡ get q j)
