@@ -74,9 +74,16 @@ def too_deep():
     yield front + "[" * half + "]" * half + "}\n"
 
 
-def many_names():
+def many_names(item):
+    """A path of so many names, or of what is none."""
     yield from opened((dictionary(made.integer(0), b"\0"), b"", b""))
-    yield filled('{"s":1,"op":"path","d":1,"t":1,"names":[', '"a"', "]}")
+    yield filled('{"s":1,"op":"path","d":1,"t":1,"names":[', item, "]}")
+
+
+def repeated_field():
+    """A question that says its session again and again."""
+    yield from opened((dictionary(made.integer(0), b"\0"), b"", b""))
+    yield filled('{"op":"kind","d":1,"t":1,', '"s":1', "}")
 
 
 def many_arguments():
@@ -172,8 +179,11 @@ SESSIONS = [
     Session("line: 1 MB of brackets in each other", too_deep),
     Session("line: 1 MB of [],[],.. in an unknown field", lambda: unknown_field("[]")),
     Session("line: 1 MB of 0,0,.. in an unknown field", lambda: unknown_field("0")),
-    Session("line: 1 MB of names of a path", many_names, known=34),
-    Session("line: 1 MB of arguments", many_arguments, known=34),
+    Session("line: 1 MB of one field", repeated_field),
+    Session("line: 1 MB of lists, 100 deep, in a path",
+            lambda: many_names("[" * 100 + "]" * 100), known=13),
+    Session("line: 1 MB of names of a path", lambda: many_names('"a"'), known=34),
+    Session("line: 1 MB of arguments", many_arguments, known=30),
     Session("path: 500 steps, 1,023 names unlike at the front", lambda: steps(500, True),
             read=6.1, known=92),
     Session("path: 500 steps, 1,023 names unlike at the end", lambda: steps(500, False),

@@ -1,3 +1,5 @@
+pub mod Forgotten
+pub mod Listed
 pub mod Telling
 pub mod Digits
 pub mod Turns

@@ -1,6 +1,6 @@
 -- What the tree of a text says, in the words of serde_json, and whether each of its numbers has a
 -- value there.
-use Rattle.std.specs.Prelude.{◌≡◌, ◌&&◌, ◌||◌, ℕ, List, [], ◌∷◌, Bool, true, false, is_some, Option, Some, None}
+use Rattle.std.specs.Prelude.{◌≡◌, ◌&&◌, ◌||◌, ℕ, List, [], ◌∷◌, Bool, true, false, is_some, Option, Some, None, option_map}
 use Rattle.std.specs.Str.{bytes_eq}
 use Rattle.json.specs.Json as json
 use Rattle.json.specs.Value as tree
@@ -61,8 +61,30 @@ abbrev pub is_one_of : List ℕ → List (List ℕ) → Bool
 is_one_of key [] = false
 is_one_of key (k ∷ keys) = bytes_eq key k || is_one_of key keys
 
--- a text is read, and at these keys `part` has what stands there
+-- an item of a list as it is kept: null for what nests
+abbrev pub plain : Data → Data
+plain null = null
+plain (boolean b) = boolean b
+plain (number n) = number n
+plain (string s) = string s
+plain (array ds) = null
+plain (object ms) = null
+
+abbrev pub plain_items : Items → Items
+plain_items no_items = no_items
+plain_items (item d ds) = item (plain d) (plain_items ds)
+
+-- a value as it is kept: a list of plain items, and null for an object
+abbrev pub shallow : Data → Data
+shallow null = null
+shallow (boolean b) = boolean b
+shallow (number n) = number n
+shallow (string s) = string s
+shallow (array ds) = array (plain_items ds)
+shallow (object ms) = null
+
+-- a text is read, and at these keys `part` has what is kept of what stands there
 pub record IsReadAt (keys : List (List ℕ)) (text : List ℕ) (part : Data) : Type 0 where
   pub whole : Data
   pub is : read text ≡ Some whole
-  pub same : (key : List ℕ) → is_one_of key keys ≡ true → get key part ≡ get key whole
+  pub same : (key : List ℕ) → is_one_of key keys ≡ true → get key part ≡ option_map shallow (get key whole)

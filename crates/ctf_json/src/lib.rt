@@ -4,7 +4,6 @@
 mod looking;
 mod numbers;
 mod passing;
-mod ranges;
 mod reading;
 
 pub use looking::{as_array, as_bool, as_i64, as_str, as_u64, get};

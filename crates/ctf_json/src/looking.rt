@@ -7,7 +7,7 @@ ghost use Rattle.serde_json.specs.Find.{get as found_under, as_array as array_sa
 ghost use Rattle.ctf_json.specs.Told.{said, items_view};
 ghost use Rattle.serde_json.specs.View.{number_view};
 
-use crate::numbers::number;
+use crate::numbers::{natural, number};
 use json::Value;
 use serde_json::Number;
 
@@ -83,7 +83,7 @@ fn as_number(value: &Value<'_>) -> Option<Number>
 pub fn as_u64(value: &Value<'_>) -> Option<u64>
     ensures { result ≡ option_and_then unsigned_said (number_said (said value.now)) }
 {
-    as_number(value)?.as_u64()
+    natural(value.as_number()?)
 }
 
 pub fn as_i64(value: &Value<'_>) -> Option<i64>

@@ -1,9 +1,10 @@
 //! The value of a number's text, as serde_json has it.
-ghost use Rattle.std.specs.Prelude.{◌≡◌, ◌==◌, ◌<◌, ◌≤◌, IfSome, IsTrue, Some, is_some, length, option_map, slice_index, true, false};
+ghost use Rattle.std.specs.Prelude.{◌≡◌, ◌==◌, ◌<◌, ◌≤◌, IfSome, IsTrue, Some, is_some, length, option_and_then, option_map, slice_index, true, false};
 ghost use Rattle.std.specs.Char.{digit_value};
 ghost use Rattle.std.specs.Str.Parse.{AllDigits};
 ghost use Rattle.fast_float.specs.Text.{scan};
 ghost use Rattle.serde_json.specs.Data.{unsigned as unsigned_number};
+ghost use Rattle.serde_json.specs.Find.{as_u64 as unsigned_of};
 ghost use Rattle.serde_json.specs.Read.{float_of, number_from, number_of};
 ghost use Rattle.serde_json.specs.View.{number_view};
 
@@ -90,6 +91,20 @@ pub fn number(text: &str) -> Option<Number>
         negative(&Numeral::scan(&bytes[1..]))
     } else {
         unsigned(bytes)
+    }
+}
+
+/// The value of a number's text that is no sign and no fraction, and fits.
+pub(crate) fn natural(text: &str) -> Option<u64>
+    ensures { result ≡ option_and_then unsigned_of (number_of text.now) }
+{
+    let bytes = text.as_bytes();
+    if has_minus(bytes) {
+        return number(text)?.as_u64();
+    }
+    match digits_alone(bytes) {
+        Some(n) => Some(n),
+        None => number(text)?.as_u64(),
     }
 }
 

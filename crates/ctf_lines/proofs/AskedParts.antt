@@ -1,9 +1,10 @@
--- What is asked of a part of a line that has what the line has under each key.
-use Rattle.std.proofs.Common.{◌≡◌, ℕ, List, [], map, true, is_none, Option, Some, None, option_map, option_and_then, codes, refl, ap, ◌∙◌}
+-- What is asked of a part of a line that has what is kept of the line under each key.
+use Rattle.std.proofs.Common.{◌≡◌, ℕ, List, [], ◌∷◌, map, true, is_none, Option, Some, None, option_map, option_and_then, codes, refl, ap, ap₂, ◌∙◌}
 use Rattle.std.specs.Prelude.{if◌then◌else◌, unwrap_or}
-use Rattle.serde_json.specs.Data.{Data}
+use Rattle.serde_json.specs.Data as json
+use Rattle.serde_json.specs.Data.{Data, Items}
 use Rattle.serde_json.specs.Find.{get, as_array, as_bool, as_i64, as_number, as_str, as_u64}
-use Rattle.ctf_json.specs.Told.{is_one_of}
+use Rattle.ctf_json.specs.Told.{is_one_of, plain, plain_items, shallow}
 use Rattle.ctf_model.specs.declared.numbers.TypeNum.{TypeNum}
 use Rattle.ctf_model.specs.spaces.Kept.{model_unsaid}
 use Rattle.ctf_protocol.specs.declared.addables.Addable.{Addable}
@@ -28,6 +29,7 @@ use Rattle.ctf_protocol.specs.declared.words.Word.TheVariants as word
 use Rattle.ctf_protocol.specs.lines.Ask as asks
 use Rattle.ctf_protocol.specs.lines.AskAdditions as says
 use Rattle.ctf_protocol.specs.lines.LineFields as fields
+use Rattle.ctf_protocol.specs.lines.Text.{bytes_spelled_by}
 use Rattle.ctf_protocol.specs.sessions.Creations.{creation}
 use Rattle.ctf_protocol.specs.words.Addables.{addable_named}
 use Rattle.ctf_protocol.specs.words.ModelNames.{model_named}
@@ -54,20 +56,107 @@ scalar_of size encoding offset bits =
 abbrev array_of : Option TypeNum → Option TypeNum → Option ℕ → Option NewArray
 array_of contents index count = option_and_then (λ contents. option_and_then (λ index. option_map (λ count. record { contents = contents; index = index; count = count }) count) index) contents
 
-module _ (a b : Data) (same : (key : List ℕ) → is_one_of key keys ≡ true → get key a ≡ get key b) where
+-- ---- what is kept of a value
+
+each-plain : {A : Type 0} (f : Data → Option A) → ((d : Data) → f (plain d) ≡ f d) → (ds : Items) → fields.each_read f (plain_items ds) ≡ fields.each_read f ds
+unfolding fields.each_read
+each-plain f h json.no_items = refl
+each-plain f h (json.item d ds) = ap₂ (λ first others. option_and_then (λ x. option_map (λ xs. x ∷ xs) others) first) (h d) (each-plain f h ds)
+
+str-plain : (d : Data) → as_str (plain d) ≡ as_str d
+str-plain json.null = refl
+str-plain (json.boolean b) = refl
+str-plain (json.number n) = refl
+str-plain (json.string s) = refl
+str-plain (json.array ds) = refl
+str-plain (json.object ms) = refl
+
+number-plain : (d : Data) → as_number (plain d) ≡ as_number d
+number-plain json.null = refl
+number-plain (json.boolean b) = refl
+number-plain (json.number n) = refl
+number-plain (json.string s) = refl
+number-plain (json.array ds) = refl
+number-plain (json.object ms) = refl
+
+names-plain : (ds : Items) → fields.names_spelled (plain_items ds) ≡ fields.names_spelled ds
+names-plain = each-plain fields.name_spelled (λ d. ap (λ t. option_and_then fields.not_too_many (option_and_then bytes_spelled_by t)) (str-plain d))
+
+types-plain : (ds : Items) → says.types_listed (plain_items ds) ≡ says.types_listed ds
+types-plain = each-plain says.type_listed (λ d. ap (λ n. as_type (option_and_then (fields.within 0 65535) (option_and_then as_u64 n))) (number-plain d))
+
+-- what says the same of what is kept of a value says the same of what is kept of a field
+under : {A : Type 0} (f : Data → Option A) → ((d : Data) → f (shallow d) ≡ f d) → (o : Option Data) → option_and_then f (option_map shallow o) ≡ option_and_then f o
+under f h None = refl
+under f h (Some d) = h d
+
+none-shallow : (o : Option Data) → is_none (option_map shallow o) ≡ is_none o
+none-shallow None = refl
+none-shallow (Some d) = refl
+
+str-shallow : (d : Data) → as_str (shallow d) ≡ as_str d
+str-shallow json.null = refl
+str-shallow (json.boolean b) = refl
+str-shallow (json.number n) = refl
+str-shallow (json.string s) = refl
+str-shallow (json.array ds) = refl
+str-shallow (json.object ms) = refl
+
+number-shallow : (d : Data) → as_number (shallow d) ≡ as_number d
+number-shallow json.null = refl
+number-shallow (json.boolean b) = refl
+number-shallow (json.number n) = refl
+number-shallow (json.string s) = refl
+number-shallow (json.array ds) = refl
+number-shallow (json.object ms) = refl
+
+bool-shallow : (d : Data) → as_bool (shallow d) ≡ as_bool d
+bool-shallow json.null = refl
+bool-shallow (json.boolean b) = refl
+bool-shallow (json.number n) = refl
+bool-shallow (json.string s) = refl
+bool-shallow (json.array ds) = refl
+bool-shallow (json.object ms) = refl
+
+list-shallow : {A : Type 0} (f : Items → Option A) → ((ds : Items) → f (plain_items ds) ≡ f ds) → (d : Data) → option_and_then f (as_array (shallow d)) ≡ option_and_then f (as_array d)
+list-shallow f h json.null = refl
+list-shallow f h (json.boolean b) = refl
+list-shallow f h (json.number n) = refl
+list-shallow f h (json.string s) = refl
+list-shallow f h (json.array ds) = h ds
+list-shallow f h (json.object ms) = refl
+
+list-under : {A : Type 0} (f : Items → Option A) → ((ds : Items) → f (plain_items ds) ≡ f ds) → (o : Option Data) → option_and_then f (option_and_then as_array (option_map shallow o)) ≡ option_and_then f (option_and_then as_array o)
+list-under f h None = refl
+list-under f h (Some d) = list-shallow f h d
+
+module _ (a b : Data) (same : (key : List ℕ) → is_one_of key keys ≡ true → get key a ≡ option_map shallow (get key b)) where
   -- ---- fields
 
-  number : (low high : ℕ) (key : List ℕ) → is_one_of key keys ≡ true → fields.number_in low high key a ≡ fields.number_in low high key b
-  number low high key one = λ i. option_and_then (fields.within low high) (option_and_then as_u64 (option_and_then as_number (same key one i)))
+  numbered : (key : List ℕ) → is_one_of key keys ≡ true → option_and_then as_number (get key a) ≡ option_and_then as_number (get key b)
+  numbered key one = ap (option_and_then as_number) (same key one) ∙ under as_number number-shallow (get key b)
 
   text : (key : List ℕ) → is_one_of key keys ≡ true → fields.text_in key a ≡ fields.text_in key b
-  text key one = λ i. option_and_then as_str (same key one i)
+  text key one = ap (option_and_then as_str) (same key one) ∙ under as_str str-shallow (get key b)
+
+  truth : (key : List ℕ) → is_one_of key keys ≡ true → option_and_then as_bool (get key a) ≡ option_and_then as_bool (get key b)
+  truth key one = ap (option_and_then as_bool) (same key one) ∙ under as_bool bool-shallow (get key b)
+
+  unsaid : (key : List ℕ) → is_one_of key keys ≡ true → is_none (get key a) ≡ is_none (get key b)
+  unsaid key one = ap is_none (same key one) ∙ none-shallow (get key b)
+
+  listed : {A : Type 0} (f : Items → Option A) → ((ds : Items) → f (plain_items ds) ≡ f ds) → (key : List ℕ) → is_one_of key keys ≡ true
+      → option_and_then f (option_and_then as_array (get key a)) ≡ option_and_then f (option_and_then as_array (get key b))
+  listed f h key one = ap (λ o. option_and_then f (option_and_then as_array o)) (same key one) ∙ list-under f h (get key b)
+
+  number : (low high : ℕ) (key : List ℕ) → is_one_of key keys ≡ true → fields.number_in low high key a ≡ fields.number_in low high key b
+  number low high key one = λ i. option_and_then (fields.within low high) (option_and_then as_u64 (numbered key one i))
 
   name : (key : List ℕ) → is_one_of key keys ≡ true → fields.name_under key a ≡ fields.name_under key b
-  name key one = λ i. option_and_then fields.name_spelled (same key one i)
+  name key one = ap (option_and_then fields.name_spelled) (same key one) ∙ under fields.name_spelled (λ d. ap (λ t. option_and_then fields.not_too_many (option_and_then bytes_spelled_by t)) (str-shallow d)) (get key b)
 
   name_or_empty : (key : List ℕ) → is_one_of key keys ≡ true → fields.name_or_empty key a ≡ fields.name_or_empty key b
-  name_or_empty key one = λ i. if is_none (same key one i) then Some [] else name key one i
+  name_or_empty key one = λ i. if unsaid key one i then Some [] else name key one i
 
   slot : fields.slot_in a ≡ fields.slot_in b
   slot = number 1 4294967295 (codes "d") refl
@@ -79,10 +168,10 @@ module _ (a b : Data) (same : (key : List ℕ) → is_one_of key keys ≡ true �
   type_in = type_under (codes "t") refl
 
   from : fields.from_asked a ≡ fields.from_asked b
-  from = λ i. if is_none (same (codes "from") refl i) then Some 0 else number 0 4294967295 (codes "from") refl i
+  from = λ i. if unsaid (codes "from") refl i then Some 0 else number 0 4294967295 (codes "from") refl i
 
   count : fields.count_asked a ≡ fields.count_asked b
-  count = λ i. if is_none (same (codes "count") refl i) then Some None else option_map (λ n. Some n) (number 0 4294967295 (codes "count") refl i)
+  count = λ i. if unsaid (codes "count") refl i then Some None else option_map (λ n. Some n) (number 0 4294967295 (codes "count") refl i)
 
   window : fields.window_asked a ≡ fields.window_asked b
   window = λ i. window_of (from i) (count i)
@@ -99,7 +188,7 @@ module _ (a b : Data) (same : (key : List ℕ) → is_one_of key keys ≡ true �
   about_held x y e = λ i. option_and_then (λ q. option_map (λ d. Asks d (OfHeld q)) (slot i)) (e i)
 
   names : asks.names_asked a ≡ asks.names_asked b
-  names = λ i. option_and_then fields.not_too_many_names (option_and_then fields.names_spelled (option_and_then as_array (same (codes "names") refl i)))
+  names = λ i. option_and_then fields.not_too_many_names (listed fields.names_spelled names-plain (codes "names") refl i)
 
   symbol : asks.symbol_asked a ≡ asks.symbol_asked b
   symbol = number 0 4294967295 (codes "sym") refl
@@ -116,7 +205,7 @@ module _ (a b : Data) (same : (key : List ℕ) → is_one_of key keys ≡ true �
   part = λ i. option_and_then (λ list. option_map (λ bytes. Changes (change.Part list bytes)) (option_and_then fields.bytes_spelled (text (codes "bytes") refl i))) (option_and_then asks.list_named (text (codes "section") refl i))
 
   model : asks.model_asked a ≡ asks.model_asked b
-  model = λ i. if is_none (same (codes "model") refl i) then Some None else option_map (λ model. Some model) (option_and_then model_named (text (codes "model") refl i))
+  model = λ i. if unsaid (codes "model") refl i then Some None else option_map (λ model. Some model) (option_and_then model_named (text (codes "model") refl i))
 
   publication : asks.publication_asked a ≡ asks.publication_asked b
   publication = ap (option_and_then asks.publication_named) (text (codes "name") refl)
@@ -131,7 +220,7 @@ module _ (a b : Data) (same : (key : List ℕ) → is_one_of key keys ≡ true �
   taken = λ i. option_and_then (λ owner. option_map (λ name. Changes (change.Take owner name)) (publication i)) (number 0 4294967295 (codes "owner") refl i)
 
   parent : asks.parent_asked a ≡ asks.parent_asked b
-  parent = λ i. if is_none (same (codes "parent") refl i) then Some None else option_map (λ d. Some d) (number 1 4294967295 (codes "parent") refl i)
+  parent = λ i. if unsaid (codes "parent") refl i then Some None else option_map (λ d. Some d) (number 1 4294967295 (codes "parent") refl i)
 
   created : asks.create_asked a ≡ asks.create_asked b
   created = λ i. option_and_then (λ parent. option_and_then (λ parname. option_and_then (λ parlabel. option_and_then (λ model. option_map (λ created. Changes (change.Create created)) (creation parent parname parlabel model)) (model i)) (name_or_empty (codes "parlabel") refl i)) (name_or_empty (codes "parname") refl i)) (parent i)
@@ -139,7 +228,7 @@ module _ (a b : Data) (same : (key : List ℕ) → is_one_of key keys ≡ true �
   -- ---- additions
 
   size_or : (size : ℕ) → says.size_or size a ≡ says.size_or size b
-  size_or size = λ i. if is_none (same (codes "size") refl i) then Some size else number 0 18446744073709551615 (codes "size") refl i
+  size_or size = λ i. if unsaid (codes "size") refl i then Some size else number 0 18446744073709551615 (codes "size") refl i
 
   scalar : says.scalar_asked a ≡ says.scalar_asked b
   scalar = λ i. scalar_of (number 0 18446744073709551615 (codes "size") refl i) (number 0 255 (codes "encoding") refl i) (number 0 255 (codes "offset") refl i) (number 0 65535 (codes "bits") refl i)
@@ -148,7 +237,7 @@ module _ (a b : Data) (same : (key : List ℕ) → is_one_of key keys ≡ true �
   array = λ i. array_of (type_under (codes "contents") refl i) (type_under (codes "index") refl i) (number 0 4294967295 (codes "count") refl i)
 
   function : says.new_function_asked a ≡ says.new_function_asked b
-  function = λ i. option_and_then (λ returned. option_map (λ args. kind.Function returned args) (option_and_then says.types_listed (option_and_then as_array (same (codes "args") refl i)))) (type_under (codes "type") refl i)
+  function = λ i. option_and_then (λ returned. option_map (λ args. kind.Function returned args) (listed says.types_listed types-plain (codes "args") refl i)) (type_under (codes "type") refl i)
 
   kind_with : (what : Addable) → says.kind_with a what ≡ says.kind_with b what
   kind_with adds.Unknown = refl
@@ -170,19 +259,19 @@ module _ (a b : Data) (same : (key : List ℕ) → is_one_of key keys ≡ true �
   kind_with adds.Label = refl
 
   root : says.root_asked a ≡ says.root_asked b
-  root = λ i. if is_none (same (codes "root") refl i) then Some true else option_and_then as_bool (same (codes "root") refl i)
+  root = λ i. if unsaid (codes "root") refl i then Some true else truth (codes "root") refl i
 
   new_type : (what : Addable) → says.new_type_asked (says.kind_with a what) a ≡ says.new_type_asked (says.kind_with b what) b
   new_type what = λ i. option_and_then (λ x. option_and_then (λ name. option_map (λ root. add.Type name root x) (root i)) (name_or_empty (codes "name") refl i)) (kind_with what i)
 
   offset : says.offset_asked a ≡ says.offset_asked b
-  offset = λ i. if is_none (same (codes "offset") refl i) then Some None else option_map (λ n. Some n) (number 0 18446744073709551615 (codes "offset") refl i)
+  offset = λ i. if unsaid (codes "offset") refl i then Some None else option_map (λ n. Some n) (number 0 18446744073709551615 (codes "offset") refl i)
 
   member : says.new_member_asked a ≡ says.new_member_asked b
   member = λ i. option_and_then (λ t. option_and_then (λ name. option_and_then (λ tnum. option_map (λ offset. add.Member t name tnum offset) (offset i)) (type_under (codes "type") refl i)) (name_or_empty (codes "name") refl i)) (type_in i)
 
   value_for : says.value_asked_for a ≡ says.value_asked_for b
-  value_for = λ i. option_and_then says.within_signed (option_and_then as_i64 (option_and_then as_number (same (codes "value") refl i)))
+  value_for = λ i. option_and_then says.within_signed (option_and_then as_i64 (numbered (codes "value") refl i))
 
   enumerator : says.new_enumerator_asked a ≡ says.new_enumerator_asked b
   enumerator = λ i. option_and_then (λ t. option_and_then (λ name. option_map (λ value. add.Enumerator t name value) (value_for i)) (name_or_empty (codes "name") refl i)) (type_in i)

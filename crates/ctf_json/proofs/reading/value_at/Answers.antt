@@ -1,4 +1,5 @@
-use Rattle.std.proofs.Common.{◌≡◌, [], ◌∷◌, length, map, Some, None, sym, ap, ◌∙◌, arith, rules}
+use Rattle.std.proofs.Common.{◌≡◌, [], ◌∷◌, length, map, None, ap, ◌∙◌, arith, rules}
+use Rattle.json.specs.Find.{get}
 use Rattle.json.specs.Json.{null, object, parse_map, members, value}
 use Rattle.json.specs.Reads.{token_of}
 use Rattle.json.specs.Value.{value_view}
@@ -30,7 +31,11 @@ returns-in-BeginObject-clause-ok c =
     let first : c.args.reader.now ≡ token_of c.in_ok-token.token ∷ ts = grind arith in
     let opened = ap (value 127) (first ∙ ap (λ k. token_of k ∷ ts) c.in-BeginObject.is) ∙ value-begin_object 127 ts (omega arith) in
     let found = c.in_ok-members_at in
-    ap (sifted in_range (kept_at keys)) opened ∙ kept-object keys (members (value 126) (length ts) ts) ∙ ap (parse_map object) found.ensures.ok ∙ ap (λ j. Some (j, c.members_at.new.reader)) (sym (view-Object found.field-0))
+    let ms = found.ensures.ok in (
+      object ms.0,
+      ap (sifted in_range (kept_at keys)) opened ∙ kept-object keys (members (value 126) (length ts) ts) ∙ ap (parse_map object) ms.1,
+      λ q. ap (get q) (view-Object found.field-0) ∙ ms.2 q,
+    )
 
 pub returns : goal.returns
 returns c =
@@ -41,6 +46,10 @@ returns c =
     let first : c.args.reader.now ≡ token_of t ∷ ts = grind arith in
     let seen : value_view Null ≡ null = search (rules, the_lemmas) in
     record {
-      ok = ap (λ x. sifted in_range (kept_at keys) (value 127 x)) first ∙ kept-null keys 127 t ts rest c.in_default.not-BeginObject c.in_ok-pass_from.ensures.passed ∙ ap (λ j. Some (j, rest)) (sym seen);
+      ok = (
+        null,
+        ap (λ x. sifted in_range (kept_at keys) (value 127 x)) first ∙ kept-null keys 127 t ts rest c.in_default.not-BeginObject c.in_ok-pass_from.ensures.passed,
+        λ q. ap (get q) seen,
+      );
       refused = λ is. grind arith;
     }
