@@ -16,6 +16,7 @@ use ctf_views::Enumerators;
 
 /// Puts the name of the first enumerator with a value, which stands at a place, or the value.
 /// Only that name is read.
+#[inline(never)]
 fn put_name(
     enumerators: &Enumerators<'_>,
     place: Option<usize>,
@@ -45,7 +46,7 @@ fn enum_size(said: Option<u64>) -> u64
 }
 
 /// Puts an enum, by its number and the size in bytes that it says.
-#[inline(always)]
+#[inline(never)]
 pub fn show_enum(
     memory: &[u8],
     at: u128,

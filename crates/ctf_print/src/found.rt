@@ -14,9 +14,9 @@ use ctf_model::{Fault, TypeNum, placeless};
 pub struct Found<'a> {
     /// The type whose record says so.
     pub number: TypeNum,
-    pub how: Told<'a>,
     /// How many values may still stand in each other inside one of them.
     pub nesting: u32,
+    pub how: Told<'a>,
 }
 
 /// How the values of a number's type are shown, as its record says, or why none is.
@@ -31,8 +31,8 @@ fn by_record<'a>(image: &Image<'a>, number: TypeNum, nesting: u32) -> Result<Fou
     match image.space.term(number) {
         Ok(found) => Ok(Found {
             number,
-            how: told_by(found.shape()),
             nesting: nesting - 1,
+            how: told_by(found.shape()),
         }),
         Err(fault) => Err(fault),
     }
@@ -40,8 +40,8 @@ fn by_record<'a>(image: &Image<'a>, number: TypeNum, nesting: u32) -> Result<Fou
 
 /// How the values of a number's type are shown, wherever they stand, or why none is. Typedefs and
 /// qualifiers are followed once for each type.
-#[inline]
-pub fn find<'a>(
+#[inline(always)]
+fn found_behind<'a>(
     image: &Image<'a>,
     number: TypeNum,
     nesting: u32,
@@ -55,8 +55,8 @@ pub fn find<'a>(
     match by_record(image, number, nesting) {
         Ok(
             Found {
-                how: Told::As(next),
                 nesting,
+                how: Told::As(next),
                 ..
             },
         ) => {
@@ -64,5 +64,51 @@ pub fn find<'a>(
             by_record(image, reached.number, reached.nesting)
         }
         other => other,
+    }
+}
+
+/// The same, put into a place: where values stand in each other, each has one such place on the
+/// stack, and none for a result that is moved.
+#[inline(never)]
+fn put_found<'a>(
+    image: &Image<'a>,
+    number: TypeNum,
+    nesting: u32,
+    known: &mut ShowCache<'_>,
+    found: &mut Found<'a>,
+) -> Result<(), Fault>
+    requires known { known.old ≡ types_of image.now }
+    ensures found { IfOk result (λ _. IsFound image.now nesting number.0 found.new) }
+    ensures fault { IfErr result (λ f. (p : ℕ) → shows image.now nesting number.0 p ≡ ends f) }
+    ensures kept { known.new ≡ known.old }
+{
+    *found = found_behind(image, number, nesting, known)?;
+    Ok(())
+}
+
+/// The same. It is inlined, so that the call's own result takes stack only until it is looked at.
+#[inline(always)]
+pub fn find<'a>(
+    image: &Image<'a>,
+    number: TypeNum,
+    nesting: u32,
+    known: &mut ShowCache<'_>,
+    found: &mut Found<'a>,
+) -> Result<(), Fault>
+    requires known { known.old ≡ types_of image.now }
+    ensures found { IfOk result (λ _. IsFound image.now nesting number.0 found.new) }
+    ensures fault { IfErr result (λ f. (p : ℕ) → shows image.now nesting number.0 p ≡ ends f) }
+    ensures kept { known.new ≡ known.old }
+{
+    put_found(image, number, nesting, known, found)
+}
+
+/// A place in which nothing is found yet.
+#[inline(always)]
+pub fn nothing_found<'a>() -> Found<'a> {
+    Found {
+        number: TypeNum(0),
+        nesting: 0,
+        how: Told::Incomplete,
     }
 }

@@ -29,11 +29,21 @@ pub fn signed(width: u16, number: u64) -> i64
     }
 }
 
+#[inline(never)]
 fn put_digits(number: u64, out: &mut Text) -> Result<(), Fault>
     ensures ok { OnOk result (written out.old (piece (decimal number)) ≡ Ok out.new) }
     ensures err { IfErr result (Refused out.old (piece (decimal number))) }
 {
     out.put(Buffer::new().format(number).as_bytes())
+}
+
+/// Puts a number below zero.
+#[inline(never)]
+fn put_negative(value: i64, out: &mut Text) -> Result<(), Fault>
+    ensures ok { OnOk result (written out.old (piece (signed_decimal value)) ≡ Ok out.new) }
+    ensures err { IfErr result (Refused out.old (piece (signed_decimal value))) }
+{
+    out.put(Buffer::new().format(value).as_bytes())
 }
 
 /// Puts a number with its sign, in decimal digits.
@@ -45,7 +55,7 @@ pub fn put_signed(value: i64, out: &mut Text) -> Result<(), Fault>
     if value >= 0 {
         return put_unsigned(value.cast_unsigned(), out);
     }
-    out.put(Buffer::new().format(value).as_bytes())
+    put_negative(value, out)
 }
 
 /// Puts a number in decimal digits. Many are small.
@@ -80,7 +90,7 @@ fn put_integer(encoding: Encoding, number: u64, out: &mut Text) -> Result<(), Fa
 }
 
 /// Puts an integer whose storage begins at a bit.
-#[inline(always)]
+#[inline(never)]
 pub fn show_integer(
     memory: &[u8],
     at: u128,
@@ -106,6 +116,7 @@ pub fn show_integer(
 }
 
 /// Puts a float whose storage begins at a bit.
+#[inline(never)]
 pub fn show_float(memory: &[u8], at: u128, encoding: Encoding, out: &mut Text) -> Result<(), Fault>
     ensures ok { OnOk result (written out.old
         (float_shown memory.now at (encoding_info encoding)) ≡ Ok out.new) }

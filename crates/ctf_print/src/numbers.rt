@@ -93,6 +93,7 @@ fn put_digits(memory: &[u8], at: u128, width: u128, out: &mut Text) -> Result<()
 }
 
 /// Puts so many bits as they are.
+#[inline(never)]
 pub fn show_raw(memory: &[u8], at: u128, width: u128, out: &mut Text) -> Result<(), Fault>
     ensures ok { OnOk result (written out.old (raw_shown memory.now at width) ≡ Ok out.new) }
     ensures err { IfErr result (Refused out.old (raw_shown memory.now at width)) }

@@ -161,6 +161,7 @@ impl<'a> ShowCache<'a> {
 
     /// The number of the first enumerator with a value. Of an enum that is asked for again each
     /// enumerator is read once.
+    #[inline(never)]
     fn look_for(
         &mut self,
         number: TypeNum,

@@ -129,7 +129,8 @@ impl Text {
     }
 
     /// Puts the name of a member and what stands behind it, if it has a name.
-    pub fn put_label(&mut self, name: &[u8]) -> Result<(), Fault>
+    #[inline(never)]
+    fn put_name(&mut self, name: &[u8]) -> Result<(), Fault>
         ensures ok { OnOk result (written self.old (label name.now) ≡ Ok self.new) }
         ensures err { IfErr result (Refused self.old (label name.now)) }
     {
@@ -138,5 +139,14 @@ impl Text {
         }
         self.put(name)?;
         self.put_short(b" = ")
+    }
+
+    /// The same. Where it is called, its result takes the stack only as long as that is looked at.
+    #[inline(always)]
+    pub fn put_label(&mut self, name: &[u8]) -> Result<(), Fault>
+        ensures ok { OnOk result (written self.old (label name.now) ≡ Ok self.new) }
+        ensures err { IfErr result (Refused self.old (label name.now)) }
+    {
+        self.put_name(name)
     }
 }

@@ -1,5 +1,9 @@
 //! Values and the values that they hold. Each shows what it may, up to the longest text; no more
 //! than so many values stand in each other.
+//!
+//! A struct in a struct takes one frame of the stack, that of `show_members`, and an array in an
+//! array that of `show_array`: what else they call in turn is inlined there, and what is left to a
+//! call of its own, as an integer, has no locals in these frames.
 ghost use Rattle.std.specs.Prelude.{◌≡◌, ◌*◌, map, IfErr, OnOk, Ok};
 ghost use Rattle.ctf_model.specs.figures.Figures.{size as size_of};
 ghost use Rattle.ctf_model.specs.values.Pieces.{separated};
@@ -13,7 +17,7 @@ ghost use Rattle.ctf_print.specs.ToldView.{told_view};
 ghost use Rattle.ctf_print.specs.Written.{Refused, written};
 
 use crate::enums::show_enum;
-use crate::found::{Found, find};
+use crate::found::{Found, find, nothing_found};
 use crate::image::Image;
 use crate::integers::{show_float, show_integer};
 use crate::numbers::show_raw;
@@ -34,6 +38,7 @@ fn pointer_bits(model: DataModel) -> u128
 }
 
 /// Puts the elements of an array, separated by commas.
+#[inline(always)]
 #[cycle(values)]
 fn show_elements(
     image: &Image<'_>,
@@ -59,10 +64,11 @@ fn show_elements(
         Ok(size) => size,
         Err(fault) => return out.end(fault),
     };
-    let found = match find(image, array.contents, nesting, known) {
-        Ok(found) => found,
+    let mut found = nothing_found();
+    match find(image, array.contents, nesting, known, &mut found) {
+        Ok(()) => {}
         Err(fault) => return out.end(fault),
-    };
+    }
     let mut place = at;
     for i in 0..array.count {
         out.put_comma(i as usize)?;
@@ -72,6 +78,7 @@ fn show_elements(
     out.put_nothing()
 }
 
+#[inline(never)]
 #[cycle(values)]
 fn show_array(
     image: &Image<'_>,
@@ -95,6 +102,7 @@ fn show_array(
     out.put_short(b"]")
 }
 
+#[inline(always)]
 #[cycle(values)]
 fn show_member(
     image: &Image<'_>,
@@ -117,6 +125,7 @@ fn show_member(
 }
 
 /// Puts members, separated by commas.
+#[inline(always)]
 #[cycle(values)]
 fn show_each_member(
     image: &Image<'_>,
@@ -140,6 +149,7 @@ fn show_each_member(
     out.put_nothing()
 }
 
+#[inline(never)]
 #[cycle(values)]
 fn show_members(
     image: &Image<'_>,
@@ -199,13 +209,14 @@ fn show_told(
         }
         Told::Members(members) => show_members(image, members, at, nesting, known, out),
         Told::Array(array) => show_array(image, *array, at, nesting, known, out),
-        Told::As(next) => show_value(image, *next, at, nesting, known, out),
+        Told::As(next) => show_again(image, *next, at, nesting, known, out),
         Told::Incomplete => out.end(placeless(Fault::INCOMPLETE)),
     }
 }
 
 /// Puts what the value of a number's type shows that begins at a bit. Typedefs and qualifiers are
 /// followed once for each type.
+#[inline(always)]
 #[cycle(values)]
 pub fn show_value(
     image: &Image<'_>,
@@ -221,8 +232,29 @@ pub fn show_value(
     ensures err { IfErr result (Refused out.old (shows image.now nesting number.0 at)) }
     ensures kept { known.new ≡ known.old }
 {
-    match find(image, number, nesting, known) {
-        Ok(found) => show_told(image, &found, at, known, out),
+    let mut found = nothing_found();
+    match find(image, number, nesting, known, &mut found) {
+        Ok(()) => show_told(image, &found, at, known, out),
         Err(fault) => out.end(fault),
     }
+}
+
+/// The same, where one typedef or qualifier more is followed.
+#[inline(never)]
+#[cycle(values)]
+fn show_again(
+    image: &Image<'_>,
+    number: TypeNum,
+    at: u128,
+    nesting: u32,
+    known: &mut ShowCache<'_>,
+    out: &mut Text,
+) -> Result<(), Fault>
+    requires known { known.old ≡ types_of image.now }
+    ensures ok { OnOk result
+        (written out.old (shows image.now nesting number.0 at) ≡ Ok out.new) }
+    ensures err { IfErr result (Refused out.old (shows image.now nesting number.0 at)) }
+    ensures kept { known.new ≡ known.old }
+{
+    show_value(image, number, at, nesting, known, out)
 }

@@ -63,6 +63,23 @@ compared (x ∷ xs) [] e h = ended x xs true (zero_there x e)
     zero_there y f = eq-eqb y 0 (same_Some y 0 f)
 compared (x ∷ xs) (y ∷ ys) e h = rw (step x xs y ys false (h 0 (omega arith)), compared xs ys e (λ k lt. h (suc k) (omega arith))) refl
 
+-- a text that is one is what stands in front
+front_case : (x : ℕ) (xs : List ℕ) (y : ℕ) (ys : List ℕ) (u v : Bool) → is_zero x ≡ u → (y == x) ≡ v → (is_named ys (text xs) ≡ true → ys ≡ take (length ys) xs) → is_named (y ∷ ys) (text (x ∷ xs)) ≡ true → y ∷ ys ≡ take (length (y ∷ ys)) (x ∷ xs)
+front_case x xs y ys true v eu ev later e =
+    let f : false ≡ true = sym (step x xs y ys true eu) ∙ e in
+    absurd cc
+front_case x xs y ys false false eu ev later e =
+    let f : false ≡ true = sym (step x xs y ys false eu ∙ ap (λ (b : Bool). b && is_named ys (text xs)) ev) ∙ e in
+    absurd cc
+front_case x xs y ys false true eu ev later e =
+    let named : is_named ys (text xs) ≡ true = sym (step x xs y ys false eu ∙ ap (λ (b : Bool). b && is_named ys (text xs)) ev) ∙ e in
+    ap (λ (b : ℕ). b ∷ ys) (eqb-true y x ev) ∙ ap (λ (l : List ℕ). x ∷ l) (later named)
+
+pub in_front : (bytes t : List ℕ) → is_named t (text bytes) ≡ true → t ≡ take (length t) bytes
+in_front [] t e = absurd cc
+in_front (x ∷ xs) [] e = refl
+in_front (x ∷ xs) (y ∷ ys) e = front_case x xs y ys (is_zero x) (y == x) refl refl (in_front xs ys) e
+
 -- ---- what a search for a zero byte from behind says
 
 taken_len : (bytes : List ℕ) (n : ℕ) → n < length bytes → length (take n bytes) ≡ n

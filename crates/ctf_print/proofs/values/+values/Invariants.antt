@@ -9,6 +9,9 @@ use Rattle.ctf_print.proofs.values.+values.Given as goal
 abbrev pub decreases-show_value : goal.decreases-show_value
 decreases-show_value l = 5 * l.nesting
 
+abbrev pub decreases-show_again : goal.decreases-show_again
+decreases-show_again l = 5 * l.nesting + 1
+
 abbrev pub decreases-show_elements : goal.decreases-show_elements
 decreases-show_elements l = 5 * l.nesting
 

@@ -1,14 +1,19 @@
 use Rattle.std.proofs.Common.{sym, ◌∙◌, None, length, take, ◌≡◌, true, false, refl}
 use Rattle.memchr.specs.Find.{IsLastByte, is_byte}
-use Rattle.ctf_sections.proofs.SameTexts.{no_end, with_zero, without_zero}
+use Rattle.std.proofs.lemmas.Bool.{false_from_ne_true}
+use Rattle.ctf_sections.proofs.SameTexts.{in_front, no_end, with_zero, without_zero}
 use Rattle.ctf_sections.proofs.matching.begins_with.Goals as goal
+
+not_true : false ≡ true → ⊥
+not_true e = absurd cc
 
 pub returns-then-not-is_end : goal.returns-then-not-is_end
 returns-then-not-is_end c =
     sym (no_end c.args.bytes.now c.args.text.now (λ e. not_true (sym c.if-not-is_end.true ∙ c.is_end.ensures.zero.1 e)))
-  where
-    not_true : false ≡ true → ⊥
-    not_true e = absurd cc
+
+pub returns-then-not-alike_at_ends : goal.returns-then-not-alike_at_ends
+returns-then-not-alike_at_ends c =
+    sym (false_from_ne_true _ (λ named. not_true (sym c.if-not-alike_at_ends.true ∙ c.alike_at_ends.ensures (in_front c.args.bytes.now c.args.text.now named))))
 
 pub returns-in-Some : goal.returns-in-Some
 returns-in-Some c =

@@ -3,7 +3,7 @@ use Rattle.std.proofs.lemmas.Bool.{eqb-false, eqb-true}
 use Rattle.std.proofs.lemmas.Result.{err_from_is_err_and}
 use Rattle.ctf_model.specs.values.Pieces.{piece}
 use Rattle.ctf_print.proofs.Writes.{label_none, label_some, next_ok, refused_first, later_refused}
-use Rattle.ctf_print.proofs.text.Text.put_label.Goals as goal
+use Rattle.ctf_print.proofs.text.Text.put_name.Goals as goal
 
 pub returns-then-is_empty-clause-ok : goal.returns-then-is_empty-clause-ok
 returns-then-is_empty-clause-ok c =
