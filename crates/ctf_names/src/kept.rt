@@ -48,6 +48,7 @@ impl Names {
     }
 
     /// The first type that is sought, from 0.
+    #[inline(always)]
     pub(crate) fn first(&self, strings: &Strings<'_>, sought: Sought<'_>) -> Option<u32>
         ensures { (s : Lists) → IsNamesOf s self.now → tables_in s ≡ tables strings.now
             → result ≡ first_place (passes sought.entry) (said_by s).terms }

@@ -67,6 +67,7 @@ pub(crate) fn in_order(alloc: Global, dictionary: &Checked<'_>) -> Result<Vec<Po
 }
 
 /// The first pointer to a type, from 0.
+#[inline(always)]
 pub(crate) fn first_to(pointers: &[Pointer], target: TypeNum) -> Option<u32>
     ensures { (terms : List Term) → PointersInOrder terms pointers.now
         → result ≡ first_place (is_pointer_to target.0) terms }
