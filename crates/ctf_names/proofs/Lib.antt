@@ -9,3 +9,4 @@ pub mod WrittenTexts
 pub mod Steps
 pub mod Lengths
 pub mod Findings
+pub mod Guessed
