@@ -1,33 +1,38 @@
 -- Sizes and alignments of numbers that name no own type.
 use Rattle.std.proofs.Common.{◌≡◌, ℕ, ◌<◌, length, None, Err, refl, sym, ◌∙◌}
 use Rattle.ctf_model.specs.rules.Chains.{own_index}
-use Rattle.ctf_model.specs.figures.Figures.{size, align, sizing, aligning}
+use Rattle.ctf_model.specs.figures.Figures.{size, align, resolved, sizing, aligning, resolving}
 use Rattle.ctf_model.specs.rules.Refusals.{placeless}
 use Rattle.ctf_model.specs.spaces.Space.{Space}
 use Rattle.ctf_model.specs.spaces.TypePlaces.{place}
 use Rattle.ctf_model.specs.declared.numbers.Place.TheVariants.{Nowhere, Parents}
 use Rattle.ctf_model.proofs.Settled.{figure_of_missing, figure_of_none, figure_of_parents}
-use Rattle.ctf_layout.specs.Extents.{IsExtent, IsParentsExtent, code_of, neither}
+use Rattle.ctf_layout.specs.Extents.{IsExtent, IsParentsExtent, code_of, of_no_type, refused}
 use Rattle.ctf_layout.specs.declared.extents.Extent.{Extent}
 use Rattle.ctf_layout.specs.declared.extents.Refusal.{Refusal}
-use Rattle.ctf_layout.specs.declared.extents.Refusal.TheVariants.{Incomplete, NoType}
+use Rattle.ctf_layout.specs.declared.extents.Refusal.TheVariants.{NoType}
 
--- a size and an alignment that are both refused
-pub refused_extent : (s : Space) (n : ℕ) (refusal : Refusal) (e : Extent) → e ≡ neither refusal → size s n ≡ Err (placeless (code_of refusal)) → align s n ≡ Err (placeless (code_of refusal)) → IsExtent s n e
-refused_extent s n refusal e is a b = rw is (record { sized = sym a; aligned = sym b })
+-- a size, an alignment and a type that is stood for which are all refused
+refused_extent : (s : Space) (n : ℕ) (refusal : Refusal) (e : Extent) → e ≡ refused refusal → size s n ≡ Err (placeless (code_of refusal)) → align s n ≡ Err (placeless (code_of refusal)) → resolved s n ≡ Err (placeless (code_of refusal)) → IsExtent s n e
+refused_extent s n refusal e is a b c = rw is (record { sized = sym a; aligned = sym b; resolves = sym c })
 
 -- no type
-pub extent_of_none : (s : Space) (n : ℕ) (e : Extent) → n ≡ 0 → e ≡ neither Incomplete → IsExtent s n e
-extent_of_none s n e zero is = rw zero (refused_extent s 0 Incomplete e is (figure_of_none (sizing s.model) s) (figure_of_none (aligning s.model) s))
+pub extent_of_none : (s : Space) (n : ℕ) (e : Extent) → n ≡ 0 → e ≡ of_no_type → IsExtent s n e
+extent_of_none s n e zero is = rw (zero, is) (record {
+  sized = sym (figure_of_none (sizing s.model) s);
+  aligned = sym (figure_of_none (aligning s.model) s);
+  resolves = sym (figure_of_none resolving s);
+})
 
 -- a number at which no type stands
-pub extent_of_missing : (s : Space) (n : ℕ) (e : Extent) → 0 < n → ((i : ℕ) → place s.own.child n ≡ Parents i → ⊥) → own_index s.own.child (length s.own.terms) n ≡ None → e ≡ neither NoType → IsExtent s n e
+pub extent_of_missing : (s : Space) (n : ℕ) (e : Extent) → 0 < n → ((i : ℕ) → place s.own.child n ≡ Parents i → ⊥) → own_index s.own.child (length s.own.terms) n ≡ None → e ≡ refused NoType → IsExtent s n e
 extent_of_missing s n e some not_parents not_own is =
     refused_extent s n NoType e is
     (figure_of_missing (sizing s.model) s n some not_parents not_own)
     (figure_of_missing (aligning s.model) s n some not_parents not_own)
+    (figure_of_missing resolving s n some not_parents not_own)
 
-pub extent_of_nowhere : (s : Space) (n : ℕ) (e : Extent) → 0 < n → place s.own.child n ≡ Nowhere → e ≡ neither NoType → IsExtent s n e
+pub extent_of_nowhere : (s : Space) (n : ℕ) (e : Extent) → 0 < n → place s.own.child n ≡ Nowhere → e ≡ refused NoType → IsExtent s n e
 extent_of_nowhere s n e some at is = extent_of_missing s n e some (λ i other. let clash : Nowhere ≡ Parents i = sym at ∙ other in absurd cc) (rw at refl) is
 
 -- a parent's type
@@ -35,4 +40,5 @@ pub extent_of_parents : (s : Space) (n i : ℕ) (e : Extent) → place s.own.chi
 extent_of_parents s n i e at h = record {
   sized = h.sized ∙ sym (figure_of_parents (sizing s.model) s n i at);
   aligned = h.aligned ∙ sym (figure_of_parents (aligning s.model) s n i at);
+  resolves = h.resolves ∙ sym (figure_of_parents resolving s n i at);
 }

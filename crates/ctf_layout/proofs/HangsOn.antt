@@ -6,9 +6,9 @@ use Rattle.ctf_model.specs.rules.Chains.{IsWithin, by_value, longest_chain}
 use Rattle.ctf_model.specs.format.Term.{Term, Body, Member}
 use Rattle.ctf_model.specs.format.Term as term
 use Rattle.ctf_model.specs.declared.faults.Fault.{Fault}
-use Rattle.ctf_layout.specs.Bases.{basis, greatest_of, members_read, row_size}
-use Rattle.ctf_layout.specs.Extents.{IsExtent, amount}
-use Rattle.ctf_model.specs.figures.Figures.{size, align, sizing, aligning, size_body, align_body, greater, greatest, first_of}
+use Rattle.ctf_layout.specs.Bases.{basis, greatest_of, members_read, row_size, row_target}
+use Rattle.ctf_layout.specs.Extents.{IsExtent, amount, target}
+use Rattle.ctf_model.specs.figures.Figures.{size, align, resolved, sizing, aligning, resolving, size_body, align_body, resolved_body, greater, greatest, first_of}
 use Rattle.ctf_model.specs.figures.FigureLaws.{own_body, value_edges}
 use Rattle.ctf_model.specs.format.Shown.{shape}
 use Rattle.ctf_model.specs.spaces.TypePlaces.{own_number}
@@ -19,6 +19,7 @@ use Rattle.ctf_layout.specs.declared.bases.Basis.{Basis}
 use Rattle.ctf_layout.specs.declared.bases.Basis.TheVariants.{Itself, One, Members}
 use Rattle.ctf_layout.specs.declared.extents.Extent.{Extent}
 use Rattle.ctf_layout.specs.declared.bases.Row.{Row}
+use Rattle.ctf_layout.specs.declared.extents.Target.{Target}
 use Rattle.ctf_model.specs.declared.data_model.DataModel.{DataModel}
 use Rattle.ctf_model.proofs.FigureAsks.{figures_ask}
 use Rattle.ctf_model.specs.declared.numbers.TypeNum.{TypeNum}
@@ -66,25 +67,25 @@ struct_is f (m ∷ ms) =
 -- ---- bases
 
 abbrev pub BasisSays : DataModel → Body → Basis → Type 0
-BasisSays model body (Itself e) = (members_read body ≡ 0) × ((f : ℕ → Result ℕ Fault) → size_body model f body ≡ amount e.size) × ((f : ℕ → Result ℕ Fault) → align_body model f body ≡ amount e.align)
-BasisSays model body (One t row) = (members_read body ≡ 0) × (by_value body ≡ t.0 ∷ []) × ((f : ℕ → Result ℕ Fault) → size_body model f body ≡ row_size row (f t.0)) × ((f : ℕ → Result ℕ Fault) → align_body model f body ≡ f t.0)
-BasisSays model body (Members n read) = (members_read body ≡ read) × (read ≤ length (by_value body)) × ((f : ℕ → Result ℕ Fault) → size_body model f body ≡ Ok n) × ((f : ℕ → Result ℕ Fault) → align_body model f body ≡ greatest_of f (take read (by_value body)))
+BasisSays model body (Itself size align) = (members_read body ≡ 0) × ((f : ℕ → Result ℕ Fault) → size_body model f body ≡ amount size) × ((f : ℕ → Result ℕ Fault) → align_body model f body ≡ amount align) × ((f : ℕ → Result ℕ Fault) (n : ℕ) → resolved_body f n body ≡ Ok n)
+BasisSays model body (One t row) = (members_read body ≡ 0) × (by_value body ≡ t.0 ∷ []) × ((f : ℕ → Result ℕ Fault) → size_body model f body ≡ row_size row (f t.0)) × ((f : ℕ → Result ℕ Fault) → align_body model f body ≡ f t.0) × ((f : ℕ → Result ℕ Fault) (n : ℕ) → resolved_body f n body ≡ row_target row (f t.0) n)
+BasisSays model body (Members n read) = (members_read body ≡ read) × (read ≤ length (by_value body)) × ((f : ℕ → Result ℕ Fault) → size_body model f body ≡ Ok n) × ((f : ℕ → Result ℕ Fault) → align_body model f body ≡ greatest_of f (take read (by_value body))) × ((f : ℕ → Result ℕ Fault) (n : ℕ) → resolved_body f n body ≡ Ok n)
 
 pub basis_says : (model : DataModel) (body : Body) → BasisSays model body (basis model (shape body))
-basis_says model (term.integer x) = (refl, (λ f. refl), (λ f. refl))
-basis_says model (term.float x) = (refl, (λ f. refl), (λ f. refl))
-basis_says model (term.pointer t) = (refl, (λ f. refl), (λ f. refl))
-basis_says model (term.function r ts) = (refl, (λ f. refl), (λ f. refl))
-basis_says model (term.enum said xs) = (refl, (λ f. refl), (λ f. refl))
-basis_says model (term.forward t) = (refl, (λ f. refl), (λ f. refl))
-basis_says model term.unknown = (refl, (λ f. refl), (λ f. refl))
-basis_says model (term.array e) = (refl, refl, (λ f. refl), (λ f. refl))
-basis_says model (term.typedef t) = (refl, refl, (λ f. refl), (λ f. refl))
-basis_says model (term.volatile t) = (refl, refl, (λ f. refl), (λ f. refl))
-basis_says model (term.const t) = (refl, refl, (λ f. refl), (λ f. refl))
-basis_says model (term.restrict t) = (refl, refl, (λ f. refl), (λ f. refl))
-basis_says model (term.struct said ms) = (refl, omega (arith, length-map ms (λ (m : Member). m.tnum)), (λ f. refl), (λ f. struct_is f ms))
-basis_says model (term.union said ms) = (refl, omega (arith, length-map ms (λ (m : Member). m.tnum)), (λ f. refl), (λ f. union_is f ms))
+basis_says model (term.integer x) = (refl, (λ f. refl), (λ f. refl), (λ f n. refl))
+basis_says model (term.float x) = (refl, (λ f. refl), (λ f. refl), (λ f n. refl))
+basis_says model (term.pointer t) = (refl, (λ f. refl), (λ f. refl), (λ f n. refl))
+basis_says model (term.function r ts) = (refl, (λ f. refl), (λ f. refl), (λ f n. refl))
+basis_says model (term.enum said xs) = (refl, (λ f. refl), (λ f. refl), (λ f n. refl))
+basis_says model (term.forward t) = (refl, (λ f. refl), (λ f. refl), (λ f n. refl))
+basis_says model term.unknown = (refl, (λ f. refl), (λ f. refl), (λ f n. refl))
+basis_says model (term.array e) = (refl, refl, (λ f. refl), (λ f. refl), (λ f n. refl))
+basis_says model (term.typedef t) = (refl, refl, (λ f. refl), (λ f. refl), (λ f n. refl))
+basis_says model (term.volatile t) = (refl, refl, (λ f. refl), (λ f. refl), (λ f n. refl))
+basis_says model (term.const t) = (refl, refl, (λ f. refl), (λ f. refl), (λ f n. refl))
+basis_says model (term.restrict t) = (refl, refl, (λ f. refl), (λ f. refl), (λ f n. refl))
+basis_says model (term.struct said ms) = (refl, omega (arith, length-map ms (λ (m : Member). m.tnum)), (λ f. refl), (λ f. struct_is f ms), (λ f n. refl))
+basis_says model (term.union said ms) = (refl, omega (arith, length-map ms (λ (m : Member). m.tnum)), (λ f. refl), (λ f. union_is f ms), (λ f n. refl))
 
 -- what is known where a basis is read
 pub basis_read : (s : Space) (i : ℕ) (b c : Basis) → b ≡ basis s.model (shape (own_body s.own i)) → b ≡ c → BasisSays s.model (own_body s.own i) c
@@ -104,20 +105,36 @@ size_rule s k i at = own_figure (sizing s.model) (figures_ask.sizing_asks s.mode
 align_rule : (s : Space) (k i : ℕ) → IsOwnAt s k i → align s (own_number s.own.child i) ≡ align_body s.model (align s) (own_body s.own i)
 align_rule s k i at = own_figure (aligning s.model) (figures_ask.aligning_asks s.model) s k i at.short at.inside at.within
 
-pub itself_extent : (s : Space) (k i : ℕ) (e : Extent) → IsOwnAt s k i → BasisSays s.model (own_body s.own i) (Itself e) → IsExtent s (own_number s.own.child i) e
-itself_extent s k i e at b = record {
+resolve_rule : (s : Space) (k i : ℕ) → IsOwnAt s k i → resolved s (own_number s.own.child i) ≡ resolved_body (resolved s) (own_number s.own.child i) (own_body s.own i)
+resolve_rule s k i at = own_figure resolving figures_ask.resolving_asks s k i at.short at.inside at.within
+
+-- a type that stands for itself
+itself_resolves : (s : Space) (k i : ℕ) (itself : Target) → IsOwnAt s k i → ((f : ℕ → Result ℕ Fault) (n : ℕ) → resolved_body f n (own_body s.own i) ≡ Ok n) → target itself ≡ Ok (own_number s.own.child i) → target itself ≡ resolved s (own_number s.own.child i)
+itself_resolves s k i itself at stays is = is ∙ sym (resolve_rule s k i at ∙ stays (resolved s) (own_number s.own.child i))
+
+pub itself_extent : (s : Space) (k i : ℕ) (e : Extent) → IsOwnAt s k i → BasisSays s.model (own_body s.own i) (Itself e.size e.align) → target e.target ≡ Ok (own_number s.own.child i) → IsExtent s (own_number s.own.child i) e
+itself_extent s k i e at b itself = record {
   sized = sym (size_rule s k i at ∙ b.1 (size s));
   aligned = sym (align_rule s k i at ∙ b.2 (align s));
+  resolves = itself_resolves s k i e.target at b.3 itself;
 }
 
-pub one_extent : (s : Space) (k i : ℕ) (t : TypeNum) (row : Option Row) (one : Extent) (a : Amount) → IsOwnAt s k i → BasisSays s.model (own_body s.own i) (One t row) → IsExtent s t.0 one → amount a ≡ row_size row (amount one.size) → IsExtent s (own_number s.own.child i) (record { size = a; align = one.align })
-one_extent s k i t row one a at b e is = record {
-  sized = is ∙ ap (row_size row) e.sized ∙ sym (size_rule s k i at ∙ b.2 (size s));
-  aligned = e.aligned ∙ sym (align_rule s k i at ∙ b.3 (align s));
+-- an extent that is that of one type, as it is or for a row of elements
+pub record IsByOne (n : ℕ) (row : Option Row) (one e : Extent) : Type 0 where
+  pub size : amount e.size ≡ row_size row (amount one.size)
+  pub align : e.align ≡ one.align
+  pub target : target e.target ≡ row_target row (target one.target) n
+
+pub one_extent : (s : Space) (k i : ℕ) (t : TypeNum) (row : Option Row) (one e : Extent) → IsOwnAt s k i → BasisSays s.model (own_body s.own i) (One t row) → IsExtent s t.0 one → IsByOne (own_number s.own.child i) row one e → IsExtent s (own_number s.own.child i) e
+one_extent s k i t row one e at b h is = record {
+  sized = is.size ∙ ap (row_size row) h.sized ∙ sym (size_rule s k i at ∙ b.2 (size s));
+  aligned = ap amount is.align ∙ h.aligned ∙ sym (align_rule s k i at ∙ b.3 (align s));
+  resolves = is.target ∙ ap (λ r. row_target row r (own_number s.own.child i)) h.resolves ∙ sym (resolve_rule s k i at ∙ b.4 (resolved s) (own_number s.own.child i));
 }
 
-pub members_extent : (s : Space) (k i n read : ℕ) (a : Amount) → IsOwnAt s k i → BasisSays s.model (own_body s.own i) (Members n read) → amount a ≡ greatest_of (align s) (take read (by_value (own_body s.own i))) → IsExtent s (own_number s.own.child i) (record { size = Known n; align = a })
-members_extent s k i n read a at b is = record {
+pub members_extent : (s : Space) (k i n read : ℕ) (a : Amount) (itself : Target) → IsOwnAt s k i → BasisSays s.model (own_body s.own i) (Members n read) → amount a ≡ greatest_of (align s) (take read (by_value (own_body s.own i))) → target itself ≡ Ok (own_number s.own.child i) → IsExtent s (own_number s.own.child i) (record { size = Known n; align = a; target = itself })
+members_extent s k i n read a itself at b is itself_is = record {
   sized = sym (size_rule s k i at ∙ b.2 (size s));
   aligned = is ∙ sym (align_rule s k i at ∙ b.3 (align s));
+  resolves = itself_resolves s k i itself at b.4 itself_is;
 }

@@ -8,3 +8,4 @@ pub mod Follow
 pub mod Few
 pub mod FoundMembers
 pub mod PathSteps
+pub mod Answered

@@ -12,7 +12,7 @@ use Rattle.ctf_model.specs.spaces.Space.{Space}
 use Rattle.ctf_model.specs.spaces.TypePlaces.{own_number, place}
 use Rattle.ctf_model.specs.declared.numbers.Place.TheVariants.{Own, Parents}
 use Rattle.ctf_model.proofs.OwnTypes.{own_place, own_positive, parents_place, place_of_own}
-use Rattle.ctf_layout.specs.Extents.{IsExtent, IsParentsExtent, neither}
+use Rattle.ctf_layout.specs.Extents.{IsExtent, IsParentsExtent, refused}
 use Rattle.ctf_layout.specs.Fitting.{Fits}
 use Rattle.ctf_layout.specs.Kept.{AreExtents, extent_at, extent_kept, or_no_type, table_kept}
 use Rattle.ctf_layout.specs.Over.{OverParent}
@@ -40,7 +40,7 @@ all_open x (suc n) zero none = none
 all_open x (suc n) (suc j) none = all_open x n j none
 
 -- what a full table says of a type
-said : (s : Space) (table : Table) (n i : ℕ) (o : Option Extent) → Knows s table → own_number s.own.child i ≡ n → entry table i ≡ o → IsSome o → IsExtent s n (unwrap_or o (neither NoType))
+said : (s : Space) (table : Table) (n i : ℕ) (o : Option Extent) → Knows s table → own_number s.own.child i ≡ n → entry table i ≡ o → IsSome o → IsExtent s n (unwrap_or o (refused NoType))
 said s table n i None knows at is some = let f : false ≡ true = some in absurd cc
 said s table n i (Some e) knows at is some = let P : ℕ → Type 0 = λ m. IsExtent s m e in subst P at (knows.right i e is)
 
@@ -65,7 +65,7 @@ own_extent s entries are n i at e is = rw is (go (slice_get_cases entries i).1)
         rw h.2 (said s (table_kept entries) n i (extent_kept h.0) are.whole.knows (sym (own_place s.own.child n i at)) here (rw here at (are.whole.each i inside)))
     go (inr h) =
         let past : length s.own.terms ≤ i = omega (arith, are.count, h.0) in
-        rw h.1 (extent_of_missing s n (neither NoType) (own_positive s.own.child n i at) (λ j other. let clash : Own i ≡ Parents j = sym at ∙ other in absurd cc) (not_own s.own.child (length s.own.terms) n i at past) refl)
+        rw h.1 (extent_of_missing s n (refused NoType) (own_positive s.own.child n i at) (λ j other. let clash : Own i ≡ Parents j = sym at ∙ other in absurd cc) (not_own s.own.child (length s.own.terms) n i at past) refl)
 
 -- ---- over a parent
 
@@ -79,17 +79,17 @@ in_parents_table s entries over n i at e is = go s.parent refl
         let plain = over.plain p some in
         let first = own_place_plain n i at in
         let h = own_extent (parent_alone s p) entries (over.right p some entries refl) n i (rw plain first) e is in
-        rw some (record { sized = h.sized; aligned = h.aligned })
+        rw some (record { sized = h.sized; aligned = h.aligned; resolves = h.resolves })
       where
         own_place_plain : (n i : ℕ) → place s.own.child n ≡ Parents i → place false n ≡ Own i
         own_place_plain n i at = let number = parents_place s.own.child n i at in rw number (place_of_own false i)
 
 -- and by none where there is no parent
-pub in_no_table : (s : Space) → OverParent s None → (n : ℕ) (e : Extent) → e ≡ neither NoParent → IsParentsExtent s n e
+pub in_no_table : (s : Space) → OverParent s None → (n : ℕ) (e : Extent) → e ≡ refused NoParent → IsParentsExtent s n e
 in_no_table s over n e is = rw is (go s.parent refl)
   where
-    go : (parent : Option Dictionary) → s.parent ≡ parent → IsParentsExtent s n (neither NoParent)
-    go None none = rw none (record { sized = refl; aligned = refl })
+    go : (parent : Option Dictionary) → s.parent ≡ parent → IsParentsExtent s n (refused NoParent)
+    go None none = rw none (record { sized = refl; aligned = refl; resolves = refl })
     go (Some p) some = let both = over.both in let clash : false ≡ true = rw some at both in absurd cc
 
 -- the parent's own layout is there for a child

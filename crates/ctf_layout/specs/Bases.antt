@@ -1,4 +1,5 @@
--- What the size and the alignment of a type hang on. The words are ours.
+-- What the size and the alignment of a type hang on, and which type it stands for. The words are
+-- ours.
 use Rattle.std.specs.Prelude.{ℕ, min, nat_lt, List, [], ◌∷◌, length, Option, Some, None, Result, Ok, unwrap_or, if◌then◌else◌}
 use Rattle.ctf_model.specs.figures.Figures.{enum_size, greater, times}
 use Rattle.ctf_model.specs.format.Shown.{ArrayParts, Shape, array_in, list_length}
@@ -9,24 +10,23 @@ use Rattle.ctf_model.specs.declared.data_model.DataModel.{DataModel}
 use Rattle.ctf_model.specs.declared.faults.Fault.{Fault}
 use Rattle.ctf_model.specs.declared.kinds.Kind.{Kind}
 use Rattle.ctf_model.specs.declared.kinds.Kind.TheVariants.{KUnknown, KInteger, KFloat, KPointer, KArray, KFunction, KStruct, KUnion, KEnum, KForward, KTypedef, KVolatile, KConst, KRestrict}
-use Rattle.ctf_layout.specs.Extents.{neither}
 use Rattle.ctf_layout.specs.declared.bases.Basis.{Basis}
 use Rattle.ctf_layout.specs.declared.bases.Basis.TheVariants.{Itself, One, Members}
 use Rattle.ctf_layout.specs.declared.bases.Row.{Row}
-use Rattle.ctf_layout.specs.declared.extents.Amount.TheVariants.{Known}
+use Rattle.ctf_layout.specs.declared.extents.Amount.TheVariants.{Known, Refused}
 use Rattle.ctf_layout.specs.declared.extents.Refusal.TheVariants.{Incomplete}
 
 -- ---- by shape
 
 abbrev pub both : ℕ → Basis
-both n = Itself (record { size = Known n; align = Known n })
+both n = Itself (Known n) (Known n)
 
 abbrev pub of_nothing : Basis
-of_nothing = Itself (neither Incomplete)
+of_nothing = Itself (Refused Incomplete) (Refused Incomplete)
 
 -- a function has no size, and the alignment of a pointer
 abbrev pub of_function : DataModel → Basis
-of_function model = Itself (record { size = Known 0; align = Known (pointer_size model) })
+of_function model = Itself (Known 0) (Known (pointer_size model))
 
 -- its elements, and how many
 abbrev pub of_array : ℕ → Option ArrayParts → Basis
@@ -64,6 +64,11 @@ basis model x = of_kind model x.kind (unwrap_or x.size 0) x
 abbrev pub row_size : Option Row → Result ℕ Fault → Result ℕ Fault
 row_size None element = element
 row_size (Some row) element = if nat_lt 0 row.size then Ok row.size else times row.count element
+
+-- the type that a type with a number stands for, of which this is one: a row for itself
+abbrev pub row_target : Option Row → Result ℕ Fault → ℕ → Result ℕ Fault
+row_target None one n = one
+row_target (Some row) one n = Ok n
 
 -- the greatest that numbers come to, or the first fault
 abbrev pub greatest_of : (ℕ → Result ℕ Fault) → List ℕ → Result ℕ Fault

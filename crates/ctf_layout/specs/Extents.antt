@@ -1,6 +1,6 @@
--- Sizes and alignments as code has them.
+-- Sizes, alignments and the types that are stood for, as code has them.
 use Rattle.std.specs.Prelude.{◌≡◌, ℕ, Result, Ok, Err}
-use Rattle.ctf_model.specs.figures.Figures.{size, align, sizing, aligning, parents_figure}
+use Rattle.ctf_model.specs.figures.Figures.{size, align, resolved, sizing, aligning, resolving, parents_figure}
 use Rattle.ctf_model.specs.rules.Refusals.{placeless}
 use Rattle.ctf_model.specs.spaces.Space.{Space}
 use Rattle.ctf_model.specs.declared.faults.Fault.{Fault}
@@ -10,6 +10,8 @@ use Rattle.ctf_layout.specs.declared.extents.Amount.TheVariants.{Known, Refused}
 use Rattle.ctf_layout.specs.declared.extents.Extent.{Extent}
 use Rattle.ctf_layout.specs.declared.extents.Refusal.{Refusal}
 use Rattle.ctf_layout.specs.declared.extents.Refusal.TheVariants.{Incomplete, TooBig, NoType, NoParent}
+use Rattle.ctf_layout.specs.declared.extents.Target.{Target}
+use Rattle.ctf_layout.specs.declared.extents.Target.TheVariants as stands_for
 
 abbrev pub code_of : Refusal → ℕ
 code_of Incomplete = INCOMPLETE
@@ -22,16 +24,35 @@ abbrev pub amount : Amount → Result ℕ Fault
 amount (Known n) = Ok n
 amount (Refused refusal) = Err (placeless (code_of refusal))
 
--- neither a size nor an alignment
-abbrev pub neither : Refusal → Extent
-neither refusal = record { size = Refused refusal; align = Refused refusal }
+-- the number of a type, or a fault without a place
+abbrev pub target : Target → Result ℕ Fault
+target (stands_for.Known t) = Ok t.0
+target (stands_for.Refused refusal) = Err (placeless (code_of refusal))
 
--- the size and the alignment of what a number names
+-- neither a size nor an alignment, nor a type that is stood for
+abbrev pub refused : Refusal → Extent
+refused refusal = record {
+  size = Refused refusal;
+  align = Refused refusal;
+  target = stands_for.Refused refusal;
+}
+
+-- of the number 0, which is no type and stands for itself
+abbrev pub of_no_type : Extent
+of_no_type = record {
+  size = Refused Incomplete;
+  align = Refused Incomplete;
+  target = stands_for.Known (record { 0 = 0 });
+}
+
+-- the size and the alignment of what a number names, and the type that it stands for
 pub record IsExtent (s : Space) (n : ℕ) (e : Extent) : Type 0 where
   pub sized : amount e.size ≡ size s n
   pub aligned : amount e.align ≡ align s n
+  pub resolves : target e.target ≡ resolved s n
 
 -- the same of a parent's number
 pub record IsParentsExtent (s : Space) (n : ℕ) (e : Extent) : Type 0 where
   pub sized : amount e.size ≡ parents_figure (sizing s.model) s.parent n
   pub aligned : amount e.align ≡ parents_figure (aligning s.model) s.parent n
+  pub resolves : target e.target ≡ parents_figure resolving s.parent n

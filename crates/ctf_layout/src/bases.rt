@@ -1,4 +1,4 @@
-//! What the size and the alignment of a type hang on.
+//! What the size and the alignment of a type hang on, and which type it stands for.
 ghost use Rattle.std.specs.Prelude.{◌≡◌, Some, min, option_map, unwrap_or};
 ghost use Rattle.ctf_check.specs.CheckedView.{IsOwn, tables_of};
 ghost use Rattle.ctf_layout.specs.Bases.{basis as basis_word, both as both_of, of_array, of_function, of_nothing, of_other};
@@ -8,7 +8,7 @@ ghost use Rattle.ctf_model.specs.format.Spelling.{term_of};
 ghost use Rattle.ctf_records.specs.RecordView.{bytes_of};
 ghost use Rattle.ctf_views.specs.VariantView.{seen};
 
-use crate::extents::{Amount, Extent, Refusal, neither};
+use crate::extents::{Amount, Refusal};
 use ctf_check::Checked;
 use ctf_model::{DataModel, Kind, TypeNum};
 use ctf_records::Record;
@@ -21,11 +21,12 @@ pub struct Row {
     pub count: u32,
 }
 
-/// What the size and the alignment of a type hang on.
+/// What the size and the alignment of a type hang on. A type stands for itself, but for one that is
+/// as one other is.
 #[derive(Clone, Copy, Debug, PartialEq, Eq)]
 pub enum Basis {
-    /// On nothing else.
-    Itself(Extent),
+    /// On nothing else: the size, and the alignment.
+    Itself(Amount, Amount),
     /// On those of one type, as they are or for a row of elements.
     One(TypeNum, Option<Row>),
     /// Its size is said; the alignment hangs on so many of its members.
@@ -44,25 +45,20 @@ fn pointer_size(model: DataModel) -> u64
 fn both(number: u64) -> Basis
     ensures { result ≡ both_of number }
 {
-    Basis::Itself(Extent {
-        size: Amount::Known(number),
-        align: Amount::Known(number),
-    })
+    Basis::Itself(Amount::Known(number), Amount::Known(number))
 }
 
 fn nothing() -> Basis
     ensures { result ≡ of_nothing }
 {
-    Basis::Itself(neither(Refusal::Incomplete))
+    let neither = Amount::Refused(Refusal::Incomplete);
+    Basis::Itself(neither, neither)
 }
 
 fn function(model: DataModel) -> Basis
     ensures { result ≡ of_function model }
 {
-    Basis::Itself(Extent {
-        size: Amount::Known(0),
-        align: Amount::Known(pointer_size(model)),
-    })
+    Basis::Itself(Amount::Known(0), Amount::Known(pointer_size(model)))
 }
 
 fn array(size: u64, behind: &Variant<'_>) -> Basis

@@ -1,8 +1,9 @@
-//! Sizes and alignments of types, together.
+//! Sizes and alignments of types, and the types that they stand for, together.
 ghost use Rattle.std.specs.Prelude.{◌≡◌};
-ghost use Rattle.ctf_layout.specs.Extents.{amount as amount_of, code_of, neither as neither_of};
+ghost use Rattle.std.specs.Result.{result_map_both};
+ghost use Rattle.ctf_layout.specs.Extents.{amount as amount_of, code_of, of_no_type as no_type_extent, refused as refused_extent, target as target_of};
 
-use ctf_model::{Fault, placeless};
+use ctf_model::{Fault, TypeNum, placeless};
 
 /// Why a type has no size, or no alignment.
 #[derive(Clone, Copy, Debug, PartialEq, Eq)]
@@ -20,14 +21,23 @@ pub enum Amount {
     Refused(Refusal),
 }
 
-/// The size and the alignment of a type, in bytes.
+/// The type that a type stands for, or why there is none.
+#[derive(Clone, Copy, Debug, PartialEq, Eq)]
+pub enum Target {
+    Known(TypeNum),
+    Refused(Refusal),
+}
+
+/// The size and the alignment of a type, in bytes, and the type that it stands for.
 #[derive(Clone, Copy, Debug, PartialEq, Eq)]
 pub struct Extent {
     pub size: Amount,
     pub align: Amount,
+    pub target: Target,
 }
 
 impl Refusal {
+    #[inline(always)]
     fn code(self) -> u16
         ensures { result ≡ code_of self }
     {
@@ -42,6 +52,7 @@ impl Refusal {
 
 impl Amount {
     /// The number, or the fault.
+    #[inline(always)]
     pub fn get(self) -> Result<u64, Fault>
         ensures { result ≡ amount_of self }
     {
@@ -52,12 +63,39 @@ impl Amount {
     }
 }
 
-/// Neither a size nor an alignment.
-pub fn neither(refusal: Refusal) -> Extent
-    ensures { result ≡ neither_of refusal }
+impl Target {
+    /// The type, or the fault.
+    #[inline(always)]
+    pub fn get(self) -> Result<TypeNum, Fault>
+        ensures { result_map_both (λ t. t.0) (λ f. f) result ≡ target_of self }
+    {
+        match self {
+            Target::Known(number) => Ok(number),
+            Target::Refused(refusal) => Err(placeless(refusal.code())),
+        }
+    }
+}
+
+/// Neither a size nor an alignment, nor a type that is stood for.
+#[inline(always)]
+pub fn refused(refusal: Refusal) -> Extent
+    ensures { result ≡ refused_extent refusal }
 {
     Extent {
         size: Amount::Refused(refusal),
         align: Amount::Refused(refusal),
+        target: Target::Refused(refusal),
+    }
+}
+
+/// Those of the number 0, which is no type and stands for itself.
+#[inline(always)]
+pub fn of_no_type() -> Extent
+    ensures { result ≡ no_type_extent }
+{
+    Extent {
+        size: Amount::Refused(Refusal::Incomplete),
+        align: Amount::Refused(Refusal::Incomplete),
+        target: Target::Known(TypeNum(0)),
     }
 }

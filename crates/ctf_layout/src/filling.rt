@@ -1,6 +1,8 @@
-//! The table of sizes and alignments, filled: the extent of each own type is found once.
+//! The table of sizes, alignments and types that are stood for, filled: the extent of each own type
+//! is found once.
 ghost use Rattle.std.specs.Prelude.{◌≡◌, ℕ, ◌+◌, ◌<◌, ◌≤◌, Some, None, length, slice_set};
-ghost use Rattle.ctf_layout.specs.Extents.{IsExtent};
+ghost use Rattle.ctf_layout.specs.Bases.{row_size, row_target};
+ghost use Rattle.ctf_layout.specs.Extents.{IsExtent, amount, target};
 ghost use Rattle.ctf_layout.specs.Kept.{table_kept};
 ghost use Rattle.ctf_layout.specs.Table.{IsVisited, IsWhole, Knows, entry};
 ghost use Rattle.ctf_layout.specs.Work.{types_work};
@@ -8,9 +10,9 @@ ghost use Rattle.ctf_model.specs.rules.Chains.{IsWithin, longest_chain, own_inde
 ghost use Rattle.ctf_model.specs.figures.FigureLaws.{HasBoundedValues, value_edges};
 
 use crate::amounts::{greater, row_amount};
-use crate::bases::Basis;
+use crate::bases::{Basis, Row};
 use crate::entry::Entry;
-use crate::extents::{Amount, Extent, Refusal, neither};
+use crate::extents::{Amount, Extent, Refusal, Target, of_no_type, refused};
 use crate::types::Types;
 use ctf_chains::{LONGEST_CHAIN, Ticks};
 use ctf_model::{Place, TypeNum};
@@ -34,11 +36,11 @@ fn elsewhere<L: Ledger, T: Types<L>>(types: &T, number: TypeNum) -> Extent
     ensures { IsExtent (T.space types.now) number.0 result }
 {
     if number.0 == 0 {
-        return neither(Refusal::Incomplete);
+        return of_no_type();
     }
     match number.place(types.child()) {
         Place::Parents(i) => types.outside(i),
-        _ => neither(Refusal::NoType),
+        _ => refused(Refusal::NoType),
     }
 }
 
@@ -58,6 +60,22 @@ fn keep(table: &mut [Entry], i: usize, extent: Extent) -> Extent
 {
     table[i] = Entry::new(extent);
     extent
+}
+
+/// The extent of the type with a number that hangs on one, as it is or for a row of elements.
+fn by_one(row: Option<Row>, one: Extent, number: TypeNum) -> Extent
+    ensures size { amount result.size ≡ row_size row (amount one.size) }
+    ensures align { result.align ≡ one.align }
+    ensures target { target result.target ≡ row_target row (target one.target) number.0 }
+{
+    Extent {
+        size: row_amount(row, one.size),
+        align: one.align,
+        target: match row {
+            Some(_) => Target::Known(number),
+            None => one.target,
+        },
+    }
 }
 
 /// The extent of an own type, and those of the types that it hangs on, each of which is begun at
@@ -81,21 +99,21 @@ fn extent<L: Ledger, T: Types<L>>(
         return extent;
     }
     match types.basis(i, work) {
-        Basis::Itself(extent) => keep(table, i, extent),
+        Basis::Itself(size, align) => {
+            let target = Target::Known(types.number(i));
+            let found = Extent {
+                size,
+                align,
+                target,
+            };
+            keep(table, i, found)
+        }
         Basis::One(number, row) => {
             let one = match own_index(types, number) {
                 Some(j) => extent(types, table, work, j, budget - 1),
                 None => elsewhere(types, number),
             };
-            let size = row_amount(row, one.size);
-            keep(
-                table,
-                i,
-                Extent {
-                    size,
-                    align: one.align,
-                },
-            )
+            keep(table, i, by_one(row, one, types.number(i)))
         }
         Basis::Members(size, read) => {
             let mut align = Amount::Known(0);
@@ -107,8 +125,12 @@ fn extent<L: Ledger, T: Types<L>>(
                 };
                 align = greater(align, member.align);
             }
-            let size = Amount::Known(size);
-            keep(table, i, Extent { size, align })
+            let found = Extent {
+                size: Amount::Known(size),
+                align,
+                target: Target::Known(types.number(i)),
+            };
+            keep(table, i, found)
         }
     }
 }

@@ -5,7 +5,7 @@ ghost use Rattle.ctf_layout.specs.Work.{types_work};
 ghost use Rattle.ctf_model.specs.figures.FigureLaws.{HasBoundedValues};
 
 use crate::entry::Entry;
-use crate::extents::{Extent, Refusal, neither};
+use crate::extents::{Extent, Refusal, refused};
 use crate::filling::fill;
 use crate::types::Types;
 use ctf_chains::Ticks;
@@ -38,12 +38,13 @@ impl Extents {
     }
 
     /// The extent of the own type with a number from 0.
+    #[inline(always)]
     pub fn at(&self, i: usize) -> Extent
         ensures { result ≡ extent_at self.now.entries.items i }
     {
         match self.entries.get(i) {
-            Some(entry) => entry.extent().unwrap_or(neither(Refusal::NoType)),
-            None => neither(Refusal::NoType),
+            Some(entry) => entry.extent().unwrap_or(refused(Refusal::NoType)),
+            None => refused(Refusal::NoType),
         }
     }
 }

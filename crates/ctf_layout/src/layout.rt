@@ -1,6 +1,7 @@
-//! The sizes and alignments of all numbers of a space.
+//! The sizes and alignments of all numbers of a space, and the types that they stand for.
 ghost use Rattle.std.specs.Prelude.{◌≡◌, ◌+◌, ◌<◌, ◌≤◌, IfOk, OnOk, None};
 ghost use Rattle.std.specs.Option.{ForSome, option_map};
+ghost use Rattle.std.specs.Result.{result_map_both};
 ghost use Rattle.ctf_chains.specs.Places.{capped};
 ghost use Rattle.ctf_layout.specs.Extents.{IsExtent};
 ghost use Rattle.ctf_layout.specs.Kept.{AreExtents};
@@ -8,11 +9,12 @@ ghost use Rattle.ctf_layout.specs.Fitting.{Fits, steps_of};
 ghost use Rattle.ctf_layout.specs.Over.{OverParent};
 ghost use Rattle.ctf_layout.specs.Work.{space_size, space_work, types_and_members, types_work};
 ghost use Rattle.ctf_model.specs.figures.FigureLaws.{parent_alone};
-ghost use Rattle.ctf_model.specs.figures.Figures.{align as align_of, size as size_of};
+ghost use Rattle.ctf_model.specs.opened.Questions.{align_answered, resolved_answered, size_answered};
+ghost use Rattle.ctf_model.specs.figures.Figures.{align as align_of, resolved as resolved_of, size as size_of};
 ghost use Rattle.ctf_model.specs.spaces.Space.{Space as WholeSpace};
 ghost use Rattle.ctf_space.specs.SpaceView.{space_of};
 
-use crate::extents::{Extent, Refusal, neither};
+use crate::extents::{Extent, Refusal, of_no_type, refused};
 use crate::kept::Extents;
 use crate::source::Source;
 use ctf_chains::Ticks;
@@ -23,9 +25,8 @@ use std::marker::Brand;
 use std::rc::Rc;
 use std::sync::ledger::{Blank, Ledger};
 
-/// The sizes and alignments of the types of a dictionary,
-/// and of its parent's where it has one, found
-/// once: a look-up takes constant time, and no memory.
+/// The sizes and alignments of the types of a dictionary, and of its parent's where it has one, and
+/// the types that they stand for, found once: a look-up takes constant time, and no memory.
 ///
 /// It keeps plain numbers, 24 bytes for each own type, and borrows nothing. Those of a parent are
 /// shared with the parent's own layout.
@@ -166,34 +167,53 @@ impl Layout {
         self.steps
     }
 
-    /// The size and the alignment of what a number names.
+    /// The size and the alignment of what a number names, and the type that it stands for.
+    #[inline(always)]
     fn extent(&self, number: TypeNum) -> Extent
         ensures { (s : WholeSpace) → Fits s self.now → IsExtent s number.0 result }
     {
         if number.0 == 0 {
-            return neither(Refusal::Incomplete);
+            return of_no_type();
         }
         match number.place(self.child) {
             Place::Own(i) => self.own.at(i),
             Place::Parents(i) => match &self.parent {
                 Some(parent) => parent.at(i),
-                None => neither(Refusal::NoParent),
+                None => refused(Refusal::NoParent),
             },
-            Place::Nowhere => neither(Refusal::NoType),
+            Place::Nowhere => refused(Refusal::NoType),
         }
     }
 
     /// The size in bytes of a value of the type that a number names. It takes constant time.
+    #[inline(always)]
     pub fn size(&self, number: TypeNum) -> Result<u64, Fault>
-        ensures { (s : WholeSpace) → Fits s self.now → result ≡ size_of s number.0 }
+        ensures size { (s : WholeSpace) → Fits s self.now → result ≡ size_of s number.0 }
+        ensures answered { (s : WholeSpace) → Fits s self.now → 0 < number.0
+            → result ≡ size_answered s number.0 }
     {
         self.extent(number).size.get()
     }
 
     /// The alignment in bytes of the type that a number names. It takes constant time.
+    #[inline(always)]
     pub fn align(&self, number: TypeNum) -> Result<u64, Fault>
-        ensures { (s : WholeSpace) → Fits s self.now → result ≡ align_of s number.0 }
+        ensures align { (s : WholeSpace) → Fits s self.now → result ≡ align_of s number.0 }
+        ensures answered { (s : WholeSpace) → Fits s self.now → 0 < number.0
+            → result ≡ align_answered s number.0 }
     {
         self.extent(number).align.get()
+    }
+
+    /// The type that a type stands for, typedefs and qualifiers followed; 0 where that is no type.
+    /// It takes constant time.
+    #[inline(always)]
+    pub fn resolve(&self, number: TypeNum) -> Result<TypeNum, Fault>
+        ensures resolved { (s : WholeSpace) → Fits s self.now
+            → result_map_both (λ t. t.0) (λ f. f) result ≡ resolved_of s number.0 }
+        ensures answered { (s : WholeSpace) → Fits s self.now → 0 < number.0
+            → result_map_both (λ t. t.0) (λ f. f) result ≡ resolved_answered s number.0 }
+    {
+        self.extent(number).target.get()
     }
 }

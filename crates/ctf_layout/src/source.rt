@@ -7,7 +7,7 @@ ghost use Rattle.ctf_records.specs.RecordView.{bytes_of};
 ghost use Rattle.ctf_space.specs.SpaceView.{space_of};
 
 use crate::bases::{Basis, basis_of};
-use crate::extents::{Extent, Refusal, neither};
+use crate::extents::{Extent, Refusal, refused};
 use crate::kept::Extents;
 use crate::types::Types;
 use ctf_chains::Ticks;
@@ -55,6 +55,10 @@ impl<'a, L: Ledger> Types<L> for Source<'a> {
         self.space.count()
     }
 
+    fn number(&self, i: usize) -> TypeNum {
+        self.space.own_number(i)
+    }
+
     fn basis(&self, i: usize, work: &mut Ticks<L>) -> Basis {
         work.tick();
         match own_term(&self.dictionary, i) {
@@ -74,7 +78,7 @@ impl<'a, L: Ledger> Types<L> for Source<'a> {
     fn outside(&self, i: usize) -> Extent {
         match self.parent {
             Some(extents) => extents.at(i),
-            None => neither(Refusal::NoParent),
+            None => refused(Refusal::NoParent),
         }
     }
 }

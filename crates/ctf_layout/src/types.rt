@@ -1,11 +1,11 @@
-//! What a table of sizes and alignments is made from.
+//! What a table of sizes, alignments and types that are stood for is made from.
 ghost use Rattle.std.specs.Prelude.{◌≡◌, ℕ, ◌+◌, ◌<◌, length, slice_index};
 ghost use Rattle.ctf_layout.specs.Bases.{basis as basis_word, members_read};
 ghost use Rattle.ctf_layout.specs.Extents.{IsParentsExtent};
 ghost use Rattle.ctf_model.specs.rules.Chains.{by_value};
 ghost use Rattle.ctf_model.specs.figures.FigureLaws.{own_body};
 ghost use Rattle.ctf_model.specs.format.Shown.{shape};
-ghost use Rattle.ctf_model.specs.spaces.TypePlaces.{place};
+ghost use Rattle.ctf_model.specs.spaces.TypePlaces.{own_number, place};
 ghost use Rattle.ctf_model.specs.declared.numbers.Place.TheVariants.{Parents};
 
 use crate::bases::Basis;
@@ -28,6 +28,11 @@ pub trait Types<L: Ledger> {
     /// How many own types there are.
     fn count(&self) -> usize
         ensures { result ≡ length (space self.now).own.terms };
+
+    /// The number of an own type.
+    fn number(&self, i: usize) -> TypeNum
+        requires { i < length (space self.now).own.terms }
+        ensures { result.0 ≡ own_number (space self.now).own.child i };
 
     /// Begins a type: what its extent hangs on.
     fn basis(&self, i: usize, work: &mut Ticks<L>) -> Basis

@@ -33,7 +33,7 @@ use crate::whole::whole_answer;
 use ctf_answers::{Answer, Items, Listed, RecordAnswer, Single};
 use ctf_check::{Facts, Typed};
 use ctf_entries::Signature;
-use ctf_layout::{Layout, path, referred, resolve};
+use ctf_layout::{Layout, path, referred};
 use ctf_names::{pointer_to, spell};
 use ctf_open::{Tables, array_of, encoding_of, signature_of};
 use ctf_print::show;
@@ -274,7 +274,7 @@ fn plain_answer<'a>(
         PlainQuestion::Array => Some(array_answer(array_of(x.shape()))),
         PlainQuestion::Encoding => Some(encoding_answer(encoding_of(x.shape()))),
         PlainQuestion::Reference => Some(type_answer(referred(x.shape()))),
-        PlainQuestion::Resolve => Some(type_answer(resolve(space, t))),
+        PlainQuestion::Resolve => Some(type_answer(tables.layout.resolve(t))),
         PlainQuestion::Size => Some(number_answer("size", tables.layout.size(t))),
         PlainQuestion::Align => Some(number_answer("align", tables.layout.align(t))),
         PlainQuestion::Pointer => Some(type_answer(pointer_to(space, &tables.index, t))),

@@ -2,7 +2,6 @@ pub mod FoundInside
 pub mod Unrolls
 pub mod MarkedText
 pub mod SpelledBy
-pub mod Few
 pub mod Entered
 pub mod Places
 pub mod Pointing
@@ -10,3 +9,4 @@ pub mod WrittenTexts
 pub mod Steps
 pub mod Lengths
 pub mod Findings
+pub mod Guessed

@@ -1,5 +1,5 @@
 -- Pointers by the types that they point to. The words are ours.
-use Rattle.std.specs.Prelude.{◌≡◌, ◌<◌, ℕ, ◌==◌, ◌&&◌, nat_le, Bool, true, false, List, length, Option, Some, None, MatchOption, slice_get}
+use Rattle.std.specs.Prelude.{◌≡◌, ◌<◌, ◌≤◌, ℕ, ◌==◌, ◌&&◌, nat_le, nat_lt, Bool, true, false, List, length, Option, Some, None, MatchOption, slice_get, slice_index_or}
 use Rattle.std.specs.List.{list_any, Contains}
 use Rattle.std.specs.List.Sorted.{IsSortedBy}
 use Rattle.std.specs.Ordering.{is_lt, nat_cmp, ordering_then}
@@ -34,6 +34,16 @@ pub record HasPointers (terms : List Term) (count : ℕ) (pointers : List Pointe
 -- by what they point to, and then by number
 abbrev pub pointer_precedes : Pointer → Pointer → Bool
 pointer_precedes a b = is_lt (ordering_then (nat_cmp a.target b.target) (nat_cmp a.place b.place))
+
+-- those before a place point to lower types
+abbrev pub LowerBefore : List Pointer → ℕ → ℕ → Type 0
+LowerBefore pointers target place = (j : ℕ) (d : Pointer) → j < place
+    → nat_lt (slice_index_or pointers j d).target target ≡ true
+
+-- those from a place on do not
+abbrev pub NoneLowerBehind : List Pointer → ℕ → ℕ → Type 0
+NoneLowerBehind pointers target place = (j : ℕ) (d : Pointer) → place ≤ j → j < length pointers
+    → nat_lt (slice_index_or pointers j d).target target ≡ false
 
 -- all pointers of a dictionary, in that order
 pub record PointersInOrder (terms : List Term) (pointers : List Pointer) : Type 0 where

@@ -3,7 +3,7 @@ ghost use Rattle.std.specs.Prelude.{◌≡◌, Ok};
 ghost use Rattle.std.specs.Option.{option_map};
 ghost use Rattle.std.specs.Result.{result_map_both};
 ghost use Rattle.ctf_model.specs.names.Found.{found, or_not_found as or_not_found_of, pointed as pointed_of, pointer_behind as pointer_behind_of, pointer_to as pointer_of};
-ghost use Rattle.ctf_model.specs.figures.Figures.{resolved};
+ghost use Rattle.ctf_model.specs.figures.Figures.{resolved as resolved_of};
 ghost use Rattle.ctf_names.specs.Fitting.{Fits};
 ghost use Rattle.ctf_space.specs.SpaceView.{own_lists, parent_lists, space_of};
 
@@ -29,7 +29,7 @@ fn or_not_found(number: Option<TypeNum>) -> Result<TypeNum, Fault>
 fn pointer_behind(space: &Space<'_>, index: &NameIndex, target: TypeNum) -> Result<TypeNum, Fault>
     requires { Fits (own_lists space.now) (parent_lists space.now) index.now }
     ensures { let s = space_of space.now in result_map_both (λ t. t.0) (λ f. f) result
-        ≡ pointer_behind_of s (resolved s target.0) }
+        ≡ pointer_behind_of s (resolved_of s target.0) }
 {
     match resolve(space, target) {
         Ok(TypeNum(0)) => Err(placeless(Fault::NOT_FOUND)),
@@ -48,6 +48,30 @@ pub fn pointer_to(space: &Space<'_>, index: &NameIndex, target: TypeNum) -> Resu
         Some(number) => Ok(number),
         None => pointer_behind(space, index, target),
     }
+}
+
+/// The same of a type that is known to stand for another, or for itself.
+pub fn pointer_resolved(
+    space: &Space<'_>,
+    index: &NameIndex,
+    target: TypeNum,
+    resolved: TypeNum,
+) -> Result<TypeNum, Fault>
+    requires fits { Fits (own_lists space.now) (parent_lists space.now) index.now }
+    requires stands { resolved_of (space_of space.now) target.0 ≡ Ok resolved.0 }
+    ensures { result_map_both (λ t. t.0) (λ f. f) result
+        ≡ pointer_of (space_of space.now) target.0 }
+{
+    if let Some(number) = least(space, index, Sought::PointerTo(target)) {
+        return Ok(number);
+    }
+    if resolved.0 == 0 {
+        return Err(placeless(Fault::NOT_FOUND));
+    }
+    if resolved.0 == target.0 {
+        return Err(placeless(Fault::NOT_FOUND));
+    }
+    or_not_found(least(space, index, Sought::PointerTo(resolved)))
 }
 
 /// So many pointers further.

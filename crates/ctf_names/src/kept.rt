@@ -10,6 +10,7 @@ ghost use Rattle.ctf_names.specs.Sorts.{tag_in};
 ghost use Rattle.ctf_names.specs.Sought.{passes};
 ghost use Rattle.ctf_sections.specs.StringsView.{tables};
 
+use crate::guesses::guess;
 use crate::names;
 use crate::pointers::{self, Pointer};
 use crate::sorts::Sort;
@@ -27,6 +28,7 @@ pub(crate) struct Names {
     unions: Order,
     enums: Order,
     pointers: Vec<Pointer>,
+    guesses: Vec<u16>,
 }
 
 impl Names {
@@ -38,23 +40,28 @@ impl Names {
         let unions = names::in_order(alloc, dictionary, Sort::Union)?;
         let enums = names::in_order(alloc, dictionary, Sort::Enum)?;
         let pointers = pointers::in_order(alloc, dictionary)?;
+        let guesses = guess(alloc, &pointers, dictionary.count())?;
         Ok(Names {
             plain,
             structs,
             unions,
             enums,
             pointers,
+            guesses,
         })
     }
 
     /// The first type that is sought, from 0.
+    #[inline(always)]
     pub(crate) fn first(&self, strings: &Strings<'_>, sought: Sought<'_>) -> Option<u32>
         ensures { (s : Lists) → IsNamesOf s self.now → tables_in s ≡ tables strings.now
             → result ≡ first_place (passes sought.entry) (said_by s).terms }
     {
         match sought {
             Sought::Named { sort, name } => names::first_of(self.of(sort), strings, name),
-            Sought::PointerTo(target) => pointers::first_to(&self.pointers, target),
+            Sought::PointerTo(target) => {
+                pointers::first_to(&self.pointers, &self.guesses, target)
+            },
         }
     }
 

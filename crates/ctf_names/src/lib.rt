@@ -2,6 +2,7 @@
 #![tactic(auto)]
 
 mod finding;
+mod guesses;
 mod index;
 mod inside;
 mod kept;
@@ -21,7 +22,7 @@ mod types;
 mod unrolling;
 mod written;
 
-pub use finding::{find, pointer_to};
+pub use finding::{find, pointer_resolved, pointer_to};
 pub use index::NameIndex;
 pub use known::KnownNames;
 pub use spelling::spell;

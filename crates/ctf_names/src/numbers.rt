@@ -1,8 +1,7 @@
 //! The least number of a type that is looked for, in a space.
-ghost use Rattle.std.specs.Prelude.{◌≡◌, ◌<◌};
+ghost use Rattle.std.specs.Prelude.{◌≡◌};
 ghost use Rattle.std.specs.Option.{option_map};
 ghost use Rattle.ctf_model.specs.names.Found.{least as least_of, least_own, least_parents};
-ghost use Rattle.ctf_model.specs.spaces.TypePlaces.{own_number};
 ghost use Rattle.ctf_names.specs.Fitting.{Fits, IsNamesOf};
 ghost use Rattle.ctf_names.specs.Sought.{passes};
 ghost use Rattle.ctf_space.specs.SpaceView.{own_lists, parent_lists, space_of};
@@ -13,19 +12,8 @@ use crate::sought::Sought;
 use ctf_model::TypeNum;
 use ctf_space::Space;
 
-/// The number of an own type, which is here counted from 0.
-fn numbered(child: bool, place: u32) -> TypeNum
-    requires { place < 32767 }
-    ensures { result.0 ≡ own_number child place }
-{
-    if child {
-        TypeNum((place + 0x8001) as u16)
-    } else {
-        TypeNum((place + 1) as u16)
-    }
-}
-
 /// The least number of an own type that is sought.
+#[inline(always)]
 fn least_among(space: &Space<'_>, names: &Names, sought: Sought<'_>) -> Option<TypeNum>
     requires { IsNamesOf (own_lists space.now) names.now }
     ensures { option_map (λ t. t.0) result
@@ -33,7 +21,7 @@ fn least_among(space: &Space<'_>, names: &Names, sought: Sought<'_>) -> Option<T
 {
     let dictionary = space.dictionary();
     let place = names.first(&dictionary.strings(), sought)?;
-    Some(numbered(space.child(), place))
+    Some(space.own_number(place as usize))
 }
 
 /// The least number of a parent's type that is sought, where there is a parent.
@@ -50,6 +38,7 @@ fn least_of_parent(space: &Space<'_>, index: &NameIndex, sought: Sought<'_>) -> 
 }
 
 /// The least number of a type that is sought, own types before the parent's.
+#[inline(always)]
 pub(crate) fn least(space: &Space<'_>, index: &NameIndex, sought: Sought<'_>) -> Option<TypeNum>
     requires { Fits (own_lists space.now) (parent_lists space.now) index.now }
     ensures { option_map (λ t. t.0) result ≡ least_of (passes sought.entry) (space_of space.now) }

@@ -6,6 +6,7 @@ ghost use Rattle.ctf_model.specs.names.Found.{first_place, is_pointer_to};
 ghost use Rattle.ctf_model.specs.format.Term.{Term};
 ghost use Rattle.ctf_names.specs.Pointers.{pointer_precedes, HasPointers, IsPointerAt, PointersInOrder};
 
+use crate::guesses::begin;
 use crate::types::own_type;
 use ctf_check::Checked;
 use ctf_model::{Kind, TypeNum};
@@ -67,11 +68,12 @@ pub(crate) fn in_order(alloc: Global, dictionary: &Checked<'_>) -> Result<Vec<Po
 }
 
 /// The first pointer to a type, from 0.
-pub(crate) fn first_to(pointers: &[Pointer], target: TypeNum) -> Option<u32>
+#[inline(always)]
+pub(crate) fn first_to(pointers: &[Pointer], guesses: &[u16], target: TypeNum) -> Option<u32>
     ensures { (terms : List Term) → PointersInOrder terms pointers.now
         → result ≡ first_place (is_pointer_to target.0) terms }
 {
-    let from = pointers.partition_point(|p| p.target < target.0);
+    let from = begin(pointers, guesses, target.0);
     let pointer = pointers.get(from)?;
     if pointer.target == target.0 {
         Some(u32::from(pointer.place))

@@ -19,9 +19,9 @@ ghost use Rattle.ctf_views.specs.PartsView.{array_info, encoding_info};
 use crate::opened::OpenDictionary;
 use ctf_check::Shape;
 use ctf_entries::Signature;
-use ctf_layout::{path, reference, resolve};
+use ctf_layout::{path, reference};
 use ctf_model::{Bytes, Fault, Kind, TypeNum, placeless};
-use ctf_names::{find, pointer_to, spell};
+use ctf_names::{find, pointer_resolved, pointer_to, spell};
 use ctf_print::show;
 use ctf_records::Tag;
 use ctf_views::{ArrayInfo, Encoding, Enumerator, Member, Variant};
@@ -269,7 +269,9 @@ impl OpenDictionary {
     pub fn size(&self, t: TypeNum) -> Result<u64, Fault>
         ensures { result ≡ size_answered (space_in self.now) t.0 }
     {
-        self.shape(t)?;
+        if t.0 == 0 {
+            return Err(placeless(Fault::NO_TYPE));
+        }
         self.tables().layout.size(t)
     }
 
@@ -277,17 +279,22 @@ impl OpenDictionary {
     pub fn align(&self, t: TypeNum) -> Result<u64, Fault>
         ensures { result ≡ align_answered (space_in self.now) t.0 }
     {
-        self.shape(t)?;
+        if t.0 == 0 {
+            return Err(placeless(Fault::NO_TYPE));
+        }
         self.tables().layout.align(t)
     }
 
     /// The type that a type stands for, along typedefs and qualifiers.
+    #[inline(always)]
     pub fn resolve(&self, t: TypeNum) -> Result<TypeNum, Fault>
         ensures { result_map_both (λ t. t.0) (λ f. f) result
             ≡ resolved_answered (space_in self.now) t.0 }
     {
-        self.shape(t)?;
-        resolve(&self.space(), t)
+        if t.0 == 0 {
+            return Err(placeless(Fault::NO_TYPE));
+        }
+        self.tables().layout.resolve(t)
     }
 
     /// The type that a type points to, renames or qualifies.
@@ -301,6 +308,19 @@ impl OpenDictionary {
 
     /// The least pointer to a type.
     pub fn pointer(&self, t: TypeNum) -> Result<TypeNum, Fault>
+        ensures { result_map_both (λ t. t.0) (λ f. f) result
+            ≡ pointer_answered (space_in self.now) t.0 }
+    {
+        match self.resolve(t) {
+            Ok(resolved) => {
+                pointer_resolved(&self.space(), &self.tables().index, t, resolved)
+            }
+            Err(_) => self.pointer_unresolved(t),
+        }
+    }
+
+    /// The same of a number that names no type, or one that stands for none.
+    fn pointer_unresolved(&self, t: TypeNum) -> Result<TypeNum, Fault>
         ensures { result_map_both (λ t. t.0) (λ f. f) result
             ≡ pointer_answered (space_in self.now) t.0 }
     {

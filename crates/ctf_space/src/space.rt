@@ -5,6 +5,7 @@ ghost use Rattle.std.specs.Option.{ForSome, option_map};
 ghost use Rattle.ctf_model.specs.spaces.Imports.{import_fault, of_one_model};
 ghost use Rattle.ctf_model.specs.spaces.Space.{space_type};
 ghost use Rattle.ctf_model.specs.spaces.TypeNumbers.{or_no_type};
+ghost use Rattle.ctf_model.specs.spaces.TypePlaces.{own_number as own_number_of};
 ghost use Rattle.ctf_check.specs.CheckedView.{dictionary_of, lists_of};
 ghost use Rattle.ctf_space.specs.TypeView.{type_found};
 
@@ -31,6 +32,19 @@ fn own_type<'a>(dictionary: Checked<'a>, i: usize) -> Result<Typed<'a>, Fault>
     match dictionary.typed(i + 1) {
         Some(found) => Ok(found),
         None => Err(placeless(Fault::NO_TYPE)),
+    }
+}
+
+/// The number of an own type, which is here counted from 0.
+#[inline(always)]
+fn numbered(child: bool, place: usize) -> TypeNum
+    requires { place < 32767 }
+    ensures { result.0 ≡ own_number_of child place }
+{
+    if child {
+        TypeNum((place + 0x8001) as u16)
+    } else {
+        TypeNum((place + 1) as u16)
     }
 }
 
@@ -179,6 +193,15 @@ impl<'a> Space<'a> {
         ensures { result ≡ (space_of self.now).own.child }
     {
         self.own.child()
+    }
+
+    /// The number of an own type, which is here counted from 0.
+    #[inline(always)]
+    pub fn own_number(&self, place: usize) -> TypeNum
+        requires { place < length (space_of self.now).own.terms }
+        ensures { result.0 ≡ own_number_of (space_of self.now).own.child place }
+    {
+        numbered(self.child(), place)
     }
 
     /// The number of its parent's types.

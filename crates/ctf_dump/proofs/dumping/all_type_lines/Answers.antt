@@ -5,7 +5,7 @@ use Rattle.ctf_model.specs.format.Dictionary.{Dictionary}
 use Rattle.ctf_model.specs.dumps.Dump.{types_from}
 use Rattle.ctf_model.specs.spaces.Space.{space_type}
 use Rattle.ctf_model.specs.spaces.TypePlaces.{own_number}
-use Rattle.ctf_names.proofs.Few.{few_terms}
+use Rattle.ctf_space.proofs.Few.{few_terms}
 use Rattle.ctf_space.specs.SpaceView.{own_lists, space_of}
 use Rattle.ctf_dump.specs.Progress.{HasBegun}
 use Rattle.ctf_dump.specs.Words.{lines_of_type}

@@ -1,17 +1,19 @@
 use Rattle.std.proofs.Common.{◌≡◌, ◌≤◌, ◌+◌, ap, sym, refl, ◌∙◌, arith}
-use Rattle.std.specs.Prelude.{slice_index_or, None, slice_index}
-use Rattle.ctf_layout.specs.Bases.{members_read}
-use Rattle.ctf_layout.specs.Extents.{IsExtent, amount}
+use Rattle.std.specs.Prelude.{slice_index_or, None, Ok, slice_index}
+use Rattle.ctf_layout.specs.Bases.{members_read, row_target}
+use Rattle.ctf_layout.specs.Extents.{IsExtent, amount, target}
 use Rattle.std.proofs.lemmas.List.{length-map}
 use Rattle.ctf_layout.specs.Kept.{extent_kept, table_kept}
 use Rattle.ctf_layout.specs.Table.{IsUnderway}
 use Rattle.ctf_layout.specs.declared.bases.Basis.TheVariants.{Itself, One, Members}
 use Rattle.ctf_layout.specs.declared.extents.Amount.TheVariants.{Known}
 use Rattle.ctf_layout.specs.declared.extents.Extent.{Extent}
+use Rattle.ctf_layout.specs.declared.extents.Target.TheVariants as stands_for
+use Rattle.ctf_model.specs.spaces.TypePlaces.{own_number}
 use Rattle.ctf_model.specs.rules.Chains.{by_value}
 use Rattle.ctf_model.specs.figures.FigureLaws.{own_body, value_edges}
 use Rattle.ctf_model.specs.figures.Figures.{align}
-use Rattle.ctf_layout.proofs.HangsOn.{IsOwnAt, basis_read, itself_extent, one_extent, members_extent, greatest_step}
+use Rattle.ctf_layout.proofs.HangsOn.{IsByOne, IsOwnAt, basis_read, itself_extent, one_extent, members_extent, greatest_step}
 use Rattle.ctf_layout.proofs.Leading.{leads_within, one_found, step_found}
 use Rattle.ctf_layout.proofs.Visits.{none_from, visited_before, begun, more_steps, visited_one, visited, at_number}
 use Rattle.ctf_layout.proofs.filling.+extent.Goals as goal
@@ -26,12 +28,13 @@ pub returns-in-Itself : goal.returns-in-Itself
 returns-in-Itself g t c =
     let s = g.T.Types.space c.args.types.now in
     let at : IsOwnAt s c.args.budget c.args.i = record { short = c.requires.short; inside = c.requires.own; within = c.requires.within } in
-    let b = basis_read s c.args.i c.basis.result (Itself c.in-Itself.extent) c.basis.ensures.basis c.in-Itself.is in
+    let b = basis_read s c.args.i c.basis.result (Itself c.in-Itself.size c.in-Itself.align) c.basis.ensures.basis c.in-Itself.is in
+    let e : Extent = record { size = c.in-Itself.size; align = c.in-Itself.align; target = stands_for.Known c.number.result } in
     let none : slice_index_or (table_kept c.args.table.now) c.args.i None ≡ None = c.found.ensures ∙ none_from c.found.result c.in_default.not-Some in
     let cost : c.args.work.now + 1 ≡ c.args.work.now + (1 + members_read (own_body s.own c.args.i)) = rw b.0 refl in
     rw (c.keep.ensures.same, c.keep.ensures.kept)
-    (visited s c.args.budget c.args.i (table_kept c.args.table.now) (table_kept c.args.table.now) c.args.work.now (c.args.work.now + 1) c.basis.new.work c.in-Itself.extent
-    c.requires.within c.requires.own (omega (arith, length-map c.args.table.now extent_kept)) none cost (itself_extent s c.args.budget c.args.i c.in-Itself.extent at b)
+    (visited s c.args.budget c.args.i (table_kept c.args.table.now) (table_kept c.args.table.now) c.args.work.now (c.args.work.now + 1) c.basis.new.work e
+    c.requires.within c.requires.own (omega (arith, length-map c.args.table.now extent_kept)) none cost (itself_extent s c.args.budget c.args.i e at b (ap Ok c.number.ensures))
     (begun s c.args.i (table_kept c.args.table.now) (c.args.work.now + 1) c.basis.new.work c.requires.knows c.basis.ensures.tick))
 
 -- ---- one type
@@ -68,10 +71,10 @@ returns-after-own_index g t c =
           )
       | in-None w ↦ (rw w.one-is w.elsewhere-one.ensures, rw (w.table-is, w.work-is) start)
     ] in
-    let e : Extent = record { size = c.row_amount-size.result; align = c.match-own_index.one.align } in
+    let by : IsByOne (own_number s.own.child c.args.i) c.in-One.row c.match-own_index.one c.by_one.result = record { size = c.by_one.ensures.size; align = c.by_one.ensures.align; target = c.by_one.ensures.target ∙ ap (row_target c.in-One.row (target c.match-own_index.one.target)) c.number-in-One.ensures } in
     rw (c.keep-in-One.ensures.same, c.keep-in-One.ensures.kept)
-    (visited s c.args.budget c.args.i (table_kept c.args.table.now) (table_kept c.match-own_index.table) c.args.work.now (c.args.work.now + 1) c.match-own_index.work e
-    c.requires.within c.requires.own (omega (arith, length-map c.match-own_index.table extent_kept)) none cost (one_extent s c.args.budget c.args.i c.in-One.number c.in-One.row c.match-own_index.one c.row_amount-size.result at b both.0 c.row_amount-size.ensures) both.1)
+    (visited s c.args.budget c.args.i (table_kept c.args.table.now) (table_kept c.match-own_index.table) c.args.work.now (c.args.work.now + 1) c.match-own_index.work c.by_one.result
+    c.requires.within c.requires.own (omega (arith, length-map c.match-own_index.table extent_kept)) none cost (one_extent s c.args.budget c.args.i c.in-One.number c.in-One.row c.match-own_index.one c.by_one.result at b both.0 by) both.1)
 
 -- ---- members
 
@@ -140,7 +143,7 @@ returns-after-loop-k g t c =
     let none : slice_index_or (table_kept c.args.table.now) c.args.i None ≡ None = c.found.ensures ∙ none_from c.found.result c.in_default.not-Some in
     let end : c.loop-k.k ≡ c.in-Members.read = omega arith in
     let cost : c.args.work.now + 1 + c.loop-k.k ≡ c.args.work.now + (1 + members_read (own_body s.own c.args.i)) = rw (b.0, end) (omega arith) in
-    let e : Extent = record { size = Known c.in-Members.size; align = c.loop-k.align } in
+    let e : Extent = record { size = Known c.in-Members.size; align = c.loop-k.align; target = stands_for.Known c.number-in-Members.result } in
     rw (c.keep-in-Members.ensures.same, c.keep-in-Members.ensures.kept)
     (visited s c.args.budget c.args.i (table_kept c.args.table.now) (table_kept c.loop-k.table) c.args.work.now (c.args.work.now + 1 + c.loop-k.k) c.loop-k.work e
-    c.requires.within c.requires.own (omega (arith, length-map c.loop-k.table extent_kept)) none cost (members_extent s c.args.budget c.args.i c.in-Members.size c.in-Members.read c.loop-k.align at b (rw (sym end) c.loop-k.invariant.greatest)) c.loop-k.invariant.underway)
+    c.requires.within c.requires.own (omega (arith, length-map c.loop-k.table extent_kept)) none cost (members_extent s c.args.budget c.args.i c.in-Members.size c.in-Members.read c.loop-k.align (stands_for.Known c.number-in-Members.result) at b (rw (sym end) c.loop-k.invariant.greatest) (ap Ok c.number-in-Members.ensures)) c.loop-k.invariant.underway)

@@ -35,17 +35,17 @@ returns-in-Reference-clause-some c = rw c.in-Reference.is (told (λ b. shape b) 
 pub returns-in-Resolve-clause-some : goal.returns-in-Resolve-clause-some
 returns-in-Resolve-clause-some c =
     let s = space_of c.args.space.now in
-    rw c.in-Resolve.is (told kind_of (λ k. as_fields type_fields (resolved s c.args.t.0)) (about.Plain plain.Resolve) s c.args.t.0 (spelled c.args.x.now) c.args.kind _ c.requires.kind (c.type_answer-in-Resolve.ensures ∙ ap (as_fields type_fields) c.resolve.ensures) (λ x. refl))
+    rw c.in-Resolve.is (told kind_of (λ k. as_fields type_fields (resolved s c.args.t.0)) (about.Plain plain.Resolve) s c.args.t.0 (spelled c.args.x.now) c.args.kind _ c.requires.kind (c.type_answer-in-Resolve.ensures ∙ ap (as_fields type_fields) (c.resolve.ensures.resolved s c.requires.tables.0)) (λ x. refl))
 
 pub returns-in-Size-clause-some : goal.returns-in-Size-clause-some
 returns-in-Size-clause-some c =
     let s = space_of c.args.space.now in
-    rw c.in-Size.is (told kind_of (λ k. as_fields size_fields (size s c.args.t.0)) (about.Plain plain.Size) s c.args.t.0 (spelled c.args.x.now) c.args.kind _ c.requires.kind (c.number_answer.ensures ∙ ap (as_fields size_fields) (c.size.ensures s c.requires.tables.0)) (λ x. refl))
+    rw c.in-Size.is (told kind_of (λ k. as_fields size_fields (size s c.args.t.0)) (about.Plain plain.Size) s c.args.t.0 (spelled c.args.x.now) c.args.kind _ c.requires.kind (c.number_answer.ensures ∙ ap (as_fields size_fields) (c.size.ensures.size s c.requires.tables.0)) (λ x. refl))
 
 pub returns-in-Align-clause-some : goal.returns-in-Align-clause-some
 returns-in-Align-clause-some c =
     let s = space_of c.args.space.now in
-    rw c.in-Align.is (told kind_of (λ k. as_fields align_fields (align s c.args.t.0)) (about.Plain plain.Align) s c.args.t.0 (spelled c.args.x.now) c.args.kind _ c.requires.kind (c.number_answer-in-Align.ensures ∙ ap (as_fields align_fields) (c.align.ensures s c.requires.tables.0)) (λ x. refl))
+    rw c.in-Align.is (told kind_of (λ k. as_fields align_fields (align s c.args.t.0)) (about.Plain plain.Align) s c.args.t.0 (spelled c.args.x.now) c.args.kind _ c.requires.kind (c.number_answer-in-Align.ensures ∙ ap (as_fields align_fields) (c.align.ensures.align s c.requires.tables.0)) (λ x. refl))
 
 pub returns-in-Pointer-clause-some : goal.returns-in-Pointer-clause-some
 returns-in-Pointer-clause-some c =

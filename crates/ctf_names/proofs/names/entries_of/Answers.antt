@@ -2,7 +2,7 @@ use Rattle.std.proofs.Common.{arith}
 use Rattle.ctf_check.specs.CheckedView.{dictionary_of, lists_of, tables_of}
 use Rattle.ctf_names.specs.Sorts.{tag_in}
 use Rattle.ctf_names.proofs.Entered.{entered, without}
-use Rattle.ctf_names.proofs.Few.{few_terms}
+use Rattle.ctf_space.proofs.Few.{few_terms}
 use Rattle.ctf_names.proofs.names.entries_of.Goals as goal
 use Rattle.ctf_names.proofs.names.entries_of.Goals.{in-Some+in_ok-push, in_default}
 

@@ -1,22 +1,19 @@
-use Rattle.std.proofs.Common.{Some, sym, ap, ◌∙◌, arith}
+use Rattle.std.proofs.Common.{Some, sym, ap, ◌∙◌}
 use Rattle.ctf_model.specs.format.Dictionary.{said_by}
 use Rattle.ctf_model.specs.format.Lists.{tables as tables_in}
 use Rattle.ctf_model.specs.spaces.TypePlaces.{own_number}
 use Rattle.std.specs.Option.{option_map}
 use Rattle.ctf_space.specs.SpaceView.{own_lists}
 use Rattle.ctf_names.specs.Sought.{passes}
-use Rattle.ctf_names.proofs.Few.{few_terms}
 use Rattle.ctf_names.proofs.Places.{place_inside}
 use Rattle.ctf_names.proofs.numbers.least_among.Goals as goal
 
-pub numbered-requires : goal.numbered-requires
-numbered-requires c =
+pub own_number-requires : goal.own_number-requires
+own_number-requires c =
     let s = own_lists c.args.space.now in
-    let few = few_terms s c.args.space.now.own.faultless in
     let same = sym (c.strings.ensures ∙ ap tables_in c.dictionary-dictionary.ensures.lists) in
     let found = c.first.ensures s c.requires same in
-    let inside = place_inside (passes c.args.sought) (said_by s).terms c.in_ok-place.place (sym found ∙ c.in_ok-place.was) in
-    omega (arith, few, inside)
+    place_inside (passes c.args.sought) (said_by s).terms c.in_ok-place.place (sym found ∙ c.in_ok-place.was)
 
 pub returns : goal.returns
 returns c =
@@ -24,7 +21,7 @@ returns c =
     let same = sym (c.strings.ensures ∙ ap tables_in c.dictionary-dictionary.ensures.lists) in
     let found = c.first.ensures s c.requires same in
     let at = sym found ∙ c.in_ok-place.was in
-    ap Some (c.numbered.ensures ∙ ap (λ b. own_number b c.in_ok-place.place) c.child.ensures) ∙ sym (ap (option_map (own_number (said_by s).child)) at)
+    ap Some c.own_number.ensures ∙ sym (ap (option_map (own_number (said_by s).child)) at)
 
 pub returns-in_err-place : goal.returns-in_err-place
 returns-in_err-place c =

@@ -1,6 +1,6 @@
 use Rattle.std.proofs.Common.{arith}
 use Rattle.ctf_check.specs.CheckedView.{dictionary_of, lists_of}
-use Rattle.ctf_names.proofs.Few.{few_terms}
+use Rattle.ctf_space.proofs.Few.{few_terms}
 use Rattle.ctf_names.proofs.Pointing.{entered, none_yet, without}
 use Rattle.ctf_names.proofs.pointers.pointers_of.Goals as goal
 use Rattle.ctf_names.proofs.pointers.pointers_of.Goals.{in-Some+in_ok-push, in_default}

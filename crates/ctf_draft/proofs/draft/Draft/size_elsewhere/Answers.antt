@@ -10,4 +10,4 @@ returns-in-Some c =
     let d = c.args.self.now.draft in
     let p = said_by c.in-Some.parent.now.judged.value.kept.lists in
     let h = rw c.in-Some.is at c.parent_of.ensures in
-    λ k. c.size.ensures (alone p d.model) h.fits ∙ sym (parents_step d p d.model (sizing d.model) k c.args.n.0 h.index h.is h.at)
+    λ k. c.size.ensures.size (alone p d.model) h.fits ∙ sym (parents_step d p d.model (sizing d.model) k c.args.n.0 h.index h.is h.at)

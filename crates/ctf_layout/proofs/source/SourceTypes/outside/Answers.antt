@@ -12,4 +12,4 @@ pub returns-in-None : goal.returns-in-None
 returns-in-None g c = λ n at.
     let s = space_of c.args.self.now.space in
     let over = rw c.in-None.is at c.args.self.now.over in
-    in_no_table s over n c.neither.result c.neither.ensures
+    in_no_table s over n c.refused.result c.refused.ensures
