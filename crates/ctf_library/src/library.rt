@@ -19,7 +19,7 @@ use crate::places::{find_slot, push_slot, remove_slot, set_parent, step_draft};
 use crate::pool::Pool;
 use crate::publications::Publications;
 use crate::slots::Slot;
-use crate::staging::Stage;
+use crate::stage::Stage;
 use ctf_answers::{Answer, Counts};
 use ctf_open::Loaded;
 use ctf_protocol::{
@@ -28,7 +28,6 @@ use ctf_protocol::{
 };
 use std::alloc::Global;
 use std::marker::Model;
-use std::mem;
 
 /// How many slots may be in use.
 const MOST_SLOTS: usize = 1023;
@@ -76,7 +75,7 @@ impl Library {
             slots: Vec::new(alloc),
             slot_bytes: 0,
             next: 1,
-            stage: Stage::new(alloc),
+            stage: Stage::new(),
             published: Publications::new(alloc),
         }
     }
@@ -181,27 +180,19 @@ impl Library {
             return Err(fault);
         }
         self.slots.reserve_exact(1)?;
-        let stage = mem::replace(&mut self.stage, Stage::new(self.alloc));
-        match pool.open(stage.into_parts(), model) {
-            Ok(loaded) => {
-                let number = self.next as u32;
-                let types = loaded.view().count() as u64;
-                self.slot_bytes += loaded.bytes();
-                push_slot(&mut self.slots, Slot::of(number, loaded));
-                self.next += 1;
-                Ok(Counts::two("d", u64::from(number), "types", types))
-            }
-            Err((fault, parts)) => {
-                self.stage = Stage::refused(parts, fault);
-                Err(fault)
-            }
-        }
+        let loaded = self.stage.open(self.alloc, model, pool)?;
+        let number = self.next as u32;
+        let count = loaded.view().count() as u64;
+        self.slot_bytes += loaded.bytes();
+        push_slot(&mut self.slots, Slot::of(number, loaded));
+        self.next += 1;
+        Ok(Counts::two("d", u64::from(number), "types", count))
     }
 
     fn clear(&mut self) -> Result<Counts, Fault>
         ensures { Does (clears self.old) result self.new }
     {
-        self.stage = Stage::new(self.alloc);
+        self.stage = Stage::new();
         Ok(Counts::done())
     }
 
