@@ -76,7 +76,7 @@ impl Library {
             slot_bytes: 0,
             next: 1,
             stage: Stage::new(),
-            published: Publications::new(alloc),
+            published: Publications::new(),
         }
     }
 
@@ -104,7 +104,18 @@ impl Library {
         ensures good { IsGood self.old → FitsChange change.now → ForSome found IsFaultless
             → IsGood self.new }
     {
-        self.make(change, found, pool)
+        let outcome = self.make(change, found, pool);
+        self.give_back_room();
+        outcome
+    }
+
+    /// Keeps no room for slots where none is in use, as after a refused `open`.
+    fn give_back_room(&mut self)
+        ensures { self.new ≡ self.old }
+    {
+        if self.slots.is_empty() {
+            self.slots = Vec::new(self.alloc);
+        }
     }
 
     #[tactic(auto, unfolding(ctf_protocol::specs::sessions::Steps::change_step))]
@@ -271,7 +282,7 @@ impl Library {
         if loaded.bytes() > u128::MAX - self.charge() {
             return Err(placeless(Fault::MEMORY));
         }
-        self.published.add(name, loaded)?;
+        self.published.add(self.alloc, name, loaded)?;
         Ok(Counts::done())
     }
 

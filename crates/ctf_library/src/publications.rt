@@ -13,7 +13,6 @@ use std::marker::Model;
 /// What a session published, if it ever did, in the order in which that was.
 #[derive(Drop)]
 pub struct Publications {
-    alloc: Global,
     map: Option<Box<PublicationMap>>,
 }
 
@@ -29,10 +28,10 @@ impl Model for Publications {
 
 impl Publications {
     /// Nothing is published.
-    pub fn new(alloc: Global) -> Publications
+    pub fn new() -> Publications
         ensures { result ≡ [] }
     {
-        Publications { alloc, map: None }
+        Publications { map: None }
     }
 
     /// How many bytes all of them have.
@@ -58,7 +57,12 @@ impl Publications {
 
     /// Publishes a dictionary under a name that has none yet. Where memory is refused, nothing
     /// changes; so it is too where 64 bits can't count one publication more.
-    pub fn add(&mut self, name: &PublicationName, loaded: Loaded) -> Result<(), AllocError>
+    pub fn add(
+        &mut self,
+        alloc: Global,
+        name: &PublicationName,
+        loaded: Loaded,
+    ) -> Result<(), AllocError>
         requires free { published_as name.now self.old ≡ None }
         requires small { sum_by publication_bytes self.old + kept_bytes loaded < 2 ^ 128 }
         ensures ok { OnOk result (self.new
@@ -68,9 +72,9 @@ impl Publications {
         match &mut self.map {
             Some(map) => map.add(name, loaded),
             None => {
-                let mut map = PublicationMap::new(self.alloc);
+                let mut map = PublicationMap::new(alloc);
                 map.add(name, loaded)?;
-                self.map = Some(Box::new(self.alloc, map)?);
+                self.map = Some(Box::new(alloc, map)?);
                 Ok(())
             }
         }

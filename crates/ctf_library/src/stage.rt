@@ -11,8 +11,15 @@ use crate::pool::Pool;
 use crate::staging::Staged;
 use ctf_open::Loaded;
 use ctf_protocol::{DataModel, Fault, ListName, no_parts};
-use std::alloc::Global;
+use std::alloc::{AllocError, Global};
 use std::marker::Model;
+
+/// Staged lists in memory of their own.
+fn boxed(alloc: Global, staged: Staged) -> Result<Box<Staged>, AllocError>
+    ensures { IfOk result (λ b. b.value ≡ staged) }
+{
+    Ok(Box::new(alloc, staged)?)
+}
 
 /// The staged lists of a session, if any part was staged since the last `open` or `clear`. A
 /// contract sees the lists alone.
@@ -69,7 +76,7 @@ impl Stage {
             None => {
                 let mut staged = Staged::new(alloc);
                 let length = staged.add(alloc, list, piece, fits)?;
-                self.staged = Some(Box::new(alloc, staged)?);
+                self.staged = Some(boxed(alloc, staged)?);
                 Ok(length)
             }
         }
