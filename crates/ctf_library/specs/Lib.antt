@@ -4,6 +4,8 @@ pub mod Drafting
 pub mod SlotView
 pub mod Turns
 pub mod Published
+pub mod PublishedMap
+pub mod Staged
 pub mod Stepping
 pub mod SlotPlaces
 pub mod SlotOrder

@@ -10,8 +10,10 @@ mod library;
 mod places;
 mod pool;
 mod publication;
+mod publication_map;
 mod publications;
 mod slots;
+mod stage;
 mod staging;
 mod whole;
 

@@ -19,7 +19,7 @@ use crate::places::{find_slot, push_slot, remove_slot, set_parent, step_draft};
 use crate::pool::Pool;
 use crate::publications::Publications;
 use crate::slots::Slot;
-use crate::staging::Stage;
+use crate::stage::Stage;
 use ctf_answers::{Answer, Counts};
 use ctf_open::Loaded;
 use ctf_protocol::{
@@ -28,7 +28,6 @@ use ctf_protocol::{
 };
 use std::alloc::Global;
 use std::marker::Model;
-use std::mem;
 
 /// How many slots may be in use.
 const MOST_SLOTS: usize = 1023;
@@ -76,8 +75,8 @@ impl Library {
             slots: Vec::new(alloc),
             slot_bytes: 0,
             next: 1,
-            stage: Stage::new(alloc),
-            published: Publications::new(alloc),
+            stage: Stage::new(),
+            published: Publications::new(),
         }
     }
 
@@ -105,7 +104,18 @@ impl Library {
         ensures good { IsGood self.old → FitsChange change.now → ForSome found IsFaultless
             → IsGood self.new }
     {
-        self.make(change, found, pool)
+        let outcome = self.make(change, found, pool);
+        self.give_back_room();
+        outcome
+    }
+
+    /// Keeps no room for slots where none is in use, as after a refused `open`.
+    fn give_back_room(&mut self)
+        ensures { self.new ≡ self.old }
+    {
+        if self.slots.is_empty() {
+            self.slots = Vec::new(self.alloc);
+        }
     }
 
     #[tactic(auto, unfolding(ctf_protocol::specs::sessions::Steps::change_step))]
@@ -181,27 +191,19 @@ impl Library {
             return Err(fault);
         }
         self.slots.reserve_exact(1)?;
-        let stage = mem::replace(&mut self.stage, Stage::new(self.alloc));
-        match pool.open(stage.into_parts(), model) {
-            Ok(loaded) => {
-                let number = self.next as u32;
-                let types = loaded.view().count() as u64;
-                self.slot_bytes += loaded.bytes();
-                push_slot(&mut self.slots, Slot::of(number, loaded));
-                self.next += 1;
-                Ok(Counts::two("d", u64::from(number), "types", types))
-            }
-            Err((fault, parts)) => {
-                self.stage = Stage::refused(parts, fault);
-                Err(fault)
-            }
-        }
+        let loaded = self.stage.open(self.alloc, model, pool)?;
+        let number = self.next as u32;
+        let count = loaded.view().count() as u64;
+        self.slot_bytes += loaded.bytes();
+        push_slot(&mut self.slots, Slot::of(number, loaded));
+        self.next += 1;
+        Ok(Counts::two("d", u64::from(number), "types", count))
     }
 
     fn clear(&mut self) -> Result<Counts, Fault>
         ensures { Does (clears self.old) result self.new }
     {
-        self.stage = Stage::new(self.alloc);
+        self.stage = Stage::new();
         Ok(Counts::done())
     }
 
@@ -280,7 +282,7 @@ impl Library {
         if loaded.bytes() > u128::MAX - self.charge() {
             return Err(placeless(Fault::MEMORY));
         }
-        self.published.add(name, loaded)?;
+        self.published.add(self.alloc, name, loaded)?;
         Ok(Counts::done())
     }
 

@@ -1,56 +1,47 @@
-//! Dictionaries under the names that a session published them by.
+//! What a session published, which takes memory of its own from the first publication on.
 ghost use Rattle.std.specs.Prelude.{◌≡◌, ◌+◌, ◌<◌, ◌^◌, ◌++◌, [], ◌∷◌, None, OnErr, OnOk, is_some, option_map, sum_by};
 ghost use Rattle.ctf_model.specs.opened.Sizes.{kept_bytes};
 ghost use Rattle.ctf_protocol.specs.sessions.Charges.{publication_bytes};
 ghost use Rattle.ctf_protocol.specs.sessions.Publications.{published_as, published_without};
 
-use crate::publication::Publication;
+use crate::publication_map::PublicationMap;
 use ctf_open::Loaded;
 use ctf_protocol::PublicationName;
 use std::alloc::{AllocError, Global};
-use std::collections::BTreeMap;
 use std::marker::Model;
 
-/// What a session published, and how many bytes it comes to. It is kept in the order of names, and
-/// seen in the order in which it was published.
+/// What a session published, if it ever did, in the order in which that was.
 #[derive(Drop)]
 pub struct Publications {
-    alloc: Global,
-    by_name: BTreeMap<Vec<u8>, Publication>,
-    turns: u64,
-    bytes: u128,
+    map: Option<Box<PublicationMap>>,
 }
 
 impl Model for Publications {
     ghost use Rattle.std.specs.Prelude.{List};
-    ghost use Rattle.ctf_library.specs.Published.{IsKept, published_in};
+    ghost use Rattle.ctf_library.specs.PublishedMap.{publications_in};
     ghost use Rattle.ctf_protocol.specs.sessions.State.{Publication};
 
     ghost Value = { List Publication };
 
-    ghost view = { λ p. published_in p.by_name.entries };
-
-    ghost invariant = { λ p. IsKept p.by_name p.turns p.bytes };
+    ghost view = { λ p. publications_in p.map };
 }
 
 impl Publications {
     /// Nothing is published.
-    pub fn new(alloc: Global) -> Publications
+    pub fn new() -> Publications
         ensures { result ≡ [] }
     {
-        Publications {
-            alloc,
-            by_name: BTreeMap::new(alloc),
-            turns: 0,
-            bytes: 0,
-        }
+        Publications { map: None }
     }
 
     /// How many bytes all of them have.
     pub fn bytes(&self) -> u128
         ensures { result ≡ sum_by publication_bytes self.now }
     {
-        self.bytes
+        match &self.map {
+            Some(map) => map.bytes(),
+            None => 0,
+        }
     }
 
     /// What is published under a name, found in a time that grows with the logarithm of their
@@ -58,34 +49,35 @@ impl Publications {
     pub fn find(&self, name: &[u8]) -> Option<&Loaded>
         ensures { option_map (λ l. l.now) result ≡ published_as name.now self.now }
     {
-        match self.by_name.get(name) {
-            Some(publication) => Some(&publication.loaded),
+        match &self.map {
+            Some(map) => map.find(name),
             None => None,
         }
     }
 
     /// Publishes a dictionary under a name that has none yet. Where memory is refused, nothing
     /// changes; so it is too where 64 bits can't count one publication more.
-    pub fn add(&mut self, name: &PublicationName, loaded: Loaded) -> Result<(), AllocError>
+    pub fn add(
+        &mut self,
+        alloc: Global,
+        name: &PublicationName,
+        loaded: Loaded,
+    ) -> Result<(), AllocError>
         requires free { published_as name.now self.old ≡ None }
         requires small { sum_by publication_bytes self.old + kept_bytes loaded < 2 ^ 128 }
         ensures ok { OnOk result (self.new
             ≡ self.old ++ (record { name = name.now; kept = loaded }) ∷ []) }
         ensures err { OnErr result (self.new ≡ self.old) }
     {
-        if self.turns == u64::MAX {
-            return Err(AllocError);
+        match &mut self.map {
+            Some(map) => map.add(name, loaded),
+            None => {
+                let mut map = PublicationMap::new(alloc);
+                map.add(name, loaded)?;
+                self.map = Some(Box::new(alloc, map)?);
+                Ok(())
+            }
         }
-        let bytes = loaded.bytes();
-        let publication = Publication {
-            turn: self.turns,
-            loaded,
-        };
-        let key = Vec::from_slice(self.alloc, name.as_slice())?;
-        self.by_name.insert(key, publication)?;
-        self.turns += 1;
-        self.bytes += bytes;
-        Ok(())
     }
 
     /// Takes out what is published under a name, if anything is.
@@ -93,10 +85,9 @@ impl Publications {
         ensures there { result ≡ is_some (published_as name.now self.old) }
         ensures left { self.new ≡ published_without name.now self.old }
     {
-        let Some(publication) = self.by_name.remove(name) else {
-            return false;
-        };
-        self.bytes -= publication.loaded.bytes();
-        true
+        match &mut self.map {
+            Some(map) => map.remove(name),
+            None => false,
+        }
     }
 }

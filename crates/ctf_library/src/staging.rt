@@ -14,6 +14,7 @@ use ctf_open::owned_bytes;
 use ctf_protocol::{Bytes, Fault, ListName, Parts, no_parts, placeless};
 use std::alloc::{AllocError, Global};
 use std::marker::Model;
+use std::mem;
 
 /// The greatest length of a staged list, in bytes.
 const LONGEST_LIST: usize = 67_108_864;
@@ -103,12 +104,12 @@ fn first_fault(alloc: Global, lists: &Parts) -> Result<Option<Fault>, AllocError
 /// Staged lists, with their first fault once they were judged: lists that stay as they are, are
 /// judged once. A contract sees the lists alone.
 #[derive(Drop)]
-pub struct Stage {
+pub struct Staged {
     parts: Parts,
     known: Option<Option<Fault>>,
 }
 
-impl Model for Stage {
+impl Model for Staged {
     ghost use Rattle.std.specs.Prelude.{◌≡◌, IfSome};
     ghost use Rattle.ctf_model.specs.format.Lists.{Lists};
     ghost use Rattle.ctf_model.specs.format.OwnedLists.{lists_owned};
@@ -121,19 +122,19 @@ impl Model for Stage {
     ghost invariant = { λ s. IfSome s.known (λ fault. fault ≡ first_fault (lists_owned s.parts)) };
 }
 
-impl Stage {
+impl Staged {
     /// Nothing is staged.
-    pub fn new(alloc: Global) -> Stage
+    pub fn new(alloc: Global) -> Staged
         ensures { result ≡ no_lists }
     {
-        Stage {
+        Staged {
             parts: no_parts(alloc),
             known: None,
         }
     }
 
     /// Lists that were not opened, for this fault of theirs or for want of memory.
-    pub fn refused(parts: Parts, fault: Fault) -> Stage
+    pub fn refused(parts: Parts, fault: Fault) -> Staged
         requires { (fault ≡ want_of_memory) ⊎ (fault_of (lists_owned parts) ≡ Some fault) }
         ensures { result ≡ lists_owned parts }
     {
@@ -142,14 +143,14 @@ impl Stage {
         } else {
             Some(Some(fault))
         };
-        Stage { parts, known }
+        Staged { parts, known }
     }
 
-    /// The lists.
-    pub fn into_parts(self) -> Parts
-        ensures { lists_owned result ≡ self }
+    /// Takes the lists out.
+    pub fn take(&mut self, alloc: Global) -> Parts
+        ensures { lists_owned result ≡ self.old }
     {
-        let Stage { parts, .. } = self;
+        let Staged { parts, .. } = mem::replace(self, Staged::new(alloc));
         parts
     }
 

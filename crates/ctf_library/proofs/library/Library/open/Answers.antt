@@ -9,8 +9,8 @@ returns-in-Some c =
     let to = opens_broken c.args.model c.args.self.now c.in-Some.fault (sym c.has_room.ensures ∙ c.if-not-has_room.false) broken in
     rw to (inl (refl, refl))
 
-pub returns-in-Ok : goal.returns-in-Ok
-returns-in-Ok c =
-    let none = sym (ap (λ s. first_fault s.stage) c.self.view_is) ∙ ap first_fault (sym c.replace-stage.ensures.value ∙ sym c.into_parts.ensures) ∙ c.in-Ok.ensures.exact_ok in
+pub returns : goal.returns
+returns c =
+    let none = sym (ap (λ s. first_fault s.stage) c.self.view_is) ∙ c.in_ok-loaded.ensures.exact_ok in
     let to = opens_to c.args.model c.args.self.now (sym c.has_room.ensures ∙ c.if-not-has_room.false) none in
     rw to (inl (search rules, search rules))

@@ -18,4 +18,4 @@ stays old new c found reply (inl done) g fits h = subst IsGood (sym done.1) (ste
 stays old new c found reply (inr none) g fits h = subst IsGood (sym none.1) g
 
 pub returns-clause-good : goal.returns-clause-good
-returns-clause-good c = λ g fits h. stays _ _ _ _ _ c.make.ensures.step g fits h
+returns-clause-good c = λ g fits h. subst IsGood (sym c.give_back_room.ensures) (stays _ _ _ _ _ c.make.ensures.step g fits h)

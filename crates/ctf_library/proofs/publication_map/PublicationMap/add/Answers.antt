@@ -2,7 +2,7 @@ use Rattle.std.proofs.Common.{◌++◌, ◌∷◌, [], List, ap, ◌∙◌, refl
 use Rattle.ctf_library.proofs.Published.{added_kept, added_seen}
 use Rattle.ctf_protocol.specs.sessions.Publications.{published_as}
 use Rattle.ctf_protocol.specs.sessions.State.{Publication}
-use Rattle.ctf_library.proofs.publications.Publications.add.Goals as goal
+use Rattle.ctf_library.proofs.publication_map.PublicationMap.add.Goals as goal
 
 pub invariant_of-self-2 : goal.invariant_of-self-2
 invariant_of-self-2 c =

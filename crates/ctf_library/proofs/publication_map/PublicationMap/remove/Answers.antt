@@ -3,7 +3,7 @@ use Rattle.std.specs.Prelude.{is_some, option_map}
 use Rattle.ctf_library.proofs.Published.{found_in, removed_kept, removed_le, removed_seen}
 use Rattle.ctf_library.specs.declared.publication.Publication as own
 use Rattle.ctf_protocol.specs.sessions.Publications.{published_as, published_without}
-use Rattle.ctf_library.proofs.publications.Publications.remove.Goals as goal
+use Rattle.ctf_library.proofs.publication_map.PublicationMap.remove.Goals as goal
 
 pub returns-in_default-clause-there : goal.returns-in_default-clause-there
 returns-in_default-clause-there c =

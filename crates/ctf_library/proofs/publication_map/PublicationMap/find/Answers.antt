@@ -3,7 +3,7 @@ use Rattle.std.specs.Prelude.{option_map}
 use Rattle.ctf_library.proofs.Published.{found_in}
 use Rattle.ctf_library.specs.declared.publication.Publication as own
 use Rattle.ctf_protocol.specs.sessions.Publications.{published_as}
-use Rattle.ctf_library.proofs.publications.Publications.find.Goals as goal
+use Rattle.ctf_library.proofs.publication_map.PublicationMap.find.Goals as goal
 
 pub returns-in-Some : goal.returns-in-Some
 returns-in-Some c =
