@@ -1,5 +1,5 @@
 -- The numbers of digits, and the bytes of two.
-use Rattle.std.proofs.Common.{◌≡◌, ℕ, zero, suc, ◌<◌, ◌≤◌, ◌+◌, ◌*◌, ◌==◌, ◌&&◌, Bool, true, Option, Some, None, unwrap_or, Ok, Err, refl, ap, arith, inl, inr}
+use Rattle.std.proofs.Common.{◌≡◌, ℕ, zero, suc, ◌<◌, ◌+◌, ◌*◌, ◌==◌, ◌&&◌, Bool, true, Option, Some, None, unwrap_or, Err, refl, arith, inl, inr}
 use Rattle.std.proofs.lemmas.Bool.{cases_eq, and_parts, eqb-true}
 use Rattle.hex.specs.Hex.{hex_digit_value, pair_value}
 use Rattle.hex.specs.declared.error.FromHexError.{FromHexError}
@@ -24,10 +24,3 @@ pub bad_pair : (high low i : ℕ) (a b : Option ℕ) → hex_digit_value high �
 bad_pair high low i None b e f h = (InvalidHexCharacter high i, rw e refl)
 bad_pair high low i (Some v) None e f h = (InvalidHexCharacter low (i + 1), rw (e, f) refl)
 bad_pair high low i (Some v) (Some w) e f h = let s = small high v e in let t = small low w f in absurd (omega (arith, s, t, h))
-
-pub two_digits : (high low i : ℕ) (a b : Option ℕ) → hex_digit_value high ≡ a → hex_digit_value low ≡ b → 16 * unwrap_or a 16 + unwrap_or b 256 ≤ 255 → pair_value high low i ≡ Ok (16 * unwrap_or a 16 + unwrap_or b 256)
-two_digits high low i None b e f h = absurd (omega (arith, h))
-two_digits high low i (Some v) None e f h = absurd (omega (arith, h))
-two_digits high low i (Some v) (Some w) e f h =
-    let same : v * 16 + w ≡ 16 * v + w = omega arith in
-    rw (e, f) (ap (λ n. Ok n) same)
