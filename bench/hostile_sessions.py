@@ -95,13 +95,15 @@ def many_arguments():
 # ---- paths
 
 
-def steps(count, at_front):
+def steps(count, place):
     """Structs of 1,023 members in each other, each member by a name of 2,000 bytes that the others
-    share but for one end, and the way through the last ones."""
+    share but for four bytes at a place, and the way through the last ones.
+
+    A table of what each reference was found to name would help these alone: steps whose names are
+    shorter and shorter ends of the same texts have new references each."""
     length = 2000
-    names = [b"%04d" % i for i in range(1023)]
-    fill = b"a" * (length - 4)
-    texts = [name + fill if at_front else fill + name for name in names]
+    front, back = b"a" * place, b"a" * (length - 4 - place)
+    texts = [front + b"%04d" % i + back for i in range(1023)]
     types = made.integer(0)
     for i in range(count):
         items = b"".join(struct.pack("<IHH", 1 + k * (length + 1), 1 + i, 0) for k in range(1023))
@@ -184,10 +186,10 @@ SESSIONS = [
             lambda: many_names("[" * 100 + "]" * 100), known=13),
     Session("line: 1 MB of names of a path", lambda: many_names('"a"'), known=34),
     Session("line: 1 MB of arguments", many_arguments, known=30),
-    Session("path: 500 steps, 1,023 names unlike at the front", lambda: steps(500, True),
-            read=6.1, known=92),
-    Session("path: 500 steps, 1,023 names unlike at the end", lambda: steps(500, False),
-            read=6.1, known=130),
+    Session("path: 500 steps, 1,023 names unlike at the front", lambda: steps(500, 0), read=6.1),
+    Session("path: 500 steps, 1,023 names unlike at the end", lambda: steps(500, 1996), read=6.1),
+    Session("path: 500 steps, 1,023 names unlike in the middle", lambda: steps(500, 1000),
+            read=6.1, known=110),
     Session("show: 500 structs in each other", lambda: nested_structs(500)),
     Session("add: a member on top of 500,000", lambda: chained_draft(500, 1000), known=7),
     Session("update: nothing pending, 60 MB", lambda: updated_again(60)),

@@ -4,11 +4,10 @@
 usage: run.py PROGRAM [--thread THREAD] [--least]
 
 Each case is a dictionary or a draft as deep as the format's rules let it be, and one layer deeper,
-which is refused; or a line of brackets. PROGRAM answers its lines under `ulimit -s` as it does
-without: of SHOWN KiB where `show` is among them, and of ENOUGH KiB where it is not. THREAD is
-thread.c, compiled: it answers them on a thread with a stack of as much. With --least, the least
-stack that each case works with is told, in steps of 4 KiB. The status is 1 where something is
-answered otherwise.
+which is refused; or a line of brackets. PROGRAM answers its lines under `ulimit -s` of ENOUGH KiB as
+it does without. THREAD is thread.c, compiled: it answers them on a thread with a stack of as much.
+With --least, the least stack that each case works with is told, in steps of 4 KiB. The status is 1
+where something is answered otherwise.
 """
 from __future__ import annotations
 
@@ -23,8 +22,8 @@ from typing import Callable, Iterable, Sequence
 
 from runs import ask, joined
 
-# What docs/LIMITS.md and clients/c/ctfd.h say that is needed, in KiB: for `show`, and for all else.
-SHOWN, ENOUGH = 448, 256
+# What docs/LIMITS.md and clients/c/ctfd.h say that is needed, in KiB.
+ENOUGH = 256
 STEP, MOST = 4, 8192
 LAYERS = 512
 INT = struct.pack("<I", 0x01000020)
@@ -33,11 +32,10 @@ INTEGER, POINTER, ARRAY, FUNCTION, STRUCT, UNION, TYPEDEF, CONST = 1, 3, 4, 5, 6
 
 @dataclass(frozen=True)
 class Case:
-    """Lines, and the KiB of stack that are enough for them."""
+    """Lines that need stack."""
 
     name: str
     lines: list[bytes]
-    enough: int = ENOUGH
 
 
 def record(kind: int, vlen: int, field: int, rest: bytes = b"") -> bytes:
@@ -128,7 +126,7 @@ def deep_types() -> Iterable[Case]:
         for layers in (LAYERS, LAYERS + 1):
             opened = handed_in(chain(over, layers))
             yield Case(f"{layers} {name}", opened + questions(layers))
-            yield Case(f"{layers} {name}, shown", opened + shown(layers), SHOWN)
+            yield Case(f"{layers} {name}, shown", opened + shown(layers))
     yield Case("32,000 structs in each other", handed_in(chain(VALUES["structs"], 32_000)))
     yield Case("32,000 pointers", handed_in(chain(DECLARATIONS["pointers"], 32_000)))
 
@@ -144,7 +142,7 @@ def deep_drafts() -> Iterable[Case]:
                   ask(1, "add", d=1, what="member", t=1 + layers, type=layers),
                   ask(1, "update", d=1)]
         yield Case(f"a draft of {layers} structs in each other", lines + questions(layers))
-        yield Case(f"a draft of {layers} structs, shown", lines + shown(layers), SHOWN)
+        yield Case(f"a draft of {layers} structs, shown", lines + shown(layers))
 
 
 def found_by_name() -> Case:
@@ -223,8 +221,8 @@ def main() -> int:
             checks += 1
             if options.least:
                 print(f"{case.name:58}{one.name:12}{one.least(case, wanted):6} KiB", flush=True)
-            elif one.answers(case, case.enough) != wanted:
-                print(f"{case.name}: {one.name} answers otherwise with {case.enough} KiB of stack")
+            elif one.answers(case, ENOUGH) != wanted:
+                print(f"{case.name}: {one.name} answers otherwise with {ENOUGH} KiB of stack")
                 wrong += 1
     print(f"stack: {checks} checks, {wrong} wrong")
     return 1 if wrong else 0
