@@ -11,6 +11,7 @@ use Rattle.ctf_layout.specs.declared.extents.Extent.{Extent}
 use Rattle.ctf_layout.specs.declared.extents.Refusal.{Refusal}
 use Rattle.ctf_layout.specs.declared.extents.Refusal.TheVariants.{Incomplete, TooBig, NoType, NoParent}
 use Rattle.ctf_layout.specs.declared.extents.Target.{Target}
+use Rattle.ctf_model.specs.declared.numbers.TypeNum.{TypeNum}
 use Rattle.ctf_layout.specs.declared.extents.Target.TheVariants as stands_for
 
 abbrev pub code_of : Refusal → ℕ
@@ -35,6 +36,14 @@ refused refusal = record {
   size = Refused refusal;
   align = Refused refusal;
   target = stands_for.Refused refusal;
+}
+
+-- of a type that stands for itself
+abbrev pub itself : Amount → Amount → TypeNum → Extent
+itself size align number = record {
+  size = size;
+  align = align;
+  target = stands_for.Known number;
 }
 
 -- of the number 0, which is no type and stands for itself

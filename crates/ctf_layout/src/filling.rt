@@ -2,7 +2,7 @@
 //! is found once.
 ghost use Rattle.std.specs.Prelude.{◌≡◌, ℕ, ◌+◌, ◌<◌, ◌≤◌, Some, None, length, slice_set};
 ghost use Rattle.ctf_layout.specs.Bases.{row_size, row_target};
-ghost use Rattle.ctf_layout.specs.Extents.{IsExtent, amount, target};
+ghost use Rattle.ctf_layout.specs.Extents.{IsExtent, amount, itself, target};
 ghost use Rattle.ctf_layout.specs.Kept.{table_kept};
 ghost use Rattle.ctf_layout.specs.Table.{IsVisited, IsWhole, Knows, entry};
 ghost use Rattle.ctf_layout.specs.Work.{types_work};
@@ -62,6 +62,17 @@ fn keep(table: &mut [Entry], i: usize, extent: Extent) -> Extent
     extent
 }
 
+/// The extent of the type with a number that stands for itself.
+fn of_itself(size: Amount, align: Amount, number: TypeNum) -> Extent
+    ensures { result ≡ itself size align number }
+{
+    Extent {
+        size,
+        align,
+        target: Target::Known(number),
+    }
+}
+
 /// The extent of the type with a number that hangs on one, as it is or for a row of elements.
 fn by_one(row: Option<Row>, one: Extent, number: TypeNum) -> Extent
     ensures size { amount result.size ≡ row_size row (amount one.size) }
@@ -99,15 +110,7 @@ fn extent<L: Ledger, T: Types<L>>(
         return extent;
     }
     match types.basis(i, work) {
-        Basis::Itself(size, align) => {
-            let target = Target::Known(types.number(i));
-            let found = Extent {
-                size,
-                align,
-                target,
-            };
-            keep(table, i, found)
-        }
+        Basis::Itself(size, align) => { keep(table, i, of_itself(size, align, types.number(i))) }
         Basis::One(number, row) => {
             let one = match own_index(types, number) {
                 Some(j) => extent(types, table, work, j, budget - 1),
@@ -125,12 +128,8 @@ fn extent<L: Ledger, T: Types<L>>(
                 };
                 align = greater(align, member.align);
             }
-            let found = Extent {
-                size: Amount::Known(size),
-                align,
-                target: Target::Known(types.number(i)),
-            };
-            keep(table, i, found)
+            let size = Amount::Known(size);
+            keep(table, i, of_itself(size, align, types.number(i)))
         }
     }
 }

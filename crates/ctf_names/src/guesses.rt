@@ -11,7 +11,7 @@ fn place_of(target: u16) -> usize {
     usize::from(target & 0x7fff)
 }
 
-/// Notes where the pointers to each type begin that has any.
+/// Notes where the pointers to each type begin, if it has any.
 fn note(guesses: &mut [u16], pointers: &[Pointer]) {
     for place in 0..u16::MAX {
         let Some(pointer) = pointers.get(usize::from(place)) else {
@@ -23,7 +23,7 @@ fn note(guesses: &mut [u16], pointers: &[Pointer]) {
     }
 }
 
-/// The pointers to the other types would begin where those to the next one do.
+/// Notes where pointers to the other types would begin: where those to the next type do.
 fn fill(guesses: &mut [u16], end: u16) {
     let len = guesses.len();
     let mut next = end;
@@ -37,8 +37,8 @@ fn fill(guesses: &mut [u16], end: u16) {
     }
 }
 
-/// For each of so many types where the pointers to it begin, or would. Nothing is promised of a
-/// guess: a search looks whether it is right.
+/// Where the pointers to each of so many types begin, or would. Nothing is promised of a guess: a
+/// search checks it.
 pub(crate) fn guess(
     alloc: Global,
     pointers: &[Pointer],

@@ -32,7 +32,7 @@ returns-in-Itself g t c =
     let e : Extent = record { size = c.in-Itself.size; align = c.in-Itself.align; target = stands_for.Known c.number.result } in
     let none : slice_index_or (table_kept c.args.table.now) c.args.i None ≡ None = c.found.ensures ∙ none_from c.found.result c.in_default.not-Some in
     let cost : c.args.work.now + 1 ≡ c.args.work.now + (1 + members_read (own_body s.own c.args.i)) = rw b.0 refl in
-    rw (c.keep.ensures.same, c.keep.ensures.kept)
+    rw (c.keep.ensures.same, c.keep.ensures.kept, c.of_itself.ensures)
     (visited s c.args.budget c.args.i (table_kept c.args.table.now) (table_kept c.args.table.now) c.args.work.now (c.args.work.now + 1) c.basis.new.work e
     c.requires.within c.requires.own (omega (arith, length-map c.args.table.now extent_kept)) none cost (itself_extent s c.args.budget c.args.i e at b (ap Ok c.number.ensures))
     (begun s c.args.i (table_kept c.args.table.now) (c.args.work.now + 1) c.basis.new.work c.requires.knows c.basis.ensures.tick))
@@ -144,6 +144,6 @@ returns-after-loop-k g t c =
     let end : c.loop-k.k ≡ c.in-Members.read = omega arith in
     let cost : c.args.work.now + 1 + c.loop-k.k ≡ c.args.work.now + (1 + members_read (own_body s.own c.args.i)) = rw (b.0, end) (omega arith) in
     let e : Extent = record { size = Known c.in-Members.size; align = c.loop-k.align; target = stands_for.Known c.number-in-Members.result } in
-    rw (c.keep-in-Members.ensures.same, c.keep-in-Members.ensures.kept)
+    rw (c.keep-in-Members.ensures.same, c.keep-in-Members.ensures.kept, c.of_itself-in-Members.ensures)
     (visited s c.args.budget c.args.i (table_kept c.args.table.now) (table_kept c.loop-k.table) c.args.work.now (c.args.work.now + 1 + c.loop-k.k) c.loop-k.work e
     c.requires.within c.requires.own (omega (arith, length-map c.loop-k.table extent_kept)) none cost (members_extent s c.args.budget c.args.i c.in-Members.size c.in-Members.read c.loop-k.align (stands_for.Known c.number-in-Members.result) at b (rw (sym end) c.loop-k.invariant.greatest) (ap Ok c.number-in-Members.ensures)) c.loop-k.invariant.underway)
