@@ -1,20 +1,18 @@
 -- What a create comes to.
-use Rattle.std.proofs.Common.{◌≡◌, ◌+◌, ℕ, List, subst, arith, Option, Some, None, Result, Ok, Err, true, is_some, refl, ap, sym, ◌∙◌, ◌⊎◌, inl, inr}
+use Rattle.std.proofs.Common.{◌≡◌, ◌+◌, ℕ, Option, Some, None, Result, Ok, Err, true, is_some, refl, ap, sym, ◌∙◌, ◌⊎◌, inl, inr}
 use Rattle.std.specs.Prelude.{option_map, option_and_then}
 use Rattle.ctf_library.specs.Quotas.{IsUncreated}
 use Rattle.ctf_protocol.specs.sessions.Opened.{slot_made, slot_with}
 use Rattle.ctf_library.proofs.Rooms.{room_lt}
 use Rattle.ctf_open.specs.Quotas.{IsUncreated as IsUncreatedOpen}
 use Rattle.ctf_model.specs.opened.Open.{Open}
-use Rattle.ctf_model.specs.opened.Steps.{created, settled_as, updated_over}
+use Rattle.ctf_model.specs.opened.Steps.{created}
 use Rattle.ctf_model.specs.opened.Sizes.{kept_bytes, parent_bytes}
 use Rattle.ctf_protocol.specs.sessions.Creations.{Created}
 use Rattle.ctf_protocol.specs.sessions.DraftSteps.{created_slot, model_made}
-use Rattle.ctf_model.specs.drafts.Drafts.{Draft, held, new_draft}
-use Rattle.ctf_model.specs.spaces.Kept.{Kept, modelled_by}
+use Rattle.ctf_model.specs.spaces.Kept.{Kept}
 use Rattle.ctf_protocol.specs.sessions.State.{Slot, State}
 use Rattle.ctf_protocol.specs.sessions.Steps.{adds_created, creates, creates_from, creates_over, has_room, quota, refuses, slot_at}
-use Rattle.ctf_model.specs.writing.Written.{written}
 use Rattle.ctf_model.specs.declared.faults.Fault.{Fault}
 use Rattle.ctf_model.specs.declared.faults.TheConstants.Fault.{NO_SLOT}
 

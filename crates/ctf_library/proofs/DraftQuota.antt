@@ -1,5 +1,5 @@
 -- The step of a draft, judged beside what all else comes to, is that of the library.
-use Rattle.std.proofs.Common.{◌≡◌, ◌≤◌, ◌<◌, ◌+◌, ◌-◌, ◌⊎◌, ℕ, List, [], ◌∷◌, sum_by, Option, Some, None, Result, Ok, Err, Bool, true, false, ltb, refl, inl, inr, ap, sym, subst, ◌∙◌, arith}
+use Rattle.std.proofs.Common.{◌≡◌, ◌+◌, ◌-◌, ◌⊎◌, ℕ, List, sum_by, Option, Some, None, Result, Ok, Err, Bool, true, false, refl, inl, inr, ap, sym, subst, ◌∙◌, arith}
 use Rattle.std.specs.Prelude.{nat_lt}
 use Rattle.ctf_answers.specs.Replies.{changed, said}
 use Rattle.ctf_answers.specs.declared.counts.Counts.{Counts}
@@ -9,8 +9,8 @@ use Rattle.ctf_library.specs.Stepping.{Makes}
 use Rattle.ctf_library.proofs.DraftPlaces.{slot_kept}
 use Rattle.ctf_model.specs.rules.Refusals.{placeless, want_of_memory}
 use Rattle.ctf_model.specs.declared.faults.Fault.{Fault}
-use Rattle.ctf_model.specs.declared.faults.TheConstants.Fault.{NO_SLOT, QUOTA_FULL}
-use Rattle.ctf_protocol.proofs.Charged.{slot_becomes_charge, slot_counts, without_bytes}
+use Rattle.ctf_model.specs.declared.faults.TheConstants.Fault.{QUOTA_FULL}
+use Rattle.ctf_protocol.proofs.Charged.{slot_becomes_charge, without_bytes}
 use Rattle.ctf_protocol.specs.answers.Answers.{Answer, Reply}
 use Rattle.ctf_protocol.specs.sessions.Charges.{charge, slot_bytes}
 use Rattle.ctf_protocol.specs.sessions.DraftSteps.{slot_step, slots_with}

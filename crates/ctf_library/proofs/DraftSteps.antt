@@ -1,6 +1,6 @@
 -- Steps of the draft in a slot are those of the open dictionary that stands there.
 pub use Rattle.ctf_protocol.specs.sessions.Opened.{under}
-use Rattle.std.proofs.Common.{◌≡◌, ◌≤◌, ◌<◌, ◌+◌, ℕ, ℤ, List, ◌∷◌, true, false, Some, Result, Ok, Err, codes, refl, ap, sym, subst, ◌∙◌, ◌⊎◌, inl, inr, arith}
+use Rattle.std.proofs.Common.{◌≡◌, ◌+◌, ℕ, ℤ, List, true, false, Some, Result, Ok, Err, codes, refl, ap, sym, subst, ◌∙◌, ◌⊎◌, inl, inr, arith}
 use Rattle.std.specs.Prelude.{nat_lt, not}
 use Rattle.std.proofs.lemmas.Bool.{le-ltb, lt-ltb}
 use Rattle.ctf_answers.specs.Replies.{changed}
@@ -17,7 +17,7 @@ use Rattle.ctf_model.specs.opened.Open.{Open}
 use Rattle.ctf_model.specs.opened.Sizes.{kept_bytes, parent_bytes}
 use Rattle.ctf_model.specs.opened.Steps.{Stepped, dropped, enumerator_added, updated}
 use Rattle.ctf_model.specs.declared.numbers.TypeNum.{TypeNum}
-use Rattle.ctf_protocol.specs.answers.Answers.{Answer, number}
+use Rattle.ctf_protocol.specs.answers.Answers.{Answer}
 use Rattle.ctf_protocol.specs.sessions.DraftSteps.{slot_step}
 use Rattle.ctf_protocol.specs.sessions.State.{Slot}
 use Rattle.ctf_protocol.specs.sessions.Steps.{quota}

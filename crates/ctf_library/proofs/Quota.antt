@@ -1,15 +1,14 @@
 -- What has room in the quota of a library, and what has none.
-use Rattle.std.proofs.Common.{◌≡◌, ◌≤◌, ◌<◌, ◌+◌, ◌++◌, ◌⊎◌, inl, inr, ℕ, List, [], ◌∷◌, length, Bool, true, false, Option, Some, None, Result, Ok, Err, ltb, refl, ap, subst, sym, ◌∙◌, arith}
-use Rattle.std.specs.Prelude.{codes, is_some, nat_lt, not, option_and_then, option_map}
+use Rattle.std.proofs.Common.{◌≡◌, ◌≤◌, ◌<◌, ◌+◌, ◌++◌, ◌⊎◌, inl, inr, ℕ, List, [], ◌∷◌, length, Bool, true, false, Option, Some, None, Result, Ok, Err, refl, ap, subst, sym, ◌∙◌, arith}
+use Rattle.std.specs.Prelude.{codes, is_some, nat_lt, option_and_then, option_map}
 use Rattle.ctf_library.proofs.Creating.{creates_done}
-use Rattle.ctf_library.proofs.Rooms.{room_le, room_lt}
 use Rattle.ctf_protocol.specs.sessions.Creations.{Created}
 use Rattle.ctf_protocol.specs.sessions.DraftSteps.{created_slot}
-use Rattle.std.proofs.lemmas.Bool.{le-ltb, lt-ltb, ltb-false, ltb-true}
+use Rattle.std.proofs.lemmas.Bool.{le-ltb, lt-ltb}
 use Rattle.ctf_model.specs.spaces.Kept.{Kept, fault_over}
 use Rattle.ctf_model.specs.declared.faults.Fault.{Fault}
 use Rattle.ctf_model.specs.declared.faults.TheConstants.Fault.{NAME_TAKEN, QUOTA_FULL, STAGE_FULL}
-use Rattle.ctf_protocol.proofs.Charged.{granted, over, parent_charge, part_charge, publication_charge, slot_becomes_charge, slot_charge}
+use Rattle.ctf_protocol.proofs.Charged.{granted, over, parent_charge, part_charge, publication_charge, slot_charge}
 use Rattle.ctf_model.specs.format.Lists.{Lists}
 use Rattle.ctf_protocol.specs.answers.Answers.{Answer, Reply, says}
 use Rattle.ctf_protocol.specs.answers.Answers as answers
@@ -24,7 +23,7 @@ use Rattle.ctf_model.specs.rules.Refusals.{want_of_memory}
 use Rattle.ctf_model.specs.opened.Open.{pending_in}
 use Rattle.ctf_protocol.specs.sessions.Publications.{published_as}
 use Rattle.ctf_protocol.specs.sessions.State.{Slot, State}
-use Rattle.ctf_protocol.specs.sessions.Steps.{Outcome, adds_created, adds_publication, adds_slot, creates, grants, has_room, imports, imports_unless, publishes, publishes_kept, takes, longest_list, outcome_of, parts, publishes_within, quota, refuses, slot_at, slots_with_parent, staged, takes_found, with_staged, within_quota}
+use Rattle.ctf_protocol.specs.sessions.Steps.{adds_created, adds_publication, adds_slot, creates, grants, has_room, imports, imports_unless, publishes, publishes_kept, takes, longest_list, outcome_of, parts, publishes_within, quota, refuses, slot_at, slots_with_parent, staged, takes_found, with_staged}
 use Rattle.ctf_protocol.specs.declared.requests.ListName.{ListName}
 
 -- ---- part

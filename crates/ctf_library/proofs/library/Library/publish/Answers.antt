@@ -6,7 +6,7 @@ use Rattle.ctf_library.specs.declared.slots.Slot as own
 use Rattle.ctf_model.specs.opened.Open.{pending_in}
 use Rattle.ctf_protocol.specs.sessions.Publications.{published_as}
 use Rattle.ctf_protocol.specs.sessions.State.{Slot, State}
-use Rattle.std.proofs.Common.{map, ◌≡◌, ◌≤◌, ◌<◌, ◌+◌, ◌-◌, ◌++◌, ℕ, List, [], ◌∷◌, Option, Some, None, Result, Ok, Err, Bool, true, false, rules, refl, inl, inr, ap, sym, subst, ◌∙◌, arith}
+use Rattle.std.proofs.Common.{map, ◌≡◌, ◌≤◌, ◌+◌, ℕ, List, false, rules, refl, inl, ap, sym, subst, ◌∙◌, arith}
 use Rattle.ctf_library.proofs.Rising.{in_order}
 use Rattle.ctf_library.proofs.Quota.{publishes_done, publishes_over}
 use Rattle.ctf_library.proofs.Rooms.{room_le, room_lt}

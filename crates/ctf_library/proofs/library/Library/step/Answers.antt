@@ -1,4 +1,4 @@
-use Rattle.std.proofs.Common.{sym, subst, ◌⊎◌, inl, inr, ◌≡◌}
+use Rattle.std.proofs.Common.{sym, subst, inl, inr}
 use Rattle.ctf_model.specs.spaces.Kept.{Kept}
 use Rattle.std.specs.Prelude.{Option}
 use Rattle.std.specs.Option.{ForSome}
@@ -18,4 +18,4 @@ stays old new c found reply (inl done) g fits h = subst IsGood (sym done.1) (ste
 stays old new c found reply (inr none) g fits h = subst IsGood (sym none.1) g
 
 pub returns-clause-good : goal.returns-clause-good
-returns-clause-good c = λ g fits h. subst IsGood (sym c.give_back_room.ensures) (stays _ _ _ _ _ c.make.ensures.step g fits h)
+returns-clause-good c = λ g fits h. subst IsGood (sym c.give_back_room.ensures) (stays _ _ _ _ _ c.make-outcome.ensures.step g fits h)

@@ -1,9 +1,9 @@
-use Rattle.std.proofs.Common.{◌≡◌, ℕ, ℤ, List, [], Ok, Err, codes, ap, refl, subst, w32}
+use Rattle.std.proofs.Common.{◌≡◌, ℕ, List, [], Ok, Err, ap, refl, subst}
 use Rattle.ctf_library.specs.Drafting.{IsStepped}
 use Rattle.ctf_protocol.specs.sessions.Opened.{slot_stepped}
 use Rattle.ctf_library.specs.SlotView.{slot_of}
 use Rattle.ctf_protocol.specs.sessions.Opened.{open_of, slot_with}
-use Rattle.ctf_library.proofs.DraftSteps.{done_step, refused_step, under}
+use Rattle.ctf_library.proofs.DraftSteps.{done_step, refused_step}
 use Rattle.ctf_protocol.specs.answers.Answers.{Answer}
 use Rattle.ctf_model.specs.opened.Steps.{label_added}
 use Rattle.ctf_library.proofs.slots.Slot.add_label.Goals as goal

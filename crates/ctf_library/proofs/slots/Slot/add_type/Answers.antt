@@ -1,4 +1,4 @@
-use Rattle.std.proofs.Common.{◌≡◌, ℕ, ℤ, List, [], Ok, Err, codes, ap, refl, subst, w32, ◌∙◌}
+use Rattle.std.proofs.Common.{◌≡◌, ℕ, List, Ok, Err, codes, ap, refl, subst, ◌∙◌}
 use Rattle.ctf_library.specs.Drafting.{IsStepped}
 use Rattle.ctf_protocol.specs.sessions.Opened.{slot_stepped}
 use Rattle.ctf_library.specs.SlotView.{slot_of}

@@ -1,10 +1,10 @@
-use Rattle.std.proofs.Common.{◌≡◌, ◌⊎◌, ℕ, List, length, Some, Ok, Err, refl, ap, sym, ◌∙◌, arith}
+use Rattle.std.proofs.Common.{◌≡◌, ◌⊎◌, ℕ, List, length, Some, Ok, refl, ap, sym, ◌∙◌, arith}
 use Rattle.std.specs.Prelude.{◌==◌, not, option_copied}
 use Rattle.ctf_library.proofs.Creating.{create_made, create_refused, either}
 use Rattle.ctf_library.proofs.Rooms.{room_le}
 use Rattle.ctf_model.specs.rules.Refusals.{want_of_memory}
 use Rattle.ctf_open.specs.Quotas.{IsUncreated}
-use Rattle.ctf_model.specs.opened.Sizes.{kept_bytes, parent_bytes}
+use Rattle.ctf_model.specs.opened.Sizes.{parent_bytes}
 use Rattle.ctf_model.specs.opened.Steps.{created}
 use Rattle.ctf_protocol.specs.sessions.DraftSteps.{model_made}
 use Rattle.ctf_protocol.specs.sessions.Steps.{quota}

@@ -1,4 +1,4 @@
-use Rattle.std.proofs.Common.{◌≡◌, ◌+◌, Ok, refl, inl, inr, ap, arith}
+use Rattle.std.proofs.Common.{◌+◌, Ok, refl, inl, inr, ap, arith}
 use Rattle.ctf_library.specs.SlotView.{slot_of}
 use Rattle.ctf_library.proofs.DraftSteps.{update_done, update_refused}
 use Rattle.ctf_library.proofs.Rooms.{room_le}
