@@ -312,9 +312,7 @@ impl OpenDictionary {
             ≡ pointer_answered (space_in self.now) t.0 }
     {
         match self.resolve(t) {
-            Ok(resolved) => {
-                pointer_resolved(&self.space(), &self.tables().index, t, resolved)
-            }
+            Ok(resolved) => { pointer_resolved(&self.space(), &self.tables().index, t, resolved) }
             Err(_) => self.pointer_unresolved(t),
         }
     }
