@@ -36,9 +36,9 @@ const MOST_SLOTS: usize = 1023;
 /// published. How many bytes the slots have is kept beside them.
 #[derive(Drop)]
 pub struct Library {
-    alloc: Global,
     slots: Vec<Slot>,
     slot_bytes: u128,
+    alloc: Global,
     next: u64,
     stage: Stage,
     published: Publications,
@@ -71,9 +71,9 @@ impl Library {
         ensures { result ≡ empty_state }
     {
         Library {
-            alloc,
             slots: Vec::new(alloc),
             slot_bytes: 0,
+            alloc,
             next: 1,
             stage: Stage::new(),
             published: Publications::new(),
