@@ -12,7 +12,8 @@ use Rattle.ctf_model.specs.format.Name.{Tables}
 use Rattle.ctf_model.specs.rules.References.{references}
 use Rattle.ctf_model.specs.rules.Rules.{IsMissing, Keeps, Misnames}
 use Rattle.ctf_model.specs.format.Section.{IsCut, terms_in}
-use Rattle.ctf_model.specs.format.Spelling.{HasStrayMark}
+use Rattle.ctf_model.specs.format.SpelledTypes.{HasStrayMark}
+use Rattle.ctf_model.proofs.SpelledRead.{spells_of}
 use Rattle.ctf_model.specs.format.Term.{Term, Body}
 use Rattle.ctf_model.specs.format.Term as term
 use Rattle.ctf_model.specs.declared.sections.Section.TheVariants.{STypes}
@@ -73,7 +74,7 @@ IsLow x = AllByRecursion (λ t. t < 0x8000) (references x.body)
 
 record_low : (t : Tables) (count : ℕ) (part : List ℕ) (x : Term) → count ≤ 32766 → Says t part x → (HasStrayMark part → ⊥) → (Misnames t false count part → ⊥) → IsLow x
 record_low t count part x few says form good =
-    let named = none_of (IsMissing false count) (references x.body) (λ a. good (inr (x, record { whole = says.whole; form = form; says = says.says }, a))) in
+    let named = none_of (IsMissing false count) (references x.body) (λ a. good (inr (x, spells_of t part x says.whole form says.says, a))) in
     all_map (λ n. IsMissing false count n → ⊥) (λ n. n < 0x8000) (λ n h. there_low count n few h) (references x.body) named
 
 terms_low : (t : Tables) (count : ℕ) (parts : List (List ℕ)) (rest : List ℕ) (index at : ℕ) → count ≤ 32766 → length rest ≡ 0

@@ -16,6 +16,7 @@ pub mod Prefix
 pub mod RecordRules
 pub mod ReferenceRules
 pub mod Spelled
+pub mod SpelledRead
 pub mod SpelledSection
 pub mod SymbolRules
 pub mod Told

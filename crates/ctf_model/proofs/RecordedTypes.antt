@@ -10,7 +10,9 @@ use Rattle.ctf_model.specs.format.Name.{name}
 use Rattle.ctf_model.specs.format.Record.{IsWhole, kinds, kind, size, vlen, field, is_root, head_len, behind_head, variant_len, member_len}
 use Rattle.ctf_model.specs.rules.References.{has_long_tag, references}
 use Rattle.ctf_model.specs.format.Shown.{kind_of}
-use Rattle.ctf_model.specs.format.Spelling.{HasStrayMark, Spells, is_short_kind, term_of, body_of, scalar, elements, items, member_of, enumerator_of, argument_of, tag}
+use Rattle.ctf_model.specs.format.SpelledTypes.{HasStrayMark, Spells, is_short_kind}
+use Rattle.ctf_model.proofs.SpelledRead.{spells_of}
+use Rattle.ctf_model.specs.format.Spelling.{term_of, body_of, scalar, elements, items, member_of, enumerator_of, argument_of, tag}
 use Rattle.ctf_model.specs.format.Term.{Scalar, Elements, Member, Enumerator, Tag, Body, Term}
 use Rattle.ctf_model.specs.format.Term as term
 use Rattle.ctf_model.specs.drafts.Fitting.{Fits, FitsBody, FitsScalar, FitsElements, FitsMember, FitsEnumerator}
@@ -200,7 +202,7 @@ recorded_at names b x fits short found head =
     let unmarked : is_short_kind (kind_of x.body) ≡ true → ¬ field b ≡ 0xffff = λ s marked. let under = short_low x.body short s in let same = head.short under in omega arith in
     let ends : length b ≡ head_len b + variant_len (kind_of x.body) (size b) (vlen b) = rw (head.size, len) (head.len ∙ ap (λ (n : ℕ). head_len b + n) body.len) in
     record {
-      spells = record { whole = rw k (record { has_head = head.has_head; ends = ends }); form = no_stray_mark b (kind_of x.body) k unmarked; says = rw (k, text, body.says, is_root) refl };
+      spells = spells_of (table_of names) b x (rw k (record { has_head = head.has_head; ends = ends })) (no_stray_mark b (kind_of x.body) k unmarked) (rw (k, text, body.says, is_root) refl);
       short = body.short;
     }
 

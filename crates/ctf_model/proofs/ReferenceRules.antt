@@ -23,7 +23,9 @@ use Rattle.ctf_model.specs.format.Record.{kind, field, is_long, is_root}
 use Rattle.ctf_model.specs.rules.References.{references, is_missing, is_missing_at, is_forward, has_long_tag, is_misnaming}
 use Rattle.ctf_model.specs.rules.Rules.{IsBroken, Keeps, IsMissing, IsMissingAt, Misnames, BadReference}
 use Rattle.ctf_model.specs.format.Section.{Piece, IsCut, stop_code}
-use Rattle.ctf_model.specs.format.Spelling.{◌>>=◌, arguments, body_of, term_of, is_short_kind, HasStrayMark}
+use Rattle.ctf_model.specs.format.SpelledTypes.{is_short_kind, HasStrayMark}
+use Rattle.ctf_model.specs.format.Spelling.{◌>>=◌, arguments, body_of, term_of}
+use Rattle.ctf_model.proofs.SpelledRead.{says_of, spells_of}
 use Rattle.ctf_model.specs.format.Term.{Body, Term}
 use Rattle.ctf_model.specs.format.Term as term
 use Rattle.ctf_model.specs.spaces.TypePlaces.{place}
@@ -153,7 +155,7 @@ misnaming_decides t child count b x few said = let says = said.says in rw says (
   where
     missing : list_any (is_missing child count) (references x.body) ≡ true → HasStrayMark b ⊎ (¬ HasStrayMark b) → Misnames t child count b
     missing e (inl stray) = inl stray
-    missing e (inr form) = inr (x, record { whole = said.whole; form = form; says = said.says }, any_map _ (IsMissing child count) (missing_true child count) (references x.body) (Any-from_list_any (is_missing child count) (references x.body) e))
+    missing e (inr form) = inr (x, spells_of t b x said.whole form said.says, any_map _ (IsMissing child count) (missing_true child count) (references x.body) (Any-from_list_any (is_missing child count) (references x.body) e))
 
     to : (has_long_tag b ≡ true) ⊎ (list_any (is_missing child count) (references x.body) ≡ true) → Misnames t child count b
     to (inl e) = inl (forward_stray b e)
@@ -162,7 +164,7 @@ misnaming_decides t child count b x few said = let says = said.says in rw says (
     from : Misnames t child count b → (has_long_tag b || list_any (is_missing child count) (references x.body)) ≡ true
     from (inl stray) = stray_misnames t child count b x few said.says stray
     from (inr m) =
-        let same : m.0 ≡ x = same_Some m.0 x (sym m.1.says ∙ said.says) in
+        let same : m.0 ≡ x = same_Some m.0 x (sym (says_of t b m.0 m.1) ∙ said.says) in
         let any = subst (λ (y : Term). Any (IsMissing child count) (references y.body)) same m.2 in
         or_right (has_long_tag b) (list_any (is_missing child count) (references x.body)) (list_any-from_Any (is_missing child count) (references x.body) (any_map (IsMissing child count) _ (true_missing child count) (references x.body) any))
 

@@ -13,10 +13,11 @@ use Rattle.ctf_model.specs.format.Name.{Tables}
 use Rattle.ctf_model.specs.format.Record.{IsWhole, kind}
 use Rattle.ctf_model.specs.rules.Rules.{Keeps}
 use Rattle.ctf_model.specs.format.Section.{Section, Piece, IsCut, terms_in}
-use Rattle.ctf_model.specs.format.Spelling.{HasStrayMark}
+use Rattle.ctf_model.specs.format.SpelledTypes.{HasStrayMark}
 use Rattle.ctf_model.specs.format.Term.{Term}
 use Rattle.ctf_model.proofs.GoodNames.{good}
 use Rattle.ctf_model.proofs.RecordRules.{kept_records, length_all, types_cut}
+use Rattle.ctf_model.proofs.SpelledRead.{spells_of}
 use Rattle.ctf_model.proofs.Spelled.{AreNamed, Says, split_front, split_back, spelled}
 
 -- ---- each record
@@ -60,7 +61,7 @@ spelled_in_turn t [] rest b index at joined ends said form = rw ends (joined ∙
 spelled_in_turn t (part ∷ parts) rest b index at joined ends said form =
     let x = said.0 in
     let later = spelled_in_turn t parts rest (concat parts ++ rest) (index + 1) (at + length part) refl ends said.1 form.1 in
-    rw x.1.says ((part, concat parts ++ rest, joined ∙ append_assoc part (concat parts) rest, record { whole = x.1.whole; form = form.0; says = x.1.says }, later.0), ap suc later.1)
+    rw x.1.says ((part, concat parts ++ rest, joined ∙ append_assoc part (concat parts) rest, spells_of t part x.0 x.1.whole form.0 x.1.says, later.0), ap suc later.1)
 
 -- the section spells the types that are read, as many as there are records
 pub section_spelled : (s : Lists) (n : ℕ) → 14 < n → Keeps s n → Section (tables s) (section s.ctf STypes) (terms_in (tables s) (types s.ctf)) × (length (terms_in (tables s) (types s.ctf)) ≡ length (types s.ctf))

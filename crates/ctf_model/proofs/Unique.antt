@@ -11,6 +11,7 @@ use Rattle.ctf_model.specs.format.Record.{IsWhole, kind, IsWholeAt}
 use Rattle.ctf_model.specs.format.Spelling.{term_of}
 use Rattle.ctf_model.specs.format.Section.{Section}
 use Rattle.ctf_model.proofs.Prefix.{IsWhole-prefix}
+use Rattle.ctf_model.proofs.SpelledRead.{says_of}
 
 -- the shorter of two fronts begins the longer
 front_begins : (a b x y : List ℕ) → a ++ x ≡ b ++ y → length a ≤ length b → b ≡ a ++ drop (length a) b
@@ -51,5 +52,5 @@ one_list t b c (x ∷ xs) (y ∷ ys) same p q =
     let e : p.0 ++ p.1 ≡ q.0 ++ q.1 = sym p.2 ∙ same ∙ q.2 in
     let front = one_front p.0 q.0 p.1 q.1 p.3.whole q.3.whole e in
     let rest = one_rest p.0 q.0 p.1 q.1 front e in
-    let head : x ≡ y = same_Some x y (sym p.3.says ∙ ap (term_of t) front ∙ q.3.says) in
+    let head : x ≡ y = same_Some x y (sym (says_of t p.0 x p.3) ∙ ap (term_of t) front ∙ says_of t q.0 y q.3) in
     ap (λ (z : Term). z ∷ xs) head ∙ ap (λ (zs : List Term). y ∷ zs) (one_list t p.1 q.1 xs ys rest p.4 q.4)

@@ -13,6 +13,7 @@ use Rattle.ctf_model.proofs.Spelled.{AreNamed}
 use Rattle.ctf_model.specs.writing.WritingLaws.{table_of}
 use Rattle.ctf_model.proofs.NamedSites.{said_named, joined_named}
 use Rattle.ctf_model.proofs.RecordedTypes.{IsRecorded}
+use Rattle.ctf_model.proofs.SpelledRead.{says_of}
 
 -- no own type that a type names is missing
 abbrev pub NamesNone : Bool → ℕ → Term → Type 0
@@ -57,13 +58,13 @@ pieces_len write (x ∷ xs) index at = ap suc (pieces_len write xs (index + 1) (
 pub pieces_terms : (names : List (List ℕ)) (write : Term → List ℕ) (xs : List Term) (index at : ℕ) → AreRecorded names write xs → terms_in (table_of names) (pieces index at (map write xs) []) ≡ xs
 unfolding terms_in
 pieces_terms names write [] index at h = refl
-pieces_terms names write (x ∷ xs) index at h = rw (h.0.spells.says, pieces_terms names write xs (index + 1) (at + length (write x)) h.1) refl
+pieces_terms names write (x ∷ xs) index at h = rw (says_of (table_of names) (write x) x h.0.spells, pieces_terms names write xs (index + 1) (at + length (write x)) h.1) refl
 
 pub pieces_named : (names : List (List ℕ)) (write : Term → List ℕ) (xs : List Term) (start index at : ℕ) → AreRecorded names write xs → AreNamed (table_of names) (record_sites start (pieces index at (map write xs) []))
 unfolding record_sites
 pieces_named names write [] start index at h = tt
 pieces_named names write (x ∷ xs) start index at h =
-    let named = said_named (table_of names) (write x) (start + at) x h.0.spells.says in
+    let named = said_named (table_of names) (write x) (start + at) x (says_of (table_of names) (write x) x h.0.spells) in
     let more = pieces_named names write xs start (index + 1) (at + length (write x)) h.1 in
     (named.own, joined_named (table_of names) (list_sites (start + at) (write x) (kind (write x))) _ named.listed more)
 
@@ -71,4 +72,4 @@ pub pieces_refer : (names : List (List ℕ)) (write : Term → List ℕ) (child 
 unfolding first_misnaming is_misnaming
 pieces_refer names write child count [] index at h r = refl
 pieces_refer names write child count (x ∷ xs) index at h r =
-    rw (h.0.short, h.0.spells.says, r.0) (pieces_refer names write child count xs (index + 1) (at + length (write x)) h.1 r.1)
+    rw (h.0.short, says_of (table_of names) (write x) x h.0.spells, r.0) (pieces_refer names write child count xs (index + 1) (at + length (write x)) h.1 r.1)

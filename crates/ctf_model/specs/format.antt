@@ -3,6 +3,7 @@ pub mod Name
 pub mod Header
 pub mod Term
 pub mod Record
+pub mod SpelledTypes
 pub mod Spelling
 pub mod Section
 pub mod NamePlaces

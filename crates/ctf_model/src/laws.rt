@@ -28,6 +28,7 @@ ghost use Rattle.ctf_model.specs.format.Laws.{
   OneCut,
   RecordsAreACut,
   SectionSpellsOneList,
+  SpellsWhatIsRead,
 };
 ghost use Rattle.ctf_model.specs.names.NameLaws.{NamesAreTheirRules, NamesAskByDeclarator};
 ghost use Rattle.ctf_model.specs.rules.ChainLaws.{ChainsAreShort, FaultlessChainsAreShort};
@@ -44,6 +45,11 @@ ghost use Rattle.ctf_model.specs.writing.WritingLaws.{
 /// No whole record is the beginning of another.
 pub fn no_record_begins_another()
     ensures { NoRecordBeginsAnother }
+{}
+
+/// A record spells just the type that reading its fields gives.
+pub fn records_spell_what_is_read()
+    ensures { SpellsWhatIsRead }
 {}
 
 /// A section spells at most one list of types.

@@ -21,8 +21,9 @@ pub use laws::{
     chains_are_short, drafts_are_sound, faultless_exactly_where_denoted, first_fault_is_the_least,
     members_stand_next, names_are_their_rules, no_record_begins_another,
     own_figures_are_their_rules, parents_figures_are_their_own, paths_are_their_rules,
-    records_are_a_cut, section_spells_one_list, sound_drafts_stay_under_their_parents,
-    values_are_their_rules, written_bytes_denote, written_records_spell,
+    records_are_a_cut, records_spell_what_is_read, section_spells_one_list,
+    sound_drafts_stay_under_their_parents, values_are_their_rules, written_bytes_denote,
+    written_records_spell,
 };
 pub use layers::{Layer, Qualifier};
 pub use lists::{Parts, no_parts};

@@ -3,7 +3,7 @@ use Rattle.std.specs.Prelude.{◌≡◌, ℕ, ◌+◌, ◌*◌, ◌^◌, ◌/◌
 use Rattle.ctf_model.specs.format.Dictionary.{denoted}
 use Rattle.ctf_model.specs.rules.Faults.{first_fault}
 use Rattle.ctf_model.specs.format.Record.{kinds}
-use Rattle.ctf_model.specs.format.Spelling.{is_short_kind}
+use Rattle.ctf_model.specs.format.SpelledTypes.{is_short_kind}
 use Rattle.ctf_model.specs.format.Rows.{word, header, integer_record, alone, fault, int, of_types}
 use Rattle.ctf_model.specs.format.Term.{Scalar, Elements, Member, Enumerator, Body, Term}
 use Rattle.ctf_model.specs.format.Term as term

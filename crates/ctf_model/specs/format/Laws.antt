@@ -6,6 +6,8 @@ use Rattle.ctf_model.specs.format.Lists.{Lists}
 use Rattle.ctf_model.specs.format.Name.{Tables}
 use Rattle.ctf_model.specs.format.Record.{IsWhole}
 use Rattle.ctf_model.specs.rules.Rules.{IsBroken, IsFirstFault, HasUnknownKind}
+use Rattle.ctf_model.specs.format.SpelledTypes.{HasStrayMark, Spells}
+use Rattle.ctf_model.specs.format.Spelling.{term_of}
 use Rattle.ctf_model.specs.format.Section.{Section, Piece, IsCut, records, stop_code}
 use Rattle.ctf_model.specs.format.Term.{Term}
 use Rattle.ctf_model.specs.declared.faults.Fault.{Fault}
@@ -16,6 +18,12 @@ use Rattle.ctf_model.specs.declared.faults.TheConstants.Fault.{TRUNCATED, BAD_KI
 -- no whole record is a proper front of another, so a section splits in one way
 abbrev pub NoRecordBeginsAnother : Type 0
 NoRecordBeginsAnother = (whole more : List ℕ) → IsWhole whole → IsWhole (whole ++ more) → more ≡ []
+
+-- a whole record, in a form that its kind has, spells just the type that reading its fields gives
+abbrev pub SpellsWhatIsRead : Type 0
+SpellsWhatIsRead =
+    (t : Tables) (b : List ℕ) (x : Term) → Spells t b x
+    ↔ (IsWhole b × (¬ HasStrayMark b) × (term_of t b ≡ Some x))
 
 -- a section spells at most one list of types
 abbrev pub SectionSpellsOneList : Type 0

@@ -8,7 +8,8 @@ use Rattle.ctf_model.specs.declared.faults.TheConstants.Fault.{TRUNCATED, BAD_KI
 use Rattle.ctf_model.specs.format.Name.{Tables}
 use Rattle.ctf_model.specs.format.Term.{Term}
 use Rattle.ctf_model.specs.format.Record.{IsWhole, head_len, variant_len, size, vlen, kind}
-use Rattle.ctf_model.specs.format.Spelling.{Spells, term_of}
+use Rattle.ctf_model.specs.format.SpelledTypes.{Spells}
+use Rattle.ctf_model.specs.format.Spelling.{term_of}
 
 -- the bytes are records, one after the other, that spell these types
 abbrev pub Section : Tables → List ℕ → List Term → Type 0

@@ -1,12 +1,13 @@
--- Which type a record spells.
+-- The type that a record spells, computed: what reading its fields gives. What it means that a
+-- record spells a type is said by SpelledTypes.antt, and the law spells_what_is_read ties the two.
 -- Source: ctf(5), "The Type Section"; ctf_member_t, ctf_lmember_t, ctf_enum_t,
 -- ctf_array_t, CTF_INT_DATA of sys/ctf.h.
-use Rattle.std.specs.Prelude.{◌≡◌, ℕ, zero, suc, ◌+◌, ◌*◌, ◌/◌, ◌%◌, ◌^◌, ◌==◌, Bool, true, false, List, [], ◌∷◌, drop, nat_lt, Option, Some, None, if◌then◌else◌}
+use Rattle.std.specs.Prelude.{ℕ, zero, suc, ◌+◌, ◌*◌, ◌/◌, ◌%◌, ◌^◌, ◌==◌, List, [], ◌∷◌, drop, nat_lt, Option, Some, None, if◌then◌else◌}
 use Rattle.std.specs.Option.{option_map}
 use Rattle.std.specs.Int.{cast_signed, w32}
 use Rattle.ctf_model.specs.format.Bytes.{u16_at, u32_at}
 use Rattle.ctf_model.specs.format.Name.{Tables, name}
-use Rattle.ctf_model.specs.format.Record.{IsWhole, kind, is_root, field, size, vlen, member_len, behind_head}
+use Rattle.ctf_model.specs.format.Record.{kind, is_root, field, size, vlen, member_len, behind_head}
 use Rattle.ctf_model.specs.format.Term.{Scalar, Elements, Member, Enumerator, Tag, Body, Term}
 use Rattle.ctf_model.specs.format.Term as term
 use Rattle.ctf_model.specs.declared.kinds.Kind.{Kind}
@@ -118,28 +119,3 @@ term_of t b = do
   text ← name t (u32_at b 0)
   said ← body_of t b k
   Some (record { name = text; root = is_root b; body = said })
-
--- the field of these kinds is a type, or what a forward declares, and no size:
--- they have the short form alone (ours)
-abbrev pub is_short_kind : Kind → Bool
-is_short_kind KPointer = true
-is_short_kind KFunction = true
-is_short_kind KForward = true
-is_short_kind KTypedef = true
-is_short_kind KVolatile = true
-is_short_kind KConst = true
-is_short_kind KRestrict = true
-is_short_kind _ = false
-
--- the mark of the long form stands in the field of such a kind
-pub record HasStrayMark (b : List ℕ) : Type 0 where
-  pub of : Kind
-  pub known : kind b ≡ Some of
-  pub short : is_short_kind of ≡ true
-  pub mark : field b ≡ 0xffff
-
--- these bytes are one whole record in a form that its kind has, and it says this type
-pub record Spells (t : Tables) (b : List ℕ) (x : Term) : Type 0 where
-  pub whole : IsWhole b
-  pub form : ¬ HasStrayMark b
-  pub says : term_of t b ≡ Some x

@@ -11,7 +11,7 @@ use Rattle.ctf_model.specs.format.NamePlaces.{NameStandsAt}
 use Rattle.ctf_model.specs.format.Record.{kind}
 use Rattle.ctf_model.specs.rules.References.{references}
 use Rattle.ctf_model.specs.format.Section.{Section, IsCut, RecordOf}
-use Rattle.ctf_model.specs.format.Spelling.{HasStrayMark, Spells}
+use Rattle.ctf_model.specs.format.SpelledTypes.{HasStrayMark, Spells}
 use Rattle.ctf_model.specs.symbols.Symbols.{symbols}
 use Rattle.ctf_model.specs.format.Term.{Term, Body}
 use Rattle.ctf_model.specs.spaces.TypePlaces.{place}

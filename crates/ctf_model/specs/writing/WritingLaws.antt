@@ -11,7 +11,7 @@ use Rattle.ctf_model.specs.format.Header.{fields, is_child}
 use Rattle.ctf_model.specs.format.Name.{Tables, name}
 use Rattle.ctf_model.specs.rules.References.{references}
 use Rattle.ctf_model.specs.spaces.Imports.{import_fault, of_one_model}
-use Rattle.ctf_model.specs.format.Spelling.{Spells}
+use Rattle.ctf_model.specs.format.SpelledTypes.{Spells}
 use Rattle.ctf_model.specs.format.Term.{Term}
 use Rattle.ctf_model.specs.writing.Written.{bytes_of, lists_of, most_written, unwritten, written}
 use Rattle.ctf_model.specs.writing.WrittenNames.{is_empty, names_of, reference, string_bytes}
