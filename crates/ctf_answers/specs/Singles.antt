@@ -12,5 +12,5 @@ single_of (lent.Word w) = answers.word w.now
 single_of (lent.Text name) = answers.text name.now
 single_of (lent.Bytes bs) = answers.bytes bs.now
 
-abbrev pub entry_of : Entry → answers.Entry
+abbrev pub entry_of : Entry → answers.AnswerField
 entry_of e = record { key = e.key.now; value = single_of e.value }

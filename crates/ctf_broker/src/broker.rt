@@ -2,7 +2,8 @@
 ghost use Rattle.std.specs.Prelude.{◌≡◌, ◌≢◌, ℕ, true, false};
 ghost use Rattle.ctf_protocol.specs.sessions.Runs.{Answered, IsGranted, Steps};
 ghost use Rattle.ctf_protocol.specs.sessions.State.{empty_state};
-ghost use Rattle.ctf_protocol.specs.sessions.Steps.{answer_to, publishes_kept};
+ghost use Rattle.ctf_protocol.specs.sessions.SlotQuestions.{answer_to};
+ghost use Rattle.ctf_protocol.specs.sessions.Steps.{publishes_kept};
 ghost use Rattle.ctf_protocol.specs.sessions.Quiet.{is_quiet, is_quiet_change, MayAnswer};
 ghost use Rattle.ctf_answers.specs.Replies.{said, said_to};
 ghost use Rattle.ctf_protocol.specs.declared.requests.Request.TheVariants.{Changes};

@@ -5,7 +5,7 @@ use Rattle.std.specs.Option.{option_map}
 use Rattle.std.proofs.lemmas.Grind.{get_or_default_zero}
 use Rattle.std.proofs.lemmas.List.{drop-drop, length-drop}
 use Rattle.ctf_model.specs.rules.Faults.{walk_fault}
-use Rattle.ctf_model.specs.format.Section.{Piece, front_len, step, walk, records}
+use Rattle.ctf_model.specs.format.Section.{Piece, front_len, record_or_stop, walk, records}
 use Rattle.ctf_model.specs.declared.faults.Fault.{Fault}
 use Rattle.ctf_model.proofs.Walk.{front_len_range}
 use Rattle.ctf_records.specs.RecordView.{piece_at}
@@ -21,7 +21,7 @@ at_ended : (all : List ℕ) (index : ℕ) (ended : Bool) (rs : List (Result Piec
 at_ended all index true rs h = tt
 at_ended all index false rs h = h
 
-at_step : (all b : List ℕ) (index at : ℕ) (later : ℕ → List (Result Piece Fault)) (r : Option ℕ) → b ≡ drop at all → front_len b ≡ r → ((n : ℕ) → AreAt all (index + 1) (later n)) → AreAt all index (step b index at later r)
+at_step : (all b : List ℕ) (index at : ℕ) (later : ℕ → List (Result Piece Fault)) (r : Option ℕ) → b ≡ drop at all → front_len b ≡ r → ((n : ℕ) → AreAt all (index + 1) (later n)) → AreAt all index (record_or_stop b index at later r)
 at_step all b index at later None same e h = tt
 at_step all b index at later (Some n) same e h =
     let front : front_len (drop at all) ≡ Some n = ap front_len (sym same) ∙ e in

@@ -3,7 +3,7 @@ use Rattle.std.proofs.Common.{◌≡◌, ℕ, Bool, true, false, cond, List, [],
 use Rattle.std.specs.List.{list_any}
 use Rattle.std.specs.Option.{option_or}
 use Rattle.ctf_model.specs.rules.References.{is_missing}
-use Rattle.ctf_model.specs.symbols.Entries.{entries_of, entry_len, function_sites_of, is_bad_entry, signature_in, type_in, types_named}
+use Rattle.ctf_model.specs.symbols.Entries.{entries_of, entry_len, function_sites_of, is_bad_entry, signature_in, type_told, types_named}
 use Rattle.ctf_model.specs.symbols.Entries as told
 use Rattle.ctf_model.specs.symbols.Symbols.{Symbol, is_object}
 use Rattle.ctf_entries.specs.Sound.{bad_place}
@@ -39,7 +39,7 @@ or_here None true n rest = refl
 or_here None false n rest = refl
 
 mistold_object : (child : Bool) (count : ℕ) (found : Option ℕ) (x : ℕ × Symbol) (xs : List (ℕ × Symbol)) (o f : List ℕ) → is_object x.1 ≡ true
-    → mistold_from child count (option_or found (cond (list_any (is_missing child count) (types_named (told.object (type_in o)))) (Some x.0) None)) xs (drop 2 o) f ≡ mistold_from child count found (x ∷ xs) o f
+    → mistold_from child count (option_or found (cond (list_any (is_missing child count) (types_named (told.object (type_told o)))) (Some x.0) None)) xs (drop 2 o) f ≡ mistold_from child count found (x ∷ xs) o f
 unfolding entries_of
 mistold_object child count found x xs o f is = rw is (or_here found _ x.0 _)
 
@@ -60,7 +60,7 @@ pub at_start : (child : Bool) (count : ℕ) (all : List (ℕ × Symbol)) (o f : 
 at_start child count all o f = record { bad = refl; mistold = refl }
 
 pub past_object : (child : Bool) (count : ℕ) (all : List (ℕ × Symbol)) (objects functions : List ℕ) (found next : Option ℕ) (left : List (ℕ × Symbol)) (x : ℕ × Symbol) (xs : List (ℕ × Symbol)) (o p f : List ℕ) (t : Option ℕ) (b : Bool) → left ≡ x ∷ xs → is_object x.1 ≡ true
-    → t ≡ type_in o → b ≡ list_any (is_missing child count) (types_named (told.object t)) → next ≡ option_or found (cond b (Some x.0) None) → p ≡ drop 2 o
+    → t ≡ type_told o → b ≡ list_any (is_missing child count) (types_named (told.object t)) → next ≡ option_or found (cond b (Some x.0) None) → p ≡ drop 2 o
     → GoesOn child count all objects functions found left o f → GoesOn child count all objects functions next xs p f
 past_object child count all objects functions found next left x xs o p f t b e is said misses place d h =
     let before : GoesOn child count all objects functions found (x ∷ xs) o f = rw e at h in

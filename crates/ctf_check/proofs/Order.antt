@@ -5,7 +5,7 @@ use Rattle.std.specs.Option.{option_or}
 use Rattle.ctf_model.specs.rules.Faults.{or_later, first_broken, header_rules, header_fault, on_ctf, walk_fault, types, place_of, truncated, bad_kind, too_many, bad_name, bad_reference, value_deep, decl_deep, bad_funcs, bad_symbol_type, bad_symtab, edges_by, first_nameless, sites, rules, first_fault}
 use Rattle.ctf_model.specs.format.Header.{fields, is_child, section}
 use Rattle.ctf_model.specs.format.Lists.{Lists, tables}
-use Rattle.ctf_model.specs.format.Section.{Piece, step, walk, front_len, records}
+use Rattle.ctf_model.specs.format.Section.{Piece, record_or_stop, walk, front_len, records}
 use Rattle.ctf_model.specs.declared.faults.Fault.{Fault}
 use Rattle.ctf_model.specs.declared.sections.Section.TheVariants.{STypes}
 use Rattle.ctf_check.specs.Stages.{records_fault, types_fault, symbols_fault, fault_before_chains}
@@ -39,7 +39,7 @@ stop_cond : (t : Bool) (xs : List (Result Piece Fault)) (f : Fault) → (walk_fa
 stop_cond true xs f h e = absurd cc
 stop_cond false xs f h e = h e
 
-stop_step : (b : List ℕ) (index at : ℕ) (later : ℕ → List (Result Piece Fault)) (r : Option ℕ) (f : Fault) → ((n : ℕ) → walk_fault (later n) ≡ Some f → IsStop f) → walk_fault (step b index at later r) ≡ Some f → IsStop f
+stop_step : (b : List ℕ) (index at : ℕ) (later : ℕ → List (Result Piece Fault)) (r : Option ℕ) (f : Fault) → ((n : ℕ) → walk_fault (later n) ≡ Some f → IsStop f) → walk_fault (record_or_stop b index at later r) ≡ Some f → IsStop f
 stop_step b index at later None f h e = subst IsStop (some_same _ f e) (stop_either _ index)
 stop_step b index at later (Some n) f h e = h n e
 

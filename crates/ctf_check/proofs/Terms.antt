@@ -14,7 +14,7 @@ use Rattle.ctf_model.specs.format.Lists.{Lists, tables}
 use Rattle.ctf_model.specs.format.Name.{Tables, name}
 use Rattle.ctf_model.specs.format.Record.{IsWhole, is_root, kind}
 use Rattle.ctf_model.specs.format.Spelling.{◌>>=◌, body_of, term_of}
-use Rattle.ctf_model.specs.format.Section.{Piece, front_len, step, terms_in, walk}
+use Rattle.ctf_model.specs.format.Section.{Piece, front_len, record_or_stop, terms_in, walk}
 use Rattle.ctf_model.specs.format.Term.{Body, Term}
 use Rattle.ctf_model.specs.declared.faults.Fault.{Fault}
 use Rattle.ctf_model.specs.declared.kinds.Kind.{Kind}
@@ -95,7 +95,7 @@ later_nameless : (t : Tables) (b : List ℕ) (place : ℕ) (more : List Site) �
 unfolding first_nameless
 later_nameless t b place more e = last_nameless t (list_sites place b (kind b)) more (none_here (is_none (name t (u32_at b 0))) place (first_nameless t (list_sites place b (kind b) ++ more)) e).1
 
-spelled_step : (t : Tables) (start : ℕ) (b : List ℕ) (index at : ℕ) (later : ℕ → List (Result Piece Fault)) (r : Option ℕ) → front_len b ≡ r → ((n : ℕ) → SpelledFrom t start (later n)) → SpelledFrom t start (step b index at later r)
+spelled_step : (t : Tables) (start : ℕ) (b : List ℕ) (index at : ℕ) (later : ℕ → List (Result Piece Fault)) (r : Option ℕ) → front_len b ≡ r → ((n : ℕ) → SpelledFrom t start (later n)) → SpelledFrom t start (record_or_stop b index at later r)
 unfolding record_sites
 spelled_step t start b index at later None e h = λ w n. absurd cc
 spelled_step t start b index at later (Some n) e h = λ w names.
@@ -184,7 +184,7 @@ counted_cond : (ended : Bool) (i : ℕ) (xs : List (Result Piece Fault)) → Are
 counted_cond true i xs h = tt
 counted_cond false i xs h = h
 
-counted_step : (b : List ℕ) (i at : ℕ) (later : ℕ → List (Result Piece Fault)) (r : Option ℕ) → ((n : ℕ) → AreNumbered (i + 1) (later n)) → AreNumbered i (step b i at later r)
+counted_step : (b : List ℕ) (i at : ℕ) (later : ℕ → List (Result Piece Fault)) (r : Option ℕ) → ((n : ℕ) → AreNumbered (i + 1) (later n)) → AreNumbered i (record_or_stop b i at later r)
 counted_step b i at later None h = tt
 counted_step b i at later (Some n) h = (refl, h n)
 

@@ -1,7 +1,7 @@
 //! A dictionary that breaks no rule, and what it answers.
 ghost use Rattle.std.specs.Prelude.{◌≡◌, ◌<◌, ◌^◌, ◌↔◌, length, IsSome, IfSome, Some, None};
 ghost use Rattle.std.specs.Option.{option_map};
-ghost use Rattle.ctf_model.specs.format.Dictionary.{denoted, name_or_empty};
+ghost use Rattle.ctf_model.specs.format.Dictionary.{denoted, text_or_empty};
 ghost use Rattle.ctf_chains.specs.Starts.{starts_in};
 ghost use Rattle.ctf_model.specs.rules.Faults.{first_fault, walk_fault};
 ghost use Rattle.ctf_model.specs.format.Header.{section as section_of};
@@ -76,7 +76,7 @@ impl<'a> Checked<'a> {
 
     /// The name of a reference of the dictionary.
     fn named(&self, reference: u32) -> &'a [u8]
-        ensures { result.now ≡ name_or_empty (tables_of self.now) reference }
+        ensures { result.now ≡ text_or_empty (tables_of self.now) reference }
     {
         match self.strings().name(reference) {
             Some(name) => name,

@@ -8,7 +8,7 @@ use Rattle.std.proofs.Math.Dec.{eqb-suc-zero}
 use Rattle.std.proofs.lemmas.List.{map-append}
 use Rattle.std.proofs.lemmas.List.Elements.{filter-append}
 use Rattle.indexmap.specs.IndexSet.{insert_key}
-use Rattle.ctf_model.specs.drafts.Adders.{is_among}
+use Rattle.ctf_model.specs.drafts.Adders.{is_taken}
 use Rattle.ctf_model.specs.format.Shown.{enumerators_in, members_in, shown}
 use Rattle.ctf_model.specs.format.Term as term
 use Rattle.ctf_draft.specs.KeysView.{names_of}
@@ -39,7 +39,7 @@ some_given y ys ([] ∷ names) = some_given y ys names
 some_given y ys ((x ∷ xs) ∷ names) = ap (λ b. bytes_eq (y ∷ ys) (x ∷ xs) || b) (some_given y ys names)
 
 -- those that are compared are those that are given
-pub among_given : (name : List ℕ) (names : List (List ℕ)) → list_any (bytes_eq name) (given names) ≡ is_among name names
+pub among_given : (name : List ℕ) (names : List (List ℕ)) → list_any (bytes_eq name) (given names) ≡ is_taken name names
 among_given [] names = none_empty names
 among_given (y ∷ ys) names = rw (eqb-suc-zero (length ys)) (some_given y ys names)
 
@@ -61,22 +61,22 @@ one_key ks all copy name is some fresh new =
 
 -- ---- of members and enumerators
 
-pub members_given : (kind : AggregateKind) (size : ℕ) (members : List Member) (name : List ℕ) → list_any (bytes_eq name) (given (map (λ m. m.name) members)) ≡ is_among name (map (λ m. m.name) (unwrap_or (members_in (shown (aggregate_body kind size (map member_of members)))) []))
-members_given Struct size members name = among_given name (map (λ m. m.name) members) ∙ ap (is_among name) (sym (map_twice member_of (λ (m : term.Member). m.name) members))
-members_given Union size members name = among_given name (map (λ m. m.name) members) ∙ ap (is_among name) (sym (map_twice member_of (λ (m : term.Member). m.name) members))
+pub members_given : (kind : AggregateKind) (size : ℕ) (members : List Member) (name : List ℕ) → list_any (bytes_eq name) (given (map (λ m. m.name) members)) ≡ is_taken name (map (λ m. m.name) (unwrap_or (members_in (shown (aggregate_body kind size (map member_of members)))) []))
+members_given Struct size members name = among_given name (map (λ m. m.name) members) ∙ ap (is_taken name) (sym (map_twice member_of (λ (m : term.Member). m.name) members))
+members_given Union size members name = among_given name (map (λ m. m.name) members) ∙ ap (is_taken name) (sym (map_twice member_of (λ (m : term.Member). m.name) members))
 
-pub enumerators_given : (enumerators : List Enumerator) (name : List ℕ) → list_any (bytes_eq name) (given (map (λ e. e.name) enumerators)) ≡ is_among name (map (λ e. e.name) (map enumerator_of enumerators))
-enumerators_given enumerators name = among_given name (map (λ e. e.name) enumerators) ∙ ap (is_among name) (sym (map_twice enumerator_of (λ (e : term.Enumerator). e.name) enumerators))
+pub enumerators_given : (enumerators : List Enumerator) (name : List ℕ) → list_any (bytes_eq name) (given (map (λ e. e.name) enumerators)) ≡ is_taken name (map (λ e. e.name) (map enumerator_of enumerators))
+enumerators_given enumerators name = among_given name (map (λ e. e.name) enumerators) ∙ ap (is_taken name) (sym (map_twice enumerator_of (λ (e : term.Enumerator). e.name) enumerators))
 
 -- in a type of a draft
-pub members_kept : (t : DraftType) (kind : AggregateKind) (size : ℕ) (members : Vec Member Global) (name : List ℕ) → t.body ≡ owned.Aggregate kind size members → list_any (bytes_eq name) t.taken ≡ is_among name (map (λ m. m.name) (unwrap_or (members_in (shown (body_of t.body))) []))
+pub members_kept : (t : DraftType) (kind : AggregateKind) (size : ℕ) (members : Vec Member Global) (name : List ℕ) → t.body ≡ owned.Aggregate kind size members → list_any (bytes_eq name) t.taken ≡ is_taken name (map (λ m. m.name) (unwrap_or (members_in (shown (body_of t.body))) []))
 members_kept t kind size members name is =
     ap (λ (ns : List (List ℕ)). list_any (bytes_eq name) ns) (t.kept ∙ ap (λ (b : Body). given (names_in b)) is)
     ∙ members_given kind size members.items name
-    ∙ ap (λ (b : Body). is_among name (map (λ m. m.name) (unwrap_or (members_in (shown (body_of b))) []))) (sym is)
+    ∙ ap (λ (b : Body). is_taken name (map (λ m. m.name) (unwrap_or (members_in (shown (body_of b))) []))) (sym is)
 
-pub enumerators_kept : (t : DraftType) (size : ℕ) (enumerators : Vec Enumerator Global) (name : List ℕ) → t.body ≡ owned.Enum size enumerators → list_any (bytes_eq name) t.taken ≡ is_among name (map (λ e. e.name) (unwrap_or (enumerators_in (shown (body_of t.body))) []))
+pub enumerators_kept : (t : DraftType) (size : ℕ) (enumerators : Vec Enumerator Global) (name : List ℕ) → t.body ≡ owned.Enum size enumerators → list_any (bytes_eq name) t.taken ≡ is_taken name (map (λ e. e.name) (unwrap_or (enumerators_in (shown (body_of t.body))) []))
 enumerators_kept t size enumerators name is =
     ap (λ (ns : List (List ℕ)). list_any (bytes_eq name) ns) (t.kept ∙ ap (λ (b : Body). given (names_in b)) is)
     ∙ enumerators_given enumerators.items name
-    ∙ ap (λ (b : Body). is_among name (map (λ e. e.name) (unwrap_or (enumerators_in (shown (body_of b))) []))) (sym is)
+    ∙ ap (λ (b : Body). is_taken name (map (λ e. e.name) (unwrap_or (enumerators_in (shown (body_of b))) []))) (sym is)

@@ -1,7 +1,7 @@
 //! What a type says by its kind.
 ghost use Rattle.std.specs.Prelude.{◌≡◌, [], map, option_map, unwrap_or};
 ghost use Rattle.ctf_draft.specs.TypeView.{body_of, enumerator_of, member_of};
-ghost use Rattle.ctf_model.specs.drafts.Adders.{is_among};
+ghost use Rattle.ctf_model.specs.drafts.Adders.{is_taken};
 ghost use Rattle.ctf_model.specs.format.Shown.{enumerators_in, members_in, shown};
 
 use crate::types::{Body, DraftType, Enumerator, Member};
@@ -33,7 +33,7 @@ impl Body {
 impl DraftType {
     /// Whether a member has the name, where that isn't empty.
     pub(crate) fn has_member(&self, name: &[u8]) -> bool
-        ensures { result ≡ is_among name.now (map (λ m. m.name)
+        ensures { result ≡ is_taken name.now (map (λ m. m.name)
             (unwrap_or (members_in (shown (body_of self.now.body))) [])) }
     {
         match &self.body {
@@ -44,7 +44,7 @@ impl DraftType {
 
     /// Whether an enumerator has the name, where that isn't empty.
     pub(crate) fn has_enumerator(&self, name: &[u8]) -> bool
-        ensures { result ≡ is_among name.now (map (λ e. e.name)
+        ensures { result ≡ is_taken name.now (map (λ e. e.name)
             (unwrap_or (enumerators_in (shown (body_of self.now.body))) [])) }
     {
         match &self.body {

@@ -3,7 +3,7 @@ ghost use Rattle.std.specs.Prelude.{◌≡◌, ◌⊎◌, MatchOption, None, Som
 ghost use Rattle.ctf_draft.specs.Pending.{StandsPending};
 ghost use Rattle.ctf_draft.specs.Planning.{against_name};
 ghost use Rattle.ctf_draft.specs.TypeView.{body_of, enumerator_of, member_of};
-ghost use Rattle.ctf_model.specs.drafts.Adders.{add_enumerator, add_member, against_enumerator as against_enumerator_in, body_at, is_among, present_enumerators, present_members, replaced, with_enumerator, with_member};
+ghost use Rattle.ctf_model.specs.drafts.Adders.{add_enumerator, add_member, against_enumerator as against_enumerator_in, body_at, is_taken, present_enumerators, present_members, replaced, with_enumerator, with_member};
 ghost use Rattle.ctf_model.specs.drafts.DraftLaws.{IsSound};
 ghost use Rattle.ctf_model.specs.drafts.Drafts.{is_settled};
 ghost use Rattle.ctf_model.specs.rules.Judgements.{first_met};
@@ -53,7 +53,7 @@ impl Draft {
             (first_met (against_enumerator_in self.now.draft n.0 name.now) ≡ None) }
         ensures err { IfErr result (λ f.
             first_met (against_enumerator_in self.now.draft n.0 name.now) ≡ Some f) }
-        ensures fresh { OnOk result (is_among name.now
+        ensures fresh { OnOk result (is_taken name.now
             (map (λ e. e.name) (present_enumerators self.now.draft n.0)) ≡ false) }
     {
         if has_zero(name) {
@@ -85,7 +85,7 @@ impl Draft {
         ensures ok { OnOk result (against_name self.now.draft n.0 name.now tnum.0 ≡ None) }
         ensures err { IfErr result (λ f. against_name self.now.draft n.0 name.now tnum.0
             ≡ Some f) }
-        ensures fresh { OnOk result (is_among name.now
+        ensures fresh { OnOk result (is_taken name.now
             (map (λ m. m.name) (present_members self.now.draft n.0)) ≡ false) }
     {
         if has_zero(name) {
@@ -116,7 +116,7 @@ impl Draft {
     /// Adds a member behind the others of the struct or union at a place, which then has a size.
     fn put_member(&mut self, n: TypeNum, i: usize, member: Member, size: u64) -> Result<(), Fault>
         requires pending { StandsPending self.old.draft n.0 i }
-        requires fresh { is_among member.name
+        requires fresh { is_taken member.name
             (map (λ m. m.name) (present_members self.old.draft n.0)) ≡ false }
         requires sound { IsSound self.old.draft → IsSound (replaced self.old.draft n.0
             (with_member (member_of member) size (body_at self.old.draft n.0))) }
@@ -159,7 +159,7 @@ impl Draft {
     /// Adds an enumerator behind the others of the enum at a place.
     fn put_enumerator(&mut self, n: TypeNum, i: usize, enumerator: Enumerator) -> Result<(), Fault>
         requires pending { StandsPending self.old.draft n.0 i }
-        requires fresh { is_among enumerator.name
+        requires fresh { is_taken enumerator.name
             (map (λ e. e.name) (present_enumerators self.old.draft n.0)) ≡ false }
         requires sound { IsSound self.old.draft → IsSound (replaced self.old.draft n.0
             (with_enumerator (enumerator_of enumerator) (body_at self.old.draft n.0))) }

@@ -1,7 +1,7 @@
 //! Members and enumerators, behind the others of a type.
 ghost use Rattle.std.specs.Prelude.{◌≡◌, [], false, map, unwrap_or, IfErr, OnErr, OnOk};
 ghost use Rattle.ctf_draft.specs.TypeView.{body_of, enumerator_of, member_of, type_of};
-ghost use Rattle.ctf_model.specs.drafts.Adders.{is_among, with_body, with_enumerator, with_member};
+ghost use Rattle.ctf_model.specs.drafts.Adders.{is_taken, with_body, with_enumerator, with_member};
 ghost use Rattle.ctf_model.specs.rules.Refusals.{want_of_memory};
 ghost use Rattle.ctf_model.specs.format.Shown.{enumerators_in, members_in, shown};
 
@@ -16,7 +16,7 @@ pub(crate) fn push_member(
     member: Member,
     size: u64,
 ) -> Result<(), Fault>
-    requires fresh { is_among member.name (map (λ m. m.name)
+    requires fresh { is_taken member.name (map (λ m. m.name)
         (unwrap_or (members_in (shown (body_of to.old.body))) [])) ≡ false }
     ensures ok { OnOk result (type_of to.new
         ≡ with_body (with_member (member_of member) size (type_of to.old).body) (type_of to.old)) }
@@ -41,7 +41,7 @@ pub(crate) fn push_enumerator(
     to: &mut DraftType,
     enumerator: Enumerator,
 ) -> Result<(), Fault>
-    requires fresh { is_among enumerator.name (map (λ e. e.name)
+    requires fresh { is_taken enumerator.name (map (λ e. e.name)
         (unwrap_or (enumerators_in (shown (body_of to.old.body))) [])) ≡ false }
     ensures ok { OnOk result (type_of to.new ≡ with_body
         (with_enumerator (enumerator_of enumerator) (type_of to.old).body) (type_of to.old)) }

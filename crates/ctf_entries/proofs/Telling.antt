@@ -4,7 +4,7 @@ use Rattle.std.specs.Prelude.{not, ◌&&◌, ◌||◌}
 use Rattle.std.proofs.lemmas.Bool.{ltb-false, lt-ltb}
 use Rattle.std.proofs.lemmas.List.{length-drop, nil_from_length}
 use Rattle.ctf_model.specs.format.Bytes.{number, u16_at}
-use Rattle.ctf_model.specs.symbols.Entries.{Entry, entries_of, entry_len, function_sites_of, is_bad_entry, is_silent, kind_number, argument_count, type_in, signature_in}
+use Rattle.ctf_model.specs.symbols.Entries.{Entry, entries_of, entry_len, function_sites_of, is_bad_entry, is_silent, kind_number, argument_count, type_told, signature_in}
 use Rattle.ctf_model.specs.symbols.Entries as told
 use Rattle.ctf_model.specs.format.Spelling.{items, argument_of}
 use Rattle.ctf_model.specs.symbols.Symbols.{Symbol, is_object}
@@ -45,7 +45,7 @@ pub entries_none : (xs : List (ℕ × Symbol)) (o f : List ℕ) → xs ≡ [] �
 unfolding entries_of
 entries_none xs o f e = rw e refl
 
-pub entries_object : (all xs : List (ℕ × Symbol)) (x : ℕ × Symbol) (o p f : List ℕ) (t : Option ℕ) → all ≡ x ∷ xs → is_object x.1 ≡ true → t ≡ type_in o → p ≡ drop 2 o
+pub entries_object : (all xs : List (ℕ × Symbol)) (x : ℕ × Symbol) (o p f : List ℕ) (t : Option ℕ) → all ≡ x ∷ xs → is_object x.1 ≡ true → t ≡ type_told o → p ≡ drop 2 o
     → entries_of all o f ≡ record { number = x.0; name = x.1.name; told = told.object t } ∷ entries_of xs p f
 unfolding entries_of
 entries_object all xs x o p f t e is d b = rw (e, is, d, b) refl

@@ -28,7 +28,10 @@ use Rattle.ctf_protocol.specs.answers.SlotAnswers.{whole_answered}
 use Rattle.ctf_protocol.specs.sessions.DraftSteps.{slot_step}
 use Rattle.ctf_protocol.specs.sessions.Opened.{slot_stepped, under}
 use Rattle.ctf_protocol.specs.sessions.State.{Slot, State}
-use Rattle.ctf_protocol.specs.sessions.Steps.{accepts_unless, has_room, opens, opens_unless, slot_space}
+use Rattle.ctf_protocol.proofs.StepWords.{accepts_unless, opens_unless}
+use Rattle.ctf_protocol.specs.sessions.SlotQuestions.{slot_space}
+use Rattle.ctf_protocol.specs.sessions.Slots.{has_room}
+use Rattle.ctf_protocol.specs.sessions.Steps.{opens}
 use Rattle.ctf_laws.specs.Good.{IsFaultless}
 use Rattle.ctf_laws.specs.GoodLaws.{AnswersAreOfWhatIsDenoted, AreDenoted, BytesDenoteWhatWasAdded, ChecksAcceptWhatKeepsEveryRule, ChecksRefuseByTheFirstRule, IsDenoted, OpensAcceptWhatKeepsEveryRule, OpensRefuseByTheFirstRule, SlotsDenote, UpdatesDenoteTheDraft}
 

@@ -13,9 +13,9 @@ use Rattle.ctf_model.specs.declared.faults.Fault.{Fault}
 use Rattle.ctf_model.specs.declared.faults.TheConstants.Fault.{LONG_LINE}
 use Rattle.ctf_protocol.specs.lines.Ask.{about_held, about_slot, about_type, ask, asked_by, asked_with, bytes_asked, json, list_named, model_asked, names_asked, or_bad_request, owner_asked, parent_asked, publication_asked, show_asked, symbol_asked, value_asked, word_asked}
 use Rattle.ctf_protocol.specs.lines.AskAdditions.{addition_asked, addition_with, kind_with, new_array_asked, new_type_asked, offset_asked, root_asked, scalar_asked, size_or, types_listed, value_asked_for, within_signed}
-use Rattle.ctf_protocol.specs.lines.LineFields.{bytes_spelled, name_or_empty, name_under, number_in, slot_in, slot_under, text_in, type_in, type_under, window_asked, within}
+use Rattle.ctf_protocol.specs.lines.LineFields.{bytes_spelled, name_or_empty, name_under, number_in, slot_in, slot_under, text_in, type_asked, type_under, window_asked, in_range}
 use Rattle.ctf_protocol.specs.lines.Lines.{longest_line}
-use Rattle.ctf_protocol.specs.sessions.Additions.{body_of, scalar_of}
+use Rattle.ctf_protocol.specs.sessions.Additions.{new_body, scalar_of}
 use Rattle.ctf_protocol.specs.sessions.Creations.{Created, creation}
 use Rattle.ctf_protocol.specs.declared.addables.Addable.{Addable}
 use Rattle.ctf_protocol.specs.declared.addables.Addable.TheVariants as adds
@@ -59,13 +59,13 @@ just P a h = λ b e. let same : a ≡ b = cc in subst P same h
 
 -- ---- numbers
 
-within_case : (low high n : ℕ) (t u : Bool) → nat_le low n ≡ t → nat_le n high ≡ u → ForSome (within low high n) (λ m. m ≤ high)
+within_case : (low high n : ℕ) (t u : Bool) → nat_le low n ≡ t → nat_le n high ≡ u → ForSome (in_range low high n) (λ m. m ≤ high)
 within_case low high n true true t u = rw (t, u) (just (λ m. m ≤ high) n (leb-true n high u))
 within_case low high n true false t u = rw (t, u) (λ b e. absurd cc)
 within_case low high n false u t v = rw t (λ b e. absurd cc)
 
 number_high : (low high : ℕ) (key : List ℕ) (line : Data) → ForSome (number_in low high key line) (λ n. n ≤ high)
-number_high low high key line = and_then (λ n. n ≤ high) (within low high) _ (λ n e. within_case low high n (nat_le low n) (nat_le n high) refl refl)
+number_high low high key line = and_then (λ n. n ≤ high) (in_range low high) _ (λ n e. within_case low high n (nat_le low n) (nat_le n high) refl refl)
 
 size_fits : (size : ℕ) (line : Data) → size < 2 ^ 64 → ForSome (size_or size line) (λ n. n < 2 ^ 64)
 size_fits size line low = either (λ n. n < 2 ^ 64) (is_none (get (codes "size") line)) _ _ (just (λ n. n < 2 ^ 64) size low) (λ n e. let high = number_high 0 18446744073709551615 (codes "size") line n e in omega (arith, high))
@@ -100,7 +100,7 @@ abbrev args_asked : Data → Option (List TypeNum)
 args_asked line = option_and_then types_listed (option_and_then as_array (get (codes "args") line))
 
 abbrev FitsKind : NewKind → Type 0
-FitsKind kind = FitsNew (body_of kind)
+FitsKind kind = FitsNew (new_body kind)
 
 kind_fits : (line : Data) (what : Addable) → ForSome (kind_with line what) FitsKind
 kind_fits line adds.Unknown = just FitsKind _ tt
@@ -125,8 +125,8 @@ type_fits : (kind : Option NewKind) (line : Data) → ForSome kind FitsKind → 
 type_fits kind line h = and_then FitsAddition (λ x. option_and_then (λ name. option_map (λ root. add.Type name root x) (root_asked line)) (name_or_empty (codes "name") line)) kind (λ x e. and_then FitsAddition (λ name. option_map (λ root. add.Type name root x) (root_asked line)) (name_or_empty (codes "name") line) (λ name i. mapped FitsAddition (λ root. add.Type name root x) (root_asked line) (λ root j. h x e)))
 
 addition_fits : (line : Data) (what : Addable) → ForSome (addition_with line what) FitsAddition
-addition_fits line adds.Member = and_then FitsAddition (λ t. option_and_then (λ name. option_and_then (λ tnum. option_map (λ offset. add.Member t name tnum offset) (offset_asked line)) (type_under (codes "type") line)) (name_or_empty (codes "name") line)) (type_in line) (λ t e. and_then FitsAddition (λ name. option_and_then (λ tnum. option_map (λ offset. add.Member t name tnum offset) (offset_asked line)) (type_under (codes "type") line)) (name_or_empty (codes "name") line) (λ name i. and_then FitsAddition (λ tnum. option_map (λ offset. add.Member t name tnum offset) (offset_asked line)) (type_under (codes "type") line) (λ tnum j. mapped FitsAddition (λ offset. add.Member t name tnum offset) (offset_asked line) (λ offset k. tt))))
-addition_fits line adds.Enumerator = and_then FitsAddition (λ t. option_and_then (λ name. option_map (λ value. add.Enumerator t name value) (value_asked_for line)) (name_or_empty (codes "name") line)) (type_in line) (λ t e. and_then FitsAddition (λ name. option_map (λ value. add.Enumerator t name value) (value_asked_for line)) (name_or_empty (codes "name") line) (λ name i. mapped FitsAddition (λ value. add.Enumerator t name value) (value_asked_for line) (λ value j. and_then (FitsSigned w32) within_signed (option_and_then as_i64 (option_and_then as_number (get (codes "value") line))) (λ z k. signed z) value j)))
+addition_fits line adds.Member = and_then FitsAddition (λ t. option_and_then (λ name. option_and_then (λ tnum. option_map (λ offset. add.Member t name tnum offset) (offset_asked line)) (type_under (codes "type") line)) (name_or_empty (codes "name") line)) (type_asked line) (λ t e. and_then FitsAddition (λ name. option_and_then (λ tnum. option_map (λ offset. add.Member t name tnum offset) (offset_asked line)) (type_under (codes "type") line)) (name_or_empty (codes "name") line) (λ name i. and_then FitsAddition (λ tnum. option_map (λ offset. add.Member t name tnum offset) (offset_asked line)) (type_under (codes "type") line) (λ tnum j. mapped FitsAddition (λ offset. add.Member t name tnum offset) (offset_asked line) (λ offset k. tt))))
+addition_fits line adds.Enumerator = and_then FitsAddition (λ t. option_and_then (λ name. option_map (λ value. add.Enumerator t name value) (value_asked_for line)) (name_or_empty (codes "name") line)) (type_asked line) (λ t e. and_then FitsAddition (λ name. option_map (λ value. add.Enumerator t name value) (value_asked_for line)) (name_or_empty (codes "name") line) (λ name i. mapped FitsAddition (λ value. add.Enumerator t name value) (value_asked_for line) (λ value j. and_then (FitsSigned w32) within_signed (option_and_then as_i64 (option_and_then as_number (get (codes "value") line))) (λ z k. signed z) value j)))
 addition_fits line adds.Label = and_then FitsAddition (λ name. option_map (λ last. add.Label name last) (number_in 0 4294967295 (codes "last") line)) (name_or_empty (codes "name") line) (λ name e. mapped FitsAddition (λ last. add.Label name last) (number_in 0 4294967295 (codes "last") line) (λ last i. let high = number_high 0 4294967295 (codes "last") line last i in omega (arith, high)))
 addition_fits line adds.Unknown = type_fits (kind_with line adds.Unknown) line (kind_fits line adds.Unknown)
 addition_fits line adds.Integer = type_fits (kind_with line adds.Integer) line (kind_fits line adds.Integer)
@@ -161,7 +161,7 @@ created_fits None (byte ∷ bytes) parlabel model = λ c e. absurd cc
 created_fits (Some d) [] parlabel model = λ c e. absurd cc
 
 of_type : (line : Data) (question : Option TypeQuestion) → Fits (about_type question line)
-of_type line question = and_then FitsRequest (λ q. option_and_then (λ d. option_map (λ t. Asks d (OfType t q)) (type_in line)) (slot_in line)) question (λ q a. and_then FitsRequest (λ d. option_map (λ t. Asks d (OfType t q)) (type_in line)) (slot_in line) (λ d b. mapped FitsRequest (λ t. Asks d (OfType t q)) (type_in line) (λ t c. tt)))
+of_type line question = and_then FitsRequest (λ q. option_and_then (λ d. option_map (λ t. Asks d (OfType t q)) (type_asked line)) (slot_in line)) question (λ q a. and_then FitsRequest (λ d. option_map (λ t. Asks d (OfType t q)) (type_asked line)) (slot_in line) (λ d b. mapped FitsRequest (λ t. Asks d (OfType t q)) (type_asked line) (λ t c. tt)))
 
 of_slot : (line : Data) (question : Option SlotQuestion) → Fits (about_slot question line)
 of_slot line question = and_then FitsRequest (λ q. option_map (λ d. Asks d (OfSlot q)) (slot_in line)) question (λ q a. mapped FitsRequest (λ d. Asks d (OfSlot q)) (slot_in line) (λ d b. tt))

@@ -13,11 +13,15 @@ use Rattle.ctf_protocol.specs.answers.Answers.{Answer}
 use Rattle.ctf_protocol.specs.sessions.Additions.{added}
 use Rattle.ctf_protocol.specs.sessions.Charges.{charge}
 use Rattle.ctf_protocol.specs.sessions.Creations.{Created}
-use Rattle.ctf_protocol.specs.sessions.DraftSteps.{created_slot, slot_step, slots_with}
+use Rattle.ctf_protocol.specs.sessions.DraftSteps.{created_slot, slot_step}
+use Rattle.ctf_protocol.specs.sessions.Slots.{slots_with}
 use Rattle.ctf_protocol.specs.sessions.Opened.{SlotOutcome, open_of, slot_made, slot_stepped, slot_with}
 use Rattle.ctf_protocol.specs.sessions.Publications.{published_as, published_without}
 use Rattle.ctf_protocol.specs.sessions.State.{Publication, Slot, State}
-use Rattle.ctf_protocol.specs.sessions.Steps.{Outcome, accepts_unless, adds_created, becomes_by, change_step, creates_from, creates_over, has_room, imports_unless, longest_list, opens_unless, publishes_slot, publishes_within, quota, slot_at, slot_becomes, slots_with_parent, slots_without, stages, takes_found, updates_within, with_slot, withdraws, within_quota}
+use Rattle.ctf_protocol.proofs.StepWords.{accepts_unless, adds_created, creates_from, creates_over, imports_unless, opens_unless, publishes_slot, publishes_within, takes_found, with_slot}
+use Rattle.ctf_protocol.specs.sessions.Outcomes.{Outcome, quota, within_quota}
+use Rattle.ctf_protocol.specs.sessions.Slots.{has_room, slot_at, slots_with_parent, slots_without}
+use Rattle.ctf_protocol.specs.sessions.Steps.{becomes_by, change_step, longest_list, slot_becomes, stages, updates_within, withdraws}
 use Rattle.ctf_protocol.specs.declared.additions.Addition.{Addition}
 use Rattle.ctf_protocol.specs.declared.additions.Addition.TheVariants as add
 use Rattle.ctf_protocol.specs.declared.requests.Change.{Change}

@@ -5,10 +5,11 @@ use Rattle.std.proofs.lemmas.Bool.{eqb-true}
 use Rattle.ctf_model.proofs.Alls.{all_joined}
 use Rattle.ctf_model.proofs.Anywhere.{all_map}
 use Rattle.ctf_model.specs.spaces.Kept.{Kept}
-use Rattle.ctf_protocol.specs.sessions.DraftSteps.{slots_with}
+use Rattle.ctf_protocol.specs.sessions.Slots.{slots_with}
 use Rattle.ctf_protocol.specs.sessions.Runs.{Given, private_state}
 use Rattle.ctf_protocol.specs.sessions.State.{Slot, State, empty_state}
-use Rattle.ctf_protocol.specs.sessions.Steps.{change_step, slot_at, slots_with_parent, slots_without, step}
+use Rattle.ctf_protocol.specs.sessions.Slots.{slot_at, slots_with_parent, slots_without}
+use Rattle.ctf_protocol.specs.sessions.Steps.{change_step, step}
 use Rattle.ctf_protocol.specs.declared.requests.Change.{Change}
 use Rattle.ctf_protocol.specs.declared.requests.Change.TheVariants as change
 use Rattle.ctf_protocol.specs.declared.requests.Request.{Request}

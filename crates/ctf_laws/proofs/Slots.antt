@@ -4,10 +4,10 @@ use Rattle.std.specs.Prelude.{nat_eq, not}
 use Rattle.std.specs.Cmp.Lexicographic.{pointwise}
 use Rattle.std.specs.List.{AllByRecursion}
 use Rattle.ctf_model.specs.spaces.Kept.{Kept, fault_over}
-use Rattle.ctf_protocol.specs.sessions.DraftSteps.{slots_with}
+use Rattle.ctf_protocol.specs.sessions.Slots.{slots_with}
 use Rattle.ctf_protocol.specs.sessions.Publications.{published_as, published_without}
 use Rattle.ctf_protocol.specs.sessions.State.{Publication, Slot}
-use Rattle.ctf_protocol.specs.sessions.Steps.{slot_at, slots_with_parent, slots_without}
+use Rattle.ctf_protocol.specs.sessions.Slots.{slot_at, slots_with_parent, slots_without}
 use Rattle.ctf_laws.specs.Good.{IsFaultless, IsGoodSlot, Serves}
 
 abbrev pub AllGood : List Slot → Type 0

@@ -5,12 +5,13 @@ use Rattle.std.specs.Cmp.Lexicographic.{pointwise, same_text}
 use Rattle.std.specs.List.{AllByRecursion}
 use Rattle.std.proofs.lemmas.Bool.{eqb-true}
 use Rattle.ctf_model.specs.spaces.Kept.{Kept}
-use Rattle.ctf_protocol.specs.sessions.DraftSteps.{slots_with}
+use Rattle.ctf_protocol.specs.sessions.Slots.{slots_with}
 use Rattle.ctf_protocol.specs.sessions.Publications.{published_as, published_without}
 use Rattle.ctf_protocol.specs.sessions.Runs.{found_in}
 use Rattle.ctf_protocol.specs.sessions.SessionLaws.{Event, IsReplied, Run}
 use Rattle.ctf_protocol.specs.sessions.State.{Publication, Slot, State}
-use Rattle.ctf_protocol.specs.sessions.Steps.{change_step, slot_at, slots_with_parent, slots_without, step}
+use Rattle.ctf_protocol.specs.sessions.Slots.{slot_at, slots_with_parent, slots_without}
+use Rattle.ctf_protocol.specs.sessions.Steps.{change_step, step}
 use Rattle.ctf_protocol.specs.declared.requests.Change.{Change}
 use Rattle.ctf_protocol.specs.declared.requests.Change.TheVariants as change
 use Rattle.ctf_protocol.specs.declared.requests.Request.{Request}

@@ -15,14 +15,17 @@ use Rattle.ctf_model.specs.writing.Written.{written}
 use Rattle.ctf_model.specs.declared.faults.Fault.{Fault}
 use Rattle.ctf_model.specs.declared.faults.TheConstants.Fault.{FIXED_PARENT}
 use Rattle.ctf_protocol.specs.answers.Answers.{Answer}
-use Rattle.ctf_protocol.specs.sessions.Additions.{added, answered}
+use Rattle.ctf_protocol.specs.sessions.Additions.{added, addition_answered}
 use Rattle.ctf_protocol.specs.sessions.Charges.{charge}
 use Rattle.ctf_protocol.specs.sessions.Creations.{Created}
 use Rattle.ctf_protocol.specs.sessions.DraftSteps.{created_slot, model_made, slot_step}
 use Rattle.ctf_protocol.specs.sessions.Opened.{SlotOutcome, open_of, slot_stepped, slot_with, under}
 use Rattle.ctf_protocol.specs.sessions.Publications.{published_as}
 use Rattle.ctf_protocol.specs.sessions.State.{Publication, Slot, State}
-use Rattle.ctf_protocol.specs.sessions.Steps.{Outcome, accepts_unless, adds_created, becomes_by, change_step, creates_from, creates_over, has_room, imports_unless, longest_list, opens_unless, publishes_slot, publishes_within, quota, slot_at, slot_becomes, slots_with_parent, stages, takes_found, updates_within, with_slot, withdraws, within_quota}
+use Rattle.ctf_protocol.proofs.StepWords.{accepts_unless, adds_created, creates_from, creates_over, imports_unless, opens_unless, publishes_slot, publishes_within, takes_found, with_slot}
+use Rattle.ctf_protocol.specs.sessions.Outcomes.{Outcome, quota, within_quota}
+use Rattle.ctf_protocol.specs.sessions.Slots.{has_room, slot_at, slots_with_parent}
+use Rattle.ctf_protocol.specs.sessions.Steps.{becomes_by, change_step, longest_list, slot_becomes, stages, updates_within, withdraws}
 use Rattle.ctf_protocol.specs.declared.additions.Addition.{Addition}
 use Rattle.ctf_protocol.specs.declared.additions.Addition.TheVariants as add
 use Rattle.ctf_protocol.specs.declared.requests.Change.{Change}
@@ -145,7 +148,7 @@ silent_is (Ok d) a e =
     ap (λ (b : Added). Ok b.draft) same
 silent_is (Err f) a e = absurd cc
 
-adding : (slot : Slot) (x : Addition) → IsGoodSlot slot → FitsAddition x → LeavesSlot (slot_stepped (answered x) slot (added x (open_of slot)))
+adding : (slot : Slot) (x : Addition) → IsGoodSlot slot → FitsAddition x → LeavesSlot (slot_stepped (addition_answered x) slot (added x (open_of slot)))
 adding slot (add.Type name root kind) g fits = enlarging _ slot _ slot.draft refl g (λ d a is e. redrafted slot d a.draft g is (type_sound d _ a (g.draft d is).sound fits e) (type_leaves d _ a e))
 adding slot (add.Member t name tnum offset) g fits = enlarging _ slot _ slot.draft refl g (λ d a is e. redrafted slot d a.draft g is (member_sound d t.0 name tnum.0 offset a (g.draft d is).sound e) (member_leaves d t.0 name tnum.0 offset a e))
 adding slot (add.Enumerator t name value) g fits = enlarging _ slot _ slot.draft refl g (λ d a is e. let done = silent_is (add_enumerator d t.0 _) a e in redrafted slot d a.draft g is (enumerator_sound d t.0 _ a.draft (g.draft d is).sound fits done) (enumerator_leaves d t.0 _ a.draft done))

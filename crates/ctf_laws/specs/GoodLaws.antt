@@ -25,7 +25,8 @@ use Rattle.ctf_protocol.specs.lines.Output.{Mark, calls_made}
 use Rattle.ctf_protocol.specs.sessions.Runs.{found_in, own_state}
 use Rattle.ctf_protocol.specs.sessions.SessionLaws.{Event, Run}
 use Rattle.ctf_protocol.specs.sessions.State.{Slot, State, empty_state}
-use Rattle.ctf_protocol.specs.sessions.Steps.{checks, opens, slot_answered, slot_space, step}
+use Rattle.ctf_protocol.specs.sessions.SlotQuestions.{slot_answered, slot_space}
+use Rattle.ctf_protocol.specs.sessions.Steps.{checks, opens, step}
 use Rattle.ctf_protocol.specs.declared.questions.Question.TheVariants.{OfSlot, OfType}
 use Rattle.ctf_protocol.specs.declared.questions.SlotQuestion.{SlotQuestion}
 use Rattle.ctf_protocol.specs.declared.questions.TypeQuestion.{TypeQuestion}

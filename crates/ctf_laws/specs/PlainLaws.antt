@@ -6,7 +6,8 @@ use Rattle.ctf_protocol.specs.sessions.Publications.{published_as}
 use Rattle.ctf_protocol.specs.sessions.Runs.{Given, private_state}
 use Rattle.ctf_protocol.specs.sessions.SessionLaws.{Event, Run}
 use Rattle.ctf_protocol.specs.sessions.State.{State, empty_state}
-use Rattle.ctf_protocol.specs.sessions.Steps.{slot_at, step}
+use Rattle.ctf_protocol.specs.sessions.Slots.{slot_at}
+use Rattle.ctf_protocol.specs.sessions.Steps.{step}
 use Rattle.ctf_protocol.specs.declared.requests.Change.TheVariants as change
 use Rattle.ctf_protocol.specs.declared.requests.Request.{Request}
 use Rattle.ctf_protocol.specs.declared.requests.Request.TheVariants.{Changes}

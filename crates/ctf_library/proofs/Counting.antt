@@ -12,7 +12,7 @@ use Rattle.ctf_protocol.proofs.Charged.{charge_is, staged_more}
 use Rattle.ctf_protocol.specs.sessions.Charges.{charge}
 use Rattle.ctf_model.specs.opened.Sizes.{lists_bytes}
 use Rattle.ctf_protocol.specs.sessions.State.{Publication, State}
-use Rattle.ctf_protocol.specs.sessions.Steps.{quota}
+use Rattle.ctf_protocol.specs.sessions.Outcomes.{quota}
 use Rattle.ctf_protocol.specs.declared.requests.ListName.{ListName}
 
 -- the charge by what is kept

@@ -12,7 +12,10 @@ use Rattle.ctf_protocol.specs.sessions.Creations.{Created}
 use Rattle.ctf_protocol.specs.sessions.DraftSteps.{created_slot, model_made}
 use Rattle.ctf_model.specs.spaces.Kept.{Kept}
 use Rattle.ctf_protocol.specs.sessions.State.{Slot, State}
-use Rattle.ctf_protocol.specs.sessions.Steps.{adds_created, creates, creates_from, creates_over, has_room, quota, refuses, slot_at}
+use Rattle.ctf_protocol.proofs.StepWords.{adds_created, creates_from, creates_over}
+use Rattle.ctf_protocol.specs.sessions.Outcomes.{quota, refuses}
+use Rattle.ctf_protocol.specs.sessions.Slots.{has_room, slot_at}
+use Rattle.ctf_protocol.specs.sessions.Steps.{creates}
 use Rattle.ctf_model.specs.declared.faults.Fault.{Fault}
 use Rattle.ctf_model.specs.declared.faults.TheConstants.Fault.{NO_SLOT}
 

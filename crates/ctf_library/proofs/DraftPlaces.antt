@@ -9,13 +9,14 @@ use Rattle.ctf_protocol.specs.sessions.Charges.{slot_bytes}
 use Rattle.ctf_library.specs.SlotView.{slot_of}
 use Rattle.ctf_library.specs.declared.slots.Slot as own
 use Rattle.ctf_protocol.specs.answers.Answers.{Answer}
-use Rattle.ctf_protocol.specs.sessions.DraftSteps.{slot_step, slots_with}
+use Rattle.ctf_protocol.specs.sessions.DraftSteps.{slot_step}
+use Rattle.ctf_protocol.specs.sessions.Slots.{slots_with}
 use Rattle.ctf_protocol.specs.sessions.Opened.{SlotOutcome, open_of, slot_stepped, under}
 use Rattle.ctf_model.specs.opened.Steps.{discarded_if}
 use Rattle.ctf_model.specs.drafts.Drafts.{Draft}
 use Rattle.ctf_model.specs.rules.Refusals.{want_of_memory}
 use Rattle.ctf_protocol.specs.sessions.State.{Slot}
-use Rattle.ctf_protocol.specs.sessions.Steps.{slot_at}
+use Rattle.ctf_protocol.specs.sessions.Slots.{slot_at}
 use Rattle.ctf_model.specs.declared.faults.Fault.{Fault}
 use Rattle.ctf_protocol.specs.declared.requests.DraftStep.{DraftStep}
 use Rattle.ctf_protocol.specs.declared.requests.DraftStep.TheVariants.{Discard}

@@ -13,10 +13,14 @@ use Rattle.ctf_model.specs.declared.faults.TheConstants.Fault.{QUOTA_FULL}
 use Rattle.ctf_protocol.proofs.Charged.{slot_becomes_charge, without_bytes}
 use Rattle.ctf_protocol.specs.answers.Answers.{Answer, Reply}
 use Rattle.ctf_protocol.specs.sessions.Charges.{charge, slot_bytes}
-use Rattle.ctf_protocol.specs.sessions.DraftSteps.{slot_step, slots_with}
+use Rattle.ctf_protocol.specs.sessions.DraftSteps.{slot_step}
+use Rattle.ctf_protocol.specs.sessions.Slots.{slots_with}
 use Rattle.ctf_protocol.specs.sessions.Opened.{SlotOutcome, slot_refused}
 use Rattle.ctf_protocol.specs.sessions.State.{Slot, State}
-use Rattle.ctf_protocol.specs.sessions.Steps.{Outcome, becomes_by, outcome_of, quota, refuses, slot_at, slot_becomes, steps_draft, updates_within, with_slot, within_quota}
+use Rattle.ctf_protocol.proofs.StepWords.{with_slot}
+use Rattle.ctf_protocol.specs.sessions.Outcomes.{Outcome, outcome_of, quota, refuses, within_quota}
+use Rattle.ctf_protocol.specs.sessions.Slots.{slot_at}
+use Rattle.ctf_protocol.specs.sessions.Steps.{becomes_by, slot_becomes, steps_draft, updates_within}
 use Rattle.ctf_protocol.specs.declared.requests.DraftStep.{DraftStep}
 use Rattle.ctf_protocol.specs.declared.requests.DraftStep.TheVariants.{Add, Update, Discard}
 

@@ -7,8 +7,8 @@ use Rattle.ctf_library.specs.SlotView.{slot_of}
 use Rattle.ctf_library.specs.declared.slots.Slot as own
 use Rattle.ctf_model.specs.spaces.Kept.{Kept}
 use Rattle.ctf_protocol.specs.sessions.State.{Slot}
-use Rattle.ctf_protocol.specs.sessions.DraftSteps.{slots_with}
-use Rattle.ctf_protocol.specs.sessions.Steps.{slot_at, slots_without, slots_with_parent}
+use Rattle.ctf_protocol.specs.sessions.Slots.{slots_with}
+use Rattle.ctf_protocol.specs.sessions.Slots.{slot_at, slots_without, slots_with_parent}
 
 -- the slot of a number stands at a place
 pub record IsPlace (n : ℕ) (slots : List own.Slot) (i : ℕ) : Type 0 where

@@ -23,7 +23,10 @@ use Rattle.ctf_model.specs.rules.Refusals.{want_of_memory}
 use Rattle.ctf_model.specs.opened.Open.{pending_in}
 use Rattle.ctf_protocol.specs.sessions.Publications.{published_as}
 use Rattle.ctf_protocol.specs.sessions.State.{Slot, State}
-use Rattle.ctf_protocol.specs.sessions.Steps.{adds_created, adds_publication, adds_slot, creates, grants, has_room, imports, imports_unless, publishes, publishes_kept, takes, longest_list, outcome_of, parts, publishes_within, quota, refuses, slot_at, slots_with_parent, staged, takes_found, with_staged}
+use Rattle.ctf_protocol.proofs.StepWords.{adds_created, imports_unless, publishes_within, takes_found}
+use Rattle.ctf_protocol.specs.sessions.Outcomes.{grants, outcome_of, quota, refuses}
+use Rattle.ctf_protocol.specs.sessions.Slots.{adds_slot, has_room, slot_at, slots_with_parent}
+use Rattle.ctf_protocol.specs.sessions.Steps.{adds_publication, creates, imports, publishes, publishes_kept, takes, longest_list, parts, staged, with_staged}
 use Rattle.ctf_protocol.specs.declared.requests.ListName.{ListName}
 
 -- ---- part

@@ -2,7 +2,7 @@
 use Rattle.std.proofs.Common.{◌≡◌, ◌≤◌, ◌<◌, ℕ, Bool, true, false, refl}
 use Rattle.std.specs.Prelude.{nat_lt, not}
 use Rattle.std.proofs.lemmas.Bool.{ltb-false, ltb-true}
-use Rattle.ctf_protocol.specs.sessions.Steps.{quota}
+use Rattle.ctf_protocol.specs.sessions.Outcomes.{quota}
 
 -- so much more has room
 pub room_le : (n : ℕ) → not (nat_lt quota n) ≡ true → n ≤ quota

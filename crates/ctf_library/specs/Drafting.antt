@@ -4,11 +4,11 @@ use Rattle.ctf_answers.specs.Replies.{changed}
 use Rattle.ctf_answers.specs.declared.counts.Counts.{Counts}
 use Rattle.ctf_library.specs.Quotas.{step_beside}
 use Rattle.ctf_protocol.specs.sessions.Charges.{slot_bytes}
-use Rattle.ctf_protocol.specs.sessions.DraftSteps.{slots_with}
+use Rattle.ctf_protocol.specs.sessions.Slots.{slots_with}
 use Rattle.ctf_protocol.specs.sessions.Opened.{SlotOutcome}
 use Rattle.ctf_model.specs.rules.Refusals.{placeless, want_of_memory}
 use Rattle.ctf_protocol.specs.sessions.State.{Slot}
-use Rattle.ctf_protocol.specs.sessions.Steps.{slot_at}
+use Rattle.ctf_protocol.specs.sessions.Slots.{slot_at}
 use Rattle.ctf_model.specs.declared.faults.Fault.{Fault}
 use Rattle.ctf_model.specs.declared.faults.TheConstants.Fault.{NO_SLOT}
 use Rattle.ctf_protocol.specs.declared.requests.DraftStep.{DraftStep}

@@ -10,7 +10,8 @@ use Rattle.ctf_model.specs.rules.Refusals.{placeless}
 use Rattle.ctf_model.specs.declared.faults.Fault.{Fault}
 use Rattle.ctf_model.specs.declared.faults.TheConstants.Fault.{QUOTA_FULL, STAGE_FULL}
 use Rattle.ctf_protocol.specs.sessions.Charges.{slot_bytes}
-use Rattle.ctf_protocol.specs.sessions.Steps.{longest_list, quota, staged, with_staged}
+use Rattle.ctf_protocol.specs.sessions.Outcomes.{quota}
+use Rattle.ctf_protocol.specs.sessions.Steps.{longest_list, staged, with_staged}
 use Rattle.ctf_model.specs.format.Lists.{Lists}
 use Rattle.ctf_protocol.specs.declared.requests.ListName.{ListName}
 

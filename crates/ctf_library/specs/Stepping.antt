@@ -4,7 +4,7 @@ use Rattle.ctf_answers.specs.Replies.{said}
 use Rattle.ctf_answers.specs.declared.counts.Counts.{Counts}
 use Rattle.ctf_protocol.specs.sessions.Runs.{Answered}
 use Rattle.ctf_protocol.specs.sessions.State.{State}
-use Rattle.ctf_protocol.specs.sessions.Steps.{Outcome}
+use Rattle.ctf_protocol.specs.sessions.Outcomes.{Outcome}
 use Rattle.ctf_model.specs.declared.faults.Fault.{Fault}
 
 -- a step was made, or memory was refused and nothing changed

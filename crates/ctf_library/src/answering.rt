@@ -4,7 +4,7 @@ ghost use Rattle.ctf_protocol.specs.answers.Answers.{number, says, word};
 ghost use Rattle.ctf_model.specs.names.KindNames.{name_of_kind, name_of_tag};
 ghost use Rattle.ctf_protocol.specs.answers.Questions.{list_fields, answer_of, type_answered, record_fields, member_fields, enumerator_fields, argument_fields, signature_fields, array_fields, encoding_fields, as_fields, type_fields, name_fields, position_fields, value_fields, number_item};
 ghost use Rattle.ctf_model.specs.format.Shown.{kind_of, members_in, enumerators_in, list_length, named_arguments};
-ghost use Rattle.ctf_protocol.specs.sessions.Steps.{slot_answered};
+ghost use Rattle.ctf_protocol.specs.sessions.SlotQuestions.{slot_answered};
 ghost use Rattle.ctf_protocol.specs.sessions.Quiet.{is_quiet, is_quiet_on, MayAnswer};
 ghost use Rattle.ctf_model.specs.names.TypeNames.{spelled_name};
 ghost use Rattle.ctf_model.specs.values.Values.{value_text};

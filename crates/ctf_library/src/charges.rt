@@ -6,7 +6,7 @@ ghost use Rattle.std.specs.Prelude.{◌≡◌, ◌+◌, ◌<◌, ◌^◌, nat_lt
 ghost use Rattle.ctf_library.specs.SlotView.{slot_of};
 ghost use Rattle.ctf_protocol.specs.sessions.Charges.{slot_bytes};
 ghost use Rattle.ctf_model.specs.opened.Sizes.{parent_bytes};
-ghost use Rattle.ctf_protocol.specs.sessions.Steps.{quota};
+ghost use Rattle.ctf_protocol.specs.sessions.Outcomes.{quota};
 
 use crate::slots::Slot;
 

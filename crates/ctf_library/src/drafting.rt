@@ -8,7 +8,7 @@ ghost use Rattle.ctf_model.specs.rules.Refusals.{want_of_memory};
 ghost use Rattle.ctf_model.specs.spaces.Kept.{model_over as parents_model};
 ghost use Rattle.ctf_protocol.specs.sessions.Charges.{slot_bytes};
 ghost use Rattle.ctf_protocol.specs.sessions.DraftSteps.{created_slot, model_made, slot_step};
-ghost use Rattle.ctf_protocol.specs.sessions.Steps.{quota};
+ghost use Rattle.ctf_protocol.specs.sessions.Outcomes.{quota};
 ghost use Rattle.ctf_protocol.specs.declared.requests.DraftStep.TheVariants.{Update as Updates, Discard};
 
 use crate::charges::QUOTA;

@@ -7,7 +7,10 @@ ghost use Rattle.ctf_library.specs.SlotView.{slot_of};
 ghost use Rattle.ctf_model.specs.rules.Refusals.{want_of_memory, placeless as refusal};
 ghost use Rattle.ctf_model.specs.declared.faults.TheConstants.Fault.{NO_SLOT};
 ghost use Rattle.ctf_protocol.specs.declared.requests.DraftStep.TheVariants.{Discard};
-ghost use Rattle.ctf_protocol.specs.sessions.Steps.{adds_created, answer_to, change_step, checks, clears, closes, creates, has_room as room_in, imports, opens, outcome_of, parts, publishes, publishes_kept, quota, resets, slot_at, steps_draft, takes, withdraws};
+ghost use Rattle.ctf_protocol.specs.sessions.Outcomes.{outcome_of, quota};
+ghost use Rattle.ctf_protocol.specs.sessions.SlotQuestions.{answer_to};
+ghost use Rattle.ctf_protocol.specs.sessions.Slots.{has_room as room_in, slot_at};
+ghost use Rattle.ctf_protocol.specs.sessions.Steps.{adds_draft, change_step, checks, clears, closes, creates, imports, opens, parts, publishes, publishes_kept, resets, steps_draft, takes, withdraws};
 ghost use Rattle.ctf_protocol.specs.sessions.Quiet.{is_quiet, is_quiet_change, MayAnswer};
 ghost use Rattle.ctf_laws.specs.Good.{FitsChange, IsFaultless, IsGood};
 ghost use Rattle.ctf_library.specs.Stepping.{Does, Makes};
@@ -350,7 +353,7 @@ impl Library {
     /// The slot of a new draft, under the next number.
     fn created(&self, creation: &Creation) -> Result<Slot, Fault>
         ensures ok { IfOk result (λ slot. (creates creation.now self.now
-            ≡ adds_created (Ok (slot_of slot)) self.now) × (slot.number ≡ self.now.next)) }
+            ≡ adds_draft (slot_of slot) self.now) × (slot.number ≡ self.now.next)) }
         ensures free { OnOk result (room_in self.now ≡ true) }
         ensures room { IfOk result (λ slot. charge self.now + slot_bytes (slot_of slot) ≤ quota) }
         ensures exact_err { IfErr result (λ f. (f ≡ want_of_memory)

@@ -7,7 +7,7 @@ ghost use Rattle.ctf_model.specs.opened.Sizes.{kept_bytes, parent_bytes};
 ghost use Rattle.ctf_model.specs.rules.Refusals.{want_of_memory};
 ghost use Rattle.ctf_protocol.specs.declared.requests.DraftStep.TheVariants.{Discard};
 ghost use Rattle.ctf_model.specs.spaces.Kept.{fault_over};
-ghost use Rattle.ctf_protocol.specs.sessions.Steps.{slot_at, slots_with_parent, slots_without};
+ghost use Rattle.ctf_protocol.specs.sessions.Slots.{slot_at, slots_with_parent, slots_without};
 ghost use Rattle.std.specs.List.Sorted.{IsNonDecreasingBy};
 ghost use Rattle.ctf_library.specs.SlotOrder.{rise_between};
 ghost use Rattle.ctf_library.specs.SlotPlaces.{place_of};

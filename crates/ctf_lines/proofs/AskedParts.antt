@@ -83,7 +83,7 @@ names-plain : (ds : Items) → fields.names_spelled (plain_items ds) ≡ fields.
 names-plain = each-plain fields.name_spelled (λ d. ap (λ t. option_and_then fields.not_too_many (option_and_then bytes_spelled_by t)) (str-plain d))
 
 types-plain : (ds : Items) → says.types_listed (plain_items ds) ≡ says.types_listed ds
-types-plain = each-plain says.type_listed (λ d. ap (λ n. as_type (option_and_then (fields.within 0 65535) (option_and_then as_u64 n))) (number-plain d))
+types-plain = each-plain says.type_listed (λ d. ap (λ n. as_type (option_and_then (fields.in_range 0 65535) (option_and_then as_u64 n))) (number-plain d))
 
 -- what says the same of what is kept of a value says the same of what is kept of a field
 under : {A : Type 0} (f : Data → Option A) → ((d : Data) → f (shallow d) ≡ f d) → (o : Option Data) → option_and_then f (option_map shallow o) ≡ option_and_then f o
@@ -150,7 +150,7 @@ module _ (a b : Data) (same : (key : List ℕ) → is_one_of key keys ≡ true �
   listed f h key one = ap (λ o. option_and_then f (option_and_then as_array o)) (same key one) ∙ list-under f h (get key b)
 
   number : (low high : ℕ) (key : List ℕ) → is_one_of key keys ≡ true → fields.number_in low high key a ≡ fields.number_in low high key b
-  number low high key one = λ i. option_and_then (fields.within low high) (option_and_then as_u64 (numbered key one i))
+  number low high key one = λ i. option_and_then (fields.in_range low high) (option_and_then as_u64 (numbered key one i))
 
   name : (key : List ℕ) → is_one_of key keys ≡ true → fields.name_under key a ≡ fields.name_under key b
   name key one = ap (option_and_then fields.name_spelled) (same key one) ∙ under fields.name_spelled (λ d. ap (λ t. option_and_then fields.not_too_many (option_and_then bytes_spelled_by t)) (str-shallow d)) (get key b)
@@ -164,7 +164,7 @@ module _ (a b : Data) (same : (key : List ℕ) → is_one_of key keys ≡ true �
   type_under : (key : List ℕ) → is_one_of key keys ≡ true → fields.type_under key a ≡ fields.type_under key b
   type_under key one = ap as_type (number 0 65535 key one)
 
-  type_in : fields.type_in a ≡ fields.type_in b
+  type_in : fields.type_asked a ≡ fields.type_asked b
   type_in = type_under (codes "t") refl
 
   from : fields.from_asked a ≡ fields.from_asked b

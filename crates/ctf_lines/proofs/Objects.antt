@@ -1,13 +1,13 @@
 -- Objects of two and three parts, put on part by part.
 use Rattle.std.proofs.Common.{◌≡◌, ℕ, List, [], ◌∷◌, ◌++◌, append_assoc, sym, ap, ◌∙◌}
-use Rattle.ctf_model.specs.dumps.Texts.{separated}
+use Rattle.ctf_model.specs.dumps.Texts.{with_commas}
 
-pub two_parts : (a b : List ℕ) → a ++ (44 ∷ (b ++ (125 ∷ []))) ≡ separated (a ∷ b ∷ []) ++ (125 ∷ [])
+pub two_parts : (a b : List ℕ) → a ++ (44 ∷ (b ++ (125 ∷ []))) ≡ with_commas (a ∷ b ∷ []) ++ (125 ∷ [])
 two_parts a b =
     sym (append_assoc a (44 ∷ (b ++ [])) (125 ∷ [])
     ∙ ap (λ (t : List ℕ). a ++ (44 ∷ t)) (append_assoc b [] (125 ∷ [])))
 
-pub three_parts : (a b c : List ℕ) → a ++ (44 ∷ (b ++ (44 ∷ (c ++ (125 ∷ []))))) ≡ separated (a ∷ b ∷ c ∷ []) ++ (125 ∷ [])
+pub three_parts : (a b c : List ℕ) → a ++ (44 ∷ (b ++ (44 ∷ (c ++ (125 ∷ []))))) ≡ with_commas (a ∷ b ∷ c ∷ []) ++ (125 ∷ [])
 three_parts a b c =
     sym (append_assoc a (44 ∷ (b ++ (44 ∷ (c ++ [])))) (125 ∷ [])
     ∙ ap (λ (t : List ℕ). a ++ (44 ∷ t)) (append_assoc b (44 ∷ (c ++ [])) (125 ∷ [])

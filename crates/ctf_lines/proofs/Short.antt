@@ -10,7 +10,7 @@ use Rattle.ctf_answers.specs.Counts.{count_view, counts_view}
 use Rattle.ctf_answers.specs.declared.count.Count.{Count}
 use Rattle.ctf_answers.specs.declared.counts.Counts.{Counts}
 use Rattle.ctf_model.specs.rules.FaultNames.{fault_names, name_beside, name_of_fault}
-use Rattle.ctf_model.specs.dumps.Texts.{after_commas, separated}
+use Rattle.ctf_model.specs.dumps.Texts.{after_commas, with_commas}
 use Rattle.ctf_protocol.specs.lines.ReplyLines.{key_text, quoted, field_text, object_line, answer_line, fault_fields, fault_line, fitting_line}
 use Rattle.ctf_model.specs.declared.faults.Fault.{Fault}
 use Rattle.ctf_model.specs.declared.faults.TheConstants.Fault.{LONG_REPLY}
@@ -53,7 +53,7 @@ total_after : (texts : List (List ℕ)) → length (after_commas texts) ≡ tota
 total_after [] = refl
 total_after (x ∷ xs) = let all = length-append x (after_commas xs) in let rest = total_after xs in omega (arith, all, rest)
 
-total-separated : (texts : List (List ℕ)) → length (separated texts) ≤ total texts + length texts
+total-separated : (texts : List (List ℕ)) → length (with_commas texts) ≤ total texts + length texts
 total-separated [] = lit≤ tt
 total-separated (x ∷ xs) = let all = length-append x (after_commas xs) in let rest = total_after xs in omega (arith, all, rest)
 
@@ -62,7 +62,7 @@ length-object : (under : List ℕ) (s : ℕ) (fields : List Field) → s < 2 ^ 3
 length-object under s fields h =
     let a = decimal_32 s h in
     let b = total-separated (map field_text fields) in
-    let all = length-concat (codes "{\"" ∷ under ∷ codes "\":{" ∷ separated (map field_text fields) ∷ codes "},\"s\":" ∷ decimal s ∷ codes "}\n" ∷ []) in
+    let all = length-concat (codes "{\"" ∷ under ∷ codes "\":{" ∷ with_commas (map field_text fields) ∷ codes "},\"s\":" ∷ decimal s ∷ codes "}\n" ∷ []) in
     omega (arith, a, b, all)
 
 -- a field of a number
@@ -104,7 +104,7 @@ fault_short s f h i k =
     let in_quotes = length-concat (codes "\"" ∷ name_of_fault f.code ∷ codes "\"" ∷ []) in
     let place = length-append (key_text (codes "place")) (decimal f.place) in
     let fields = total-separated (map field_text (fault_fields f)) in
-    let all = length-concat (codes "{\"" ∷ codes "fault" ∷ codes "\":{" ∷ separated (map field_text (fault_fields f)) ∷ codes "},\"s\":" ∷ decimal s ∷ codes "}\n" ∷ []) in
+    let all = length-concat (codes "{\"" ∷ codes "fault" ∷ codes "\":{" ∷ with_commas (map field_text (fault_fields f)) ∷ codes "},\"s\":" ∷ decimal s ∷ codes "}\n" ∷ []) in
     omega (arith, a, e, g, name, code, word, in_quotes, place, fields, all)
 
 -- a line that fits stands as it is

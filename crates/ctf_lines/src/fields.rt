@@ -1,6 +1,6 @@
 //! Items of lists, and fields.
 ghost use Rattle.std.specs.Prelude.{◌≡◌, ◌++◌, [], ◌∷◌, map};
-ghost use Rattle.ctf_protocol.specs.lines.ReplyLines.{item_text, list_text, object_text, field_text, value_text};
+ghost use Rattle.ctf_protocol.specs.lines.ReplyLines.{item_text, list_text, object_text, field_text, json_text};
 ghost use Rattle.ctf_answers.specs.Singles.{entry_of};
 ghost use Rattle.ctf_answers.specs.Items.{item_of};
 ghost use Rattle.ctf_answers.specs.Fields.{field_of, value_of};
@@ -72,7 +72,7 @@ fn put_list<P: TextSink>(sink: &mut P, items: &Listed<'_>)
 
 /// Puts a field's value on.
 fn put_value<P: TextSink>(sink: &mut P, value: Value<'_, '_>)
-    ensures { P.Took sink.old (value_text (value_of value.entry)) sink.new }
+    ensures { P.Took sink.old (json_text (value_of value.entry)) sink.new }
 {
     match value {
         Value::One(value) => put_single(sink, &value),

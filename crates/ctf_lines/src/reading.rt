@@ -4,7 +4,7 @@ ghost use Rattle.serde_json.specs.Find.{as_array, as_number, as_u64, get};
 ghost use Rattle.serde_json.specs.Read.{read as read_json};
 ghost use Rattle.ctf_json.specs.Told.{items_view, said as view};
 ghost use Rattle.ctf_protocol.specs.lines.Ask.{ask, open_asked, list_named, close_asked, import_asked, publication_asked, publish_asked, take_asked, withdraw_asked, about_type as type_question_asked, about_slot as slot_question_asked, about_held as held_question_asked, bytes_asked, symbol_asked, show_asked, names_asked, part_asked, word_asked, asked_with, request_asked, value_asked};
-ghost use Rattle.ctf_protocol.specs.lines.LineFields.{within, number_in, text_in, slot_under as slot_named, slot_in, type_in, name_under as name_asked, from_asked, count_asked, window_asked};
+ghost use Rattle.ctf_protocol.specs.lines.LineFields.{in_range, number_in, text_in, slot_under as slot_named, slot_in, type_asked, name_under as name_asked, from_asked, count_asked, window_asked};
 ghost use Rattle.ctf_protocol.specs.words.Words.{word_named, words};
 ghost use Rattle.ctf_model.specs.rules.Refusals.{placeless, want_of_memory};
 ghost use Rattle.ctf_model.specs.declared.faults.TheConstants.Fault.{MEMORY};
@@ -92,7 +92,7 @@ fn read_value(alloc: Global, value: &Value<'_>) -> Result<(u32, Request), (u32, 
 
 /// The number that a value is, where it is in a range.
 pub(crate) fn number_within(value: &Value<'_>, low: u64, high: u64) -> Option<u64>
-    ensures number { result ≡ option_and_then (within low high)
+    ensures number { result ≡ option_and_then (in_range low high)
         (option_and_then as_u64 (as_number (view value.now))) }
     ensures in_range { IfSome result (λ n. (low ≤ n) × (n ≤ high)) }
 {
@@ -215,7 +215,7 @@ fn read_other(alloc: Global, value: &Value<'_>, word: Word) -> Result<Option<Req
 
 /// The number of a slot that a value is.
 pub(crate) fn as_slot_number(value: &Value<'_>) -> Option<SlotNumber>
-    ensures { result ≡ option_and_then (within 1 4294967295)
+    ensures { result ≡ option_and_then (in_range 1 4294967295)
         (option_and_then as_u64 (as_number (view value.now))) }
 {
     let number = number_within(value, 0, u64::from(u32::MAX))?;
@@ -306,7 +306,7 @@ fn take(alloc: Global, value: &Value<'_>) -> Result<Option<Request>, AllocError>
 }
 
 pub(crate) fn type_number(value: &Value<'_>) -> Option<TypeNum>
-    ensures { result ≡ type_in (view value.now) }
+    ensures { result ≡ type_asked (view value.now) }
 {
     let number = number(value, "t", 0, u64::from(u16::MAX))?;
     Some(TypeNum(number as u16))

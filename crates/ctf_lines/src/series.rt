@@ -1,6 +1,6 @@
 //! Texts of a line with commas between them.
 ghost use Rattle.std.specs.Prelude.{◌≡◌, ◌<◌, ℕ, List, [], length, get_or};
-ghost use Rattle.ctf_model.specs.dumps.Texts.{separated};
+ghost use Rattle.ctf_model.specs.dumps.Texts.{with_commas};
 ghost use Rattle.ctf_lines.specs.Commas.{comma_before};
 
 use crate::text_sinks::TextSink;
@@ -30,7 +30,7 @@ fn put_comma<P: TextSink>(sink: &mut P, index: usize)
 
 /// Puts all on. What stands behind a limit isn't looked at.
 pub fn put_series<P: TextSink, S: Series>(sink: &mut P, series: &S)
-    ensures { P.Took sink.old (separated (S.texts series.now)) sink.new }
+    ensures { P.Took sink.old (with_commas (S.texts series.now)) sink.new }
 {
     for index in 0..series.count() {
         if sink.is_full() {

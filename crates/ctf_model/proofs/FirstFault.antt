@@ -8,7 +8,7 @@ use Rattle.std.proofs.lemmas.Option.{same_Some}
 use Rattle.ctf_model.specs.rules.Faults.{if_broken, first_broken, or_later}
 use Rattle.ctf_model.specs.format.Laws.{KeepsEveryRule}
 use Rattle.ctf_model.specs.format.Lists.{Lists}
-use Rattle.ctf_model.specs.rules.Rules.{IsBroken, Keeps, IsFirstFault, Never, rules}
+use Rattle.ctf_model.specs.rules.Rules.{IsBroken, Keeps, IsFirstFault, Never, rules_by_number}
 use Rattle.ctf_model.specs.declared.faults.Fault.{Fault}
 
 -- ---- one rule
@@ -67,7 +67,7 @@ keeps_none s = keeps_next s 0 (λ rule lt. absurd (omega arith)) (λ place broke
 
 -- no rule has a number beyond the last
 past_all : (s : Lists) (rule place : ℕ) → 20 ≤ rule → IsBroken s rule place → ⊥
-past_all s rule place le broken = subst (λ (F : Lists → ℕ → Type 0). F s place) (get_or-eq_default rules Never {n = rule} le) broken
+past_all s rule place le broken = subst (λ (F : Lists → ℕ → Type 0). F s place) (get_or-eq_default rules_by_number Never {n = rule} le) broken
 
 -- there are no rules beyond the last
 pub keeps_every : (s : Lists) → Keeps s 20 → KeepsEveryRule s

@@ -6,7 +6,7 @@ use Rattle.std.specs.List.{list_any}
 use Rattle.std.proofs.lemmas.Bool.{false≢true}
 use Rattle.std.proofs.lemmas.Bool.Decides.{Decides-eqb, Decides-ltb, Decides-not, Decides-or, Decides-and}
 use Rattle.std.proofs.lemmas.List.Folds.{Any-from_list_any, list_any-from_Any}
-use Rattle.ctf_model.specs.symbols.Entries.{Entry, FunctionSite, is_bad_entry, is_silent, kind_number, entry_len, entries_of, entries, function_sites_of, function_sites, types_named, type_in, signature_in}
+use Rattle.ctf_model.specs.symbols.Entries.{Entry, FunctionSite, is_bad_entry, is_silent, kind_number, entry_len, entries_of, entries, function_sites_of, function_sites, types_named, type_told, signature_in}
 use Rattle.ctf_model.specs.symbols.Entries as told
 use Rattle.ctf_model.specs.rules.Faults.{first_where, bad_funcs, bad_symbol_type, bad_symtab, tells_missing, types}
 use Rattle.ctf_model.specs.format.Header.{fields, is_child, section}
@@ -91,7 +91,7 @@ entries_rising [] o f low r = tt
 entries_rising (x ∷ xs) o f low r = at (is_object x.1) (entries_rising xs (drop 2 o) f (x.0 + 1) r.1) (entries_rising xs o (drop (entry_len f) f) (x.0 + 1) r.1)
   where
     at : (c : Bool) → AreRising (λ (e : Entry). e.number) (x.0 + 1) (entries_of xs (drop 2 o) f) → AreRising (λ (e : Entry). e.number) (x.0 + 1) (entries_of xs o (drop (entry_len f) f))
-        → AreRising (λ (e : Entry). e.number) low (cond c (record { number = x.0; name = x.1.name; told = told.object (type_in o) } ∷ entries_of xs (drop 2 o) f) (record { number = x.0; name = x.1.name; told = told.function (signature_in f) } ∷ entries_of xs o (drop (entry_len f) f)))
+        → AreRising (λ (e : Entry). e.number) low (cond c (record { number = x.0; name = x.1.name; told = told.object (type_told o) } ∷ entries_of xs (drop 2 o) f) (record { number = x.0; name = x.1.name; told = told.function (signature_in f) } ∷ entries_of xs o (drop (entry_len f) f)))
     at true objects functions = (r.0, objects)
     at false objects functions = (r.0, functions)
 

@@ -2,7 +2,7 @@
 use Rattle.std.proofs.Common.{◌≡◌, ℕ, zero, suc, ◌+◌, ◌*◌, Bool, true, false, cond, List, [], ◌∷◌, drop, Option, refl, sym, ap, ◌∙◌, arith}
 use Rattle.std.specs.Prelude.{map}
 use Rattle.std.proofs.lemmas.List.{drop-drop}
-use Rattle.ctf_model.specs.symbols.Entries.{Entry, Owner, Signature, Told, AreEntries, AreObjects, AreFunctions, entries_of, entries, entry_len, type_in, signature_in, objects_in, functions_in, owner, owner_of}
+use Rattle.ctf_model.specs.symbols.Entries.{Entry, Owner, Signature, Told, AreEntries, AreObjects, AreFunctions, entries_of, entries, entry_len, type_told, signature_in, objects_in, functions_in, owner, owner_of}
 use Rattle.ctf_model.specs.symbols.Entries as told
 use Rattle.ctf_model.specs.format.Header.{section}
 use Rattle.ctf_model.specs.format.Lists.{Lists}
@@ -19,9 +19,9 @@ next_entry b i =
 -- ---- what is computed is told
 
 -- one object more
-more_objects : (b : List ℕ) (types : List (Option ℕ)) → AreObjects (drop 2 b) types → AreObjects b (type_in b ∷ types)
+more_objects : (b : List ℕ) (types : List (Option ℕ)) → AreObjects (drop 2 b) types → AreObjects b (type_told b ∷ types)
 more_objects b types h zero lt = refl
-more_objects b types h (suc i) lt = h i (omega arith) ∙ ap type_in (next_entry b i)
+more_objects b types h (suc i) lt = h i (omega arith) ∙ ap type_told (next_entry b i)
 
 owners_computed : (xs : List (ℕ × Symbol)) (o f : List ℕ) → map owner_of (entries_of xs o f) ≡ map owner xs
 unfolding entries_of
@@ -29,7 +29,7 @@ owners_computed [] o f = refl
 owners_computed (x ∷ xs) o f = at (is_object x.1) (owners_computed xs (drop 2 o) f) (owners_computed xs o (drop (entry_len f) f))
   where
     at : (c : Bool) → map owner_of (entries_of xs (drop 2 o) f) ≡ map owner xs → map owner_of (entries_of xs o (drop (entry_len f) f)) ≡ map owner xs
-        → map owner_of (cond c (record { number = x.0; name = x.1.name; told = told.object (type_in o) } ∷ entries_of xs (drop 2 o) f) (record { number = x.0; name = x.1.name; told = told.function (signature_in f) } ∷ entries_of xs o (drop (entry_len f) f)))
+        → map owner_of (cond c (record { number = x.0; name = x.1.name; told = told.object (type_told o) } ∷ entries_of xs (drop 2 o) f) (record { number = x.0; name = x.1.name; told = told.function (signature_in f) } ∷ entries_of xs o (drop (entry_len f) f)))
         ≡ record { number = x.0; name = x.1.name; class = cond c Object Function } ∷ map owner xs
     at true objects functions = ap (λ (l : List Owner). record { number = x.0; name = x.1.name; class = Object } ∷ l) objects
     at false objects functions = ap (λ (l : List Owner). record { number = x.0; name = x.1.name; class = Function } ∷ l) functions
@@ -40,7 +40,7 @@ objects_computed [] o f = λ i lt. absurd (omega arith)
 objects_computed (x ∷ xs) o f = at (is_object x.1) (objects_computed xs (drop 2 o) f) (objects_computed xs o (drop (entry_len f) f))
   where
     at : (c : Bool) → AreObjects (drop 2 o) (objects_in (entries_of xs (drop 2 o) f)) → AreObjects o (objects_in (entries_of xs o (drop (entry_len f) f)))
-        → AreObjects o (objects_in (cond c (record { number = x.0; name = x.1.name; told = told.object (type_in o) } ∷ entries_of xs (drop 2 o) f) (record { number = x.0; name = x.1.name; told = told.function (signature_in f) } ∷ entries_of xs o (drop (entry_len f) f))))
+        → AreObjects o (objects_in (cond c (record { number = x.0; name = x.1.name; told = told.object (type_told o) } ∷ entries_of xs (drop 2 o) f) (record { number = x.0; name = x.1.name; told = told.function (signature_in f) } ∷ entries_of xs o (drop (entry_len f) f))))
     at true objects functions = more_objects o (objects_in (entries_of xs (drop 2 o) f)) objects
     at false objects functions = functions
 
@@ -50,7 +50,7 @@ functions_computed [] o f = tt
 functions_computed (x ∷ xs) o f = at (is_object x.1) (functions_computed xs (drop 2 o) f) (functions_computed xs o (drop (entry_len f) f))
   where
     at : (c : Bool) → AreFunctions f (functions_in (entries_of xs (drop 2 o) f)) → AreFunctions (drop (entry_len f) f) (functions_in (entries_of xs o (drop (entry_len f) f)))
-        → AreFunctions f (functions_in (cond c (record { number = x.0; name = x.1.name; told = told.object (type_in o) } ∷ entries_of xs (drop 2 o) f) (record { number = x.0; name = x.1.name; told = told.function (signature_in f) } ∷ entries_of xs o (drop (entry_len f) f))))
+        → AreFunctions f (functions_in (cond c (record { number = x.0; name = x.1.name; told = told.object (type_told o) } ∷ entries_of xs (drop 2 o) f) (record { number = x.0; name = x.1.name; told = told.function (signature_in f) } ∷ entries_of xs o (drop (entry_len f) f))))
     at true objects functions = objects
     at false objects functions = (refl, functions)
 
@@ -66,7 +66,7 @@ entries_said s =
 
 -- the objects behind the first one
 fewer_objects : (b : List ℕ) (t : Option ℕ) (types : List (Option ℕ)) → AreObjects b (t ∷ types) → AreObjects (drop 2 b) types
-fewer_objects b t types h = λ i lt. h (suc i) (omega arith) ∙ sym (ap type_in (next_entry b i))
+fewer_objects b t types h = λ i lt. h (suc i) (omega arith) ∙ sym (ap type_told (next_entry b i))
 
 -- the first of the same lists are the same
 same_first : (x y : Owner) (xs ys : List Owner) → x ∷ xs ≡ y ∷ ys → x ≡ y

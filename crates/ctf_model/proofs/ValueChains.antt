@@ -8,7 +8,7 @@ use Rattle.ctf_model.specs.spaces.Space.{Space, space_type}
 use Rattle.ctf_model.specs.format.Term.{Term, Body, Member}
 use Rattle.ctf_model.specs.format.Term as term
 use Rattle.ctf_model.specs.values.ValueLaws.{ValuesAreTheirRules}
-use Rattle.ctf_model.specs.values.Values.{Shows, body_shown, by_rule, elements, found_shown, member_shown, most_values, shown_within}
+use Rattle.ctf_model.specs.values.Values.{Shows, body_shown, by_rule, each_element, found_shown, member_shown, most_values, shown_within}
 use Rattle.ctf_model.specs.declared.faults.Fault.{Fault}
 use Rattle.ctf_model.proofs.Settled.{all_map}
 use Rattle.ctf_model.proofs.ShortChains.{PassesOn, descend}
@@ -27,7 +27,7 @@ items_same : (f g : ℕ → Pieces) (is : List ℕ) → ((i : ℕ) → f i ≡ g
 items_same f g [] h = refl
 items_same f g (i ∷ is) h = rw (h i, items_same f g is h) refl
 
-elements_same : (f g : Shows) (p contents count : ℕ) (size : Result ℕ Fault) → Agree f g contents → elements f p contents count size ≡ elements g p contents count size
+elements_same : (f g : Shows) (p contents count : ℕ) (size : Result ℕ Fault) → Agree f g contents → each_element f p contents count size ≡ each_element g p contents count size
 elements_same f g p contents count (Ok size) h = items_same (λ i. f contents (p + 8 * size * i)) (λ i. g contents (p + 8 * size * i)) (range_with_len 0 count) (λ i. h (p + 8 * size * i))
 elements_same f g p contents count (Err fault) h = refl
 

@@ -7,7 +7,7 @@ use Rattle.std.proofs.lemmas.Bool.{leb-true, eqb-false, ne_eqb}
 use Rattle.ctf_model.specs.declared.faults.Fault.{Fault}
 use Rattle.ctf_model.specs.declared.kinds.Kind.{Kind}
 use Rattle.ctf_model.specs.format.Record.{head_len, is_long, variant_len, size, vlen, kind}
-use Rattle.ctf_model.specs.format.Section.{Piece, front_len, fitting, step, stop_code, walk}
+use Rattle.ctf_model.specs.format.Section.{Piece, front_len, fitting, record_or_stop, stop_code, walk}
 
 -- what fits is in range
 pub fitting_range : (room m n : ℕ) → fitting room m ≡ Some n → (m ≡ n) × (n ≤ room)
@@ -48,7 +48,7 @@ walk_ended zero index at b e = refl
 walk_ended (suc fuel) index at b e = rw e refl
 
 -- a step depends on what comes later, where a record begins the bytes
-step_same : (b : List ℕ) (index at : ℕ) (p q : ℕ → List (Result Piece Fault)) (r : Option ℕ) → ((n : ℕ) → r ≡ Some n → p n ≡ q n) → step b index at p r ≡ step b index at q r
+step_same : (b : List ℕ) (index at : ℕ) (p q : ℕ → List (Result Piece Fault)) (r : Option ℕ) → ((n : ℕ) → r ≡ Some n → p n ≡ q n) → record_or_stop b index at p r ≡ record_or_stop b index at q r
 step_same b index at p q None h = refl
 step_same b index at p q (Some n) h = ap (λ (later : List (Result Piece Fault)). Ok (record { index = index; at = at; bytes = take n b }) ∷ later) (h n refl)
 

@@ -2,7 +2,7 @@
 use Rattle.std.specs.Prelude.{◌≡◌, ◌<◌, ℕ, length, ◌&&◌, Bool, true, false, List, Option, Some, None, MatchOption, slice_get}
 use Rattle.std.specs.List.{list_any, Contains}
 use Rattle.std.specs.List.Sorted.{IsSortedBy}
-use Rattle.ctf_model.specs.format.Dictionary.{name_or_empty}
+use Rattle.ctf_model.specs.format.Dictionary.{text_or_empty}
 use Rattle.ctf_model.specs.names.Found.{same_tag, tag_of}
 use Rattle.ctf_model.specs.format.Name.{Tables, name}
 use Rattle.ctf_model.specs.format.Term.{Tag, Term}
@@ -41,6 +41,6 @@ pub record HasEntries (t : Tables) (tag : Option Tag) (terms : List Term) (count
 pub record AreInOrder (t : Tables) (tag : Option Tag) (terms : List Term) (o : Order) : Type 0 where
   pub has : HasEntries t tag terms (length terms) (entries_of o)
   pub named : (e : Entry) → Contains (entries_of o) e
-      → name t e.reference ≡ Some (name_or_empty t e.reference)
+      → name t e.reference ≡ Some (text_or_empty t e.reference)
   pub sorted : IsSortedBy (precedes (name t)) (entries_of o)
   pub ranked : AreRanked (name t) o

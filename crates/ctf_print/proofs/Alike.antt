@@ -3,14 +3,14 @@ use Rattle.std.proofs.Common.{◌≡◌, ℕ, zero, suc, ◌+◌, ◌*◌, ◌<�
 use Rattle.std.specs.List.{range_with_len}
 use Rattle.std.proofs.lemmas.Bool.{lt-ltb, eqb-false, ltb-true, ltb-false}
 use Rattle.ctf_model.specs.figures.Figures.{enum_size, incomplete, size}
-use Rattle.ctf_model.specs.values.MemoryBits.{field, short_memory, signed_value}
-use Rattle.ctf_model.specs.values.Pieces.{Pieces, ends, followed_by}
+use Rattle.ctf_model.specs.values.MemoryBits.{bit_field, short_memory, signed_value}
+use Rattle.ctf_model.specs.values.Pieces.{Pieces, ends, then_pieces}
 use Rattle.ctf_model.specs.dumps.Texts.{signed_decimal}
 use Rattle.ctf_model.specs.format.Shown.{EncodingParts, encoding_parts}
 use Rattle.ctf_model.specs.spaces.Space.{Space, pointer_size, space_type}
 use Rattle.ctf_model.specs.format.Term.{Body, Enumerator, Member, Term}
 use Rattle.ctf_model.specs.format.Term as term
-use Rattle.ctf_model.specs.values.Values.{Shows, body_shown, by_number, by_rule, elements, enum_shown, float_shown, found_shown, integer_shown, integer_value, label, member_shown, name_of_value, raw_shown, raw_text, shown_within}
+use Rattle.ctf_model.specs.values.Values.{Shows, body_shown, by_number, by_rule, each_element, enum_shown, float_shown, found_shown, integer_shown, integer_value, label, member_shown, name_of_value, raw_shown, raw_text, shown_within}
 use Rattle.ctf_model.specs.declared.data_model.DataModel.{DataModel}
 use Rattle.ctf_model.specs.declared.data_model.DataModel.TheVariants.{Lp64, Ilp32}
 use Rattle.ctf_model.specs.declared.faults.Fault.{Fault}
@@ -22,12 +22,12 @@ map_same f g (x ∷ xs) same = rw (same x, map_same f g xs same) refl
 -- ---- numbers
 
 -- past the memory no bit is there
-none_there : (memory : List ℕ) (p width : ℕ) → 8 * length memory ≤ p → 0 < width → field memory p width ≡ Err short_memory
+none_there : (memory : List ℕ) (p width : ℕ) → 8 * length memory ≤ p → 0 < width → bit_field memory p width ≡ Err short_memory
 none_there memory p width h some =
     let test : ltb (8 * length memory) (p + width) ≡ true = lt-ltb (8 * length memory) (p + width) (omega arith) in
     rw test refl
 
-number_alike : (text : ℕ → List ℕ) (memory : List ℕ) (p q width : ℕ) → 0 < width → 8 * length memory ≤ p → 8 * length memory ≤ q → by_number text (field memory p width) ≡ by_number text (field memory q width)
+number_alike : (text : ℕ → List ℕ) (memory : List ℕ) (p q width : ℕ) → 0 < width → 8 * length memory ≤ p → 8 * length memory ≤ q → by_number text (bit_field memory p width) ≡ by_number text (bit_field memory q width)
 number_alike text memory p q width some hp hq =
     let one = none_there memory p width hp some in
     let other = none_there memory q width hq some in
@@ -42,7 +42,7 @@ integer_alike memory p q x hp hq = at (eqb x.bits 0) refl
     text : ℕ → List ℕ
     text n = signed_decimal (integer_value x.encoding x.bits n)
 
-    wide : (0 < x.bits) → (t : Bool) → cond t (raw_shown memory (p + x.offset) x.bits) (by_number (λ n. signed_decimal (integer_value x.encoding x.bits n)) (field memory (p + x.offset) x.bits)) ≡ cond t (raw_shown memory (q + x.offset) x.bits) (by_number (λ n. signed_decimal (integer_value x.encoding x.bits n)) (field memory (q + x.offset) x.bits))
+    wide : (0 < x.bits) → (t : Bool) → cond t (raw_shown memory (p + x.offset) x.bits) (by_number (λ n. signed_decimal (integer_value x.encoding x.bits n)) (bit_field memory (p + x.offset) x.bits)) ≡ cond t (raw_shown memory (q + x.offset) x.bits) (by_number (λ n. signed_decimal (integer_value x.encoding x.bits n)) (bit_field memory (q + x.offset) x.bits))
     wide some true = raw_alike memory (p + x.offset) (q + x.offset) x.bits some hp hq
     wide some false = number_alike (λ n. signed_decimal (integer_value x.encoding x.bits n)) memory (p + x.offset) (q + x.offset) x.bits some hp hq
 
@@ -67,7 +67,7 @@ some_size said = at (ltb 0 said) refl
 enum_alike : (memory : List ℕ) (p q size : ℕ) (es : List Enumerator) → 0 < size → 8 * length memory ≤ p → 8 * length memory ≤ q → enum_shown memory p size es ≡ enum_shown memory q size es
 enum_alike memory p q size es some hp hq = at (ltb 8 size)
   where
-    at : (t : Bool) → cond t (raw_shown memory p (8 * size)) (by_number (λ n. name_of_value es (signed_value (8 * size) n)) (field memory p (8 * size))) ≡ cond t (raw_shown memory q (8 * size)) (by_number (λ n. name_of_value es (signed_value (8 * size) n)) (field memory q (8 * size)))
+    at : (t : Bool) → cond t (raw_shown memory p (8 * size)) (by_number (λ n. name_of_value es (signed_value (8 * size) n)) (bit_field memory p (8 * size))) ≡ cond t (raw_shown memory q (8 * size)) (by_number (λ n. name_of_value es (signed_value (8 * size) n)) (bit_field memory q (8 * size)))
     at true = raw_alike memory p q (8 * size) (omega arith) hp hq
     at false = number_alike (λ n. name_of_value es (signed_value (8 * size) n)) memory p q (8 * size) (omega arith) hp hq
 
@@ -81,13 +81,13 @@ pointer_alike Ilp32 memory p q hp hq = raw_alike memory p q 32 (omega arith) hp 
 abbrev Alike : List ℕ → Shows → Type 0
 Alike memory show = (n p q : ℕ) → 8 * length memory ≤ p → 8 * length memory ≤ q → show n p ≡ show n q
 
-elements_alike : (memory : List ℕ) (show : Shows) → Alike memory show → (p q contents count : ℕ) (size : Result ℕ Fault) → 8 * length memory ≤ p → 8 * length memory ≤ q → elements show p contents count size ≡ elements show q contents count size
+elements_alike : (memory : List ℕ) (show : Shows) → Alike memory show → (p q contents count : ℕ) (size : Result ℕ Fault) → 8 * length memory ≤ p → 8 * length memory ≤ q → each_element show p contents count size ≡ each_element show q contents count size
 elements_alike memory show same p q contents count (Err f) hp hq = refl
 elements_alike memory show same p q contents count (Ok size) hp hq =
     map_same (λ i. show contents (p + 8 * size * i)) (λ i. show contents (q + 8 * size * i)) (range_with_len 0 count) (λ i. same contents (p + 8 * size * i) (q + 8 * size * i) (omega arith) (omega arith))
 
 members_alike : (memory : List ℕ) (show : Shows) → Alike memory show → (p q : ℕ) (ms : List Member) → 8 * length memory ≤ p → 8 * length memory ≤ q → map (member_shown show p) ms ≡ map (member_shown show q) ms
-members_alike memory show same p q ms hp hq = map_same (member_shown show p) (member_shown show q) ms (λ m. ap (followed_by (label m.name)) (same m.tnum (p + m.offset) (q + m.offset) (omega arith) (omega arith)))
+members_alike memory show same p q ms hp hq = map_same (member_shown show p) (member_shown show q) ms (λ m. ap (then_pieces (label m.name)) (same m.tnum (p + m.offset) (q + m.offset) (omega arith) (omega arith)))
 
 body_alike : (s : Space) (memory : List ℕ) (show : Shows) → Alike memory show → (p q : ℕ) (body : Body) → 8 * length memory ≤ p → 8 * length memory ≤ q → body_shown s memory show p body ≡ body_shown s memory show q body
 body_alike s memory show same p q (term.integer x) hp hq = integer_alike memory p q (encoding_parts x) (omega arith) (omega arith)

@@ -5,7 +5,7 @@ use Rattle.std.proofs.lemmas.Nat.{pow-add, mod-pow-add, div-mul-add}
 use Rattle.std.proofs.lemmas.Bool.{ltb-true, ltb-false}
 use Rattle.ctf_model.specs.format.Bytes.{number}
 use Rattle.ctf_model.specs.values.MemoryBits.{bits_at, hexadecimal}
-use Rattle.ctf_model.specs.values.Pieces.{followed_by, nothing, piece}
+use Rattle.ctf_model.specs.values.Pieces.{then_pieces, no_pieces, piece}
 use Rattle.ctf_model.specs.dumps.Texts.{hex_of_byte}
 
 -- ---- powers
@@ -89,8 +89,8 @@ unfolding hexadecimal
 no_digits n = refl
 
 -- a piece in two
-pub joined_piece : (a b : List ℕ) → piece (a ++ b) ≡ followed_by (piece a) (piece b)
-unfolding followed_by
+pub joined_piece : (a b : List ℕ) → piece (a ++ b) ≡ then_pieces (piece a) (piece b)
+unfolding then_pieces
 joined_piece a b = refl
 
 -- ---- halves
@@ -103,12 +103,12 @@ halves (suc k) h = let e : suc k - 1 ≡ k = omega arith in rw e (bit_power k)
 -- ---- digits that are left
 
 -- those of the highest byte that is left, and then the others
-pub digits_left : (count i n : ℕ) → i < count → piece (hexadecimal (count - i) n) ≡ followed_by (piece (hex_of_byte (n / 256 ^ (count - 1 - i) % 256))) (piece (hexadecimal (count - (i + 1)) n))
+pub digits_left : (count i n : ℕ) → i < count → piece (hexadecimal (count - i) n) ≡ then_pieces (piece (hex_of_byte (n / 256 ^ (count - 1 - i) % 256))) (piece (hexadecimal (count - (i + 1)) n))
 digits_left count i n h =
     let more : count - i ≡ suc (count - 1 - i) = omega arith in
     let less : count - (i + 1) ≡ count - 1 - i = omega arith in
     rw (more, less) (ap piece (high_first (count - 1 - i) n) ∙ joined_piece (hex_of_byte (n / 256 ^ (count - 1 - i) % 256)) (hexadecimal (count - 1 - i) n))
 
-pub none_left : (count i n : ℕ) → count ≤ i → piece (hexadecimal (count - i) n) ≡ nothing
+pub none_left : (count i n : ℕ) → count ≤ i → piece (hexadecimal (count - i) n) ≡ no_pieces
 unfolding hexadecimal
 none_left count i n h = let e : count - i ≡ 0 = omega arith in rw e refl

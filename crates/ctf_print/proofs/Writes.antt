@@ -5,11 +5,11 @@ use Rattle.std.proofs.lemmas.List.{append-nil, drop_more, drop_all, length-map}
 use Rattle.std.specs.Prelude.{slice_get}
 use Rattle.std.specs.List.{range_with_len}
 use Rattle.std.proofs.lemmas.List.FromFn.{length-map-range_with_len, get_or-map-range_with_len}
-use Rattle.ctf_model.specs.values.Pieces.{Pieces, piece, nothing, ends, goes_on, followed_by, each_behind_comma, separated, answered, ended_by}
+use Rattle.ctf_model.specs.values.Pieces.{Pieces, piece, no_pieces, ends, goes_on, then_pieces, each_behind_comma, separated, answered, ended_by}
 use Rattle.ctf_model.specs.rules.Refusals.{want_of_memory}
 use Rattle.ctf_model.specs.spaces.Space.{Space}
 use Rattle.ctf_model.specs.names.TypeNames.{longest_text, too_long}
-use Rattle.ctf_model.specs.values.Values.{Shows, elements, label, most_values, shown_within, value_text}
+use Rattle.ctf_model.specs.values.Values.{Shows, each_element, label, most_values, shown_within, value_text}
 use Rattle.ctf_model.specs.declared.faults.Fault.{Fault}
 use Rattle.ctf_print.specs.Written.{written, comma_before, separated_from, Refused}
 
@@ -25,8 +25,8 @@ went true fault text now h = absurd cc
 went false None text now h = record { short = refl; done = refl; all = cc }
 went false (Some f) text now h = absurd cc
 
-pub next_ok : (old now : List ℕ) (a b : Pieces) → written old a ≡ Ok now → written old (followed_by a b) ≡ written now b
-unfolding written followed_by
+pub next_ok : (old now : List ℕ) (a b : Pieces) → written old a ≡ Ok now → written old (then_pieces a b) ≡ written now b
+unfolding written then_pieces
 next_ok old now a b h =
     let w = went (ltb longest_text (length (old ++ a.text))) a.fault (old ++ a.text) now h in
     rw w.done (rw (← w.all) (rw append_assoc refl))
@@ -43,14 +43,14 @@ next_err_case old text None b f h = none_case (ltb longest_text (length (old ++ 
         rw longer e
     none_case false test e = absurd cc
 
-pub next_err : (old : List ℕ) (a b : Pieces) (f : Fault) → written old a ≡ Err f → written old (followed_by a b) ≡ Err f
-unfolding followed_by
+pub next_err : (old : List ℕ) (a b : Pieces) (f : Fault) → written old a ≡ Err f → written old (then_pieces a b) ≡ Err f
+unfolding then_pieces
 next_err old a b f h = next_err_case old a.text a.fault b f h
 
 -- ---- nothing more
 
-pub next_nothing : (old now : List ℕ) (b : Pieces) → written old b ≡ written old (followed_by nothing b)
-unfolding followed_by
+pub next_nothing : (old now : List ℕ) (b : Pieces) → written old b ≡ written old (then_pieces no_pieces b)
+unfolding then_pieces
 next_nothing old now b = refl
 
 -- ---- commas
@@ -62,13 +62,13 @@ behind_is i (x ∷ xs) h =
     rw some (rw (behind_is (i + 1) xs (omega arith)) refl)
 
 pub separated_is : (xs : List Pieces) → separated xs ≡ separated_from 0 xs
-unfolding followed_by
+unfolding then_pieces
 separated_is [] = refl
 separated_is (x ∷ xs) = rw (behind_is 1 xs (omega arith)) refl
 
 -- ---- what is refused
 
-pub refused_first : (old : List ℕ) (a b : Pieces) (f : Fault) → Refused old a f → Refused old (followed_by a b) f
+pub refused_first : (old : List ℕ) (a b : Pieces) (f : Fault) → Refused old a f → Refused old (then_pieces a b) f
 refused_first old a b f (inl memory) = inl memory
 refused_first old a b f (inr is) = inr (next_err old a b f is)
 
@@ -76,7 +76,7 @@ pub refused_as : (old now : List ℕ) (a b : Pieces) (f : Fault) → written old
 refused_as old now a b f same (inl memory) = inl memory
 refused_as old now a b f same (inr is) = inr (same ∙ is)
 
-pub nothing_written : (old : List ℕ) → length old ≤ longest_text → written old nothing ≡ Ok old
+pub nothing_written : (old : List ℕ) → length old ≤ longest_text → written old no_pieces ≡ Ok old
 unfolding written
 nothing_written old h =
     let same : old ++ [] ≡ old = append-nil old in
@@ -95,27 +95,27 @@ fault_written old f h =
 element_at : (f : ℕ → Pieces) (count i : ℕ) → i < count → drop i (map f (range_with_len 0 count)) ≡ f i ∷ drop (i + 1) (map f (range_with_len 0 count))
 element_at f count i h =
     let inside : i < length (map f (range_with_len 0 count)) = omega (arith, length-map-range_with_len f 0 count) in
-    let here : get_or (map f (range_with_len 0 count)) i nothing ≡ f i = get_or-map-range_with_len f 0 count i i nothing h (omega arith) in
-    drop_more (map f (range_with_len 0 count)) i nothing inside ∙ ap (λ x. x ∷ drop (i + 1) (map f (range_with_len 0 count))) here
+    let here : get_or (map f (range_with_len 0 count)) i no_pieces ≡ f i = get_or-map-range_with_len f 0 count i i no_pieces h (omega arith) in
+    drop_more (map f (range_with_len 0 count)) i no_pieces inside ∙ ap (λ x. x ∷ drop (i + 1) (map f (range_with_len 0 count))) here
 
-pub at_element : (show : Shows) (p contents count size i : ℕ) (sized : Result ℕ Fault) → sized ≡ Ok size → i < count → separated_from i (drop i (elements show p contents count sized)) ≡ followed_by (comma_before i) (followed_by (show contents (p + 8 * size * i)) (separated_from (i + 1) (drop (i + 1) (elements show p contents count sized))))
+pub at_element : (show : Shows) (p contents count size i : ℕ) (sized : Result ℕ Fault) → sized ≡ Ok size → i < count → separated_from i (drop i (each_element show p contents count sized)) ≡ then_pieces (comma_before i) (then_pieces (show contents (p + 8 * size * i)) (separated_from (i + 1) (drop (i + 1) (each_element show p contents count sized))))
 at_element show p contents count size i sized e h =
     rw e (rw (element_at (λ j. show contents (p + 8 * size * j)) count i h) refl)
 
-pub no_more : (show : Shows) (p contents count size i : ℕ) (sized : Result ℕ Fault) → sized ≡ Ok size → count ≤ i → separated_from i (drop i (elements show p contents count sized)) ≡ nothing
+pub no_more : (show : Shows) (p contents count size i : ℕ) (sized : Result ℕ Fault) → sized ≡ Ok size → count ≤ i → separated_from i (drop i (each_element show p contents count sized)) ≡ no_pieces
 no_more show p contents count size i sized e h =
     let none : drop i (map (λ j. show contents (p + 8 * size * j)) (range_with_len 0 count)) ≡ [] = drop_all i (map (λ j. show contents (p + 8 * size * j)) (range_with_len 0 count)) (omega (arith, length-map-range_with_len (λ j. show contents (p + 8 * size * j)) 0 count)) in
     rw e (rw none refl)
 
-pub no_size : (show : Shows) (p contents count : ℕ) (sized : Result ℕ Fault) (fault : Fault) → sized ≡ Err fault → separated (elements show p contents count sized) ≡ ends fault
-unfolding followed_by
+pub no_size : (show : Shows) (p contents count : ℕ) (sized : Result ℕ Fault) (fault : Fault) → sized ≡ Err fault → separated (each_element show p contents count sized) ≡ ends fault
+unfolding then_pieces
 no_size show p contents count sized fault e = rw e refl
 
 -- the first element shows why none is shown
-pub none_found : (show : Shows) (p contents count size : ℕ) (sized : Result ℕ Fault) (fault : Fault) → sized ≡ Ok size → 0 < count → ((q : ℕ) → show contents q ≡ ends fault) → separated (elements show p contents count sized) ≡ ends fault
-unfolding followed_by
+pub none_found : (show : Shows) (p contents count size : ℕ) (sized : Result ℕ Fault) (fault : Fault) → sized ≡ Ok size → 0 < count → ((q : ℕ) → show contents q ≡ ends fault) → separated (each_element show p contents count sized) ≡ ends fault
+unfolding then_pieces
 none_found show p contents count size sized fault e some none =
-    separated_is (elements show p contents count sized) ∙ at_element show p contents count size 0 sized e some ∙ rw (none (p + 8 * size * 0)) refl
+    separated_is (each_element show p contents count sized) ∙ at_element show p contents count size 0 sized e some ∙ rw (none (p + 8 * size * 0)) refl
 
 -- ---- members
 
@@ -124,10 +124,10 @@ member_at f (y ∷ xs) zero x h = let same : y ≡ x = cc in rw same refl
 member_at f (y ∷ xs) (suc i) x h = let e : suc i + 1 ≡ suc (i + 1) = omega arith in rw e (member_at f xs i x h)
 member_at f [] i x h = absurd cc
 
-pub at_member : {A : Type 0} (f : A → Pieces) (xs : List A) (i : ℕ) (x : A) → slice_get xs i ≡ Some x → separated_from i (drop i (map f xs)) ≡ followed_by (comma_before i) (followed_by (f x) (separated_from (i + 1) (drop (i + 1) (map f xs))))
+pub at_member : {A : Type 0} (f : A → Pieces) (xs : List A) (i : ℕ) (x : A) → slice_get xs i ≡ Some x → separated_from i (drop i (map f xs)) ≡ then_pieces (comma_before i) (then_pieces (f x) (separated_from (i + 1) (drop (i + 1) (map f xs))))
 at_member f xs i x h = rw (member_at f xs i x h) refl
 
-pub some_member : {A : Type 0} (f : A → Pieces) (xs : List A) (i : ℕ) → i < length xs → (x : A) × (separated_from i (drop i (map f xs)) ≡ followed_by (comma_before i) (followed_by (f x) (separated_from (i + 1) (drop (i + 1) (map f xs)))))
+pub some_member : {A : Type 0} (f : A → Pieces) (xs : List A) (i : ℕ) → i < length xs → (x : A) × (separated_from i (drop i (map f xs)) ≡ then_pieces (comma_before i) (then_pieces (f x) (separated_from (i + 1) (drop (i + 1) (map f xs)))))
 some_member {A = A} f [] i h = absurd (omega arith)
 some_member {A = A} f (x ∷ xs) i h = at (slice_get (x ∷ xs) i) refl
   where
@@ -136,23 +136,23 @@ some_member {A = A} f (x ∷ xs) i h = at (slice_get (x ∷ xs) i) refl
     there (y ∷ ys) zero h e = cc
     there (y ∷ ys) (suc j) h e = there ys j (omega arith) e
 
-    at : (o : Option A) → slice_get (x ∷ xs) i ≡ o → (y : A) × (separated_from i (drop i (map f (x ∷ xs))) ≡ followed_by (comma_before i) (followed_by (f y) (separated_from (i + 1) (drop (i + 1) (map f (x ∷ xs))))))
+    at : (o : Option A) → slice_get (x ∷ xs) i ≡ o → (y : A) × (separated_from i (drop i (map f (x ∷ xs))) ≡ then_pieces (comma_before i) (then_pieces (f y) (separated_from (i + 1) (drop (i + 1) (map f (x ∷ xs))))))
     at (Some y) e = (y, at_member f (x ∷ xs) i y e)
     at None e = absurd (there (x ∷ xs) i h e)
 
-pub no_more_members : {A : Type 0} (f : A → Pieces) (xs : List A) (i : ℕ) → length xs ≤ i → separated_from i (drop i (map f xs)) ≡ nothing
+pub no_more_members : {A : Type 0} (f : A → Pieces) (xs : List A) (i : ℕ) → length xs ≤ i → separated_from i (drop i (map f xs)) ≡ no_pieces
 no_more_members f xs i h = rw (drop_all i (map f xs) (omega (arith, length-map xs f))) refl
 
 -- ---- one after the other
 
-pub two_ok : (old now : List ℕ) (whole a b rest : Pieces) → written old whole ≡ written now (followed_by a (followed_by b rest)) → (middle : List ℕ) → written now a ≡ Ok middle → (last : List ℕ) → written middle b ≡ Ok last → written old whole ≡ written last rest
-two_ok old now whole a b rest is middle ha last hb = is ∙ (next_ok now middle a (followed_by b rest) ha ∙ next_ok middle last b rest hb)
+pub two_ok : (old now : List ℕ) (whole a b rest : Pieces) → written old whole ≡ written now (then_pieces a (then_pieces b rest)) → (middle : List ℕ) → written now a ≡ Ok middle → (last : List ℕ) → written middle b ≡ Ok last → written old whole ≡ written last rest
+two_ok old now whole a b rest is middle ha last hb = is ∙ (next_ok now middle a (then_pieces b rest) ha ∙ next_ok middle last b rest hb)
 
-pub second_refused : (old now : List ℕ) (whole a b rest : Pieces) (f : Fault) → written old whole ≡ written now (followed_by a (followed_by b rest)) → (middle : List ℕ) → written now a ≡ Ok middle → Refused middle b f → Refused old whole f
-second_refused old now whole a b rest f is middle ha hb = refused_as old middle whole (followed_by b rest) f (is ∙ next_ok now middle a (followed_by b rest) ha) (refused_first middle b rest f hb)
+pub second_refused : (old now : List ℕ) (whole a b rest : Pieces) (f : Fault) → written old whole ≡ written now (then_pieces a (then_pieces b rest)) → (middle : List ℕ) → written now a ≡ Ok middle → Refused middle b f → Refused old whole f
+second_refused old now whole a b rest f is middle ha hb = refused_as old middle whole (then_pieces b rest) f (is ∙ next_ok now middle a (then_pieces b rest) ha) (refused_first middle b rest f hb)
 
-pub first_refused : (old now : List ℕ) (whole a rest : Pieces) (f : Fault) → written old whole ≡ written now (followed_by a rest) → Refused now a f → Refused old whole f
-first_refused old now whole a rest f is ha = refused_as old now whole (followed_by a rest) f is (refused_first now a rest f ha)
+pub first_refused : (old now : List ℕ) (whole a rest : Pieces) (f : Fault) → written old whole ≡ written now (then_pieces a rest) → Refused now a f → Refused old whole f
+first_refused old now whole a rest f is ha = refused_as old now whole (then_pieces a rest) f is (refused_first now a rest f ha)
 
 pub later_refused : (r : Result (Unit {0}) Fault) (old now : List ℕ) (a b : Pieces) → written old a ≡ written now b → IfErr r (Refused now b) → IfErr r (Refused old a)
 later_refused (Ok x) old now a b same h = h
@@ -160,11 +160,11 @@ later_refused (Err f) old now a b same h = refused_as old now a b f same h
 
 -- ---- a name
 
-pub label_some : (name : List ℕ) → (length name ≡ 0 → ⊥) → label name ≡ followed_by (piece name) (piece (codes " = "))
+pub label_some : (name : List ℕ) → (length name ≡ 0 → ⊥) → label name ≡ then_pieces (piece name) (piece (codes " = "))
 label_some [] h = absurd (h refl)
 label_some (x ∷ name) h = refl
 
-pub label_none : (name : List ℕ) → length name ≡ 0 → label name ≡ nothing
+pub label_none : (name : List ℕ) → length name ≡ 0 → label name ≡ no_pieces
 label_none [] h = refl
 label_none (x ∷ name) h = absurd (omega arith)
 

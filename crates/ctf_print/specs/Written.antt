@@ -1,6 +1,6 @@
 -- What is shown, as it is put behind a text. The words are ours.
 use Rattle.std.specs.Prelude.{◌≡◌, ◌⊎◌, ℕ, ◌+◌, ◌==◌, ◌++◌, nat_lt, List, [], ◌∷◌, length, Result, Ok, Err, codes, if◌then◌else◌}
-use Rattle.ctf_model.specs.values.Pieces.{Pieces, piece, nothing, followed_by, ended_by}
+use Rattle.ctf_model.specs.values.Pieces.{Pieces, piece, no_pieces, then_pieces, ended_by}
 use Rattle.ctf_model.specs.rules.Refusals.{want_of_memory}
 use Rattle.ctf_model.specs.names.TypeNames.{longest_text, too_long}
 use Rattle.ctf_model.specs.declared.faults.Fault.{Fault}
@@ -17,12 +17,12 @@ Refused old pieces fault = (fault ≡ want_of_memory) ⊎ (written old pieces �
 
 -- what stands before the item with a number, from 0
 abbrev pub comma_before : ℕ → Pieces
-comma_before i = if i == 0 then nothing else piece (codes ", ")
+comma_before i = if i == 0 then no_pieces else piece (codes ", ")
 
 -- the items that are left, from the one with a number on, with the commas between all of them
 abbrev pub separated_from : ℕ → List Pieces → Pieces
-separated_from i [] = nothing
-separated_from i (x ∷ xs) = followed_by (comma_before i) (followed_by x (separated_from (i + 1) xs))
+separated_from i [] = no_pieces
+separated_from i (x ∷ xs) = then_pieces (comma_before i) (then_pieces x (separated_from (i + 1) xs))
 
 -- old bytes with an answer behind them
 abbrev pub added : List ℕ → Result (List ℕ) Fault → Result (List ℕ) Fault

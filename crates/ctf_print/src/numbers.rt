@@ -1,6 +1,6 @@
 //! Numbers in memory, and how they are shown as they are.
 ghost use Rattle.std.specs.Prelude.{◌≡◌, ◌+◌, ◌-◌, ◌*◌, ◌≤◌, ◌<◌, ◌^◌, ◌/◌, ◌%◌, length, nat_le, IfErr, OnOk, Ok};
-ghost use Rattle.ctf_model.specs.values.MemoryBits.{bits_at, field as field_of, hexadecimal, started_bytes};
+ghost use Rattle.ctf_model.specs.values.MemoryBits.{bits_at, bit_field as field_of, hexadecimal, started_bytes};
 ghost use Rattle.ctf_model.specs.values.Pieces.{piece};
 ghost use Rattle.ctf_model.specs.dumps.Texts.{hex_digit as hex_digit_of, hex_of_byte};
 ghost use Rattle.ctf_model.specs.values.Values.{raw_shown};

@@ -1,6 +1,6 @@
 //! A text of bounded length, and how pieces are put behind it.
 ghost use Rattle.std.specs.Prelude.{◌≡◌, ◌+◌, ◌≤◌, ◌++◌, [], length, vec_capacity, vec_len, IfErr, IsOk, IsTrue, OnOk, Err, Ok};
-ghost use Rattle.ctf_model.specs.values.Pieces.{ends, nothing, piece};
+ghost use Rattle.ctf_model.specs.values.Pieces.{ends, no_pieces, piece};
 ghost use Rattle.ctf_model.specs.values.Values.{label};
 ghost use Rattle.ctf_print.specs.Written.{Refused, comma_before, written};
 
@@ -97,8 +97,8 @@ impl Text {
     #[tactic(auto, unfolding(crate::specs::Written::written), using(crate::proofs::Writes::nothing_written))]
     pub fn put_nothing(&mut self) -> Result<(), Fault>
         ensures done { IsOk result }
-        ensures ok { OnOk result (written self.old nothing ≡ Ok self.new) }
-        ensures err { IfErr result (Refused self.old nothing) }
+        ensures ok { OnOk result (written self.old no_pieces ≡ Ok self.new) }
+        ensures err { IfErr result (Refused self.old no_pieces) }
     {
         let _ = &self.bytes;
         Ok(())

@@ -9,9 +9,11 @@ use Rattle.ctf_model.specs.spaces.Kept.{Kept}
 use Rattle.ctf_model.specs.declared.faults.TheConstants.Fault.{QUOTA_FULL}
 use Rattle.ctf_protocol.specs.sessions.Charges.{charge, publication_bytes, slot_bytes}
 use Rattle.ctf_model.specs.opened.Sizes.{kept_bytes, lists_bytes, parent_bytes}
-use Rattle.ctf_protocol.specs.sessions.DraftSteps.{slots_with}
+use Rattle.ctf_protocol.specs.sessions.Slots.{slots_with}
 use Rattle.ctf_protocol.specs.sessions.State.{Publication, Slot, State}
-use Rattle.ctf_protocol.specs.sessions.Steps.{Outcome, quota, refuses, slot_at, slots_with_parent, slots_without, staged, with_staged, within_quota}
+use Rattle.ctf_protocol.specs.sessions.Outcomes.{Outcome, quota, refuses, within_quota}
+use Rattle.ctf_protocol.specs.sessions.Slots.{slot_at, slots_with_parent, slots_without}
+use Rattle.ctf_protocol.specs.sessions.Steps.{staged, with_staged}
 use Rattle.ctf_protocol.specs.declared.requests.ListName.{ListName}
 use Rattle.ctf_protocol.specs.declared.requests.ListName.TheVariants.{Ctf, Sym, Str}
 

@@ -7,7 +7,9 @@ use Rattle.ctf_protocol.specs.sessions.Charges.{charge}
 use Rattle.ctf_protocol.specs.sessions.ChargeLaws.{RequestsStayWithinQuota}
 use Rattle.ctf_protocol.specs.sessions.RefusalLaws.{RefusalsAreInTheTable, RefusalsChangeNothing}
 use Rattle.ctf_protocol.specs.sessions.State.{State}
-use Rattle.ctf_protocol.specs.sessions.Steps.{change_step, quota, slot_at, step}
+use Rattle.ctf_protocol.specs.sessions.Outcomes.{quota}
+use Rattle.ctf_protocol.specs.sessions.Slots.{slot_at}
+use Rattle.ctf_protocol.specs.sessions.Steps.{change_step, step}
 use Rattle.ctf_protocol.specs.declared.requests.Change.{Change}
 use Rattle.ctf_protocol.specs.declared.requests.Change.TheVariants as change
 use Rattle.ctf_protocol.specs.declared.requests.Request.{Request}

@@ -6,7 +6,7 @@ use Rattle.std.specs.Cmp.Derive.{both_true}
 use Rattle.std.proofs.lemmas.List.{take-append-drop}
 use Rattle.std.proofs.lemmas.List.Folds.{list_all-append}
 use Rattle.ctf_model.specs.opened.Questions.{array_answered, encoding_answered, enumerators_answered, members_answered, signature_answered}
-use Rattle.ctf_protocol.specs.sessions.Additions.{added, answered}
+use Rattle.ctf_protocol.specs.sessions.Additions.{added, addition_answered}
 use Rattle.ctf_protocol.specs.sessions.Creations.{Created}
 use Rattle.ctf_protocol.specs.sessions.DraftSteps.{created_slot, slot_step}
 use Rattle.ctf_protocol.specs.sessions.Opened.{SlotOutcome, open_of, slot_stepped}
@@ -29,7 +29,11 @@ use Rattle.ctf_model.specs.symbols.SymbolQuestions.{symbol_found, object_of, fun
 use Rattle.ctf_model.specs.format.Shown.{Facts, facts, list_length, named_arguments}
 use Rattle.ctf_protocol.specs.sessions.Charges.{charge}
 use Rattle.ctf_protocol.specs.sessions.State.{State, Slot}
-use Rattle.ctf_protocol.specs.sessions.Steps.{with_slot, grants, slots_without, imports_unless, publishes_kept, publishes_within, publishes_slot, within_quota, quota, becomes_by, updates_within, Outcome, withdraws, imports_into, takes, takes_found, adds_created, creates_over, creates_from, stages, opens, opens_unless, has_room, accepts_unless, longest_list, slot_at, slot_space, said_by_slot}
+use Rattle.ctf_protocol.proofs.StepWords.{with_slot, imports_unless, publishes_within, publishes_slot, imports_into, takes_found, adds_created, creates_over, creates_from, opens_unless, accepts_unless}
+use Rattle.ctf_protocol.specs.sessions.Outcomes.{grants, within_quota, quota, Outcome}
+use Rattle.ctf_protocol.specs.sessions.SlotQuestions.{slot_space, said_by_slot}
+use Rattle.ctf_protocol.specs.sessions.Slots.{slots_without, has_room, slot_at}
+use Rattle.ctf_protocol.specs.sessions.Steps.{publishes_kept, becomes_by, updates_within, withdraws, takes, stages, opens, longest_list}
 use Rattle.ctf_model.specs.spaces.Space.{Space, space_type}
 use Rattle.ctf_model.specs.format.Term.{Term}
 use Rattle.ctf_model.specs.names.TypeNames.{spelled_name}
@@ -220,7 +224,7 @@ stepped : (say : ℕ → Answer) (slot : Slot) → ((n : ℕ) → in_order (say 
 stepped say slot good (Ok step) = good step.answer
 stepped say slot good (Err fault) = tt
 
-adding : (addition : Addition) (n : ℕ) → in_order (answered addition n) ≡ true
+adding : (addition : Addition) (n : ℕ) → in_order (addition_answered addition n) ≡ true
 adding (add.Type name root kind) n = refl
 adding (add.Member t name tnum offset) n = refl
 adding (add.Enumerator t name value) n = refl
@@ -228,7 +232,7 @@ adding (add.Label name last) n = refl
 
 of_draft : (step : DraftStep) (slot : Slot) → IsInOrder (slot_step step slot).said
 unfolding slot_step
-of_draft (steps.Add addition) slot = stepped (answered addition) slot (adding addition) (added addition (open_of slot))
+of_draft (steps.Add addition) slot = stepped (addition_answered addition) slot (adding addition) (added addition (open_of slot))
 of_draft steps.Update slot = stepped _ slot (λ n. refl) (updated (open_of slot))
 of_draft steps.Discard slot = stepped _ slot (λ n. refl) (dropped (open_of slot))
 

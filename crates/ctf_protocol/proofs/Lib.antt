@@ -1,3 +1,4 @@
+pub mod StepWords
 pub mod Charged
 pub mod EachChange
 pub mod KeyOrder

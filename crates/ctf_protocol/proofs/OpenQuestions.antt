@@ -12,7 +12,7 @@ use Rattle.ctf_model.specs.values.Values.{value_text}
 use Rattle.ctf_protocol.specs.answers.Questions.{align_fields, array_fields, as_fields, encoding_fields, enumerator_fields, kind_fields, member_fields, name_fields, position_fields, signature_fields, size_fields, type_fields, value_fields}
 use Rattle.ctf_protocol.specs.answers.Questions.{answer_of}
 use Rattle.ctf_protocol.specs.sessions.OpenLaws.{FiguresAreAsked, TypesAreAsked, WholesAreAsked}
-use Rattle.ctf_protocol.specs.sessions.Steps.{slot_space}
+use Rattle.ctf_protocol.specs.sessions.SlotQuestions.{slot_space}
 use Rattle.ctf_protocol.specs.declared.questions.PlainQuestion.TheVariants as plain
 use Rattle.ctf_protocol.specs.declared.questions.TypeQuestion.TheVariants as ask
 use Rattle.ctf_protocol.specs.declared.questions.Window.{Window}

@@ -13,5 +13,5 @@ steps_are_made = record {
   update = λ s. refl;
   discard = λ s. refl;
   create = λ n above asked. refl;
-  import = λ child parent d state. refl;
+  import = λ child parent d p state e f. rw (e, f) refl;
 }

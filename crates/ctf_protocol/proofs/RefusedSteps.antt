@@ -8,14 +8,18 @@ use Rattle.ctf_model.specs.declared.faults.Fault.{Fault}
 use Rattle.ctf_protocol.specs.answers.Answers.{Answer}
 use Rattle.ctf_model.specs.opened.Open.{pending_in}
 use Rattle.ctf_model.specs.opened.Steps.{Stepped, dropped, import_refusal, updated}
-use Rattle.ctf_protocol.specs.sessions.Additions.{added, answered}
+use Rattle.ctf_protocol.specs.sessions.Additions.{added, addition_answered}
 use Rattle.ctf_protocol.specs.sessions.Charges.{charge}
 use Rattle.ctf_protocol.specs.sessions.Creations.{Created}
-use Rattle.ctf_protocol.specs.sessions.DraftSteps.{created_slot, slot_step, slots_with}
+use Rattle.ctf_protocol.specs.sessions.DraftSteps.{created_slot, slot_step}
+use Rattle.ctf_protocol.specs.sessions.Slots.{slots_with}
 use Rattle.ctf_protocol.specs.sessions.Opened.{SlotOutcome, open_of, slot_stepped}
 use Rattle.ctf_protocol.specs.sessions.Publications.{published_as}
 use Rattle.ctf_protocol.specs.sessions.State.{Slot, State}
-use Rattle.ctf_protocol.specs.sessions.Steps.{Outcome, accepts_unless, adds_created, becomes_by, creates_from, creates_over, grants, has_room, imports_into, imports_unless, longest_list, opens, opens_unless, publishes_slot, publishes_within, quota, slot_at, slot_becomes, slots_without, stages, takes, takes_found, updates_within, with_slot, withdraws, within_quota}
+use Rattle.ctf_protocol.proofs.StepWords.{accepts_unless, adds_created, creates_from, creates_over, imports_into, imports_unless, opens_unless, publishes_slot, publishes_within, takes_found, with_slot}
+use Rattle.ctf_protocol.specs.sessions.Outcomes.{Outcome, grants, quota, within_quota}
+use Rattle.ctf_protocol.specs.sessions.Slots.{has_room, slot_at, slots_without}
+use Rattle.ctf_protocol.specs.sessions.Steps.{becomes_by, longest_list, opens, slot_becomes, stages, takes, updates_within, withdraws}
 use Rattle.ctf_protocol.specs.declared.requests.DraftStep.{DraftStep}
 use Rattle.ctf_protocol.specs.declared.requests.DraftStep.TheVariants as steps
 use Rattle.ctf_protocol.specs.declared.requests.ListName.{ListName}
@@ -121,7 +125,7 @@ stepped say slot (Err fault) f e = refl
 
 of_slot : (x : DraftStep) (slot : Slot) → Same slot (slot_step x slot)
 unfolding slot_step
-of_slot (steps.Add addition) slot = stepped (answered addition) slot (added addition (open_of slot))
+of_slot (steps.Add addition) slot = stepped (addition_answered addition) slot (added addition (open_of slot))
 of_slot steps.Update slot = stepped _ slot (updated (open_of slot))
 of_slot steps.Discard slot = stepped _ slot (dropped (open_of slot))
 

@@ -8,7 +8,8 @@ use Rattle.ctf_protocol.specs.sessions.Publications.{published_as}
 use Rattle.ctf_protocol.specs.sessions.Runs.{Call, Given, Steps, IsGranted, IsRefused, given, found_in, own_state, own_replies, addressed, private_state, private_replies, taken_by}
 use Rattle.ctf_protocol.specs.sessions.SessionLaws.{SameGiven, UnreachedDoNotMatter, is_among, TakesFrom, IsClosed, calls_among, Event, Happens, IsReplied, EachStepHappens, granted, calls_of, replies_to, EachRunsAlone}
 use Rattle.ctf_protocol.specs.sessions.State.{State}
-use Rattle.ctf_protocol.specs.sessions.Steps.{step, Outcome}
+use Rattle.ctf_protocol.specs.sessions.Outcomes.{Outcome}
+use Rattle.ctf_protocol.specs.sessions.Steps.{step}
 use Rattle.ctf_protocol.specs.declared.requests.Request.{Request}
 
 -- ---- two worlds

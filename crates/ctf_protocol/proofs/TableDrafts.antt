@@ -16,7 +16,7 @@ use Rattle.ctf_model.specs.rules.Faults.{first_broken, first_fault, rules}
 use Rattle.ctf_model.specs.rules.Judgements.{first_met, ◌then◌}
 use Rattle.ctf_model.specs.spaces.Imports.{Import, Modelled, first_against, import_fault, import_rules, Rule}
 use Rattle.ctf_model.specs.spaces.Space.{Space, space_type}
-use Rattle.ctf_model.specs.writing.Written.{bytes_of, bytes_unless, deep_by, too_big, unwritten, written}
+use Rattle.ctf_model.specs.writing.Written.{bytes_of, bytes_unless, deep_by, dictionary_too_big, unwritten, written}
 use Rattle.ctf_model.specs.declared.data_model.DataModel.{DataModel}
 use Rattle.ctf_model.specs.declared.faults.Fault.{Fault}
 use Rattle.ctf_model.specs.declared.faults.TheConstants.Fault.{DECL_DEEP, DICT_TOO_BIG, VALUE_DEEP}
@@ -123,7 +123,7 @@ label_added d x = unless_good (first_met (against_label d x.name)) (Ok (with_lab
 
 not_written : (d : Dictionary) → good_fault (unwritten d) ≡ true
 unfolding unwritten
-not_written d = later VALUE_DEEP (deep_by by_value d) _ refl (later DECL_DEEP (deep_by declarator d) _ refl (later DICT_TOO_BIG (too_big d) None refl refl))
+not_written d = later VALUE_DEEP (deep_by by_value d) _ refl (later DECL_DEEP (deep_by declarator d) _ refl (later DICT_TOO_BIG (dictionary_too_big d) None refl refl))
 
 bytes_good : (fault : Option Fault) (bytes : List ℕ) → good_fault fault ≡ true → good (bytes_unless fault bytes) ≡ true
 bytes_good None bytes g = refl

@@ -41,7 +41,11 @@ use Rattle.ctf_protocol.specs.sessions.Opened.{open_of, slot_made, slot_stepped}
 use Rattle.ctf_protocol.specs.sessions.Publications.{published_as}
 use Rattle.ctf_protocol.specs.sessions.RefusalLaws.{BadLinesAreInTheTable}
 use Rattle.ctf_protocol.specs.sessions.State.{Slot, State}
-use Rattle.ctf_protocol.specs.sessions.Steps.{Outcome, accepts_unless, adds_created, adds_slot, becomes_by, creates_from, creates_over, has_room, imports_into, imports_unless, longest_list, opens, opens_unless, publishes_slot, publishes_within, quota, said_by_slot, slot_at, slot_becomes, slot_answered, slot_space, stages, takes, takes_found, updates_within, with_slot, withdraws, within_quota}
+use Rattle.ctf_protocol.proofs.StepWords.{accepts_unless, adds_created, creates_from, creates_over, imports_into, imports_unless, opens_unless, publishes_slot, publishes_within, takes_found, with_slot}
+use Rattle.ctf_protocol.specs.sessions.Outcomes.{Outcome, quota, within_quota}
+use Rattle.ctf_protocol.specs.sessions.SlotQuestions.{said_by_slot, slot_answered, slot_space}
+use Rattle.ctf_protocol.specs.sessions.Slots.{adds_slot, has_room, slot_at}
+use Rattle.ctf_protocol.specs.sessions.Steps.{becomes_by, longest_list, opens, slot_becomes, stages, takes, updates_within, withdraws}
 use Rattle.ctf_protocol.specs.declared.additions.Addition.{Addition}
 use Rattle.ctf_protocol.specs.declared.additions.Addition.TheVariants as add
 use Rattle.ctf_protocol.specs.declared.questions.PlainQuestion.{PlainQuestion}

@@ -11,9 +11,9 @@ use Rattle.ctf_model.specs.names.Found.{base, found, is_called, is_no_name, is_p
 use Rattle.ctf_model.specs.names.TypeNames.{Declaration, around, bare, declaration, declaration_by, declaration_of, declaration_within, declared, longest_text, spelled_name, text_of_declaration, too_long}
 use Rattle.ctf_model.specs.rules.Refusals.{placeless}
 use Rattle.ctf_model.specs.spaces.Space.{Space, pointer_size, space_type}
-use Rattle.ctf_model.specs.values.MemoryBits.{bits_at, field, short_memory, signed_value}
-use Rattle.ctf_model.specs.values.Pieces.{Pieces, between, each_behind_comma, ended_by, ends, followed_by, goes_on, nothing, piece, separated}
-use Rattle.ctf_model.specs.values.Values.{Shows, array_shown, body_shown, by_number, elements, elements_shown, enum_shown, float_shown, found_shown, integer_shown, integer_value, label, member_shown, members_shown, most_values, name_of_value, raw_shown, raw_text, shown_value, shown_within, value_text}
+use Rattle.ctf_model.specs.values.MemoryBits.{bits_at, bit_field, short_memory, signed_value}
+use Rattle.ctf_model.specs.values.Pieces.{Pieces, between, each_behind_comma, ended_by, ends, then_pieces, goes_on, no_pieces, piece, separated}
+use Rattle.ctf_model.specs.values.Values.{Shows, array_shown, body_shown, by_number, each_element, elements_shown, enum_shown, float_shown, found_shown, integer_shown, integer_value, label, member_shown, members_shown, most_values, name_of_value, raw_shown, raw_text, shown_value, shown_within, value_text}
 use Rattle.ctf_model.specs.declared.faults.Fault.{Fault}
 use Rattle.ctf_model.specs.declared.faults.TheConstants.Fault.{BAD_SYNTAX}
 use Rattle.ctf_model.specs.declared.layers.Layer.{Layer}
@@ -94,8 +94,8 @@ goes_good : (text : List ℕ) (fault : Option Fault) (next : Pieces) → good_fa
 goes_good text None next g h = h
 goes_good text (Some f) next g h = g
 
-followed_good : (first next : Pieces) → shown_good first ≡ true → shown_good next ≡ true → shown_good (followed_by first next) ≡ true
-unfolding followed_by
+followed_good : (first next : Pieces) → shown_good first ≡ true → shown_good next ≡ true → shown_good (then_pieces first next) ≡ true
+unfolding then_pieces
 followed_good first next g h = goes_good first.text first.fault next g h
 
 either_shown : (t : Bool) (a b : Pieces) → shown_good a ≡ true → shown_good b ≡ true → shown_good (if t then a else b) ≡ true
@@ -104,39 +104,39 @@ either_shown false a b ga gb = gb
 
 commas_good : {X : Type 0} → (show : X → Pieces) → ((x : X) → shown_good (show x) ≡ true) → (xs : List X) → shown_good (each_behind_comma (map show xs)) ≡ true
 commas_good show h [] = refl
-commas_good show h (x ∷ xs) = followed_good (piece (codes ", ")) (followed_by (show x) (each_behind_comma (map show xs))) refl (followed_good (show x) (each_behind_comma (map show xs)) (h x) (commas_good show h xs))
+commas_good show h (x ∷ xs) = followed_good (piece (codes ", ")) (then_pieces (show x) (each_behind_comma (map show xs))) refl (followed_good (show x) (each_behind_comma (map show xs)) (h x) (commas_good show h xs))
 
 separated_good : {X : Type 0} → (show : X → Pieces) → ((x : X) → shown_good (show x) ≡ true) → (xs : List X) → shown_good (separated (map show xs)) ≡ true
 separated_good show h [] = refl
 separated_good show h (x ∷ xs) = followed_good (show x) (each_behind_comma (map show xs)) (h x) (commas_good show h xs)
 
 between_good : (first last : List ℕ) (inside : Pieces) → shown_good inside ≡ true → shown_good (between first last inside) ≡ true
-between_good first last inside g = followed_good (piece first) (followed_by inside (piece last)) refl (followed_good inside (piece last) g refl)
+between_good first last inside g = followed_good (piece first) (then_pieces inside (piece last)) refl (followed_good inside (piece last) g refl)
 
 number_good : (text : ℕ → List ℕ) (r : Result ℕ Fault) → good r ≡ true → shown_good (by_number text r) ≡ true
 number_good text (Ok n) g = refl
 number_good text (Err f) g = g
 
-field_good : (memory : List ℕ) (p width : ℕ) → good (field memory p width) ≡ true
+field_good : (memory : List ℕ) (p width : ℕ) → good (bit_field memory p width) ≡ true
 field_good memory p width = either (nat_lt (8 * length memory) (p + width)) (Err short_memory) (Ok (bits_at memory p width)) refl refl
 
 raw_good : (memory : List ℕ) (p width : ℕ) → shown_good (raw_shown memory p width) ≡ true
-raw_good memory p width = number_good (raw_text width) (field memory p width) (field_good memory p width)
+raw_good memory p width = number_good (raw_text width) (bit_field memory p width) (field_good memory p width)
 
 integer_good : (memory : List ℕ) (p : ℕ) (x : EncodingParts) → shown_good (integer_shown memory p x) ≡ true
 integer_good memory p x =
-    let value = by_number (λ n. signed_decimal (integer_value x.encoding x.bits n)) (field memory (p + x.offset) x.bits) in
+    let value = by_number (λ n. signed_decimal (integer_value x.encoding x.bits n)) (bit_field memory (p + x.offset) x.bits) in
     let wide = raw_shown memory (p + x.offset) x.bits in
     either_shown (x.bits == 0) (piece (codes "void")) (if nat_lt 64 x.bits then wide else value) refl
-    (either_shown (nat_lt 64 x.bits) wide value (raw_good memory (p + x.offset) x.bits) (number_good _ (field memory (p + x.offset) x.bits) (field_good memory (p + x.offset) x.bits)))
+    (either_shown (nat_lt 64 x.bits) wide value (raw_good memory (p + x.offset) x.bits) (number_good _ (bit_field memory (p + x.offset) x.bits) (field_good memory (p + x.offset) x.bits)))
 
 float_good : (memory : List ℕ) (p : ℕ) (x : EncodingParts) → shown_good (float_shown memory p x) ≡ true
 float_good memory p x = either_shown (x.bits == 0) (piece (codes "void")) (raw_shown memory (p + x.offset) x.bits) refl (raw_good memory (p + x.offset) x.bits)
 
 enum_good : (memory : List ℕ) (p said : ℕ) (es : List Enumerator) → shown_good (enum_shown memory p said es) ≡ true
 enum_good memory p said es =
-    either_shown (nat_lt 8 said) (raw_shown memory p (8 * said)) (by_number (λ n. name_of_value es (signed_value (8 * said) n)) (field memory p (8 * said)))
-    (raw_good memory p (8 * said)) (number_good _ (field memory p (8 * said)) (field_good memory p (8 * said)))
+    either_shown (nat_lt 8 said) (raw_shown memory p (8 * said)) (by_number (λ n. name_of_value es (signed_value (8 * said) n)) (bit_field memory p (8 * said)))
+    (raw_good memory p (8 * said)) (number_good _ (bit_field memory p (8 * said)) (field_good memory p (8 * said)))
 
 -- ---- values that hold others
 
@@ -153,12 +153,12 @@ member_good show h p m = followed_good (label m.name) (show m.tnum (p + m.offset
 members_good : (show : Shows) → AreShown show → (p : ℕ) (ms : List Member) → shown_good (members_shown show p ms) ≡ true
 members_good show h p ms = between_good (codes "{") (codes "}") (separated (map (member_shown show p) ms)) (separated_good (member_shown show p) (member_good show h p) ms)
 
-each_good : (show : Shows) → AreShown show → (p contents count : ℕ) (r : Result ℕ Fault) → good r ≡ true → shown_good (separated (elements show p contents count r)) ≡ true
+each_good : (show : Shows) → AreShown show → (p contents count : ℕ) (r : Result ℕ Fault) → good r ≡ true → shown_good (separated (each_element show p contents count r)) ≡ true
 each_good show h p contents count (Ok size) g = separated_good (λ i. show contents (p + 8 * size * i)) (λ i. h contents (p + 8 * size * i)) (range_with_len 0 count)
-each_good show h p contents count (Err f) g = followed_good (ends f) nothing g refl
+each_good show h p contents count (Err f) g = followed_good (ends f) no_pieces g refl
 
 elements_good : (show : Shows) → AreShown show → (p contents count : ℕ) (r : Result ℕ Fault) → good r ≡ true → shown_good (elements_shown show p contents count r) ≡ true
-elements_good show h p contents count r g = either_shown (count == 0) nothing (separated (elements show p contents count r)) refl (each_good show h p contents count r g)
+elements_good show h p contents count r g = either_shown (count == 0) no_pieces (separated (each_element show p contents count r)) refl (each_good show h p contents count r g)
 
 array_good : (show : Shows) → AreShown show → (p contents count : ℕ) (r : Result ℕ Fault) → good r ≡ true → shown_good (array_shown show p contents count r) ≡ true
 array_good show h p contents count r g = between_good (codes "[") (codes "]") (elements_shown show p contents count r) (elements_good show h p contents count r g)

@@ -14,14 +14,17 @@ use Rattle.ctf_protocol.proofs.Charged.{charge_is, filter_bytes, with_bytes, wit
 use Rattle.ctf_protocol.specs.answers.Answers.{Answer}
 use Rattle.ctf_model.specs.opened.Open.{pending_in}
 use Rattle.ctf_model.specs.opened.Steps.{Stepped, discarded_if, enlarged_as, enlarged_if, import_refusal, updated}
-use Rattle.ctf_protocol.specs.sessions.Additions.{added, answered}
+use Rattle.ctf_protocol.specs.sessions.Additions.{added, addition_answered}
 use Rattle.ctf_protocol.specs.sessions.Charges.{charge, slot_bytes}
 use Rattle.ctf_protocol.specs.sessions.Creations.{Created}
 use Rattle.ctf_protocol.specs.sessions.DraftSteps.{created_slot, slot_step}
 use Rattle.ctf_protocol.specs.sessions.Opened.{SlotOutcome, open_of, slot_stepped, under}
 use Rattle.ctf_protocol.specs.sessions.Publications.{published_as, published_without}
 use Rattle.ctf_protocol.specs.sessions.State.{Publication, Slot, State}
-use Rattle.ctf_protocol.specs.sessions.Steps.{Outcome, accepts_unless, adds_created, becomes_by, change_step, creates_from, creates_over, grants, has_room, imports_into, imports_unless, longest_list, opens, opens_unless, publishes_slot, publishes_within, quota, slot_at, slot_becomes, slots_without, stages, takes, takes_found, updates_within, with_slot, withdraws, within_quota}
+use Rattle.ctf_protocol.proofs.StepWords.{accepts_unless, adds_created, creates_from, creates_over, imports_into, imports_unless, opens_unless, publishes_slot, publishes_within, takes_found, with_slot}
+use Rattle.ctf_protocol.specs.sessions.Outcomes.{Outcome, grants, quota, within_quota}
+use Rattle.ctf_protocol.specs.sessions.Slots.{has_room, slot_at, slots_without}
+use Rattle.ctf_protocol.specs.sessions.Steps.{becomes_by, change_step, longest_list, opens, slot_becomes, stages, takes, updates_within, withdraws}
 use Rattle.ctf_protocol.specs.declared.additions.Addition.{Addition}
 use Rattle.ctf_protocol.specs.declared.additions.Addition.TheVariants as add
 use Rattle.ctf_protocol.specs.declared.requests.Change.TheVariants as change
@@ -157,7 +160,7 @@ enlarging_if : (say : ℕ → Answer) (slot : Slot) (adds : Draft → Result Add
 enlarging_if say slot adds None = refl
 enlarging_if say slot adds (Some d) = enlarging say slot (adds d)
 
-adding : (slot : Slot) (x : Addition) → SameBytes slot (slot_stepped (answered x) slot (added x (open_of slot)))
+adding : (slot : Slot) (x : Addition) → SameBytes slot (slot_stepped (addition_answered x) slot (added x (open_of slot)))
 adding slot (add.Type name root kind) = enlarging_if _ slot _ slot.draft
 adding slot (add.Member t name tnum offset) = enlarging_if _ slot _ slot.draft
 adding slot (add.Enumerator t name value) = enlarging_if _ slot _ slot.draft

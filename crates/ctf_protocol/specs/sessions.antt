@@ -5,6 +5,9 @@ pub mod Opened
 pub mod Additions
 pub mod DraftSteps
 pub mod Charges
+pub mod Outcomes
+pub mod Slots
+pub mod SlotQuestions
 pub mod Quiet
 pub mod Steps
 pub mod OpenLaws

@@ -7,7 +7,7 @@ use Rattle.std.proofs.lemmas.Bool.Decides.{Decides-eqb}
 use Rattle.std.proofs.lemmas.List.{length-drop, drop-drop, get_or-drop, nil_from_length}
 use Rattle.std.proofs.lemmas.Option.{same_Some, slice_get_past}
 use Rattle.ctf_model.specs.format.Dictionary.{said_by}
-use Rattle.ctf_model.specs.symbols.Entries.{Told, Signature, entries, entries_of, is_bad_entry, type_in, signature_in}
+use Rattle.ctf_model.specs.symbols.Entries.{Told, Signature, entries, entries_of, is_bad_entry, type_told, signature_in}
 use Rattle.ctf_model.specs.format.Header.{section}
 use Rattle.ctf_model.specs.format.Lists.{Lists}
 use Rattle.ctf_model.specs.rules.Refusals.{placeless}
@@ -87,9 +87,9 @@ kept_of s k x sound at =
 nothing : (b : List ℕ) → length (last_bytes 0 b) ≡ 0
 nothing b = omega (arith, length-drop (length b - 0) b)
 
-pub object_kept : (o f : List ℕ) (x : Symbol) (left : ℕ) (said : Option Told) → IsKept o f x left said → is_object x ≡ true → type_in (last_bytes left o) ≡ type_of_object said
+pub object_kept : (o f : List ℕ) (x : Symbol) (left : ℕ) (said : Option Told) → IsKept o f x left said → is_object x ≡ true → type_told (last_bytes left o) ≡ type_of_object said
 object_kept o f x left said (inl h) is = sym (ap type_of_object h.0 ∙ (rw is refl))
-object_kept o f x left said (inr h) is = let none : type_in (last_bytes 0 o) ≡ None = rw (nil_from_length _ (nothing o)) refl in rw (h.0, h.1) none
+object_kept o f x left said (inr h) is = let none : type_told (last_bytes 0 o) ≡ None = rw (nil_from_length _ (nothing o)) refl in rw (h.0, h.1) none
 
 pub function_kept : (o f : List ℕ) (x : Symbol) (left : ℕ) (said : Option Told) → IsKept o f x left said → is_object x ≡ false → signature_in (last_bytes left f) ≡ signature_of_function said
 function_kept o f x left said (inl h) is = sym (ap signature_of_function h.0 ∙ (rw is refl))

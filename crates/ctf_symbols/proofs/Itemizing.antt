@@ -5,7 +5,7 @@ use Rattle.std.specs.List.{enumerate_from}
 use Rattle.std.proofs.lemmas.List.{append-nil, append_assoc, length-drop}
 use Rattle.ctf_model.specs.format.Bytes.{u32_at}
 use Rattle.ctf_model.proofs.Denoted.{denotes_said}
-use Rattle.ctf_model.specs.format.Dictionary.{AreLabels, Label, labels_in, name_or_empty, said_by}
+use Rattle.ctf_model.specs.format.Dictionary.{AreLabels, Label, labels_in, text_or_empty, said_by}
 use Rattle.ctf_model.specs.rules.Faults.{first_fault}
 use Rattle.ctf_model.specs.format.Header.{section}
 use Rattle.ctf_model.specs.format.Lists.{Lists, tables}
@@ -81,7 +81,7 @@ considered_named strs n b x e h =
 -- ---- labels
 
 -- a label more
-labels_more : (t : Tables) (b : List ℕ) → 8 ≤ length b → labels_in t (length b / 8) b ≡ record { name = name_or_empty t (u32_at b 0); last = u32_at b 4 } ∷ labels_in t (length (drop 8 b) / 8) (drop 8 b)
+labels_more : (t : Tables) (b : List ℕ) → 8 ≤ length b → labels_in t (length b / 8) b ≡ record { name = text_or_empty t (u32_at b 0); last = u32_at b 4 } ∷ labels_in t (length (drop 8 b) / 8) (drop 8 b)
 unfolding labels_in
 labels_more t b le =
     let behind : length (drop 8 b) / 8 ≡ (length b - 8) / 8 = ap (λ (n : ℕ). n / 8) (length-drop 8 b) in
@@ -111,7 +111,7 @@ good_rest t b label labels h = h.3
 pub next_label : (t : Tables) (all : List (ℕ × Label)) (items : List Entry) (n : ℕ) (rest behind : List ℕ) → 8 ≤ length rest → behind ≡ drop 8 rest → PassesLabels t all items n rest
     → PassesLabels t all (items ++ record { reference = u32_at rest 0; item = n } ∷ []) (n + 1) behind
 next_label t all items n rest behind le d p =
-    let first : Label = record { name = name_or_empty t (u32_at rest 0); last = u32_at rest 4 } in
+    let first : Label = record { name = text_or_empty t (u32_at rest 0); last = u32_at rest 4 } in
     let good : AreLabels t rest (first ∷ labels_in t (length (drop 8 rest) / 8) (drop 8 rest)) = subst (λ (ls : List Label). AreLabels t rest ls) (labels_more t rest le) p.good in
     let left : labels_left t n rest ≡ (n, first) ∷ labels_left t (n + 1) (drop 8 rest) = ap (λ (ls : List Label). enumerate_from n ls) (labels_more t rest le) in
     rw d (record {

@@ -5,7 +5,7 @@ use Rattle.std.proofs.lemmas.Bool.{ne_eqb, cases_lt}
 use Rattle.std.proofs.lemmas.Bool.Decides.{Decides-eqb}
 use Rattle.std.proofs.lemmas.List.{length-drop, drop-drop, nil_from_length}
 use Rattle.std.proofs.lemmas.Option.{same_Some}
-use Rattle.ctf_model.specs.symbols.Entries.{Entry, Told, entries_of, entry_len, is_bad_entry, type_in, signature_in}
+use Rattle.ctf_model.specs.symbols.Entries.{Entry, Told, entries_of, entry_len, is_bad_entry, type_told, signature_in}
 use Rattle.ctf_model.specs.symbols.Entries as told
 use Rattle.ctf_model.specs.symbols.SymbolQuestions.{told_of}
 use Rattle.ctf_model.specs.symbols.Symbols.{Symbol, considered_from, is_considered, is_object}
@@ -57,7 +57,7 @@ told_later e es m lt = let other : eqb e.number m ≡ false = ne_eqb e.number m 
 -- ---- one symbol
 
 abbrev pub told_with : List ℕ → List ℕ → Symbol → ℕ → Told
-told_with objects functions x left = if is_object x then told.object (type_in (last_bytes left objects)) else told.function (signature_in (last_bytes left functions))
+told_with objects functions x left = if is_object x then told.object (type_told (last_bytes left objects)) else told.function (signature_in (last_bytes left functions))
 
 -- its entry begins where so much is left, and is good; or it has none
 abbrev pub IsKept : List ℕ → List ℕ → Symbol → ℕ → Option Told → Type 0
@@ -99,14 +99,14 @@ object_first objects functions n zero y ys o f e is rest ends endf sound x left 
     let es = entries_object _ _ _ o _ f _ all is refl refl in
     let left_is : length o ≡ left = same_Some (length o) left (rw (e, is) at kept) in
     let x_is : y ≡ x = same_Some y x at in
-    let said = ap (λ (l : List Entry). told_of l (n + 0)) es ∙ told_first (record { number = n; name = y.name; told = told.object (type_in o) }) _ (n + 0) (omega arith) in
-    let with : told_with objects functions y (length o) ≡ told.object (type_in o) = rw (is, ← ends.0) refl in
+    let said = ap (λ (l : List Entry). told_of l (n + 0)) es ∙ told_first (record { number = n; name = y.name; told = told.object (type_told o) }) _ (n + 0) (omega arith) in
+    let with : told_with objects functions y (length o) ≡ told.object (type_told o) = rw (is, ← ends.0) refl in
     inl (said ∙ ap (λ (t : Told). Some t) (sym with) ∙ ap (λ (l : ℕ). Some (told_with objects functions y l)) left_is ∙ ap (λ (z : Symbol). Some (told_with objects functions z left)) x_is, λ no. let other : is_object y ≡ false = ap is_object x_is ∙ no in absurd cc)
 object_first objects functions n (suc j) y ys o f e is rest ends endf sound x left at kept =
     let all : considered_from n (y ∷ ys) ≡ (n, y) ∷ considered_from (n + 1) ys = rw e refl in
     let es = entries_object _ _ _ o _ f _ all is refl refl in
     let same : (n + 1) + j ≡ n + suc j = omega arith in
-    let said = ap (λ (l : List Entry). told_of l (n + suc j)) es ∙ told_later (record { number = n; name = y.name; told = told.object (type_in o) }) _ (n + suc j) (omega arith) in
+    let said = ap (λ (l : List Entry). told_of l (n + suc j)) es ∙ told_later (record { number = n; name = y.name; told = told.object (type_told o) }) _ (n + suc j) (omega arith) in
     let later = rest j refl (drop 2 o) f (end_drop 2 o objects ends) endf (sound_object _ _ _ _ all is sound) x left at (rw (e, is) at kept) in
     rw (said, ← same) later
 

@@ -8,7 +8,8 @@ use Rattle.ctf_protocol.specs.lines.Output.{Mark, answered, refused, unread, lin
 use Rattle.ctf_protocol.specs.lines.ReplyLines.{reply_line}
 use Rattle.ctf_protocol.specs.sessions.Runs.{Call, Steps, IsGranted, IsRefused, found_in, own_state, addressed, no_memory}
 use Rattle.ctf_protocol.specs.sessions.State.{State}
-use Rattle.ctf_protocol.specs.sessions.Steps.{step, Outcome}
+use Rattle.ctf_protocol.specs.sessions.Outcomes.{Outcome}
+use Rattle.ctf_protocol.specs.sessions.Steps.{step}
 use Rattle.ctf_model.specs.declared.faults.Fault.{Fault}
 use Rattle.ctf_protocol.specs.answers.Answers.{Reply}
 use Rattle.ctf_protocol.specs.declared.requests.Request.{Request}

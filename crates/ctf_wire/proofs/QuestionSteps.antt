@@ -7,7 +7,7 @@ use Rattle.ctf_protocol.specs.answers.Answers.{Answer, Reply}
 use Rattle.ctf_protocol.specs.lines.ReplyLines.{reply_line}
 use Rattle.ctf_protocol.specs.sessions.Runs.{Steps, IsGranted, IsRefused, no_memory}
 use Rattle.ctf_protocol.specs.sessions.State.{State}
-use Rattle.ctf_protocol.specs.sessions.Steps.{answer_to}
+use Rattle.ctf_protocol.specs.sessions.SlotQuestions.{answer_to}
 use Rattle.ctf_protocol.specs.sessions.Quiet.{MayAnswer}
 use Rattle.ctf_model.specs.declared.faults.Fault.{Fault}
 use Rattle.ctf_protocol.specs.declared.questions.Question.{Question}

@@ -5,7 +5,7 @@ use Rattle.ctf_protocol.specs.answers.Answers.{Reply}
 use Rattle.ctf_protocol.specs.lines.ReplyLines.{reply_line}
 use Rattle.ctf_protocol.specs.sessions.Runs.{IsGranted}
 use Rattle.ctf_protocol.specs.sessions.State.{State, empty_state}
-use Rattle.ctf_protocol.specs.sessions.Steps.{answer_to}
+use Rattle.ctf_protocol.specs.sessions.SlotQuestions.{answer_to}
 use Rattle.ctf_protocol.specs.sessions.Quiet.{is_quiet_change}
 use Rattle.ctf_model.specs.declared.faults.Fault.{Fault}
 use Rattle.ctf_protocol.specs.declared.requests.Request.{Request}

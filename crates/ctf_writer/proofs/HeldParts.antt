@@ -15,7 +15,7 @@ use Rattle.ctf_model.specs.drafts.Fitting.{Fits}
 use Rattle.ctf_model.specs.rules.Refusals.{placeless, want_of_memory}
 use Rattle.ctf_model.specs.format.Term.{Term}
 use Rattle.ctf_model.specs.writing.WritingLaws.{IsKept}
-use Rattle.ctf_model.specs.writing.Written.{bytes_of, deep_by, fields_over, header_bytes, label_bytes, labels_written, most_written, records_written, too_big, unwritten, written}
+use Rattle.ctf_model.specs.writing.Written.{bytes_of, deep_by, fields_over, header_bytes, label_bytes, labels_written, most_written, records_written, dictionary_too_big, unwritten, written}
 use Rattle.ctf_model.specs.writing.WrittenNames.{names_of, reference, string_bytes, strings_of, used_names}
 use Rattle.ctf_model.specs.writing.WrittenRecords.{record_bytes}
 use Rattle.ctf_model.specs.declared.faults.Fault.{Fault}
@@ -91,7 +91,7 @@ module _ (h : Held) (ns : List (List ℕ)) (e : ns ≡ strings_of (dictionary_of
 
 pub refused_deep : (d : Dictionary) (f : Fault) → ((later : Option Fault) → or_later 15 (deep_by by_value d) (or_later 16 (deep_by declarator d) later) ≡ Some f) → written d ≡ Err f
 unfolding written unwritten
-refused_deep d f h = let e = h (or_later 47 (too_big d) None) in rw e refl
+refused_deep d f h = let e = h (or_later 47 (dictionary_too_big d) None) in rw e refl
 
 module _ (d : Dictionary) (v : deep_by by_value d ≡ None) (w : deep_by declarator d ≡ None) where
   pub refused_long : most_written < length (bytes_of d) → written d ≡ Err (placeless DICT_TOO_BIG)

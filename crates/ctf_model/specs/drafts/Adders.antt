@@ -75,8 +75,8 @@ abbrev pub replaced : Draft → ℕ → Body → Draft
 replaced d n body = replaced_at d (pending_place d n) (space_type (space_of d) n) body
 
 -- a name is there already; those without a name are not compared
-abbrev pub is_among : List ℕ → List (List ℕ) → Bool
-is_among name names = not (length name == 0) && list_any (bytes_eq name) names
+abbrev pub is_taken : List ℕ → List (List ℕ) → Bool
+is_taken name names = not (length name == 0) && list_any (bytes_eq name) names
 
 -- ---- members
 
@@ -103,7 +103,7 @@ against_member d n name tnum =
     ∷ record { code = SETTLED; met = is_settled d n }
     ∷ record { code = WRONG_KIND; met = is_none (members_at d n) }
     ∷ record { code = VLEN_FULL; met = nat_le most_items (length (present_members d n)) }
-    ∷ record { code = DUPLICATE; met = is_among name (map (λ m. m.name) (present_members d n)) }
+    ∷ record { code = DUPLICATE; met = is_taken name (map (λ m. m.name) (present_members d n)) }
     ∷ record { code = BAD_REF; met = is_absent d tnum }
     ∷ record { code = DEEP_MEMBER; met = is_deep d tnum } ∷ []
 
@@ -160,7 +160,7 @@ against_enumerator d n name =
     ∷ record { code = SETTLED; met = is_settled d n }
     ∷ record { code = WRONG_KIND; met = is_none (enumerators_at d n) }
     ∷ record { code = VLEN_FULL; met = nat_le most_items (length (present_enumerators d n)) }
-    ∷ record { code = DUPLICATE; met = is_among name (map (λ e. e.name) (present_enumerators d n)) }
+    ∷ record { code = DUPLICATE; met = is_taken name (map (λ e. e.name) (present_enumerators d n)) }
     ∷ []
 
 abbrev pub with_enumerator : Enumerator → Body → Body

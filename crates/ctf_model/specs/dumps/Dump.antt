@@ -8,7 +8,7 @@ use Rattle.ctf_model.specs.symbols.Entries as told
 use Rattle.ctf_model.specs.rules.FaultNames.{name_of_fault}
 use Rattle.ctf_model.specs.figures.Figures.{align, size}
 use Rattle.ctf_model.specs.names.KindNames.{name_of_kind, name_of_tag}
-use Rattle.ctf_model.specs.dumps.Texts.{separated, signed_decimal}
+use Rattle.ctf_model.specs.dumps.Texts.{with_commas, signed_decimal}
 use Rattle.ctf_model.specs.format.Shown.{kind_of}
 use Rattle.ctf_model.specs.spaces.Space.{Space}
 use Rattle.ctf_model.specs.format.Term.{Body, Elements, Enumerator, Member, Scalar, Tag, Term}
@@ -43,7 +43,7 @@ line_of first words = first ++ (after_blanks words ++ codes "\n")
 
 -- numbers with commas between them
 abbrev pub numbers : List ℕ → List ℕ
-numbers ns = separated (map decimal ns)
+numbers ns = with_commas (map decimal ns)
 
 -- ---- the lines in front
 

@@ -25,6 +25,6 @@ signed_decimal (negsuc n) = 45 ∷ decimal (n + 1)
 abbrev pub after_commas : List (List ℕ) → List ℕ
 after_commas texts = flat_map (λ text. 44 ∷ text) texts
 
-abbrev pub separated : List (List ℕ) → List ℕ
-separated [] = []
-separated (text ∷ texts) = text ++ after_commas texts
+abbrev pub with_commas : List (List ℕ) → List ℕ
+with_commas [] = []
+with_commas (text ∷ texts) = text ++ after_commas texts

@@ -53,13 +53,13 @@ pub record Denotes (s : Lists) (d : Dictionary) : Type 0 where
 -- ---- the same, computed
 
 -- the name of a reference that is good
-abbrev pub name_or_empty : Tables → ℕ → List ℕ
-name_or_empty t reference = unwrap_or (name t reference) []
+abbrev pub text_or_empty : Tables → ℕ → List ℕ
+text_or_empty t reference = unwrap_or (name t reference) []
 
 unfoldable pub labels_in : Tables → ℕ → List ℕ → List Label
 labels_in t zero b = []
 labels_in t (suc n) b =
-    record { name = name_or_empty t (u32_at b 0); last = u32_at b 4 } ∷ labels_in t n (drop 8 b)
+    record { name = text_or_empty t (u32_at b 0); last = u32_at b 4 } ∷ labels_in t n (drop 8 b)
 
 -- what the lists say, where they break no rule
 unfoldable pub said_by : Lists → Dictionary
@@ -68,8 +68,8 @@ said_by s =
     let h = fields s.ctf in
     record {
       child = is_child h;
-      parname = name_or_empty t h.parname;
-      parlabel = name_or_empty t h.parlabel;
+      parname = text_or_empty t h.parname;
+      parlabel = text_or_empty t h.parlabel;
       labels = labels_in t (length (section s.ctf SLabels) / 8) (section s.ctf SLabels);
       terms = terms_in t (types s.ctf);
       symbols = symbols s;

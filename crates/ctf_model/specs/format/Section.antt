@@ -62,10 +62,10 @@ abbrev pub stop_code : List ℕ → ℕ
 stop_code b = if nat_le 8 (length b) && is_none (kind b) then BAD_KIND else TRUNCATED
 
 -- a record and what comes later, or the fault and nothing
-abbrev pub step : List ℕ → ℕ → ℕ → (ℕ → List (Result Piece Fault)) → Option ℕ
+abbrev pub record_or_stop : List ℕ → ℕ → ℕ → (ℕ → List (Result Piece Fault)) → Option ℕ
     → List (Result Piece Fault)
-step b index at later None = Err (record { code = stop_code b; place = index }) ∷ []
-step b index at later (Some n) = Ok (record { index = index; at = at; bytes = take n b }) ∷ later n
+record_or_stop b index at later None = Err (record { code = stop_code b; place = index }) ∷ []
+record_or_stop b index at later (Some n) = Ok (record { index = index; at = at; bytes = take n b }) ∷ later n
 
 -- the records in order, and then the fault of a rest that none begins;
 -- each record has a byte, so their number is bounded
@@ -73,7 +73,7 @@ unfoldable pub walk : ℕ → ℕ → ℕ → List ℕ → List (Result Piece Fa
 walk zero index at b = []
 walk (suc bound) index at b =
     if length b == 0 then []
-    else step b index at (λ n. walk bound (index + 1) (at + n) (drop n b)) (front_len b)
+    else record_or_stop b index at (λ n. walk bound (index + 1) (at + n) (drop n b)) (front_len b)
 
 abbrev pub records : List ℕ → List (Result Piece Fault)
 records b = walk (length b) 1 0 b

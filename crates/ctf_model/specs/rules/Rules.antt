@@ -161,15 +161,15 @@ abbrev pub Never : Lists → ℕ → Type 0
 Never s place = ⊥
 
 -- the rules by their numbers
-abbrev pub rules : List (Lists → ℕ → Type 0)
-rules =
+abbrev pub rules_by_number : List (Lists → ℕ → Type 0)
+rules_by_number =
     Never ∷ TooShort ∷ BadMagic ∷ BadVersion ∷ IsCompressed ∷ ShortHeader ∷ BadOrder ∷ BadAlign
     ∷ PastEnd ∷ BadStrings ∷ Truncated ∷ BadKind ∷ TooMany ∷ BadName ∷ BadReference ∷ ValueDeep
     ∷ DeclDeep ∷ BadFuncs ∷ BadSymbolType ∷ BadSymtab ∷ []
 
 -- the rule of a number is broken at the place
 abbrev pub IsBroken : Lists → ℕ → ℕ → Type 0
-IsBroken s number place = slice_index_or rules number Never s place
+IsBroken s number place = slice_index_or rules_by_number number Never s place
 
 -- no rule below a number is broken anywhere
 abbrev pub Keeps : Lists → ℕ → Type 0

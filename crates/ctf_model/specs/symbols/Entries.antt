@@ -36,8 +36,8 @@ abbrev pub type_or_none : ℕ → Option ℕ
 type_or_none n = if n == 0 then None else Some n
 
 -- an object's entry is the number of its type
-abbrev pub type_in : List ℕ → Option ℕ
-type_in b = if nat_lt (length b) 2 then None else type_or_none (u16_at b 0)
+abbrev pub type_told : List ℕ → Option ℕ
+type_told b = if nat_lt (length b) 2 then None else type_or_none (u16_at b 0)
 
 -- a function's entry begins with its kind and the number of its arguments,
 -- packed as in a type record
@@ -87,7 +87,7 @@ functions_in es = filter_map (λ e. told_of_function e.told) es
 -- the i-th object has the entry behind i entries of two bytes
 abbrev pub AreObjects : List ℕ → List (Option ℕ) → Type 0
 AreObjects b types =
-    (i : ℕ) → i < length types → slice_index_or types i None ≡ type_in (drop (2 * i) b)
+    (i : ℕ) → i < length types → slice_index_or types i None ≡ type_told (drop (2 * i) b)
 
 -- each function has the entry behind that of the one before it; what follows the last is not read
 abbrev pub AreFunctions : List ℕ → List (Option Signature) → Type 0
@@ -125,7 +125,7 @@ unfoldable pub entries_of : List (ℕ × Symbol) → List ℕ → List ℕ → L
 entries_of [] objects functions = []
 entries_of (x ∷ xs) objects functions =
     if is_object x.1
-    then record { number = x.0; name = x.1.name; told = object (type_in objects) }
+    then record { number = x.0; name = x.1.name; told = object (type_told objects) }
     ∷ entries_of xs (drop 2 objects) functions
     else record { number = x.0; name = x.1.name; told = function (signature_in functions) }
     ∷ entries_of xs objects (drop (entry_len functions) functions)

@@ -16,8 +16,8 @@ abbrev pub bits_at : List ℕ → ℕ → ℕ → ℕ
 bits_at memory p width = number memory / 2 ^ p % 2 ^ width
 
 -- the same, if the memory has these bits
-abbrev pub field : List ℕ → ℕ → ℕ → Result ℕ Fault
-field memory p width =
+abbrev pub bit_field : List ℕ → ℕ → ℕ → Result ℕ Fault
+bit_field memory p width =
     if nat_lt (8 * length memory) (p + width) then Err short_memory else Ok (bits_at memory p width)
 
 -- two's complement: of so many bits the highest counts as a negative number

@@ -14,8 +14,8 @@ pub record Pieces : Type 0 where
 abbrev pub piece : List ℕ → Pieces
 piece text = record { text = text; fault = None }
 
-abbrev pub nothing : Pieces
-nothing = piece []
+abbrev pub no_pieces : Pieces
+no_pieces = piece []
 
 abbrev pub ends : Fault → Pieces
 ends fault = record { text = []; fault = Some fault }
@@ -25,20 +25,20 @@ goes_on text None next = record { text = text ++ next.text; fault = next.fault }
 goes_on text (Some fault) next = record { text = text; fault = Some fault }
 
 -- one and then the next; nothing is shown behind a fault
-unfoldable pub followed_by : Pieces → Pieces → Pieces
-followed_by first next = goes_on first.text first.fault next
+unfoldable pub then_pieces : Pieces → Pieces → Pieces
+then_pieces first next = goes_on first.text first.fault next
 
 abbrev pub each_behind_comma : List Pieces → Pieces
-each_behind_comma [] = nothing
-each_behind_comma (x ∷ xs) = followed_by (piece (codes ", ")) (followed_by x (each_behind_comma xs))
+each_behind_comma [] = no_pieces
+each_behind_comma (x ∷ xs) = then_pieces (piece (codes ", ")) (then_pieces x (each_behind_comma xs))
 
 -- one after the other, with commas between them
 abbrev pub separated : List Pieces → Pieces
-separated [] = nothing
-separated (x ∷ xs) = followed_by x (each_behind_comma xs)
+separated [] = no_pieces
+separated (x ∷ xs) = then_pieces x (each_behind_comma xs)
 
 abbrev pub between : List ℕ → List ℕ → Pieces → Pieces
-between first last inside = followed_by (piece first) (followed_by inside (piece last))
+between first last inside = then_pieces (piece first) (then_pieces inside (piece last))
 
 -- ---- what is answered
 

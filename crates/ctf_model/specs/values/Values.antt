@@ -5,8 +5,8 @@ use Rattle.std.specs.List.{range_with_len}
 use Rattle.std.specs.Ordering.{int_eq}
 use Rattle.ctf_model.specs.rules.Chains.{longest_chain}
 use Rattle.ctf_model.specs.figures.Figures.{enum_size, incomplete, size}
-use Rattle.ctf_model.specs.values.MemoryBits.{field, hexadecimal, signed_value, started_bytes}
-use Rattle.ctf_model.specs.values.Pieces.{Pieces, piece, nothing, ends, followed_by, separated, between, answered}
+use Rattle.ctf_model.specs.values.MemoryBits.{bit_field, hexadecimal, signed_value, started_bytes}
+use Rattle.ctf_model.specs.values.Pieces.{Pieces, piece, no_pieces, ends, then_pieces, separated, between, answered}
 use Rattle.ctf_model.specs.dumps.Texts.{signed_decimal}
 use Rattle.ctf_model.specs.format.Shown.{EncodingParts, encoding_parts}
 use Rattle.ctf_model.specs.spaces.Space.{Space, pointer_size, space_type}
@@ -26,7 +26,7 @@ raw_text width n = codes "0x" ++ hexadecimal (started_bytes width) n
 
 -- so many bits from bit p on, as they are
 abbrev pub raw_shown : List ℕ → ℕ → ℕ → Pieces
-raw_shown memory p width = by_number (raw_text width) (field memory p width)
+raw_shown memory p width = by_number (raw_text width) (bit_field memory p width)
 
 -- the flag CTF_INT_SIGNED of sys/ctf.h
 abbrev pub is_signed : ℕ → Bool
@@ -42,7 +42,7 @@ integer_shown memory p x =
     if x.bits == 0 then piece (codes "void")
     else if nat_lt 64 x.bits then raw_shown memory (p + x.offset) x.bits
     else by_number (λ n. signed_decimal (integer_value x.encoding x.bits n))
-    (field memory (p + x.offset) x.bits)
+    (bit_field memory (p + x.offset) x.bits)
 
 abbrev pub float_shown : List ℕ → ℕ → EncodingParts → Pieces
 float_shown memory p x =
@@ -59,7 +59,7 @@ name_of_value (e ∷ es) value = if int_eq e.value value then e.name else name_o
 abbrev pub enum_shown : List ℕ → ℕ → ℕ → List Enumerator → Pieces
 enum_shown memory p size es =
     if nat_lt 8 size then raw_shown memory p (8 * size)
-    else by_number (λ n. name_of_value es (signed_value (8 * size) n)) (field memory p (8 * size))
+    else by_number (λ n. name_of_value es (signed_value (8 * size) n)) (bit_field memory p (8 * size))
 
 -- ---- values that hold others
 
@@ -69,26 +69,26 @@ Shows = ℕ → ℕ → Pieces
 
 -- a name and what stands behind it, where there is one
 abbrev pub label : List ℕ → Pieces
-label [] = nothing
-label (x ∷ name) = followed_by (piece (x ∷ name)) (piece (codes " = "))
+label [] = no_pieces
+label (x ∷ name) = then_pieces (piece (x ∷ name)) (piece (codes " = "))
 
 -- a member of a value that begins at bit p
 abbrev pub member_shown : Shows → ℕ → Member → Pieces
-member_shown show p m = followed_by (label m.name) (show m.tnum (p + m.offset))
+member_shown show p m = then_pieces (label m.name) (show m.tnum (p + m.offset))
 
 abbrev pub members_shown : Shows → ℕ → List Member → Pieces
 members_shown show p ms = between (codes "{") (codes "}") (separated (map (member_shown show p) ms))
 
 -- elements of a size in bytes, one behind the other
-abbrev pub elements : Shows → ℕ → ℕ → ℕ → Result ℕ Fault → List Pieces
-elements show p contents count (Ok size) =
+abbrev pub each_element : Shows → ℕ → ℕ → ℕ → Result ℕ Fault → List Pieces
+each_element show p contents count (Ok size) =
     map (λ i. show contents (p + 8 * size * i)) (range_with_len 0 count)
-elements show p contents count (Err fault) = ends fault ∷ []
+each_element show p contents count (Err fault) = ends fault ∷ []
 
 -- the size of the contents matters where there are any
 abbrev pub elements_shown : Shows → ℕ → ℕ → ℕ → Result ℕ Fault → Pieces
 elements_shown show p contents count size =
-    if count == 0 then nothing else separated (elements show p contents count size)
+    if count == 0 then no_pieces else separated (each_element show p contents count size)
 
 abbrev pub array_shown : Shows → ℕ → ℕ → ℕ → Result ℕ Fault → Pieces
 array_shown show p contents count size =

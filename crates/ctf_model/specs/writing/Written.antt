@@ -69,8 +69,8 @@ bytes_of d =
 abbrev pub most_written : ℕ
 most_written = 67108864
 
-abbrev pub too_big : Dictionary → Option ℕ
-too_big d = if nat_lt most_written (length (bytes_of d)) then Some 0 else None
+abbrev pub dictionary_too_big : Dictionary → Option ℕ
+dictionary_too_big d = if nat_lt most_written (length (bytes_of d)) then Some 0 else None
 
 -- the first type at which a chain of such steps begins that is too long
 abbrev pub deep_by : (Body → List ℕ) → Dictionary → Option ℕ
@@ -80,7 +80,7 @@ deep_by steps d = first_deep (edges steps d.child d.terms) 0 (length d.terms)
 unfoldable pub unwritten : Dictionary → Option Fault
 unwritten d =
     or_later VALUE_DEEP (deep_by by_value d)
-    (or_later DECL_DEEP (deep_by declarator d) (or_later DICT_TOO_BIG (too_big d) None))
+    (or_later DECL_DEEP (deep_by declarator d) (or_later DICT_TOO_BIG (dictionary_too_big d) None))
 
 -- the bytes, or why there are none
 abbrev pub bytes_unless : Option Fault → List ℕ → Result (List ℕ) Fault

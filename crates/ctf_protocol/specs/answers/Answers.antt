@@ -17,14 +17,14 @@ pub data Single : Type 0 where
   bytes : List ℕ → Single
 
 -- a part of an object
-pub record Entry : Type 0 where
+pub record AnswerField : Type 0 where
   pub key : List ℕ
   pub value : Single
 
 -- an item of a list: a value by itself, or an object
 pub data Item : Type 0 where
   bare : Single → Item
-  object : List Entry → Item
+  object : List AnswerField → Item
 
 -- the value of a field
 pub data Value : Type 0 where
@@ -41,7 +41,7 @@ Answer = List Field
 
 -- ---- to speak of them
 
-abbrev pub entry : List ℕ → Single → Entry
+abbrev pub entry : List ℕ → Single → AnswerField
 entry key value = record { key = key; value = value }
 
 -- a field of a single value

@@ -30,7 +30,7 @@ use Rattle.ctf_protocol.specs.declared.questions.TypeQuestion.TheVariants as abo
 use Rattle.ctf_protocol.specs.declared.words.Word.{Word}
 use Rattle.ctf_protocol.specs.declared.words.Word.TheVariants as word
 use Rattle.ctf_protocol.specs.words.Words.{words, word_named, is_text}
-use Rattle.ctf_protocol.specs.lines.LineFields.{number_in, text_in, bytes_spelled, slot_under, slot_in, type_in, names_spelled, not_too_many_names, name_under, name_or_empty, window_asked}
+use Rattle.ctf_protocol.specs.lines.LineFields.{number_in, text_in, bytes_spelled, slot_under, slot_in, type_asked, names_spelled, not_too_many_names, name_under, name_or_empty, window_asked}
 use Rattle.ctf_protocol.specs.lines.AskAdditions.{addition_asked}
 
 -- ---- questions and parts
@@ -47,7 +47,7 @@ list_named w =
 abbrev pub about_type : Option TypeQuestion → Data → Option Request
 about_type question line =
     option_and_then
-    (λ q. option_and_then (λ d. option_map (λ t. Asks d (OfType t q)) (type_in line))
+    (λ q. option_and_then (λ d. option_map (λ t. Asks d (OfType t q)) (type_asked line))
     (slot_in line))
     question
 

@@ -16,7 +16,7 @@ use Rattle.ctf_protocol.specs.declared.additions.NewKind.TheVariants as kind
 use Rattle.ctf_protocol.specs.declared.additions.NewScalar.{NewScalar}
 use Rattle.ctf_model.specs.declared.numbers.TypeNum.{TypeNum}
 use Rattle.ctf_protocol.specs.words.Words.{is_text}
-use Rattle.ctf_protocol.specs.lines.LineFields.{within, number_in, text_in, type_in, type_under, each_read, name_or_empty}
+use Rattle.ctf_protocol.specs.lines.LineFields.{in_range, number_in, text_in, type_asked, type_under, each_read, name_or_empty}
 
 -- ---- new types
 
@@ -50,7 +50,7 @@ new_array_asked line =
 abbrev pub type_listed : Data → Option TypeNum
 type_listed value =
     option_map (λ t. record { 0 = t })
-    (option_and_then (within 0 65535) (option_and_then as_u64 (as_number value)))
+    (option_and_then (in_range 0 65535) (option_and_then as_u64 (as_number value)))
 
 abbrev pub types_listed : Items → Option (List TypeNum)
 types_listed values = each_read type_listed values
@@ -102,7 +102,7 @@ new_member_asked line =
     (offset_asked line))
     (type_under (codes "type") line))
     (name_or_empty (codes "name") line))
-    (type_in line)
+    (type_asked line)
 
 -- z, where a signed 32-bit number has room for it
 abbrev pub within_signed : ℤ → Option ℤ
@@ -121,7 +121,7 @@ new_enumerator_asked line =
     option_map (λ value. add.Enumerator t name value)
     (value_asked_for line))
     (name_or_empty (codes "name") line))
-    (type_in line)
+    (type_asked line)
 
 abbrev pub new_label_asked : Data → Option Addition
 new_label_asked line =

@@ -12,13 +12,13 @@ use Rattle.ctf_protocol.specs.declared.questions.Window.{Window}
 -- ---- numbers and texts
 
 -- n, where it is from low to high
-abbrev pub within : ℕ → ℕ → ℕ → Option ℕ
-within low high n = if nat_le low n && nat_le n high then Some n else None
+abbrev pub in_range : ℕ → ℕ → ℕ → Option ℕ
+in_range low high n = if nat_le low n && nat_le n high then Some n else None
 
 -- the number of a field, where it is there and in its range
 abbrev pub number_in : ℕ → ℕ → List ℕ → Data → Option ℕ
 number_in low high key line =
-    option_and_then (within low high)
+    option_and_then (in_range low high)
     (option_and_then as_u64 (option_and_then as_number (get key line)))
 
 -- the text of a field
@@ -46,8 +46,8 @@ slot_under key line = number_in 1 4294967295 key line
 abbrev pub slot_in : Data → Option ℕ
 slot_in line = slot_under (codes "d") line
 
-abbrev pub type_in : Data → Option TypeNum
-type_in line = option_map (λ t. record { 0 = t }) (number_in 0 65535 (codes "t") line)
+abbrev pub type_asked : Data → Option TypeNum
+type_asked line = option_map (λ t. record { 0 = t }) (number_in 0 65535 (codes "t") line)
 
 -- the number of a type under a key
 abbrev pub type_under : List ℕ → Data → Option TypeNum

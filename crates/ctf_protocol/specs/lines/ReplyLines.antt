@@ -1,12 +1,12 @@
 -- The line of a reply: compact JSON, its keys in byte order, and a newline. Source: ours.
 use Rattle.std.specs.Prelude.{ℕ, ◌+◌, ◌++◌, nat_le, Bool, true, false, List, [], ◌∷◌, length, map, Result, Ok, Err, codes, decimal, if◌then◌else◌}
 use Rattle.std.specs.List.{concat}
-use Rattle.ctf_protocol.specs.answers.Answers.{Answer, Single, Entry, Item, Value, Field, Reply, says}
+use Rattle.ctf_protocol.specs.answers.Answers.{Answer, Single, AnswerField, Item, Value, Field, Reply, says}
 use Rattle.ctf_protocol.specs.answers.Answers as answers
 use Rattle.ctf_model.specs.rules.FaultNames.{name_of_fault}
 use Rattle.ctf_model.specs.rules.Refusals.{placeless}
 use Rattle.ctf_protocol.specs.lines.Text.{text_of, hex_of}
-use Rattle.ctf_model.specs.dumps.Texts.{separated, signed_decimal}
+use Rattle.ctf_model.specs.dumps.Texts.{with_commas, signed_decimal}
 use Rattle.ctf_model.specs.declared.faults.Fault.{Fault}
 use Rattle.ctf_model.specs.declared.faults.TheConstants.Fault.{LONG_REPLY}
 
@@ -30,32 +30,32 @@ single_text (answers.bytes bs) = quoted (hex_of bs)
 abbrev pub key_text : List ℕ → List ℕ
 key_text key = concat (codes "\"" ∷ key ∷ codes "\":" ∷ [])
 
-abbrev pub entry_text : Entry → List ℕ
+abbrev pub entry_text : AnswerField → List ℕ
 entry_text e = key_text e.key ++ single_text e.value
 
-abbrev pub object_text : List Entry → List ℕ
-object_text entries = concat (codes "{" ∷ separated (map entry_text entries) ∷ codes "}" ∷ [])
+abbrev pub object_text : List AnswerField → List ℕ
+object_text entries = concat (codes "{" ∷ with_commas (map entry_text entries) ∷ codes "}" ∷ [])
 
 abbrev pub item_text : Item → List ℕ
 item_text (answers.bare value) = single_text value
 item_text (answers.object entries) = object_text entries
 
 abbrev pub list_text : List Item → List ℕ
-list_text items = concat (codes "[" ∷ separated (map item_text items) ∷ codes "]" ∷ [])
+list_text items = concat (codes "[" ∷ with_commas (map item_text items) ∷ codes "]" ∷ [])
 
-abbrev pub value_text : Value → List ℕ
-value_text (answers.one value) = single_text value
-value_text (answers.many items) = list_text items
+abbrev pub json_text : Value → List ℕ
+json_text (answers.one value) = single_text value
+json_text (answers.many items) = list_text items
 
 abbrev pub field_text : Field → List ℕ
-field_text f = key_text f.key ++ value_text f.value
+field_text f = key_text f.key ++ json_text f.value
 
 -- ---- answers and refusals
 
 -- the line of an object under a word, for a session
 abbrev pub object_line : List ℕ → ℕ → List Field → List ℕ
 object_line under s fields =
-    concat (codes "{\"" ∷ under ∷ codes "\":{" ∷ separated (map field_text fields)
+    concat (codes "{\"" ∷ under ∷ codes "\":{" ∷ with_commas (map field_text fields)
     ∷ codes "},\"s\":" ∷ decimal s ∷ codes "}\n" ∷ [])
 
 abbrev pub answer_line : ℕ → Answer → List ℕ

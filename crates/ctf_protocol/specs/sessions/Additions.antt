@@ -32,35 +32,35 @@ scalar_of s = record { size = s.size; encoding = s.encoding; offset = s.offset; 
 abbrev pub array_of : NewArray → ArrayParts
 array_of a = record { contents = a.contents.0; index = a.index.0; count = a.count }
 
-abbrev pub body_of : NewKind → NewBody
-body_of kind.Unknown = new.unknown
-body_of (kind.Integer s) = new.integer (scalar_of s)
-body_of (kind.Float s) = new.float (scalar_of s)
-body_of (kind.Pointer t) = new.pointer t.0
-body_of (kind.Array a) = new.array (array_of a)
-body_of (kind.Function returned args) = new.function returned.0 (map (λ t. t.0) args)
-body_of (kind.Struct size) = new.struct size
-body_of (kind.Union size) = new.union size
-body_of (kind.Enum size) = new.enum size
-body_of (kind.Forward tag) = new.forward (tag_declared tag)
-body_of (kind.Typedef t) = new.typedef t.0
-body_of (kind.Volatile t) = new.volatile t.0
-body_of (kind.Const t) = new.const t.0
-body_of (kind.Restrict t) = new.restrict t.0
+abbrev pub new_body : NewKind → NewBody
+new_body kind.Unknown = new.unknown
+new_body (kind.Integer s) = new.integer (scalar_of s)
+new_body (kind.Float s) = new.float (scalar_of s)
+new_body (kind.Pointer t) = new.pointer t.0
+new_body (kind.Array a) = new.array (array_of a)
+new_body (kind.Function returned args) = new.function returned.0 (map (λ t. t.0) args)
+new_body (kind.Struct size) = new.struct size
+new_body (kind.Union size) = new.union size
+new_body (kind.Enum size) = new.enum size
+new_body (kind.Forward tag) = new.forward (tag_declared tag)
+new_body (kind.Typedef t) = new.typedef t.0
+new_body (kind.Volatile t) = new.volatile t.0
+new_body (kind.Const t) = new.const t.0
+new_body (kind.Restrict t) = new.restrict t.0
 
 -- ---- additions
 
 -- what is added, to an open dictionary
 abbrev pub added : Addition → Open → Result Stepped Fault
 added (add.Type name root kind) =
-    type_added (record { name = name; root = root; body = body_of kind })
+    type_added (record { name = name; root = root; body = new_body kind })
 added (add.Member t name tnum offset) = member_added t.0 name tnum.0 offset
 added (add.Enumerator t name value) = enumerator_added t.0 (record { name = name; value = value })
 added (add.Label name last) = label_added (record { name = name; last = last })
 
 -- the number of a type or an offset is answered
-abbrev pub answered : Addition → ℕ → Answer
-answered (add.Type name root kind) = under (codes "t")
-answered (add.Member t name tnum offset) = under (codes "offset")
-answered (add.Enumerator t name value) = unsaid
-answered (add.Label name last) = unsaid
+abbrev pub addition_answered : Addition → ℕ → Answer
+addition_answered (add.Type name root kind) = under (codes "t")
+addition_answered (add.Member t name tnum offset) = under (codes "offset")
+addition_answered (add.Enumerator t name value) = unsaid
+addition_answered (add.Label name last) = unsaid

@@ -3,7 +3,8 @@ use Rattle.std.specs.Prelude.{◌≤◌, Option}
 use Rattle.ctf_model.specs.spaces.Kept.{Kept}
 use Rattle.ctf_protocol.specs.sessions.Charges.{charge}
 use Rattle.ctf_protocol.specs.sessions.State.{State}
-use Rattle.ctf_protocol.specs.sessions.Steps.{quota, step}
+use Rattle.ctf_protocol.specs.sessions.Outcomes.{quota}
+use Rattle.ctf_protocol.specs.sessions.Steps.{step}
 use Rattle.ctf_protocol.specs.declared.requests.Request.{Request}
 
 -- no request takes a library over its quota

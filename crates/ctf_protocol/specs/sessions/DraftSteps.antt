@@ -1,7 +1,7 @@
 -- Drafts in slots: how they are made and what is done to them, as to the open dictionary there.
 -- Source: libctf(3LIB), ctf_create, ctf_update, ctf_discard; the form of answers is ours.
-use Rattle.std.specs.Prelude.{unwrap_or, ◌==◌, ℕ, List, [], ◌∷◌, Option, Result, codes, if◌then◌else◌}
-use Rattle.ctf_protocol.specs.sessions.Additions.{added, answered}
+use Rattle.std.specs.Prelude.{unwrap_or, ℕ, Option, Result, codes}
+use Rattle.ctf_protocol.specs.sessions.Additions.{added, addition_answered}
 use Rattle.ctf_protocol.specs.sessions.Creations.{Created}
 use Rattle.ctf_protocol.specs.sessions.Opened.{SlotOutcome, open_of, slot_made, slot_stepped, under}
 use Rattle.ctf_protocol.specs.sessions.State.{Slot}
@@ -24,12 +24,6 @@ created_slot number parent asked =
 -- the step of the draft in a slot; an update and a discard answer how many types there are then
 unfoldable pub slot_step : DraftStep → Slot → SlotOutcome
 slot_step (Add addition) slot =
-    slot_stepped (answered addition) slot (added addition (open_of slot))
+    slot_stepped (addition_answered addition) slot (added addition (open_of slot))
 slot_step Update slot = slot_stepped (under (codes "types")) slot (updated (open_of slot))
 slot_step Discard slot = slot_stepped (under (codes "types")) slot (dropped (open_of slot))
-
--- the slot of a number is this one
-abbrev pub slots_with : ℕ → Slot → List Slot → List Slot
-slots_with number now [] = []
-slots_with number now (slot ∷ slots) =
-    if slot.number == number then now ∷ slots else slot ∷ slots_with number now slots

@@ -12,7 +12,9 @@ use Rattle.ctf_protocol.specs.sessions.Charges.{charge}
 use Rattle.ctf_protocol.specs.sessions.Creations.{Created}
 use Rattle.ctf_protocol.specs.sessions.Publications.{is_publication_name}
 use Rattle.ctf_protocol.specs.sessions.State.{Slot, State, empty_state}
-use Rattle.ctf_protocol.specs.sessions.Steps.{Outcome, creates_over, grants, has_room, opens, publishes_within, refuses, stages, takes, within_quota}
+use Rattle.ctf_protocol.specs.sessions.Outcomes.{Outcome, grants, refuses, within_quota}
+use Rattle.ctf_protocol.specs.sessions.Slots.{has_room, slot_at}
+use Rattle.ctf_protocol.specs.sessions.Steps.{creates, opens, publishes, stages, takes}
 use Rattle.ctf_model.specs.declared.data_model.DataModel.{DataModel}
 use Rattle.ctf_model.specs.declared.faults.TheConstants.Fault.{LONG_LINE, LONG_REPLY, NAME_TAKEN, NOT_PUBLISHED, QUOTA_FULL, SLOTS_FULL, STAGE_FULL}
 use Rattle.ctf_protocol.specs.declared.requests.ListName.TheVariants.{Ctf}
@@ -57,12 +59,23 @@ pub record LimitsHold : Type 0 where
 
 -- ---- refusals in their order
 
+-- a dictionary stands in slot 1, and is published already
+abbrev pub published_already : Kept → State → State
+published_already kept state =
+    record state {
+      slots = record { number = 1; kept = kept; parent = None; draft = None } ∷ [];
+      published = record { name = codes "base"; kept = kept } ∷ [];
+    }
+
 pub record RefusalsAreInOrder : Type 0 where
   -- without a slot nothing is judged, made or looked for
   pub open_full : (model : DataModel) (state : State) → has_room state ≡ false
       → opens model state ≡ refuses SLOTS_FULL state
-  pub create_full : (parent : Option Kept) (asked : Created) (state : State)
-      → has_room state ≡ false → creates_over parent asked state ≡ refuses SLOTS_FULL state
+  pub create_full : (asked : Created) (state : State) → asked.parent ≡ None
+      → has_room state ≡ false → creates asked state ≡ refuses SLOTS_FULL state
+  pub create_full_over : (asked : Created) (p : ℕ) (slot : Slot) (state : State)
+      → asked.parent ≡ Some p → slot_at p state.slots ≡ Some slot → has_room state ≡ false
+      → creates asked state ≡ refuses SLOTS_FULL state
   pub take_full : (found : Option Kept) (state : State) → has_room state ≡ false
       → takes found state ≡ refuses SLOTS_FULL state
   -- what is not there is of no size
@@ -70,10 +83,8 @@ pub record RefusalsAreInOrder : Type 0 where
       → takes None state ≡ refuses NOT_PUBLISHED state
   -- a name is taken, whatever the charge comes to
   pub name_taken : (kept : Kept) (state : State)
-      → publishes_within (codes "base") kept
-      (record state { published = record { name = codes "base"; kept = kept } ∷ [] })
-      ≡ refuses NAME_TAKEN
-      (record state { published = record { name = codes "base"; kept = kept } ∷ [] })
+      → publishes 1 (codes "base") (published_already kept state)
+      ≡ refuses NAME_TAKEN (published_already kept state)
 
 -- ---- what counts
 

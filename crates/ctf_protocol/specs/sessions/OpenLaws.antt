@@ -1,6 +1,6 @@
 -- What a word answers of a slot is what is asked of the open dictionary in it, under the word's
 -- keys; a call in process answers the same value. Each record is a law of src/session_laws.rt.
-use Rattle.std.specs.Prelude.{◌≡◌, ℕ, ℤ, Bool, List, codes, Option, Result}
+use Rattle.std.specs.Prelude.{◌≡◌, ℕ, ℤ, Bool, List, [], codes, Option, Some, Result}
 use Rattle.ctf_model.specs.declared.faults.Fault.{Fault}
 use Rattle.ctf_model.specs.declared.numbers.TypeNum.{TypeNum}
 use Rattle.ctf_model.specs.figures.Figures.{reference}
@@ -15,12 +15,15 @@ use Rattle.ctf_model.specs.symbols.SymbolQuestions.{function_of, label_of, objec
 use Rattle.ctf_protocol.specs.answers.Answers.{Answer}
 use Rattle.ctf_protocol.specs.answers.Questions.{align_fields, array_fields, as_fields, encoding_fields, enumerator_fields, kind_fields, member_fields, name_fields, position_fields, signature_fields, size_fields, type_fields, value_fields}
 use Rattle.ctf_protocol.specs.answers.SlotAnswers.{last_fields, symbol_fields}
-use Rattle.ctf_protocol.specs.sessions.Additions.{body_of}
+use Rattle.ctf_protocol.specs.sessions.Additions.{new_body}
 use Rattle.ctf_protocol.specs.sessions.Creations.{Created}
 use Rattle.ctf_protocol.specs.sessions.DraftSteps.{created_slot, model_made, slot_step}
 use Rattle.ctf_protocol.specs.sessions.Opened.{open_of, slot_made, slot_stepped, under, unsaid}
 use Rattle.ctf_protocol.specs.sessions.State.{Slot, State}
-use Rattle.ctf_protocol.specs.sessions.Steps.{imports_into, imports_unless, slot_answered}
+use Rattle.ctf_protocol.specs.sessions.Outcomes.{grants, refused_by, within_quota}
+use Rattle.ctf_protocol.specs.sessions.Slots.{slot_at, slots_with_parent}
+use Rattle.ctf_protocol.specs.sessions.Steps.{imports}
+use Rattle.ctf_protocol.specs.sessions.SlotQuestions.{slot_answered}
 use Rattle.ctf_protocol.specs.declared.additions.Addition.TheVariants as add
 use Rattle.ctf_protocol.specs.declared.additions.NewKind.{NewKind}
 use Rattle.ctf_protocol.specs.declared.questions.PlainQuestion.{PlainQuestion}
@@ -93,7 +96,7 @@ pub record WholesAreAsked : Type 0 where
 pub record StepsAreMade : Type 0 where
   pub type : (s : Slot) (name : List ℕ) (root : Bool) (kind : NewKind)
       → slot_step (Add (add.Type name root kind)) s ≡ slot_stepped (under (codes "t")) s
-      (type_added (record { name = name; root = root; body = body_of kind }) (open_of s))
+      (type_added (record { name = name; root = root; body = new_body kind }) (open_of s))
   pub member : (s : Slot) (t : TypeNum) (name : List ℕ) (tnum : TypeNum) (offset : Option ℕ)
       → slot_step (Add (add.Member t name tnum offset)) s
       ≡ slot_stepped (under (codes "offset")) s (member_added t.0 name tnum.0 offset (open_of s))
@@ -108,6 +111,8 @@ pub record StepsAreMade : Type 0 where
       ≡ slot_stepped (under (codes "types")) s (dropped (open_of s))
   pub create : (n : ℕ) (above : Option Kept) (asked : Created) → created_slot n above asked
       ≡ slot_made n (created above asked.parname asked.parlabel (model_made above asked))
-  pub import : (child parent : Slot) (d : ℕ) (state : State)
-      → imports_into child d parent state
-      ≡ imports_unless (import_refusal (open_of child) (open_of parent)) d parent.kept state
+  pub import : (child parent : Slot) (d p : ℕ) (state : State) → slot_at d state.slots ≡ Some child
+      → slot_at p state.slots ≡ Some parent → imports d p state
+      ≡ refused_by (import_refusal (open_of child) (open_of parent)) state
+      (within_quota
+      (grants [] (record state { slots = slots_with_parent d parent.kept state.slots })) state)

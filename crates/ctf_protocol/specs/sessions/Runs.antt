@@ -6,7 +6,8 @@ use Rattle.ctf_model.specs.spaces.Kept.{Kept}
 use Rattle.ctf_protocol.specs.sessions.Publications.{published_as}
 use Rattle.ctf_model.specs.rules.Refusals.{want_of_memory}
 use Rattle.ctf_protocol.specs.sessions.State.{State}
-use Rattle.ctf_protocol.specs.sessions.Steps.{step, Outcome}
+use Rattle.ctf_protocol.specs.sessions.Outcomes.{Outcome}
+use Rattle.ctf_protocol.specs.sessions.Steps.{step}
 use Rattle.ctf_protocol.specs.declared.requests.Change.TheVariants.{Take}
 use Rattle.ctf_protocol.specs.declared.requests.Request.{Request}
 use Rattle.ctf_protocol.specs.declared.requests.Request.TheVariants.{Changes}

@@ -5,7 +5,7 @@ use Rattle.ctf_model.specs.spaces.Kept.{Kept, fault_over}
 use Rattle.ctf_protocol.proofs.Charged.{parent_more}
 use Rattle.ctf_protocol.specs.sessions.Charges.{slot_bytes}
 use Rattle.ctf_model.specs.opened.Sizes.{kept_bytes, parent_bytes}
-use Rattle.ctf_protocol.specs.sessions.Steps.{slot_at, slots_with_parent}
+use Rattle.ctf_protocol.specs.sessions.Slots.{slot_at, slots_with_parent}
 use Rattle.ctf_open.specs.Fitting.{AreTablesOf}
 use Rattle.ctf_library.specs.SlotPlaces.{place_of}
 use Rattle.ctf_library.specs.SlotView.{slot_of}

@@ -9,7 +9,7 @@ use Rattle.ctf_library.proofs.Rising.{rise_set}
 use Rattle.ctf_protocol.proofs.Charged.{with_bytes, without_bytes}
 use Rattle.ctf_protocol.specs.sessions.Charges.{slot_bytes}
 use Rattle.ctf_protocol.specs.sessions.State.{Slot}
-use Rattle.ctf_protocol.specs.sessions.Steps.{quota}
+use Rattle.ctf_protocol.specs.sessions.Outcomes.{quota}
 use Rattle.ctf_library.proofs.places.step_draft.Goals as goal
 
 pub returns-in_default-clause-slots : goal.returns-in_default-clause-slots

@@ -1,6 +1,6 @@
 use Rattle.std.proofs.Common.{arith, ap, sym}
 use Rattle.std.proofs.lemmas.List.{take_all}
-use Rattle.ctf_model.specs.dumps.Texts.{separated}
+use Rattle.ctf_model.specs.dumps.Texts.{with_commas}
 use Rattle.ctf_lines.proofs.Separated.{first-next, first-rest}
 use Rattle.ctf_lines.proofs.Walks.{as_text}
 use Rattle.ctf_lines.proofs.series.put_series.Goals as goal
@@ -26,4 +26,4 @@ returns g c =
     let texts = g.S.Series.texts c.args.series.now in
     let count = c.count-index-end.ensures in
     let test = c.loop-index-test.false in
-    as_text (g.P.TextSink.Took) (ap separated (take_all c.loop-index.index texts (omega (arith, count, test)))) c.loop-index.invariant
+    as_text (g.P.TextSink.Took) (ap with_commas (take_all c.loop-index.index texts (omega (arith, count, test)))) c.loop-index.invariant

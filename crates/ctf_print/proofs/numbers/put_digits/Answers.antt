@@ -1,7 +1,7 @@
 use Rattle.std.proofs.Common.{◌+◌, ◌-◌, ◌/◌, ◌%◌, ◌^◌, ◌∙◌, ap}
 use Rattle.std.proofs.lemmas.Result.{err_from_is_err_and}
 use Rattle.ctf_model.specs.values.MemoryBits.{bits_at, hexadecimal, started_bytes}
-use Rattle.ctf_model.specs.values.Pieces.{nothing, piece}
+use Rattle.ctf_model.specs.values.Pieces.{no_pieces, piece}
 use Rattle.ctf_model.specs.dumps.Texts.{hex_of_byte}
 use Rattle.ctf_print.specs.Written.{written}
 use Rattle.ctf_print.proofs.Digits.{digits_left, none_left}
@@ -30,4 +30,4 @@ returns-clause-ok c =
 pub returns-clause-err : goal.returns-clause-err
 returns-clause-err c =
     let none = none_left (started_bytes c.args.width) c.loop-i.i (bits_at c.args.memory.now c.args.at c.args.width) c.loop-i-test.false in
-    later_refused c.put_nothing.result c.args.out.now c.loop-i.out _ nothing (c.loop-i.invariant ∙ ap (written c.loop-i.out) none) c.put_nothing.ensures.err
+    later_refused c.put_nothing.result c.args.out.now c.loop-i.out _ no_pieces (c.loop-i.invariant ∙ ap (written c.loop-i.out) none) c.put_nothing.ensures.err

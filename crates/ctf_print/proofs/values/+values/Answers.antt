@@ -3,7 +3,7 @@ use Rattle.std.proofs.lemmas.Bool.{ne_eqb}
 use Rattle.std.proofs.lemmas.Result.{err_from_is_err_and}
 use Rattle.ctf_model.specs.figures.Figures.{size as size_of}
 use Rattle.ctf_model.specs.values.Pieces.{piece, separated}
-use Rattle.ctf_model.specs.values.Values.{elements, elements_shown, label, member_shown}
+use Rattle.ctf_model.specs.values.Values.{each_element, elements_shown, label, member_shown}
 use Rattle.ctf_views.specs.ItemsView.{member as member_view}
 use Rattle.ctf_print.specs.ImageView.{memory_of, shows, types_of}
 use Rattle.ctf_print.specs.Written.{written}
@@ -50,7 +50,7 @@ pub show_elements-loop-i-init : goal.show_elements-loop-i-init
 show_elements-loop-i-init t c =
     let some : eqb c.args.array.count 0 ≡ false = ne_eqb c.args.array.count 0 c.if-array-eq0.false in
     record {
-      rest = rw some (ap (written c.args.out.now) (separated_is (elements (shows c.args.image.now c.args.nesting) c.args.at c.args.array.contents.0 c.args.array.count (size_of (types_of c.args.image.now) c.args.array.contents.0))));
+      rest = rw some (ap (written c.args.out.now) (separated_is (each_element (shows c.args.image.now c.args.nesting) c.args.at c.args.array.contents.0 c.args.array.count (size_of (types_of c.args.image.now) c.args.array.contents.0))));
       place = omega arith;
       known = c.find.ensures.kept;
     }

@@ -1,7 +1,7 @@
 use Rattle.std.proofs.Common.{◌≡◌, ◌^◌, ◌*◌, ◌+◌, ◌-◌, min, drop, map}
 use Rattle.ctf_model.specs.figures.Figures.{size as size_of}
 use Rattle.ctf_model.specs.values.Pieces.{separated}
-use Rattle.ctf_model.specs.values.Values.{elements, elements_shown, member_shown}
+use Rattle.ctf_model.specs.values.Values.{each_element, elements_shown, member_shown}
 use Rattle.ctf_print.specs.ImageView.{shows, types_of}
 use Rattle.ctf_print.specs.Written.{separated_from, written}
 use Rattle.ctf_print.proofs.values.+values.Given as goal
@@ -33,7 +33,7 @@ decreases-show_told l = 5 * l.found.now.nesting + 4
 abbrev pub invariant-show_elements-loop-i : goal.invariant-show_elements-loop-i
 invariant-show_elements-loop-i l = record {
   rest : written l.fn.out (elements_shown (shows l.image l.nesting) l.at l.fn.array.contents.0 l.fn.array.count (size_of (types_of l.image) l.fn.array.contents.0))
-      ≡ written l.out (separated_from l.i (drop l.i (elements (shows l.image l.nesting) l.at l.fn.array.contents.0 l.fn.array.count (size_of (types_of l.image) l.fn.array.contents.0))));
+      ≡ written l.out (separated_from l.i (drop l.i (each_element (shows l.image l.nesting) l.at l.fn.array.contents.0 l.fn.array.count (size_of (types_of l.image) l.fn.array.contents.0))));
   place : l.place ≡ min (l.at + 8 * l.size * l.i) (2 ^ 128 - 1);
   known : l.known ≡ l.fn.known;
 }

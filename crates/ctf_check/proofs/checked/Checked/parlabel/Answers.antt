@@ -1,8 +1,8 @@
 use Rattle.std.proofs.Common.{◌∙◌, ap}
-use Rattle.ctf_model.specs.format.Dictionary.{name_or_empty, said_by}
+use Rattle.ctf_model.specs.format.Dictionary.{text_or_empty, said_by}
 use Rattle.ctf_check.specs.CheckedView.{tables_of}
 use Rattle.ctf_check.proofs.checked.Checked.parlabel.Goals as goal
 
 pub returns : goal.returns
 unfolding said_by
-returns c = rw (c.header.ensures) at (c.named.ensures ∙ ap (name_or_empty (tables_of c.args.self.now)) c.parlabel.ensures)
+returns c = rw (c.header.ensures) at (c.named.ensures ∙ ap (text_or_empty (tables_of c.args.self.now)) c.parlabel.ensures)

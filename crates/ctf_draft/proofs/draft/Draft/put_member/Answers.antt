@@ -3,7 +3,7 @@ use Rattle.std.proofs.lemmas.List.{map-set}
 use Rattle.ctf_model.specs.format.Shown.{members_in, shown}
 use Rattle.ctf_model.specs.format.Term.{Body, Term}
 use Rattle.std.proofs.lemmas.Result.{on_ok_weaker, on_err_weaker}
-use Rattle.ctf_model.specs.drafts.Adders.{body_at, is_among, replaced, with_member}
+use Rattle.ctf_model.specs.drafts.Adders.{body_at, is_taken, replaced, with_member}
 use Rattle.ctf_draft.specs.ParentView.{parent_in}
 use Rattle.ctf_model.specs.drafts.DraftLaws.{IsSound}
 use Rattle.ctf_model.specs.drafts.Drafts.{Draft}
@@ -53,4 +53,4 @@ push_member-requires c =
     let d = c.self.inside in
     let parent = parent_in d.parent in
     let same = body_here d.parname d.parlabel parent d.model d.updated d.updated_labels d.types.items d.labels c.args.n.0 c.args.i c.index_mut.result.now c.index_mut.ensures.value (omega (arith, c.self.invariant.0, d.types.ok.0)) c.args.self.now.draft (ap (λ o. o.draft) c.self.view_is) c.requires.pending in
-    record { fresh = ap (λ (b : Body). is_among c.args.member.name (map (λ x. x.name) (unwrap_or (members_in (shown b)) []))) same ∙ c.requires.fresh }
+    record { fresh = ap (λ (b : Body). is_taken c.args.member.name (map (λ x. x.name) (unwrap_or (members_in (shown b)) []))) same ∙ c.requires.fresh }

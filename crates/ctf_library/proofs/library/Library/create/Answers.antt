@@ -9,7 +9,8 @@ use Rattle.ctf_protocol.specs.answers.Answers.{says}
 use Rattle.ctf_protocol.specs.answers.Answers as answers
 use Rattle.ctf_protocol.specs.sessions.Charges.{charge, slot_bytes}
 use Rattle.ctf_protocol.specs.sessions.State.{State}
-use Rattle.ctf_protocol.specs.sessions.Steps.{creates, grants, quota}
+use Rattle.ctf_protocol.specs.sessions.Outcomes.{grants, quota}
+use Rattle.ctf_protocol.specs.sessions.Steps.{creates}
 use Rattle.ctf_library.proofs.library.Library.create.Goals as goal
 
 pub overflow_add-self : goal.overflow_add-self

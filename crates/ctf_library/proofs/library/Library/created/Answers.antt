@@ -3,7 +3,7 @@ use Rattle.ctf_library.proofs.Quota.{refused_creates}
 use Rattle.std.specs.Prelude.{is_some, option_and_then, option_map}
 use Rattle.std.proofs.lemmas.Result.{IfErr-weaker, IfOk-weaker}
 use Rattle.ctf_protocol.specs.sessions.State.{Slot, State}
-use Rattle.ctf_protocol.specs.sessions.Steps.{slot_at}
+use Rattle.ctf_protocol.specs.sessions.Slots.{slot_at}
 use Rattle.ctf_library.proofs.Creating.{creates_done, either, map_there}
 use Rattle.ctf_library.proofs.library.Library.created.Goals as goal
 

@@ -14,7 +14,8 @@ use Rattle.ctf_model.specs.spaces.Kept.{Kept, fault_over}
 use Rattle.ctf_open.specs.Quotas.{IsUnserved}
 use Rattle.ctf_model.specs.opened.Sizes.{kept_bytes, parent_bytes}
 use Rattle.ctf_protocol.specs.sessions.State.{Slot, State}
-use Rattle.ctf_protocol.specs.sessions.Steps.{quota, slot_at}
+use Rattle.ctf_protocol.specs.sessions.Outcomes.{quota}
+use Rattle.ctf_protocol.specs.sessions.Slots.{slot_at}
 use Rattle.ctf_library.proofs.library.Library.import.Goals as goal
 
 pub find_slot-requires : goal.find_slot-requires

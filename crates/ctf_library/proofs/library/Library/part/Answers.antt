@@ -8,7 +8,8 @@ use Rattle.ctf_library.specs.SlotView.{slot_of}
 use Rattle.ctf_library.specs.Stepping.{Makes}
 use Rattle.ctf_protocol.specs.answers.Answers.{Answer}
 use Rattle.ctf_protocol.specs.sessions.Charges.{charge}
-use Rattle.ctf_protocol.specs.sessions.Steps.{parts, quota}
+use Rattle.ctf_protocol.specs.sessions.Outcomes.{quota}
+use Rattle.ctf_protocol.specs.sessions.Steps.{parts}
 use Rattle.ctf_protocol.specs.sessions.State.{State}
 use Rattle.ctf_library.proofs.library.Library.part.Goals.{in-Ok, in-Err}
 use Rattle.ctf_library.proofs.library.Library.part.Goals as goal

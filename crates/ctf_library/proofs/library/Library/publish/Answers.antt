@@ -10,7 +10,8 @@ use Rattle.std.proofs.Common.{map, ◌≡◌, ◌≤◌, ◌+◌, ℕ, List, fal
 use Rattle.ctf_library.proofs.Rising.{in_order}
 use Rattle.ctf_library.proofs.Quota.{publishes_done, publishes_over}
 use Rattle.ctf_library.proofs.Rooms.{room_le, room_lt}
-use Rattle.ctf_protocol.specs.sessions.Steps.{publishes_kept, slot_at}
+use Rattle.ctf_protocol.specs.sessions.Slots.{slot_at}
+use Rattle.ctf_protocol.specs.sessions.Steps.{publishes_kept}
 use Rattle.ctf_library.specs.Stepping.{Makes}
 use Rattle.ctf_model.specs.spaces.Kept.{Kept}
 use Rattle.ctf_model.specs.opened.Sizes.{kept_bytes}

@@ -7,7 +7,7 @@ use Rattle.ctf_open.specs.Quotas.{IsUncreated}
 use Rattle.ctf_model.specs.opened.Sizes.{parent_bytes}
 use Rattle.ctf_model.specs.opened.Steps.{created}
 use Rattle.ctf_protocol.specs.sessions.DraftSteps.{model_made}
-use Rattle.ctf_protocol.specs.sessions.Steps.{quota}
+use Rattle.ctf_protocol.specs.sessions.Outcomes.{quota}
 use Rattle.ctf_library.proofs.slots.Slot.create.Goals as goal
 
 pub create_within-requires : goal.create_within-requires
