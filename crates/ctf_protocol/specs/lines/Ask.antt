@@ -1,6 +1,7 @@
--- What a line asks. What is JSON is serde_json's reading of it; all else is ours.
-use Rattle.std.specs.Prelude.{ℕ, List, length, is_none, unwrap_or, Option, None, Some, Result, Ok, Err, option_and_then, nat_lt, codes, if◌then◌else◌}
-use Rattle.std.specs.Option.{option_map}
+-- What a line asks: for each word its fields, each with its range, and then what they make. A field
+-- that is missing, of another sort or out of range makes the line a bad request.
+-- What is JSON is serde_json's reading of it; all else is ours. Needs LineFields and AskAdditions.
+use Rattle.std.specs.Prelude.{ℕ, List, length, is_none, unwrap_or, Option, None, Some, Result, Ok, Err, nat_lt, codes, if◌then◌else◌}
 use Rattle.std.specs.Str.{is_utf8}
 use Rattle.serde_json.specs.Data.{Data}
 use Rattle.serde_json.specs.Find.{get, as_array}
@@ -30,10 +31,10 @@ use Rattle.ctf_protocol.specs.declared.questions.TypeQuestion.TheVariants as abo
 use Rattle.ctf_protocol.specs.declared.words.Word.{Word}
 use Rattle.ctf_protocol.specs.declared.words.Word.TheVariants as word
 use Rattle.ctf_protocol.specs.words.Words.{words, word_named, is_text}
-use Rattle.ctf_protocol.specs.lines.LineFields.{number_in, text_in, bytes_spelled, slot_under, slot_in, type_asked, names_spelled, not_too_many_names, name_under, name_or_empty, window_asked}
+use Rattle.ctf_protocol.specs.lines.LineFields.{◌▹◌, ◌▸◌, number_in, text_in, bytes_spelled, slot_under, slot_in, type_asked, names_spelled, not_too_many_names, name_under, name_or_empty, window_asked}
 use Rattle.ctf_protocol.specs.lines.AskAdditions.{addition_asked}
 
--- ---- questions and parts
+-- ---- fields of some words
 
 -- the list that a part belongs to
 abbrev pub list_named : List ℕ → Option ListName
@@ -43,134 +44,144 @@ list_named w =
     else if is_text w (codes "str") then Some Str
     else None
 
--- a question on a type of a slot, where its own fields are good
-abbrev pub about_type : Option TypeQuestion → Data → Option Request
-about_type question line =
-    option_and_then
-    (λ q. option_and_then (λ d. option_map (λ t. Asks d (OfType t q)) (type_asked line))
-    (slot_in line))
-    question
-
--- a question on a slot as a whole, likewise
-abbrev pub about_slot : Option SlotQuestion → Data → Option Request
-about_slot question line =
-    option_and_then (λ q. option_map (λ d. Asks d (OfSlot q)) (slot_in line)) question
-
--- a question on what a slot holds, likewise
-abbrev pub about_held : Option HeldQuestion → Data → Option Request
-about_held question line =
-    option_and_then (λ q. option_map (λ d. Asks d (OfHeld q)) (slot_in line)) question
-
-abbrev pub names_asked : Data → Option (List (List ℕ))
-names_asked line =
-    option_and_then not_too_many_names
-    (option_and_then names_spelled (option_and_then as_array (get (codes "names") line)))
-
--- the number of a symbol
-abbrev pub symbol_asked : Data → Option ℕ
-symbol_asked line = number_in 0 4294967295 (codes "sym") line
-
-abbrev pub part_asked : Data → Option Request
-part_asked line =
-    option_and_then
-    (λ list. option_map (λ bytes. Changes (change.Part list bytes))
-    (option_and_then bytes_spelled (text_in (codes "bytes") line)))
-    (option_and_then list_named (text_in (codes "section") line))
+-- bytes as hexadecimal digits
+abbrev pub bytes_in : Data → Option (List ℕ)
+bytes_in line = text_in (codes "bytes") line ▹ bytes_spelled
 
 -- the data model, if one is said
 abbrev pub model_asked : Data → Option (Option DataModel)
 model_asked line =
     if is_none (get (codes "model") line) then Some None
-    else option_map (λ model. Some model)
-    (option_and_then model_named (text_in (codes "model") line))
+    else (text_in (codes "model") line ▹ model_named) ▸ λ model. Some model
 
-abbrev pub open_asked : Data → Option Request
-open_asked line =
-    option_map (λ model. Changes (change.Open (unwrap_or model model_unsaid))) (model_asked line)
-
-abbrev pub close_asked : Data → Option Request
-close_asked line = option_map (λ d. Changes (change.Close d)) (slot_in line)
-
-abbrev pub import_asked : Data → Option Request
-import_asked line =
-    option_and_then
-    (λ d. option_map (λ parent. Changes (change.Import d parent))
-    (slot_under (codes "parent") line))
-    (slot_in line)
+-- the slot of the parent, if one is named
+abbrev pub parent_asked : Data → Option (Option ℕ)
+parent_asked line =
+    if is_none (get (codes "parent") line) then Some None
+    else slot_under (codes "parent") line ▸ λ d. Some d
 
 -- the name of a publication is a text as it stands, without escapes
 abbrev pub publication_named : List ℕ → Option (List ℕ)
 publication_named name = if is_publication_name name then Some name else None
 
 abbrev pub publication_asked : Data → Option (List ℕ)
-publication_asked line = option_and_then publication_named (text_in (codes "name") line)
-
-abbrev pub publish_asked : Data → Option Request
-publish_asked line =
-    option_and_then
-    (λ d. option_map (λ name. Changes (change.Publish d name)) (publication_asked line))
-    (slot_in line)
-
-abbrev pub withdraw_asked : Data → Option Request
-withdraw_asked line = option_map (λ name. Changes (change.Withdraw name)) (publication_asked line)
+publication_asked line = text_in (codes "name") line ▹ publication_named
 
 -- any session may be taken from, the operator's among them
 abbrev pub owner_asked : Data → Option ℕ
 owner_asked line = number_in 0 4294967295 (codes "owner") line
 
+abbrev pub names_asked : Data → Option (List (List ℕ))
+names_asked line =
+    ((get (codes "names") line ▹ as_array) ▹ names_spelled) ▹ not_too_many_names
+
+-- the number of a symbol
+abbrev pub symbol_asked : Data → Option ℕ
+symbol_asked line = number_in 0 4294967295 (codes "sym") line
+
+-- ---- changes: the fields of each, and what they make
+
+abbrev pub part_asked : Data → Option Request
+part_asked line =
+    (text_in (codes "section") line ▹ list_named) ▹ λ list.
+    bytes_in line ▸ λ bytes.
+    Changes (change.Part list bytes)
+
+abbrev pub open_asked : Data → Option Request
+open_asked line =
+    model_asked line ▸ λ model.
+    Changes (change.Open (unwrap_or model model_unsaid))
+
+abbrev pub import_asked : Data → Option Request
+import_asked line =
+    slot_in line ▹ λ d.
+    slot_under (codes "parent") line ▸ λ parent.
+    Changes (change.Import d parent)
+
+abbrev pub close_asked : Data → Option Request
+close_asked line =
+    slot_in line ▸ λ d.
+    Changes (change.Close d)
+
+abbrev pub publish_asked : Data → Option Request
+publish_asked line =
+    slot_in line ▹ λ d.
+    publication_asked line ▸ λ name.
+    Changes (change.Publish d name)
+
+abbrev pub withdraw_asked : Data → Option Request
+withdraw_asked line =
+    publication_asked line ▸ λ name.
+    Changes (change.Withdraw name)
+
 abbrev pub take_asked : Data → Option Request
 take_asked line =
-    option_and_then
-    (λ owner. option_map (λ name. Changes (change.Take owner name)) (publication_asked line))
-    (owner_asked line)
+    owner_asked line ▹ λ owner.
+    publication_asked line ▸ λ name.
+    Changes (change.Take owner name)
 
--- the memory that a value stands in, and the bit that it begins at
-abbrev pub show_asked : Data → Option TypeQuestion
-show_asked line =
-    option_and_then
-    (λ memory. option_map (λ offset. about.Show memory offset)
-    (number_in 0 18446744073709551615 (codes "offset") line))
-    (option_and_then bytes_spelled (text_in (codes "bytes") line))
+abbrev pub create_asked : Data → Option Request
+create_asked line =
+    parent_asked line ▹ λ parent.
+    name_or_empty (codes "parname") line ▹ λ parname.
+    name_or_empty (codes "parlabel") line ▹ λ parlabel.
+    model_asked line ▹ λ model.
+    creation parent parname parlabel model ▸ λ created.
+    Changes (change.Create created)
+
+abbrev pub add_asked : Data → Option Request
+add_asked line =
+    slot_in line ▹ λ d.
+    addition_asked line ▸ λ addition.
+    Changes (change.Draft d (draft.Add addition))
+
+abbrev pub update_asked : Data → Option Request
+update_asked line =
+    slot_in line ▸ λ d.
+    Changes (change.Draft d draft.Update)
+
+abbrev pub discard_asked : Data → Option Request
+discard_asked line =
+    slot_in line ▸ λ d.
+    Changes (change.Draft d draft.Discard)
+
+-- ---- questions: their own fields, and then where they are asked
+
+-- on a type of a slot
+abbrev pub about_type : Option TypeQuestion → Data → Option Request
+about_type question line =
+    question ▹ λ q.
+    slot_in line ▹ λ d.
+    type_asked line ▸ λ t.
+    Asks d (OfType t q)
+
+-- on a slot as a whole
+abbrev pub about_slot : Option SlotQuestion → Data → Option Request
+about_slot question line =
+    question ▹ λ q.
+    slot_in line ▸ λ d.
+    Asks d (OfSlot q)
+
+-- on what a slot holds
+abbrev pub about_held : Option HeldQuestion → Data → Option Request
+about_held question line =
+    question ▹ λ q.
+    slot_in line ▸ λ d.
+    Asks d (OfHeld q)
 
 -- the bytes that are wanted of a dictionary: the first of them, and at most how many
 abbrev pub bytes_asked : Data → Option HeldQuestion
 bytes_asked line =
-    option_and_then
-    (λ from. option_map (λ count. holding.Bytes from count)
-    (number_in 0 1048576 (codes "count") line))
-    (number_in 0 4294967295 (codes "from") line)
+    number_in 0 4294967295 (codes "from") line ▹ λ from.
+    number_in 0 1048576 (codes "count") line ▸ λ count.
+    holding.Bytes from count
 
--- the slot of the parent, if one is named
-abbrev pub parent_asked : Data → Option (Option ℕ)
-parent_asked line =
-    if is_none (get (codes "parent") line) then Some None
-    else option_map (λ d. Some d) (slot_under (codes "parent") line)
-
-abbrev pub create_asked : Data → Option Request
-create_asked line =
-    option_and_then (λ parent.
-    option_and_then (λ parname.
-    option_and_then (λ parlabel.
-    option_and_then (λ model.
-    option_map (λ created. Changes (change.Create created))
-    (creation parent parname parlabel model))
-    (model_asked line))
-    (name_or_empty (codes "parlabel") line))
-    (name_or_empty (codes "parname") line))
-    (parent_asked line)
-
-abbrev pub update_asked : Data → Option Request
-update_asked line = option_map (λ d. Changes (change.Draft d draft.Update)) (slot_in line)
-
-abbrev pub discard_asked : Data → Option Request
-discard_asked line = option_map (λ d. Changes (change.Draft d draft.Discard)) (slot_in line)
-
-abbrev pub add_asked : Data → Option Request
-add_asked line =
-    option_and_then
-    (λ d. option_map (λ addition. Changes (change.Draft d (draft.Add addition)))
-    (addition_asked line))
-    (slot_in line)
+-- the memory that a value stands in, and the bit that it begins at
+abbrev pub show_asked : Data → Option TypeQuestion
+show_asked line =
+    bytes_in line ▹ λ memory.
+    number_in 0 18446744073709551615 (codes "offset") line ▸ λ offset.
+    about.Show memory offset
 
 -- ---- words
 
@@ -191,34 +202,25 @@ asked_with line word.Add = add_asked line
 asked_with line word.Update = update_asked line
 asked_with line word.Discard = discard_asked line
 asked_with line (word.Plain question) = about_type (Some (about.Plain question)) line
-asked_with line word.Members =
-    about_type (option_map (λ window. about.Members window) (window_asked line)) line
-asked_with line word.Enumerators =
-    about_type (option_map (λ window. about.Enumerators window) (window_asked line)) line
-asked_with line word.Find =
-    about_slot (option_map (λ written. whole.Find written) (name_under (codes "text") line)) line
-asked_with line word.Path =
-    about_type (option_map (λ names. about.Path names) (names_asked line)) line
+asked_with line word.Members = about_type (window_asked line ▸ about.Members) line
+asked_with line word.Enumerators = about_type (window_asked line ▸ about.Enumerators) line
+asked_with line word.Find = about_slot (name_under (codes "text") line ▸ whole.Find) line
+asked_with line word.Path = about_type (names_asked line ▸ about.Path) line
 asked_with line word.Show = about_type (show_asked line) line
-asked_with line word.Symbol =
-    about_slot (option_map (λ name. whole.Symbol name) (name_under (codes "name") line)) line
-asked_with line word.Object =
-    about_slot (option_map (λ number. whole.Object number) (symbol_asked line)) line
-asked_with line word.Function =
-    about_slot (option_map (λ number. whole.Function number) (symbol_asked line)) line
-asked_with line word.Labels =
-    about_slot (option_map (λ window. whole.Labels window) (window_asked line)) line
-asked_with line word.Label =
-    about_slot (option_map (λ name. whole.Label name) (name_under (codes "name") line)) line
+asked_with line word.Symbol = about_slot (name_under (codes "name") line ▸ whole.Symbol) line
+asked_with line word.Object = about_slot (symbol_asked line ▸ whole.Object) line
+asked_with line word.Function = about_slot (symbol_asked line ▸ whole.Function) line
+asked_with line word.Labels = about_slot (window_asked line ▸ whole.Labels) line
+asked_with line word.Label = about_slot (name_under (codes "name") line ▸ whole.Label) line
 asked_with line (word.Held question) = about_held (Some question) line
 asked_with line word.Bytes = about_held (bytes_asked line) line
 
 -- the word of a line
 abbrev pub word_asked : Data → Option Word
-word_asked line = option_and_then (λ w. word_named w words) (text_in (codes "op") line)
+word_asked line = text_in (codes "op") line ▹ λ w. word_named w words
 
 abbrev pub request_asked : Data → Option Request
-request_asked line = option_and_then (asked_with line) (word_asked line)
+request_asked line = word_asked line ▹ asked_with line
 
 -- ---- lines
 

@@ -9,6 +9,18 @@ use Rattle.ctf_model.specs.declared.numbers.TypeNum.{TypeNum}
 use Rattle.ctf_protocol.specs.lines.Text.{bytes_spelled_by}
 use Rattle.ctf_protocol.specs.declared.questions.Window.{Window}
 
+-- ---- one field after the other
+
+-- a field, and then what the others make with it; nothing where it is missing or bad
+infixr 5 ◌▹◌
+abbrev pub ◌▹◌ : {A B : Type 0} → Option A → (A → Option B) → Option B
+field ▹ others = option_and_then others field
+
+-- the last field, and what is made of all of them
+infixr 5 ◌▸◌
+abbrev pub ◌▸◌ : {A B : Type 0} → Option A → (A → B) → Option B
+field ▸ made = option_map made field
+
 -- ---- numbers and texts
 
 -- n, where it is from low to high
@@ -18,12 +30,11 @@ in_range low high n = if nat_le low n && nat_le n high then Some n else None
 -- the number of a field, where it is there and in its range
 abbrev pub number_in : ℕ → ℕ → List ℕ → Data → Option ℕ
 number_in low high key line =
-    option_and_then (in_range low high)
-    (option_and_then as_u64 (option_and_then as_number (get key line)))
+    ((get key line ▹ as_number) ▹ as_u64) ▹ in_range low high
 
 -- the text of a field
 abbrev pub text_in : List ℕ → Data → Option (List ℕ)
-text_in key line = option_and_then as_str (get key line)
+text_in key line = get key line ▹ as_str
 
 -- the most bytes that a request may bring
 abbrev pub longest_piece : ℕ
@@ -35,7 +46,7 @@ not_too_many bytes = if nat_le (length bytes) longest_piece then Some bytes else
 
 -- the bytes of an even number of hexadecimal digits, of either case
 abbrev pub bytes_spelled : List ℕ → Option (List ℕ)
-bytes_spelled digits = option_and_then not_too_many (result_ok (decode_of digits))
+bytes_spelled digits = result_ok (decode_of digits) ▹ not_too_many
 
 -- ---- slots and types
 
@@ -47,24 +58,25 @@ abbrev pub slot_in : Data → Option ℕ
 slot_in line = slot_under (codes "d") line
 
 abbrev pub type_asked : Data → Option TypeNum
-type_asked line = option_map (λ t. record { 0 = t }) (number_in 0 65535 (codes "t") line)
+type_asked line = number_in 0 65535 (codes "t") line ▸ λ t. record { 0 = t }
 
 -- the number of a type under a key
 abbrev pub type_under : List ℕ → Data → Option TypeNum
-type_under key line = option_map (λ t. record { 0 = t }) (number_in 0 65535 key line)
+type_under key line = number_in 0 65535 key line ▸ λ t. record { 0 = t }
 
 -- ---- names
 
 -- the name that a value spells
 abbrev pub name_spelled : Data → Option (List ℕ)
-name_spelled value = option_and_then not_too_many (option_and_then bytes_spelled_by (as_str value))
+name_spelled value = (as_str value ▹ bytes_spelled_by) ▹ not_too_many
 
 -- what the items of a list say, if each says something
 unfoldable pub each_read : {A : Type 0} → (Data → Option A) → Items → Option (List A)
 each_read says no_items = Some []
 each_read says (item value values) =
-    option_and_then (λ first. option_map (λ others. first ∷ others) (each_read says values))
-    (says value)
+    says value ▹ λ first.
+    each_read says values ▸ λ others.
+    first ∷ others
 
 abbrev pub names_spelled : Items → Option (List (List ℕ))
 names_spelled values = each_read name_spelled values
@@ -75,7 +87,7 @@ not_too_many_names names = if nat_le (length names) longest_piece then Some name
 
 -- the name that a field spells
 abbrev pub name_under : List ℕ → Data → Option (List ℕ)
-name_under key line = option_and_then name_spelled (get key line)
+name_under key line = get key line ▹ name_spelled
 
 -- a name that may be left out, and is empty then
 abbrev pub name_or_empty : List ℕ → Data → Option (List ℕ)
@@ -92,10 +104,10 @@ from_asked line =
 abbrev pub count_asked : Data → Option (Option ℕ)
 count_asked line =
     if is_none (get (codes "count") line) then Some None
-    else option_map (λ n. Some n) (number_in 0 4294967295 (codes "count") line)
+    else number_in 0 4294967295 (codes "count") line ▸ λ n. Some n
 
 abbrev pub window_asked : Data → Option Window
 window_asked line =
-    option_and_then
-    (λ from. option_map (λ count. record { from = from; count = count }) (count_asked line))
-    (from_asked line)
+    from_asked line ▹ λ from.
+    count_asked line ▸ λ count.
+    record { from = from; count = count }
