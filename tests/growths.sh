@@ -1,5 +1,5 @@
 #!/usr/bin/env bash
-# Checks that want of memory changes nothing else: each call of a built ctfd for memory is refused.
+# Checks that running out of memory changes nothing else: each call of a built ctfd for memory is refused.
 # usage: tests/growths.sh PROGRAM [--all]
 # PROGRAM is crates/ctfd/out/ctfd once `rt run` in crates/ctfd has built it; one that `rt try`
 # builds does not do: it has an allocator of its own. Needs a C compiler and Python, and glibc.

@@ -7,7 +7,7 @@ use Rattle.ctf_model.specs.drafts.Drafts.{Draft, discarded, held, new_draft, set
 use Rattle.ctf_model.specs.drafts.NewTypes.{NewType, forward}
 use Rattle.ctf_model.specs.format.Dictionary.{Label}
 use Rattle.ctf_model.specs.format.Term.{Enumerator, Tag, struct_tag, union_tag, enum_tag}
-use Rattle.ctf_model.specs.rules.Refusals.{placeless, want_of_memory}
+use Rattle.ctf_model.specs.rules.Refusals.{placeless, out_of_memory}
 use Rattle.ctf_model.specs.spaces.Kept.{Kept, modelled_by}
 use Rattle.ctf_model.specs.writing.Written.{lists_of, written}
 use Rattle.ctf_model.specs.declared.data_model.DataModel.{DataModel}
@@ -48,7 +48,7 @@ number_there false n = None
 abbrev pub Creates : Result Open Fault → ℕ → ℕ → ℕ → Option Open → Option Open → Type 0
 Creates made status was place old new =
     ((s : Open) × ((status ≡ 0) × (place ≡ was) × (new ≡ Some s) × (made ≡ Ok s)))
-    ⊎ ((f : Fault) × (((f ≡ want_of_memory) ⊎ (made ≡ Err f)) × (status ≡ status_of f)
+    ⊎ ((f : Fault) × (((f ≡ out_of_memory) ⊎ (made ≡ Err f)) × (status ≡ status_of f)
     × (place ≡ f.place) × (new ≡ old)))
 
 -- a step was made and its answer given, or why it wasn't is told, and nothing changed
@@ -56,7 +56,7 @@ abbrev pub Steps : Result Stepped Fault → ℕ → ℕ → ℕ → Option Open 
 Steps outcome status was is old new =
     ((s : Open) × ((status ≡ 0) × (new ≡ Some s)
     × (outcome ≡ Ok (record { served = s; answer = is }))))
-    ⊎ ((f : Fault) × (((f ≡ want_of_memory) ⊎ (outcome ≡ Err f)) × (status ≡ status_of f)
+    ⊎ ((f : Fault) × (((f ≡ out_of_memory) ⊎ (outcome ≡ Err f)) × (status ≡ status_of f)
     × (is ≡ was) × (new ≡ old)))
 
 -- the same of a step whose answer is not given
@@ -69,7 +69,7 @@ abbrev pub StepsAt : Result Stepped Fault → ℕ → ℕ → ℕ → ℕ → �
 StepsAt outcome status was is before place old new =
     ((s : Open) × ((status ≡ 0) × (place ≡ before) × (new ≡ Some s)
     × (outcome ≡ Ok (record { served = s; answer = is }))))
-    ⊎ ((f : Fault) × (((f ≡ want_of_memory) ⊎ (outcome ≡ Err f)) × (status ≡ status_of f)
+    ⊎ ((f : Fault) × (((f ≡ out_of_memory) ⊎ (outcome ≡ Err f)) × (status ≡ status_of f)
     × (place ≡ f.place) × (is ≡ was) × (new ≡ old)))
 
 -- the same of a step that takes no memory

@@ -12,7 +12,7 @@ use Rattle.ctf_model.specs.format.Dictionary.{Label}
 use Rattle.ctf_model.specs.format.Lists.{Lists}
 use Rattle.ctf_model.specs.format.Term.{Enumerator, Member, Tag, Term, struct_tag, union_tag, enum_tag}
 use Rattle.ctf_model.specs.rules.Faults.{first_fault}
-use Rattle.ctf_model.specs.rules.Refusals.{placeless, want_of_memory}
+use Rattle.ctf_model.specs.rules.Refusals.{placeless, out_of_memory}
 use Rattle.ctf_model.specs.spaces.Kept.{Kept, fault_over, kept_dictionary}
 use Rattle.ctf_model.specs.symbols.Entries.{Signature}
 use Rattle.ctf_model.specs.symbols.SymbolQuestions.{or_refused}
@@ -52,7 +52,7 @@ GivesPath (Err fault) status old new =
 -- the same where memory may be refused
 abbrev pub MayGivePath : Result Position Fault → ℕ → PathTold → PathTold → Type 0
 MayGivePath answer status old new =
-    GivesPath answer status old new ⊎ GivesPath (Err want_of_memory) status old new
+    GivesPath answer status old new ⊎ GivesPath (Err out_of_memory) status old new
 
 -- ---- what is asked
 
@@ -129,7 +129,7 @@ GivesText (Err fault) status old new = (status ≡ status_of fault) × (new ≡ 
 -- the same where memory may be refused
 abbrev pub MayGiveText : Result (List ℕ) Fault → ℕ → Told → Told → Type 0
 MayGiveText text status old new =
-    GivesText text status old new ⊎ GivesText (Err want_of_memory) status old new
+    GivesText text status old new ⊎ GivesText (Err out_of_memory) status old new
 
 -- the same of some bytes from a place on, with how many there are in all
 abbrev pub GivesBytes : Result (List ℕ) Fault → ℕ → ℕ → Told → Told → Type 0

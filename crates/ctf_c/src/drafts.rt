@@ -3,7 +3,7 @@ ghost use Rattle.std.specs.Prelude.{◌≡◌, ◌==◌, ◌⊎◌, [], None, So
 ghost use Rattle.ctf_c.specs.Drafting.{Creates, Does, StepsAt, created_under};
 ghost use Rattle.ctf_model.specs.opened.Steps.{created, dropped, updated};
 ghost use Rattle.ctf_c.specs.Given.{GivesBytes, asked, model_if};
-ghost use Rattle.ctf_model.specs.rules.Refusals.{want_of_memory};
+ghost use Rattle.ctf_model.specs.rules.Refusals.{out_of_memory};
 
 use crate::given::{NOT_OPEN, dictionary_of, model_of, status, write_front};
 use crate::handle::Handle;
@@ -23,7 +23,7 @@ fn drafted(
     requires { is_some parent ≡ not (length parname.now == 0) }
     ensures ok { IfOk result (λ s.
         created (option_copied parent.entry) parname.now parlabel.now model ≡ Ok s.value) }
-    ensures exact_err { IfErr result (λ f. (f ≡ want_of_memory)
+    ensures exact_err { IfErr result (λ f. (f ≡ out_of_memory)
         ⊎ (created (option_copied parent.entry) parname.now parlabel.now model ≡ Err f)) }
 {
     let draft = OpenDictionary::create(alloc, parent, parname, parlabel, model)?;
@@ -63,7 +63,7 @@ fn drafted_under(
 ) -> Result<Box<OpenDictionary>, Fault>
     ensures ok { IfOk result (λ s.
         created_under (Some parent.now) parname.now parlabel.now ≡ Ok s.value) }
-    ensures exact_err { IfErr result (λ f. (f ≡ want_of_memory)
+    ensures exact_err { IfErr result (λ f. (f ≡ out_of_memory)
         ⊎ (created_under (Some parent.now) parname.now parlabel.now ≡ Err f)) }
 {
     if parname.is_empty() {

@@ -5,7 +5,7 @@ ghost use Rattle.ctf_c.specs.Naming.{names_given};
 ghost use Rattle.ctf_model.specs.opened.Open.{space_in};
 ghost use Rattle.ctf_layout.specs.Reached.{position_of};
 ghost use Rattle.ctf_model.specs.opened.Questions.{path_answered};
-ghost use Rattle.ctf_model.specs.rules.Refusals.{want_of_memory};
+ghost use Rattle.ctf_model.specs.rules.Refusals.{out_of_memory};
 
 use crate::given::{NOT_OPEN, status};
 use crate::handle::Handle;
@@ -40,7 +40,7 @@ fn path_along(
 ) -> Result<(u64, TypeNum), Fault>
     ensures ok { IfOk result (λ at.
         path_answered (space_in dictionary.now) (names_given names.now) t.0 ≡ Ok (position_of at)) }
-    ensures exact_err { IfErr result (λ f. (f ≡ want_of_memory)
+    ensures exact_err { IfErr result (λ f. (f ≡ out_of_memory)
         ⊎ (path_answered (space_in dictionary.now) (names_given names.now) t.0 ≡ Err f)) }
 {
     let names = names_in(alloc, names)?;

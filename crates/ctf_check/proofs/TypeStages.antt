@@ -10,7 +10,8 @@ use Rattle.ctf_model.specs.format.Section.{Piece, records}
 use Rattle.ctf_model.specs.declared.faults.Fault.{Fault}
 use Rattle.ctf_chains.specs.Steps.{AreSpelled}
 use Rattle.ctf_check.specs.Named.{first_that_misnames}
-use Rattle.ctf_check.specs.Stages.{records_fault, chains_fault, types_fault, symbols_fault, fault_before_chains, want_of_memory}
+use Rattle.ctf_check.specs.Stages.{records_fault, chains_fault, types_fault, symbols_fault, fault_before_chains}
+use Rattle.ctf_model.specs.rules.Refusals.{out_of_memory}
 use Rattle.ctf_check.proofs.Naming.{first_said}
 use Rattle.ctf_check.proofs.Order.{at_names, before_chains, read_whole}
 use Rattle.ctf_check.proofs.Terms.{IsSpelled, each_spelled, all_are_spelled, spelled_from}
@@ -35,8 +36,8 @@ at_reference child count rs place found same whole = λ t spelled. staged child 
 pub past_references : (child : Bool) (count : ℕ) (rs : List (Result Piece Fault)) (fault : Option Fault) → None ≡ first_that_misnames child count rs → count ≡ length rs → walk_fault rs ≡ None → IsFaultOfChains child rs fault → IsFaultOfTypes child rs fault
 past_references child count rs fault found same whole chains = λ t spelled. staged child count rs None t found same whole spelled ∙ chains t spelled
 
--- the same of a fault that may be want of memory
-pub or_memory : (child : Bool) (count : ℕ) (rs : List (Result Piece Fault)) (f : Fault) → None ≡ first_that_misnames child count rs → count ≡ length rs → walk_fault rs ≡ None → (f ≡ want_of_memory) ⊎ IsFaultOfChains child rs (Some f) → (f ≡ want_of_memory) ⊎ IsFaultOfTypes child rs (Some f)
+-- the same of a fault that may be out of memory
+pub or_memory : (child : Bool) (count : ℕ) (rs : List (Result Piece Fault)) (f : Fault) → None ≡ first_that_misnames child count rs → count ≡ length rs → walk_fault rs ≡ None → (f ≡ out_of_memory) ⊎ IsFaultOfChains child rs (Some f) → (f ≡ out_of_memory) ⊎ IsFaultOfTypes child rs (Some f)
 or_memory child count rs f found same whole (inl e) = inl e
 or_memory child count rs f found same whole (inr chains) = inr (past_references child count rs (Some f) found same whole chains)
 
@@ -52,8 +53,8 @@ at_types s b child bad fault header part few named none same is =
     let types_are : types_fault (tables s) (is_child (fields s.ctf)) (types s.ctf) ≡ fault = ap (λ (c : Bool). types_fault (tables s) c (types s.ctf)) (sym same) ∙ here (tables s) spelled in
     at_names s None header few' (sym named') ∙ ap (λ (f : Option Fault). option_or f (symbols_fault s)) types_are
 
--- the same of a fault that may be want of memory
-pub at_types_or_memory : (s : Lists) (b : List ℕ) (child : Bool) (bad : Option ℕ) (f : Fault) → header_fault s.ctf ≡ None → records b ≡ types s.ctf → records_fault (records b) ≡ None → bad ≡ first_nameless (tables s) (sites s.ctf) → bad ≡ None → child ≡ is_child (fields s.ctf) → (f ≡ want_of_memory) ⊎ IsFaultOfTypes child (records b) (Some f) → (f ≡ want_of_memory) ⊎ (first_fault s ≡ Some f)
+-- the same of a fault that may be out of memory
+pub at_types_or_memory : (s : Lists) (b : List ℕ) (child : Bool) (bad : Option ℕ) (f : Fault) → header_fault s.ctf ≡ None → records b ≡ types s.ctf → records_fault (records b) ≡ None → bad ≡ first_nameless (tables s) (sites s.ctf) → bad ≡ None → child ≡ is_child (fields s.ctf) → (f ≡ out_of_memory) ⊎ IsFaultOfTypes child (records b) (Some f) → (f ≡ out_of_memory) ⊎ (first_fault s ≡ Some f)
 at_types_or_memory s b child bad f header part few named none same (inl e) = inl e
 at_types_or_memory s b child bad f header part few named none same (inr is) = inr (at_types s b child bad (Some f) header part few named none same is)
 

@@ -17,7 +17,7 @@ use Rattle.ctf_model.specs.format.Name.{Tables}
 use Rattle.ctf_model.specs.format.Record.{kind}
 use Rattle.ctf_model.specs.format.Section.{Piece, terms_in}
 use Rattle.ctf_model.specs.declared.faults.Fault.{Fault}
-use Rattle.ctf_model.specs.declared.faults.TheConstants.Fault.{MEMORY, TOO_MANY, BAD_REFERENCE, VALUE_DEEP, DECL_DEEP, BAD_FUNCS, BAD_SYMBOL_TYPE, BAD_SYMTAB}
+use Rattle.ctf_model.specs.declared.faults.TheConstants.Fault.{TOO_MANY, BAD_REFERENCE, VALUE_DEEP, DECL_DEEP, BAD_FUNCS, BAD_SYMBOL_TYPE, BAD_SYMTAB}
 
 -- the first fault of the records: where reading them stops, else that they are too many
 abbrev pub records_fault : List (Result Piece Fault) → Option Fault
@@ -92,7 +92,3 @@ symbols_fault s =
 -- the first fault of the rules in front of those of chains
 unfoldable pub fault_before_chains : Lists → Option Fault
 fault_before_chains s = first_broken 1 (take 14 rules) s
-
--- memory was refused
-abbrev pub want_of_memory : Fault
-want_of_memory = record { code = MEMORY; place = 0 }

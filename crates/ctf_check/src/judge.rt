@@ -6,7 +6,8 @@ ghost use Rattle.ctf_model.specs.rules.Faults.{first_fault, types as types_of, w
 ghost use Rattle.ctf_model.specs.format.Section.{records};
 ghost use Rattle.ctf_check.specs.ListsView.{given};
 ghost use Rattle.ctf_check.specs.Named.{first_that_misnames};
-ghost use Rattle.ctf_check.specs.Stages.{IsTypesFault, fault_before_chains, records_fault, want_of_memory};
+ghost use Rattle.ctf_check.specs.Stages.{IsTypesFault, fault_before_chains, records_fault};
+ghost use Rattle.ctf_model.specs.rules.Refusals.{out_of_memory};
 
 use crate::bad_names::bad_name;
 use crate::ends::NameEnds;
@@ -59,7 +60,7 @@ fn judge_types(alloc: Global, types: &[u8], numbers: Numbers) -> Result<Starts, 
     requires short { length types.now < 2 ^ 32 }
     ensures ok { OnOk result (IsTypesFault numbers.child (records types.now) None) }
     ensures starts { IfOk result (λ s. s ≡ starts_in (records types.now)) }
-    ensures err { IfErr result (λ f. (f ≡ want_of_memory)
+    ensures err { IfErr result (λ f. (f ≡ out_of_memory)
         ⊎ IsTypesFault numbers.child (records types.now) (Some f)) }
     ensures late { IfErr result (λ f.
         (first_that_misnames numbers.child numbers.count (records types.now) ≡ None)
@@ -91,7 +92,7 @@ pub fn check(
     ensures starts { IfOk result (λ x. x.starts ≡ starts_in (types_of ctf.now)) }
     ensures exact_ok { OnOk result (first_fault
         (given ctf.now (option_copied sym.entry) (option_copied strs.entry)) ≡ None) }
-    ensures exact_err { IfErr result (λ f. (f ≡ want_of_memory) ⊎ (first_fault
+    ensures exact_err { IfErr result (λ f. (f ≡ out_of_memory) ⊎ (first_fault
         (given ctf.now (option_copied sym.entry) (option_copied strs.entry)) ≡ Some f)) }
     ensures late { IfErr result (λ f. (fault_before_chains
         (given ctf.now (option_copied sym.entry) (option_copied strs.entry)) ≡ None) ⊎ (first_fault

@@ -8,7 +8,7 @@ ghost use Rattle.ctf_check.specs.Stages.{fault_before_chains};
 ghost use Rattle.ctf_model.specs.format.Header.{fields, section as section_of};
 ghost use Rattle.ctf_model.specs.format.OwnedLists.{lists_owned};
 ghost use Rattle.ctf_model.specs.rules.Faults.{first_fault, types as types_of};
-ghost use Rattle.ctf_model.specs.rules.Refusals.{want_of_memory};
+ghost use Rattle.ctf_model.specs.rules.Refusals.{out_of_memory};
 
 use crate::checked::Checked;
 use crate::held::HeldLists;
@@ -65,7 +65,7 @@ impl<'a> Judged<'a> {
     ) -> Result<Judged<'a>, (Fault, Parts)>
         ensures ok { IfOk result (λ j. j ≡ owning (lists_owned parts) model) }
         ensures exact_ok { OnOk result (first_fault (lists_owned parts) ≡ None) }
-        ensures exact_err { IfErr result (λ e. (e.0 ≡ want_of_memory)
+        ensures exact_err { IfErr result (λ e. (e.0 ≡ out_of_memory)
             ⊎ (first_fault (lists_owned parts) ≡ Some e.0)) }
         ensures late { IfErr result (λ e. (fault_before_chains (lists_owned parts) ≡ None)
             ⊎ (first_fault (lists_owned parts) ≡ Some e.0)) }
@@ -88,7 +88,7 @@ impl<'a> Judged<'a> {
     pub fn lent(alloc: Global, lists: LentLists<'a>, model: DataModel) -> Result<Judged<'a>, Fault>
         ensures ok { IfOk result (λ j. j ≡ lent_for (lists_in lists.entry) model) }
         ensures exact_ok { OnOk result (first_fault (lists_in lists.entry) ≡ None) }
-        ensures exact_err { IfErr result (λ f. (f ≡ want_of_memory)
+        ensures exact_err { IfErr result (λ f. (f ≡ out_of_memory)
             ⊎ (first_fault (lists_in lists.entry) ≡ Some f)) }
         ensures late { IfErr result (λ f. (fault_before_chains (lists_in lists.entry) ≡ None)
             ⊎ (first_fault (lists_in lists.entry) ≡ Some f)) }

@@ -3,7 +3,8 @@ ghost use Rattle.std.specs.Prelude.{◌≡◌, ◌<◌, ◌^◌, length, OnOk, I
 ghost use Rattle.ctf_model.specs.rules.Faults.{walk_fault};
 ghost use Rattle.ctf_model.specs.format.Section.{records};
 ghost use Rattle.ctf_chains.specs.Starts.{starts_in};
-ghost use Rattle.ctf_check.specs.Stages.{IsChainPlace, IsChainsFault, want_of_memory};
+ghost use Rattle.ctf_check.specs.Stages.{IsChainPlace, IsChainsFault};
+ghost use Rattle.ctf_model.specs.rules.Refusals.{out_of_memory};
 
 use crate::references::Numbers;
 use ctf_chains::{Chain, Starts, first_deep_type, record_starts};
@@ -23,7 +24,7 @@ fn judge_chain(
     requires starts { starts.now ≡ starts_in (records types.now) }
     requires short { length (records types.now) < 2 ^ 32 }
     ensures ok { OnOk result (IsChainPlace chain child (records types.now) None) }
-    ensures err { IfErr result (λ f. (f ≡ want_of_memory)
+    ensures err { IfErr result (λ f. (f ≡ out_of_memory)
         ⊎ ((f.code ≡ code) × IsChainPlace chain child (records types.now) (Some f.place))) }
 {
     match first_deep_type(alloc, types, starts, child, chain)? {
@@ -45,7 +46,7 @@ pub fn judge_chains(alloc: Global, types: &[u8], numbers: Numbers) -> Result<Sta
     requires short { length types.now < 2 ^ 32 }
     ensures ok { OnOk result (IsChainsFault numbers.child (records types.now) None) }
     ensures starts { IfOk result (λ s. s ≡ starts_in (records types.now)) }
-    ensures err { IfErr result (λ f. (f ≡ want_of_memory)
+    ensures err { IfErr result (λ f. (f ≡ out_of_memory)
         ⊎ IsChainsFault numbers.child (records types.now) (Some f)) }
 {
     let starts = record_starts(alloc, types, numbers.count)?;

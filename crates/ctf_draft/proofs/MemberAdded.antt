@@ -4,7 +4,7 @@ use Rattle.ctf_model.specs.drafts.Adders.{Added, add_member, against_member, aga
 use Rattle.ctf_model.specs.drafts.Drafts.{Draft, space_of}
 use Rattle.ctf_model.specs.rules.Judgements.{◌then◌, Row, first_met, unless}
 use Rattle.ctf_model.specs.drafts.Placement.{bits_filled, member_place}
-use Rattle.ctf_model.specs.rules.Refusals.{placeless, want_of_memory}
+use Rattle.ctf_model.specs.rules.Refusals.{placeless, out_of_memory}
 use Rattle.ctf_model.specs.declared.faults.Fault.{Fault}
 use Rattle.ctf_draft.specs.Planning.{against_name, planned, planned_at, planned_shallow}
 use Rattle.ctf_draft.specs.declared.plan.Plan.{Plan}
@@ -69,6 +69,6 @@ module _ (d : Draft) (n : ℕ) (name : List ℕ) (tnum : ℕ) (offset : Option �
   pub member_accepted : (p : Plan) → against_name d n name tnum ≡ None → planned d n tnum offset ≡ Ok p → add_member d n name tnum offset ≡ Ok (put p)
   member_accepted p none h = by_plan none ∙ ap finish h
 
-  pub refused_or_memory : (f : Fault) → against_name d n name tnum ≡ None → (f ≡ want_of_memory) ⊎ (planned d n tnum offset ≡ Err f) → (f ≡ want_of_memory) ⊎ (add_member d n name tnum offset ≡ Err f)
+  pub refused_or_memory : (f : Fault) → against_name d n name tnum ≡ None → (f ≡ out_of_memory) ⊎ (planned d n tnum offset ≡ Err f) → (f ≡ out_of_memory) ⊎ (add_member d n name tnum offset ≡ Err f)
   refused_or_memory f none (inl memory) = inl memory
   refused_or_memory f none (inr h) = inr (member_refused f none h)

@@ -8,7 +8,7 @@ use Rattle.ctf_model.specs.rules.Chains.{IsWithin, longest_chain, own_index, tar
 use Rattle.ctf_model.specs.drafts.Drafts.{Draft, count_of, held, space_of}
 use Rattle.ctf_model.specs.figures.FigureLaws.{value_edges}
 use Rattle.ctf_model.specs.figures.Figures.{align}
-use Rattle.ctf_model.specs.rules.Refusals.{placeless, want_of_memory}
+use Rattle.ctf_model.specs.rules.Refusals.{placeless, out_of_memory}
 use Rattle.ctf_model.specs.declared.faults.Fault.{Fault}
 use Rattle.ctf_model.proofs.ChainRules.{within_true}
 use Rattle.ctf_draft.specs.Planning.{planned, planned_shallow}
@@ -54,6 +54,6 @@ pub plan_ok : (d : Draft) (n tnum : ℕ) (offset : Option ℕ) (r : Result Plan 
 plan_ok d n tnum offset (Ok p) h e = plan_of_shallow d n tnum offset h ∙ sym e
 plan_ok d n tnum offset (Err f) h e = tt
 
-pub plan_err : (d : Draft) (n tnum : ℕ) (offset : Option ℕ) (r : Result Plan Fault) → is_deep d tnum ≡ false → r ≡ planned_shallow d n tnum offset → IfErr r (λ f. (f ≡ want_of_memory) ⊎ (planned d n tnum offset ≡ Err f))
+pub plan_err : (d : Draft) (n tnum : ℕ) (offset : Option ℕ) (r : Result Plan Fault) → is_deep d tnum ≡ false → r ≡ planned_shallow d n tnum offset → IfErr r (λ f. (f ≡ out_of_memory) ⊎ (planned d n tnum offset ≡ Err f))
 plan_err d n tnum offset (Ok p) h e = tt
 plan_err d n tnum offset (Err f) h e = inr (plan_of_shallow d n tnum offset h ∙ sym e)

@@ -8,7 +8,7 @@ ghost use Rattle.ctf_model.specs.drafts.Drafts.{is_absent as is_absent_in, is_un
 ghost use Rattle.ctf_model.specs.rules.Judgements.{first_met};
 ghost use Rattle.ctf_model.specs.drafts.NewTypes.{new_body, new_term};
 ghost use Rattle.ctf_model.specs.rules.References.{references};
-ghost use Rattle.ctf_model.specs.rules.Refusals.{want_of_memory};
+ghost use Rattle.ctf_model.specs.rules.Refusals.{out_of_memory};
 ghost use Rattle.ctf_model.specs.format.Shown.{list_length, shown};
 
 use crate::draft::Draft;
@@ -103,7 +103,7 @@ impl Draft {
     pub fn add(&mut self, new: NewType) -> Result<TypeNum, Fault>
         ensures ok { IfOk result (λ n. add_type self.old.draft (new_of new)
             ≡ Ok (record { draft = self.new.draft; answer = n.0 })) }
-        ensures exact_err { IfErr result (λ f. (f ≡ want_of_memory)
+        ensures exact_err { IfErr result (λ f. (f ≡ out_of_memory)
             ⊎ (add_type self.old.draft (new_of new) ≡ Err f)) }
         ensures as_before { OnErr result (self.new ≡ self.old) }
         ensures dictionary { self.new.dictionary ≡ self.old.dictionary }
@@ -123,7 +123,7 @@ impl Draft {
     pub fn label(&mut self, name: Bytes, last: u32) -> Result<(), Fault>
         ensures ok { OnOk result (add_label self.old.draft (record { name = name; last = last })
             ≡ Ok self.new.draft) }
-        ensures exact_err { IfErr result (λ f. (f ≡ want_of_memory)
+        ensures exact_err { IfErr result (λ f. (f ≡ out_of_memory)
             ⊎ (add_label self.old.draft (record { name = name; last = last }) ≡ Err f)) }
         ensures as_before { OnErr result (self.new ≡ self.old) }
         ensures dictionary { self.new.dictionary ≡ self.old.dictionary }

@@ -7,7 +7,7 @@ ghost use Rattle.ctf_model.specs.format.Dictionary.{Denotes, said_by};
 ghost use Rattle.ctf_model.specs.drafts.DraftLaws.{IsSound};
 ghost use Rattle.ctf_model.specs.drafts.Drafts.{above, all_of, discarded, held, is_childs as is_childs_parent, is_of_other as is_of_other_model, new_draft, pending_count, settled};
 ghost use Rattle.ctf_model.specs.spaces.Kept.{modelled_by};
-ghost use Rattle.ctf_model.specs.rules.Refusals.{want_of_memory};
+ghost use Rattle.ctf_model.specs.rules.Refusals.{out_of_memory};
 
 use crate::labels::Labels;
 use crate::marks::Marks;
@@ -83,7 +83,7 @@ impl Draft {
         ensures ok { IfOk result (λ d. (new_draft
             (option_map (λ p. modelled_by p.value.kept) parent.entry) parname parlabel model
             ≡ Ok d.draft) × (d.dictionary ≡ None)) }
-        ensures exact_err { IfErr result (λ f. (f ≡ want_of_memory) ⊎ (new_draft
+        ensures exact_err { IfErr result (λ f. (f ≡ out_of_memory) ⊎ (new_draft
             (option_map (λ p. modelled_by p.value.kept) parent.entry) parname parlabel model
             ≡ Err f)) }
     {

@@ -7,7 +7,7 @@ ghost use Rattle.ctf_model.specs.drafts.Adders.{add_enumerator, add_member, agai
 ghost use Rattle.ctf_model.specs.drafts.DraftLaws.{IsSound};
 ghost use Rattle.ctf_model.specs.drafts.Drafts.{is_settled};
 ghost use Rattle.ctf_model.specs.rules.Judgements.{first_met};
-ghost use Rattle.ctf_model.specs.rules.Refusals.{want_of_memory};
+ghost use Rattle.ctf_model.specs.rules.Refusals.{out_of_memory};
 
 use crate::adding::MOST_ITEMS;
 use crate::draft::Draft;
@@ -122,7 +122,7 @@ impl Draft {
             (with_member (member_of member) size (body_at self.old.draft n.0))) }
         ensures ok { OnOk result (self.new.draft ≡ replaced self.old.draft n.0
             (with_member (member_of member) size (body_at self.old.draft n.0))) }
-        ensures err { IfErr result (λ f. f ≡ want_of_memory) }
+        ensures err { IfErr result (λ f. f ≡ out_of_memory) }
         ensures as_before { OnErr result (self.new ≡ self.old) }
         ensures dictionary { self.new.dictionary ≡ self.old.dictionary }
     {
@@ -142,7 +142,7 @@ impl Draft {
     ) -> Result<u64, Fault>
         ensures ok { IfOk result (λ at. add_member self.old.draft n.0 name tnum.0 offset
             ≡ Ok (record { draft = self.new.draft; answer = at })) }
-        ensures exact_err { IfErr result (λ f. (f ≡ want_of_memory)
+        ensures exact_err { IfErr result (λ f. (f ≡ out_of_memory)
             ⊎ (add_member self.old.draft n.0 name tnum.0 offset ≡ Err f)) }
         ensures as_before { OnErr result (self.new ≡ self.old) }
         ensures dictionary { self.new.dictionary ≡ self.old.dictionary }
@@ -165,7 +165,7 @@ impl Draft {
             (with_enumerator (enumerator_of enumerator) (body_at self.old.draft n.0))) }
         ensures ok { OnOk result (self.new.draft ≡ replaced self.old.draft n.0
             (with_enumerator (enumerator_of enumerator) (body_at self.old.draft n.0))) }
-        ensures err { IfErr result (λ f. f ≡ want_of_memory) }
+        ensures err { IfErr result (λ f. f ≡ out_of_memory) }
         ensures as_before { OnErr result (self.new ≡ self.old) }
         ensures dictionary { self.new.dictionary ≡ self.old.dictionary }
     {
@@ -178,7 +178,7 @@ impl Draft {
     pub fn enumerator(&mut self, n: TypeNum, name: Bytes, value: i32) -> Result<(), Fault>
         ensures ok { OnOk result (add_enumerator self.old.draft n.0
             (record { name = name; value = value }) ≡ Ok self.new.draft) }
-        ensures exact_err { IfErr result (λ f. (f ≡ want_of_memory)
+        ensures exact_err { IfErr result (λ f. (f ≡ out_of_memory)
             ⊎ (add_enumerator self.old.draft n.0 (record { name = name; value = value })
             ≡ Err f)) }
         ensures as_before { OnErr result (self.new ≡ self.old) }

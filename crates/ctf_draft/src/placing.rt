@@ -8,7 +8,7 @@ ghost use Rattle.ctf_model.specs.drafts.Adders.{body_at, is_deep};
 ghost use Rattle.ctf_model.specs.drafts.Drafts.{space_of};
 ghost use Rattle.ctf_model.specs.figures.Figures.{align as align_in};
 ghost use Rattle.ctf_model.specs.drafts.Placement.{aligned_from as aligned_from_in, bytes_holding as bytes_holding_in, grown as grown_in, member_place as member_place_in, own_place as own_place_in};
-ghost use Rattle.ctf_model.specs.rules.Refusals.{want_of_memory};
+ghost use Rattle.ctf_model.specs.rules.Refusals.{out_of_memory};
 ghost use Rattle.ctf_model.specs.format.Shown.{size_of};
 
 use crate::draft::Draft;
@@ -172,7 +172,7 @@ impl Draft {
         requires pending { StandsPending self.now.draft n.0 i }
         requires knows { Knows self.now.draft marks.old }
         ensures ok { IfOk result (λ p. planned self.now.draft n.0 tnum.0 offset ≡ Ok p) }
-        ensures err { IfErr result (λ f. (f ≡ want_of_memory)
+        ensures err { IfErr result (λ f. (f ≡ out_of_memory)
             ⊎ (planned self.now.draft n.0 tnum.0 offset ≡ Err f)) }
         ensures knows { Knows self.now.draft marks.new }
     {
@@ -193,7 +193,7 @@ impl Draft {
     ) -> Result<Plan, Fault>
         requires { StandsPending self.old.draft n.0 i }
         ensures ok { IfOk result (λ p. planned self.old.draft n.0 tnum.0 offset ≡ Ok p) }
-        ensures err { IfErr result (λ f. (f ≡ want_of_memory)
+        ensures err { IfErr result (λ f. (f ≡ out_of_memory)
             ⊎ (planned self.old.draft n.0 tnum.0 offset ≡ Err f)) }
         ensures same { self.new ≡ self.old }
     {

@@ -2,7 +2,7 @@
 ghost use Rattle.std.specs.Prelude.{◌≡◌, [], false, map, unwrap_or, IfErr, OnErr, OnOk};
 ghost use Rattle.ctf_draft.specs.TypeView.{body_of, enumerator_of, member_of, type_of};
 ghost use Rattle.ctf_model.specs.drafts.Adders.{is_taken, with_body, with_enumerator, with_member};
-ghost use Rattle.ctf_model.specs.rules.Refusals.{want_of_memory};
+ghost use Rattle.ctf_model.specs.rules.Refusals.{out_of_memory};
 ghost use Rattle.ctf_model.specs.format.Shown.{enumerators_in, members_in, shown};
 
 use crate::types::{Body, DraftType, Enumerator, Member};
@@ -20,7 +20,7 @@ pub(crate) fn push_member(
         (unwrap_or (members_in (shown (body_of to.old.body))) [])) ≡ false }
     ensures ok { OnOk result (type_of to.new
         ≡ with_body (with_member (member_of member) size (type_of to.old).body) (type_of to.old)) }
-    ensures err { IfErr result (λ f. f ≡ want_of_memory) }
+    ensures err { IfErr result (λ f. f ≡ out_of_memory) }
     ensures as_before { OnErr result (type_of to.new ≡ type_of to.old) }
 {
     match &mut to.body {
@@ -45,7 +45,7 @@ pub(crate) fn push_enumerator(
         (unwrap_or (enumerators_in (shown (body_of to.old.body))) [])) ≡ false }
     ensures ok { OnOk result (type_of to.new ≡ with_body
         (with_enumerator (enumerator_of enumerator) (type_of to.old).body) (type_of to.old)) }
-    ensures err { IfErr result (λ f. f ≡ want_of_memory) }
+    ensures err { IfErr result (λ f. f ≡ out_of_memory) }
     ensures as_before { OnErr result (type_of to.new ≡ type_of to.old) }
 {
     match &mut to.body {

@@ -7,7 +7,7 @@ ghost use Rattle.ctf_dump.specs.Progress.{HasBegun};
 ghost use Rattle.ctf_dump.specs.Refused.{EndsBy, MayAnswer, RefusedBy, bytes_of, in_file, own_kept, own_lists, parent_lists, refusal, space_in, status_after};
 ghost use Rattle.ctf_model.specs.dumps.Dump.{dump as text_of};
 ghost use Rattle.ctf_model.specs.rules.Faults.{first_fault};
-ghost use Rattle.ctf_model.specs.rules.Refusals.{want_of_memory};
+ghost use Rattle.ctf_model.specs.rules.Refusals.{out_of_memory};
 ghost use Rattle.ctf_model.specs.spaces.Kept.{fault_over, kept_space};
 ghost use Rattle.ctf_space.specs.SpaceView.{space_of};
 
@@ -23,7 +23,7 @@ use std::io::Write;
 
 /// The end that a fault of a file is.
 fn refused(file: &str, fault: Fault) -> DumpEnd<'_>
-    ensures memory { fault ≡ want_of_memory → result ≡ DumpEnd.Memory }
+    ensures memory { fault ≡ out_of_memory → result ≡ DumpEnd.Memory }
     ensures other { (result ≡ DumpEnd.Memory) ⊎ (result ≡ DumpEnd.Refused file.entry fault) }
 {
     if fault.code == Fault::MEMORY {

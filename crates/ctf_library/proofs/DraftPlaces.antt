@@ -14,7 +14,7 @@ use Rattle.ctf_protocol.specs.sessions.Slots.{slots_with}
 use Rattle.ctf_protocol.specs.sessions.Opened.{SlotOutcome, open_of, slot_stepped, under}
 use Rattle.ctf_model.specs.opened.Steps.{discarded_if}
 use Rattle.ctf_model.specs.drafts.Drafts.{Draft}
-use Rattle.ctf_model.specs.rules.Refusals.{want_of_memory}
+use Rattle.ctf_model.specs.rules.Refusals.{out_of_memory}
 use Rattle.ctf_protocol.specs.sessions.State.{Slot}
 use Rattle.ctf_protocol.specs.sessions.Slots.{slot_at}
 use Rattle.ctf_model.specs.declared.faults.Fault.{Fault}
@@ -48,7 +48,7 @@ have_stepped others rest step n items i old new result p at same h = rw at (by (
     stepped = step_in others step (slot_of old) slots
 
     by : IsStepped stepped result (slot_of old) (slot_of new)
-        → ((changed result ≡ stepped.said) × (map slot_of (set items i new) ≡ slots_with n stepped.slot slots)) ⊎ ((result ≡ Err want_of_memory) × (map slot_of (set items i new) ≡ slots))
+        → ((changed result ≡ stepped.said) × (map slot_of (set items i new) ≡ slots_with n stepped.slot slots)) ⊎ ((result ≡ Err out_of_memory) × (map slot_of (set items i new) ≡ slots))
     by (inl done) = inl (done.0, becomes stepped.slot done.1)
     by (inr none) = inr (none.0, becomes (slot_of old) none.1 ∙ slot_kept n (slot_of old) slots at)
 
@@ -57,11 +57,11 @@ abbrev code_of : Result Answer Fault → ℕ
 code_of (Ok answer) = 1
 code_of (Err fault) = fault.code
 
-discard_answers : (s : Slot) (d : Option Draft) → (Err want_of_memory ≡ (slot_stepped (under (codes "types")) s (discarded_if (open_of s) d)).said) → ⊥
+discard_answers : (s : Slot) (d : Option Draft) → (Err out_of_memory ≡ (slot_stepped (under (codes "types")) s (discarded_if (open_of s) d)).said) → ⊥
 discard_answers s None e = let numbers : 0 ≡ 52 = ap code_of e in absurd (omega (arith, numbers))
 discard_answers s (Some d) e = let numbers : 0 ≡ 1 = ap code_of e in absurd (omega (arith, numbers))
 
-pub discard_is_quiet : (s : Slot) (step : DraftStep) (result : Result Counts Fault) → step ≡ Discard → changed result ≡ (slot_step step s).said → result ≡ Err want_of_memory → ⊥
+pub discard_is_quiet : (s : Slot) (step : DraftStep) (result : Result Counts Fault) → step ≡ Discard → changed result ≡ (slot_step step s).said → result ≡ Err out_of_memory → ⊥
 unfolding slot_step
 discard_is_quiet s step result is said want =
     let told : changed result ≡ (slot_step Discard s).said = rw is at said in

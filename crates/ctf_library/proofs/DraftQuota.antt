@@ -7,7 +7,7 @@ use Rattle.ctf_library.specs.Drafting.{HaveStepped, HaveSteppedAt, step_in}
 use Rattle.ctf_library.specs.Quotas.{granted_within, step_beside}
 use Rattle.ctf_library.specs.Stepping.{Makes}
 use Rattle.ctf_library.proofs.DraftPlaces.{slot_kept}
-use Rattle.ctf_model.specs.rules.Refusals.{placeless, want_of_memory}
+use Rattle.ctf_model.specs.rules.Refusals.{placeless, out_of_memory}
 use Rattle.ctf_model.specs.declared.faults.Fault.{Fault}
 use Rattle.ctf_model.specs.declared.faults.TheConstants.Fault.{QUOTA_FULL}
 use Rattle.ctf_protocol.proofs.Charged.{slot_becomes_charge, without_bytes}
@@ -61,7 +61,7 @@ made_at (Some slot) others x d s new result at is h =
     let to = becomes x d rest slot s at (omega (arith, less, is)) in
     subst (λ (o : Outcome). Makes s o result (with_slots s new)) (sym to) (by h)
   where
-    by : ((changed result ≡ (step_in others x slot s.slots).said) × (new ≡ slots_with d (step_in others x slot s.slots).slot s.slots)) ⊎ ((result ≡ Err want_of_memory) × (new ≡ s.slots)) → Makes s (slot_becomes d (step_in others x slot s.slots) s) result (with_slots s new)
+    by : ((changed result ≡ (step_in others x slot s.slots).said) × (new ≡ slots_with d (step_in others x slot s.slots).slot s.slots)) ⊎ ((result ≡ Err out_of_memory) × (new ≡ s.slots)) → Makes s (slot_becomes d (step_in others x slot s.slots) s) result (with_slots s new)
     by (inl done) = inl (ap reply_of done.0, ap (with_slots s) done.1)
     by (inr none) = inr (ap (λ (r : Result Counts Fault). said r) none.0, ap (with_slots s) none.1)
 

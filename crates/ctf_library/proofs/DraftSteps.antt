@@ -10,7 +10,7 @@ use Rattle.ctf_library.specs.Drafting.{IsStepped}
 use Rattle.ctf_protocol.specs.sessions.Opened.{slot_stepped}
 use Rattle.ctf_library.specs.Quotas.{within}
 use Rattle.ctf_protocol.specs.sessions.Opened.{SlotOutcome, open_of, slot_with, unsaid}
-use Rattle.ctf_model.specs.rules.Refusals.{want_of_memory}
+use Rattle.ctf_model.specs.rules.Refusals.{out_of_memory}
 use Rattle.ctf_model.specs.declared.faults.Fault.{Fault}
 use Rattle.ctf_open.specs.Quotas.{IsRefused}
 use Rattle.ctf_model.specs.opened.Open.{Open}
@@ -30,7 +30,7 @@ pub done_step : (say : ℕ → Answer) (s : Slot) (r : Result Stepped Fault) (ne
 done_step say s r new n counts is said =
     subst (λ (x : Result Stepped Fault). IsStepped (slot_stepped say s x) counts s (slot_with s.number new)) (sym is) (inl (said, refl))
 
-pub refused_step : (say : ℕ → Answer) (s : Slot) (r : Result Stepped Fault) (new : Open) (f : Fault) (counts : Result Counts Fault) → (f ≡ want_of_memory) ⊎ (r ≡ Err f) → new ≡ open_of s → counts ≡ Err f → IsStepped (slot_stepped say s r) counts s (slot_with s.number new)
+pub refused_step : (say : ℕ → Answer) (s : Slot) (r : Result Stepped Fault) (new : Open) (f : Fault) (counts : Result Counts Fault) → (f ≡ out_of_memory) ⊎ (r ≡ Err f) → new ≡ open_of s → counts ≡ Err f → IsStepped (slot_stepped say s r) counts s (slot_with s.number new)
 refused_step say s r new f counts (inl want) same is = inr (is ∙ ap Err want, ap (slot_with s.number) same)
 refused_step say s r new f counts (inr e) same is =
     subst (λ (x : Result Stepped Fault). IsStepped (slot_stepped say s x) counts s (slot_with s.number new)) (sym e) (inl (ap changed is, ap (slot_with s.number) same))
@@ -54,7 +54,7 @@ update_done others s new n counts is fits same said =
     let none : nat_lt quota (others + (kept_bytes new.own + parent_bytes new.parent)) ≡ false = le-ltb quota (others + (kept_bytes new.own + parent_bytes new.parent)) (omega (arith, le, alike)) in
     subst (λ (o : SlotOutcome). IsStepped (within others o s) counts s (slot_with s.number new)) (sym (updates_as s _ is)) (rw none (inl (said, refl)))
 
-pub update_refused : (others : ℕ) (s : Slot) (new : Open) (f : Fault) (counts : Result Counts Fault) → (f ≡ want_of_memory) ⊎ IsRefused (updated (open_of s)) (Some (record { others = others; most = quota })) f → new ≡ open_of s → counts ≡ Err f → IsStepped (within others (slot_step Update s) s) counts s (slot_with s.number new)
+pub update_refused : (others : ℕ) (s : Slot) (new : Open) (f : Fault) (counts : Result Counts Fault) → (f ≡ out_of_memory) ⊎ IsRefused (updated (open_of s)) (Some (record { others = others; most = quota })) f → new ≡ open_of s → counts ≡ Err f → IsStepped (within others (slot_step Update s) s) counts s (slot_with s.number new)
 update_refused others s new f counts (inl want) same is = inr (is ∙ ap Err want, ap (slot_with s.number) same)
 update_refused others s new f counts (inr refused) same is = at (updated (open_of s)) refl refused
   where

@@ -19,7 +19,7 @@ use Rattle.ctf_answers.specs.declared.counts.Counts.{Counts}
 use Rattle.ctf_library.specs.Quotas.{IsFull, IsStaged, IsUncreated}
 use Rattle.ctf_open.specs.Quotas.{IsUnserved}
 use Rattle.ctf_library.specs.Stepping.{Makes}
-use Rattle.ctf_model.specs.rules.Refusals.{want_of_memory}
+use Rattle.ctf_model.specs.rules.Refusals.{out_of_memory}
 use Rattle.ctf_model.specs.opened.Open.{pending_in}
 use Rattle.ctf_protocol.specs.sessions.Publications.{published_as}
 use Rattle.ctf_protocol.specs.sessions.State.{Slot, State}
@@ -132,7 +132,7 @@ uncreated (Ok slot) s f h = create_over slot s h.1 ∙ ap (λ (g : Fault). outco
 uncreated (Err g) s f h = ap (λ (e : Fault). outcome_of (Err e) s) (sym h)
 
 -- an import that was refused
-pub imports_refused : (d p : ℕ) (child parent : Slot) (s : State) (f : Fault) (room : Bool) → slot_at d s.slots ≡ Some child → slot_at p s.slots ≡ Some parent → is_some child.draft ≡ false → (room ≡ false → quota + parent_bytes child.parent < charge s + kept_bytes parent.kept) → (f ≡ want_of_memory) ⊎ IsUnserved room (fault_over child.kept parent.kept) f → Makes s (imports d p s) (Err f) s
+pub imports_refused : (d p : ℕ) (child parent : Slot) (s : State) (f : Fault) (room : Bool) → slot_at d s.slots ≡ Some child → slot_at p s.slots ≡ Some parent → is_some child.draft ≡ false → (room ≡ false → quota + parent_bytes child.parent < charge s + kept_bytes parent.kept) → (f ≡ out_of_memory) ⊎ IsUnserved room (fault_over child.kept parent.kept) f → Makes s (imports d p s) (Err f) s
 imports_refused d p child parent s f room at from plain over (inl want) = inr (ap (λ (g : Fault). said (Err g)) want, refl)
 imports_refused d p child parent s f room at from plain over (inr (inl fault)) = rw (imports_faulty d p child parent s f at from plain fault) (inl (refl, refl))
 imports_refused d p child parent s f room at from plain over (inr (inr full)) = rw (imports_over d p child parent s at from plain full.1 (over full.2)) (inl (ap (λ (g : Fault). said (Err g)) full.0, refl))
@@ -153,7 +153,7 @@ part_makes list piece s stage n result done le room told =
     rw (part_done list piece s le room) (inl (ap reply_of (told ∙ ap (λ (k : ℕ). Ok (says (codes "length") (answers.number k) ∷ [])) done.long), ap (with_stage s) done.lists))
 
 -- and one that was not
-pub part_refused : (list : ListName) (piece : List ℕ) (s : State) (stage : Lists) (f : Fault) (room : Bool) (result : Result Counts Fault) → (f ≡ want_of_memory) ⊎ IsFull room (length (staged list s.stage ++ piece)) f → (room ≡ false → quota < charge s + length piece) → stage ≡ s.stage → result ≡ Err f → Makes s (parts list piece s) result (with_stage s stage)
+pub part_refused : (list : ListName) (piece : List ℕ) (s : State) (stage : Lists) (f : Fault) (room : Bool) (result : Result Counts Fault) → (f ≡ out_of_memory) ⊎ IsFull room (length (staged list s.stage ++ piece)) f → (room ≡ false → quota < charge s + length piece) → stage ≡ s.stage → result ≡ Err f → Makes s (parts list piece s) result (with_stage s stage)
 part_refused list piece s stage f room result (inl want) over same is =
     inr (ap (λ (r : Result Counts Fault). said r) (is ∙ ap Err want), ap (with_stage s) same)
 part_refused list piece s stage f room result (inr (inl full)) over same is =

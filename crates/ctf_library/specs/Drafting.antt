@@ -6,7 +6,7 @@ use Rattle.ctf_library.specs.Quotas.{step_beside}
 use Rattle.ctf_protocol.specs.sessions.Charges.{slot_bytes}
 use Rattle.ctf_protocol.specs.sessions.Slots.{slots_with}
 use Rattle.ctf_protocol.specs.sessions.Opened.{SlotOutcome}
-use Rattle.ctf_model.specs.rules.Refusals.{placeless, want_of_memory}
+use Rattle.ctf_model.specs.rules.Refusals.{placeless, out_of_memory}
 use Rattle.ctf_protocol.specs.sessions.State.{Slot}
 use Rattle.ctf_protocol.specs.sessions.Slots.{slot_at}
 use Rattle.ctf_model.specs.declared.faults.Fault.{Fault}
@@ -17,7 +17,7 @@ use Rattle.ctf_protocol.specs.declared.requests.DraftStep.{DraftStep}
 abbrev pub IsStepped : SlotOutcome → Result Counts Fault → Slot → Slot → Type 0
 IsStepped outcome result old new =
     ((changed result ≡ outcome.said) × (new ≡ outcome.slot))
-    ⊎ ((result ≡ Err want_of_memory) × (new ≡ old))
+    ⊎ ((result ≡ Err out_of_memory) × (new ≡ old))
 
 -- beside the other slots, and all that is no slot
 abbrev pub step_in : ℕ → DraftStep → Slot → List Slot → SlotOutcome
@@ -32,7 +32,7 @@ HaveSteppedAt others None step number result old new =
 HaveSteppedAt others (Some slot) step number result old new =
     ((changed result ≡ (step_in others step slot old).said)
     × (new ≡ slots_with number (step_in others step slot old).slot old))
-    ⊎ ((result ≡ Err want_of_memory) × (new ≡ old))
+    ⊎ ((result ≡ Err out_of_memory) × (new ≡ old))
 
 -- beside all that is no slot
 abbrev pub HaveStepped : ℕ → DraftStep → ℕ → Result Counts Fault → List Slot → List Slot → Type 0

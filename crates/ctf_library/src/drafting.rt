@@ -4,7 +4,7 @@ ghost use Rattle.ctf_library.specs.Quotas.{IsUncreated, step_beside, within};
 ghost use Rattle.ctf_library.specs.Drafting.{IsStepped};
 ghost use Rattle.ctf_library.specs.SlotView.{slot_of};
 ghost use Rattle.ctf_answers.specs.Replies.{changed};
-ghost use Rattle.ctf_model.specs.rules.Refusals.{want_of_memory};
+ghost use Rattle.ctf_model.specs.rules.Refusals.{out_of_memory};
 ghost use Rattle.ctf_model.specs.spaces.Kept.{model_over as parents_model};
 ghost use Rattle.ctf_protocol.specs.sessions.Charges.{slot_bytes};
 ghost use Rattle.ctf_protocol.specs.sessions.DraftSteps.{created_slot, model_made, slot_step};
@@ -40,7 +40,7 @@ fn model_of(parent: Option<&Loaded>, creation: &Creation) -> DataModel
 
 impl Slot {
     /// Makes a step of its draft, if it has one, where what it makes has room beside what all else
-    /// comes to. Want of memory changes nothing.
+    /// comes to. Running out of memory changes nothing.
     pub(crate) fn step(
         &mut self,
         alloc: Global,
@@ -105,7 +105,7 @@ impl Slot {
         ensures ok { IfOk result (λ slot. (created_slot number (option_copied parent.entry)
             creation.now ≡ Ok (slot_of slot)) × (slot.number ≡ number)) }
         ensures room { IfOk result (λ slot. others + slot_bytes (slot_of slot) ≤ quota) }
-        ensures exact_err { IfErr result (λ f. (f ≡ want_of_memory)
+        ensures exact_err { IfErr result (λ f. (f ≡ out_of_memory)
             ⊎ IsUncreated (created_slot number (option_copied parent.entry) creation.now)
             others f) }
     {

@@ -4,7 +4,7 @@ ghost use Rattle.ctf_protocol.specs.sessions.Charges.{charge, slot_bytes};
 ghost use Rattle.ctf_protocol.specs.sessions.Publications.{published_as};
 ghost use Rattle.ctf_protocol.specs.sessions.State.{empty_state};
 ghost use Rattle.ctf_library.specs.SlotView.{slot_of};
-ghost use Rattle.ctf_model.specs.rules.Refusals.{want_of_memory, placeless as refusal};
+ghost use Rattle.ctf_model.specs.rules.Refusals.{out_of_memory, placeless as refusal};
 ghost use Rattle.ctf_model.specs.declared.faults.TheConstants.Fault.{NO_SLOT};
 ghost use Rattle.ctf_protocol.specs.declared.requests.DraftStep.TheVariants.{Discard};
 ghost use Rattle.ctf_protocol.specs.sessions.Outcomes.{outcome_of, quota};
@@ -356,7 +356,7 @@ impl Library {
             ≡ adds_draft (slot_of slot) self.now) × (slot.number ≡ self.now.next)) }
         ensures free { OnOk result (room_in self.now ≡ true) }
         ensures room { IfOk result (λ slot. charge self.now + slot_bytes (slot_of slot) ≤ quota) }
-        ensures exact_err { IfErr result (λ f. (f ≡ want_of_memory)
+        ensures exact_err { IfErr result (λ f. (f ≡ out_of_memory)
             ⊎ (creates creation.now self.now ≡ outcome_of (Err f) self.now)) }
     {
         let parent = self.parent_at(creation.parent())?;

@@ -4,7 +4,7 @@ ghost use Rattle.ctf_library.specs.Charged.{bytes_in};
 ghost use Rattle.ctf_library.specs.Drafting.{HaveStepped};
 ghost use Rattle.ctf_protocol.specs.sessions.Charges.{slot_bytes};
 ghost use Rattle.ctf_model.specs.opened.Sizes.{kept_bytes, parent_bytes};
-ghost use Rattle.ctf_model.specs.rules.Refusals.{want_of_memory};
+ghost use Rattle.ctf_model.specs.rules.Refusals.{out_of_memory};
 ghost use Rattle.ctf_protocol.specs.declared.requests.DraftStep.TheVariants.{Discard};
 ghost use Rattle.ctf_model.specs.spaces.Kept.{fault_over};
 ghost use Rattle.ctf_protocol.specs.sessions.Slots.{slot_at, slots_with_parent, slots_without};
@@ -100,7 +100,7 @@ pub fn set_parent(slots: &mut Vec<Slot>, number: u32, imported: Imported)
 }
 
 /// Makes a step of the draft in the slot of a number, and counts what slots come to, beside what
-/// all else does. Want of memory changes nothing.
+/// all else does. Running out of memory changes nothing.
 pub fn step_draft(
     alloc: Global,
     slots: &mut Vec<Slot>,
@@ -119,7 +119,7 @@ pub fn step_draft(
     ensures rise { (next : ℕ) → rise_between 0 slots.old.items next ≡ true
         → rise_between 0 slots.new.items next ≡ true }
     // This takes no memory.
-    ensures quiet { step.now ≡ Discard → result ≢ Err want_of_memory }
+    ensures quiet { step.now ≡ Discard → result ≢ Err out_of_memory }
 {
     let Some(place) = find_place(slots, number) else {
         return Err(placeless(Fault::NO_SLOT));

@@ -5,7 +5,7 @@ ghost use Rattle.ctf_library.specs.Pooling.{Holds, have_room, most_bytes, with_r
 ghost use Rattle.ctf_model.specs.opened.Sizes.{kept_bytes};
 ghost use Rattle.ctf_model.specs.rules.Faults.{first_fault};
 ghost use Rattle.ctf_model.specs.format.OwnedLists.{lists_owned};
-ghost use Rattle.ctf_model.specs.rules.Refusals.{want_of_memory};
+ghost use Rattle.ctf_model.specs.rules.Refusals.{out_of_memory};
 
 use ctf_check::lent;
 use ctf_open::Loaded;
@@ -76,7 +76,7 @@ impl Pool {
     pub fn open(&mut self, parts: Parts, model: DataModel) -> Result<Loaded, (Fault, Parts)>
         ensures ok { IfOk result (λ l. l ≡ record { lists = lists_owned parts; model = model }) }
         ensures exact_ok { OnOk result (first_fault (lists_owned parts) ≡ None) }
-        ensures exact_err { IfErr result (λ e. (e.0 ≡ want_of_memory)
+        ensures exact_err { IfErr result (λ e. (e.0 ≡ out_of_memory)
             ⊎ (first_fault (lists_owned parts) ≡ Some e.0)) }
         ensures late { IfErr result (λ e. (fault_before_chains (lists_owned parts) ≡ None)
             ⊎ (first_fault (lists_owned parts) ≡ Some e.0)) }

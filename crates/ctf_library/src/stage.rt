@@ -4,7 +4,7 @@ ghost use Rattle.ctf_model.specs.rules.Faults.{first_fault as fault_of};
 ghost use Rattle.ctf_model.specs.format.Lists.{no_lists};
 ghost use Rattle.ctf_model.specs.opened.Sizes.{lists_bytes};
 ghost use Rattle.ctf_library.specs.Quotas.{IsFull, IsStaged};
-ghost use Rattle.ctf_model.specs.rules.Refusals.{want_of_memory};
+ghost use Rattle.ctf_model.specs.rules.Refusals.{out_of_memory};
 ghost use Rattle.ctf_protocol.specs.sessions.Steps.{longest_list, staged};
 
 use crate::pool::Pool;
@@ -67,7 +67,7 @@ impl Stage {
         ensures staged { IfOk result (λ n. IsStaged list piece.now self.old self.new n) }
         ensures short { OnOk result (length (staged list self.old ++ piece.now) ≤ longest_list) }
         ensures fits { OnOk result (fits ≡ true) }
-        ensures full { IfErr result (λ f. (f ≡ want_of_memory)
+        ensures full { IfErr result (λ f. (f ≡ out_of_memory)
             ⊎ IsFull fits (length (staged list self.old ++ piece.now)) f) }
         ensures err { OnErr result (self.new ≡ self.old) }
     {
@@ -95,7 +95,7 @@ impl Stage {
     /// Judges the lists, if that was not done before.
     pub fn check(&mut self, alloc: Global) -> Result<(), Fault>
         ensures ok { OnOk result (fault_of self.old ≡ None) }
-        ensures err { IfErr result (λ f. (f ≡ want_of_memory) ⊎ (fault_of self.old ≡ Some f)) }
+        ensures err { IfErr result (λ f. (f ≡ out_of_memory) ⊎ (fault_of self.old ≡ Some f)) }
         ensures kept { self.new ≡ self.old }
     {
         match &mut self.staged {
@@ -114,7 +114,7 @@ impl Stage {
         ensures ok { IfOk result (λ l. l ≡ record { lists = self.old; model = model }) }
         ensures exact_ok { OnOk result (fault_of self.old ≡ None) }
         ensures empty { OnOk result (self.new ≡ no_lists) }
-        ensures exact_err { IfErr result (λ f. (f ≡ want_of_memory)
+        ensures exact_err { IfErr result (λ f. (f ≡ out_of_memory)
             ⊎ (fault_of self.old ≡ Some f)) }
         ensures kept { OnErr result (self.new ≡ self.old) }
     {

@@ -5,7 +5,7 @@ ghost use Rattle.ctf_model.specs.format.Lists.{no_lists};
 ghost use Rattle.ctf_model.specs.format.OwnedLists.{lists_owned};
 ghost use Rattle.ctf_model.specs.opened.Sizes.{lists_bytes};
 ghost use Rattle.ctf_library.specs.Quotas.{IsFull, IsStaged};
-ghost use Rattle.ctf_model.specs.rules.Refusals.{placeless, want_of_memory};
+ghost use Rattle.ctf_model.specs.rules.Refusals.{placeless, out_of_memory};
 ghost use Rattle.ctf_protocol.specs.sessions.Steps.{longest_list, staged};
 ghost use Rattle.ctf_model.specs.declared.faults.TheConstants.Fault.{STAGE_FULL};
 
@@ -25,7 +25,7 @@ fn add_piece(list: &mut Bytes, piece: &[u8], fits: bool) -> Result<u64, Fault>
     ensures ok { IfOk result (λ n. (list.new ≡ list.old ++ piece.now) × (n ≡ length list.new)) }
     ensures short { OnOk result (length (list.old ++ piece.now) ≤ longest_list) }
     ensures fits { OnOk result (fits ≡ true) }
-    ensures full { IfErr result (λ f. (f ≡ want_of_memory)
+    ensures full { IfErr result (λ f. (f ≡ out_of_memory)
         ⊎ IsFull fits (length (list.old ++ piece.now)) f) }
     ensures err { OnErr result (list.new ≡ list.old) }
 {
@@ -50,7 +50,7 @@ fn add_first_piece(
         × (n ≡ length (unwrap_or list.old [] ++ piece.now))) }
     ensures short { OnOk result (length (unwrap_or list.old [] ++ piece.now) ≤ longest_list) }
     ensures fits { OnOk result (fits ≡ true) }
-    ensures full { IfErr result (λ f. (f ≡ want_of_memory)
+    ensures full { IfErr result (λ f. (f ≡ out_of_memory)
         ⊎ IsFull fits (length (unwrap_or list.old [] ++ piece.now)) f) }
     ensures err { OnErr result (list.new ≡ list.old) }
 {
@@ -78,7 +78,7 @@ fn stage_piece(
     ensures short { OnOk result
         (length (staged list (lists_owned stage.old) ++ piece.now) ≤ longest_list) }
     ensures fits { OnOk result (fits ≡ true) }
-    ensures full { IfErr result (λ f. (f ≡ want_of_memory)
+    ensures full { IfErr result (λ f. (f ≡ out_of_memory)
         ⊎ IsFull fits (length (staged list (lists_owned stage.old) ++ piece.now)) f) }
     ensures err { OnErr result (lists_owned stage.new ≡ lists_owned stage.old) }
 {
@@ -133,9 +133,9 @@ impl Staged {
         }
     }
 
-    /// Lists that were not opened, for this fault of theirs or for want of memory.
+    /// Lists that were not opened, for this fault of theirs or because memory ran out.
     pub fn refused(parts: Parts, fault: Fault) -> Staged
-        requires { (fault ≡ want_of_memory) ⊎ (fault_of (lists_owned parts) ≡ Some fault) }
+        requires { (fault ≡ out_of_memory) ⊎ (fault_of (lists_owned parts) ≡ Some fault) }
         ensures { result ≡ lists_owned parts }
     {
         let known = if fault.code == Fault::MEMORY {
@@ -173,7 +173,7 @@ impl Staged {
         ensures staged { IfOk result (λ n. IsStaged list piece.now self.old self.new n) }
         ensures short { OnOk result (length (staged list self.old ++ piece.now) ≤ longest_list) }
         ensures fits { OnOk result (fits ≡ true) }
-        ensures full { IfErr result (λ f. (f ≡ want_of_memory)
+        ensures full { IfErr result (λ f. (f ≡ out_of_memory)
             ⊎ IsFull fits (length (staged list self.old ++ piece.now)) f) }
         ensures err { OnErr result (self.new ≡ self.old) }
     {
@@ -194,7 +194,7 @@ impl Staged {
     /// Judges the lists, if that was not done before.
     pub fn check(&mut self, alloc: Global) -> Result<(), Fault>
         ensures ok { OnOk result (fault_of self.old ≡ None) }
-        ensures err { IfErr result (λ f. (f ≡ want_of_memory) ⊎ (fault_of self.old ≡ Some f)) }
+        ensures err { IfErr result (λ f. (f ≡ out_of_memory) ⊎ (fault_of self.old ≡ Some f)) }
         ensures kept { self.new ≡ self.old }
     {
         let fault = match self.known {

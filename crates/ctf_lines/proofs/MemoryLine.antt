@@ -1,4 +1,4 @@
--- The line of want of memory, piece by piece.
+-- The line that says out of memory, piece by piece.
 use Rattle.std.proofs.Common.{◌≡◌, ℕ, ◌+◌, ◌-◌, ◌≤◌, List, ◌++◌, drop, codes, decimal, refl, sym, ap, ◌∙◌, arith}
 use Rattle.std.specs.Fmt.{digits}
 use Rattle.std.proofs.lemmas.List.{drop-drop}

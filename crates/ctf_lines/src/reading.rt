@@ -6,7 +6,7 @@ ghost use Rattle.ctf_json.specs.Told.{items_view, said as view};
 ghost use Rattle.ctf_protocol.specs.lines.Ask.{ask, open_asked, list_named, close_asked, import_asked, publication_asked, publish_asked, take_asked, withdraw_asked, about_type as type_question_asked, about_slot as slot_question_asked, about_held as held_question_asked, bytes_asked, symbol_asked, show_asked, names_asked, part_asked, word_asked, asked_with, request_asked, value_asked};
 ghost use Rattle.ctf_protocol.specs.lines.LineFields.{in_range, number_in, text_in, slot_under as slot_named, slot_in, type_asked, name_under as name_asked, from_asked, count_asked, window_asked};
 ghost use Rattle.ctf_protocol.specs.words.Words.{word_named, words};
-ghost use Rattle.ctf_model.specs.rules.Refusals.{placeless, want_of_memory};
+ghost use Rattle.ctf_model.specs.rules.Refusals.{placeless, out_of_memory};
 ghost use Rattle.ctf_model.specs.declared.faults.TheConstants.Fault.{MEMORY};
 ghost use Rattle.ctf_protocol.specs.declared.questions.SlotQuestion.TheVariants as whole;
 ghost use Rattle.ctf_protocol.specs.declared.questions.TypeQuestion.TheVariants as about;
@@ -63,7 +63,7 @@ fn read_text(
     ensures refused { IfErr result (λ refusal. refusal.1.code ≢ MEMORY
         → value_asked (read_json text.now) ≡ Err refusal) }
     ensures memory { IfErr result (λ refusal. refusal.1.code ≡ MEMORY
-        → refusal ≡ (0, want_of_memory)) }
+        → refusal ≡ (0, out_of_memory)) }
 {
     match ctf_json::read_at(alloc, text, scratch, KEYS) {
         Ok(value) => read_value(alloc, &value),

@@ -224,9 +224,9 @@ pub fn placeless(code: u16) -> Fault
 /// Memory was refused.
 impl From<AllocError> for Fault {
     ghost use Rattle.std.specs.Prelude.{◌≡◌};
-    ghost use Rattle.ctf_model.specs.rules.Refusals.{want_of_memory};
+    ghost use Rattle.ctf_model.specs.rules.Refusals.{out_of_memory};
 
-    ghost from_gives = { λ _ f. f ≡ want_of_memory };
+    ghost from_gives = { λ _ f. f ≡ out_of_memory };
 
     fn from(_: AllocError) -> Fault {
         placeless(Fault::MEMORY)

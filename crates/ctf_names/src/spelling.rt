@@ -1,6 +1,6 @@
 //! Spells the name of a type.
 ghost use Rattle.std.specs.Prelude.{◌≡◌, ◌+◌, ◌≤◌, ◌⊎◌, ◌++◌, length, min, vec_len, vec_capacity, OnOk, IfErr, OnErr, Ok, Err};
-ghost use Rattle.ctf_model.specs.rules.Refusals.{want_of_memory};
+ghost use Rattle.ctf_model.specs.rules.Refusals.{out_of_memory};
 ghost use Rattle.ctf_model.specs.names.TypeNames.{spelled_name};
 ghost use Rattle.ctf_names.specs.Adding.{added};
 ghost use Rattle.ctf_names.specs.Bases.{base_text};
@@ -54,7 +54,7 @@ pub fn spell(
 ) -> Result<(), Fault>
     ensures exact_ok { OnOk result
         (added out.old.items (spelled_name (space_of space.now) number.0) ≡ Ok out.new.items) }
-    ensures exact_err { IfErr result (λ f. (f ≡ want_of_memory)
+    ensures exact_err { IfErr result (λ f. (f ≡ out_of_memory)
         ⊎ (spelled_name (space_of space.now) number.0 ≡ Err f)) }
     ensures kept { OnErr result (out.new.items ≡ out.old.items) }
 {

@@ -1,6 +1,6 @@
 //! The layers of a type, and the name inside.
 ghost use Rattle.std.specs.Prelude.{◌≡◌, ◌⊎◌, ◌<◌, IfOk, IfErr, Ok, Err, codes, vec_len};
-ghost use Rattle.ctf_model.specs.rules.Refusals.{want_of_memory};
+ghost use Rattle.ctf_model.specs.rules.Refusals.{out_of_memory};
 ghost use Rattle.ctf_model.specs.names.TypeNames.{declaration, longest_text};
 ghost use Rattle.ctf_names.specs.Bases.{base_text};
 ghost use Rattle.ctf_names.specs.Unrolling.{unrolled};
@@ -33,7 +33,7 @@ pub fn void<'a>() -> Base<'a>
 pub fn unroll<'a>(alloc: Global, space: &Space<'a>, number: TypeNum) -> Result<Unrolled<'a>, Fault>
     ensures ok { IfOk result (λ u. declaration (space_of space.now) number.0 ≡ Ok (unrolled u)) }
     ensures few { IfOk result (λ u. vec_len u.layers < longest_text) }
-    ensures err { IfErr result (λ f. (f ≡ want_of_memory)
+    ensures err { IfErr result (λ f. (f ≡ out_of_memory)
         ⊎ (declaration (space_of space.now) number.0 ≡ Err f)) }
 {
     let mut layers = Vec::new(alloc);

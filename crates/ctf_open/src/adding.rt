@@ -4,7 +4,7 @@ ghost use Rattle.ctf_model.specs.opened.Steps.{enlarged, silent, type_added};
 ghost use Rattle.ctf_open.specs.PartView.{part_in};
 ghost use Rattle.ctf_draft.specs.NewView.{new_body_of};
 ghost use Rattle.ctf_model.specs.drafts.Adders.{add_enumerator as add_enumerator_to, add_label as add_label_to, add_member as add_member_to};
-ghost use Rattle.ctf_model.specs.rules.Refusals.{want_of_memory};
+ghost use Rattle.ctf_model.specs.rules.Refusals.{out_of_memory};
 
 use crate::opened::OpenDictionary;
 use ctf_draft::{Draft, NewBody, NewType};
@@ -32,7 +32,7 @@ fn add_member(
 ) -> Result<u64, Fault>
     ensures ok { IfOk result (λ at. add_member_to draft.old.draft t.0 name.now tnum.0 offset
         ≡ Ok (record { draft = draft.new.draft; answer = at })) }
-    ensures exact_err { IfErr result (λ f. (f ≡ want_of_memory)
+    ensures exact_err { IfErr result (λ f. (f ≡ out_of_memory)
         ⊎ (add_member_to draft.old.draft t.0 name.now tnum.0 offset ≡ Err f)) }
     ensures as_before { OnErr result (draft.new ≡ draft.old) }
 {
@@ -50,7 +50,7 @@ fn add_enumerator(
     ensures ok { IfOk result (λ n. silent (add_enumerator_to draft.old.draft t.0
         (record { name = name.now; value = value }))
         ≡ Ok (record { draft = draft.new.draft; answer = n })) }
-    ensures exact_err { IfErr result (λ f. (f ≡ want_of_memory)
+    ensures exact_err { IfErr result (λ f. (f ≡ out_of_memory)
         ⊎ (silent (add_enumerator_to draft.old.draft t.0
         (record { name = name.now; value = value })) ≡ Err f)) }
     ensures as_before { OnErr result (draft.new ≡ draft.old) }
@@ -64,7 +64,7 @@ fn add_label(alloc: Global, draft: &mut Draft, name: &[u8], last: u32) -> Result
     ensures ok { IfOk result (λ n. silent (add_label_to draft.old.draft
         (record { name = name.now; last = last }))
         ≡ Ok (record { draft = draft.new.draft; answer = n })) }
-    ensures exact_err { IfErr result (λ f. (f ≡ want_of_memory)
+    ensures exact_err { IfErr result (λ f. (f ≡ out_of_memory)
         ⊎ (silent (add_label_to draft.old.draft (record { name = name.now; last = last }))
         ≡ Err f)) }
     ensures as_before { OnErr result (draft.new ≡ draft.old) }
@@ -78,7 +78,7 @@ fn add_label(alloc: Global, draft: &mut Draft, name: &[u8], last: u32) -> Result
 fn add_to(alloc: Global, draft: &mut Draft, part: Part<'_>) -> Result<u64, Fault>
     ensures ok { IfOk result (λ n. part_in part.entry draft.old.draft
         ≡ Ok (record { draft = draft.new.draft; answer = n })) }
-    ensures exact_err { IfErr result (λ f. (f ≡ want_of_memory)
+    ensures exact_err { IfErr result (λ f. (f ≡ out_of_memory)
         ⊎ (part_in part.entry draft.old.draft ≡ Err f)) }
     ensures as_before { OnErr result (draft.new ≡ draft.old) }
 {
@@ -101,7 +101,7 @@ impl OpenDictionary {
         ensures ok { IfOk result (λ t.
             type_added (record { name = name.now; root = root; body = new_body_of body }) self.old
             ≡ Ok (record { served = self.new; answer = t.0 })) }
-        ensures exact_err { IfErr result (λ f. (f ≡ want_of_memory)
+        ensures exact_err { IfErr result (λ f. (f ≡ out_of_memory)
             ⊎ (type_added (record { name = name.now; root = root; body = new_body_of body })
             self.old ≡ Err f)) }
         ensures as_before { OnErr result (self.new ≡ self.old) }
@@ -120,7 +120,7 @@ impl OpenDictionary {
     pub fn add_part(&mut self, alloc: Global, part: Part<'_>) -> Result<u64, Fault>
         ensures ok { IfOk result (λ n. enlarged (part_in part.entry) self.old
             ≡ Ok (record { served = self.new; answer = n })) }
-        ensures exact_err { IfErr result (λ f. (f ≡ want_of_memory)
+        ensures exact_err { IfErr result (λ f. (f ≡ out_of_memory)
             ⊎ (enlarged (part_in part.entry) self.old ≡ Err f)) }
         ensures as_before { OnErr result (self.new ≡ self.old) }
         ensures own { self.new.own ≡ self.old.own }

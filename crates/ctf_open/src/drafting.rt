@@ -9,7 +9,7 @@ ghost use Rattle.ctf_model.specs.opened.Open.{own_in};
 ghost use Rattle.ctf_model.specs.opened.Sizes.{kept_bytes, parent_bytes};
 ghost use Rattle.ctf_model.specs.drafts.Drafts.{held, new_draft as new_draft_of};
 ghost use Rattle.ctf_model.specs.format.Dictionary.{Denotes};
-ghost use Rattle.ctf_model.specs.rules.Refusals.{placeless as refusal, want_of_memory};
+ghost use Rattle.ctf_model.specs.rules.Refusals.{placeless as refusal, out_of_memory};
 ghost use Rattle.ctf_model.specs.declared.faults.TheConstants.Fault.{QUOTA_FULL};
 ghost use Rattle.ctf_model.specs.spaces.Kept.{Kept, fault_over, kept_dictionary, modelled_by};
 ghost use Rattle.ctf_model.specs.writing.Written.{written};
@@ -36,7 +36,7 @@ fn imported_over(
     ensures fits { IfOk result (λ i. ForSome i (λ i. fault_over own.now i.parent ≡ None)) }
     ensures made { IfOk result (λ i. ForSome i
         (λ i. AreTablesOf own.now (Some i.parent) i.tables.value)) }
-    ensures exact_err { IfErr result (λ f. (f ≡ want_of_memory)
+    ensures exact_err { IfErr result (λ f. (f ≡ out_of_memory)
         ⊎ (option_and_then (λ p. fault_over own.now p) (option_copied parent.entry) ≡ Some f)) }
 {
     let Some(parent) = parent else {
@@ -62,7 +62,7 @@ fn loaded(alloc: Global, draft: &Draft, parent: u128, room: Option<Room>) -> Res
         (λ l. (p : Kept) → draft.now.draft.parent ≡ Some (kept_dictionary p)
         → p.model ≡ draft.now.draft.model → fault_over l p ≡ None) }
     ensures room { IfOk result (λ l. fits_in room (length l.lists.ctf + parent) ≡ true) }
-    ensures exact_err { IfErr result (λ f. (f ≡ want_of_memory)
+    ensures exact_err { IfErr result (λ f. (f ≡ out_of_memory)
         ⊎ IsUnwritten (written (held draft.now.draft)) parent room f) }
 {
     let bytes = write(alloc, draft)?;
@@ -99,7 +99,7 @@ fn updated_over(
         (λ i. AreTablesOf u.own (Some i.parent) i.tables.value)) }
     ensures room { IfOk result (λ u. fits_in room (length u.own.lists.ctf
         + parent_bytes (option_copied parent.entry)) ≡ true) }
-    ensures exact_err { IfErr result (λ f. (f ≡ want_of_memory)
+    ensures exact_err { IfErr result (λ f. (f ≡ out_of_memory)
         ⊎ IsUnwritten (written (held draft.now.draft))
         (parent_bytes (option_copied parent.entry)) room f) }
 {
@@ -146,7 +146,7 @@ fn new_draft(
         new_draft_of (option_map modelled_by (option_copied parent.entry)) parname.now
         parlabel.now model ≡ Ok d.draft) }
     ensures under { IfOk result (λ d. IsUnder d.draft (option_copied parent.entry)) }
-    ensures exact_err { IfErr result (λ f. (f ≡ want_of_memory)
+    ensures exact_err { IfErr result (λ f. (f ≡ out_of_memory)
         ⊎ (new_draft_of (option_map modelled_by (option_copied parent.entry)) parname.now
         parlabel.now model ≡ Err f)) }
 {
@@ -175,7 +175,7 @@ impl OpenDictionary {
         requires { is_some parent ≡ not (length parname.now == 0) }
         ensures ok { IfOk result (λ s.
             created (option_copied parent.entry) parname.now parlabel.now model ≡ Ok s) }
-        ensures exact_err { IfErr result (λ f. (f ≡ want_of_memory)
+        ensures exact_err { IfErr result (λ f. (f ≡ out_of_memory)
             ⊎ (created (option_copied parent.entry) parname.now parlabel.now model ≡ Err f)) }
     {
         OpenDictionary::create_within(alloc, parent, parname, parlabel, model, None)
@@ -196,7 +196,7 @@ impl OpenDictionary {
         ensures room { IfOk result (λ s. fits_in room (kept_bytes s.own
             + parent_bytes (option_copied parent.entry)) ≡ true) }
         ensures above { IfOk result (λ s. s.parent ≡ option_copied parent.entry) }
-        ensures exact_err { IfErr result (λ f. (f ≡ want_of_memory) ⊎ IsUncreated
+        ensures exact_err { IfErr result (λ f. (f ≡ out_of_memory) ⊎ IsUncreated
             (created (option_copied parent.entry) parname.now parlabel.now model) room f) }
     {
         let mut draft = new_draft(alloc, parent, parname, parlabel, model)?;
@@ -227,7 +227,7 @@ impl OpenDictionary {
     pub fn update(&mut self, alloc: Global) -> Result<u64, Fault>
         ensures ok { IfOk result (λ n.
             updated self.old ≡ Ok (record { served = self.new; answer = n })) }
-        ensures exact_err { IfErr result (λ f. (f ≡ want_of_memory) ⊎ (updated self.old ≡ Err f)) }
+        ensures exact_err { IfErr result (λ f. (f ≡ out_of_memory) ⊎ (updated self.old ≡ Err f)) }
         ensures as_before { OnErr result (self.new ≡ self.old) }
     {
         self.update_within(alloc, None)
@@ -240,7 +240,7 @@ impl OpenDictionary {
         ensures room { IfOk result (λ n. fits_in room (kept_bytes self.new.own
             + parent_bytes self.old.parent) ≡ true) }
         ensures parent { self.new.parent ≡ self.old.parent }
-        ensures exact_err { IfErr result (λ f. (f ≡ want_of_memory)
+        ensures exact_err { IfErr result (λ f. (f ≡ out_of_memory)
             ⊎ IsRefused (updated self.old) room f) }
         ensures as_before { OnErr result (self.new ≡ self.old) }
     {

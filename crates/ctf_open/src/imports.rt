@@ -1,7 +1,7 @@
 //! Parents that are imported.
 ghost use Rattle.std.specs.Prelude.{◌≡◌, ◌⊎◌, None, Some, IfOk, IfErr, IfSome, OnOk, true};
 ghost use Rattle.ctf_model.specs.opened.Steps.{Refuses, import_refusal};
-ghost use Rattle.ctf_model.specs.rules.Refusals.{want_of_memory};
+ghost use Rattle.ctf_model.specs.rules.Refusals.{out_of_memory};
 ghost use Rattle.ctf_model.specs.spaces.Kept.{fault_over};
 ghost use Rattle.ctf_open.specs.Fitting.{AreTablesOf};
 ghost use Rattle.ctf_open.specs.Quotas.{IsUnserved};
@@ -35,7 +35,7 @@ fn new_tables(alloc: Global, own: &Loaded, parent: &Loaded, fits: bool) -> Resul
     ensures made { IfOk result (λ t. AreTablesOf own.now (Some parent.now) t.value) }
     ensures exact_ok { OnOk result (fault_over own.now parent.now ≡ None) }
     ensures fits { OnOk result (fits ≡ true) }
-    ensures exact_err { IfErr result (λ f. (f ≡ want_of_memory)
+    ensures exact_err { IfErr result (λ f. (f ≡ out_of_memory)
         ⊎ IsUnserved fits (fault_over own.now parent.now) f) }
 {
     let tables = tables_over(alloc, own, parent, fits)?;
@@ -55,7 +55,7 @@ impl Imported {
         ensures made { IfOk result (λ i. AreTablesOf own.now (Some i.parent) i.tables.value) }
         ensures exact_ok { OnOk result (fault_over own.now parent.now ≡ None) }
         ensures fits { OnOk result (fits ≡ true) }
-        ensures exact_err { IfErr result (λ f. (f ≡ want_of_memory)
+        ensures exact_err { IfErr result (λ f. (f ≡ out_of_memory)
             ⊎ IsUnserved fits (fault_over own.now parent.now) f) }
     {
         let tables = new_tables(alloc, own, parent, fits)?;
@@ -86,7 +86,7 @@ impl OpenDictionary {
         ensures made { IfOk result (λ i. AreTablesOf self.now.own (Some i.parent) i.tables.value) }
         ensures exact_ok { OnOk result (fault_over self.now.own parent.now ≡ None) }
         ensures fits { OnOk result (fits ≡ true) }
-        ensures exact_err { IfErr result (λ f. (f ≡ want_of_memory)
+        ensures exact_err { IfErr result (λ f. (f ≡ out_of_memory)
             ⊎ IsUnserved fits (fault_over self.now.own parent.now) f) }
     {
         let Some(known) = self.tables_under(parent) else {

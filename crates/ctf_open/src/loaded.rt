@@ -6,7 +6,7 @@ ghost use Rattle.ctf_check.specs.Stages.{fault_before_chains};
 ghost use Rattle.ctf_open.specs.Fitting.{AreTablesOf};
 ghost use Rattle.ctf_model.specs.rules.Faults.{first_fault};
 ghost use Rattle.ctf_model.specs.format.OwnedLists.{lists_owned};
-ghost use Rattle.ctf_model.specs.rules.Refusals.{want_of_memory};
+ghost use Rattle.ctf_model.specs.rules.Refusals.{out_of_memory};
 ghost use Rattle.ctf_symbols.specs.Fitting.{Fits};
 
 use crate::tables::Tables;
@@ -95,7 +95,7 @@ impl Loaded {
     pub fn build(alloc: Global, parts: Parts, model: DataModel) -> Result<Loaded, (Fault, Parts)>
         ensures ok { IfOk result (λ l. l ≡ record { lists = lists_owned parts; model = model }) }
         ensures exact_ok { OnOk result (first_fault (lists_owned parts) ≡ None) }
-        ensures exact_err { IfErr result (λ e. (e.0 ≡ want_of_memory)
+        ensures exact_err { IfErr result (λ e. (e.0 ≡ out_of_memory)
             ⊎ (first_fault (lists_owned parts) ≡ Some e.0)) }
         ensures late { IfErr result (λ e. (fault_before_chains (lists_owned parts) ≡ None)
             ⊎ (first_fault (lists_owned parts) ≡ Some e.0)) }
@@ -113,7 +113,7 @@ impl Loaded {
     pub fn lent(alloc: Global, lists: LentLists<'static>, model: DataModel) -> Result<Loaded, Fault>
         ensures ok { IfOk result (λ l. l ≡ record { lists = lists_in lists.entry; model = model }) }
         ensures exact_ok { OnOk result (first_fault (lists_in lists.entry) ≡ None) }
-        ensures exact_err { IfErr result (λ f. (f ≡ want_of_memory)
+        ensures exact_err { IfErr result (λ f. (f ≡ out_of_memory)
             ⊎ (first_fault (lists_in lists.entry) ≡ Some f)) }
     {
         let dictionary = Judged::lent(alloc, lists, model)?;

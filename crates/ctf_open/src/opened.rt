@@ -8,7 +8,7 @@ ghost use Rattle.ctf_open.specs.Drafting.{IsUnder};
 ghost use Rattle.ctf_open.specs.Fitting.{AreTablesOf};
 ghost use Rattle.ctf_model.specs.format.OwnedLists.{lists_owned};
 ghost use Rattle.ctf_model.specs.rules.Faults.{first_fault};
-ghost use Rattle.ctf_model.specs.rules.Refusals.{want_of_memory};
+ghost use Rattle.ctf_model.specs.rules.Refusals.{out_of_memory};
 ghost use Rattle.ctf_model.specs.spaces.Kept.{fault_over};
 ghost use Rattle.ctf_space.specs.SpaceView.{own_lists, parent_lists, space_of};
 ghost use Rattle.ctf_symbols.specs.Fitting.{Fits};

@@ -8,7 +8,7 @@ ghost use Rattle.ctf_entries.specs.FunctionView.{signature};
 ghost use Rattle.ctf_layout.specs.Reached.{position_of};
 ghost use Rattle.ctf_model.specs.figures.Figures.{reference as reference_of};
 ghost use Rattle.ctf_model.specs.names.Found.{found};
-ghost use Rattle.ctf_model.specs.rules.Refusals.{want_of_memory};
+ghost use Rattle.ctf_model.specs.rules.Refusals.{out_of_memory};
 ghost use Rattle.ctf_model.specs.spaces.Space.{space_type};
 ghost use Rattle.ctf_model.specs.symbols.SymbolQuestions.{by_name, label_of, object_of};
 ghost use Rattle.ctf_records.specs.RecordView.{tag_of as tag_shown};
@@ -366,7 +366,7 @@ impl OpenDictionary {
     /// The name of a type, as C spells it.
     pub fn name(&self, alloc: Global, t: TypeNum) -> Result<Bytes, Fault>
         ensures ok { IfOk result (λ text. name_answered (space_in self.now) t.0 ≡ Ok text) }
-        ensures exact_err { IfErr result (λ f. (f ≡ want_of_memory)
+        ensures exact_err { IfErr result (λ f. (f ≡ out_of_memory)
             ⊎ (name_answered (space_in self.now) t.0 ≡ Err f)) }
     {
         self.shape(t)?;
@@ -385,7 +385,7 @@ impl OpenDictionary {
     ) -> Result<Bytes, Fault>
         ensures ok { IfOk result (λ text.
             value_answered (space_in self.now) memory.now offset t.0 ≡ Ok text) }
-        ensures exact_err { IfErr result (λ f. (f ≡ want_of_memory)
+        ensures exact_err { IfErr result (λ f. (f ≡ out_of_memory)
             ⊎ (value_answered (space_in self.now) memory.now offset t.0 ≡ Err f)) }
     {
         self.shape(t)?;

@@ -3,7 +3,7 @@ ghost use Rattle.std.specs.Prelude.{◌≡◌, ◌⊎◌, None, Some, IfOk, IfEr
 ghost use Rattle.std.specs.Option.{ForSome};
 ghost use Rattle.ctf_open.specs.Quotas.{IsUnserved};
 ghost use Rattle.ctf_open.specs.Fitting.{AreTablesOf, Serve, ServeParent};
-ghost use Rattle.ctf_model.specs.rules.Refusals.{want_of_memory};
+ghost use Rattle.ctf_model.specs.rules.Refusals.{out_of_memory};
 ghost use Rattle.ctf_model.specs.spaces.Kept.{fault_over};
 
 use crate::loaded::Loaded;
@@ -56,7 +56,7 @@ pub(crate) fn tables_over(
     ensures ok { IfOk result (λ t. AreTablesOf child.now (Some parent.now) t) }
     ensures exact_ok { OnOk result (fault_over child.now parent.now ≡ None) }
     ensures fits { OnOk result (fits ≡ true) }
-    ensures exact_err { IfErr result (λ f. (f ≡ want_of_memory)
+    ensures exact_err { IfErr result (λ f. (f ≡ out_of_memory)
         ⊎ IsUnserved fits (fault_over child.now parent.now) f) }
 {
     let space = Space::over(child.view(), child.model(), parent.view(), parent.model())?;

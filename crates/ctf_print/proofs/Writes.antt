@@ -6,7 +6,7 @@ use Rattle.std.specs.Prelude.{slice_get}
 use Rattle.std.specs.List.{range_with_len}
 use Rattle.std.proofs.lemmas.List.FromFn.{length-map-range_with_len, get_or-map-range_with_len}
 use Rattle.ctf_model.specs.values.Pieces.{Pieces, piece, no_pieces, ends, goes_on, then_pieces, each_behind_comma, separated, answered, ended_by}
-use Rattle.ctf_model.specs.rules.Refusals.{want_of_memory}
+use Rattle.ctf_model.specs.rules.Refusals.{out_of_memory}
 use Rattle.ctf_model.specs.spaces.Space.{Space}
 use Rattle.ctf_model.specs.names.TypeNames.{longest_text, too_long}
 use Rattle.ctf_model.specs.values.Values.{Shows, each_element, label, most_values, shown_within, value_text}
@@ -192,6 +192,6 @@ written_alone pieces = refl
 pub alone_is : (s : Space) (memory : List ℕ) (n p : ℕ) → written [] (shown_within s memory 1027 n p) ≡ value_text s memory n p
 alone_is s memory n p = written_alone (shown_within s memory 1027 n p) ∙ sym (ap (λ (k : ℕ). answered (shown_within s memory k n p)) most_are)
 
-pub alone_refused : (s : Space) (memory : List ℕ) (n p : ℕ) (f : Fault) → Refused [] (shown_within s memory 1027 n p) f → (f ≡ want_of_memory) ⊎ (value_text s memory n p ≡ Err f)
+pub alone_refused : (s : Space) (memory : List ℕ) (n p : ℕ) (f : Fault) → Refused [] (shown_within s memory 1027 n p) f → (f ≡ out_of_memory) ⊎ (value_text s memory n p ≡ Err f)
 alone_refused s memory n p f (inl e) = inl e
 alone_refused s memory n p f (inr e) = inr (sym (alone_is s memory n p) ∙ e)

@@ -1,7 +1,7 @@
 -- What is shown, as it is put behind a text. The words are ours.
 use Rattle.std.specs.Prelude.{◌≡◌, ◌⊎◌, ℕ, ◌+◌, ◌==◌, ◌++◌, nat_lt, List, [], ◌∷◌, length, Result, Ok, Err, codes, if◌then◌else◌}
 use Rattle.ctf_model.specs.values.Pieces.{Pieces, piece, no_pieces, then_pieces, ended_by}
-use Rattle.ctf_model.specs.rules.Refusals.{want_of_memory}
+use Rattle.ctf_model.specs.rules.Refusals.{out_of_memory}
 use Rattle.ctf_model.specs.names.TypeNames.{longest_text, too_long}
 use Rattle.ctf_model.specs.declared.faults.Fault.{Fault}
 
@@ -13,7 +13,7 @@ written old pieces =
 
 -- the fault is that of what is shown, or memory was refused
 abbrev pub Refused : List ℕ → Pieces → Fault → Type 0
-Refused old pieces fault = (fault ≡ want_of_memory) ⊎ (written old pieces ≡ Err fault)
+Refused old pieces fault = (fault ≡ out_of_memory) ⊎ (written old pieces ≡ Err fault)
 
 -- what stands before the item with a number, from 0
 abbrev pub comma_before : ℕ → Pieces

@@ -1,7 +1,7 @@
 //! Shows a value.
 ghost use Rattle.std.specs.Prelude.{◌≡◌, ◌⊎◌, IfErr, OnErr, OnOk, Err, Ok};
 ghost use Rattle.ctf_layout.specs.Fitting.{Fits};
-ghost use Rattle.ctf_model.specs.rules.Refusals.{want_of_memory};
+ghost use Rattle.ctf_model.specs.rules.Refusals.{out_of_memory};
 ghost use Rattle.ctf_model.specs.values.Values.{value_text};
 ghost use Rattle.ctf_space.specs.SpaceView.{space_of};
 ghost use Rattle.ctf_print.specs.Written.{added};
@@ -32,7 +32,7 @@ pub fn show(
     requires { Fits (space_of space.now) layout.now }
     ensures exact_ok { OnOk result (added out.old.items
         (value_text (space_of space.now) memory.now number.0 offset) ≡ Ok out.new.items) }
-    ensures exact_err { IfErr result (λ f. (f ≡ want_of_memory)
+    ensures exact_err { IfErr result (λ f. (f ≡ out_of_memory)
         ⊎ (value_text (space_of space.now) memory.now number.0 offset ≡ Err f)) }
     ensures kept { OnErr result (out.new.items ≡ out.old.items) }
 {

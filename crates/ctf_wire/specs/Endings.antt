@@ -59,7 +59,7 @@ pub record Breaks (Broken : ℕ → List (List ℕ) → Type 0) (old new : Pulle
   pub broke : sink.failed ≡ true
 
 -- how a run of at most so many reads ends, where lines may be served or broken off;
--- want of memory is told elsewhere
+-- running out of memory is told elsewhere
 abbrev pub EndsBy : (List (List ℕ) → Type 0) → (ℕ → List (List ℕ) → Type 0) → ℕ → Pulled → Pulled
     → Pushed → Result (Unit {0}) RunFault → Type 0
 EndsBy Served Broken reads old new sink (Ok done) = ReadsAll Served old new sink

@@ -12,7 +12,7 @@ use Rattle.ctf_model.specs.rules.Chains.{by_value, declarator}
 use Rattle.ctf_model.specs.format.Dictionary.{Dictionary, Label}
 use Rattle.ctf_model.specs.rules.Faults.{or_later}
 use Rattle.ctf_model.specs.drafts.Fitting.{Fits}
-use Rattle.ctf_model.specs.rules.Refusals.{placeless, want_of_memory}
+use Rattle.ctf_model.specs.rules.Refusals.{placeless, out_of_memory}
 use Rattle.ctf_model.specs.format.Term.{Term}
 use Rattle.ctf_model.specs.writing.WritingLaws.{IsKept}
 use Rattle.ctf_model.specs.writing.Written.{bytes_of, deep_by, fields_over, header_bytes, label_bytes, labels_written, most_written, records_written, dictionary_too_big, unwritten, written}
@@ -102,7 +102,7 @@ module _ (d : Dictionary) (v : deep_by by_value d ≡ None) (w : deep_by declara
   unfolding written unwritten
   accepted le = let few : ltb most_written (length (bytes_of d)) ≡ false = le-ltb most_written (length (bytes_of d)) le in rw (v, w, few) refl
 
-  pub refused_strings : (f : Fault) → IsRefused (strings_of d) f → (f ≡ want_of_memory) ⊎ (written d ≡ Err f)
+  pub refused_strings : (f : Fault) → IsRefused (strings_of d) f → (f ≡ out_of_memory) ⊎ (written d ≡ Err f)
   refused_strings f (inl none) = inl none
   refused_strings f (inr long) =
       let whole = bytes_len d in

@@ -1,6 +1,6 @@
 -- How names are added at their uses. Source: ours.
 use Rattle.std.specs.Prelude.{◌≡◌, ◌<◌, ℕ, List, length, fold, ◌⊎◌}
-use Rattle.ctf_model.specs.rules.Refusals.{placeless, want_of_memory}
+use Rattle.ctf_model.specs.rules.Refusals.{placeless, out_of_memory}
 use Rattle.ctf_model.specs.writing.Written.{most_written}
 use Rattle.ctf_model.specs.writing.WrittenNames.{string_bytes}
 use Rattle.ctf_model.specs.declared.faults.Fault.{Fault}
@@ -14,5 +14,5 @@ with_names names uses = fold with_name names uses
 -- memory was refused, or the strings of these names alone are longer than a dictionary may be
 abbrev pub IsRefused : List (List ℕ) → Fault → Type 0
 IsRefused names f =
-    (f ≡ want_of_memory)
+    (f ≡ out_of_memory)
     ⊎ ((f ≡ placeless DICT_TOO_BIG) × (most_written < length (string_bytes names)))

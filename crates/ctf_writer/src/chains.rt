@@ -5,7 +5,7 @@ ghost use Rattle.ctf_chains.specs.Steps.{steps};
 ghost use Rattle.ctf_draft.specs.TypeView.{body_of};
 ghost use Rattle.ctf_model.specs.rules.Chains.{by_value, declarator, own_index as own_index_of};
 ghost use Rattle.ctf_model.specs.rules.Faults.{or_later};
-ghost use Rattle.ctf_model.specs.rules.Refusals.{want_of_memory};
+ghost use Rattle.ctf_model.specs.rules.Refusals.{out_of_memory};
 ghost use Rattle.ctf_model.specs.writing.Written.{deep_by};
 ghost use Rattle.ctf_writer.specs.HeldView.{dictionary_of};
 ghost use Rattle.ctf_writer.specs.Leading.{draft_places, type_places};
@@ -134,7 +134,7 @@ fn deep(alloc: Global, held: Held<'_>, chain: Chain) -> Result<Option<u64>, Allo
 pub(crate) fn judge_chains(alloc: Global, held: Held<'_>) -> Result<(), Fault>
     ensures ok { OnOk result ((deep_by by_value (dictionary_of held.entry) ≡ None)
         × (deep_by declarator (dictionary_of held.entry) ≡ None)) }
-    ensures err { IfErr result (λ f. (f ≡ want_of_memory) ⊎ ((later : Option Fault)
+    ensures err { IfErr result (λ f. (f ≡ out_of_memory) ⊎ ((later : Option Fault)
         → or_later 15 (deep_by by_value (dictionary_of held.entry))
         (or_later 16 (deep_by declarator (dictionary_of held.entry)) later) ≡ Some f)) }
 {

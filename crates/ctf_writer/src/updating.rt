@@ -2,7 +2,7 @@
 ghost use Rattle.std.specs.Prelude.{◌≡◌, ◌⊎◌, IfErr, IfOk, OnErr, OnOk, MatchOption, None, Err};
 ghost use Rattle.ctf_model.specs.drafts.Drafts.{held as held_by, settled};
 ghost use Rattle.ctf_model.specs.rules.Faults.{first_fault};
-ghost use Rattle.ctf_model.specs.rules.Refusals.{want_of_memory};
+ghost use Rattle.ctf_model.specs.rules.Refusals.{out_of_memory};
 ghost use Rattle.ctf_model.specs.writing.Written.{lists_of, written};
 ghost use Rattle.ctf_writer.specs.Updating.{IsMadeOf};
 
@@ -18,7 +18,7 @@ fn judged(alloc: Global, bytes: Vec<u8>, model: DataModel) -> Result<Rc<Judged<'
     requires faultless { first_fault (lists_of bytes.items) ≡ None }
     ensures ok { IfOk result
         (λ d. d.value.kept ≡ record { lists = lists_of bytes.items; model = model }) }
-    ensures err { IfErr result (λ f. f ≡ want_of_memory) }
+    ensures err { IfErr result (λ f. f ≡ out_of_memory) }
 {
     let parts = Parts {
         ctf: Bytes::from(bytes),
@@ -43,7 +43,7 @@ pub fn update(alloc: Global, draft: &mut Draft) -> Result<(), Fault>
     ensures draft { OnOk result (draft.new.draft ≡ settled draft.old.draft) }
     ensures dictionary { OnOk result
         (MatchOption draft.new.dictionary ⊥ (IsMadeOf draft.old.draft)) }
-    ensures exact_err { IfErr result (λ f. (f ≡ want_of_memory)
+    ensures exact_err { IfErr result (λ f. (f ≡ out_of_memory)
         ⊎ (written (held_by draft.old.draft) ≡ Err f)) }
     ensures kept { OnErr result (draft.new ≡ draft.old) }
 {

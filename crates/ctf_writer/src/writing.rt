@@ -4,7 +4,7 @@ ghost use Rattle.std.specs.List.{All, AllByRecursion, flat_map};
 ghost use Rattle.ctf_draft.specs.TypeView.{type_of};
 ghost use Rattle.ctf_model.specs.drafts.Drafts.{held as held_by};
 ghost use Rattle.ctf_model.specs.drafts.Fitting.{Fits};
-ghost use Rattle.ctf_model.specs.rules.Refusals.{want_of_memory};
+ghost use Rattle.ctf_model.specs.rules.Refusals.{out_of_memory};
 ghost use Rattle.ctf_model.specs.writing.WritingLaws.{IsKept};
 ghost use Rattle.ctf_model.specs.writing.Written.{bytes_of, fields_over, header_bytes, labels_written, most_written, records_written, written};
 ghost use Rattle.ctf_model.specs.writing.WrittenNames.{strings_of as strings_in};
@@ -138,7 +138,7 @@ fn put_held(out: &mut Vec<u8>, held: Held<'_>, strings: &Strings<'_>, lengths: L
 fn write_held(alloc: Global, held: Held<'_>) -> Result<Vec<u8>, Fault>
     requires { AllByRecursion Fits (dictionary_of held).terms }
     ensures ok { IfOk result (λ bytes. written (dictionary_of held.entry) ≡ Ok bytes.items) }
-    ensures exact_err { IfErr result (λ f. (f ≡ want_of_memory)
+    ensures exact_err { IfErr result (λ f. (f ≡ out_of_memory)
         ⊎ (written (dictionary_of held.entry) ≡ Err f)) }
 {
     judge_chains(alloc, held)?;
@@ -158,7 +158,7 @@ fn write_held(alloc: Global, held: Held<'_>) -> Result<Vec<u8>, Fault>
 pub fn write(alloc: Global, draft: &Draft) -> Result<Vec<u8>, Fault>
     ensures ok { IfOk result (λ bytes. written (held_by draft.now.draft) ≡ Ok bytes.items) }
     ensures stands { IfOk result (λ bytes. StandsFor draft.now.draft bytes.items) }
-    ensures exact_err { IfErr result (λ f. (f ≡ want_of_memory)
+    ensures exact_err { IfErr result (λ f. (f ≡ out_of_memory)
         ⊎ (written (held_by draft.now.draft) ≡ Err f)) }
 {
     write_held(alloc, Held::of(draft))

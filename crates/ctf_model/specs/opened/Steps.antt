@@ -8,7 +8,7 @@ use Rattle.ctf_model.specs.drafts.Drafts.{Draft, discarded, held, new_draft, set
 use Rattle.ctf_model.specs.drafts.NewTypes.{NewType}
 use Rattle.ctf_model.specs.format.Dictionary.{Label}
 use Rattle.ctf_model.specs.format.Term.{Enumerator}
-use Rattle.ctf_model.specs.rules.Refusals.{placeless, want_of_memory}
+use Rattle.ctf_model.specs.rules.Refusals.{placeless, out_of_memory}
 use Rattle.ctf_model.specs.spaces.Kept.{Kept, fault_over, modelled_by}
 use Rattle.ctf_model.specs.writing.Written.{lists_of, written}
 use Rattle.ctf_model.specs.declared.data_model.DataModel.{DataModel}
@@ -18,7 +18,7 @@ use Rattle.ctf_model.specs.opened.Open.{Open, own_in}
 
 -- why a step was refused: memory was, or it has this fault
 abbrev pub Refuses : Option Fault → Fault → Type 0
-Refuses fault f = (f ≡ want_of_memory) ⊎ (fault ≡ Some f)
+Refuses fault f = (f ≡ out_of_memory) ⊎ (fault ≡ Some f)
 
 -- ---- imports
 

@@ -8,5 +8,5 @@ abbrev pub placeless : ℕ → Fault
 placeless code = record { code = code; place = 0 }
 
 -- memory was refused
-abbrev pub want_of_memory : Fault
-want_of_memory = placeless MEMORY
+abbrev pub out_of_memory : Fault
+out_of_memory = placeless MEMORY

@@ -1,7 +1,7 @@
 -- Which requests take no memory, and what may be answered where it is refused. Source: ours.
 use Rattle.std.specs.Prelude.{◌≡◌, ◌⊎◌, Bool, true, false, Result, Err}
 use Rattle.ctf_protocol.specs.answers.Answers.{Answer}
-use Rattle.ctf_model.specs.rules.Refusals.{want_of_memory}
+use Rattle.ctf_model.specs.rules.Refusals.{out_of_memory}
 use Rattle.ctf_model.specs.declared.faults.Fault.{Fault}
 use Rattle.ctf_protocol.specs.declared.questions.PlainQuestion.{PlainQuestion}
 use Rattle.ctf_protocol.specs.declared.questions.PlainQuestion.TheVariants as plain
@@ -42,7 +42,7 @@ is_quiet (OfHeld question) = false
 
 -- the answer to a question, or memory for it was refused
 abbrev pub MayAnswer : Result Answer Fault → Result Answer Fault → Type 0
-MayAnswer said result = (result ≡ said) ⊎ (result ≡ Err want_of_memory)
+MayAnswer said result = (result ≡ said) ⊎ (result ≡ Err out_of_memory)
 
 -- a change that takes no memory
 abbrev pub is_quiet_change : Change → Bool

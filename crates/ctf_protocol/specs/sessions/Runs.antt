@@ -4,7 +4,7 @@ use Rattle.std.specs.Prelude.{◌≡◌, ◌≢◌, ◌⊎◌, ℕ, ◌==◌, Li
 use Rattle.ctf_protocol.specs.answers.Answers.{Reply}
 use Rattle.ctf_model.specs.spaces.Kept.{Kept}
 use Rattle.ctf_protocol.specs.sessions.Publications.{published_as}
-use Rattle.ctf_model.specs.rules.Refusals.{want_of_memory}
+use Rattle.ctf_model.specs.rules.Refusals.{out_of_memory}
 use Rattle.ctf_protocol.specs.sessions.State.{State}
 use Rattle.ctf_protocol.specs.sessions.Outcomes.{Outcome}
 use Rattle.ctf_protocol.specs.sessions.Steps.{step}
@@ -77,7 +77,7 @@ addressed s reply = record reply { session = s }
 
 -- memory was refused to a request of a session
 abbrev pub no_memory : ℕ → Reply
-no_memory s = record { session = s; outcome = Err want_of_memory }
+no_memory s = record { session = s; outcome = Err out_of_memory }
 
 -- a step of one library by itself: its definition's outcome,
 -- or memory was refused and nothing changed

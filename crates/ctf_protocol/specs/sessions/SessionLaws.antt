@@ -48,7 +48,7 @@ UnreachedDoNotMatter =
 
 -- ---- each session by itself
 
--- a request of a session, its reply, and whether that is for want of memory
+-- a request of a session, its reply, and whether memory ran out
 pub record Event : Type 0 where
   pub session : ℕ
   pub request : Request

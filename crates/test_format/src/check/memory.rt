@@ -1,4 +1,4 @@
-//! Want of memory.
+//! Running out of memory.
 //!
 //! With `rt try --test --fail-alloc N` these tests but the first hold for every N: they say what
 //! may then be answered. The first says that in ample memory nothing is answered Memory.

@@ -1,4 +1,4 @@
-//! Calls of a draft, written shortly. Want of memory for a name is answered Memory.
+//! Calls of a draft, written shortly. Where memory for a name runs out the answer is Memory.
 
 use ctf_draft::{AggregateKind, Body, Draft, NewBody, NewType, ScalarKind};
 use ctf_model::{Bytes, DataModel, Fault, TypeNum, placeless};

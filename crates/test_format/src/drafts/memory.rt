@@ -1,4 +1,4 @@
-//! Want of memory.
+//! Running out of memory.
 //!
 //! With `rt try --test --fail-alloc N` these tests but the first hold for every N: whatever was
 //! refused, what was there stays. The first says that in ample memory nothing is refused.

@@ -111,7 +111,7 @@ fn an_empty_library_refuses(rt: HostRuntime) {
 }
 
 #[test]
-fn want_of_memory_has_a_line(rt: HostRuntime) {
+fn out_of_memory_has_a_line(rt: HostRuntime) {
     let mut buffer = [0; 96];
     let len = memory_line(4_294_967_295, &mut buffer);
     let want = b"{\"fault\":{\"code\":0,\"name\":\"Memory\",\"place\":0},\"s\":4294967295}\n";

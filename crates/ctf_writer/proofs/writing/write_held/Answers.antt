@@ -1,6 +1,6 @@
 use Rattle.std.proofs.Common.{◌≡◌, ℕ, ◌≤◌, ◌++◌, List, Option, Ok, Err, Some, arith, sym, ap, ◌∙◌, length, ◌⊎◌, inl, inr}
 use Rattle.std.proofs.lemmas.Result.{err_from_is_err_and}
-use Rattle.ctf_model.specs.rules.Refusals.{want_of_memory}
+use Rattle.ctf_model.specs.rules.Refusals.{out_of_memory}
 use Rattle.ctf_model.specs.writing.Written.{bytes_of, deep_by, most_written, written}
 use Rattle.ctf_model.specs.rules.Chains.{by_value, declarator}
 use Rattle.ctf_model.specs.format.Dictionary.{Dictionary}
@@ -11,7 +11,7 @@ use Rattle.ctf_writer.proofs.HeldParts.{refused_deep, refused_long, refused_stri
 use Rattle.ctf_writer.proofs.writing.write_held.Goals as goal
 
 -- a refusal for chains, whatever else there is
-deep_refused : (d : Dictionary) (f : Fault) → (f ≡ want_of_memory) ⊎ ((later : Option Fault) → or_later 15 (deep_by by_value d) (or_later 16 (deep_by declarator d) later) ≡ Some f) → (f ≡ want_of_memory) ⊎ (written d ≡ Err f)
+deep_refused : (d : Dictionary) (f : Fault) → (f ≡ out_of_memory) ⊎ ((later : Option Fault) → or_later 15 (deep_by by_value d) (or_later 16 (deep_by declarator d) later) ≡ Some f) → (f ≡ out_of_memory) ⊎ (written d ≡ Err f)
 deep_refused d f (inl none) = inl none
 deep_refused d f (inr deep) = inr (refused_deep d f deep)
 

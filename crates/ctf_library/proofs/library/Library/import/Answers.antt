@@ -9,7 +9,7 @@ use Rattle.ctf_library.proofs.Rooms.{room_le, room_lt}
 use Rattle.ctf_library.proofs.Rising.{in_order, non_decreasing}
 use Rattle.ctf_protocol.proofs.Charged.{slot_counts, without_bytes}
 use Rattle.ctf_protocol.specs.sessions.Charges.{charge}
-use Rattle.ctf_model.specs.rules.Refusals.{want_of_memory}
+use Rattle.ctf_model.specs.rules.Refusals.{out_of_memory}
 use Rattle.ctf_model.specs.spaces.Kept.{Kept, fault_over}
 use Rattle.ctf_open.specs.Quotas.{IsUnserved}
 use Rattle.ctf_model.specs.opened.Sizes.{kept_bytes, parent_bytes}
@@ -61,7 +61,7 @@ returns-in_err-imported c =
     let known = c.charge.ensures in
     let counts = slot_counts c.args.d child c.args.self.now child_at in
     let over : c.fits-has_room.result ≡ false → quota + parent_bytes child.parent < charge c.args.self.now + kept_bytes parent.kept = λ e. let lt = room_lt ((c.charge.result - c.parent_bytes-old.result) + c.bytes-new.result) (sym c.fits-has_room.ensures ∙ e) in omega (arith, lt, old, new, known, counts) in
-    let refused = subst (λ (k : Kept). (c.in_err-imported.field-0.0 ≡ want_of_memory) ⊎ IsUnserved c.fits-has_room.result (fault_over child.kept k) c.in_err-imported.field-0.0) c.own-parent.ensures c.in_err-imported.ensures.exact_err in
+    let refused = subst (λ (k : Kept). (c.in_err-imported.field-0.0 ≡ out_of_memory) ⊎ IsUnserved c.fits-has_room.result (fault_over child.kept k) c.in_err-imported.field-0.0) c.own-parent.ensures c.in_err-imported.ensures.exact_err in
     let p = err_from_is_err_and c.from_residual.result c.from_residual.ensures.1 in
     rw (p.1, p.2) (imports_refused c.args.d c.args.parent child parent c.args.self.now c.in_err-imported.field-0.0 c.fits-has_room.result child_at parent_at plain over refused)
 

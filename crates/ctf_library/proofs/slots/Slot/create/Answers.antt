@@ -2,7 +2,7 @@ use Rattle.std.proofs.Common.{◌≡◌, ◌⊎◌, ℕ, List, length, Some, Ok,
 use Rattle.std.specs.Prelude.{◌==◌, not, option_copied}
 use Rattle.ctf_library.proofs.Creating.{create_made, create_refused, either}
 use Rattle.ctf_library.proofs.Rooms.{room_le}
-use Rattle.ctf_model.specs.rules.Refusals.{want_of_memory}
+use Rattle.ctf_model.specs.rules.Refusals.{out_of_memory}
 use Rattle.ctf_open.specs.Quotas.{IsUncreated}
 use Rattle.ctf_model.specs.opened.Sizes.{parent_bytes}
 use Rattle.ctf_model.specs.opened.Steps.{created}
@@ -26,5 +26,5 @@ returns-in-Ok-clause-room c =
 
 pub returns-in-Err-clause-exact_err : goal.returns-in-Err-clause-exact_err
 returns-in-Err-clause-exact_err c =
-    let refused : (c.in-Err.fault ≡ want_of_memory) ⊎ IsUncreated (created (option_copied c.args.parent) c.args.creation.now.parname c.args.creation.now.parlabel (model_made (option_copied c.args.parent) c.args.creation.now)) (Some (record { others = c.args.others; most = quota })) c.in-Err.fault = rw (← c.parname-parname.ensures, ← c.parlabel-parlabel.ensures, ← c.model_of-model.ensures) c.in-Err.ensures.exact_err in
+    let refused : (c.in-Err.fault ≡ out_of_memory) ⊎ IsUncreated (created (option_copied c.args.parent) c.args.creation.now.parname c.args.creation.now.parlabel (model_made (option_copied c.args.parent) c.args.creation.now)) (Some (record { others = c.args.others; most = quota })) c.in-Err.fault = rw (← c.parname-parname.ensures, ← c.parlabel-parlabel.ensures, ← c.model_of-model.ensures) c.in-Err.ensures.exact_err in
     either (create_refused c.args.number c.args.others (option_copied c.args.parent) c.args.creation.now c.in-Err.fault) refused
