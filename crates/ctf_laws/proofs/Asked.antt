@@ -15,7 +15,7 @@ use Rattle.ctf_protocol.specs.lines.Ask.{about_held, about_slot, about_type, ask
 use Rattle.ctf_protocol.specs.lines.AskAdditions.{addition_asked, addition_with, kind_with, new_array_asked, new_type_asked, offset_asked, root_asked, scalar_asked, size_or, types_listed, value_asked_for, within_signed}
 use Rattle.ctf_protocol.specs.lines.LineFields.{bytes_spelled, name_or_empty, name_under, number_in, slot_in, slot_under, text_in, type_asked, type_under, window_asked, in_range}
 use Rattle.ctf_protocol.specs.lines.Lines.{longest_line}
-use Rattle.ctf_protocol.specs.sessions.Additions.{new_body, scalar_of}
+use Rattle.ctf_protocol.specs.sessions.Additions.{asked_body, scalar_of}
 use Rattle.ctf_protocol.specs.sessions.Creations.{Created, creation}
 use Rattle.ctf_protocol.specs.declared.addables.Addable.{Addable}
 use Rattle.ctf_protocol.specs.declared.addables.Addable.TheVariants as adds
@@ -100,7 +100,7 @@ abbrev args_asked : Data → Option (List TypeNum)
 args_asked line = option_and_then types_listed (option_and_then as_array (get (codes "args") line))
 
 abbrev FitsKind : NewKind → Type 0
-FitsKind kind = FitsNew (new_body kind)
+FitsKind kind = FitsNew (asked_body kind)
 
 kind_fits : (line : Data) (what : Addable) → ForSome (kind_with line what) FitsKind
 kind_fits line adds.Unknown = just FitsKind _ tt

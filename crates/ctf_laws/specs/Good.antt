@@ -9,7 +9,7 @@ use Rattle.ctf_model.specs.drafts.Fitting.{FitsNew}
 use Rattle.ctf_model.specs.rules.Faults.{first_fault}
 use Rattle.ctf_model.specs.spaces.Kept.{Kept, fault_over, kept_dictionary}
 use Rattle.ctf_model.specs.writing.Written.{lists_of, written}
-use Rattle.ctf_protocol.specs.sessions.Additions.{new_body}
+use Rattle.ctf_protocol.specs.sessions.Additions.{asked_body}
 use Rattle.ctf_protocol.specs.sessions.State.{Slot, State}
 use Rattle.ctf_protocol.specs.declared.additions.Addition.{Addition}
 use Rattle.ctf_protocol.specs.declared.additions.Addition.TheVariants as add
@@ -58,7 +58,7 @@ AreGood libraries = (session : ℕ) → IsGood (libraries session)
 
 -- its numbers have the widths of their fields
 abbrev pub FitsAddition : Addition → Type 0
-FitsAddition (add.Type name root kind) = FitsNew (new_body kind)
+FitsAddition (add.Type name root kind) = FitsNew (asked_body kind)
 FitsAddition (add.Member t name tnum offset) = Unit {0}
 FitsAddition (add.Enumerator t name value) = FitsSigned w32 value
 FitsAddition (add.Label name last) = last < 2 ^ 32

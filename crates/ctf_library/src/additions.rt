@@ -8,7 +8,7 @@ ghost use Rattle.ctf_protocol.specs.sessions.Opened.{open_of};
 ghost use Rattle.ctf_model.specs.drafts.NewTypes as new;
 ghost use Rattle.ctf_model.specs.opened.Steps.{enumerator_added, label_added, member_added, type_added};
 ghost use Rattle.ctf_protocol.specs.answers.Answers.{number, says};
-ghost use Rattle.ctf_protocol.specs.sessions.Additions.{array_of, new_body, scalar_of, tag_declared};
+ghost use Rattle.ctf_protocol.specs.sessions.Additions.{array_of, asked_body, scalar_of, tag_declared};
 ghost use Rattle.ctf_protocol.specs.sessions.Charges.{slot_bytes};
 ghost use Rattle.ctf_protocol.specs.sessions.DraftSteps.{slot_step};
 ghost use Rattle.ctf_protocol.specs.declared.requests.DraftStep.TheVariants.{Add};
@@ -67,7 +67,7 @@ fn function(alloc: Global, returned: TypeNum, args: &TypeNums) -> Result<NewBody
 
 /// A new type of a kind, as a draft takes it.
 fn body(alloc: Global, kind: &NewKind) -> Result<NewBody, AllocError>
-    ensures { IfOk result (λ b. new_body_of b ≡ new_body kind.now) }
+    ensures { IfOk result (λ b. new_body_of b ≡ asked_body kind.now) }
 {
     let body = match kind {
         NewKind::Unknown => NewBody::Unknown,
@@ -100,7 +100,7 @@ impl Slot {
             (slot_of self.old) (type_added (record {
               name = name.now;
               root = root;
-              body = new_body kind.now;
+              body = asked_body kind.now;
             }) (open_of (slot_of self.old)))) result (slot_of self.old) (slot_of self.new) }
         ensures number { self.new.number ≡ self.old.number }
         ensures same { slot_bytes (slot_of self.new) ≡ slot_bytes (slot_of self.old) }

@@ -8,7 +8,7 @@ use Rattle.std.proofs.lemmas.Bool.{ne_eqb, eqb-true}
 use Rattle.std.proofs.lemmas.List.{drop_at, append_assoc, length-append, nil_from_length}
 use Rattle.ctf_model.specs.format.Name.{text, is_zero, name}
 use Rattle.ctf_model.specs.drafts.Fitting.{IsName}
-use Rattle.ctf_model.specs.writing.WrittenNames.{closed, string_bytes, reference, is_empty}
+use Rattle.ctf_model.specs.writing.WrittenNames.{closed, string_bytes, name_reference, is_empty}
 use Rattle.ctf_model.specs.writing.WritingLaws.{IsKept, IsFound, table_of}
 
 -- what stands before the first: nothing where the head passes
@@ -69,7 +69,7 @@ each_named (n ∷ names) t h all = at (bytes_eq t n) refl h (λ e. each_named na
     at false e h more = more h
 
 pub found : (names : List (List ℕ)) (t : List ℕ) → AllByRecursion IsName names → IsKept names t → length (string_bytes names) < 2 ^ 31 → IsFound names t
-unfolding reference
+unfolding name_reference
 found names t all kept low = at (is_empty t) refl
   where
     at : (b : Bool) → is_empty t ≡ b → IsFound names t
@@ -84,7 +84,7 @@ found names t all kept low = at (is_empty t) refl
         let len : length (flat_map closed names) ≡ length front + length behind = ap length split.1 ∙ length-append front behind in
         let here : drop (length front) (flat_map closed names) ≡ behind = ap (drop (length front)) split.1 ∙ drop_at front behind (length front) refl in
         let far : suc (length front) < 2 ^ 31 = omega arith in
-        let at : reference names t ≡ suc (length front) = rw e refl in
+        let at : name_reference names t ≡ suc (length front) = rw e refl in
         record {
           low = subst (λ (r : ℕ). r < 2 ^ 31) (sym at) far;
           found = ap (name (table_of names)) at ∙ low_name names (suc (length front)) (omega arith) far ∙ ap text here ∙ closed_text t split.0 (each_named names t is all);

@@ -17,7 +17,7 @@ use Rattle.ctf_model.specs.format.Term.{Scalar, Elements, Member, Enumerator, Ta
 use Rattle.ctf_model.specs.format.Term as term
 use Rattle.ctf_model.specs.drafts.Fitting.{Fits, FitsBody, FitsScalar, FitsElements, FitsMember, FitsEnumerator}
 use Rattle.ctf_model.specs.writing.WritingLaws.{IsFound, NamesShort, table_of}
-use Rattle.ctf_model.specs.writing.WrittenNames.{reference, listed_names, names_of}
+use Rattle.ctf_model.specs.writing.WrittenNames.{name_reference, listed_names, names_of}
 use Rattle.ctf_model.specs.writing.WrittenRecords.{u16, u32, number_of_kind, list_len, root_bit, info_of, tag_number, field_of, scalar_bytes, element_bytes, argument_bytes, member_bytes, enumerator_bytes, variant_bytes, record_bytes}
 use Rattle.ctf_model.proofs.WrittenHeads.{HasHead, head_read, number_u16, number_u32}
 use Rattle.ctf_model.proofs.WrittenItems.{IsItem, items_read, items_len, argument_read, enumerator_read, member_read}
@@ -186,7 +186,7 @@ root_low true = omega arith
 root_low false = omega arith
 
 -- bytes with the head and the variant of a type are a whole record that says it
-recorded_at : (names : List (List ℕ)) (b : List ℕ) (x : Term) → Fits x → NamesShort x → AllByRecursion (IsFound names) (names_of x) → HasHead b (variant_bytes names x.body) (reference names x.name) (info_of x) (field_of x.body) → IsRecorded names b x
+recorded_at : (names : List (List ℕ)) (b : List ℕ) (x : Term) → Fits x → NamesShort x → AllByRecursion (IsFound names) (names_of x) → HasHead b (variant_bytes names x.body) (name_reference names x.name) (info_of x) (field_of x.body) → IsRecorded names b x
 unfolding IsWhole term_of
 recorded_at names b x fits short found head =
     let p = parts x.body fits.body short in
@@ -198,7 +198,7 @@ recorded_at names b x fits short found head =
     let len : vlen b ≡ list_len x.body = ap (λ (i : ℕ). i % 1024) head.info ∙ len_is in
     let is_root : is_root b ≡ x.root = ap (λ (i : ℕ). eqb (i / 1024 % 2) 1) head.info ∙ ap (λ (i : ℕ). eqb i 1) root_is ∙ root_read x.root in
     let text : name (table_of names) (u32_at b 0) ≡ Some x.name = ap (name (table_of names)) head.name ∙ found.0.found in
-    let body = body_read names b (reference names x.name) (info_of x) x.body head k len fits.body short found.1 in
+    let body = body_read names b (name_reference names x.name) (info_of x) x.body head k len fits.body short found.1 in
     let unmarked : is_short_kind (kind_of x.body) ≡ true → ¬ field b ≡ 0xffff = λ s marked. let under = short_low x.body short s in let same = head.short under in omega arith in
     let ends : length b ≡ head_len b + variant_len (kind_of x.body) (size b) (vlen b) = rw (head.size, len) (head.len ∙ ap (λ (n : ℕ). head_len b + n) body.len) in
     record {
@@ -212,4 +212,4 @@ recorded names x fits short found =
     let p = parts x.body fits.body short in
     let root = root_low x.root in
     let low = found.0.low in
-    recorded_at names (record_bytes names x) x fits short found (head_read (reference names x.name) (info_of x) (field_of x.body) (variant_bytes names x.body) (omega arith) (omega arith) p.field)
+    recorded_at names (record_bytes names x) x fits short found (head_read (name_reference names x.name) (info_of x) (field_of x.body) (variant_bytes names x.body) (omega arith) (omega arith) p.field)

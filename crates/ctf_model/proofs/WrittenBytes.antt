@@ -25,7 +25,7 @@ use Rattle.ctf_model.proofs.Anywhere.{all_map}
 use Rattle.ctf_model.proofs.Spelled.{IsNamed, AreNamed}
 use Rattle.ctf_model.specs.drafts.Fitting.{IsName, Fits, FitsBody, FitsLabel, FitsMember, FitsEnumerator}
 use Rattle.ctf_model.specs.writing.WritingLaws.{IsFound, IsKept, NamesShort, table_of}
-use Rattle.ctf_model.specs.writing.WrittenNames.{used_names, strings_of, string_bytes, reference, is_empty, names_of, listed_names}
+use Rattle.ctf_model.specs.writing.WrittenNames.{used_names, strings_of, string_bytes, name_reference, is_empty, names_of, listed_names}
 use Rattle.ctf_model.specs.writing.Written.{bytes_of, bytes_unless, deep_by, label_bytes, labels_written, lists_of, records_written, unwritten, written}
 use Rattle.ctf_model.specs.writing.WrittenRecords.{record_bytes, u32}
 use Rattle.ctf_model.proofs.FoundAgain.{found}
@@ -129,7 +129,7 @@ labels_are : (names : List (List ℕ)) (labels : List Label) → AllByRecursion 
 labels_are names [] h f = omega arith
 labels_are names (label ∷ labels) h f =
     let low = f.0.low in
-    let word : number (u32 (reference names label.name)) ≡ reference names label.name = number_u32 (reference names label.name) (omega arith) in
+    let word : number (u32 (name_reference names label.name)) ≡ name_reference names label.name = number_u32 (name_reference names label.name) (omega arith) in
     (omega arith, ap (name (table_of names)) word ∙ f.0.found, number_u32 label.last h.0.last, labels_are names labels h.1 f.1)
 
 labels_named : (names : List (List ℕ)) (ctf behind : List ℕ) (at : ℕ) (labels : List Label) → drop at ctf ≡ flat_map (label_bytes names) labels ++ behind → AllByRecursion (IsFound names) (map (λ label. label.name) labels)
@@ -138,7 +138,7 @@ unfolding label_sites
 labels_named names ctf behind at [] e f = tt
 labels_named names ctf behind at (label ∷ labels) e f =
     let low = f.0.low in
-    let word : u32_at ctf at ≡ reference names label.name = ap (λ (b : List ℕ). u32_at b 0) e ∙ number_u32 (reference names label.name) (omega arith) in
+    let word : u32_at ctf at ≡ name_reference names label.name = ap (λ (b : List ℕ). u32_at b 0) e ∙ number_u32 (name_reference names label.name) (omega arith) in
     let later : drop (at + 8) ctf ≡ flat_map (label_bytes names) labels ++ behind = sym (drop-drop 8 at ctf) ∙ ap (drop 8) e in
     (is_there _ label.name (ap (name (table_of names)) word ∙ f.0.found), labels_named names ctf behind (at + 8) labels later f.1)
 
@@ -163,11 +163,11 @@ none_nameless t (site ∷ more) h = at (name t site.reference) refl h.0 (none_na
     at (Some x) e named later = rw e later
 
 -- the reference to a name is 0 exactly where the name is empty
-reference_zero : (names : List (List ℕ)) (t : List ℕ) → eqb (reference names t) 0 ≡ is_empty t
-unfolding reference
+reference_zero : (names : List (List ℕ)) (t : List ℕ) → eqb (name_reference names t) 0 ≡ is_empty t
+unfolding name_reference
 reference_zero names t = at (is_empty t) refl
   where
-    at : (b : Bool) → is_empty t ≡ b → eqb (reference names t) 0 ≡ is_empty t
+    at : (b : Bool) → is_empty t ≡ b → eqb (name_reference names t) 0 ≡ is_empty t
     at true e = rw e refl
     at false e = rw e (ne_eqb _ 0 (omega arith))
 
@@ -195,7 +195,7 @@ unwritten_by value declared = or_later 15 value (or_later 16 declared None)
 
 -- what is known of the bytes of a dictionary
 record AreRead (d : Dictionary) (ctf : List ℕ) : Type 0 where
-  laid : IsLaid (reference (strings_of d) d.parlabel) (reference (strings_of d) d.parname) ctf (labels_written d) (records_written d) (string_bytes (strings_of d))
+  laid : IsLaid (name_reference (strings_of d) d.parlabel) (name_reference (strings_of d) d.parname) ctf (labels_written d) (records_written d) (string_bytes (strings_of d))
   found : AllFound d
   recorded : AreRecorded (strings_of d) (record_bytes (strings_of d)) d.terms
 
@@ -216,7 +216,7 @@ are_read d ok small =
     let low = all.parlabel.low in
     let low_name = all.parname.low in
     record {
-      laid = laid (reference names d.parlabel) (reference names d.parname) ls rs ss (omega arith) (omega arith) (omega arith);
+      laid = laid (name_reference names d.parlabel) (name_reference names d.parname) ls rs ss (omega arith) (omega arith) (omega arith);
       found = all;
       recorded = each_recorded names d.terms ok.terms ok.short all.terms;
     }

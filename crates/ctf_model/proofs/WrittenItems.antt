@@ -14,7 +14,7 @@ use Rattle.ctf_model.specs.format.Term.{Member, Enumerator}
 use Rattle.ctf_model.proofs.Items.{items_more}
 use Rattle.ctf_model.specs.drafts.Fitting.{FitsMember, FitsEnumerator}
 use Rattle.ctf_model.specs.writing.WritingLaws.{IsFound, table_of}
-use Rattle.ctf_model.specs.writing.WrittenNames.{reference}
+use Rattle.ctf_model.specs.writing.WrittenNames.{name_reference}
 use Rattle.ctf_model.specs.writing.WrittenRecords.{u16, u32, member_bytes, enumerator_bytes}
 use Rattle.ctf_model.proofs.WrittenHeads.{number_u16, number_u32}
 
@@ -47,7 +47,7 @@ argument_read t low = record { len = refl; reads = λ rest. ap (λ (n : ℕ). So
 pub enumerator_read : (names : List (List ℕ)) (e : Enumerator) → FitsEnumerator e → IsFound names e.name → IsItem (enumerator_of (table_of names)) 8 (enumerator_bytes names e) e
 enumerator_read names e fits found =
     let low = found.low in
-    let word : number (u32 (reference names e.name)) ≡ reference names e.name = number_u32 (reference names e.name) (omega arith) in
+    let word : number (u32 (name_reference names e.name)) ≡ name_reference names e.name = number_u32 (name_reference names e.name) (omega arith) in
     let value : number (u32 (cast_unsigned w32 e.value)) ≡ cast_unsigned w32 e.value = number_u32 (cast_unsigned w32 e.value) (of_z_fits w32 e.value fits.value).fits in
     let back : cast_signed w32 (cast_unsigned w32 e.value) ≡ e.value = to_z-of_z w32 e.value fits.value in
     record { len = refl; reads = λ rest. rw (word, found.found, value, back) refl }
@@ -56,11 +56,11 @@ enumerator_read names e fits found =
 pub member_read : (names : List (List ℕ)) (size : ℕ) (m : Member) → FitsMember size m → m.tnum < 0xffff → IsFound names m.name → IsItem (member_of size (table_of names)) (member_len size) (member_bytes names size m) m
 member_read names size m fits low found = at (ltb size 8192) refl
   where
-    low_r : reference names m.name < 2 ^ 32
+    low_r : name_reference names m.name < 2 ^ 32
     low_r = let low_r = found.low in omega arith
 
-    word : number (u32 (reference names m.name)) ≡ reference names m.name
-    word = number_u32 (reference names m.name) low_r
+    word : number (u32 (name_reference names m.name)) ≡ name_reference names m.name
+    word = number_u32 (name_reference names m.name) low_r
 
     type : number (u16 m.tnum) ≡ m.tnum
     type = number_u16 m.tnum (omega arith)

@@ -7,7 +7,7 @@ use Rattle.ctf_model.specs.figures.Figures.{enum_size, incomplete, resolved, siz
 use Rattle.ctf_model.specs.format.Shown.{EncodingParts, encoding_parts}
 use Rattle.ctf_model.specs.format.Term.{Body, Enumerator, Member, Term}
 use Rattle.ctf_model.specs.format.Term as term
-use Rattle.ctf_model.specs.names.Found.{base, found, is_called, is_no_name, is_pointer_to, least, or_not_found, pointed, pointer_behind, pointer_or_behind, pointer_to, stars, written}
+use Rattle.ctf_model.specs.names.Found.{base, found, is_called, is_no_name, is_pointer_to, least, or_not_found, pointed, pointer_behind, pointer_or_behind, pointer_to, stars, written_name}
 use Rattle.ctf_model.specs.names.TypeNames.{Declaration, around, bare, declaration, declaration_by, declaration_of, declaration_within, declared, longest_text, spelled_name, text_of_declaration, too_long}
 use Rattle.ctf_model.specs.rules.Refusals.{placeless}
 use Rattle.ctf_model.specs.spaces.Space.{Space, pointer_size, space_type}
@@ -82,8 +82,8 @@ pointed_good s (suc k) (Ok t) g = pointed_good s k (pointer_to s t) (pointer_goo
 
 pub lookup_good : (s : Space) (text : List ℕ) → good (found s text) ≡ true
 lookup_good s text =
-    let first = or_not_found (least (is_called (written (base text))) s) in
-    either (is_no_name (base text)) (Err (placeless BAD_SYNTAX)) (pointed s (stars text) first) refl (pointed_good s (stars text) first (found_or_not (least (is_called (written (base text))) s)))
+    let first = or_not_found (least (is_called (written_name (base text))) s) in
+    either (is_no_name (base text)) (Err (placeless BAD_SYNTAX)) (pointed s (stars text) first) refl (pointed_good s (stars text) first (found_or_not (least (is_called (written_name (base text))) s)))
 
 -- ---- pieces of a shown value
 

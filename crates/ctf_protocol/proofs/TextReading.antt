@@ -9,7 +9,7 @@ use Rattle.std.proofs.lemmas.Grind.{flat_map-append}
 use Rattle.std.proofs.lemmas.List.Elements.{All-head, All-tail}
 use Rattle.ctf_model.specs.dumps.Texts.{is_plain, hex_digit}
 use Rattle.ctf_protocol.specs.lines.Text.{digit_value, byte_value, and_bytes, text_of_byte, text_of, bytes_spelled_by}
-use Rattle.ctf_protocol.specs.lines.TextLaws.{written_byte, escaped, in_json, LinesHaveTheText, TextsAreReadBack}
+use Rattle.ctf_protocol.specs.lines.TextLaws.{written_byte, bytes_escaped, in_json, LinesHaveTheText, TextsAreReadBack}
 
 -- ---- plain bytes
 
@@ -73,21 +73,21 @@ json_case b false e = rw (e, digit_no_backslash (b / 16), digit_no_backslash (b 
 
 -- ---- texts
 
-read_back : (bytes : List ℕ) → All (λ b. b < 256) bytes → bytes_spelled_by (escaped bytes) ≡ Some bytes
+read_back : (bytes : List ℕ) → All (λ b. b < 256) bytes → bytes_spelled_by (bytes_escaped bytes) ≡ Some bytes
 unfolding bytes_spelled_by
 read_back [] a = refl
 read_back (b ∷ bytes) a =
-    one_case b (escaped bytes) (is_plain b) refl (All-head (λ n. n < 256) b bytes a)
+    one_case b (bytes_escaped bytes) (is_plain b) refl (All-head (λ n. n < 256) b bytes a)
     ∙ ap (and_bytes (Some b)) (read_back bytes (All-tail (λ n. n < 256) b bytes a))
 
 pub texts_read_back : TextsAreReadBack
 texts_read_back = read_back
 
-in_lines : (bytes : List ℕ) → flat_map in_json (escaped bytes) ≡ text_of bytes
+in_lines : (bytes : List ℕ) → flat_map in_json (bytes_escaped bytes) ≡ text_of bytes
 in_lines [] = refl
 in_lines (b ∷ bytes) =
-    flat_map-append in_json (written_byte b) (escaped bytes)
-    ∙ ap (λ (front : List ℕ). front ++ flat_map in_json (escaped bytes)) (json_case b (is_plain b) refl)
+    flat_map-append in_json (written_byte b) (bytes_escaped bytes)
+    ∙ ap (λ (front : List ℕ). front ++ flat_map in_json (bytes_escaped bytes)) (json_case b (is_plain b) refl)
     ∙ ap (λ (back : List ℕ). text_of_byte b ++ back) (in_lines bytes)
 
 pub lines_have_the_text : LinesHaveTheText

@@ -16,7 +16,7 @@ use Rattle.ctf_model.specs.rules.Refusals.{placeless, out_of_memory}
 use Rattle.ctf_model.specs.format.Term.{Term}
 use Rattle.ctf_model.specs.writing.WritingLaws.{IsKept}
 use Rattle.ctf_model.specs.writing.Written.{bytes_of, deep_by, fields_over, header_bytes, label_bytes, labels_written, most_written, records_written, dictionary_too_big, unwritten, written}
-use Rattle.ctf_model.specs.writing.WrittenNames.{names_of, reference, string_bytes, strings_of, used_names}
+use Rattle.ctf_model.specs.writing.WrittenNames.{names_of, name_reference, string_bytes, strings_of, used_names}
 use Rattle.ctf_model.specs.writing.WrittenRecords.{record_bytes}
 use Rattle.ctf_model.specs.declared.faults.Fault.{Fault}
 use Rattle.ctf_model.specs.declared.faults.TheConstants.Fault.{DICT_TOO_BIG}
@@ -79,7 +79,7 @@ module _ (h : Held) (ns : List (List ℕ)) (e : ns ≡ strings_of (dictionary_of
       let strings = ap (λ (n : List (List ℕ)). length (string_bytes n)) e in
       omega (arith, whole, labels, records, strings)
 
-  pub held_joined : (parlabel parname labels records strings : ℕ) (o o1 o2 o3 o4 : List ℕ) → parlabel ≡ reference ns h.parlabel.now → parname ≡ reference ns h.parname.now
+  pub held_joined : (parlabel parname labels records strings : ℕ) (o o1 o2 o3 o4 : List ℕ) → parlabel ≡ name_reference ns h.parlabel.now → parname ≡ name_reference ns h.parname.now
       → labels ≡ length (labels_written (dictionary_of h)) → records ≡ length (records_written (dictionary_of h)) → strings ≡ length (string_bytes ns)
       → o1 ≡ o ++ header_bytes (fields_over parlabel parname labels records strings) → o2 ≡ o1 ++ flat_map (label_bytes ns) h.labels.now → o3 ≡ o2 ++ flat_map (written_type ns) h.types.now → o4 ≡ o3 ++ string_bytes ns → o4 ≡ o ++ bytes_of (dictionary_of h)
   unfolding bytes_of

@@ -7,7 +7,7 @@ use Rattle.std.proofs.lemmas.List.Folds.{length-flat_map-take, flat_map-map}
 use Rattle.std.proofs.lemmas.Bool.{le-ltb, lt-ltb}
 use Rattle.std.proofs.lemmas.List.{append_assoc, append-nil, get_or_default, length-append, length-map, take_more}
 use Rattle.ctf_model.specs.format.Term as term
-use Rattle.ctf_model.specs.writing.WrittenNames.{reference}
+use Rattle.ctf_model.specs.writing.WrittenNames.{name_reference}
 use Rattle.ctf_draft.specs.TypeView.{enumerator_of, member_of, number_of}
 use Rattle.ctf_draft.specs.declared.types.Enumerator.{Enumerator}
 use Rattle.ctf_draft.specs.declared.types.Member.{Member}
@@ -21,7 +21,7 @@ pub joined_four : (o a b c d o1 o2 o3 o4 : List ℕ) → o1 ≡ o ++ a → o2 �
 joined_four o a b c d o1 o2 o3 o4 p q r s = s ∙ ap (λ (x : List ℕ). x ++ d) (r ∙ ap (λ (x : List ℕ). x ++ c) (q ∙ ap (λ (x : List ℕ). x ++ b) p)) ∙ simp append_assoc
 
 -- a member of a large struct or union
-pub wide_member : (names : List (List ℕ)) (size : ℕ) (m : term.Member) → 8192 ≤ size → member_bytes names size m ≡ u32 (reference names m.name) ++ u16 m.tnum ++ u16 0 ++ halves m.offset
+pub wide_member : (names : List (List ℕ)) (size : ℕ) (m : term.Member) → 8192 ≤ size → member_bytes names size m ≡ u32 (name_reference names m.name) ++ u16 m.tnum ++ u16 0 ++ halves m.offset
 wide_member names size m le = let wide : ltb size 8192 ≡ false = le-ltb size 8192 le in rw wide refl
 
 module _ {X : Type 0} (f : X → List ℕ) (xs : List X) (i : ℕ) (x : X) (lt : i < length xs) (is : x ≡ get_or xs i x) where
@@ -80,11 +80,11 @@ pub record_len : (names : List (List ℕ)) (x : term.Term) → length (record_by
 unfolding record_bytes
 record_len names x = let l = length-append (field_bytes (field_of x.body)) (variant_bytes names x.body) in omega arith
 
-pub record_joined : (names : List (List ℕ)) (x : term.Term) (o o1 o2 o3 o4 : List ℕ) → o1 ≡ o ++ u32 (reference names x.name) → o2 ≡ o1 ++ u16 (info_of x) → o3 ≡ o2 ++ field_bytes (field_of x.body) → o4 ≡ o3 ++ variant_bytes names x.body → o4 ≡ o ++ record_bytes names x
+pub record_joined : (names : List (List ℕ)) (x : term.Term) (o o1 o2 o3 o4 : List ℕ) → o1 ≡ o ++ u32 (name_reference names x.name) → o2 ≡ o1 ++ u16 (info_of x) → o3 ≡ o2 ++ field_bytes (field_of x.body) → o4 ≡ o3 ++ variant_bytes names x.body → o4 ≡ o ++ record_bytes names x
 unfolding record_bytes
 record_joined names x o o1 o2 o3 o4 p q r s =
-    joined_four o (u32 (reference names x.name)) (u16 (info_of x)) (field_bytes (field_of x.body)) (variant_bytes names x.body) o1 o2 o3 o4 p q r s
-    ∙ ap (λ (b : List ℕ). o ++ b) (append_assoc (u32 (reference names x.name) ++ u16 (info_of x)) (field_bytes (field_of x.body)) (variant_bytes names x.body))
+    joined_four o (u32 (name_reference names x.name)) (u16 (info_of x)) (field_bytes (field_of x.body)) (variant_bytes names x.body) o1 o2 o3 o4 p q r s
+    ∙ ap (λ (b : List ℕ). o ++ b) (append_assoc (u32 (name_reference names x.name) ++ u16 (info_of x)) (field_bytes (field_of x.body)) (variant_bytes names x.body))
 
 -- ---- labels
 

@@ -18,14 +18,14 @@ use Rattle.ctf_draft.specs.declared.types.ScalarKind.{ScalarKind}
 use Rattle.ctf_draft.specs.declared.types.ScalarKind.TheVariants.{Integer, Float}
 use Rattle.ctf_model.specs.format.Dictionary.{Dictionary, Label}
 use Rattle.ctf_model.specs.drafts.Fitting.{FitsBody, FitsMembers}
-use Rattle.ctf_model.specs.writing.WrittenNames.{listed_names, reference, strings_of, string_bytes}
+use Rattle.ctf_model.specs.writing.WrittenNames.{listed_names, name_reference, strings_of, string_bytes}
 use Rattle.ctf_model.specs.writing.Written.{bytes_of, label_bytes, labels_written, records_written}
 use Rattle.ctf_model.specs.writing.WrittenRecords.{argument_bytes, enumerator_bytes, field_of, halves, list_len, member_bytes, scalar_bytes, u16, u32, variant_bytes}
 
 one_member : (names : List (List ℕ)) (size : ℕ) (m : term.Member) → length (member_bytes names size m) ≡ member_len size
 one_member names size m = at (ltb size 8192)
   where
-    at : (b : Bool) → length (cond b (u32 (reference names m.name) ++ u16 m.tnum ++ u16 m.offset) (u32 (reference names m.name) ++ u16 m.tnum ++ u16 0 ++ halves m.offset)) ≡ cond b 8 16
+    at : (b : Bool) → length (cond b (u32 (name_reference names m.name) ++ u16 m.tnum ++ u16 m.offset) (u32 (name_reference names m.name) ++ u16 m.tnum ++ u16 0 ++ halves m.offset)) ≡ cond b 8 16
     at true = refl
     at false = refl
 

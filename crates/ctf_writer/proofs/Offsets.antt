@@ -7,7 +7,7 @@ use Rattle.std.specs.Map.{lookup}
 use Rattle.std.specs.Str.{bytes_eq}
 use Rattle.std.proofs.lemmas.List.{length-append, map-append, append_assoc}
 use Rattle.std.proofs.lemmas.Option.{same_Some}
-use Rattle.ctf_model.specs.writing.WrittenNames.{closed, string_bytes, reference, is_empty}
+use Rattle.ctf_model.specs.writing.WrittenNames.{closed, string_bytes, name_reference, is_empty}
 use Rattle.ctf_model.proofs.FoundAgain.{first_here, first_later}
 use Rattle.ctf_writer.specs.Offsets.{Entry, names_in, offsets_from, AreOffsets}
 
@@ -81,8 +81,8 @@ offset_found at n (e ∷ es) v h f = go (bytes_eq n e.0.now) refl f (λ g. offse
         rw (first_later (bytes_eq n) e.0.now (names_in es) other) (omega arith)
 
 -- the reference to a name that is found
-pub reference_found : (n : List ℕ) (es : List Entry) (v : ℕ) → AreOffsets es → is_empty n ≡ false → lookup (is_name n) es ≡ Some v → v ≡ reference (names_in es) n
-unfolding reference
+pub reference_found : (n : List ℕ) (es : List Entry) (v : ℕ) → AreOffsets es → is_empty n ≡ false → lookup (is_name n) es ≡ Some v → v ≡ name_reference (names_in es) n
+unfolding name_reference
 reference_found n es v h some f = let at = offset_found 1 n es v h f in rw some (omega arith)
 
 -- the keys of the entries are the names

@@ -3,7 +3,7 @@ ghost use Rattle.std.specs.Prelude.{vec_len, vec_capacity, ◌≡◌, ◌<◌, �
 ghost use Rattle.std.specs.List.{list_any};
 ghost use Rattle.std.specs.Str.{bytes_eq};
 ghost use Rattle.ctf_model.specs.writing.WritingLaws.{IsKept};
-ghost use Rattle.ctf_model.specs.writing.WrittenNames.{closed, string_bytes, reference};
+ghost use Rattle.ctf_model.specs.writing.WrittenNames.{closed, string_bytes, name_reference};
 ghost use Rattle.ctf_writer.specs.Offsets.{names_in, AreOffsets, with_name};
 ghost use Rattle.ctf_writer.specs.Uses.{IsRefused};
 
@@ -85,10 +85,10 @@ impl<'a> Strings<'a> {
         Ok(self.push(name)?)
     }
 
-    /// The reference to a name that was added.
-    pub fn reference(&self, name: &[u8]) -> u32
+    /// The name_reference to a name that was added.
+    pub fn name_reference(&self, name: &[u8]) -> u32
         requires { IsKept (names self.now) name.now }
-        ensures { result ≡ reference (names self.now) name.now }
+        ensures { result ≡ name_reference (names self.now) name.now }
     {
         if name.is_empty() {
             return 0;

@@ -89,8 +89,8 @@ abbrev pub begins_with : List ℕ → List ℕ → Bool
 begins_with word text = bytes_eq (take (length word) text) word
 
 -- blanks behind the first one belong to the name
-abbrev pub written : List ℕ → Written
-written text =
+abbrev pub written_name : List ℕ → Written
+written_name text =
     if begins_with (codes "struct ") text
     then record { tag = Some term.struct_tag; name = drop 7 text }
     else if begins_with (codes "union ") text
@@ -139,4 +139,4 @@ pointed s (suc k) (Ok t) = pointed s k (pointer_to s t)
 abbrev pub found : Space → List ℕ → Result ℕ Fault
 found s text =
     if is_no_name (base text) then Err (placeless BAD_SYNTAX)
-    else pointed s (stars text) (or_not_found (least (is_called (written (base text))) s))
+    else pointed s (stars text) (or_not_found (least (is_called (written_name (base text))) s))

@@ -14,7 +14,7 @@ use Rattle.ctf_model.specs.spaces.Imports.{import_fault, of_one_model}
 use Rattle.ctf_model.specs.format.SpelledTypes.{Spells}
 use Rattle.ctf_model.specs.format.Term.{Term}
 use Rattle.ctf_model.specs.writing.Written.{bytes_of, lists_of, most_written, unwritten, written}
-use Rattle.ctf_model.specs.writing.WrittenNames.{is_empty, names_of, reference, string_bytes}
+use Rattle.ctf_model.specs.writing.WrittenNames.{is_empty, names_of, name_reference, string_bytes}
 use Rattle.ctf_model.specs.writing.WrittenRecords.{record_bytes}
 
 -- ---- names and records
@@ -29,8 +29,8 @@ IsKept names text = is_empty text ≡ false → list_any (bytes_eq text) names �
 
 -- the reference to a name names it
 pub record IsFound (names : List (List ℕ)) (text : List ℕ) : Type 0 where
-  pub low : reference names text < 2 ^ 31
-  pub found : name (table_of names) (reference names text) ≡ Some text
+  pub low : name_reference names text < 2 ^ 31
+  pub found : name (table_of names) (name_reference names text) ≡ Some text
 
 -- a name that is empty or one of those that stand in the strings is found there,
 -- unless these are too long

@@ -11,7 +11,7 @@ use Rattle.ctf_model.specs.format.Rows.{child, header, int_bytes, integer_record
 use Rattle.ctf_model.specs.format.Term.{Body, Term}
 use Rattle.ctf_model.specs.format.Term as term
 use Rattle.ctf_model.specs.writing.Written.{written}
-use Rattle.ctf_model.specs.writing.WrittenNames.{reference, strings_of}
+use Rattle.ctf_model.specs.writing.WrittenNames.{name_reference, strings_of}
 use Rattle.ctf_model.specs.writing.WrittenRecords.{record_bytes}
 use Rattle.ctf_model.specs.declared.faults.Fault.{Fault}
 
@@ -103,9 +103,9 @@ many_names = record {
 pub record NamesAreWritten : Type 0 where
   pub once : strings_of many_names
       ≡ codes "b" ∷ codes "l" ∷ codes "m" ∷ codes "e" ∷ codes "A" ∷ codes "bb" ∷ []
-  pub empty : reference (strings_of many_names) [] ≡ 0
-  pub first : reference (strings_of many_names) (codes "b") ≡ 1
-  pub last : reference (strings_of many_names) (codes "bb") ≡ 11
+  pub empty : name_reference (strings_of many_names) [] ≡ 0
+  pub first : name_reference (strings_of many_names) (codes "b") ≡ 1
+  pub last : name_reference (strings_of many_names) (codes "bb") ≡ 11
 
 -- ---- records
 

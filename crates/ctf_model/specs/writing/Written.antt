@@ -8,7 +8,7 @@ use Rattle.ctf_model.specs.rules.Faults.{first_deep, or_later}
 use Rattle.ctf_model.specs.format.Header.{Fields}
 use Rattle.ctf_model.specs.format.Lists.{Lists}
 use Rattle.ctf_model.specs.format.Term.{Body}
-use Rattle.ctf_model.specs.writing.WrittenNames.{reference, string_bytes, strings_of}
+use Rattle.ctf_model.specs.writing.WrittenNames.{name_reference, string_bytes, strings_of}
 use Rattle.ctf_model.specs.writing.WrittenRecords.{record_bytes, u32}
 use Rattle.ctf_model.specs.declared.faults.Fault.{Fault}
 use Rattle.ctf_model.specs.declared.faults.TheConstants.Fault.{VALUE_DEEP, DECL_DEEP, DICT_TOO_BIG}
@@ -17,7 +17,7 @@ use Rattle.ctf_model.specs.declared.faults.TheConstants.Fault.{VALUE_DEEP, DECL_
 
 -- a name, and the last type that is covered
 abbrev pub label_bytes : List (List ℕ) → Label → List ℕ
-label_bytes names label = u32 (reference names label.name) ++ u32 label.last
+label_bytes names label = u32 (name_reference names label.name) ++ u32 label.last
 
 unfoldable pub labels_written : Dictionary → List ℕ
 labels_written d = flat_map (label_bytes (strings_of d)) d.labels
@@ -51,8 +51,8 @@ fields_over parlabel parname labels records strings = record {
 abbrev pub fields_written : Dictionary → Fields
 fields_written d =
     fields_over
-    (reference (strings_of d) d.parlabel)
-    (reference (strings_of d) d.parname)
+    (name_reference (strings_of d) d.parlabel)
+    (name_reference (strings_of d) d.parname)
     (length (labels_written d))
     (length (records_written d))
     (length (strings_written d))

@@ -49,6 +49,6 @@ string_bytes names = 0 ∷ flat_map closed names
 
 -- the reference to one of them: it stands where the section of the names before it ends.
 -- The empty name is 0
-unfoldable pub reference : List (List ℕ) → List ℕ → ℕ
-reference names name =
+unfoldable pub name_reference : List (List ℕ) → List ℕ → ℕ
+name_reference names name =
     if is_empty name then 0 else length (string_bytes (before_first (bytes_eq name) names))

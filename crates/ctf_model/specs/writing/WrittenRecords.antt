@@ -9,7 +9,7 @@ use Rattle.std.specs.List.{flat_map}
 use Rattle.ctf_model.specs.format.Shown.{kind_of, list_length, shown}
 use Rattle.ctf_model.specs.format.Term.{Body, Elements, Enumerator, Member, Scalar, Tag, Term}
 use Rattle.ctf_model.specs.format.Term as term
-use Rattle.ctf_model.specs.writing.WrittenNames.{reference}
+use Rattle.ctf_model.specs.writing.WrittenNames.{name_reference}
 use Rattle.ctf_model.specs.declared.kinds.Kind.{Kind}
 use Rattle.ctf_model.specs.declared.kinds.Kind.TheVariants.{KUnknown, KInteger, KFloat, KPointer, KArray, KFunction, KStruct, KUnion, KEnum, KForward, KTypedef, KVolatile, KConst, KRestrict}
 
@@ -99,12 +99,12 @@ argument_bytes args = flat_map u16 args ++ (if nat_lt 0 (length args % 2) then u
 abbrev pub member_bytes : List (List ℕ) → ℕ → Member → List ℕ
 member_bytes names size m =
     if nat_lt size 8192
-    then u32 (reference names m.name) ++ u16 m.tnum ++ u16 m.offset
-    else u32 (reference names m.name) ++ u16 m.tnum ++ u16 0 ++ halves m.offset
+    then u32 (name_reference names m.name) ++ u16 m.tnum ++ u16 m.offset
+    else u32 (name_reference names m.name) ++ u16 m.tnum ++ u16 0 ++ halves m.offset
 
 -- the value in two's complement
 abbrev pub enumerator_bytes : List (List ℕ) → Enumerator → List ℕ
-enumerator_bytes names e = u32 (reference names e.name) ++ u32 (cast_unsigned w32 e.value)
+enumerator_bytes names e = u32 (name_reference names e.name) ++ u32 (cast_unsigned w32 e.value)
 
 abbrev pub variant_bytes : List (List ℕ) → Body → List ℕ
 variant_bytes names (term.integer scalar) = scalar_bytes scalar
@@ -121,5 +121,5 @@ variant_bytes names _ = []
 -- name, info, field, and what the kind has behind these
 unfoldable pub record_bytes : List (List ℕ) → Term → List ℕ
 record_bytes names x =
-    u32 (reference names x.name) ++ (u16 (info_of x) ++ (field_bytes (field_of x.body)
+    u32 (name_reference names x.name) ++ (u16 (info_of x) ++ (field_bytes (field_of x.body)
     ++ variant_bytes names x.body))

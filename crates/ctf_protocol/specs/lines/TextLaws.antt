@@ -10,8 +10,8 @@ abbrev pub written_byte : ℕ → List ℕ
 written_byte b =
     if is_plain b then b ∷ [] else 0x5c ∷ 0x78 ∷ hex_digit (b / 16) ∷ hex_digit (b % 16) ∷ []
 
-abbrev pub escaped : List ℕ → List ℕ
-escaped bytes = flat_map written_byte bytes
+abbrev pub bytes_escaped : List ℕ → List ℕ
+bytes_escaped bytes = flat_map written_byte bytes
 
 -- JSON writes a backslash twice
 abbrev pub in_json : ℕ → List ℕ
@@ -19,9 +19,9 @@ in_json c = if c == 0x5c then 0x5c ∷ 0x5c ∷ [] else c ∷ []
 
 -- what stands in a line is the text of the value
 abbrev pub LinesHaveTheText : Type 0
-LinesHaveTheText = (bytes : List ℕ) → flat_map in_json (escaped bytes) ≡ text_of bytes
+LinesHaveTheText = (bytes : List ℕ) → flat_map in_json (bytes_escaped bytes) ≡ text_of bytes
 
 -- and that text spells the bytes
 abbrev pub TextsAreReadBack : Type 0
 TextsAreReadBack =
-    (bytes : List ℕ) → All (λ b. b < 256) bytes → bytes_spelled_by (escaped bytes) ≡ Some bytes
+    (bytes : List ℕ) → All (λ b. b < 256) bytes → bytes_spelled_by (bytes_escaped bytes) ≡ Some bytes

@@ -32,28 +32,28 @@ scalar_of s = record { size = s.size; encoding = s.encoding; offset = s.offset; 
 abbrev pub array_of : NewArray → ArrayParts
 array_of a = record { contents = a.contents.0; index = a.index.0; count = a.count }
 
-abbrev pub new_body : NewKind → NewBody
-new_body kind.Unknown = new.unknown
-new_body (kind.Integer s) = new.integer (scalar_of s)
-new_body (kind.Float s) = new.float (scalar_of s)
-new_body (kind.Pointer t) = new.pointer t.0
-new_body (kind.Array a) = new.array (array_of a)
-new_body (kind.Function returned args) = new.function returned.0 (map (λ t. t.0) args)
-new_body (kind.Struct size) = new.struct size
-new_body (kind.Union size) = new.union size
-new_body (kind.Enum size) = new.enum size
-new_body (kind.Forward tag) = new.forward (tag_declared tag)
-new_body (kind.Typedef t) = new.typedef t.0
-new_body (kind.Volatile t) = new.volatile t.0
-new_body (kind.Const t) = new.const t.0
-new_body (kind.Restrict t) = new.restrict t.0
+abbrev pub asked_body : NewKind → NewBody
+asked_body kind.Unknown = new.unknown
+asked_body (kind.Integer s) = new.integer (scalar_of s)
+asked_body (kind.Float s) = new.float (scalar_of s)
+asked_body (kind.Pointer t) = new.pointer t.0
+asked_body (kind.Array a) = new.array (array_of a)
+asked_body (kind.Function returned args) = new.function returned.0 (map (λ t. t.0) args)
+asked_body (kind.Struct size) = new.struct size
+asked_body (kind.Union size) = new.union size
+asked_body (kind.Enum size) = new.enum size
+asked_body (kind.Forward tag) = new.forward (tag_declared tag)
+asked_body (kind.Typedef t) = new.typedef t.0
+asked_body (kind.Volatile t) = new.volatile t.0
+asked_body (kind.Const t) = new.const t.0
+asked_body (kind.Restrict t) = new.restrict t.0
 
 -- ---- additions
 
 -- what is added, to an open dictionary
 abbrev pub added : Addition → Open → Result Stepped Fault
 added (add.Type name root kind) =
-    type_added (record { name = name; root = root; body = new_body kind })
+    type_added (record { name = name; root = root; body = asked_body kind })
 added (add.Member t name tnum offset) = member_added t.0 name tnum.0 offset
 added (add.Enumerator t name value) = enumerator_added t.0 (record { name = name; value = value })
 added (add.Label name last) = label_added (record { name = name; last = last })

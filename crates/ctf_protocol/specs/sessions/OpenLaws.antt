@@ -15,7 +15,7 @@ use Rattle.ctf_model.specs.symbols.SymbolQuestions.{function_of, label_of, objec
 use Rattle.ctf_protocol.specs.answers.Answers.{Answer}
 use Rattle.ctf_protocol.specs.answers.Questions.{align_fields, array_fields, as_fields, encoding_fields, enumerator_fields, kind_fields, member_fields, name_fields, position_fields, signature_fields, size_fields, type_fields, value_fields}
 use Rattle.ctf_protocol.specs.answers.SlotAnswers.{last_fields, symbol_fields}
-use Rattle.ctf_protocol.specs.sessions.Additions.{new_body}
+use Rattle.ctf_protocol.specs.sessions.Additions.{asked_body}
 use Rattle.ctf_protocol.specs.sessions.Creations.{Created}
 use Rattle.ctf_protocol.specs.sessions.DraftSteps.{created_slot, model_made, slot_step}
 use Rattle.ctf_protocol.specs.sessions.Opened.{open_of, slot_made, slot_stepped, under, unsaid}
@@ -96,7 +96,7 @@ pub record WholesAreAsked : Type 0 where
 pub record StepsAreMade : Type 0 where
   pub type : (s : Slot) (name : List ℕ) (root : Bool) (kind : NewKind)
       → slot_step (Add (add.Type name root kind)) s ≡ slot_stepped (under (codes "t")) s
-      (type_added (record { name = name; root = root; body = new_body kind }) (open_of s))
+      (type_added (record { name = name; root = root; body = asked_body kind }) (open_of s))
   pub member : (s : Slot) (t : TypeNum) (name : List ℕ) (tnum : TypeNum) (offset : Option ℕ)
       → slot_step (Add (add.Member t name tnum offset)) s
       ≡ slot_stepped (under (codes "offset")) s (member_added t.0 name tnum.0 offset (open_of s))

@@ -1,5 +1,5 @@
 use Rattle.std.proofs.Common.{◌≡◌, ℕ, ◌++◌, arith, ap, length, ◌∙◌}
-use Rattle.ctf_model.specs.writing.WrittenNames.{reference}
+use Rattle.ctf_model.specs.writing.WrittenNames.{name_reference}
 use Rattle.ctf_model.specs.writing.WrittenRecords.{u16, u32, field_bytes}
 use Rattle.ctf_writer.specs.Tables.{names}
 use Rattle.ctf_draft.specs.TypeView.{type_of}
@@ -38,7 +38,7 @@ put_variant-requires-clause-room c =
 
 pub returns-clause-items : goal.returns-clause-items
 returns-clause-items c =
-    let name : c.reference.result ≡ reference (names c.args.strings.now) c.args.source.now.name = c.reference.ensures ∙ ap (reference (names c.args.strings.now)) c.as_slice.ensures in
+    let name : c.reference.result ≡ name_reference (names c.args.strings.now) c.args.source.now.name = c.reference.ensures ∙ ap (name_reference (names c.args.strings.now)) c.as_slice.ensures in
     record_joined (names c.args.strings.now) (type_of c.args.source.now) c.args.out.now.items c.put_u32.new.out.items c.put_u16.new.out.items c.put_field.new.out.items c.put_variant.new.out.items
     (c.put_u32.ensures.items ∙ ap (λ (r : ℕ). c.args.out.now.items ++ u32 r) name)
     (c.put_u16.ensures.items ∙ ap (λ (i : ℕ). c.put_u32.new.out.items ++ u16 i) c.info.ensures)

@@ -1,10 +1,10 @@
 use Rattle.std.proofs.Common.{◌≡◌, true, false, sym, ap, is_some, ◌∙◌, refl}
-use Rattle.ctf_model.specs.writing.WrittenNames.{reference}
+use Rattle.ctf_model.specs.writing.WrittenNames.{name_reference}
 use Rattle.ctf_writer.proofs.Offsets.{reference_found, found_where}
 use Rattle.ctf_writer.proofs.strings.Strings.reference.Goals as goal
 
 pub returns-then-is_empty : goal.returns-then-is_empty
-unfolding reference
+unfolding name_reference
 returns-then-is_empty c = let none = sym c.is_empty.ensures ∙ c.if-is_empty.true in rw none refl
 
 pub returns-in-Some : goal.returns-in-Some
