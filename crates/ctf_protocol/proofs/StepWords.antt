@@ -1,6 +1,6 @@
 -- The steps of words, cut where proofs go by cases: each is the part of a word from one of its lines
 -- on.
-use Rattle.std.specs.Prelude.{ℕ, nat_lt, List, [], ◌∷◌, Option, Result, is_some}
+use Rattle.std.specs.Prelude.{ℕ, nat_lt, List, [], Option, Result, is_some}
 use Rattle.ctf_model.specs.opened.Open.{pending_in}
 use Rattle.ctf_model.specs.opened.Steps.{import_refusal}
 use Rattle.ctf_model.specs.spaces.Kept.{Kept}

@@ -2,7 +2,6 @@
 use Rattle.std.specs.Prelude.{◌≡◌, ℕ, true, List, [], ◌∷◌, Option, None, Some, codes}
 use Rattle.ctf_model.specs.format.Rows.{alone, int_bytes}
 use Rattle.ctf_protocol.specs.lines.ReplyLines.{reply_line}
-use Rattle.ctf_protocol.specs.sessions.Creations.{Created}
 use Rattle.ctf_protocol.specs.sessions.State.{State, empty_state}
 use Rattle.ctf_protocol.specs.sessions.Steps.{step}
 use Rattle.ctf_model.specs.declared.data_model.DataModel.{DataModel}

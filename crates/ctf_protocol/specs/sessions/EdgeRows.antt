@@ -1,7 +1,7 @@
 -- Worked rows of limits, each at its edge, of refusals in their order, and of what counts.
 -- The values were worked out by hand.
-use Rattle.std.specs.Prelude.{◌≡◌, ℕ, List, [], ◌∷◌, length, Bool, true, false, Option, None, Some, Ok, Err, codes}
-use Rattle.ctf_model.specs.format.Rows.{alone, fault, int_bytes}
+use Rattle.std.specs.Prelude.{◌≡◌, ℕ, List, [], ◌∷◌, length, true, false, Option, None, Some, Err, codes}
+use Rattle.ctf_model.specs.format.Rows.{alone, int_bytes}
 use Rattle.ctf_model.specs.rules.Refusals.{placeless}
 use Rattle.ctf_model.specs.spaces.Kept.{Kept, kept_unsaid}
 use Rattle.ctf_protocol.specs.answers.Answers.{Answer, says}
