@@ -85,8 +85,8 @@ impl<'a> Strings<'a> {
         Ok(self.push(name)?)
     }
 
-    /// The name_reference to a name that was added.
-    pub fn name_reference(&self, name: &[u8]) -> u32
+    /// The reference to a name that was added.
+    pub fn reference(&self, name: &[u8]) -> u32
         requires { IsKept (names self.now) name.now }
         ensures { result ≡ name_reference (names self.now) name.now }
     {
