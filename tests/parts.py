@@ -100,6 +100,7 @@ def parts(program: str) -> list[Part]:
         Part("pages", ["tests/pages.py"]),
         Part("faults", ["tests/faults.py"]),
         Part("refusals", ["tests/refusals.py"]),
+        Part("lists_refused", ["tests/lists_refused.py", program], after=of_library),
         Part("edits", ["tests/further_edits.py", "--apply"]),
         Part("manual", ["tests/manual.sh"]),
         Part("examples", ["tests/examples.py", program]),

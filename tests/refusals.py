@@ -8,9 +8,10 @@ additions below `## add`. These have to be the ones that the definitions have wh
 the library cite (tests/word_refusals.py finds them), and a row for each has to stand in the
 transcripts of crates/test_service/data, or in the run of tests/full_session.py: a request of this
 word with the reply that refuses it, its code, name and place. So whoever answers Memory, or another
-fault, in place of one of these is caught where memory is ample. `1 to 19` stands for each rule of
-the format. Prints what has no row, and what is refused by page or definitions alone; the status is
-1 then. With -v prints each pair, and in how many rows it stands.
+fault, in place of one of these is caught where memory is ample. The same holds of the refusals of
+each call below the words (tests/call_refusals.py). `1 to 19` stands for each rule of the format.
+Prints what has no row, and what is refused by page or definitions alone; the status is 1 then. With
+-v prints each pair, and in how many rows it stands.
 """
 from __future__ import annotations
 
@@ -22,6 +23,7 @@ from collections import Counter
 from pathlib import Path
 from typing import Iterator
 
+import call_refusals
 import full_session
 import word_refusals
 from runs import OTHERS, TOP, TRANSCRIPTS, Told, stored
@@ -141,10 +143,13 @@ def main() -> int:
     for word, fault in missing:
         print(f"no stored run has `{word}` refused with {fault}")
     differing = word_refusals.compared(words | additions, known)
-    print("\n".join(differing), end="\n" if differing else "")
-    print(f"refusals: {len(words)} of words and {len(additions)} of additions:"
-          f" {len(missing)} without a row, {len(differing)} by page or definitions alone")
-    return 1 if missing or differing or not words or not additions else 0
+    calls, untold = call_refusals.without_rows(set(found), known)
+    for line in (*differing, *untold):
+        print(line)
+    print(f"refusals: {len(words)} of words, {len(additions)} of additions, {calls} of calls:"
+          f" {len(missing) + len(untold)} without a row,"
+          f" {len(differing)} by page or definitions alone")
+    return 1 if missing or differing or untold or not (words and additions and calls) else 0
 
 
 if __name__ == "__main__":
