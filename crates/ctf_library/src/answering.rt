@@ -107,44 +107,36 @@ pub(crate) fn signed<'a>(args: Args<'a>, ret: TypeNum) -> Answer<'a>
 pub(crate) fn signature_answer<'a>(found: Result<Signature<'a>, Fault>) -> Result<Answer<'a>, Fault>
     ensures { result ≡ as_fields signature_fields (result_map_both signature (λ f. f) found.entry) }
 {
-    match found {
-        Ok(signature) => Ok(signed(signature.args, signature.ret)),
-        Err(fault) => Err(fault),
-    }
+    let signature = found?;
+    Ok(signed(signature.args, signature.ret))
 }
 
 /// What the number of a type is answered as.
 pub(crate) fn type_answer<'a>(number: Result<TypeNum, Fault>) -> Result<Answer<'a>, Fault>
     ensures { result ≡ as_fields type_fields (result_map_both (λ t. t.0) (λ f. f) number) }
 {
-    match number {
-        Ok(t) => Ok(Answer::one("t", Single::Number(u64::from(t.0)))),
-        Err(fault) => Err(fault),
-    }
+    let t = number?;
+    Ok(Answer::one("t", Single::Number(u64::from(t.0))))
 }
 
 /// What a number is answered as, under a key.
 fn number_answer<'a>(key: &'static str, n: Result<u64, Fault>) -> Result<Answer<'a>, Fault>
     ensures { result ≡ as_fields (λ n. says key.now (number n) ∷ []) n }
 {
-    match n {
-        Ok(n) => Ok(Answer::one(key, Single::Number(n))),
-        Err(fault) => Err(fault),
-    }
+    let n = n?;
+    Ok(Answer::one(key, Single::Number(n)))
 }
 
 fn position_answer<'a>(at: Result<(u64, TypeNum), Fault>) -> Result<Answer<'a>, Fault>
     ensures { result ≡ as_fields position_fields (result_map_both position_of (λ f. f) at) }
 {
-    match at {
-        Ok((offset, t)) => Ok(Answer::two(
-            "offset",
-            Single::Number(offset),
-            "t",
-            Single::Number(u64::from(t.0)),
-        )),
-        Err(fault) => Err(fault),
-    }
+    let (offset, t) = at?;
+    Ok(Answer::two(
+        "offset",
+        Single::Number(offset),
+        "t",
+        Single::Number(u64::from(t.0)),
+    ))
 }
 
 /// How long the list of a type is.
@@ -162,33 +154,29 @@ fn list_len(behind: &Variant<'_>) -> usize
 fn array_answer<'a>(found: Result<ArrayInfo, Fault>) -> Result<Answer<'a>, Fault>
     ensures { result ≡ as_fields array_fields (result_map_both array_info (λ f. f) found) }
 {
-    match found {
-        Ok(info) => Ok(Answer::three(
-            "contents",
-            Single::Number(u64::from(info.contents.0)),
-            "count",
-            Single::Number(u64::from(info.count)),
-            "index",
-            Single::Number(u64::from(info.index.0)),
-        )),
-        Err(fault) => Err(fault),
-    }
+    let info = found?;
+    Ok(Answer::three(
+        "contents",
+        Single::Number(u64::from(info.contents.0)),
+        "count",
+        Single::Number(u64::from(info.count)),
+        "index",
+        Single::Number(u64::from(info.index.0)),
+    ))
 }
 
 fn encoding_answer<'a>(found: Result<Encoding, Fault>) -> Result<Answer<'a>, Fault>
     ensures { result ≡ as_fields encoding_fields (result_map_both encoding_info (λ f. f) found) }
 {
-    match found {
-        Ok(info) => Ok(Answer::three(
-            "bits",
-            Single::Number(u64::from(info.bits)),
-            "encoding",
-            Single::Number(u64::from(info.encoding)),
-            "offset",
-            Single::Number(u64::from(info.offset)),
-        )),
-        Err(fault) => Err(fault),
-    }
+    let info = found?;
+    Ok(Answer::three(
+        "bits",
+        Single::Number(u64::from(info.bits)),
+        "encoding",
+        Single::Number(u64::from(info.encoding)),
+        "offset",
+        Single::Number(u64::from(info.offset)),
+    ))
 }
 
 /// A type without its list.

@@ -171,10 +171,8 @@ impl Library {
     fn check(&mut self) -> Result<Counts, Fault>
         ensures { Makes self.old (checks self.old) result self.new }
     {
-        match self.stage.check(self.alloc) {
-            Ok(()) => Ok(Counts::done()),
-            Err(fault) => Err(fault),
-        }
+        self.stage.check(self.alloc)?;
+        Ok(Counts::done())
     }
 
     /// Whether there may be a slot more, and a number for it.

@@ -37,10 +37,8 @@ fn symbol_answer<'a>(found: Option<NamedSymbol>) -> Result<Answer<'a>, Fault>
 fn last_answer<'a>(last: Result<u32, Fault>) -> Result<Answer<'a>, Fault>
     ensures { result ≡ as_fields last_fields last }
 {
-    match last {
-        Ok(last) => Ok(Answer::one("last", Single::Number(u64::from(last)))),
-        Err(fault) => Err(fault),
-    }
+    let last = last?;
+    Ok(Answer::one("last", Single::Number(u64::from(last))))
 }
 
 /// What a question on a slot as a whole is answered, without memory.
