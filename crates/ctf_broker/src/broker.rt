@@ -12,9 +12,10 @@ ghost use Rattle.ctf_broker.specs.Table.{kept_for, library_at};
 ghost use Rattle.ctf_laws.specs.Good.{AreGood, FitsChange};
 ghost use Rattle.ctf_library.specs.Telling.{makes_text};
 
+use crate::held::Held;
 use crate::libraries::{found_by, publish_in, step_in};
 use ctf_answers::{Answer, Counts};
-use ctf_library::{Library, Loaded, MODEL_UNSAID, Pool};
+use ctf_library::{Loaded, MODEL_UNSAID, Pool};
 use ctf_protocol::{Bytes, Change, Fault, Parts, PublicationName, Question, SlotNumber, placeless};
 use std::alloc::Global;
 use std::collections::BTreeMap;
@@ -28,7 +29,7 @@ const OPERATOR: u32 = 0;
 #[derive(Drop)]
 pub struct Broker {
     alloc: Global,
-    libraries: BTreeMap<u32, Library>,
+    libraries: BTreeMap<u32, Held>,
     pool: Pool,
 }
 
@@ -149,7 +150,7 @@ impl Broker {
             → result ≡ answer_to d question.now (library_at self.now session) }
     {
         match self.libraries.get(&session) {
-            Some(library) => library.answer(d, question),
+            Some(held) => held.library().answer(d, question),
             None => Err(placeless(Fault::NO_SLOT)),
         }
     }

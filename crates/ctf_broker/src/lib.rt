@@ -2,6 +2,7 @@
 #![tactic(auto)]
 
 mod broker;
+mod held;
 mod libraries;
 
 pub use broker::Broker;

@@ -11,6 +11,7 @@ ghost use Rattle.ctf_protocol.specs.sessions.Quiet.{is_quiet_change};
 ghost use Rattle.ctf_protocol.specs.declared.requests.Request.TheVariants.{Changes};
 ghost use Rattle.ctf_broker.specs.Table.{kept_for, library_at};
 
+use crate::held::Held;
 use ctf_answers::Counts;
 use ctf_library::{Library, Loaded, Pool};
 use ctf_protocol::{Change, Fault, PublicationName};
@@ -18,22 +19,18 @@ use std::alloc::{AllocError, Global};
 use std::collections::BTreeMap;
 
 /// Gives a session its library.
-fn insert(
-    libraries: &mut BTreeMap<u32, Library>,
-    session: u32,
-    library: Library,
-) -> Result<(), AllocError>
+fn insert(libraries: &mut BTreeMap<u32, Held>, session: u32, held: Held) -> Result<(), AllocError>
     ensures ok { OnOk result
-        (Updates nat_cmp libraries.old libraries.new session (Some library)) }
+        (Updates nat_cmp libraries.old libraries.new session (Some held)) }
     ensures err { OnErr result (IsUnchanged libraries.old libraries.new) }
 {
-    libraries.insert(session, library)?;
+    libraries.insert(session, held)?;
     Ok(())
 }
 
 /// What a change finds: a take, what its owner has published under the name.
 pub fn found_by(
-    libraries: &BTreeMap<u32, Library>,
+    libraries: &BTreeMap<u32, Held>,
     change: &Change,
 ) -> Result<Option<Loaded>, AllocError>
     ensures ok { IfOk result (λ found. found
@@ -43,10 +40,10 @@ pub fn found_by(
     let Change::Take { owner, name } = change else {
         return Ok(None);
     };
-    let Some(library) = libraries.get(owner) else {
+    let Some(held) = libraries.get(owner) else {
         return Ok(None);
     };
-    match library.published(name.as_slice()) {
+    match held.library().published(name.as_slice()) {
         Some(loaded) => Ok(Some(loaded.share()?)),
         None => Ok(None),
     }
@@ -55,7 +52,7 @@ pub fn found_by(
 /// Makes the step of a change in the session's own library, which is made where there is none yet.
 pub fn step_in(
     alloc: Global,
-    libraries: &mut BTreeMap<u32, Library>,
+    libraries: &mut BTreeMap<u32, Held>,
     pool: &mut Pool,
     session: u32,
     change: &Change,
@@ -72,19 +69,19 @@ pub fn step_in(
         → IsGranted (library_at libraries.old.entries) session (Changes change.now)
         (said_to session result) (library_at libraries.new.entries) }
 {
-    if let Some(library) = libraries.get_mut(&session) {
-        return library.step(change, found, pool);
+    if let Some(held) = libraries.get_mut(&session) {
+        return held.step(change, found, pool);
     }
     let mut library = Library::new(alloc);
     let outcome = library.step(change, found, pool);
-    insert(libraries, session, library)?;
+    insert(libraries, session, Held::new(alloc, library)?)?;
     outcome
 }
 
 /// Publishes a dictionary in the library of a session, which is made where there is none yet.
 pub fn publish_in(
     alloc: Global,
-    libraries: &mut BTreeMap<u32, Library>,
+    libraries: &mut BTreeMap<u32, Held>,
     session: u32,
     name: &PublicationName,
     loaded: Loaded,
@@ -95,11 +92,11 @@ pub fn publish_in(
     ensures others { (other : ℕ) → other ≢ session
         → kept_for libraries.new.entries other ≡ kept_for libraries.old.entries other }
 {
-    if let Some(library) = libraries.get_mut(&session) {
-        return library.publish_loaded(name, loaded);
+    if let Some(held) = libraries.get_mut(&session) {
+        return held.publish_loaded(name, loaded);
     }
     let mut library = Library::new(alloc);
     let outcome = library.publish_loaded(name, loaded);
-    insert(libraries, session, library)?;
+    insert(libraries, session, Held::new(alloc, library)?)?;
     outcome
 }

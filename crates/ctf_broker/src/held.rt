@@ -1,0 +1,70 @@
+//! The library of a session, in memory of its own.
+ghost use Rattle.std.specs.Prelude.{◌≡◌, IfOk, true};
+ghost use Rattle.ctf_library.specs.Stepping.{Does, Makes};
+ghost use Rattle.ctf_protocol.specs.sessions.Steps.{change_step, publishes_kept};
+ghost use Rattle.ctf_protocol.specs.sessions.Quiet.{is_quiet_change};
+
+use ctf_answers::Counts;
+use ctf_library::{Library, Loaded, Pool};
+use ctf_protocol::{Change, Fault, PublicationName};
+use std::alloc::{AllocError, Global};
+use std::marker::Model;
+
+/// A library, of which a table of sessions keeps no more than where it is: a node of the table has
+/// room for eleven, and only six are in use where sessions come by rising numbers.
+#[derive(Drop)]
+pub struct Held {
+    library: Box<Library>,
+}
+
+impl Model for Held {
+    ghost use Rattle.ctf_protocol.specs.sessions.State.{State};
+
+    ghost Value = { State };
+
+    ghost view = { λ h. h.library.value };
+}
+
+impl Held {
+    /// A library that came of a session's first change.
+    pub fn new(alloc: Global, library: Library) -> Result<Held, AllocError>
+        ensures { IfOk result (λ h. h ≡ library) }
+    {
+        Ok(Held {
+            library: Box::new(alloc, library)?,
+        })
+    }
+
+    /// The library.
+    pub fn library(&self) -> &Library
+        ensures { result.now ≡ self.now }
+    {
+        &self.library
+    }
+
+    /// Makes the step of a change.
+    pub fn step(
+        &mut self,
+        change: &Change,
+        found: Option<Loaded>,
+        pool: &mut Pool,
+    ) -> Result<Counts, Fault>
+        ensures step { Makes self.old
+            (change_step self.old change.now found) result self.new }
+        ensures quiet { is_quiet_change change.now ≡ true → Does
+            (change_step self.old change.now found) result self.new }
+    {
+        self.library.step(change, found, pool)
+    }
+
+    /// Publishes a dictionary that stands in no slot.
+    pub fn publish_loaded(
+        &mut self,
+        name: &PublicationName,
+        loaded: Loaded,
+    ) -> Result<Counts, Fault>
+        ensures { Makes self.old (publishes_kept name.now loaded self.old) result self.new }
+    {
+        self.library.publish_loaded(name, loaded)
+    }
+}
