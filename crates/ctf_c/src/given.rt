@@ -129,32 +129,25 @@ pub fn kind_number(kind: Kind) -> u32
 pub fn kind_result(kind: Result<Kind, Fault>) -> Result<u32, Fault>
     ensures { result ≡ answer_map number_of_kind kind }
 {
-    match kind {
-        Ok(kind) => Ok(kind_number(kind)),
-        Err(fault) => Err(fault),
-    }
+    Ok(kind_number(kind?))
 }
 
 /// The number of what a forward declares, if there is one.
 pub fn tag_result(tag: Result<Tag, Fault>) -> Result<u32, Fault>
     ensures { result ≡ answer_map number_of_tag (result_map_both tag_shown (λ f. f) tag) }
 {
-    match tag {
-        Ok(Tag::Struct) => Ok(6),
-        Ok(Tag::Union) => Ok(7),
-        Ok(Tag::Enum) => Ok(8),
-        Err(fault) => Err(fault),
-    }
+    Ok(match tag? {
+        Tag::Struct => 6,
+        Tag::Union => 7,
+        Tag::Enum => 8,
+    })
 }
 
 /// 1 for what holds, else 0, where there is a type.
 pub fn flag_result(holds: Result<bool, Fault>) -> Result<u32, Fault>
     ensures { result ≡ answer_map flag_of holds }
 {
-    match holds {
-        Ok(holds) => Ok(flag(holds)),
-        Err(fault) => Err(fault),
-    }
+    Ok(flag(holds?))
 }
 
 /// 1 where a program's pointers have 4 bytes, else 0.
