@@ -7,6 +7,7 @@ use Rattle.ctf_records.specs.ListedTypes.{listed_types_of_kind, listed_types_at,
 use Rattle.ctf_chains.specs.Numbers.{spot, numbers_at, numbers_of_kind, numbers}
 use Rattle.ctf_chains.specs.declared.chain.Chain.{Chain}
 use Rattle.ctf_chains.specs.declared.chain.Chain.TheVariants.{ByValue, Declarator}
+use Rattle.ctf_chains.specs.declared.place.Spot.{Spot}
 use Rattle.ctf_chains.specs.declared.place.Spot.TheVariants.{Members}
 
 -- where numbers stand among members, those are what a kind lists
@@ -22,3 +23,7 @@ members_listed chain k b is e =
     ap (λ (o : Option Kind). listed_types_at o b) is
     ∙ members_of_kind chain k b e
     ∙ sym (ap (numbers_of_kind chain b) is)
+
+-- the numbers of a record stand where its kind has them
+pub numbers_by : (chain : Chain) (k : Kind) (b : List ℕ) (s : Spot) → kind b ≡ Some k → s ≡ spot chain k → numbers chain b ≡ numbers_at s b
+numbers_by chain k b s is e = ap (numbers_of_kind chain b) is ∙ ap (λ (at : Spot). numbers_at at b) (sym e)

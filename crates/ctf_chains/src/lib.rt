@@ -14,7 +14,7 @@ mod types;
 pub use chain::Chain;
 pub use first::{first_deep_counted, first_deep_type};
 pub use graph::Graph;
-pub use place::{place_count, place_number};
+pub use place::{place_count, place_number, places};
 pub use search::{LONGEST_CHAIN, first_deep};
 pub use starts::{Starts, record_started, record_starts};
 pub use ticks::Ticks;

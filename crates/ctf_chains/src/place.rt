@@ -1,12 +1,13 @@
 //! Where in its bytes a record says the types that its steps lead to.
-ghost use Rattle.std.specs.Prelude.{◌≡◌, ◌<◌, length, slice_index};
+ghost use Rattle.std.specs.Prelude.{◌≡◌, ◌<◌, drop, length, slice_index};
 ghost use Rattle.ctf_model.specs.rules.Chains.{own_index as own_index_of};
+ghost use Rattle.ctf_records.specs.ListedView.{numbers_listed};
 ghost use Rattle.ctf_records.specs.RecordView.{bytes_of};
 ghost use Rattle.ctf_chains.specs.Numbers.{numbers, spot};
 
 use crate::chain::Chain;
 use ctf_model::{Kind, Place, TypeNum};
-use ctf_records::Record;
+use ctf_records::{Listed, Record};
 
 /// Where the numbers of the types stand.
 #[derive(Clone, Copy)]
@@ -29,15 +30,32 @@ fn spot_of(chain: Chain, kind: Kind) -> Spot
     }
 }
 
+/// The numbers of the types that the steps from a record lead to, counted as often as it names
+/// them. No name is read.
+#[inline(always)]
+pub fn places<'a>(source: &Record<'a>, chain: Chain) -> Listed<'a>
+    ensures { numbers_listed result ≡ numbers chain (bytes_of source.now) }
+{
+    match spot_of(chain, source.kind()) {
+        Spot::Nowhere => Listed::new(&[], 2, 0, 0),
+        Spot::Head => Listed::new(field_on(source), 2, 0, 1),
+        Spot::Contents => Listed::new(source.rest(), 2, 0, 1),
+        Spot::Members => source.listed(),
+    }
+}
+
+/// The bytes of a record from its reference on.
+fn field_on<'a>(source: &Record<'a>) -> &'a [u8]
+    ensures { result.now ≡ drop 6 (bytes_of source.now) }
+{
+    &source.bytes()[6..]
+}
+
 /// How many types the steps from a record lead to, counted as often as it names them.
 pub fn place_count(source: &Record<'_>, chain: Chain) -> usize
     ensures { result ≡ length (numbers chain (bytes_of source.now)) }
 {
-    match spot_of(chain, source.kind()) {
-        Spot::Nowhere => 0,
-        Spot::Head | Spot::Contents => 1,
-        Spot::Members => source.listed_count(),
-    }
+    places(source, chain).count()
 }
 
 /// The number of the type that one of the steps from a record leads to. No name is read.
@@ -45,11 +63,7 @@ pub fn place_number(source: &Record<'_>, chain: Chain, k: usize) -> TypeNum
     requires { k < length (numbers chain (bytes_of source.now)) }
     ensures { result.0 ≡ slice_index (numbers chain (bytes_of source.now)) k }
 {
-    match spot_of(chain, source.kind()) {
-        Spot::Nowhere => TypeNum(0),
-        Spot::Head => source.reference().unwrap_or(TypeNum(0)),
-        Spot::Contents | Spot::Members => source.listed_type(k),
-    }
+    places(source, chain).get(k)
 }
 
 /// The own type that a number names, from 0, where there are that many.

@@ -1,11 +1,11 @@
 //! Where the records of a section begin.
-ghost use Rattle.std.specs.Prelude.{◌≡◌, ◌<◌, ◌^◌, length, slice_get, IfOk, Some, Ok, None};
+ghost use Rattle.std.specs.Prelude.{◌≡◌, ◌+◌, ◌<◌, ◌^◌, length, slice_get, slice_index_or, IfOk, Some, Ok, None};
 ghost use Rattle.ctf_model.specs.rules.Faults.{walk_fault};
 ghost use Rattle.ctf_model.specs.format.Section.{records};
 ghost use Rattle.ctf_chains.specs.Starts.{starts_in};
 ghost use Rattle.ctf_records.specs.RecordView.{piece};
 
-use ctf_records::{Record, Records, record_at};
+use ctf_records::{Record, Records, record_of_len};
 use std::alloc::{AllocError, Global};
 use std::marker::Model;
 
@@ -32,15 +32,31 @@ impl Starts {
     }
 }
 
+/// Where the record with a number from 0 ends: where the next one begins, or the section ends.
+#[inline(always)]
+fn end_of(places: &[u32], i: usize, len: usize) -> usize
+    requires { i < length places.now }
+    ensures { result ≡ slice_index_or places.now (i + 1) len }
+{
+    if i + 1 < places.len() {
+        places[i + 1] as usize
+    } else {
+        len
+    }
+}
+
 /// The record with a number from 0, found without reading those before it by the places at which
 /// all begin.
+#[inline(always)]
 pub fn record_started<'a>(types: &'a [u8], places: &[u32], i: usize) -> Record<'a>
     requires whole { walk_fault (records types.now) ≡ None }
     requires starts { places.now ≡ starts_in (records types.now) }
     requires inside { i < length places.now }
     ensures { slice_get (records types.now) i ≡ Some (Ok (piece result)) }
 {
-    record_at(types, places[i] as usize, i as u64 + 1).unwrap()
+    let at = places[i] as usize;
+    let end = end_of(places, i, types.len());
+    record_of_len(types, at, end - at, i as u64 + 1)
 }
 
 /// Where the records of a section begin, of which there are `count`.

@@ -3,16 +3,16 @@ ghost use Rattle.std.specs.Prelude.{◌≡◌, None, length, map};
 ghost use Rattle.ctf_model.specs.rules.Chains.{own_index as own_index_of};
 ghost use Rattle.ctf_model.specs.rules.Faults.{walk_fault};
 ghost use Rattle.ctf_model.specs.format.Section.{records};
-ghost use Rattle.ctf_chains.specs.Numbers.{numbers, section_places};
+ghost use Rattle.ctf_chains.specs.Numbers.{section_places};
 ghost use Rattle.ctf_chains.specs.Starts.{starts_in};
-ghost use Rattle.ctf_records.specs.RecordView.{bytes_of};
+ghost use Rattle.ctf_records.specs.ListedView.{numbers_listed};
 
 use crate::chain::Chain;
 use crate::graph::Graph;
-use crate::place::{own_index, place_count, place_number};
+use crate::place::{own_index, places};
 use crate::starts::{Starts, record_started};
 use crate::ticks::Ticks;
-use ctf_records::Record;
+use ctf_records::Listed;
 use std::sync::ledger::Ledger;
 
 /// The types of a section, and the steps of one sort between them. Whoever has only this can see
@@ -47,29 +47,28 @@ impl<'a> Types<'a> {
 }
 
 impl<'a, L: Ledger> Graph<L> for Types<'a> {
-    type Opened = Record<'a>;
+    type Opened = Listed<'a>;
 
     ghost places = { λ g. section_places g.chain g.child (records g.bytes.now) };
 
     ghost places_of = { λ g r. map (own_index_of g.child (length (records g.bytes.now)))
-        (numbers g.chain (bytes_of r)) };
+        (numbers_listed r) };
 
     fn len(&self) -> usize {
         self.starts.len()
     }
 
-    fn open(&self, i: usize, work: &mut Ticks<L>) -> Record<'a> {
+    fn open(&self, i: usize, work: &mut Ticks<L>) -> Listed<'a> {
         work.tick();
-        record_started(self.bytes, self.starts, i)
+        places(&record_started(self.bytes, self.starts, i), self.chain)
     }
 
-    fn place_count(&self, opened: Record<'a>) -> usize {
-        place_count(&opened, self.chain)
+    fn place_count(&self, opened: Listed<'a>) -> usize {
+        opened.count()
     }
 
-    fn place(&self, opened: Record<'a>, k: usize, work: &mut Ticks<L>) -> Option<usize> {
+    fn place(&self, opened: Listed<'a>, k: usize, work: &mut Ticks<L>) -> Option<usize> {
         work.tick();
-        let number = place_number(&opened, self.chain, k);
-        own_index(self.child, self.starts.len(), number)
+        own_index(self.child, self.starts.len(), opened.get(k))
     }
 }

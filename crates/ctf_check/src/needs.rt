@@ -35,9 +35,10 @@ fn in_parent(number: TypeNum) -> u16
 fn listed_needs(term: &Record<'_>) -> u16
     ensures { result ≡ greatest_in_parent (listed_types (bytes_of term.now)) }
 {
+    let listed = term.listed();
     let mut greatest = 0;
-    for item in 0..term.listed_count() {
-        greatest = greater(greatest, in_parent(term.listed_type(item)));
+    for item in 0..listed.count() {
+        greatest = greater(greatest, in_parent(listed.get(item)));
     }
     greatest
 }

@@ -46,8 +46,9 @@ impl Numbers {
         ensures { result
             ≡ list_any (missing self.child self.count) (listed_types (bytes_of term.now)) }
     {
-        for item in 0..term.listed_count() {
-            if self.is_missing(term.listed_type(item)) {
+        let listed = term.listed();
+        for item in 0..listed.count() {
+            if self.is_missing(listed.get(item)) {
                 return true;
             }
         }

@@ -3,6 +3,7 @@ pub mod Unrolls
 pub mod MarkedText
 pub mod SpelledBy
 pub mod Entered
+pub mod Briefed
 pub mod Places
 pub mod Pointing
 pub mod WrittenTexts

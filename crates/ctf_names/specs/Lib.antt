@@ -11,6 +11,7 @@ pub mod Adding
 pub mod Sorts
 pub mod Entries
 pub mod Pointers
+pub mod Briefs
 pub mod Fitting
 pub mod Sought
 pub mod Writing

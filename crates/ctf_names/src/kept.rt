@@ -10,6 +10,7 @@ ghost use Rattle.ctf_names.specs.Sorts.{tag_in};
 ghost use Rattle.ctf_names.specs.Sought.{passes};
 ghost use Rattle.ctf_sections.specs.StringsView.{tables};
 
+use crate::gathering::gather;
 use crate::guesses::guess;
 use crate::names;
 use crate::pointers::{self, Pointer};
@@ -35,17 +36,15 @@ impl Names {
     pub(crate) fn build(alloc: Global, dictionary: &Checked<'_>) -> Result<Names, AllocError>
         ensures { IfOk result (λ n. IsNamesOf (lists_of dictionary.now) n) }
     {
-        let plain = names::in_order(alloc, dictionary, Sort::Plain)?;
-        let structs = names::in_order(alloc, dictionary, Sort::Struct)?;
-        let unions = names::in_order(alloc, dictionary, Sort::Union)?;
-        let enums = names::in_order(alloc, dictionary, Sort::Enum)?;
-        let pointers = pointers::in_order(alloc, dictionary)?;
+        let all = gather(alloc, dictionary)?;
+        let strings = dictionary.strings();
+        let pointers = pointers::in_order(all.pointers);
         let guesses = guess(alloc, &pointers, dictionary.count())?;
         Ok(Names {
-            plain,
-            structs,
-            unions,
-            enums,
+            plain: names::in_order(alloc, &strings, all.plain)?,
+            structs: names::in_order(alloc, &strings, all.structs)?,
+            unions: names::in_order(alloc, &strings, all.unions)?,
+            enums: names::in_order(alloc, &strings, all.enums)?,
             pointers,
             guesses,
         })

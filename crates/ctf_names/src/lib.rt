@@ -2,6 +2,7 @@
 #![tactic(auto)]
 
 mod finding;
+mod gathering;
 mod guesses;
 mod index;
 mod inside;

@@ -1,16 +1,15 @@
 //! The pointers of a dictionary, by the types that they point to.
-ghost use Rattle.std.specs.Prelude.{◌≡◌, ◌<◌, ◌^◌, IfOk, List, length};
+ghost use Rattle.std.specs.Prelude.{◌≡◌, ◌<◌, ◌^◌, List, length};
 ghost use Rattle.std.specs.List.Sorted.{IsSortedBy, IsPermutation};
-ghost use Rattle.ctf_check.specs.CheckedView.{dictionary_of};
 ghost use Rattle.ctf_model.specs.names.Found.{first_place, is_pointer_to};
+ghost use Rattle.ctf_model.specs.format.Name.{Tables};
 ghost use Rattle.ctf_model.specs.format.Term.{Term};
+ghost use Rattle.ctf_names.specs.Briefs.{IsBriefAt};
 ghost use Rattle.ctf_names.specs.Pointers.{pointer_precedes, HasPointers, IsPointerAt, PointersInOrder};
 
 use crate::guesses::begin;
-use crate::types::own_type;
-use ctf_check::Checked;
-use ctf_model::{Kind, TypeNum};
-use std::alloc::{AllocError, Global};
+use crate::types::Brief;
+use ctf_model::TypeNum;
 
 /// A pointer, by the type that it points to and its own number from 0.
 #[derive(Clone, Copy)]
@@ -19,34 +18,17 @@ pub(crate) struct Pointer {
     pub(crate) place: u16,
 }
 
-/// The own type of a dictionary with a number from 0, if it is a pointer.
-fn pointer_at(dictionary: &Checked<'_>, place: usize) -> Option<Pointer>
+/// The type with a number from 0, if it is a pointer.
+pub(crate) fn pointer_of(of: Brief, place: usize) -> Option<Pointer>
     requires { place < 2 ^ 16 }
-    ensures { IsPointerAt (dictionary_of dictionary.now).terms place result }
+    ensures { (t : Tables) (terms : List Term) → IsBriefAt t terms place of
+        → IsPointerAt terms place result }
 {
-    let found = own_type(dictionary, place)?;
-    let shape = found.shape();
-    match (shape.kind, shape.reference) {
-        (Kind::KPointer, Some(target)) => Some(Pointer {
-            target: target.0,
-            place: place as u16,
-        }),
-        _ => None,
-    }
-}
-
-/// The pointers of a dictionary.
-fn pointers_of(alloc: Global, dictionary: &Checked<'_>) -> Result<Vec<Pointer>, AllocError>
-    ensures { let d = dictionary_of dictionary.now in IfOk result (λ pointers.
-        HasPointers d.terms (length d.terms) pointers.items) }
-{
-    let mut pointers = Vec::new(alloc);
-    for place in 0..dictionary.count() {
-        if let Some(pointer) = pointer_at(dictionary, place) {
-            pointers.push(pointer)?;
-        }
-    }
-    Ok(pointers)
+    let target = of.target?;
+    Some(Pointer {
+        target: target.0,
+        place: place as u16,
+    })
 }
 
 /// Sorts pointers by what they point to, and then by number.
@@ -54,17 +36,22 @@ fn arrange(pointers: &mut Vec<Pointer>)
     ensures permutation { IsPermutation pointers.old.items pointers.new.items }
     ensures sorted { IsSortedBy pointer_precedes pointers.new.items }
 {
-    pointers.sort_unstable_by(|a, b| a.target.cmp(&b.target).then(a.place.cmp(&b.place)));
+    pointers.sort_unstable_by(|a, b| {
+        if a.target == b.target {
+            a.place.cmp(&b.place)
+        } else {
+            a.target.cmp(&b.target)
+        }
+    });
 }
 
 /// The pointers of a dictionary, by what they point to.
-pub(crate) fn in_order(alloc: Global, dictionary: &Checked<'_>) -> Result<Vec<Pointer>, AllocError>
-    ensures { IfOk result (λ pointers.
-        PointersInOrder (dictionary_of dictionary.now).terms pointers.items) }
+pub(crate) fn in_order(mut pointers: Vec<Pointer>) -> Vec<Pointer>
+    ensures { (terms : List Term) → HasPointers terms (length terms) pointers.items
+        → PointersInOrder terms result.items }
 {
-    let mut pointers = pointers_of(alloc, dictionary)?;
     arrange(&mut pointers);
-    Ok(pointers)
+    pointers
 }
 
 /// The first pointer to a type, from 0.

@@ -193,3 +193,11 @@ fits t items sorted ranked o same ranks moved up = record {
   where
     right : (r : Ranked) → Contains o.entries.items r → IsRanked t r
     right r h = ranks.right r (Contains-permutation o.entries.items ranked r (IsPermutation-sym ranked o.entries.items moved) h)
+
+-- the same items in another order have the same ranks
+pub ranks_moved : (t : Naming) (items sorted : List Entry) (ranked : List Ranked) → IsPermutation items sorted → Ranks t sorted ranked → Ranks t items ranked
+ranks_moved t items sorted ranked same ranks = record {
+  inside = λ r h. Contains-permutation sorted items r.entry (IsPermutation-sym items sorted same) (ranks.inside r h);
+  right = ranks.right;
+  all = λ e text h is. ranks.all e text (Contains-permutation items sorted e same h) is;
+}

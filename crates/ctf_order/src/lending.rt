@@ -12,6 +12,9 @@ use crate::texts::Texts;
 use std::alloc::{AllocError, Global};
 use std::cmp::Ordering;
 
+/// Names of no more bytes than this in the mean are read in the order of their items.
+const USUAL_NAME: usize = 64;
+
 /// An item beside its name.
 #[derive(Clone, Copy)]
 pub(crate) struct Named<'a> {
@@ -78,11 +81,7 @@ fn next_named<'a>(texts: &Texts<'a>, before: Option<Named<'a>>, item: Entry) -> 
 
 /// The items that have names, beside the ranks of these; of items with one reference at least the
 /// least. Where their references rise, each table is read once at most to find where names end.
-pub(crate) fn ranked<'a>(
-    alloc: Global,
-    texts: &Texts<'a>,
-    items: &[Entry],
-) -> Result<Vec<Ranked>, AllocError>
+fn ranked<'a>(alloc: Global, texts: &Texts<'a>, items: &[Entry]) -> Result<Vec<Ranked>, AllocError>
     ensures { IfOk result (λ ranked. Ranks (naming texts.now) items.now ranked.items) }
 {
     let mut ranked = Vec::with_capacity(alloc, items.len())?;
@@ -99,10 +98,64 @@ pub(crate) fn ranked<'a>(
     Ok(ranked)
 }
 
+/// The same for items in any order, if their names have at most `most` bytes together. Of those that
+/// have more, no more than that and one name is read.
+fn ranked_within<'a>(
+    alloc: Global,
+    texts: &Texts<'a>,
+    items: &[Entry],
+    most: usize,
+) -> Result<Option<Vec<Ranked>>, AllocError>
+    ensures { IfOk result (λ found. ForSome found
+        (λ ranked. Ranks (naming texts.now) items.now ranked.items)) }
+{
+    let mut ranked = Vec::with_capacity(alloc, items.len())?;
+    let mut before: Option<Named<'a>> = None;
+    let mut left = most;
+    for item in items {
+        if let Some(next) = next_named(texts, before, *item) {
+            if next.name.len() > left {
+                return Ok(None);
+            }
+            left -= next.name.len();
+            ranked.push(Ranked {
+                rank: rank(next.name),
+                entry: next.entry,
+            })?;
+            before = Some(next);
+        }
+    }
+    Ok(Some(ranked))
+}
+
+/// The items that have names, beside the ranks of these; of each name at least the least. They are
+/// put in the order of their references only where their names are long.
+pub(crate) fn ranked_items(
+    alloc: Global,
+    texts: &Texts<'_>,
+    mut items: Vec<Entry>,
+) -> Result<Vec<Ranked>, AllocError>
+    ensures { IfOk result (λ ranked. Ranks (naming texts.now) items.items ranked.items) }
+{
+    let most = items.len().saturating_mul(USUAL_NAME);
+    if let Some(ranked) = ranked_within(alloc, texts, &items, most)? {
+        return Ok(ranked);
+    }
+    items.sort_unstable();
+    let sorted = ranked(alloc, texts, &items)?;
+    Ok(sorted)
+}
+
 /// Sorts items by the ranks of their names, and then by number.
 pub(crate) fn arrange(ranked: &mut Vec<Ranked>)
     ensures permutation { IsPermutation ranked.old.items ranked.new.items }
     ensures sorted { IsSortedBy goes_before ranked.new.items }
 {
-    ranked.sort_unstable_by(|a, b| a.rank.cmp(&b.rank).then(a.entry.item.cmp(&b.entry.item)));
+    ranked.sort_unstable_by(|a, b| {
+        if a.rank == b.rank {
+            a.entry.item.cmp(&b.entry.item)
+        } else {
+            a.rank.cmp(&b.rank)
+        }
+    });
 }

@@ -7,7 +7,7 @@ ghost use Rattle.ctf_order.specs.declared.entries.Entry.{Entry as Item};
 
 use crate::comparing::{is_named, rank};
 use crate::entries::{Entry, Ranked};
-use crate::lending::{arrange, ranked};
+use crate::lending::{arrange, ranked_items};
 use crate::texts::Texts;
 use std::alloc::{AllocError, Global};
 
@@ -37,17 +37,12 @@ impl Order {
     /// The items of a dictionary, by their names. An item without a name is left out. Of items with
     /// one reference the least is kept, since it is the one that is found.
     ///
-    /// Each table is read once to find where names end, and then at most 64 bytes of each name. No
-    /// name is read while items are sorted.
-    pub fn build(
-        alloc: Global,
-        texts: &Texts<'_>,
-        mut items: Vec<Entry>,
-    ) -> Result<Order, AllocError>
+    /// To find where names end it reads each table once at most, or 64 bytes for each item and one
+    /// name; and then at most 64 bytes of each name. No name is read while items are sorted.
+    pub fn build(alloc: Global, texts: &Texts<'_>, items: Vec<Entry>) -> Result<Order, AllocError>
         ensures { IfOk result (λ o. Fits (naming texts.now) items.items o) }
     {
-        items.sort_unstable();
-        let mut entries = ranked(alloc, texts, &items)?;
+        let mut entries = ranked_items(alloc, texts, items)?;
         arrange(&mut entries);
         Ok(Order { entries })
     }

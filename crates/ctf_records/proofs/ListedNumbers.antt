@@ -1,5 +1,5 @@
 -- Numbers in items of one length, by the item's number.
-use Rattle.std.proofs.Common.{◌≡◌, ℕ, zero, suc, ◌+◌, ◌*◌, ◌<◌, ◌≤◌, List, length, drop, Option, Some, Bool, true, false, cond, ltb, refl, sym, ap, ◌∙◌, arith}
+use Rattle.std.proofs.Common.{◌≡◌, ℕ, zero, suc, ◌+◌, ◌*◌, ◌<◌, ◌≤◌, List, [], ◌∷◌, length, drop, Option, Some, Bool, true, false, cond, ltb, refl, sym, ap, ◌∙◌, arith}
 use Rattle.std.specs.Prelude.{slice_index}
 use Rattle.std.proofs.lemmas.List.{drop-drop}
 use Rattle.ctf_model.specs.format.Bytes.{u16_at}
@@ -15,7 +15,7 @@ numbers_in-length len at zero b = refl
 numbers_in-length len at (suc n) b = ap suc (numbers_in-length len at n (drop len b))
 
 -- the number behind a front
-u16_behind : (b : List ℕ) (len at : ℕ) → u16_at (drop len b) at ≡ u16_at b (len + at)
+pub u16_behind : (b : List ℕ) (len at : ℕ) → u16_at (drop len b) at ≡ u16_at b (len + at)
 u16_behind b len at = rw (drop-drop at len b) refl
 
 -- the number in item k
@@ -89,3 +89,42 @@ member_fits n = at (ltb n 8192)
 pub array_listed : (b : List ℕ) → kind b ≡ Some KArray → numbers_in 2 0 2 (behind_head b) ≡ listed_types b
 unfolding numbers_in
 array_listed b e = rw (e, u16_behind (behind_head b) 2 0) refl
+
+-- ---- as they are listed
+
+pub arguments_are : (b : List ℕ) → kind b ≡ Some KFunction → numbers_in 2 0 (listed b) (behind_head b) ≡ listed_types b
+arguments_are b e = rw e refl
+
+pub struct_are : (b : List ℕ) → kind b ≡ Some KStruct → numbers_in (member_len (size b)) 4 (listed b) (behind_head b) ≡ listed_types b
+struct_are b e = rw e refl
+
+pub union_are : (b : List ℕ) → kind b ≡ Some KUnion → numbers_in (member_len (size b)) 4 (listed b) (behind_head b) ≡ listed_types b
+union_are b e = rw e refl
+
+pub none_listed : (len at : ℕ) (b : List ℕ) → numbers_in len at 0 b ≡ []
+unfolding numbers_in
+none_listed len at b = refl
+
+pub one_listed : (len at : ℕ) (b : List ℕ) → numbers_in len at 1 b ≡ u16_at b at ∷ []
+unfolding numbers_in
+one_listed len at b = refl
+
+nothing_of_kind : (b : List ℕ) (k : Kind) → ¬ (k ≡ KArray) → ¬ (k ≡ KFunction) → ¬ (k ≡ KStruct) → ¬ (k ≡ KUnion) → [] ≡ listed_types_of_kind k b
+nothing_of_kind b KUnknown array function struct union = refl
+nothing_of_kind b KInteger array function struct union = refl
+nothing_of_kind b KFloat array function struct union = refl
+nothing_of_kind b KPointer array function struct union = refl
+nothing_of_kind b KArray array function struct union = absurd (array refl)
+nothing_of_kind b KFunction array function struct union = absurd (function refl)
+nothing_of_kind b KStruct array function struct union = absurd (struct refl)
+nothing_of_kind b KUnion array function struct union = absurd (union refl)
+nothing_of_kind b KEnum array function struct union = refl
+nothing_of_kind b KForward array function struct union = refl
+nothing_of_kind b KTypedef array function struct union = refl
+nothing_of_kind b KVolatile array function struct union = refl
+nothing_of_kind b KConst array function struct union = refl
+nothing_of_kind b KRestrict array function struct union = refl
+
+-- a record of another kind lists none
+pub nothing_listed : (b : List ℕ) (k : Kind) → kind b ≡ Some k → ¬ (k ≡ KArray) → ¬ (k ≡ KFunction) → ¬ (k ≡ KStruct) → ¬ (k ≡ KUnion) → [] ≡ listed_types b
+nothing_listed b k e array function struct union = nothing_of_kind b k array function struct union ∙ sym (ap (λ (o : Option Kind). listed_types_at o b) e)

@@ -1,4 +1,5 @@
 pub mod ByKind
 pub mod ListedTypes
+pub mod ListedView
 pub mod Pieces
 pub mod RecordView

@@ -4,12 +4,14 @@
 mod cursor;
 mod front;
 mod listed;
+mod numbers;
 mod place;
 mod record;
 mod tag;
 
 pub use cursor::{Records, record_numbered};
 pub use listed::{WIDE_MEMBERS, member_len};
-pub use place::record_at;
+pub use numbers::Listed;
+pub use place::{record_at, record_of_len};
 pub use record::Record;
 pub use tag::Tag;

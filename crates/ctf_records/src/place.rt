@@ -1,5 +1,5 @@
 //! The record that begins at a place of a section.
-ghost use Rattle.std.specs.Prelude.{◌≡◌, ◌≤◌, ◌+◌, ◌^◌, take, Some};
+ghost use Rattle.std.specs.Prelude.{◌≡◌, ◌≤◌, ◌+◌, ◌^◌, take, drop, Some};
 ghost use Rattle.std.specs.Option.{option_map};
 ghost use Rattle.ctf_model.specs.format.Section.{front_len as front_of};
 ghost use Rattle.ctf_records.specs.RecordView.{piece, piece_at};
@@ -15,6 +15,17 @@ pub(crate) fn taken<'a>(rest: &'a [u8], len: usize, index: u64, at: usize) -> Re
 {
     let (bytes, _) = rest.split_at(len);
     Record { index, at, bytes }
+}
+
+/// The whole record of a length that begins at a place of a section; it is given the number.
+/// Nothing of it is read.
+#[inline(always)]
+pub fn record_of_len<'a>(types: &'a [u8], at: usize, len: usize, index: u64) -> Record<'a>
+    requires { front_of (drop at types.now) ≡ Some len }
+    ensures { Some (piece result) ≡ piece_at types.now at index }
+{
+    let (_, rest) = types.split_at(at);
+    taken(rest, len, index, at)
 }
 
 /// The whole record that begins at a place of a section, if one does; it is given the number.

@@ -1,26 +1,27 @@
-use Rattle.std.proofs.Common.{◌≡◌, Option, Some, None, Result, Ok, refl, sym, ap, ◌∙◌}
+use Rattle.std.proofs.Common.{◌≡◌, ◌-◌, ◌+◌, drop, length, Option, Result, Ok, Some, sym, ap, ◌∙◌, arith}
 use Rattle.std.specs.Prelude.{slice_index_or}
-use Rattle.std.specs.Option.{option_map, IsSome}
 use Rattle.std.proofs.lemmas.Option.{same_Some}
 use Rattle.std.proofs.lemmas.Grind.{get_or_default_zero}
-use Rattle.ctf_model.specs.format.Section.{Piece}
+use Rattle.std.proofs.lemmas.List.{length-drop}
+use Rattle.ctf_model.specs.format.Section.{Piece, front_len}
 use Rattle.ctf_model.specs.declared.faults.Fault.{Fault}
-use Rattle.ctf_records.specs.RecordView.{piece}
-use Rattle.ctf_records.specs.declared.record.Record.{Record}
-use Rattle.ctf_chains.proofs.Begins.{record_found}
+use Rattle.ctf_model.proofs.Walk.{front_len_range}
+use Rattle.ctf_chains.proofs.Begins.{len_found, record_found}
 use Rattle.ctf_chains.proofs.starts.record_started.Goals as goal
 
-there : (o : Option Record) (p : Piece) → option_map piece o ≡ Some p → IsSome o
-there None p e = absurd cc
-there (Some r) p e = refl
+pub overflow_sub-end : goal.overflow_sub-end
+overflow_sub-end c =
+    let at = slice_index_or c.args.places.now c.args.i 0 in
+    let len = len_found c.args.types.now c.args.places.now c.args.i c.requires.whole c.requires.starts c.requires.inside in
+    let range = front_len_range _ _ len in
+    omega (arith, range.0, c.end_of-end.ensures)
 
-pub unwrap-requires : goal.unwrap-requires
-unwrap-requires c =
-    let found = record_found c.args.types.now c.args.places.now c.args.i (slice_index_or c.args.places.now c.args.i 0) c.requires.whole c.requires.starts c.requires.inside (sym (get_or_default_zero c.args.places.now c.args.i (slice_index_or c.args.places.now c.args.i 0) c.requires.inside)) in
-    there c.record_at.result found.piece (c.record_at.ensures ∙ found.begins)
+pub record_of_len-requires : goal.record_of_len-requires
+record_of_len-requires c =
+    rw c.end_of-end.ensures (len_found c.args.types.now c.args.places.now c.args.i c.requires.whole c.requires.starts c.requires.inside)
 
 pub returns : goal.returns
 returns c =
     let found = record_found c.args.types.now c.args.places.now c.args.i (slice_index_or c.args.places.now c.args.i 0) c.requires.whole c.requires.starts c.requires.inside (sym (get_or_default_zero c.args.places.now c.args.i (slice_index_or c.args.places.now c.args.i 0) c.requires.inside)) in
-    let same = same_Some _ _ (ap (option_map piece) (sym c.unwrap.ensures) ∙ c.record_at.ensures ∙ found.begins) in
+    let same = same_Some _ _ (c.record_of_len.ensures ∙ found.begins) in
     found.got ∙ ap (λ (p : Piece). let r : Result Piece Fault = Ok p in Some r) (sym same)
