@@ -99,8 +99,8 @@ walk_follows all zero index at b same ends few = omega (arith, ends, few)
 walk_follows all (suc bound) index at b same ends few =
     follows_end all at (length b) (eqb (length b) 0) _ refl ends
     (follows_step all b index at _ (front_len b) same refl (λ n e.
-        let range = front_len_range b n e in
-        walk_follows all bound (index + 1) (at + n) (drop n b) (ap (drop n) same ∙ drop-drop n at all) (omega (arith, range.0, range.1, ends, length-drop n b)) (omega (arith, range.0, range.1, few, length-drop n b))))
+    let range = front_len_range b n e in
+    walk_follows all bound (index + 1) (at + n) (drop n b) (ap (drop n) same ∙ drop-drop n at all) (omega (arith, range.0, range.1, ends, length-drop n b)) (omega (arith, range.0, range.1, few, length-drop n b))))
 
 first_begins : (all : List ℕ) (at : ℕ) (rs : List (Result Piece Fault)) → walk_fault rs ≡ None → FollowOn all at rs → get_or (starts_in rs) 0 (length all) ≡ at
 first_begins all at [] whole on = sym on
