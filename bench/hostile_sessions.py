@@ -128,12 +128,12 @@ def nested_structs(depth):
 # ---- drafts
 
 
-def chained_draft(depth, width):
+def chained_draft(depth, width, kind="struct"):
     """A member at the bottom of a chain of structs, and then one at its top, which contains all."""
     yield line("create")
     yield added(INT)
     for i in range(depth + 1):
-        yield added('"what":"struct","name":"s%d"' % i)
+        yield added('"what":"%s","name":"s%d"' % (kind, i))
     for i in range(1, depth):
         for _ in range(width):
             yield member(2 + i, 1 + i)
@@ -191,7 +191,9 @@ SESSIONS = [
     Session("path: 500 steps, 1,023 names unlike in the middle", lambda: steps(500, 1000),
             read=6.1, known=110),
     Session("show: 500 structs in each other", lambda: nested_structs(500)),
-    Session("add: a member on top of 500,000", lambda: chained_draft(500, 1000), known=7),
+    Session("add: a member on top of 500,000", lambda: chained_draft(500, 1000)),
+    Session("add: a member on top of 500,000 in unions",
+            lambda: chained_draft(500, 1000, "union"), known=7),
     Session("update: nothing pending, 60 MB", lambda: updated_again(60)),
     Session("check: 155 MB again", checked_again),
     Session("import: the same parent, 65 MB", lambda: imported_again(7940)),

@@ -1,11 +1,11 @@
 -- What numbers of a draft come to, step by step.
 use Rattle.std.proofs.Common.{◌≡◌, ℕ, suc, ◌-◌, ◌<◌, Bool, true, false, cond, eqb, length, Option, Some, None, Result, Ok, Err, is_some, refl, sym, ap, ◌∙◌, arith}
-use Rattle.std.specs.Prelude.{slice_get, option_map}
+use Rattle.std.specs.Prelude.{MatchOption, slice_get, option_map}
 use Rattle.std.proofs.lemmas.Option.{slice_get_within}
 use Rattle.ctf_model.specs.rules.Chains.{own_index}
 use Rattle.ctf_model.specs.format.Dictionary.{Dictionary}
 use Rattle.ctf_model.specs.drafts.Drafts.{Draft, count_of, held}
-use Rattle.ctf_model.specs.figures.Figures.{Figure, at_place, comes_to, figure_in, incomplete, of_found, parents_figure, resolved_body, resolving, size_body, sizing}
+use Rattle.ctf_model.specs.figures.Figures.{Figure, align_body, aligning, at_place, comes_to, figure_in, incomplete, of_found, parents_figure, resolved_body, resolving, size_body, sizing}
 use Rattle.ctf_model.specs.format.Term.{Body, Term}
 use Rattle.ctf_model.specs.format.Term as term
 use Rattle.ctf_model.specs.spaces.TypeNumbers.{no_type, or_no_type}
@@ -129,3 +129,14 @@ pub parents_step : (d : Draft) (p : Dictionary) (model : DataModel) (figure : Fi
 parents_step d p model figure k n i is at =
     let here : place (is_some d.parent) n ≡ Parents i = rw is at in
     of_parents figure (parents_figure figure d.parent) (held d) k n i here ∙ ap (λ (q : Option Dictionary). parents_figure figure q n) is
+
+-- by what its alignment hangs on
+pub by_aligning : (said model : DataModel) → said ≡ model → (parents : ℕ → Result ℕ Fault) (d : Dictionary) (most n : ℕ) → 0 < most → (i : ℕ) (body : Body) (s : Sizing) → own_index d.child (length d.terms) n ≡ Some i → option_map (λ x. x.body) (slice_get d.terms i) ≡ Some body → ((f : ℕ → Result ℕ Fault) → align_body said f body ≡ sized f s) → comes_to (aligning model) parents d most n ≡ sized (comes_to (aligning model) parents d (most - 1)) s
+by_aligning said model same parents d most n lt i body s own got says =
+    let f = comes_to (aligning model) parents d (most - 1) in
+    own_at (aligning model) parents d most n lt i body own got ∙ ap (λ (m : DataModel). align_body m f body) (sym same) ∙ says f
+
+-- what comes to the same
+pub same_found : (found : Option (Result ℕ Fault)) (a b : Result ℕ Fault) → a ≡ b → MatchOption found (Unit {0}) (λ r. r ≡ a) → MatchOption found (Unit {0}) (λ r. r ≡ b)
+same_found None a b same h = tt
+same_found (Some r) a b same h = h ∙ same

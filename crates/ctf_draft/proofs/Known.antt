@@ -104,7 +104,7 @@ members_pass : (p : ℕ → Bool) (ns : List ℕ) → list_any p ns ≡ false �
 members_pass p ns h = none_all p (λ n. p n ≡ false) (λ n g. g) ns h
 
 -- what a type leads to by value it names
-named_by_value : (p : ℕ → Bool) (x : Body) → list_any p (references x) ≡ false → AllByRecursion (λ n. p n ≡ false) (by_value x)
+pub named_by_value : (p : ℕ → Bool) (x : Body) → list_any p (references x) ≡ false → AllByRecursion (λ n. p n ≡ false) (by_value x)
 named_by_value p (term.typedef t) h = members_pass p (t ∷ []) h
 named_by_value p (term.volatile t) h = members_pass p (t ∷ []) h
 named_by_value p (term.const t) h = members_pass p (t ∷ []) h
@@ -130,10 +130,10 @@ index_stays a b n (Own i) le h =
     rw (low, high) refl
 
 -- a number that is there names what it does among more types
-there_stays : (d : Draft) (b n : ℕ) → count_of d ≤ b → is_absent d n ≡ false → own_index (is_some d.parent) b n ≡ own_index (is_some d.parent) (count_of d) n
+pub there_stays : (d : Draft) (b n : ℕ) → count_of d ≤ b → is_absent d n ≡ false → own_index (is_some d.parent) b n ≡ own_index (is_some d.parent) (count_of d) n
 there_stays d b n le h = index_stays (count_of d) b n (place (is_some d.parent) n) le (there_not_missing d n h)
 
-sound_names : (d : Draft) → IsSound d → (j : ℕ) → j < count_of d → AllByRecursion (λ n. is_absent d n ≡ false) (by_value (own_body (held d) j))
+pub sound_names : (d : Draft) → IsSound d → (j : ℕ) → j < count_of d → AllByRecursion (λ n. is_absent d n ≡ false) (by_value (own_body (held d) j))
 sound_names d ok j lt = named_by_value (is_absent d) (own_body (held d) j) (all_got (NamesThere d) (all_of d).terms j (slice_index_or (held d).terms j nothing) ok.all.named (slice_get-get_or (held d).terms j nothing lt))
 
 -- ---- what is seen in code

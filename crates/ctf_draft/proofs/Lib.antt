@@ -12,3 +12,6 @@ pub mod Planned
 pub mod Sounding
 pub mod MemberAdded
 pub mod Rounds
+pub mod Lifting
+pub mod Bounded
+pub mod Holding

@@ -11,3 +11,4 @@ pub mod Elsewhere
 pub mod Reaching
 pub mod MarksView
 pub mod Planning
+pub mod Bounding

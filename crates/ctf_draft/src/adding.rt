@@ -1,12 +1,13 @@
 //! What is added to a draft.
-ghost use Rattle.std.specs.Prelude.{◌≡◌, ◌⊎◌, length, map, Ok, Err, IfOk, IfErr, OnOk, OnErr};
-ghost use Rattle.std.specs.List.{list_any};
+ghost use Rattle.std.specs.Prelude.{◌≡◌, ◌<◌, ◌⊎◌, is_some, MatchOption, length, map, Ok, Err, IfOk, IfErr, OnOk, OnErr};
+ghost use Rattle.std.specs.List.{AllByRecursion, list_any};
 ghost use Rattle.ctf_draft.specs.NewView.{new_body_of, new_of};
 ghost use Rattle.ctf_draft.specs.TypeView.{number_of};
 ghost use Rattle.ctf_model.specs.drafts.Adders.{against_type, add_label, add_type};
-ghost use Rattle.ctf_model.specs.drafts.Drafts.{is_absent as is_absent_in, is_unknown as is_unknown_in, next_number as next_number_in};
+ghost use Rattle.ctf_model.specs.drafts.Drafts.{count_of, is_absent as is_absent_in, is_unknown as is_unknown_in, next_number as next_number_in};
 ghost use Rattle.ctf_model.specs.rules.Judgements.{first_met};
 ghost use Rattle.ctf_model.specs.drafts.NewTypes.{new_body, new_term};
+ghost use Rattle.ctf_model.specs.rules.Chains.{by_value, own_index as own_index_of};
 ghost use Rattle.ctf_model.specs.rules.References.{references};
 ghost use Rattle.ctf_model.specs.rules.Refusals.{out_of_memory};
 ghost use Rattle.ctf_model.specs.format.Shown.{list_length, shown};
@@ -14,6 +15,7 @@ ghost use Rattle.ctf_model.specs.format.Shown.{list_length, shown};
 use crate::draft::Draft;
 use crate::naming::has_zero;
 use crate::new_types::{NewBody, NewType, made};
+use crate::types::ReferenceKind;
 use ctf_model::{Bytes, Fault, Place, TypeNum, placeless};
 
 /// As many types as a dictionary may have.
@@ -98,6 +100,20 @@ impl Draft {
         TypeNum(self.types.len() as u16 + first)
     }
 
+    /// The type of a draft that a new type holds by value, if it does.
+    fn held_by(&self, new: &NewBody) -> Option<usize>
+        ensures held { AllByRecursion (λ n. own_index_of (is_some self.now.draft.parent)
+            (count_of self.now.draft) n ≡ result) (by_value (new_body (new_body_of new.now))) }
+        ensures inside { MatchOption result (Unit {0}) (λ j. j < count_of self.now.draft) }
+    {
+        match new {
+            NewBody::Reference(ReferenceKind::Pointer, _) => None,
+            NewBody::Reference(_, tnum) => self.own_index(*tnum),
+            NewBody::Array(info) => self.own_index(info.contents),
+            _ => None,
+        }
+    }
+
     /// Adds a type behind the others, and answers its number.
     #[tactic(auto, unfolding(ctf_model::specs::drafts::Adders::add_type))]
     pub fn add(&mut self, new: NewType) -> Result<TypeNum, Fault>
@@ -112,6 +128,9 @@ impl Draft {
             return Err(fault);
         }
         let number = self.next_number();
+        let held = self.held_by(&new.body);
+        self.depths
+            .make_next(self.alloc, self.updated, self.types.len(), held)?;
         let Ok(_) = self.types.push(made(self.alloc, new)) else {
             return Err(placeless(Fault::MEMORY));
         };

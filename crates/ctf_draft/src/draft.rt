@@ -9,6 +9,7 @@ ghost use Rattle.ctf_model.specs.drafts.Drafts.{above, all_of, discarded, held, 
 ghost use Rattle.ctf_model.specs.spaces.Kept.{modelled_by};
 ghost use Rattle.ctf_model.specs.rules.Refusals.{out_of_memory};
 
+use crate::depths::Depths;
 use crate::labels::Labels;
 use crate::marks::Marks;
 use crate::naming::has_zero;
@@ -37,6 +38,7 @@ pub struct Draft {
     pub(crate) labels: Labels,
     updated_labels: usize,
     pub(crate) marks: Marks,
+    pub(crate) depths: Depths,
 }
 
 impl Model for Draft {
@@ -48,6 +50,7 @@ impl Model for Draft {
     ghost use Rattle.std.specs.Option.{ForSome};
     ghost use Rattle.ctf_draft.specs.ParentView.{FitsParent, parent_in};
     ghost use Rattle.ctf_draft.specs.Reaching.{Knows};
+    ghost use Rattle.ctf_draft.specs.Bounding.{IsBounded};
 
     ghost Value = { Owned };
 
@@ -64,7 +67,9 @@ impl Model for Draft {
         × IsSound (made_of d.parname d.parlabel (parent_in d.parent) d.model d.updated
         d.updated_labels (map type_of d.types.items) d.labels)
         × Knows (made_of d.parname d.parlabel (parent_in d.parent) d.model d.updated
-        d.updated_labels (map type_of d.types.items) d.labels) d.marks };
+        d.updated_labels (map type_of d.types.items) d.labels) d.marks
+        × IsBounded (made_of d.parname d.parlabel (parent_in d.parent) d.model d.updated
+        d.updated_labels (map type_of d.types.items) d.labels) d.depths };
 }
 
 impl Draft {
@@ -112,6 +117,7 @@ impl Draft {
             labels: Labels::new(alloc),
             updated_labels: 0,
             marks: Marks::new(alloc),
+            depths: Depths::new(alloc),
         })
     }
 
@@ -130,6 +136,7 @@ impl Draft {
         self.marks.forget();
         self.types.truncate(self.updated);
         self.labels.truncate(self.updated_labels);
+        self.depths.truncate(self.updated);
     }
 
     /// Makes all that was added part of the dictionary, which is the given one from now on.

@@ -17,7 +17,7 @@ use ctf_space::Space;
 
 /// As many numbers as can follow on each other: the longest chain of steps, one type more, and
 /// what stands behind that.
-const MOST_NUMBERS: u16 = 514;
+pub(crate) const MOST_NUMBERS: u16 = 514;
 
 impl Draft {
     /// The place of an own type, from 0, if the number names one.

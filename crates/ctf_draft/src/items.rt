@@ -126,6 +126,8 @@ impl Draft {
         ensures as_before { OnErr result (self.new ≡ self.old) }
         ensures dictionary { self.new.dictionary ≡ self.old.dictionary }
     {
+        let held = self.own_index(member.tnum);
+        self.depths.make_ready(self.alloc, self.updated, i, held)?;
         self.marks.leave(i);
         push_member(self.alloc, &mut self.types[i], member, size)
     }

@@ -3,6 +3,7 @@
 
 mod adding;
 mod bodies;
+mod depths;
 mod draft;
 mod figures;
 mod items;

@@ -1,17 +1,19 @@
 //! Where a member is placed.
-ghost use Rattle.std.specs.Prelude.{◌≡◌, ◌+◌, ◌<◌, ◌^◌, ◌⊎◌, ℕ, IfOk, IfErr, MatchOption, option_map, true, false, unwrap_or, Ok, Err};
+ghost use Rattle.std.specs.Prelude.{◌≡◌, ◌+◌, ◌<◌, ◌^◌, ◌⊎◌, ℕ, IfOk, IfErr, MatchOption, Some, is_some, option_map, true, false, unwrap_or, Ok, Err};
 ghost use Rattle.ctf_draft.specs.Pending.{StandsPending};
 ghost use Rattle.ctf_draft.specs.Reaching.{Knows};
 ghost use Rattle.ctf_draft.specs.Planning.{planned, planned_shallow, planned_with, stands_behind};
 ghost use Rattle.ctf_draft.specs.TypeView.{body_of, member_of};
 ghost use Rattle.ctf_model.specs.drafts.Adders.{body_at, is_deep};
-ghost use Rattle.ctf_model.specs.drafts.Drafts.{space_of};
+ghost use Rattle.ctf_model.specs.drafts.Drafts.{count_of, space_of};
+ghost use Rattle.ctf_model.specs.rules.Chains.{own_index as own_index_of};
 ghost use Rattle.ctf_model.specs.figures.Figures.{align as align_in};
 ghost use Rattle.ctf_model.specs.drafts.Placement.{aligned_from as aligned_from_in, bytes_holding as bytes_holding_in, grown as grown_in, member_place as member_place_in, own_place as own_place_in};
 ghost use Rattle.ctf_model.specs.rules.Refusals.{out_of_memory};
 ghost use Rattle.ctf_model.specs.format.Shown.{size_of};
 
 use crate::draft::Draft;
+use crate::figures::MOST_NUMBERS;
 use crate::marks::Marks;
 use crate::plan::Plan;
 use crate::types::{AggregateKind, Body, Member};
@@ -79,6 +81,20 @@ impl Body {
 }
 
 impl Draft {
+    /// The alignment of an own type, if its bound tells that it is not too deep, and no union has
+    /// to be searched for it.
+    fn shallow_align(&self, tnum: TypeNum, i: usize) -> Option<Result<u64, Fault>>
+        requires own { own_index_of (is_some self.now.draft.parent) (count_of self.now.draft) tnum.0
+            ≡ Some i }
+        ensures { MatchOption result (Unit {0}) (λ align. (is_deep self.now.draft tnum.0 ≡ false)
+            × (align ≡ align_in (space_of self.now.draft) tnum.0)) }
+    {
+        if !self.depths.is_shallow(i) {
+            return None;
+        }
+        self.align_within(tnum, MOST_NUMBERS)
+    }
+
     /// The alignment of a type, if no more than 512 steps by value begin at it.
     fn alignment(
         &self,
@@ -95,6 +111,9 @@ impl Draft {
         let Some(i) = self.own_index(tnum) else {
             return Ok(Some(self.align_elsewhere(tnum)));
         };
+        if let Some(align) = self.shallow_align(tnum, i) {
+            return Ok(Some(align));
+        }
         let Ok(()) = marks.make_room(self.types.len()) else {
             return Err(AllocError);
         };

@@ -1,5 +1,5 @@
 //! Members and enumerators, behind the others of a type.
-ghost use Rattle.std.specs.Prelude.{◌≡◌, [], false, map, unwrap_or, IfErr, OnErr, OnOk};
+ghost use Rattle.std.specs.Prelude.{◌≡◌, ◌<◌, [], false, map, unwrap_or, vec_capacity, vec_len, IfErr, OnErr, OnOk};
 ghost use Rattle.ctf_draft.specs.TypeView.{body_of, enumerator_of, member_of, type_of};
 ghost use Rattle.ctf_model.specs.drafts.Adders.{is_taken, with_body, with_enumerator, with_member};
 ghost use Rattle.ctf_model.specs.rules.Refusals.{out_of_memory};
@@ -7,7 +7,20 @@ ghost use Rattle.ctf_model.specs.format.Shown.{enumerators_in, members_in, shown
 
 use crate::types::{Body, DraftType, Enumerator, Member};
 use ctf_model::Fault;
-use std::alloc::Global;
+use std::alloc::{AllocError, Global};
+
+/// Makes room for one more item. A list without room gets room for a sixteenth more, and not for
+/// twice as many: a draft has many lists, and most stop growing soon.
+fn make_room<T>(items: &mut Vec<T>) -> Result<(), AllocError>
+    ensures items { items.new.items ≡ items.old.items }
+    ensures len { vec_len items.new ≡ vec_len items.old }
+    ensures room { OnOk result (vec_len items.new < vec_capacity items.new) }
+{
+    if items.len() < items.capacity() {
+        return Ok(());
+    }
+    items.reserve_exact(items.len() / 16 + 1)
+}
 
 /// Adds a member behind the others of a struct or union, which then has a size. None has its name.
 pub(crate) fn push_member(
@@ -25,7 +38,7 @@ pub(crate) fn push_member(
 {
     match &mut to.body {
         Body::Aggregate(_, old, members) => {
-            members.reserve(1)?;
+            make_room(members)?;
             to.taken.add(alloc, member.name.as_slice())?;
             members.push_reserved(member);
             *old = size;
@@ -50,7 +63,7 @@ pub(crate) fn push_enumerator(
 {
     match &mut to.body {
         Body::Enum(_, enumerators) => {
-            enumerators.reserve(1)?;
+            make_room(enumerators)?;
             to.taken.add(alloc, enumerator.name.as_slice())?;
             enumerators.push_reserved(enumerator);
             Ok(())

@@ -8,7 +8,7 @@ ghost use Rattle.ctf_model.specs.figures.Figures.{aligning, comes_to, greater as
 use crate::draft::Draft;
 use crate::marks::Marks;
 use crate::reach::Reach;
-use crate::sizing::greater;
+use crate::sizing::{Sizing, greater};
 use ctf_model::{Fault, TypeNum, placeless};
 
 /// What is known, if the budget is enough for it.
@@ -50,6 +50,26 @@ impl Draft {
         match self.parent_of(n) {
             Some(parent) => parent.layout.align(n),
             None => Err(placeless(Fault::NO_TYPE)),
+        }
+    }
+
+    /// The alignment of a type, where so many numbers may follow on each other, unless it hangs on
+    /// a union.
+    pub(crate) fn align_within(&self, n: TypeNum, most: u16) -> Option<Result<u64, Fault>>
+        ensures { let s = space_of self.now.draft in MatchOption result (Unit {0})
+            (λ align. align ≡ comes_to (aligning s.model)
+            (parents_figure (aligning s.model) s.parent) s.own most n.0) }
+    {
+        if most == 0 {
+            return None;
+        }
+        let Some(i) = self.own_index(n) else {
+            return Some(self.align_elsewhere(n));
+        };
+        match self.own_body(i).aligning(self.model)? {
+            Sizing::Itself(align) => Some(align),
+            Sizing::One(t) => self.align_within(t, most - 1),
+            Sizing::Row(_, _) => None,
         }
     }
 

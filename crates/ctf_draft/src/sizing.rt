@@ -1,13 +1,13 @@
 //! What sizes and alignments hang on.
-ghost use Rattle.std.specs.Prelude.{◌≡◌, ◌<◌, ℕ, Result, length, option_map, slice_index};
+ghost use Rattle.std.specs.Prelude.{◌≡◌, ◌<◌, ℕ, MatchOption, Result, length, map, option_map, slice_index};
 ghost use Rattle.ctf_draft.specs.Sizing.{aligned_by, own_align, renamed, sized, width};
-ghost use Rattle.ctf_draft.specs.TypeView.{body_of};
+ghost use Rattle.ctf_draft.specs.TypeView.{body_of, member_of};
 ghost use Rattle.ctf_model.specs.rules.Chains.{by_value};
-ghost use Rattle.ctf_model.specs.figures.Figures.{greater as greater_of, size_body, times};
+ghost use Rattle.ctf_model.specs.figures.Figures.{align_body, first_of as first_in, greater as greater_of, size_body, times};
 ghost use Rattle.ctf_model.specs.spaces.Space.{pointer_size as pointer_size_of};
 ghost use Rattle.ctf_model.specs.declared.faults.Fault.{Fault};
 
-use crate::types::{AggregateKind, Body, ReferenceKind};
+use crate::types::{AggregateKind, Body, Member, ReferenceKind};
 use ctf_model::{DataModel, Fault, TypeNum, placeless};
 
 /// What the size of a type hangs on.
@@ -54,6 +54,17 @@ pub(crate) fn greater(a: Result<u64, Fault>, b: Result<u64, Fault>) -> Result<u6
     }
 }
 
+/// What the alignment of a struct hangs on: the type of its first member, if it has one.
+fn first_of(members: &Vec<Member>) -> Sizing
+    ensures { (f : ℕ → Result ℕ Fault) → first_in f (map member_of members.now.items)
+        ≡ sized f result }
+{
+    match members.as_slice() {
+        [] => Sizing::Itself(Ok(0)),
+        [first, ..] => Sizing::One(first.tnum),
+    }
+}
+
 impl Body {
     /// What its size hangs on.
     pub(crate) fn sizing(&self, model: DataModel) -> Sizing
@@ -71,6 +82,23 @@ impl Body {
             Body::Forward(_) | Body::Unknown => {
                 Sizing::Itself(Err(placeless(Fault::INCOMPLETE)))
             }
+        }
+    }
+
+    /// What its alignment hangs on, unless that is more than one type.
+    pub(crate) fn aligning(&self, model: DataModel) -> Option<Sizing>
+        ensures { MatchOption result (Unit {0}) (λ s. (f : ℕ → Result ℕ Fault)
+            → align_body model f (body_of self.now) ≡ sized f s) }
+    {
+        match self {
+            Body::Reference(ReferenceKind::Pointer, _) => {
+                Some(Sizing::Itself(Ok(pointer_size(model))))
+            }
+            Body::Reference(_, tnum) => Some(Sizing::One(*tnum)),
+            Body::Array(info) => Some(Sizing::One(info.contents)),
+            Body::Aggregate(AggregateKind::Struct, _, members) => Some(first_of(members)),
+            Body::Aggregate(AggregateKind::Union, _, _) => None,
+            _ => Some(Sizing::Itself(self.own_align(model))),
         }
     }
 

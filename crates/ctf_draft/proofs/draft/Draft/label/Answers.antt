@@ -1,7 +1,7 @@
 use Rattle.std.proofs.Common.{◌≡◌, ℕ, List, ◌++◌, ◌∷◌, [], Ok, length, map, sym, ap, subst, ◌∙◌, arith}
 use Rattle.std.specs.List.{list_any}
 use Rattle.std.specs.Str.{bytes_eq}
-use Rattle.std.proofs.lemmas.List.{length-append}
+use Rattle.std.proofs.lemmas.List.{length-append, length-map}
 use Rattle.ctf_model.specs.drafts.Adders.{add_label}
 use Rattle.ctf_model.specs.format.Dictionary.{Label}
 use Rattle.ctf_model.specs.drafts.DraftLaws.{IsSound}
@@ -10,6 +10,7 @@ use Rattle.ctf_draft.specs.ParentView.{parent_in}
 use Rattle.ctf_model.specs.drafts.Drafts.{Draft, has_zero, held}
 use Rattle.ctf_draft.specs.TypeView.{type_of}
 use Rattle.ctf_draft.proofs.Known.{terms_known}
+use Rattle.ctf_draft.proofs.Holding.{terms_bounded}
 use Rattle.ctf_draft.proofs.Views.{all_labels, label_free, labelled, one_label, seen, label_accepted}
 use Rattle.ctf_draft.proofs.draft.Draft.label.Goals as goal
 use Rattle.ctf_draft.proofs.draft.Draft.label.Goals.{In_ok-push}
@@ -41,4 +42,4 @@ invariant_of-self-2 c =
     let more = ap length all in
     let len = length-append d.labels (l ∷ []) in
     let sound = subst IsSound (ap (λ o. o.draft) c.self.view_is) c.self.invariant.4 in
-    (c.self.invariant.0, omega (arith, more, len, c.self.invariant.1), c.self.invariant.2, c.self.invariant.3, label_sound c.args.self.now.draft l _ sound (omega (arith, c.ranges.last.fits)) (accepted (goal.at.invariant_of-self-2 c).In_ok-push), terms_known d.parname d.parlabel (parent_in d.parent) d.model d.marks d.updated d.updated_labels d.updated d.updated_labels (map type_of d.types.items) d.labels c.push.new.self c.self.invariant.5)
+    (c.self.invariant.0, omega (arith, more, len, c.self.invariant.1), c.self.invariant.2, c.self.invariant.3, label_sound c.args.self.now.draft l _ sound (omega (arith, c.ranges.last.fits)) (accepted (goal.at.invariant_of-self-2 c).In_ok-push), terms_known d.parname d.parlabel (parent_in d.parent) d.model d.marks d.updated d.updated_labels d.updated d.updated_labels (map type_of d.types.items) d.labels c.push.new.self c.self.invariant.5, terms_bounded d.parname d.parlabel (parent_in d.parent) d.model d.depths d.updated d.updated_labels d.updated d.updated_labels (map type_of d.types.items) d.labels c.push.new.self (omega arith) (omega (arith, length-map d.types.items type_of, c.self.invariant.0, d.types.ok.0)) c.self.invariant.6)

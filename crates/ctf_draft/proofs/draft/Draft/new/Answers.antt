@@ -3,6 +3,7 @@ use Rattle.ctf_layout.proofs.Tables.{same_some}
 use Rattle.ctf_model.specs.spaces.Kept.{modelled_by}
 use Rattle.ctf_model.specs.drafts.Drafts.{has_zero}
 use Rattle.ctf_draft.proofs.Known.{none_known}
+use Rattle.ctf_draft.proofs.Holding.{none_bounded}
 use Rattle.ctf_draft.proofs.Sounding.{empty_sound, same_above}
 use Rattle.ctf_draft.proofs.draft.Draft.new.Goals as goal
 
@@ -18,4 +19,5 @@ invariant_of-result c =
       rw (c.new.ensures.items, c.new-2.ensures, c.in_ok-parent.ensures.same ∙ same_above (λ p. p.value.kept) c.args.parent)
           (empty_sound parent c.args.parname c.args.parlabel c.args.model (same_some (λ p. modelled_by p.value.kept) c.args.parent ∙ c.requires.named) clean clean_label (sym c.is_childs.ensures ∙ c.if-is_childs.false) (sym c.is_of_other.ensures ∙ c.if-is_of_other.false)),
       none_known _ c.new-3.result (λ j. ap (λ known. slice_index_or known j None) c.new-3.ensures),
+      none_bounded c.args.parname c.args.parlabel _ c.args.model c.new-4.result 0 0 c.new.result.items c.new-2.result c.new.ensures.items,
     )

@@ -13,6 +13,7 @@ use Rattle.ctf_draft.proofs.Pending.{body_here, left_here, put_here}
 use Rattle.ctf_draft.specs.Reaching.{Knows}
 use Rattle.ctf_draft.proofs.Known.{left_known, other_known}
 use Rattle.ctf_draft.proofs.Sounding.{either_sound}
+use Rattle.ctf_draft.proofs.Holding.{place_inside, enumerated_bounded}
 use Rattle.ctf_draft.proofs.Views.{seen}
 use Rattle.ctf_draft.proofs.draft.Draft.put_enumerator.Goals as goal
 
@@ -45,8 +46,15 @@ invariant_of-self c =
     let new = c.push_enumerator.new.to in
     let all = map-set type_of d.types.items c.args.i new in
     let left_marks = left_known before d.marks c.leave.new.self c.leave.ensures.left c.self.invariant.5 in
-    let knows = subst (λ (ts : List Term). Knows (seen d.parname d.parlabel parent d.model d.updated d.updated_labels ts d.labels) c.leave.new.self) (sym all) (other_known d.parname d.parlabel parent d.model c.leave.new.self d.updated d.updated_labels (map type_of d.types.items) d.labels c.args.i (type_of new) c.leave.ensures.unknown left_marks) in
-    (c.self.invariant.0, c.self.invariant.1, c.self.invariant.2, c.self.invariant.3, either_sound c.push_enumerator.result before (replaced e n (change (body_at e n))) after changed left c.self.invariant.4 sound, knows)
+    let knows = subst (λ (ts : List Term). Knows (seen d.parname d.parlabel parent d.model d.updated d.updated_labels ts d.labels) c.leave.new.self) (sym all) (other_known d.parname d.parlabel parent d.model c.leave.new.self d.updated d.updated_labels (map type_of d.types.items) d.labels c.args.i (type_of new) c.leave.ensures.unknown left_marks) in (
+      c.self.invariant.0,
+      c.self.invariant.1,
+      c.self.invariant.2,
+      c.self.invariant.3,
+      either_sound c.push_enumerator.result before (replaced e n (change (body_at e n))) after changed left c.self.invariant.4 sound,
+      knows,
+      enumerated_bounded d.parname d.parlabel parent d.model d.depths d.updated d.updated_labels d.types.items d.labels c.args.i c.index_mut.result.now new (place_inside d.parname d.parlabel parent d.model d.updated d.updated_labels d.types.items d.labels n c.args.i e view c.requires.pending) c.index_mut.ensures.value c.self.invariant.6 c.push_enumerator.result (enumerator_of c.args.enumerator) c.push_enumerator.ensures.ok c.push_enumerator.ensures.as_before,
+    )
 
 pub push_enumerator-requires : goal.push_enumerator-requires
 push_enumerator-requires c =

@@ -1,18 +1,20 @@
-use Rattle.std.proofs.Common.{◌≤◌, List, [], length, map, unwrap_or, option_map, set, sym, ap, subst, ◌∙◌, arith}
-use Rattle.std.proofs.lemmas.List.{map-set}
+use Rattle.std.proofs.Common.{◌≤◌, is_some, List, [], length, map, unwrap_or, option_map, set, sym, ap, subst, ◌∙◌, arith}
+use Rattle.std.proofs.lemmas.List.{length-map, length-take, map-set}
 use Rattle.ctf_model.specs.format.Shown.{members_in, shown}
 use Rattle.ctf_model.specs.format.Term.{Body, Term}
 use Rattle.std.proofs.lemmas.Result.{on_ok_weaker, on_err_weaker}
 use Rattle.ctf_model.specs.drafts.Adders.{body_at, is_taken, replaced, with_member}
 use Rattle.ctf_draft.specs.ParentView.{parent_in}
 use Rattle.ctf_model.specs.drafts.DraftLaws.{IsSound}
-use Rattle.ctf_model.specs.drafts.Drafts.{Draft}
+use Rattle.ctf_model.specs.drafts.Drafts.{Draft, count_of}
+use Rattle.ctf_model.specs.rules.Chains.{own_index}
 use Rattle.ctf_draft.specs.DraftView.{Owned}
 use Rattle.ctf_draft.specs.TypeView.{member_of, type_of}
 use Rattle.ctf_draft.proofs.Pending.{body_here, left_here, put_here}
 use Rattle.ctf_draft.specs.Reaching.{Knows}
 use Rattle.ctf_draft.proofs.Known.{left_known, other_known}
 use Rattle.ctf_draft.proofs.Sounding.{either_sound}
+use Rattle.ctf_draft.proofs.Holding.{place_inside, pushed_bounded}
 use Rattle.ctf_draft.proofs.Views.{seen}
 use Rattle.ctf_draft.proofs.draft.Draft.put_member.Goals as goal
 
@@ -31,6 +33,14 @@ returns-clause-as_before c =
 pub invariant_of-self : goal.invariant_of-self
 invariant_of-self c =
     let d = c.self.inside in
+    let few : d.updated ≤ length d.types.items = omega (arith, c.self.invariant.0, d.types.ok.0) in
+    let before = seen d.parname d.parlabel (parent_in d.parent) d.model d.updated d.updated_labels (map type_of d.types.items) d.labels in
+    let bounded = c.make_ready.ensures.still before (omega (arith, length-take d.updated (map type_of d.types.items), length-map d.types.items type_of, few)) c.self.invariant.6 in
+    (c.self.invariant.0, c.self.invariant.1, c.self.invariant.2, c.self.invariant.3, c.self.invariant.4, c.self.invariant.5, bounded)
+
+pub invariant_of-self-2 : goal.invariant_of-self-2
+invariant_of-self-2 c =
+    let d = c.self.inside in
     let parent = parent_in d.parent in
     let n = c.args.n.0 in
     let e = c.args.self.now.draft in
@@ -46,7 +56,16 @@ invariant_of-self c =
     let all = map-set type_of d.types.items c.args.i new in
     let left_marks = left_known before d.marks c.leave.new.self c.leave.ensures.left c.self.invariant.5 in
     let knows = subst (λ (ts : List Term). Knows (seen d.parname d.parlabel parent d.model d.updated d.updated_labels ts d.labels) c.leave.new.self) (sym all) (other_known d.parname d.parlabel parent d.model c.leave.new.self d.updated d.updated_labels (map type_of d.types.items) d.labels c.args.i (type_of new) c.leave.ensures.unknown left_marks) in
-    (c.self.invariant.0, c.self.invariant.1, c.self.invariant.2, c.self.invariant.3, either_sound c.push_member.result before (replaced e n (change (body_at e n))) after changed left c.self.invariant.4 sound, knows)
+    let bounded = c.make_ready.ensures.still before (omega (arith, length-take d.updated (map type_of d.types.items), length-map d.types.items type_of, few)) c.self.invariant.6 in
+    let own = c.own_index-held.ensures ∙ ap (λ (x : Draft). own_index (is_some x.parent) (count_of x) c.args.member.tnum.0) (sym view) in (
+      c.self.invariant.0,
+      c.self.invariant.1,
+      c.self.invariant.2,
+      c.self.invariant.3,
+      either_sound c.push_member.result before (replaced e n (change (body_at e n))) after changed left c.self.invariant.4 sound,
+      knows,
+      pushed_bounded d.parname d.parlabel parent d.model c.make_ready.new.self d.updated d.updated_labels d.types.items d.labels c.args.i c.index_mut.result.now new (place_inside d.parname d.parlabel parent d.model d.updated d.updated_labels d.types.items d.labels n c.args.i e view c.requires.pending) c.index_mut.ensures.value bounded c.push_member.result (member_of c.args.member) c.args.size c.own_index-held.result few own c.in_ok-make_ready.ensures.ready c.push_member.ensures.ok c.push_member.ensures.as_before,
+    )
 
 pub push_member-requires : goal.push_member-requires
 push_member-requires c =

@@ -8,6 +8,7 @@ use Rattle.ctf_draft.specs.ParentView.{parent_in}
 use Rattle.ctf_draft.specs.TypeView.{type_of}
 use Rattle.ctf_draft.proofs.Known.{terms_known}
 use Rattle.ctf_draft.proofs.Views.{seen, settled_is}
+use Rattle.ctf_draft.proofs.Holding.{terms_bounded}
 use Rattle.ctf_draft.proofs.draft.Draft.settle.Goals as goal
 
 pub invariant_of-self : goal.invariant_of-self
@@ -21,4 +22,4 @@ invariant_of-self c =
     ap (λ (n : ℕ). made_of d.parname d.parlabel parent d.model n c.len-self-inside-2.result terms d.labels) types
     ∙ ap (λ (n : ℕ). made_of d.parname d.parlabel parent d.model (length terms) n terms d.labels) labels
     ∙ settled_is d.parname d.parlabel parent d.model d.updated d.updated_labels terms d.labels in
-    (omega (arith, c.len-self-inside.ensures), omega (arith, labels), c.self.invariant.2, c.self.invariant.3, subst IsSound (sym whole) (life_sound (seen d.parname d.parlabel parent d.model d.updated d.updated_labels terms d.labels) c.self.invariant.4).1, terms_known d.parname d.parlabel parent d.model d.marks d.updated d.updated_labels c.len-self-inside.result c.len-self-inside-2.result terms d.labels d.labels c.self.invariant.5)
+    (omega (arith, c.len-self-inside.ensures), omega (arith, labels), c.self.invariant.2, c.self.invariant.3, subst IsSound (sym whole) (life_sound (seen d.parname d.parlabel parent d.model d.updated d.updated_labels terms d.labels) c.self.invariant.4).1, terms_known d.parname d.parlabel parent d.model d.marks d.updated d.updated_labels c.len-self-inside.result c.len-self-inside-2.result terms d.labels d.labels c.self.invariant.5, terms_bounded d.parname d.parlabel parent d.model d.depths d.updated d.updated_labels c.len-self-inside.result c.len-self-inside-2.result terms d.labels d.labels (omega (arith, c.len-self-inside.ensures, c.self.invariant.0)) (omega (arith, types)) c.self.invariant.6)
