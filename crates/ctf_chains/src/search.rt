@@ -33,6 +33,8 @@ fn longer(a: u16, b: u16) -> u16
 ///
 /// `known` has for each record 0, or `BUSY` while its visit is under way, or one more than its
 /// depth. A busy record that is met again is on a cycle.
+#[cycle(deep)]
+#[inline(always)]
 fn depth<L: Ledger, G: Graph<L>>(
     graph: &G,
     known: &mut [u16],
@@ -54,10 +56,36 @@ fn depth<L: Ledger, G: Graph<L>>(
         ≡ work.old + work_left (G.places graph.now) known.old }
 {
     match entry_of(known[i]) {
-        Entry::Busy => return None,
-        Entry::Depth(depth) => return within(depth, budget),
-        Entry::Unvisited => {}
+        Entry::Busy => None,
+        Entry::Depth(depth) => within(depth, budget),
+        Entry::Unvisited => visit(graph, known, work, i, budget),
     }
+}
+
+/// The same for a record that was not visited.
+#[cycle(deep)]
+#[inline(never)]
+fn visit<L: Ledger, G: Graph<L>>(
+    graph: &G,
+    known: &mut [u16],
+    work: &mut Ticks<L>,
+    i: usize,
+    budget: u16,
+) -> Option<u16>
+    requires same { length known.old ≡ length (G.places graph.now) }
+    requires record { i < length (G.places graph.now) }
+    requires budget { budget ≤ longest_chain }
+    requires knows { Knows (steps_between (G.places graph.now)) known.old }
+    requires on_way { OnWay (steps_between (G.places graph.now)) known.old i }
+    requires unvisited { slice_index_or known.old i 0 ≡ 0 }
+    ensures knows { Knows (steps_between (G.places graph.now)) known.new }
+    ensures answer { Answers (steps_between (G.places graph.now)) budget i known.old known.new
+        result }
+    ensures work { work.new + work_left (G.places graph.now) known.new
+        ≤ work.old + work_left (G.places graph.now) known.old }
+    ensures once { IsSome result → work.new + work_left (G.places graph.now) known.new
+        ≡ work.old + work_left (G.places graph.now) known.old }
+{
     known[i] = BUSY;
     let opened = graph.open(i, work);
     let mut longest = 0;

@@ -91,6 +91,8 @@ fn by_one(row: Option<Row>, one: Extent, number: TypeNum) -> Extent
 
 /// The extent of an own type, and those of the types that it hangs on, each of which is begun at
 /// most once. No chain of steps by value from it is longer than the budget.
+#[cycle(extents)]
+#[inline(always)]
 fn extent<L: Ledger, T: Types<L>>(
     types: &T,
     table: &mut [Entry],
@@ -106,9 +108,31 @@ fn extent<L: Ledger, T: Types<L>>(
     ensures { IsVisited (T.space types.now) i (table_kept table.old) (table_kept table.new)
         work.old work.new result }
 {
-    if let Some(extent) = found(table, i) {
-        return extent;
+    match found(table, i) {
+        Some(extent) => extent,
+        None => visit(types, table, work, i, budget),
     }
+}
+
+/// The same for a type that the table does not have.
+#[cycle(extents)]
+#[inline(never)]
+fn visit<L: Ledger, T: Types<L>>(
+    types: &T,
+    table: &mut [Entry],
+    work: &mut Ticks<L>,
+    i: usize,
+    budget: u16,
+) -> Extent
+    requires same { length table.old ≡ length (T.space types.now).own.terms }
+    requires own { i < length (T.space types.now).own.terms }
+    requires short { budget ≤ longest_chain }
+    requires within { IsWithin (value_edges (T.space types.now).own) budget i }
+    requires knows { Knows (T.space types.now) (table_kept table.old) }
+    requires open { entry (table_kept table.old) i ≡ None }
+    ensures { IsVisited (T.space types.now) i (table_kept table.old) (table_kept table.new)
+        work.old work.new result }
+{
     match types.basis(i, work) {
         Basis::Itself(size, align) => { keep(table, i, of_itself(size, align, types.number(i))) }
         Basis::One(number, row) => {

@@ -16,21 +16,21 @@ use Rattle.ctf_model.specs.figures.Figures.{align}
 use Rattle.ctf_layout.proofs.HangsOn.{IsByOne, IsOwnAt, basis_read, itself_extent, one_extent, members_extent, greatest_step}
 use Rattle.ctf_layout.proofs.Leading.{leads_within, one_found, step_found}
 use Rattle.ctf_layout.proofs.Visits.{none_from, visited_before, begun, more_steps, visited_one, visited, at_number}
-use Rattle.ctf_layout.proofs.filling.+extent.Goals as goal
-use Rattle.ctf_layout.proofs.filling.+extent.Goals.{in-Some-own_index, in-None, in-Some-own_index-2, in-None-own_index}
+use Rattle.ctf_layout.proofs.filling.+extents.Goals as goal
+use Rattle.ctf_layout.proofs.filling.+extents.Goals.{visit-in-Some, visit-in-None, visit-in-Some-own_index, visit-in-None-own_index}
 
-pub returns-in-Some : goal.returns-in-Some
-returns-in-Some g t c = visited_before (g.T.Types.space c.args.types.now) c.args.i (table_kept c.args.table.now) c.args.work.now c.in-Some.extent c.requires.knows (c.found.ensures ∙ c.in-Some.is)
+pub extent-returns-in-Some : goal.extent-returns-in-Some
+extent-returns-in-Some g t c = visited_before (g.T.Types.space c.args.types.now) c.args.i (table_kept c.args.table.now) c.args.work.now c.in-Some.extent c.requires.knows (c.found.ensures ∙ c.in-Some.is)
 
 -- ---- nothing else
 
-pub returns-in-Itself : goal.returns-in-Itself
-returns-in-Itself g t c =
+pub visit-returns-in-Itself : goal.visit-returns-in-Itself
+visit-returns-in-Itself g t c =
     let s = g.T.Types.space c.args.types.now in
     let at : IsOwnAt s c.args.budget c.args.i = record { short = c.requires.short; inside = c.requires.own; within = c.requires.within } in
     let b = basis_read s c.args.i c.basis.result (Itself c.in-Itself.size c.in-Itself.align) c.basis.ensures.basis c.in-Itself.is in
     let e : Extent = record { size = c.in-Itself.size; align = c.in-Itself.align; target = stands_for.Known c.number.result } in
-    let none : slice_index_or (table_kept c.args.table.now) c.args.i None ≡ None = c.found.ensures ∙ none_from c.found.result c.in_default.not-Some in
+    let none : slice_index_or (table_kept c.args.table.now) c.args.i None ≡ None = c.requires.open in
     let cost : c.args.work.now + 1 ≡ c.args.work.now + (1 + members_read (own_body s.own c.args.i)) = rw b.0 refl in
     rw (c.keep.ensures.same, c.keep.ensures.kept, c.of_itself.ensures)
     (visited s c.args.budget c.args.i (table_kept c.args.table.now) (table_kept c.args.table.now) c.args.work.now (c.args.work.now + 1) c.basis.new.work e
@@ -39,37 +39,37 @@ returns-in-Itself g t c =
 
 -- ---- one type
 
-pub overflow_sub-budget : goal.overflow_sub-budget
-overflow_sub-budget g t c =
+pub visit-overflow_sub-budget : goal.visit-overflow_sub-budget
+visit-overflow_sub-budget g t c =
     let s = g.T.Types.space c.args.types.now in
     let b = basis_read s c.args.i c.basis.result (One c.in-One.number c.in-One.row) c.basis.ensures.basis c.in-One.is in
-    let found = one_found s.own c.args.i c.in-One.number.0 c.in-Some-own_index.j b.1 (sym c.in-Some-own_index.is ∙ c.own_index.ensures) in
-    (leads_within (value_edges s.own) c.args.i c.in-Some-own_index.j c.args.budget found.0 c.requires.within).0
+    let found = one_found s.own c.args.i c.in-One.number.0 c.in-Some.j b.1 (sym c.in-Some.is ∙ c.own_index.ensures) in
+    (leads_within (value_edges s.own) c.args.i c.in-Some.j c.args.budget found.0 c.requires.within).0
 
-pub extent-one-requires : goal.extent-one-requires
-extent-one-requires g t c κs within =
+pub visit-extent-one-requires : goal.visit-extent-one-requires
+visit-extent-one-requires g t c κs within =
     let s = g.T.Types.space c.args.types.now in
     let b = basis_read s c.args.i c.basis.result (One c.in-One.number c.in-One.row) c.basis.ensures.basis c.in-One.is in
-    let found = one_found s.own c.args.i c.in-One.number.0 c.in-Some-own_index.j b.1 (sym c.in-Some-own_index.is ∙ c.own_index.ensures) in
-    let shorter = leads_within (value_edges s.own) c.args.i c.in-Some-own_index.j c.args.budget found.0 c.requires.within in
+    let found = one_found s.own c.args.i c.in-One.number.0 c.in-Some.j b.1 (sym c.in-Some.is ∙ c.own_index.ensures) in
+    let shorter = leads_within (value_edges s.own) c.args.i c.in-Some.j c.args.budget found.0 c.requires.within in
     let some : 1 ≤ c.args.budget = shorter.0 in
     (omega arith, (within.0, (within.1, (c.requires.same, (found.1, (omega arith, (shorter.1, c.requires.knows)))))))
 
-pub returns-after-own_index : goal.returns-after-own_index
-returns-after-own_index g t c =
+pub visit-returns-after-own_index : goal.visit-returns-after-own_index
+visit-returns-after-own_index g t c =
     let s = g.T.Types.space c.args.types.now in
     let at : IsOwnAt s c.args.budget c.args.i = record { short = c.requires.short; inside = c.requires.own; within = c.requires.within } in
     let b = basis_read s c.args.i c.basis.result (One c.in-One.number c.in-One.row) c.basis.ensures.basis c.in-One.is in
-    let none : slice_index_or (table_kept c.args.table.now) c.args.i None ≡ None = c.found.ensures ∙ none_from c.found.result c.in_default.not-Some in
+    let none : slice_index_or (table_kept c.args.table.now) c.args.i None ≡ None = c.requires.open in
     let cost : c.args.work.now + 1 ≡ c.args.work.now + (1 + members_read (own_body s.own c.args.i)) = rw b.0 refl in
     let start : IsUnderway s c.args.i (table_kept c.args.table.now) (table_kept c.args.table.now) (c.args.work.now + 1) c.basis.new.work = begun s c.args.i (table_kept c.args.table.now) (c.args.work.now + 1) c.basis.new.work c.requires.knows c.basis.ensures.tick in
     let both : IsExtent s c.in-One.number.0 c.match-own_index.one × IsUnderway s c.args.i (table_kept c.args.table.now) (table_kept c.match-own_index.table) (c.args.work.now + 1) c.match-own_index.work = elim c.match-own_index.branch [
-      | in-Some-own_index w ↦
-          let found = one_found s.own c.args.i c.in-One.number.0 w.in-Some-own_index.j b.1 (sym w.in-Some-own_index.is ∙ c.own_index.ensures) in (
-            rw w.one-is (at_number s c.in-One.number.0 w.in-Some-own_index.j w.extent-one.result found.2 w.extent-one.ensures.right),
-            rw (w.table-is, w.work-is) (visited_one s c.args.i w.in-Some-own_index.j (table_kept c.args.table.now) (table_kept c.args.table.now) (table_kept w.extent-one.new.table) (c.args.work.now + 1) c.basis.new.work w.extent-one.new.work w.extent-one.result start found.0 w.extent-one.ensures),
+      | visit-in-Some w ↦
+          let found = one_found s.own c.args.i c.in-One.number.0 w.in-Some.j b.1 (sym w.in-Some.is ∙ c.own_index.ensures) in (
+            rw w.one-is (at_number s c.in-One.number.0 w.in-Some.j w.extent-one.result found.2 w.extent-one.ensures.right),
+            rw (w.table-is, w.work-is) (visited_one s c.args.i w.in-Some.j (table_kept c.args.table.now) (table_kept c.args.table.now) (table_kept w.extent-one.new.table) (c.args.work.now + 1) c.basis.new.work w.extent-one.new.work w.extent-one.result start found.0 w.extent-one.ensures),
           )
-      | in-None w ↦ (rw w.one-is w.elsewhere-one.ensures, rw (w.table-is, w.work-is) start)
+      | visit-in-None w ↦ (rw w.one-is w.elsewhere-one.ensures, rw (w.table-is, w.work-is) start)
     ] in
     let by : IsByOne (own_number s.own.child c.args.i) c.in-One.row c.match-own_index.one c.by_one.result = record { size = c.by_one.ensures.size; align = c.by_one.ensures.align; target = c.by_one.ensures.target ∙ ap (row_target c.in-One.row (target c.match-own_index.one.target)) c.number-in-One.ensures } in
     rw (c.keep-in-One.ensures.same, c.keep-in-One.ensures.kept)
@@ -78,41 +78,41 @@ returns-after-own_index g t c =
 
 -- ---- members
 
-pub overflow_sub-budget-in-Some-own_index-2 : goal.overflow_sub-budget-in-Some-own_index-2
-overflow_sub-budget-in-Some-own_index-2 g t c =
+pub visit-overflow_sub-budget-in-Some-own_index : goal.visit-overflow_sub-budget-in-Some-own_index
+visit-overflow_sub-budget-in-Some-own_index g t c =
     let s = g.T.Types.space c.args.types.now in
     let b = basis_read s c.args.i c.basis.result (Members c.in-Members.size c.in-Members.read) c.basis.ensures.basis c.in-Members.is in
     let inside = b.1 in
-    let found = step_found s.own c.args.i c.loop-k.k c.member_type-number.result.0 c.in-Some-own_index-2.j (omega arith) c.member_type-number.ensures.named (sym c.in-Some-own_index-2.is ∙ c.own_index-in-loop-k.ensures) in
-    (leads_within (value_edges s.own) c.args.i c.in-Some-own_index-2.j c.args.budget found.0 c.requires.within).0
+    let found = step_found s.own c.args.i c.loop-k.k c.member_type-number.result.0 c.in-Some-own_index.j (omega arith) c.member_type-number.ensures.named (sym c.in-Some-own_index.is ∙ c.own_index-in-loop-k.ensures) in
+    (leads_within (value_edges s.own) c.args.i c.in-Some-own_index.j c.args.budget found.0 c.requires.within).0
 
-pub member_type-number-requires-clause-member : goal.member_type-number-requires-clause-member
-member_type-number-requires-clause-member g t c =
+pub visit-member_type-number-requires-clause-member : goal.visit-member_type-number-requires-clause-member
+visit-member_type-number-requires-clause-member g t c =
     let s = g.T.Types.space c.args.types.now in
     let b = basis_read s c.args.i c.basis.result (Members c.in-Members.size c.in-Members.read) c.basis.ensures.basis c.in-Members.is in
     let read_is = b.0 in
     omega arith
 
-pub extent-member-requires : goal.extent-member-requires
-extent-member-requires g t c κs within =
+pub visit-extent-member-requires : goal.visit-extent-member-requires
+visit-extent-member-requires g t c κs within =
     let s = g.T.Types.space c.args.types.now in
     let b = basis_read s c.args.i c.basis.result (Members c.in-Members.size c.in-Members.read) c.basis.ensures.basis c.in-Members.is in
     let inside = b.1 in
-    let found = step_found s.own c.args.i c.loop-k.k c.member_type-number.result.0 c.in-Some-own_index-2.j (omega arith) c.member_type-number.ensures.named (sym c.in-Some-own_index-2.is ∙ c.own_index-in-loop-k.ensures) in
-    let shorter = leads_within (value_edges s.own) c.args.i c.in-Some-own_index-2.j c.args.budget found.0 c.requires.within in
+    let found = step_found s.own c.args.i c.loop-k.k c.member_type-number.result.0 c.in-Some-own_index.j (omega arith) c.member_type-number.ensures.named (sym c.in-Some-own_index.is ∙ c.own_index-in-loop-k.ensures) in
+    let shorter = leads_within (value_edges s.own) c.args.i c.in-Some-own_index.j c.args.budget found.0 c.requires.within in
     let some : 1 ≤ c.args.budget = shorter.0 in
     (omega arith, (within.0, (within.1, (omega arith, (found.1, (omega arith, (shorter.1, c.loop-k.invariant.underway.knows)))))))
 
-pub loop-k-init : goal.loop-k-init
-loop-k-init g t c =
+pub visit-loop-k-init : goal.visit-loop-k-init
+visit-loop-k-init g t c =
     let s = g.T.Types.space c.args.types.now in
     record {
       greatest = refl;
       underway = begun s c.args.i (table_kept c.args.table.now) (c.args.work.now + 1 + 0) c.basis.new.work c.requires.knows (omega (arith, c.basis.ensures.tick));
     }
 
-pub loop-k-preserved : goal.loop-k-preserved
-loop-k-preserved g t c =
+pub visit-loop-k-preserved : goal.visit-loop-k-preserved
+visit-loop-k-preserved g t c =
     let s = g.T.Types.space c.args.types.now in
     let number = c.member_type-number.result.0 in
     let from = c.args.work.now + 1 + c.loop-k.k in
@@ -121,12 +121,12 @@ loop-k-preserved g t c =
     let start : IsUnderway s c.args.i (table_kept c.args.table.now) (table_kept c.loop-k.table) (from + 1) c.member_type-number.new.work =
     more_steps s c.args.i (table_kept c.args.table.now) (table_kept c.loop-k.table) from c.loop-k.work c.member_type-number.new.work c.loop-k.invariant.underway c.member_type-number.ensures.tick in
     let both : IsExtent s number c.match-own_index-2.member × IsUnderway s c.args.i (table_kept c.args.table.now) (table_kept c.match-own_index-2.table) (from + 1) c.match-own_index-2.work = elim c.match-own_index-2.branch [
-      | in-Some-own_index-2 w ↦
-          let found = step_found s.own c.args.i c.loop-k.k number w.in-Some-own_index-2.j (omega arith) c.member_type-number.ensures.named (sym w.in-Some-own_index-2.is ∙ c.own_index-in-loop-k.ensures) in (
-            rw w.member-is (at_number s number w.in-Some-own_index-2.j w.extent-member.result found.2 w.extent-member.ensures.right),
-            rw (w.table-is, w.work-is) (visited_one s c.args.i w.in-Some-own_index-2.j (table_kept c.args.table.now) (table_kept c.loop-k.table) (table_kept w.extent-member.new.table) (from + 1) c.member_type-number.new.work w.extent-member.new.work w.extent-member.result start found.0 w.extent-member.ensures),
+      | visit-in-Some-own_index w ↦
+          let found = step_found s.own c.args.i c.loop-k.k number w.in-Some-own_index.j (omega arith) c.member_type-number.ensures.named (sym w.in-Some-own_index.is ∙ c.own_index-in-loop-k.ensures) in (
+            rw w.member-is (at_number s number w.in-Some-own_index.j w.extent-member.result found.2 w.extent-member.ensures.right),
+            rw (w.table-is, w.work-is) (visited_one s c.args.i w.in-Some-own_index.j (table_kept c.args.table.now) (table_kept c.loop-k.table) (table_kept w.extent-member.new.table) (from + 1) c.member_type-number.new.work w.extent-member.new.work w.extent-member.result start found.0 w.extent-member.ensures),
           )
-      | in-None-own_index w ↦ (rw w.member-is w.elsewhere-member.ensures, rw (w.table-is, w.work-is) start)
+      | visit-in-None-own_index w ↦ (rw w.member-is w.elsewhere-member.ensures, rw (w.table-is, w.work-is) start)
     ] in
     let same : from + 1 ≡ c.args.work.now + 1 + (c.loop-k.k + 1) = omega arith in
     let aligned : amount c.match-own_index-2.member.align ≡ align s (slice_index (by_value (own_body s.own c.args.i)) c.loop-k.k) = both.0.aligned ∙ ap (align s) c.member_type-number.ensures.named in
@@ -135,12 +135,12 @@ loop-k-preserved g t c =
       underway = rw (sym same) both.1;
     }
 
-pub returns-after-loop-k : goal.returns-after-loop-k
-returns-after-loop-k g t c =
+pub visit-returns-after-loop-k : goal.visit-returns-after-loop-k
+visit-returns-after-loop-k g t c =
     let s = g.T.Types.space c.args.types.now in
     let at : IsOwnAt s c.args.budget c.args.i = record { short = c.requires.short; inside = c.requires.own; within = c.requires.within } in
     let b = basis_read s c.args.i c.basis.result (Members c.in-Members.size c.in-Members.read) c.basis.ensures.basis c.in-Members.is in
-    let none : slice_index_or (table_kept c.args.table.now) c.args.i None ≡ None = c.found.ensures ∙ none_from c.found.result c.in_default.not-Some in
+    let none : slice_index_or (table_kept c.args.table.now) c.args.i None ≡ None = c.requires.open in
     let end : c.loop-k.k ≡ c.in-Members.read = omega arith in
     let cost : c.args.work.now + 1 + c.loop-k.k ≡ c.args.work.now + (1 + members_read (own_body s.own c.args.i)) = rw (b.0, end) (omega arith) in
     let e : Extent = record { size = Known c.in-Members.size; align = c.loop-k.align; target = stands_for.Known c.number-in-Members.result } in

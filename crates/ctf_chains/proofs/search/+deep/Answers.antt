@@ -6,15 +6,15 @@ use Rattle.ctf_chains.specs.Search.{IsDepth, busy, work_left}
 use Rattle.ctf_chains.proofs.Depths.{none_yet, one_more, led_more, led_same, is_depth, deep_target}
 use Rattle.ctf_chains.proofs.Visits.{knows_more, busy_is, cycle_is_deep, on_way_more, none_more, begun, ended}
 use Rattle.ctf_chains.proofs.WorkLeft.{work_opened, work_closed}
-use Rattle.ctf_chains.proofs.search.+depth.Goals as goal
-use Rattle.ctf_chains.proofs.search.+depth.Goals.{in-Some+else-budget-eq0+in-Some-depth, in_default}
+use Rattle.ctf_chains.proofs.search.+deep.Goals as goal
+use Rattle.ctf_chains.proofs.search.+deep.Goals.{visit-in-Some+else-budget-eq0+in-Some-depth, visit-in_default}
 
-pub returns-in-Busy-clause-answer : goal.returns-in-Busy-clause-answer
-returns-in-Busy-clause-answer g t c =
+pub depth-returns-in-Busy-clause-answer : goal.depth-returns-in-Busy-clause-answer
+depth-returns-in-Busy-clause-answer g t c =
     cycle_is_deep (steps_between (g.G.Graph.places c.args.graph.now)) c.args.known.now c.args.i c.args.budget c.requires.on_way (busy_is (slice_index_or c.args.known.now c.args.i 0) (search rules))
 
-pub loop-k-init : goal.loop-k-init
-loop-k-init g t c =
+pub visit-loop-k-init : goal.visit-loop-k-init
+visit-loop-k-init g t c =
     let opened : work_left (g.G.Graph.places c.args.graph.now) (slice_set c.args.known.now c.args.i busy) + (1 + length (places_at (g.G.Graph.places c.args.graph.now) c.args.i)) ≡ work_left (g.G.Graph.places c.args.graph.now) c.args.known.now =
     work_opened (g.G.Graph.places c.args.graph.now) c.args.known.now c.args.i (omega arith) (omega arith) (search rules) in
     record {
@@ -28,26 +28,26 @@ loop-k-init g t c =
       work = omega arith;
     }
 
-pub returns-then-budget-eq0-clause-answer : goal.returns-then-budget-eq0-clause-answer
-returns-then-budget-eq0-clause-answer g t c =
+pub visit-returns-then-budget-eq0-clause-answer : goal.visit-returns-then-budget-eq0-clause-answer
+visit-returns-then-budget-eq0-clause-answer g t c =
     deep_target (g.G.Graph.places c.args.graph.now) c.args.budget c.args.i c.loop-k.k c.in-Some.j
     (omega arith) (search rules) (λ le w. omega arith)
 
-pub depth-requires : goal.depth-requires
-depth-requires g t c κs within =
+pub visit-depth-requires : goal.visit-depth-requires
+visit-depth-requires g t c κs within =
     (omega arith, (within.0, (within.1.0, (within.1.1, (omega (arith, length-set {A = ℕ}), (c.in-Some.ensures.inside, (omega arith, (c.loop-k.invariant.knows, on_way_more (g.G.Graph.places c.args.graph.now) c.args.known.now c.loop-k.known c.args.i c.loop-k.k c.in-Some.j (search rules) (search rules) c.requires.on_way c.loop-k.invariant.busy_as_before))))))))
 
-pub returns-in_default-depth-clause-answer : goal.returns-in_default-depth-clause-answer
-returns-in_default-depth-clause-answer g t c =
+pub visit-returns-in_default-depth-clause-answer : goal.visit-returns-in_default-depth-clause-answer
+visit-returns-in_default-depth-clause-answer g t c =
     deep_target (g.G.Graph.places c.args.graph.now) c.args.budget c.args.i c.loop-k.k c.in-Some.j
     (search rules) (search rules) (λ le. c.in_default-depth.ensures.answer)
 
-pub loop-k-preserved : goal.loop-k-preserved
-loop-k-preserved g t c =
+pub visit-loop-k-preserved : goal.visit-loop-k-preserved
+visit-loop-k-preserved g t c =
     let es = steps_between (g.G.Graph.places c.args.graph.now) in
     let ps = places_at (g.G.Graph.places c.args.graph.now) c.args.i in
     elim c.match-place.branch [
-      | in-Some+else-budget-eq0+in-Some-depth w ↦
+      | visit-in-Some+else-budget-eq0+in-Some-depth w ↦
           let seen : led_to (take (c.loop-k.k + 1) ps) ≡ led_to (take c.loop-k.k ps) ++ (w.in-Some.j ∷ []) =
           led_more ps c.loop-k.k w.in-Some.j (search rules) (search rules) in
           record {
@@ -61,7 +61,7 @@ loop-k-preserved g t c =
             once = rw w.known-is (omega (arith, w.in-Some-depth.ensures.once refl));
             work = rw w.known-is (omega (arith, w.in-Some-depth.ensures.work));
           }
-      | in_default w ↦
+      | visit-in_default w ↦
           let seen : led_to (take (c.loop-k.k + 1) ps) ≡ led_to (take c.loop-k.k ps) =
           led_same ps c.loop-k.k (search rules) (search rules) in
           record {
@@ -76,30 +76,30 @@ loop-k-preserved g t c =
           }
     ]
 
-pub returns-clause-knows : goal.returns-clause-knows
-returns-clause-knows g t c =
+pub visit-returns-clause-knows : goal.visit-returns-clause-knows
+visit-returns-clause-knows g t c =
     let d : IsDepth (steps_between (g.G.Graph.places c.args.graph.now)) c.args.i c.loop-k.longest =
     is_depth (g.G.Graph.places c.args.graph.now) c.args.i c.loop-k.k c.loop-k.longest (omega arith) c.loop-k.invariant.longest in
     let e : (c.loop-k.longest + 1) - 1 ≡ c.loop-k.longest = omega arith in
     knows_more (steps_between (g.G.Graph.places c.args.graph.now)) c.loop-k.known c.args.i (c.loop-k.longest + 1) (omega (arith, length-set {A = ℕ})) c.loop-k.invariant.knows (λ low high. rw e d)
 
-pub returns-clause-answer : goal.returns-clause-answer
-returns-clause-answer g t c = record {
+pub visit-returns-clause-answer : goal.visit-returns-clause-answer
+visit-returns-clause-answer g t c = record {
   depth = is_depth (g.G.Graph.places c.args.graph.now) c.args.i c.loop-k.k c.loop-k.longest (omega arith) c.loop-k.invariant.longest;
   affordable = omega arith;
   entered = omega (arith, get_or-set_at c.loop-k.known c.args.i c.args.i (c.loop-k.longest + 1) 0 refl (omega (arith, length-set {A = ℕ})));
   ended = ended c.args.known.now c.loop-k.known c.args.i (c.loop-k.longest + 1) (omega (arith, length-set {A = ℕ})) (omega arith) (omega arith) c.loop-k.invariant.busy_as_before;
 }
 
-pub returns-clause-work : goal.returns-clause-work
-returns-clause-work g t c =
+pub visit-returns-clause-work : goal.visit-returns-clause-work
+visit-returns-clause-work g t c =
     let here : 1 ≤ slice_index_or c.loop-k.known c.args.i 0 = c.loop-k.invariant.busy_as_before.stays c.args.i (begun c.args.known.now c.args.i (omega arith)) in
     let closed : work_left (g.G.Graph.places c.args.graph.now) (slice_set c.loop-k.known c.args.i (c.loop-k.longest + 1)) ≡ work_left (g.G.Graph.places c.args.graph.now) c.loop-k.known =
     work_closed (g.G.Graph.places c.args.graph.now) c.loop-k.known c.args.i (c.loop-k.longest + 1) (omega arith) (omega (arith, length-set {A = ℕ})) here (omega arith) in
     omega arith
 
-pub returns-clause-once : goal.returns-clause-once
-returns-clause-once g t c = λ some.
+pub visit-returns-clause-once : goal.visit-returns-clause-once
+visit-returns-clause-once g t c = λ some.
     let here : 1 ≤ slice_index_or c.loop-k.known c.args.i 0 = c.loop-k.invariant.busy_as_before.stays c.args.i (begun c.args.known.now c.args.i (omega arith)) in
     let closed : work_left (g.G.Graph.places c.args.graph.now) (slice_set c.loop-k.known c.args.i (c.loop-k.longest + 1)) ≡ work_left (g.G.Graph.places c.args.graph.now) c.loop-k.known =
     work_closed (g.G.Graph.places c.args.graph.now) c.loop-k.known c.args.i (c.loop-k.longest + 1) (omega arith) (omega (arith, length-set {A = ℕ})) here (omega arith) in
