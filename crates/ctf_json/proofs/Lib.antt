@@ -1,6 +1,10 @@
-pub mod Forgotten
-pub mod Listed
 pub mod Telling
 pub mod Digits
 pub mod Turns
+pub mod Fronts
+pub mod Places
+pub mod AtNames
+pub mod Lines
+pub mod Begun
+pub mod Listed
 pub mod Kept

@@ -1,11 +1,11 @@
--- Values that are passed and members that are kept, a turn at a time.
+-- Values that are passed, a turn at a time.
 use Rattle.std.proofs.Common.{◌≡◌, ℕ, suc, zero, ◌-◌, ◌<◌, List, [], Bool, true, false, ◌&&◌, cond, Option, Some, None, option_and_then, refl, sym, ap, ◌∙◌, subst}
 use Rattle.std.specs.Prelude.{⊤}
 use Rattle.json.specs.Token.{Token}
 use Rattle.json.specs.Json.{Json, array, object, Items, item, Members, member, Parse, parse_map, after_end_array, read_key, items_step, members_step, items, members}
 use Rattle.json.proofs.Grammar.{items_more, members_more}
-use Rattle.ctf_json.specs.Told.{in_range, items_in_range, members_in_range, is_one_of}
-use Rattle.ctf_json.specs.Passed.{passed, members_at, plain, plain_items, shallow, sifted}
+use Rattle.ctf_json.specs.Told.{in_range, items_in_range, members_in_range}
+use Rattle.ctf_json.specs.Passed.{passed}
 
 abbrev pub IsNone : {A : Type 0} → Option A → Type 0
 IsNone None = ⊤
@@ -93,50 +93,9 @@ module _ (p : Parse Json) where
   refuse_member zero k ts s e f = refl
   refuse_member (suc n) k ts s e f = ap (λ o. passed members_in_range (option_and_then (λ q. members_step p (members p n) q.0 q.1) o)) e ∙ refused-member k (members p n) (p s) f
 
--- ---- what is kept
+-- ---- what is refused behind others
 
-kept_or_none : (k : List ℕ) (j : Json) (c : Bool) (ms : Members) (ts : List Token) → cond c (Some (member k j ms, ts)) None ≡ parse_map (member k j) (cond c (Some (ms, ts)) None)
-kept_or_none k j true ms ts = refl
-kept_or_none k j false ms ts = refl
-
-item_or_none : (j : Json) (c : Bool) (js : Items) (ts : List Token) → cond c (Some (item j js, ts)) None ≡ parse_map (item j) (cond c (Some (js, ts)) None)
-item_or_none j true js ts = refl
-item_or_none j false js ts = refl
-
-pub kept-item : (j : Json) (r : Option (Items × List Token)) → in_range j ≡ true → sifted items_in_range plain_items (parse_map (item j) r) ≡ parse_map (item (plain j)) (sifted items_in_range plain_items r)
-kept-item j None good = refl
-kept-item j (Some p) good = ap (λ b. cond (b && items_in_range p.0) (Some (plain_items (item j p.0), p.1)) None) good ∙ item_or_none (plain j) (items_in_range p.0) (plain_items p.0) p.1
-
-module _ (keys : List (List ℕ)) where
-  pub kept-member : (k : List ℕ) (j : Json) (r : Option (Members × List Token)) → in_range j ≡ true → is_one_of k keys ≡ true
-      → sifted members_in_range (members_at keys) (parse_map (member k j) r) ≡ parse_map (member k (shallow j)) (sifted members_in_range (members_at keys) r)
-  kept-member k j None good known = refl
-  kept-member k j (Some p) good known =
-      ap (λ b. cond (b && members_in_range p.0) (Some (members_at keys (member k j p.0), p.1)) None) good
-      ∙ ap (λ b. cond (members_in_range p.0) (Some (cond b (member k (shallow j) (members_at keys p.0)) (members_at keys p.0), p.1)) None) known
-      ∙ kept_or_none k (shallow j) (members_in_range p.0) (members_at keys p.0) p.1
-
-  pub dropped-member : (k : List ℕ) (j : Json) (r : Option (Members × List Token)) → in_range j ≡ true → is_one_of k keys ≡ false
-      → sifted members_in_range (members_at keys) (parse_map (member k j) r) ≡ sifted members_in_range (members_at keys) r
-  dropped-member k j None good known = refl
-  dropped-member k j (Some p) good known =
-      ap (λ b. cond (b && members_in_range p.0) (Some (members_at keys (member k j p.0), p.1)) None) good
-      ∙ ap (λ b. cond (members_in_range p.0) (Some (cond b (member k (shallow j) (members_at keys p.0)) (members_at keys p.0), p.1)) None) known
-
--- ---- what is refused
-
-none_either : {A B : Type 0} (b : Bool) (a : A) (x : B) → cond b (Some a) None ≡ None → cond b (Some x) None ≡ None
-none_either true a x e = absurd (subst IsNone (sym e) tt)
-none_either false a x e = refl
-
-none_sifted : {A : Type 0} (good : A → Bool) (f : A → A) (o : Option (A × List Token)) → passed good o ≡ None → sifted good f o ≡ None
-none_sifted good f None e = refl
-none_sifted good f (Some p) e = none_either (good p.0) p.1 (f p.0, p.1) e
-
-none_passed : {A : Type 0} (good : A → Bool) (f : A → A) (o : Option (A × List Token)) → sifted good f o ≡ None → passed good o ≡ None
-none_passed good f None e = refl
-none_passed good f (Some p) e = none_either (good p.0) (f p.0, p.1) p.1 e
-
--- a whole is refused where the rest of it is
-pub refused_behind : {A : Type 0} (good : A → Bool) (f before : A → A) (whole rest : Option (A × List Token)) → sifted good f whole ≡ parse_map before (sifted good f rest) → passed good rest ≡ None → passed good whole ≡ None
-refused_behind good f before whole rest is e = none_passed good f whole (is ∙ ap (parse_map before) (none_sifted good f rest e))
+-- what is read is refused where what others stand in front of is
+pub refused_behind : {A : Type 0} (good : A → Bool) (f : A → A) → ((a : A) → good (f a) ≡ good a) → (whole rest : Option (A × List Token)) → whole ≡ parse_map f rest → passed good rest ≡ None → passed good whole ≡ None
+refused_behind good f same whole None is e = ap (passed good) is
+refused_behind good f same whole (Some p) is e = ap (passed good) is ∙ ap (λ b. cond b (Some p.1) None) (same p.0) ∙ e

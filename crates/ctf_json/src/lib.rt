@@ -1,14 +1,24 @@
 //! JSON of one line, lent from the line and from memory that is kept from line to line.
 #![tactic(auto)]
 
+mod keeping;
+mod keys;
+mod line;
+mod lists;
 mod looking;
 mod numbers;
 mod passing;
 mod reading;
+mod values;
+mod wanted;
 
-pub use looking::{as_array, as_bool, as_i64, as_str, as_u64, get};
+pub use keys::KEYS;
+pub use line::{Fields, Line};
+pub use looking::{args, as_bool, as_i64, as_str, as_u64, get, names};
 pub use numbers::number;
-pub use reading::{NotRead, read_at};
+pub use reading::{NotRead, read_line};
+pub use values::{Field, Read, Value};
+pub use wanted::Wanted;
 
-/// A tree of a text, and the memory that reading one takes.
-pub use json::{Scratch, Value};
+/// The memory that reading a text takes.
+pub use json::Scratch;

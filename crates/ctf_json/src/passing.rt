@@ -56,7 +56,7 @@ pub(crate) fn pass_from(
 /// Passes the items of an array that has begun, and its end.
 #[cycle(pass)]
 #[inline(never)]
-fn pass_items(reader: &mut Reader<'_>, depth: usize) -> Result<(), Invalid>
+pub(crate) fn pass_items(reader: &mut Reader<'_>, depth: usize) -> Result<(), Invalid>
     ensures passed { MatchResult result (λ _. passed_items depth reader.old ≡ Some reader.new)
         (λ _. passed_items depth reader.old ≡ None) }
     ensures shorter { OnOk result (length reader.new < length reader.old) }

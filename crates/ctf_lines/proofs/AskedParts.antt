@@ -1,10 +1,16 @@
 -- What is asked of a part of a line that has what is kept of the line under each key.
-use Rattle.std.proofs.Common.{◌≡◌, ℕ, List, [], ◌∷◌, map, true, is_none, Option, Some, None, option_map, option_and_then, codes, refl, ap, ap₂, ◌∙◌}
+use Rattle.std.proofs.Common.{◌≡◌, ℕ, List, [], ◌∷◌, Bool, true, false, ◌&&◌, cond, is_none, is_some, nat_le, Option, Some, None, option_map, option_and_then, codes, refl, sym, ap, ap₂, ◌∙◌}
 use Rattle.std.specs.Prelude.{if◌then◌else◌, unwrap_or}
 use Rattle.serde_json.specs.Data as json
 use Rattle.serde_json.specs.Data.{Data, Items}
 use Rattle.serde_json.specs.Find.{get, as_array, as_bool, as_i64, as_number, as_str, as_u64}
-use Rattle.ctf_json.specs.Told.{is_one_of, plain, plain_items, shallow}
+use Rattle.std.proofs.lemmas.Bool.{false≢true}
+use Rattle.ctf_json.specs.Keys.{wanted_at}
+use Rattle.ctf_json.specs.Kept.{kept, listed}
+use Rattle.ctf_json.specs.Told.{is_one_of}
+use Rattle.ctf_json.specs.Values.{are, is_small, is_text, keys}
+use Rattle.ctf_json.specs.declared.wanted.Wanted.{Wanted}
+use Rattle.ctf_json.specs.declared.wanted.Wanted.TheVariants.{Texts, Numbers, Nothing}
 use Rattle.ctf_model.specs.declared.numbers.TypeNum.{TypeNum}
 use Rattle.ctf_model.specs.spaces.Kept.{model_unsaid}
 use Rattle.ctf_protocol.specs.declared.addables.Addable.{Addable}
@@ -34,10 +40,6 @@ use Rattle.ctf_protocol.specs.sessions.Creations.{creation}
 use Rattle.ctf_protocol.specs.words.Addables.{addable_named}
 use Rattle.ctf_protocol.specs.words.ModelNames.{model_named}
 use Rattle.ctf_protocol.specs.words.Words.{words, word_named}
-use Rattle.ctf_lines.specs.declared.keys.TheConstants.{KEYS}
-
-abbrev pub keys : List (List ℕ)
-keys = map (λ key. key.now) KEYS.now
 
 each : {A B : Type 0} (f g : A → Option B) → ((x : A) → f x ≡ g x) → (o : Option A) → option_and_then f o ≡ option_and_then g o
 each f g e None = refl
@@ -58,102 +60,136 @@ array_of contents index count = option_and_then (λ contents. option_and_then (�
 
 -- ---- what is kept of a value
 
-each-plain : {A : Type 0} (f : Data → Option A) → ((d : Data) → f (plain d) ≡ f d) → (ds : Items) → fields.each_read f (plain_items ds) ≡ fields.each_read f ds
+abbrev none_of : {A : Type 0} → Option (List A)
+none_of = None
+
+no_first : {A : Type 0} (first : Option A) (others : Option (List A)) → others ≡ None → option_and_then (λ x. option_map (λ xs. x ∷ xs) others) first ≡ none_of
+no_first None others e = refl
+no_first (Some x) others e = ap (option_map (λ xs. x ∷ xs)) e
+
+each-by : {A : Type 0} (f : Data → Option A) (d : Data) (more : Bool) (others : Option (List A)) (b : Bool) → (b ≡ false → f d ≡ None) → (more ≡ false → others ≡ None) → b && more ≡ false → option_and_then (λ x. option_map (λ xs. x ∷ xs) others) (f d) ≡ none_of
+each-by f d more others true h k e = no_first (f d) others (k e)
+each-by f d more others false h k e = ap (option_and_then (λ x. option_map (λ xs. x ∷ xs) others)) (h refl)
+
+each-none : {A : Type 0} (f : Data → Option A) (test : Data → Bool) → ((d : Data) → test d ≡ false → f d ≡ None) → (ds : Items) → are test ds ≡ false → fields.each_read f ds ≡ None
 unfolding fields.each_read
-each-plain f h json.no_items = refl
-each-plain f h (json.item d ds) = ap₂ (λ first others. option_and_then (λ x. option_map (λ xs. x ∷ xs) others) first) (h d) (each-plain f h ds)
+each-none f test h json.no_items e = absurd (false≢true (sym e))
+each-none f test h (json.item d ds) e = each-by f d (are test ds) (fields.each_read f ds) (test d) (h d) (each-none f test h ds) e
 
-str-plain : (d : Data) → as_str (plain d) ≡ as_str d
-str-plain json.null = refl
-str-plain (json.boolean b) = refl
-str-plain (json.number n) = refl
-str-plain (json.string s) = refl
-str-plain (json.array ds) = refl
-str-plain (json.object ms) = refl
+no_text : (d : Data) → is_text d ≡ false → fields.name_spelled d ≡ None
+no_text json.null e = refl
+no_text (json.boolean b) e = refl
+no_text (json.number n) e = refl
+no_text (json.string s) e = absurd (false≢true (sym e))
+no_text (json.array ds) e = refl
+no_text (json.object ms) e = refl
 
-number-plain : (d : Data) → as_number (plain d) ≡ as_number d
-number-plain json.null = refl
-number-plain (json.boolean b) = refl
-number-plain (json.number n) = refl
-number-plain (json.string s) = refl
-number-plain (json.array ds) = refl
-number-plain (json.object ms) = refl
+no_number : (low high : Bool) (n : ℕ) → is_some (if high then Some n else None) ≡ false → as_type (if low && high then Some n else None) ≡ None
+no_number low true n e = absurd (false≢true (sym e))
+no_number true false n e = refl
+no_number false false n e = refl
 
-names-plain : (ds : Items) → fields.names_spelled (plain_items ds) ≡ fields.names_spelled ds
-names-plain = each-plain fields.name_spelled (λ d. ap (λ t. option_and_then fields.not_too_many (option_and_then bytes_spelled_by t)) (str-plain d))
+no_type : (d : Data) → is_small d ≡ false → says.type_listed d ≡ None
+no_type json.null e = refl
+no_type (json.boolean b) e = refl
+no_type (json.number (json.unsigned n)) e = no_number (nat_le 0 n) (nat_le n 65535) n e
+no_type (json.number (json.negative z)) e = refl
+no_type (json.number (json.float x)) e = refl
+no_type (json.string s) e = refl
+no_type (json.array ds) e = refl
+no_type (json.object ms) e = refl
 
-types-plain : (ds : Items) → says.types_listed (plain_items ds) ≡ says.types_listed ds
-types-plain = each-plain says.type_listed (λ d. ap (λ n. as_type (option_and_then (fields.in_range 0 65535) (option_and_then as_u64 n))) (number-plain d))
+-- what a list says is what is kept of it says
+kept-list : {A : Type 0} (f : Items → Option A) (ds : Items) (b : Bool) → (b ≡ false → f ds ≡ None) → option_and_then f (as_array (cond b (json.array ds) json.null)) ≡ f ds
+kept-list f ds true h = refl
+kept-list f ds false h = sym (h refl)
+
+names-kept : (d : Data) → option_and_then fields.names_spelled (as_array (kept Texts d)) ≡ option_and_then fields.names_spelled (as_array d)
+names-kept json.null = refl
+names-kept (json.boolean b) = refl
+names-kept (json.number n) = refl
+names-kept (json.string s) = refl
+names-kept (json.array ds) = kept-list fields.names_spelled ds (are is_text ds) (each-none fields.name_spelled is_text no_text ds)
+names-kept (json.object ms) = refl
+
+types-kept : (d : Data) → option_and_then says.types_listed (as_array (kept Numbers d)) ≡ option_and_then says.types_listed (as_array d)
+types-kept json.null = refl
+types-kept (json.boolean b) = refl
+types-kept (json.number n) = refl
+types-kept (json.string s) = refl
+types-kept (json.array ds) = kept-list says.types_listed ds (are is_small ds) (each-none says.type_listed is_small no_type ds)
+types-kept (json.object ms) = refl
 
 -- what says the same of what is kept of a value says the same of what is kept of a field
-under : {A : Type 0} (f : Data → Option A) → ((d : Data) → f (shallow d) ≡ f d) → (o : Option Data) → option_and_then f (option_map shallow o) ≡ option_and_then f o
-under f h None = refl
-under f h (Some d) = h d
+under : {A : Type 0} (f : Data → Option A) (w : Wanted) → ((d : Data) → f (kept w d) ≡ f d) → (o : Option Data) → option_and_then f (option_map (kept w) o) ≡ option_and_then f o
+under f w h None = refl
+under f w h (Some d) = h d
 
-none-shallow : (o : Option Data) → is_none (option_map shallow o) ≡ is_none o
-none-shallow None = refl
-none-shallow (Some d) = refl
+none-kept : (w : Wanted) (o : Option Data) → is_none (option_map (kept w) o) ≡ is_none o
+none-kept w None = refl
+none-kept w (Some d) = refl
 
-str-shallow : (d : Data) → as_str (shallow d) ≡ as_str d
-str-shallow json.null = refl
-str-shallow (json.boolean b) = refl
-str-shallow (json.number n) = refl
-str-shallow (json.string s) = refl
-str-shallow (json.array ds) = refl
-str-shallow (json.object ms) = refl
+list_cond : {A : Type 0} (f : Data → Option A) → f json.null ≡ None → ((ds : Items) → f (json.array ds) ≡ None) → (b : Bool) (ds : Items) → f (cond b (json.array ds) json.null) ≡ f (json.array ds)
+list_cond f n a true ds = refl
+list_cond f n a false ds = n ∙ sym (a ds)
 
-number-shallow : (d : Data) → as_number (shallow d) ≡ as_number d
-number-shallow json.null = refl
-number-shallow (json.boolean b) = refl
-number-shallow (json.number n) = refl
-number-shallow (json.string s) = refl
-number-shallow (json.array ds) = refl
-number-shallow (json.object ms) = refl
+listed-kept : {A : Type 0} (f : Data → Option A) → f json.null ≡ None → ((ds : Items) → f (json.array ds) ≡ None) → (w : Wanted) (ds : Items) → f (listed w ds) ≡ f (json.array ds)
+listed-kept f n a Texts ds = list_cond f n a (are is_text ds) ds
+listed-kept f n a Numbers ds = list_cond f n a (are is_small ds) ds
+listed-kept f n a Nothing ds = n ∙ sym (a ds)
 
-bool-shallow : (d : Data) → as_bool (shallow d) ≡ as_bool d
-bool-shallow json.null = refl
-bool-shallow (json.boolean b) = refl
-bool-shallow (json.number n) = refl
-bool-shallow (json.string s) = refl
-bool-shallow (json.array ds) = refl
-bool-shallow (json.object ms) = refl
+str-kept : (w : Wanted) (d : Data) → as_str (kept w d) ≡ as_str d
+str-kept w json.null = refl
+str-kept w (json.boolean b) = refl
+str-kept w (json.number n) = refl
+str-kept w (json.string s) = refl
+str-kept w (json.array ds) = listed-kept as_str refl (λ ds. refl) w ds
+str-kept w (json.object ms) = refl
 
-list-shallow : {A : Type 0} (f : Items → Option A) → ((ds : Items) → f (plain_items ds) ≡ f ds) → (d : Data) → option_and_then f (as_array (shallow d)) ≡ option_and_then f (as_array d)
-list-shallow f h json.null = refl
-list-shallow f h (json.boolean b) = refl
-list-shallow f h (json.number n) = refl
-list-shallow f h (json.string s) = refl
-list-shallow f h (json.array ds) = h ds
-list-shallow f h (json.object ms) = refl
+number-kept : (w : Wanted) (d : Data) → as_number (kept w d) ≡ as_number d
+number-kept w json.null = refl
+number-kept w (json.boolean b) = refl
+number-kept w (json.number n) = refl
+number-kept w (json.string s) = refl
+number-kept w (json.array ds) = listed-kept as_number refl (λ ds. refl) w ds
+number-kept w (json.object ms) = refl
 
-list-under : {A : Type 0} (f : Items → Option A) → ((ds : Items) → f (plain_items ds) ≡ f ds) → (o : Option Data) → option_and_then f (option_and_then as_array (option_map shallow o)) ≡ option_and_then f (option_and_then as_array o)
-list-under f h None = refl
-list-under f h (Some d) = list-shallow f h d
+bool-kept : (w : Wanted) (d : Data) → as_bool (kept w d) ≡ as_bool d
+bool-kept w json.null = refl
+bool-kept w (json.boolean b) = refl
+bool-kept w (json.number n) = refl
+bool-kept w (json.string s) = refl
+bool-kept w (json.array ds) = listed-kept as_bool refl (λ ds. refl) w ds
+bool-kept w (json.object ms) = refl
 
-module _ (a b : Data) (same : (key : List ℕ) → is_one_of key keys ≡ true → get key a ≡ option_map shallow (get key b)) where
+list-under : {A : Type 0} (f : Items → Option A) (w : Wanted) → ((d : Data) → option_and_then f (as_array (kept w d)) ≡ option_and_then f (as_array d)) → (o : Option Data) → option_and_then f (option_and_then as_array (option_map (kept w) o)) ≡ option_and_then f (option_and_then as_array o)
+list-under f w h None = refl
+list-under f w h (Some d) = h d
+
+module _ (a b : Data) (same : (key : List ℕ) → is_one_of key keys ≡ true → get key a ≡ option_map (kept (wanted_at key)) (get key b)) where
   -- ---- fields
 
   numbered : (key : List ℕ) → is_one_of key keys ≡ true → option_and_then as_number (get key a) ≡ option_and_then as_number (get key b)
-  numbered key one = ap (option_and_then as_number) (same key one) ∙ under as_number number-shallow (get key b)
+  numbered key one = ap (option_and_then as_number) (same key one) ∙ under as_number (wanted_at key) (number-kept (wanted_at key)) (get key b)
 
   text : (key : List ℕ) → is_one_of key keys ≡ true → fields.text_in key a ≡ fields.text_in key b
-  text key one = ap (option_and_then as_str) (same key one) ∙ under as_str str-shallow (get key b)
+  text key one = ap (option_and_then as_str) (same key one) ∙ under as_str (wanted_at key) (str-kept (wanted_at key)) (get key b)
 
   truth : (key : List ℕ) → is_one_of key keys ≡ true → option_and_then as_bool (get key a) ≡ option_and_then as_bool (get key b)
-  truth key one = ap (option_and_then as_bool) (same key one) ∙ under as_bool bool-shallow (get key b)
+  truth key one = ap (option_and_then as_bool) (same key one) ∙ under as_bool (wanted_at key) (bool-kept (wanted_at key)) (get key b)
 
   unsaid : (key : List ℕ) → is_one_of key keys ≡ true → is_none (get key a) ≡ is_none (get key b)
-  unsaid key one = ap is_none (same key one) ∙ none-shallow (get key b)
+  unsaid key one = ap is_none (same key one) ∙ none-kept (wanted_at key) (get key b)
 
-  listed : {A : Type 0} (f : Items → Option A) → ((ds : Items) → f (plain_items ds) ≡ f ds) → (key : List ℕ) → is_one_of key keys ≡ true
+  listed_at : {A : Type 0} (f : Items → Option A) (key : List ℕ) → ((d : Data) → option_and_then f (as_array (kept (wanted_at key) d)) ≡ option_and_then f (as_array d)) → is_one_of key keys ≡ true
       → option_and_then f (option_and_then as_array (get key a)) ≡ option_and_then f (option_and_then as_array (get key b))
-  listed f h key one = ap (λ o. option_and_then f (option_and_then as_array o)) (same key one) ∙ list-under f h (get key b)
+  listed_at f key h one = ap (λ o. option_and_then f (option_and_then as_array o)) (same key one) ∙ list-under f (wanted_at key) h (get key b)
 
   number : (low high : ℕ) (key : List ℕ) → is_one_of key keys ≡ true → fields.number_in low high key a ≡ fields.number_in low high key b
   number low high key one = λ i. option_and_then (fields.in_range low high) (option_and_then as_u64 (numbered key one i))
 
   name : (key : List ℕ) → is_one_of key keys ≡ true → fields.name_under key a ≡ fields.name_under key b
-  name key one = ap (option_and_then fields.name_spelled) (same key one) ∙ under fields.name_spelled (λ d. ap (λ t. option_and_then fields.not_too_many (option_and_then bytes_spelled_by t)) (str-shallow d)) (get key b)
+  name key one = ap (option_and_then fields.name_spelled) (same key one) ∙ under fields.name_spelled (wanted_at key) (λ d. ap (λ t. option_and_then fields.not_too_many (option_and_then bytes_spelled_by t)) (str-kept (wanted_at key) d)) (get key b)
 
   name_or_empty : (key : List ℕ) → is_one_of key keys ≡ true → fields.name_or_empty key a ≡ fields.name_or_empty key b
   name_or_empty key one = λ i. if unsaid key one i then Some [] else name key one i
@@ -188,7 +224,7 @@ module _ (a b : Data) (same : (key : List ℕ) → is_one_of key keys ≡ true �
   about_held x y e = λ i. option_and_then (λ q. option_map (λ d. Asks d (OfHeld q)) (slot i)) (e i)
 
   names : asks.names_asked a ≡ asks.names_asked b
-  names = λ i. option_and_then fields.not_too_many_names (listed fields.names_spelled names-plain (codes "names") refl i)
+  names = λ i. option_and_then fields.not_too_many_names (listed_at fields.names_spelled (codes "names") names-kept refl i)
 
   symbol : asks.symbol_asked a ≡ asks.symbol_asked b
   symbol = number 0 4294967295 (codes "sym") refl
@@ -237,7 +273,7 @@ module _ (a b : Data) (same : (key : List ℕ) → is_one_of key keys ≡ true �
   array = λ i. array_of (type_under (codes "contents") refl i) (type_under (codes "index") refl i) (number 0 4294967295 (codes "count") refl i)
 
   function : says.new_function_asked a ≡ says.new_function_asked b
-  function = λ i. option_and_then (λ returned. option_map (λ args. kind.Function returned args) (listed says.types_listed types-plain (codes "args") refl i)) (type_under (codes "type") refl i)
+  function = λ i. option_and_then (λ returned. option_map (λ args. kind.Function returned args) (listed_at says.types_listed (codes "args") types-kept refl i)) (type_under (codes "type") refl i)
 
   kind_with : (what : Addable) → says.kind_with a what ≡ says.kind_with b what
   kind_with adds.Unknown = refl

@@ -1,41 +1,42 @@
 //! Reads what is added to a draft.
-ghost use Rattle.std.specs.Prelude.{◌≡◌, ◌≢◌, IfOk, codes, option_and_then};
-ghost use Rattle.ctf_json.specs.Told.{said as view, items_view};
+ghost use Rattle.std.specs.Prelude.{◌≡◌, ◌≢◌, IfOk, Some, codes, option_and_then};
+ghost use Rattle.serde_json.specs.Find.{as_array, get};
+ghost use Rattle.ctf_json.specs.Values.{line_said as view, number_said, numbers_said};
 ghost use Rattle.ctf_protocol.specs.lines.LineFields.{text_in, type_under as type_asked_under};
 ghost use Rattle.ctf_protocol.specs.lines.AskAdditions.{addition_asked, addition_with as addition_asked_with, declared_named, kind_with, new_array_asked, new_enumerator_asked, new_function_asked, new_label_asked, new_member_asked, new_type_asked, offset_asked, root_asked, scalar_asked, size_or as size_or_asked, type_listed as type_listed_by, types_listed as types_listed_by, value_asked_for};
 ghost use Rattle.ctf_protocol.specs.declared.addables.Addable.TheVariants as adds;
 
 use crate::drafts::name_or_empty;
-use crate::reading::{items, number, number_within, text, type_number};
-use ctf_json::{Value, as_bool, as_i64, get};
+use crate::reading::{number, number_within, text, type_number};
+use ctf_json::{Line, as_bool, as_i64, get};
 use ctf_protocol::{Addable, Addition, Declared, NewArray, NewKind, NewScalar, TypeNum, TypeNums};
 use std::alloc::{AllocError, Global};
 
 /// The number of a type under a key.
-fn type_under(value: &Value<'_>, key: &str) -> Option<TypeNum>
-    ensures { result ≡ type_asked_under key.now (view value.now) }
+fn type_under(line: &Line<'_>, key: &str) -> Option<TypeNum>
+    ensures { result ≡ type_asked_under key.now (view line.now) }
 {
-    let number = number(value, key, 0, u64::from(u16::MAX))?;
+    let number = number(line, key, 0, u64::from(u16::MAX))?;
     Some(TypeNum(number as u16))
 }
 
 /// A size in bytes, this one where that isn't said.
-fn size_or(value: &Value<'_>, size: u64) -> Option<u64>
-    ensures { result ≡ size_or_asked size (view value.now) }
+fn size_or(line: &Line<'_>, size: u64) -> Option<u64>
+    ensures { result ≡ size_or_asked size (view line.now) }
 {
-    match get(value, "size") {
-        Some(size) => number_within(size, 0, u64::MAX),
+    match get(line, "size") {
+        Some(size) => number_within(&size, 0, u64::MAX),
         None => Some(size),
     }
 }
 
-fn scalar(value: &Value<'_>) -> Option<NewScalar>
-    ensures { result ≡ scalar_asked (view value.now) }
+fn scalar(line: &Line<'_>) -> Option<NewScalar>
+    ensures { result ≡ scalar_asked (view line.now) }
 {
-    let size = number(value, "size", 0, u64::MAX)?;
-    let encoding = number(value, "encoding", 0, u64::from(u8::MAX))?;
-    let offset = number(value, "offset", 0, u64::from(u8::MAX))?;
-    let bits = number(value, "bits", 0, u64::from(u16::MAX))?;
+    let size = number(line, "size", 0, u64::MAX)?;
+    let encoding = number(line, "encoding", 0, u64::from(u8::MAX))?;
+    let offset = number(line, "offset", 0, u64::from(u8::MAX))?;
+    let bits = number(line, "bits", 0, u64::from(u16::MAX))?;
     Some(NewScalar {
         size,
         encoding: encoding as u8,
@@ -44,12 +45,12 @@ fn scalar(value: &Value<'_>) -> Option<NewScalar>
     })
 }
 
-fn array(value: &Value<'_>) -> Option<NewArray>
-    ensures { result ≡ new_array_asked (view value.now) }
+fn array(line: &Line<'_>) -> Option<NewArray>
+    ensures { result ≡ new_array_asked (view line.now) }
 {
-    let contents = type_under(value, "contents")?;
-    let index = type_under(value, "index")?;
-    let count = number(value, "count", 0, u64::from(u32::MAX))?;
+    let contents = type_under(line, "contents")?;
+    let index = type_under(line, "index")?;
+    let count = number(line, "count", 0, u64::from(u32::MAX))?;
     Some(NewArray {
         contents,
         index,
@@ -57,48 +58,51 @@ fn array(value: &Value<'_>) -> Option<NewArray>
     })
 }
 
-/// The number that a value is, where it is that of a type.
-fn type_listed(value: &Value<'_>) -> Option<TypeNum>
-    ensures { result ≡ type_listed_by (view value.now) }
+/// The type that a number is.
+#[inline]
+fn listed(number: u16) -> TypeNum
+    ensures { Some result ≡ type_listed_by (number_said number) }
 {
-    let number = number_within(value, 0, u64::from(u16::MAX))?;
-    Some(TypeNum(number as u16))
+    TypeNum(number)
 }
 
-/// The numbers that values are, if each is that of a type.
-fn types_listed(alloc: Global, values: &[Value<'_>]) -> Result<Option<TypeNums>, AllocError>
-    ensures { IfOk result (λ types. types ≡ types_listed_by (items_view values.now)) }
+/// The types that numbers are.
+fn types_listed(alloc: Global, numbers: &[u16]) -> Result<TypeNums, AllocError>
+    ensures { IfOk result (λ types. types_listed_by (numbers_said numbers.now) ≡ Some types) }
 {
-    let mut types = Vec::with_capacity(alloc, values.len())?;
-    for value in values {
-        match type_listed(value) {
-            Some(t) => types.push_reserved(t),
-            None => return Ok(None),
-        }
+    let mut types = Vec::with_capacity(alloc, numbers.len())?;
+    for number in numbers {
+        types.push_reserved(listed(*number));
     }
-    Ok(Some(TypeNums::new(types)))
+    Ok(TypeNums::new(types))
 }
 
-fn function(alloc: Global, value: &Value<'_>) -> Result<Option<NewKind>, AllocError>
-    ensures { IfOk result (λ x. x ≡ new_function_asked (view value.now)) }
+/// The numbers under a key that are a list of types.
+fn args<'v>(line: &'v Line<'_>) -> Option<&'v [u16]>
+    ensures { option_and_then (λ args. types_listed_by (numbers_said args.now)) result
+        ≡ option_and_then types_listed_by
+        (option_and_then as_array (get (codes "args") (view line.now))) }
 {
-    let Some(returned) = type_under(value, "type") else {
+    ctf_json::args(line)
+}
+
+fn function(alloc: Global, line: &Line<'_>) -> Result<Option<NewKind>, AllocError>
+    ensures { IfOk result (λ x. x ≡ new_function_asked (view line.now)) }
+{
+    let Some(returned) = type_under(line, "type") else {
         return Ok(None);
     };
-    let Some(values) = items(value, "args") else {
-        return Ok(None);
-    };
-    match types_listed(alloc, values)? {
-        Some(args) => Ok(Some(NewKind::Function(returned, args))),
+    match args(line) {
+        Some(numbers) => Ok(Some(NewKind::Function(returned, types_listed(alloc, numbers)?))),
         None => Ok(None),
     }
 }
 
 /// What a forward declares.
-fn declared(value: &Value<'_>) -> Option<Declared>
-    ensures { result ≡ option_and_then declared_named (text_in (codes "tag") (view value.now)) }
+fn declared(line: &Line<'_>) -> Option<Declared>
+    ensures { result ≡ option_and_then declared_named (text_in (codes "tag") (view line.now)) }
 {
-    match text(value, "tag")? {
+    match text(line, "tag")? {
         "struct" => Some(Declared::Struct),
         "union" => Some(Declared::Union),
         "enum" => Some(Declared::Enum),
@@ -107,11 +111,11 @@ fn declared(value: &Value<'_>) -> Option<Declared>
 }
 
 /// Whether look-ups see a type, which they do where that isn't said.
-fn root(value: &Value<'_>) -> Option<bool>
-    ensures { result ≡ root_asked (view value.now) }
+fn root(line: &Line<'_>) -> Option<bool>
+    ensures { result ≡ root_asked (view line.now) }
 {
-    match get(value, "root") {
-        Some(root) => as_bool(root),
+    match get(line, "root") {
+        Some(root) => as_bool(&root),
         None => Some(true),
     }
 }
@@ -119,46 +123,46 @@ fn root(value: &Value<'_>) -> Option<bool>
 /// A new type of a kind, where its own fields are good.
 fn new_type(
     alloc: Global,
-    value: &Value<'_>,
+    line: &Line<'_>,
     kind: Option<NewKind>,
 ) -> Result<Option<Addition>, AllocError>
-    ensures { IfOk result (λ addition. addition ≡ new_type_asked kind (view value.now)) }
+    ensures { IfOk result (λ addition. addition ≡ new_type_asked kind (view line.now)) }
 {
     let Some(kind) = kind else {
         return Ok(None);
     };
-    let Some(name) = name_or_empty(alloc, value, "name")? else {
+    let Some(name) = name_or_empty(alloc, line, "name")? else {
         return Ok(None);
     };
-    let Some(root) = root(value) else {
+    let Some(root) = root(line) else {
         return Ok(None);
     };
     Ok(Some(Addition::Type { name, root, kind }))
 }
 
 /// An offset in bits, if it is stated.
-fn offset(value: &Value<'_>) -> Option<Option<u64>>
-    ensures { result ≡ offset_asked (view value.now) }
+fn offset(line: &Line<'_>) -> Option<Option<u64>>
+    ensures { result ≡ offset_asked (view line.now) }
 {
-    match get(value, "offset") {
-        Some(offset) => Some(Some(number_within(offset, 0, u64::MAX)?)),
+    match get(line, "offset") {
+        Some(offset) => Some(Some(number_within(&offset, 0, u64::MAX)?)),
         None => Some(None),
     }
 }
 
-fn member(alloc: Global, value: &Value<'_>) -> Result<Option<Addition>, AllocError>
-    ensures { IfOk result (λ addition. addition ≡ new_member_asked (view value.now)) }
+fn member(alloc: Global, line: &Line<'_>) -> Result<Option<Addition>, AllocError>
+    ensures { IfOk result (λ addition. addition ≡ new_member_asked (view line.now)) }
 {
-    let Some(t) = type_number(value) else {
+    let Some(t) = type_number(line) else {
         return Ok(None);
     };
-    let Some(name) = name_or_empty(alloc, value, "name")? else {
+    let Some(name) = name_or_empty(alloc, line, "name")? else {
         return Ok(None);
     };
-    let Some(tnum) = type_under(value, "type") else {
+    let Some(tnum) = type_under(line, "type") else {
         return Ok(None);
     };
-    match offset(value) {
+    match offset(line) {
         Some(offset) => Ok(Some(Addition::Member {
             t,
             name,
@@ -170,35 +174,35 @@ fn member(alloc: Global, value: &Value<'_>) -> Result<Option<Addition>, AllocErr
 }
 
 /// The value of an enumerator.
-fn signed(value: &Value<'_>) -> Option<i32>
-    ensures { result ≡ value_asked_for (view value.now) }
+fn signed(line: &Line<'_>) -> Option<i32>
+    ensures { result ≡ value_asked_for (view line.now) }
 {
-    let number = as_i64(get(value, "value")?)?;
+    let number = as_i64(&get(line, "value")?)?;
     i32::try_from(number).ok()
 }
 
-fn enumerator(alloc: Global, value: &Value<'_>) -> Result<Option<Addition>, AllocError>
-    ensures { IfOk result (λ addition. addition ≡ new_enumerator_asked (view value.now)) }
+fn enumerator(alloc: Global, line: &Line<'_>) -> Result<Option<Addition>, AllocError>
+    ensures { IfOk result (λ addition. addition ≡ new_enumerator_asked (view line.now)) }
 {
-    let Some(t) = type_number(value) else {
+    let Some(t) = type_number(line) else {
         return Ok(None);
     };
-    let Some(name) = name_or_empty(alloc, value, "name")? else {
+    let Some(name) = name_or_empty(alloc, line, "name")? else {
         return Ok(None);
     };
-    match signed(value) {
+    match signed(line) {
         Some(value) => Ok(Some(Addition::Enumerator { t, name, value })),
         None => Ok(None),
     }
 }
 
-fn label(alloc: Global, value: &Value<'_>) -> Result<Option<Addition>, AllocError>
-    ensures { IfOk result (λ addition. addition ≡ new_label_asked (view value.now)) }
+fn label(alloc: Global, line: &Line<'_>) -> Result<Option<Addition>, AllocError>
+    ensures { IfOk result (λ addition. addition ≡ new_label_asked (view line.now)) }
 {
-    let Some(name) = name_or_empty(alloc, value, "name")? else {
+    let Some(name) = name_or_empty(alloc, line, "name")? else {
         return Ok(None);
     };
-    match number(value, "last", 0, u64::from(u32::MAX)) {
+    match number(line, "last", 0, u64::from(u32::MAX)) {
         Some(last) => Ok(Some(Addition::Label {
             name,
             last: last as u32,
@@ -208,23 +212,23 @@ fn label(alloc: Global, value: &Value<'_>) -> Result<Option<Addition>, AllocErro
 }
 
 /// The kind of a new type that isn't a function, with its fields.
-fn kind(value: &Value<'_>, what: Addable) -> Option<NewKind>
-    ensures { what ≢ adds.Function → result ≡ kind_with (view value.now) what }
+fn kind(line: &Line<'_>, what: Addable) -> Option<NewKind>
+    ensures { what ≢ adds.Function → result ≡ kind_with (view line.now) what }
 {
     match what {
         Addable::Unknown => Some(NewKind::Unknown),
-        Addable::Integer => Some(NewKind::Integer(scalar(value)?)),
-        Addable::Float => Some(NewKind::Float(scalar(value)?)),
-        Addable::Pointer => Some(NewKind::Pointer(type_under(value, "type")?)),
-        Addable::Array => Some(NewKind::Array(array(value)?)),
-        Addable::Struct => Some(NewKind::Struct(size_or(value, 0)?)),
-        Addable::Union => Some(NewKind::Union(size_or(value, 0)?)),
-        Addable::Enum => Some(NewKind::Enum(size_or(value, 4)?)),
-        Addable::Forward => Some(NewKind::Forward(declared(value)?)),
-        Addable::Typedef => Some(NewKind::Typedef(type_under(value, "type")?)),
-        Addable::Volatile => Some(NewKind::Volatile(type_under(value, "type")?)),
-        Addable::Const => Some(NewKind::Const(type_under(value, "type")?)),
-        Addable::Restrict => Some(NewKind::Restrict(type_under(value, "type")?)),
+        Addable::Integer => Some(NewKind::Integer(scalar(line)?)),
+        Addable::Float => Some(NewKind::Float(scalar(line)?)),
+        Addable::Pointer => Some(NewKind::Pointer(type_under(line, "type")?)),
+        Addable::Array => Some(NewKind::Array(array(line)?)),
+        Addable::Struct => Some(NewKind::Struct(size_or(line, 0)?)),
+        Addable::Union => Some(NewKind::Union(size_or(line, 0)?)),
+        Addable::Enum => Some(NewKind::Enum(size_or(line, 4)?)),
+        Addable::Forward => Some(NewKind::Forward(declared(line)?)),
+        Addable::Typedef => Some(NewKind::Typedef(type_under(line, "type")?)),
+        Addable::Volatile => Some(NewKind::Volatile(type_under(line, "type")?)),
+        Addable::Const => Some(NewKind::Const(type_under(line, "type")?)),
+        Addable::Restrict => Some(NewKind::Restrict(type_under(line, "type")?)),
         _ => None,
     }
 }
@@ -232,32 +236,32 @@ fn kind(value: &Value<'_>, what: Addable) -> Option<NewKind>
 /// What is added, with its fields.
 fn addition_with(
     alloc: Global,
-    value: &Value<'_>,
+    line: &Line<'_>,
     what: Addable,
 ) -> Result<Option<Addition>, AllocError>
-    ensures { IfOk result (λ addition. addition ≡ addition_asked_with (view value.now) what) }
+    ensures { IfOk result (λ addition. addition ≡ addition_asked_with (view line.now) what) }
 {
     match what {
-        Addable::Member => member(alloc, value),
-        Addable::Enumerator => enumerator(alloc, value),
-        Addable::Label => label(alloc, value),
+        Addable::Member => member(alloc, line),
+        Addable::Enumerator => enumerator(alloc, line),
+        Addable::Label => label(alloc, line),
         Addable::Function => {
-            let kind = function(alloc, value)?;
-            new_type(alloc, value, kind)
+            let kind = function(alloc, line)?;
+            new_type(alloc, line, kind)
         }
-        _ => new_type(alloc, value, kind(value, what)),
+        _ => new_type(alloc, line, kind(line, what)),
     }
 }
 
 /// What a line adds to a draft.
-pub(crate) fn addition(alloc: Global, value: &Value<'_>) -> Result<Option<Addition>, AllocError>
-    ensures { IfOk result (λ addition. addition ≡ addition_asked (view value.now)) }
+pub(crate) fn addition(alloc: Global, line: &Line<'_>) -> Result<Option<Addition>, AllocError>
+    ensures { IfOk result (λ addition. addition ≡ addition_asked (view line.now)) }
 {
-    let Some(word) = text(value, "what") else {
+    let Some(word) = text(line, "what") else {
         return Ok(None);
     };
     match Addable::named(word) {
-        Some(what) => addition_with(alloc, value, what),
+        Some(what) => addition_with(alloc, line, what),
         None => Ok(None),
     }
 }

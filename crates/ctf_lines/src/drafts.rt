@@ -1,6 +1,6 @@
 //! Reads requests on drafts.
 ghost use Rattle.std.specs.Prelude.{◌≡◌, IfOk};
-ghost use Rattle.ctf_json.specs.Told.{said as view};
+ghost use Rattle.ctf_json.specs.Values.{line_said as view};
 ghost use Rattle.ctf_protocol.specs.lines.Ask.{add_asked, create_asked, discard_asked, parent_asked, update_asked};
 ghost use Rattle.ctf_protocol.specs.lines.LineFields.{name_or_empty as name_or_empty_asked};
 
@@ -8,47 +8,47 @@ use crate::additions::addition;
 use crate::models::model;
 use crate::reading::{as_slot_number, slot};
 use crate::spelled::name;
-use ctf_json::{Value, get};
+use ctf_json::{Line, get};
 use ctf_protocol::{Change, Creation, DraftStep, Piece, Request, SlotNumber};
 use std::alloc::{AllocError, Global};
 
 /// A name that may be left out, and is empty then.
 pub(crate) fn name_or_empty(
     alloc: Global,
-    value: &Value<'_>,
+    line: &Line<'_>,
     key: &str,
 ) -> Result<Option<Piece>, AllocError>
-    ensures { IfOk result (λ name. name ≡ name_or_empty_asked key.now (view value.now)) }
+    ensures { IfOk result (λ name. name ≡ name_or_empty_asked key.now (view line.now)) }
 {
-    match get(value, key) {
-        Some(spelled) => name(alloc, spelled),
+    match get(line, key) {
+        Some(spelled) => name(alloc, &spelled),
         None => Ok(Some(Piece::new(Vec::new(alloc)))),
     }
 }
 
 /// The slot of the parent, if one is named.
-fn parent(value: &Value<'_>) -> Option<Option<SlotNumber>>
-    ensures { result ≡ parent_asked (view value.now) }
+fn parent(line: &Line<'_>) -> Option<Option<SlotNumber>>
+    ensures { result ≡ parent_asked (view line.now) }
 {
-    match get(value, "parent") {
-        Some(parent) => Some(Some(as_slot_number(parent)?)),
+    match get(line, "parent") {
+        Some(parent) => Some(Some(as_slot_number(&parent)?)),
         None => Some(None),
     }
 }
 
-pub(crate) fn create(alloc: Global, value: &Value<'_>) -> Result<Option<Request>, AllocError>
-    ensures { IfOk result (λ request. request ≡ create_asked (view value.now)) }
+pub(crate) fn create(alloc: Global, line: &Line<'_>) -> Result<Option<Request>, AllocError>
+    ensures { IfOk result (λ request. request ≡ create_asked (view line.now)) }
 {
-    let Some(parent) = parent(value) else {
+    let Some(parent) = parent(line) else {
         return Ok(None);
     };
-    let Some(parname) = name_or_empty(alloc, value, "parname")? else {
+    let Some(parname) = name_or_empty(alloc, line, "parname")? else {
         return Ok(None);
     };
-    let Some(parlabel) = name_or_empty(alloc, value, "parlabel")? else {
+    let Some(parlabel) = name_or_empty(alloc, line, "parlabel")? else {
         return Ok(None);
     };
-    let Some(model) = model(value) else {
+    let Some(model) = model(line) else {
         return Ok(None);
     };
     match Creation::new(parent, parname, parlabel, model) {
@@ -57,13 +57,13 @@ pub(crate) fn create(alloc: Global, value: &Value<'_>) -> Result<Option<Request>
     }
 }
 
-pub(crate) fn add(alloc: Global, value: &Value<'_>) -> Result<Option<Request>, AllocError>
-    ensures { IfOk result (λ request. request ≡ add_asked (view value.now)) }
+pub(crate) fn add(alloc: Global, line: &Line<'_>) -> Result<Option<Request>, AllocError>
+    ensures { IfOk result (λ request. request ≡ add_asked (view line.now)) }
 {
-    let Some(d) = slot(value) else {
+    let Some(d) = slot(line) else {
         return Ok(None);
     };
-    match addition(alloc, value)? {
+    match addition(alloc, line)? {
         Some(addition) => Ok(Some(Request::Changes(Change::Draft {
             d,
             step: DraftStep::Add(addition),
@@ -72,20 +72,20 @@ pub(crate) fn add(alloc: Global, value: &Value<'_>) -> Result<Option<Request>, A
     }
 }
 
-pub(crate) fn update(value: &Value<'_>) -> Option<Request>
-    ensures { result ≡ update_asked (view value.now) }
+pub(crate) fn update(line: &Line<'_>) -> Option<Request>
+    ensures { result ≡ update_asked (view line.now) }
 {
-    let d = slot(value)?;
+    let d = slot(line)?;
     Some(Request::Changes(Change::Draft {
         d,
         step: DraftStep::Update,
     }))
 }
 
-pub(crate) fn discard(value: &Value<'_>) -> Option<Request>
-    ensures { result ≡ discard_asked (view value.now) }
+pub(crate) fn discard(line: &Line<'_>) -> Option<Request>
+    ensures { result ≡ discard_asked (view line.now) }
 {
-    let d = slot(value)?;
+    let d = slot(line)?;
     Some(Request::Changes(Change::Draft {
         d,
         step: DraftStep::Discard,

@@ -6,7 +6,6 @@ mod digits;
 mod drafts;
 mod escapes;
 mod fields;
-mod keys;
 mod line_buffers;
 mod line_traits;
 mod measures;

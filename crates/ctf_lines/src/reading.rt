@@ -2,9 +2,9 @@
 ghost use Rattle.std.specs.Prelude.{◌≡◌, ◌≢◌, ◌≤◌, IfSome, Option, None, Some, IfOk, IfErr, Ok, Err, codes, option_map, option_and_then};
 ghost use Rattle.serde_json.specs.Find.{as_array, as_number, as_u64, get};
 ghost use Rattle.serde_json.specs.Read.{read as read_json};
-ghost use Rattle.ctf_json.specs.Told.{items_view, said as view};
+ghost use Rattle.ctf_json.specs.Values.{line_said as view, texts_said, value_said as value_view};
 ghost use Rattle.ctf_protocol.specs.lines.Ask.{ask, open_asked, list_named, close_asked, import_asked, publication_asked, publish_asked, take_asked, withdraw_asked, about_type as type_question_asked, about_slot as slot_question_asked, about_held as held_question_asked, bytes_asked, symbol_asked, show_asked, names_asked, part_asked, word_asked, asked_with, request_asked, value_asked};
-ghost use Rattle.ctf_protocol.specs.lines.LineFields.{in_range, number_in, text_in, slot_under as slot_named, slot_in, type_asked, name_under as name_asked, from_asked, count_asked, window_asked};
+ghost use Rattle.ctf_protocol.specs.lines.LineFields.{names_spelled, in_range, number_in, text_in, slot_under as slot_named, slot_in, type_asked, name_under as name_asked, from_asked, count_asked, window_asked};
 ghost use Rattle.ctf_protocol.specs.words.Words.{word_named, words};
 ghost use Rattle.ctf_model.specs.rules.Refusals.{placeless, out_of_memory};
 ghost use Rattle.ctf_model.specs.declared.faults.TheConstants.Fault.{MEMORY};
@@ -12,11 +12,10 @@ ghost use Rattle.ctf_protocol.specs.declared.questions.SlotQuestion.TheVariants 
 ghost use Rattle.ctf_protocol.specs.declared.questions.TypeQuestion.TheVariants as about;
 
 use crate::drafts::{add, create, discard, update};
-use crate::keys::KEYS;
 use crate::line_traits::FromLine;
 use crate::models::model;
 use crate::spelled::{name, names, piece};
-use ctf_json::{NotRead, Scratch, Value, as_array, as_str, as_u64, get};
+use ctf_json::{Line, NotRead, Scratch, Value, as_str, as_u64, get};
 use ctf_protocol::{
     Change, DataModel, Fault, HeldQuestion, ListName, Names, Piece, PlainQuestion, PublicationName,
     Question, Request, SlotNumber, SlotQuestion, TypeNum, TypeQuestion, Window, Word, placeless,
@@ -65,25 +64,25 @@ fn read_text(
     ensures memory { IfErr result (λ refusal. refusal.1.code ≡ MEMORY
         → refusal ≡ (0, out_of_memory)) }
 {
-    match ctf_json::read_at(alloc, text, scratch, KEYS) {
-        Ok(value) => read_value(alloc, &value),
+    match ctf_json::read_line(alloc, text, scratch) {
+        Ok(line) => read_fields(alloc, &line),
         Err(NotRead::NotJson) => Err((0, placeless(Fault::NOT_JSON))),
         Err(NotRead::Memory) => Err((0, placeless(Fault::MEMORY))),
     }
 }
 
-fn read_value(alloc: Global, value: &Value<'_>) -> Result<(u32, Request), (u32, Fault)>
-    ensures ok { IfOk result (λ said. value_asked (Some (view value.now)) ≡ Ok said) }
+fn read_fields(alloc: Global, line: &Line<'_>) -> Result<(u32, Request), (u32, Fault)>
+    ensures ok { IfOk result (λ said. value_asked (Some (view line.now)) ≡ Ok said) }
     ensures session { IfOk result (λ said. said.0 ≢ 0) }
     ensures refused { IfErr result (λ refusal. refusal.1.code ≢ MEMORY
-        → value_asked (Some (view value.now)) ≡ Err refusal) }
+        → value_asked (Some (view line.now)) ≡ Err refusal) }
     ensures memory { IfErr result (λ refusal. refusal.1.code ≡ MEMORY
         → refusal ≡ (0, placeless MEMORY)) }
 {
-    let Some(session) = number(value, "s", 1, u64::from(u32::MAX)) else {
+    let Some(session) = number(line, "s", 1, u64::from(u32::MAX)) else {
         return Err((0, placeless(Fault::BAD_REQUEST)));
     };
-    match read_request(alloc, value) {
+    match read_request(alloc, line) {
         Ok(Some(request)) => Ok((session as u32, request)),
         Ok(None) => Err((session as u32, placeless(Fault::BAD_REQUEST))),
         Err(AllocError) => Err((0, placeless(Fault::MEMORY))),
@@ -91,9 +90,9 @@ fn read_value(alloc: Global, value: &Value<'_>) -> Result<(u32, Request), (u32, 
 }
 
 /// The number that a value is, where it is in a range.
-pub(crate) fn number_within(value: &Value<'_>, low: u64, high: u64) -> Option<u64>
+pub(crate) fn number_within(value: &Value<'_, '_>, low: u64, high: u64) -> Option<u64>
     ensures number { result ≡ option_and_then (in_range low high)
-        (option_and_then as_u64 (as_number (view value.now))) }
+        (option_and_then as_u64 (as_number (value_view value.now))) }
     ensures in_range { IfSome result (λ n. (low ≤ n) × (n ≤ high)) }
 {
     let number = as_u64(value)?;
@@ -105,42 +104,34 @@ pub(crate) fn number_within(value: &Value<'_>, low: u64, high: u64) -> Option<u6
 }
 
 /// The number of a field, where it is there and in its range.
-pub(crate) fn number(value: &Value<'_>, key: &str, low: u64, high: u64) -> Option<u64>
-    ensures number { result ≡ number_in low high key.now (view value.now) }
+pub(crate) fn number(line: &Line<'_>, key: &str, low: u64, high: u64) -> Option<u64>
+    ensures number { result ≡ number_in low high key.now (view line.now) }
     ensures in_range { IfSome result (λ n. (low ≤ n) × (n ≤ high)) }
 {
-    number_within(get(value, key)?, low, high)
+    number_within(&get(line, key)?, low, high)
 }
 
 /// The text of a field.
-pub(crate) fn text<'a>(value: &Value<'a>, key: &str) -> Option<&'a str>
-    ensures { option_map (λ s. s.now) result ≡ text_in key.now (view value.now) }
+pub(crate) fn text<'a>(line: &Line<'a>, key: &str) -> Option<&'a str>
+    ensures { option_map (λ s. s.now) result ≡ text_in key.now (view line.now) }
 {
-    as_str(get(value, key)?)
+    as_str(&get(line, key)?)
 }
 
-/// The items of a field that is a list.
-pub(crate) fn items<'v, 'a>(value: &'v Value<'a>, key: &str) -> Option<&'v [Value<'a>]>
-    ensures { option_map (λ items. items_view items.now) result
-        ≡ option_and_then as_array (get key.now (view value.now)) }
+fn read_request(alloc: Global, line: &Line<'_>) -> Result<Option<Request>, AllocError>
+    ensures { IfOk result (λ request. request ≡ request_asked (view line.now)) }
 {
-    as_array(get(value, key)?)
-}
-
-fn read_request(alloc: Global, value: &Value<'_>) -> Result<Option<Request>, AllocError>
-    ensures { IfOk result (λ request. request ≡ request_asked (view value.now)) }
-{
-    let Some(word) = word(value) else {
+    let Some(word) = word(line) else {
         return Ok(None);
     };
-    read_word(alloc, value, word)
+    read_word(alloc, line, word)
 }
 
 /// The word of a line.
-fn word(value: &Value<'_>) -> Option<Word>
-    ensures { result ≡ word_asked (view value.now) }
+fn word(line: &Line<'_>) -> Option<Word>
+    ensures { result ≡ word_asked (view line.now) }
 {
-    named(text(value, "op")?)
+    named(text(line, "op")?)
 }
 
 /// The word that a text is. Those that are asked most are known at once.
@@ -169,134 +160,134 @@ fn named_long(text: &str) -> Option<Word>
 }
 
 /// What a word asks, with its fields. Those that take no memory are asked most.
-fn read_word(alloc: Global, value: &Value<'_>, word: Word) -> Result<Option<Request>, AllocError>
-    ensures { IfOk result (λ request. request ≡ asked_with (view value.now) word) }
+fn read_word(alloc: Global, line: &Line<'_>, word: Word) -> Result<Option<Request>, AllocError>
+    ensures { IfOk result (λ request. request ≡ asked_with (view line.now) word) }
 {
     match word {
-        Word::Plain(question) => Ok(about_type(value, Some(TypeQuestion::Plain(question)))),
-        _ => read_other(alloc, value, word),
+        Word::Plain(question) => Ok(about_type(line, Some(TypeQuestion::Plain(question)))),
+        _ => read_other(alloc, line, word),
     }
 }
 
 #[inline(never)]
-fn read_other(alloc: Global, value: &Value<'_>, word: Word) -> Result<Option<Request>, AllocError>
-    ensures { IfOk result (λ request. request ≡ asked_with (view value.now) word) }
+fn read_other(alloc: Global, line: &Line<'_>, word: Word) -> Result<Option<Request>, AllocError>
+    ensures { IfOk result (λ request. request ≡ asked_with (view line.now) word) }
 {
     match word {
-        Word::Part => read_part(alloc, value),
+        Word::Part => read_part(alloc, line),
         Word::Check => Ok(Some(Request::Changes(Change::Check))),
-        Word::Open => Ok(open(value)),
+        Word::Open => Ok(open(line)),
         Word::Clear => Ok(Some(Request::Changes(Change::Clear))),
         Word::Reset => Ok(Some(Request::Changes(Change::Reset))),
-        Word::Close => Ok(close(value)),
-        Word::Import => Ok(import(value)),
-        Word::Publish => publish(alloc, value),
-        Word::Withdraw => withdraw(alloc, value),
-        Word::Take => take(alloc, value),
-        Word::Create => create(alloc, value),
-        Word::Add => add(alloc, value),
-        Word::Update => Ok(update(value)),
-        Word::Discard => Ok(discard(value)),
-        Word::Plain(question) => Ok(about_type(value, Some(TypeQuestion::Plain(question)))),
-        Word::Members => Ok(about_type(value, members(value))),
-        Word::Enumerators => Ok(about_type(value, enumerators(value))),
-        Word::Find => Ok(about_slot(value, find(alloc, value)?)),
-        Word::Path => Ok(about_type(value, path(alloc, value)?)),
-        Word::Show => Ok(about_type(value, show(alloc, value)?)),
-        Word::Symbol => Ok(about_slot(value, symbol(alloc, value)?)),
-        Word::Object => Ok(about_slot(value, object(value))),
-        Word::Function => Ok(about_slot(value, function(value))),
-        Word::Labels => Ok(about_slot(value, labels(value))),
-        Word::Label => Ok(about_slot(value, label(alloc, value)?)),
-        Word::Held(question) => Ok(about_held(value, Some(question))),
-        Word::Bytes => Ok(about_held(value, bytes(value))),
+        Word::Close => Ok(close(line)),
+        Word::Import => Ok(import(line)),
+        Word::Publish => publish(alloc, line),
+        Word::Withdraw => withdraw(alloc, line),
+        Word::Take => take(alloc, line),
+        Word::Create => create(alloc, line),
+        Word::Add => add(alloc, line),
+        Word::Update => Ok(update(line)),
+        Word::Discard => Ok(discard(line)),
+        Word::Plain(question) => Ok(about_type(line, Some(TypeQuestion::Plain(question)))),
+        Word::Members => Ok(about_type(line, members(line))),
+        Word::Enumerators => Ok(about_type(line, enumerators(line))),
+        Word::Find => Ok(about_slot(line, find(alloc, line)?)),
+        Word::Path => Ok(about_type(line, path(alloc, line)?)),
+        Word::Show => Ok(about_type(line, show(alloc, line)?)),
+        Word::Symbol => Ok(about_slot(line, symbol(alloc, line)?)),
+        Word::Object => Ok(about_slot(line, object(line))),
+        Word::Function => Ok(about_slot(line, function(line))),
+        Word::Labels => Ok(about_slot(line, labels(line))),
+        Word::Label => Ok(about_slot(line, label(alloc, line)?)),
+        Word::Held(question) => Ok(about_held(line, Some(question))),
+        Word::Bytes => Ok(about_held(line, bytes(line))),
     }
 }
 
 /// The number of a slot that a value is.
-pub(crate) fn as_slot_number(value: &Value<'_>) -> Option<SlotNumber>
+pub(crate) fn as_slot_number(value: &Value<'_, '_>) -> Option<SlotNumber>
     ensures { result ≡ option_and_then (in_range 1 4294967295)
-        (option_and_then as_u64 (as_number (view value.now))) }
+        (option_and_then as_u64 (as_number (value_view value.now))) }
 {
     let number = number_within(value, 0, u64::from(u32::MAX))?;
     SlotNumber::new(number as u32)
 }
 
 /// The number of a slot in a field.
-fn slot_under(value: &Value<'_>, key: &str) -> Option<SlotNumber>
-    ensures { result ≡ slot_named key.now (view value.now) }
+fn slot_under(line: &Line<'_>, key: &str) -> Option<SlotNumber>
+    ensures { result ≡ slot_named key.now (view line.now) }
 {
-    as_slot_number(get(value, key)?)
+    as_slot_number(&get(line, key)?)
 }
 
-pub(crate) fn slot(value: &Value<'_>) -> Option<SlotNumber>
-    ensures { result ≡ slot_in (view value.now) }
+pub(crate) fn slot(line: &Line<'_>) -> Option<SlotNumber>
+    ensures { result ≡ slot_in (view line.now) }
 {
-    slot_under(value, "d")
+    slot_under(line, "d")
 }
 
-fn open(value: &Value<'_>) -> Option<Request>
-    ensures { result ≡ open_asked (view value.now) }
+fn open(line: &Line<'_>) -> Option<Request>
+    ensures { result ≡ open_asked (view line.now) }
 {
-    let model = model(value)?;
+    let model = model(line)?;
     Some(Request::Changes(Change::Open {
         model: model.unwrap_or(DataModel::Lp64),
     }))
 }
 
-fn close(value: &Value<'_>) -> Option<Request>
-    ensures { result ≡ close_asked (view value.now) }
+fn close(line: &Line<'_>) -> Option<Request>
+    ensures { result ≡ close_asked (view line.now) }
 {
-    let d = slot(value)?;
+    let d = slot(line)?;
     Some(Request::Changes(Change::Close { d }))
 }
 
-fn import(value: &Value<'_>) -> Option<Request>
-    ensures { result ≡ import_asked (view value.now) }
+fn import(line: &Line<'_>) -> Option<Request>
+    ensures { result ≡ import_asked (view line.now) }
 {
-    let d = slot(value)?;
-    let parent = slot_under(value, "parent")?;
+    let d = slot(line)?;
+    let parent = slot_under(line, "parent")?;
     Some(Request::Changes(Change::Import { d, parent }))
 }
 
 /// The name of a publication, which stands in a field as it is, without escapes.
-fn publication(alloc: Global, value: &Value<'_>) -> Result<Option<PublicationName>, AllocError>
-    ensures { IfOk result (λ name. name ≡ publication_asked (view value.now)) }
+fn publication(alloc: Global, line: &Line<'_>) -> Result<Option<PublicationName>, AllocError>
+    ensures { IfOk result (λ name. name ≡ publication_asked (view line.now)) }
 {
-    let Some(name) = text(value, "name") else {
+    let Some(name) = text(line, "name") else {
         return Ok(None);
     };
     Ok(PublicationName::new(Vec::from_slice(alloc, name.as_bytes())?))
 }
 
-fn publish(alloc: Global, value: &Value<'_>) -> Result<Option<Request>, AllocError>
-    ensures { IfOk result (λ request. request ≡ publish_asked (view value.now)) }
+fn publish(alloc: Global, line: &Line<'_>) -> Result<Option<Request>, AllocError>
+    ensures { IfOk result (λ request. request ≡ publish_asked (view line.now)) }
 {
-    let Some(d) = slot(value) else {
+    let Some(d) = slot(line) else {
         return Ok(None);
     };
-    match publication(alloc, value)? {
+    match publication(alloc, line)? {
         Some(name) => Ok(Some(Request::Changes(Change::Publish { d, name }))),
         None => Ok(None),
     }
 }
 
-fn withdraw(alloc: Global, value: &Value<'_>) -> Result<Option<Request>, AllocError>
-    ensures { IfOk result (λ request. request ≡ withdraw_asked (view value.now)) }
+fn withdraw(alloc: Global, line: &Line<'_>) -> Result<Option<Request>, AllocError>
+    ensures { IfOk result (λ request. request ≡ withdraw_asked (view line.now)) }
 {
-    match publication(alloc, value)? {
+    match publication(alloc, line)? {
         Some(name) => Ok(Some(Request::Changes(Change::Withdraw { name }))),
         None => Ok(None),
     }
 }
 
-fn take(alloc: Global, value: &Value<'_>) -> Result<Option<Request>, AllocError>
-    ensures { IfOk result (λ request. request ≡ take_asked (view value.now)) }
+fn take(alloc: Global, line: &Line<'_>) -> Result<Option<Request>, AllocError>
+    ensures { IfOk result (λ request. request ≡ take_asked (view line.now)) }
 {
-    let Some(owner) = number(value, "owner", 0, u64::from(u32::MAX)) else {
+    let Some(owner) = number(line, "owner", 0, u64::from(u32::MAX)) else {
         return Ok(None);
     };
-    match publication(alloc, value)? {
+    match publication(alloc, line)? {
         Some(name) => Ok(Some(Request::Changes(Change::Take {
             owner: owner as u32,
             name,
@@ -305,82 +296,91 @@ fn take(alloc: Global, value: &Value<'_>) -> Result<Option<Request>, AllocError>
     }
 }
 
-pub(crate) fn type_number(value: &Value<'_>) -> Option<TypeNum>
-    ensures { result ≡ type_asked (view value.now) }
+pub(crate) fn type_number(line: &Line<'_>) -> Option<TypeNum>
+    ensures { result ≡ type_asked (view line.now) }
 {
-    let number = number(value, "t", 0, u64::from(u16::MAX))?;
+    let number = number(line, "t", 0, u64::from(u16::MAX))?;
     Some(TypeNum(number as u16))
 }
 
 /// The first item that is wanted, 0 where that isn't said.
-fn from(value: &Value<'_>) -> Option<u32>
-    ensures { result ≡ from_asked (view value.now) }
+fn from(line: &Line<'_>) -> Option<u32>
+    ensures { result ≡ from_asked (view line.now) }
 {
-    match get(value, "from") {
+    match get(line, "from") {
         None => Some(0),
-        Some(from) => Some(number_within(from, 0, u64::from(u32::MAX))? as u32),
+        Some(from) => Some(number_within(&from, 0, u64::from(u32::MAX))? as u32),
     }
 }
 
 /// How many items are wanted; all where that isn't said.
-fn count(value: &Value<'_>) -> Option<Option<u32>>
-    ensures { result ≡ count_asked (view value.now) }
+fn count(line: &Line<'_>) -> Option<Option<u32>>
+    ensures { result ≡ count_asked (view line.now) }
 {
-    match get(value, "count") {
+    match get(line, "count") {
         None => Some(None),
-        Some(count) => Some(Some(number_within(count, 0, u64::from(u32::MAX))? as u32)),
+        Some(count) => Some(Some(number_within(&count, 0, u64::from(u32::MAX))? as u32)),
     }
 }
 
-fn window(value: &Value<'_>) -> Option<Window>
-    ensures { result ≡ window_asked (view value.now) }
+fn window(line: &Line<'_>) -> Option<Window>
+    ensures { result ≡ window_asked (view line.now) }
 {
-    let from = from(value)?;
-    let count = count(value)?;
+    let from = from(line)?;
+    let count = count(line)?;
     Some(Window { from, count })
 }
 
-fn members(value: &Value<'_>) -> Option<TypeQuestion>
-    ensures { result ≡ option_map (λ window. about.Members window) (window_asked (view value.now)) }
+fn members(line: &Line<'_>) -> Option<TypeQuestion>
+    ensures { result ≡ option_map (λ window. about.Members window) (window_asked (view line.now)) }
 {
-    Some(TypeQuestion::Members(window(value)?))
+    Some(TypeQuestion::Members(window(line)?))
 }
 
-fn enumerators(value: &Value<'_>) -> Option<TypeQuestion>
+fn enumerators(line: &Line<'_>) -> Option<TypeQuestion>
     ensures { result
-        ≡ option_map (λ window. about.Enumerators window) (window_asked (view value.now)) }
+        ≡ option_map (λ window. about.Enumerators window) (window_asked (view line.now)) }
 {
-    Some(TypeQuestion::Enumerators(window(value)?))
+    Some(TypeQuestion::Enumerators(window(line)?))
 }
 
-fn path(alloc: Global, value: &Value<'_>) -> Result<Option<TypeQuestion>, AllocError>
+fn path(alloc: Global, line: &Line<'_>) -> Result<Option<TypeQuestion>, AllocError>
     ensures { IfOk result (λ question. question
-        ≡ option_map (λ names. about.Path names) (names_asked (view value.now))) }
+        ≡ option_map (λ names. about.Path names) (names_asked (view line.now))) }
 {
-    match names_under(alloc, value)? {
+    match names_under(alloc, line)? {
         Some(names) => Ok(Some(TypeQuestion::Path(names))),
         None => Ok(None),
     }
 }
 
 /// The names of a field.
-fn names_under(alloc: Global, value: &Value<'_>) -> Result<Option<Names>, AllocError>
-    ensures { IfOk result (λ names. names ≡ names_asked (view value.now)) }
+fn names_under(alloc: Global, line: &Line<'_>) -> Result<Option<Names>, AllocError>
+    ensures { IfOk result (λ names. names ≡ names_asked (view line.now)) }
 {
-    match items(value, "names") {
-        Some(values) => names(alloc, values),
+    match texts_under(line) {
+        Some(texts) => names(alloc, texts),
         None => Ok(None),
     }
 }
 
-/// The memory that a value stands in, and the bit that it begins at.
-fn show(alloc: Global, value: &Value<'_>) -> Result<Option<TypeQuestion>, AllocError>
-    ensures { IfOk result (λ question. question ≡ show_asked (view value.now)) }
+/// The texts under a key that are a list of names.
+fn texts_under<'v, 'a>(line: &'v Line<'a>) -> Option<&'v [&'a str]>
+    ensures { option_and_then (λ texts. names_spelled (texts_said texts.now)) result
+        ≡ option_and_then names_spelled
+        (option_and_then as_array (get (codes "names") (view line.now))) }
 {
-    let Some(offset) = number(value, "offset", 0, u64::MAX) else {
+    ctf_json::names(line)
+}
+
+/// The memory that a value stands in, and the bit that it begins at.
+fn show(alloc: Global, line: &Line<'_>) -> Result<Option<TypeQuestion>, AllocError>
+    ensures { IfOk result (λ question. question ≡ show_asked (view line.now)) }
+{
+    let Some(offset) = number(line, "offset", 0, u64::MAX) else {
         return Ok(None);
     };
-    let Some(digits) = text(value, "bytes") else {
+    let Some(digits) = text(line, "bytes") else {
         return Ok(None);
     };
     match piece(alloc, digits)? {
@@ -390,78 +390,78 @@ fn show(alloc: Global, value: &Value<'_>) -> Result<Option<TypeQuestion>, AllocE
 }
 
 /// The name that a field spells.
-fn name_under(alloc: Global, value: &Value<'_>, key: &str) -> Result<Option<Piece>, AllocError>
-    ensures { IfOk result (λ name. name ≡ name_asked key.now (view value.now)) }
+fn name_under(alloc: Global, line: &Line<'_>, key: &str) -> Result<Option<Piece>, AllocError>
+    ensures { IfOk result (λ name. name ≡ name_asked key.now (view line.now)) }
 {
-    match get(value, key) {
-        Some(spelled) => name(alloc, spelled),
+    match get(line, key) {
+        Some(spelled) => name(alloc, &spelled),
         None => Ok(None),
     }
 }
 
-fn find(alloc: Global, value: &Value<'_>) -> Result<Option<SlotQuestion>, AllocError>
+fn find(alloc: Global, line: &Line<'_>) -> Result<Option<SlotQuestion>, AllocError>
     ensures { IfOk result (λ question. question
         ≡ option_map (λ written. whole.Find written)
-        (name_asked (codes "text") (view value.now))) }
+        (name_asked (codes "text") (view line.now))) }
 {
-    match name_under(alloc, value, "text")? {
+    match name_under(alloc, line, "text")? {
         Some(written) => Ok(Some(SlotQuestion::Find(written))),
         None => Ok(None),
     }
 }
 
-fn symbol(alloc: Global, value: &Value<'_>) -> Result<Option<SlotQuestion>, AllocError>
+fn symbol(alloc: Global, line: &Line<'_>) -> Result<Option<SlotQuestion>, AllocError>
     ensures { IfOk result (λ question. question
-        ≡ option_map (λ name. whole.Symbol name) (name_asked (codes "name") (view value.now))) }
+        ≡ option_map (λ name. whole.Symbol name) (name_asked (codes "name") (view line.now))) }
 {
-    match name_under(alloc, value, "name")? {
+    match name_under(alloc, line, "name")? {
         Some(name) => Ok(Some(SlotQuestion::Symbol(name))),
         None => Ok(None),
     }
 }
 
-fn label(alloc: Global, value: &Value<'_>) -> Result<Option<SlotQuestion>, AllocError>
+fn label(alloc: Global, line: &Line<'_>) -> Result<Option<SlotQuestion>, AllocError>
     ensures { IfOk result (λ question. question
-        ≡ option_map (λ name. whole.Label name) (name_asked (codes "name") (view value.now))) }
+        ≡ option_map (λ name. whole.Label name) (name_asked (codes "name") (view line.now))) }
 {
-    match name_under(alloc, value, "name")? {
+    match name_under(alloc, line, "name")? {
         Some(name) => Ok(Some(SlotQuestion::Label(name))),
         None => Ok(None),
     }
 }
 
 /// The number of a symbol.
-fn symbol_number(value: &Value<'_>) -> Option<u32>
-    ensures { result ≡ symbol_asked (view value.now) }
+fn symbol_number(line: &Line<'_>) -> Option<u32>
+    ensures { result ≡ symbol_asked (view line.now) }
 {
-    Some(number(value, "sym", 0, u64::from(u32::MAX))? as u32)
+    Some(number(line, "sym", 0, u64::from(u32::MAX))? as u32)
 }
 
-fn object(value: &Value<'_>) -> Option<SlotQuestion>
-    ensures { result ≡ option_map (λ number. whole.Object number) (symbol_asked (view value.now)) }
+fn object(line: &Line<'_>) -> Option<SlotQuestion>
+    ensures { result ≡ option_map (λ number. whole.Object number) (symbol_asked (view line.now)) }
 {
-    Some(SlotQuestion::Object(symbol_number(value)?))
+    Some(SlotQuestion::Object(symbol_number(line)?))
 }
 
-fn function(value: &Value<'_>) -> Option<SlotQuestion>
+fn function(line: &Line<'_>) -> Option<SlotQuestion>
     ensures { result
-        ≡ option_map (λ number. whole.Function number) (symbol_asked (view value.now)) }
+        ≡ option_map (λ number. whole.Function number) (symbol_asked (view line.now)) }
 {
-    Some(SlotQuestion::Function(symbol_number(value)?))
+    Some(SlotQuestion::Function(symbol_number(line)?))
 }
 
-fn labels(value: &Value<'_>) -> Option<SlotQuestion>
-    ensures { result ≡ option_map (λ window. whole.Labels window) (window_asked (view value.now)) }
+fn labels(line: &Line<'_>) -> Option<SlotQuestion>
+    ensures { result ≡ option_map (λ window. whole.Labels window) (window_asked (view line.now)) }
 {
-    Some(SlotQuestion::Labels(window(value)?))
+    Some(SlotQuestion::Labels(window(line)?))
 }
 
 /// A question on a slot as a whole, where its own fields are good.
-fn about_slot(value: &Value<'_>, question: Option<SlotQuestion>) -> Option<Request>
-    ensures { result ≡ slot_question_asked question (view value.now) }
+fn about_slot(line: &Line<'_>, question: Option<SlotQuestion>) -> Option<Request>
+    ensures { result ≡ slot_question_asked question (view line.now) }
 {
     let question = question?;
-    let d = slot(value)?;
+    let d = slot(line)?;
     Some(Request::Asks {
         d,
         question: Question::OfSlot(question),
@@ -469,11 +469,11 @@ fn about_slot(value: &Value<'_>, question: Option<SlotQuestion>) -> Option<Reque
 }
 
 /// The bytes that are wanted of a dictionary: the first of them, and at most how many.
-fn bytes(value: &Value<'_>) -> Option<HeldQuestion>
-    ensures { result ≡ bytes_asked (view value.now) }
+fn bytes(line: &Line<'_>) -> Option<HeldQuestion>
+    ensures { result ≡ bytes_asked (view line.now) }
 {
-    let from = number(value, "from", 0, u64::from(u32::MAX))?;
-    let count = number(value, "count", 0, 1_048_576)?;
+    let from = number(line, "from", 0, u64::from(u32::MAX))?;
+    let count = number(line, "count", 0, 1_048_576)?;
     Some(HeldQuestion::Bytes {
         from: from as u32,
         count: count as u32,
@@ -481,11 +481,11 @@ fn bytes(value: &Value<'_>) -> Option<HeldQuestion>
 }
 
 /// A question on what a slot holds, where its own fields are good.
-fn about_held(value: &Value<'_>, question: Option<HeldQuestion>) -> Option<Request>
-    ensures { result ≡ held_question_asked question (view value.now) }
+fn about_held(line: &Line<'_>, question: Option<HeldQuestion>) -> Option<Request>
+    ensures { result ≡ held_question_asked question (view line.now) }
 {
     let question = question?;
-    let d = slot(value)?;
+    let d = slot(line)?;
     Some(Request::Asks {
         d,
         question: Question::OfHeld(question),
@@ -493,12 +493,12 @@ fn about_held(value: &Value<'_>, question: Option<HeldQuestion>) -> Option<Reque
 }
 
 /// A question on a type of a slot, where its own fields are good.
-fn about_type(value: &Value<'_>, question: Option<TypeQuestion>) -> Option<Request>
-    ensures { result ≡ type_question_asked question (view value.now) }
+fn about_type(line: &Line<'_>, question: Option<TypeQuestion>) -> Option<Request>
+    ensures { result ≡ type_question_asked question (view line.now) }
 {
     let question = question?;
-    let d = slot(value)?;
-    let t = type_number(value)?;
+    let d = slot(line)?;
+    let t = type_number(line)?;
     Some(Request::Asks {
         d,
         question: Question::OfType { t, question },
@@ -516,16 +516,16 @@ fn list(name: &str) -> Option<ListName>
     }
 }
 
-fn read_part(alloc: Global, value: &Value<'_>) -> Result<Option<Request>, AllocError>
-    ensures { IfOk result (λ request. request ≡ part_asked (view value.now)) }
+fn read_part(alloc: Global, line: &Line<'_>) -> Result<Option<Request>, AllocError>
+    ensures { IfOk result (λ request. request ≡ part_asked (view line.now)) }
 {
-    let Some(name) = text(value, "section") else {
+    let Some(name) = text(line, "section") else {
         return Ok(None);
     };
     let Some(section) = list(name) else {
         return Ok(None);
     };
-    let Some(digits) = text(value, "bytes") else {
+    let Some(digits) = text(line, "bytes") else {
         return Ok(None);
     };
     match piece(alloc, digits)? {

@@ -1,6 +1,6 @@
 //! Bytes that texts of a line spell: by hexadecimal digits, or as a name with its escapes.
 ghost use Rattle.std.specs.Prelude.{◌≡◌, ◌<◌, IfOk, IfSome, length, option_map, option_and_then};
-ghost use Rattle.ctf_json.specs.Told.{said as view, items_view};
+ghost use Rattle.ctf_json.specs.Values.{texts_said, value_said as view};
 ghost use Rattle.ctf_protocol.specs.lines.LineFields.{bytes_spelled, not_too_many, not_too_many_names, name_spelled, names_spelled};
 ghost use Rattle.ctf_protocol.specs.lines.Text.{digit_value as digit_value_of, byte_value as byte_value_of, bytes_spelled_by};
 ghost use Rattle.ctf_lines.specs.Fronts.{IsFront, escape as escape_of};
@@ -100,15 +100,23 @@ fn escaped_bytes_of(alloc: Global, text: &[u8]) -> Result<Option<Vec<u8>>, Alloc
     Ok(Some(bytes))
 }
 
-/// The name that a value spells.
-pub fn name(alloc: Global, value: &Value<'_>) -> Result<Option<Piece>, AllocError>
-    ensures { IfOk result (λ name. name ≡ name_spelled (view value.now)) }
+/// The name that a text spells.
+fn spelled(alloc: Global, text: &str) -> Result<Option<Piece>, AllocError>
+    ensures { IfOk result (λ name. name
+        ≡ option_and_then not_too_many (bytes_spelled_by text.now)) }
 {
-    let Some(text) = as_str(value) else {
-        return Ok(None);
-    };
     match bytes_of(alloc, text.as_bytes())? {
         Some(bytes) => Ok(short_piece(bytes)),
+        None => Ok(None),
+    }
+}
+
+/// The name that a value spells.
+pub fn name(alloc: Global, value: &Value<'_, '_>) -> Result<Option<Piece>, AllocError>
+    ensures { IfOk result (λ name. name ≡ name_spelled (view value.now)) }
+{
+    match as_str(value) {
+        Some(text) => spelled(alloc, text),
         None => Ok(None),
     }
 }
@@ -124,14 +132,14 @@ fn short_list(names: Vec<Piece>) -> Option<Names>
     }
 }
 
-/// The names that values spell, if each spells one and they are no more than a request may bring.
-pub fn names(alloc: Global, values: &[Value<'_>]) -> Result<Option<Names>, AllocError>
+/// The names that texts spell, if each spells one and they are no more than a request may bring.
+pub fn names(alloc: Global, texts: &[&str]) -> Result<Option<Names>, AllocError>
     ensures { IfOk result (λ names. names
-        ≡ option_and_then not_too_many_names (names_spelled (items_view values.now))) }
+        ≡ option_and_then not_too_many_names (names_spelled (texts_said texts.now))) }
 {
-    let mut names = Vec::with_capacity(alloc, values.len())?;
-    for value in values {
-        match name(alloc, value)? {
+    let mut names = Vec::with_capacity(alloc, texts.len())?;
+    for text in texts {
+        match spelled(alloc, text)? {
             Some(name) => names.push_reserved(name),
             None => return Ok(None),
         }

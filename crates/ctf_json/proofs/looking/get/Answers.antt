@@ -1,13 +1,17 @@
-use Rattle.std.proofs.Common.{◌≡◌, Option, Some, None, option_map, Bor, Global, refl, ap, ◌∙◌}
-use Rattle.json.specs.Value.{value_view}
-use Rattle.json.specs.declared.value.Value.{Value}
-use Rattle.ctf_json.specs.Told.{said, told}
-use Rattle.ctf_json.proofs.Telling.{get-told}
+use Rattle.ctf_json.proofs.Lines.{got_names, got_args, got_no_names, got_no_args, got_plain}
 use Rattle.ctf_json.proofs.looking.get.Goals as goal
 
-over : (o : Option (Bor (Value Global))) → option_map (λ v. said v.now) o ≡ option_map told (option_map (λ v. value_view v.now) o)
-over None = refl
-over (Some v) = refl
+pub returns-in-Some : goal.returns-in-Some
+returns-in-Some c = got_names c.args.key.now c.args.line.now c.in-Some.texts c.as_slice.result.now c.in-Texts.ensures c.in-Some.is c.as_slice.ensures.value
 
-pub returns : goal.returns
-returns c = over c.member.result ∙ ap (option_map told) c.member.ensures ∙ get-told c.args.key.now (value_view c.args.value.now)
+pub returns-in-None : goal.returns-in-None
+returns-in-None c = got_no_names c.args.key.now c.args.line.now _ c.in-Texts.ensures c.in-None.is c.plain.ensures
+
+pub returns-in-Some-args : goal.returns-in-Some-args
+returns-in-Some-args c = got_args c.args.key.now c.args.line.now c.in-Some-args.numbers c.as_slice-in-Some-args.result.now c.in-Numbers.ensures c.in-Some-args.is c.as_slice-in-Some-args.ensures.value
+
+pub returns-in-None-args : goal.returns-in-None-args
+returns-in-None-args c = got_no_args c.args.key.now c.args.line.now _ c.in-Numbers.ensures c.in-None-args.is c.plain-in-None-args.ensures
+
+pub returns-in-Nothing : goal.returns-in-Nothing
+returns-in-Nothing c = got_plain c.args.key.now c.args.line.now _ c.in-Nothing.ensures c.plain-in-Nothing.ensures

@@ -1,19 +1,20 @@
-use Rattle.std.proofs.Common.{◌≡◌, ℕ, ◌≤◌, List, length, map, Bor, Global}
-use Rattle.json.specs.Json.{members, value, parse_map}
-use Rattle.json.specs.Value.{members_view}
-use Rattle.json.specs.declared.value.Value.{Value}
-use Rattle.json.proofs.Trees.{members_before}
-use Rattle.ctf_json.specs.Passed.{SameLast, members_at, sifted}
-use Rattle.ctf_json.specs.Told.{members_in_range}
+use Rattle.std.proofs.Common.{◌≡◌, ℕ, ◌≤◌, List, length, true, Option, option_map}
+use Rattle.json.specs.Json.{Json, Members, members, value, parse_map}
+use Rattle.serde_json.specs.Find.{get}
+use Rattle.ctf_json.specs.Keys.{wanted_at}
+use Rattle.ctf_json.specs.Kept.{kept}
+use Rattle.ctf_json.specs.Told.{is_one_of, told}
+use Rattle.ctf_json.specs.Values.{IsNew, keys, line_said}
+use Rattle.ctf_json.proofs.Fronts.{Before}
 use Rattle.ctf_json.proofs.reading.members_at.Given as goal
 
-abbrev pub invariant-loop-found : goal.invariant-loop-found
-invariant-loop-found l =
-    let kept = sifted members_in_range (members_at (map (λ key. key.now) l.keys)) in
+abbrev pub invariant-loop-key : goal.invariant-loop-key
+invariant-loop-key l =
     (n : ℕ) × (length l.reader ≤ n)
-    × (past : List (Bor (List ℕ) × Value Global))
-    × (kept (members (value l.depth) (length l.initial.reader) l.initial.reader) ≡ parse_map (members_before past) (kept (members (value l.depth) n l.reader)))
-    × (length l.reader ≤ length l.initial.reader) × SameLast (members_view l.found.items) (members_view past)
+    × (f : Members → Members) × (g : List ℕ → Option Json)
+    × (members (value l.depth) (length l.initial.reader) l.initial.reader ≡ parse_map f (members (value l.depth) n l.reader))
+    × Before f g × (length l.reader ≤ length l.initial.reader)
+    × (IsNew l.initial.line → (q : List ℕ) → is_one_of q keys ≡ true → get q (line_said l.line) ≡ option_map (kept (wanted_at q)) (option_map told (g q)))
 
-abbrev pub decreases-loop-found : goal.decreases-loop-found
-decreases-loop-found l = length l.reader
+abbrev pub decreases-loop-key : goal.decreases-loop-key
+decreases-loop-key l = length l.reader

@@ -1,11 +1,13 @@
-use Rattle.std.proofs.Common.{◌≡◌, ◌-◌, [], ◌∷◌, length, Some, None, sym, ap, ap₂, ◌∙◌, arith}
+use Rattle.std.proofs.Common.{◌≡◌, ◌-◌, [], ◌∷◌, length, None, refl, sym, ap, ap₂, ◌∙◌, arith}
 use Rattle.json.specs.Json.{array, items, parse_map, value}
 use Rattle.json.specs.Reads.{token_of}
 use Rattle.json.proofs.Grammar.{value_is, value-begin_array}
-use Rattle.json.proofs.Trees.{view-Array}
-use Rattle.ctf_json.specs.Passed.{passed, passed_items, passed_value, shallow, sifted}
-use Rattle.ctf_json.specs.Told.{in_range}
-use Rattle.ctf_json.proofs.Kept.{kept-array, kept-shallow}
+use Rattle.ctf_json.specs.Keys.{wanted_at}
+use Rattle.ctf_json.specs.Kept.{listed}
+use Rattle.ctf_json.specs.Passed.{passed, passed_items, passed_value}
+use Rattle.ctf_json.specs.Told.{in_range, told_items}
+use Rattle.ctf_json.specs.Values.{said}
+use Rattle.ctf_json.proofs.Kept.{plain_kept}
 use Rattle.ctf_json.proofs.Turns.{passed-array}
 use Rattle.ctf_json.proofs.reading.next_value.Goals as goal
 
@@ -22,8 +24,8 @@ returns-then-depth-eq0-clause-refused c is =
     let first : c.args.reader.now ≡ token_of c.in_ok-token.token ∷ ts = grind arith in
     ap₂ passed_value none (first ∙ ap (λ k. token_of k ∷ ts) c.in-BeginArray.is)
 
-pub returns-in_err-items_at-clause-refused : goal.returns-in_err-items_at-clause-refused
-returns-in_err-items_at-clause-refused c is =
+pub returns-in_err-list_at-clause-refused : goal.returns-in_err-list_at-clause-refused
+returns-in_err-list_at-clause-refused c is =
     let d = c.args.depth in
     let ts = c.next.new.self in
     let first : c.args.reader.now ≡ token_of c.in_ok-token.token ∷ ts = grind arith in
@@ -36,8 +38,8 @@ returns-in-BeginArray-clause-ok c =
     let ts = c.next.new.self in
     let first : c.args.reader.now ≡ token_of c.in_ok-token.token ∷ ts = grind arith in
     let opened = ap (value d) (first ∙ ap (λ k. token_of k ∷ ts) c.in-BeginArray.is) ∙ value-begin_array d ts (omega arith) in
-    let found = c.in_ok-items_at in
-    ap (sifted in_range shallow) opened ∙ kept-array (items (value (d - 1)) (length ts) ts) ∙ ap (parse_map array) found.ensures.ok ∙ ap (λ j. Some (j, c.items_at.new.reader)) (sym (view-Array found.field-0))
+    let found = c.in_ok-list_at.ensures.ok in
+    (array found.0, opened ∙ ap (parse_map array) found.1, found.2, ap (λ w. listed w (told_items found.0)) (sym c.wanted.ensures) ∙ found.3)
 
 pub returns : goal.returns
 returns c =
@@ -48,8 +50,10 @@ returns c =
     let first : c.args.reader.now ≡ token_of t ∷ ts = grind arith in
     let longer = ap length first in
     let shorter = c.in_ok-pass_from.ensures.shorter in
+    let k = plain_kept (wanted_at c.args.key.now) d t ts rest (said c.kept.result) c.in_default.not-BeginArray c.in_ok-pass_from.ensures.passed c.kept.ensures in
     record {
-      ok = ap (λ x. sifted in_range shallow (value d x)) first ∙ kept-shallow d t ts rest c.in_default.not-BeginArray c.in_ok-pass_from.ensures.passed ∙ ap (λ j. Some (j, rest)) (sym c.kept.ensures);
+      ok = (k.0, ap (value d) first ∙ k.1, k.2, k.3);
+      fits = refl;
       shorter = omega (arith, longer, shorter);
       refused = λ is. grind arith;
     }

@@ -1,6 +1,6 @@
 use Rattle.std.proofs.Common.{◌≡◌, Some, sym, ap, ◌∙◌}
 use Rattle.serde_json.specs.Read.{read}
-use Rattle.ctf_json.specs.Told.{said}
+use Rattle.ctf_json.specs.Values.{line_said}
 use Rattle.ctf_protocol.specs.lines.Ask.{value_asked}
 use Rattle.ctf_lines.proofs.AskedParts.{asked-same}
 use Rattle.ctf_lines.proofs.reading.read_text.Goals as goal
@@ -8,11 +8,11 @@ use Rattle.ctf_lines.proofs.reading.read_text.Goals as goal
 pub returns-in-Ok-clause-ok : goal.returns-in-Ok-clause-ok
 returns-in-Ok-clause-ok c =
     let found = c.in-Ok.ensures.ok in
-    let same : value_asked (read c.args.text.now) ≡ value_asked (Some (said c.in-Ok.value)) = ap value_asked found.is ∙ sym (asked-same (said c.in-Ok.value) found.whole found.same) in
-    rw same c.read_value.ensures.ok
+    let same : value_asked (read c.args.text.now) ≡ value_asked (Some (line_said c.in-Ok.line)) = ap value_asked found.is ∙ sym (asked-same (line_said c.in-Ok.line) found.whole found.same) in
+    rw same c.read_fields.ensures.ok
 
 pub returns-in-Ok-clause-refused : goal.returns-in-Ok-clause-refused
 returns-in-Ok-clause-refused c =
     let found = c.in-Ok.ensures.ok in
-    let same : value_asked (read c.args.text.now) ≡ value_asked (Some (said c.in-Ok.value)) = ap value_asked found.is ∙ sym (asked-same (said c.in-Ok.value) found.whole found.same) in
-    rw same c.read_value.ensures.refused
+    let same : value_asked (read c.args.text.now) ≡ value_asked (Some (line_said c.in-Ok.line)) = ap value_asked found.is ∙ sym (asked-same (line_said c.in-Ok.line) found.whole found.same) in
+    rw same c.read_fields.ensures.refused

@@ -1,7 +1,7 @@
 use Rattle.std.proofs.Common.{◌≡◌, ◌≤◌, ℕ, List, length, take, sym, ◌∙◌, arith}
 use Rattle.std.proofs.lemmas.List.{take_all}
 use Rattle.std.proofs.lemmas.Slice.Eq.{bytes_eq-Decides}
-use Rattle.ctf_json.proofs.looking.is_key.Goals as goal
+use Rattle.ctf_json.proofs.keys.is_key.Goals as goal
 
 whole : (k : ℕ) (a b : List ℕ) → length a ≤ k → length b ≤ k → take k a ≡ take k b → a ≡ b
 whole k a b h i e = sym (take_all k a h) ∙ e ∙ take_all k b i

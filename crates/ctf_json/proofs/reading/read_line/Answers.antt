@@ -1,0 +1,16 @@
+use Rattle.std.proofs.Common.{◌≡◌, None, [], arith}
+use Rattle.ctf_json.specs.Passed.{passed_value}
+use Rattle.ctf_json.specs.Values.{IsNew, line_said}
+use Rattle.ctf_json.proofs.Kept.{read-kept, read-refused}
+use Rattle.ctf_json.proofs.reading.read_line.Goals as goal
+
+pub returns-in_err-line_at-clause-refused : goal.returns-in_err-line_at-clause-refused
+returns-in_err-line_at-clause-refused c is =
+    let failed : passed_value 127 c.in-Ok.reader ≡ None = grind arith in
+    read-refused c.args.text.now (rw (← c.in-Ok.ensures.ok) failed)
+
+pub returns-clause-ok : goal.returns-clause-ok
+returns-clause-ok c =
+    let rest = c.line_at.new.reader in
+    let last : rest ≡ [] = grind arith in
+    read-kept (IsNew c.new-line.result) c.args.text.now (line_said c.line_at.new.line) rest (rw (← c.in-Ok.ensures.ok) c.in_ok-line_at.ensures.ok) last c.new-line.ensures

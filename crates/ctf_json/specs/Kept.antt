@@ -1,0 +1,54 @@
+-- What is kept of what was read.
+use Rattle.std.specs.Prelude.{◌≡◌, ℕ, List, true, cond, Option, Some, option_map}
+use Rattle.json.specs.Token.{Token}
+use Rattle.json.specs.Json as json
+use Rattle.serde_json.specs.Data.{Data, null, boolean, number, string, array, object, Items}
+use Rattle.serde_json.specs.Find.{get}
+use Rattle.serde_json.specs.Read.{read}
+use Rattle.ctf_json.specs.Keys.{wanted_at}
+use Rattle.ctf_json.specs.Told.{told, told_items, in_range, items_in_range, is_one_of}
+use Rattle.ctf_json.specs.Values.{are, is_text, is_small, keys}
+use Rattle.ctf_json.specs.declared.wanted.Wanted.{Wanted}
+use Rattle.ctf_json.specs.declared.wanted.Wanted.TheVariants.{Texts, Numbers, Nothing}
+
+-- what is kept of a list, by what is wanted
+abbrev pub listed : Wanted → Items → Data
+listed Texts ds = cond (are is_text ds) (array ds) null
+listed Numbers ds = cond (are is_small ds) (array ds) null
+listed Nothing ds = null
+
+-- and of a value
+abbrev pub kept : Wanted → Data → Data
+kept w null = null
+kept w (boolean b) = boolean b
+kept w (number n) = number n
+kept w (string s) = string s
+kept w (array ds) = listed w ds
+kept w (object ms) = null
+
+-- ---- what was read from tokens, with what is behind it
+
+-- the items of an array, of which this is kept
+abbrev pub IsListed : Wanted → Option (json.Items × List Token) → Data → List Token → Type 0
+IsListed w read d rest =
+    (js : json.Items) × (read ≡ Some (js, rest)) × (items_in_range js ≡ true)
+    × (listed w (told_items js) ≡ d)
+
+-- a value, of which this is kept
+abbrev pub IsKept : Wanted → Option (json.Json × List Token) → Data → List Token → Type 0
+IsKept w read d rest =
+    (j : json.Json) × (read ≡ Some (j, rest)) × (in_range j ≡ true) × (kept w (told j) ≡ d)
+
+-- a whole, of which a part is kept if this is so
+abbrev pub AreKept : Type 0 → Option (json.Json × List Token) → Data → List Token → Type 0
+AreKept If read part rest =
+    (j : json.Json) × (read ≡ Some (j, rest)) × (in_range j ≡ true)
+    × (If → (key : List ℕ) → is_one_of key keys ≡ true → get key part ≡ option_map (kept (wanted_at key)) (get key (told j)))
+
+-- ---- texts
+
+-- a text is read, and at the keys `part` has what is kept of what stands there
+pub record IsReadAt (text : List ℕ) (part : Data) : Type 0 where
+  pub whole : Data
+  pub is : read text ≡ Some whole
+  pub same : (key : List ℕ) → is_one_of key keys ≡ true → get key part ≡ option_map (kept (wanted_at key)) (get key whole)

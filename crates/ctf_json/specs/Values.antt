@@ -1,0 +1,122 @@
+-- What the parts of a line say, in the words of serde_json.
+use Rattle.std.specs.Prelude.{◌≡◌, ℕ, ◌&&◌, List, [], ◌∷◌, Bool, true, false, codes, is_some, map, nat_le, Option, Some, None, option_map, option_and_then, if◌then◌else◌}
+use Rattle.std.specs.Borrow.{Bor}
+use Rattle.serde_json.specs.Data.{Data, null, boolean, number, string, array, object, unsigned, Items, no_items, item, Members, no_members, put}
+use Rattle.serde_json.specs.Find.{as_number, as_str, as_u64, get}
+use Rattle.serde_json.specs.Read.{number_of}
+use Rattle.ctf_json.specs.Told.{told_number}
+use Rattle.ctf_json.specs.declared.keys.TheConstants.{KEYS}
+use Rattle.ctf_json.specs.declared.line.Line.{Line}
+use Rattle.std.specs.declared.alloc.Global.{Global}
+use Rattle.std.specs.declared.vec.Vec.{Vec}
+use Rattle.ctf_json.specs.declared.values.Field.{Field}
+use Rattle.ctf_json.specs.declared.values.Field.TheVariants as field
+use Rattle.ctf_json.specs.declared.values.Read.{Read}
+use Rattle.ctf_json.specs.declared.values.Read.TheVariants as was
+use Rattle.ctf_json.specs.declared.values.Value.{Value}
+use Rattle.ctf_json.specs.declared.values.Value.TheVariants as is
+use Rattle.ctf_json.specs.declared.wanted.Wanted.{Wanted}
+use Rattle.ctf_json.specs.declared.wanted.Wanted.TheVariants.{Texts, Numbers, Nothing}
+
+abbrev pub keys : List (List ℕ)
+keys = map (λ key. key.now) KEYS.now
+
+-- ---- lists
+
+-- items in front of others
+abbrev pub front : {A : Type 0} → (A → Data) → List A → Items → Items
+front says [] ds = ds
+front says (x ∷ xs) ds = item (says x) (front says xs ds)
+
+abbrev pub text_said : Bor (List ℕ) → Data
+text_said text = string text.now
+
+abbrev pub number_said : ℕ → Data
+number_said n = number (unsigned n)
+
+abbrev pub texts_said : List (Bor (List ℕ)) → Items
+texts_said texts = front text_said texts no_items
+
+abbrev pub numbers_said : List ℕ → Items
+numbers_said numbers = front number_said numbers no_items
+
+-- whether all are so
+abbrev pub are : (Data → Bool) → Items → Bool
+are test no_items = true
+are test (item d ds) = test d && are test ds
+
+-- the number of 16 bits that a value is
+abbrev pub small : Data → Option ℕ
+small d =
+    option_and_then (λ n. if nat_le n 65535 then Some n else None)
+    (option_and_then as_u64 (as_number d))
+
+abbrev pub is_text : Data → Bool
+is_text d = is_some (as_str d)
+
+abbrev pub is_small : Data → Bool
+is_small d = is_some (small d)
+
+-- ---- values
+
+abbrev pub said : Field → Data
+said field.Null = null
+said (field.Bool b) = boolean b
+said (field.Number s) = told_number (number_of s.now)
+said (field.String s) = string s.now
+
+-- of a value that was read
+abbrev pub read_said : Read → Data
+read_said (was.Field f) = said f
+read_said (was.Texts texts) = array (texts_said texts.items)
+read_said (was.Numbers numbers) = array (numbers_said numbers.items)
+
+-- of one that is looked up
+abbrev pub value_said : Value → Data
+value_said (is.Field f) = said f
+value_said (is.Texts texts) = array (texts_said texts.now)
+value_said (is.Numbers numbers) = array (numbers_said numbers.now)
+
+-- a list is the one that is wanted
+abbrev pub fits : Wanted → Read → Bool
+fits w (was.Field f) = true
+fits Texts (was.Texts texts) = true
+fits Numbers (was.Texts texts) = false
+fits Nothing (was.Texts texts) = false
+fits Texts (was.Numbers numbers) = false
+fits Numbers (was.Numbers numbers) = true
+fits Nothing (was.Numbers numbers) = false
+
+-- a line's lists, without that which is wanted
+abbrev pub names_without : Wanted → Option (Vec (Bor (List ℕ)) Global) → Option (Vec (Bor (List ℕ)) Global)
+names_without Texts names = None
+names_without Numbers names = names
+names_without Nothing names = names
+
+abbrev pub args_without : Wanted → Option (Vec ℕ Global) → Option (Vec ℕ Global)
+args_without Texts args = args
+args_without Numbers args = None
+args_without Nothing args = args
+
+-- ---- lines
+
+abbrev pub put_some : List ℕ → Option Data → Members → Members
+put_some key None ms = ms
+put_some key (Some d) ms = put key d ms
+
+-- the members at keys
+abbrev pub members_said : List (List ℕ) → List (Option Field) → Members
+members_said [] vs = no_members
+members_said (k ∷ ks) [] = no_members
+members_said (k ∷ ks) (v ∷ vs) = put_some k (option_map said v) (members_said ks vs)
+
+-- what a line says: an object of its fields and lists
+abbrev pub line_said : Line → Data
+line_said line =
+    object (put_some (codes "args") (option_map (λ v. array (numbers_said v.items)) line.args)
+    (put_some (codes "names") (option_map (λ v. array (texts_said v.items)) line.names)
+    (members_said keys line.fields.all)))
+
+-- a line without fields
+abbrev pub IsNew : Line → Type 0
+IsNew line = (key : List ℕ) → get key (line_said line) ≡ None

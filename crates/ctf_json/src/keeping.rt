@@ -1,0 +1,57 @@
+//! Keeps values in a line.
+ghost use Rattle.std.specs.Prelude.{◌≡◌, ◌<◌, ℕ, List, Some, None, true, cond, length, set};
+ghost use Rattle.std.specs.Str.{bytes_eq};
+ghost use Rattle.serde_json.specs.Find.{get as found_under};
+ghost use Rattle.ctf_json.specs.Keys.{place_in, wanted_at};
+ghost use Rattle.ctf_json.specs.Values.{IsNew, args_without, fits, keys, line_said, names_without, read_said};
+
+use crate::keys::{COUNT, wanted};
+use crate::line::{Fields, Line};
+use crate::values::{Field, Read};
+use crate::wanted::Wanted;
+
+impl<'a> Line<'a> {
+    /// A line without fields.
+    #[inline]
+    pub(crate) fn new() -> Line<'a>
+        ensures { IsNew result }
+    {
+        Line {
+            fields: Fields { all: [None; COUNT] },
+            names: None,
+            args: None,
+        }
+    }
+
+    /// Keeps a value at a key, in place of one that is there.
+    #[inline]
+    pub(crate) fn keep(&mut self, key: &str, place: usize, value: Read<'a>)
+        requires place { place_in key.now keys ≡ Some place }
+        requires fits { fits (wanted_at key.now) value ≡ true }
+        ensures { (q : List ℕ) → found_under q (line_said self.new)
+            ≡ cond (bytes_eq key.now q) (Some (read_said value.entry)) (found_under q (line_said self.old)) }
+    {
+        match value {
+            Read::Field(field) => self.keep_field(place, field, wanted(key)),
+            Read::Texts(texts) => self.names = Some(texts),
+            Read::Numbers(numbers) => self.args = Some(numbers),
+        }
+    }
+
+    /// Keeps what is no list.
+    #[inline]
+    fn keep_field(&mut self, place: usize, field: Field<'a>, wanted: Wanted)
+        requires { place < 30 }
+        ensures inside { place < length self.old.fields.all }
+        ensures fields { self.new.fields.all ≡ set self.old.fields.all place (Some field.entry) }
+        ensures names { self.new.names ≡ names_without wanted self.old.names }
+        ensures args { self.new.args ≡ args_without wanted self.old.args }
+    {
+        self.fields.all[place] = Some(field);
+        match wanted {
+            Wanted::Texts => self.names = None,
+            Wanted::Numbers => self.args = None,
+            Wanted::Nothing => {}
+        }
+    }
+}

@@ -1,0 +1,28 @@
+//! Values of a line.
+
+/// What is kept of a value that is no list.
+#[derive(Clone, Copy, Drop)]
+pub enum Field<'a> {
+    Null,
+    Bool(bool),
+    /// The text of a number.
+    Number(&'a str),
+    String(&'a str),
+}
+
+/// What is kept of a value that was read. Of an array all texts or all numbers of 16 bits, at the
+/// key where these are wanted; any other, and an object, is null.
+#[derive(Drop)]
+pub enum Read<'a> {
+    Field(Field<'a>),
+    Texts(Vec<&'a str>),
+    Numbers(Vec<u16>),
+}
+
+/// The value at a key.
+#[derive(Clone, Copy, Drop)]
+pub enum Value<'v, 'a> {
+    Field(Field<'a>),
+    Texts(&'v [&'a str]),
+    Numbers(&'v [u16]),
+}
