@@ -13,7 +13,7 @@ use crate::wanted::Wanted;
 impl<'a> Line<'a> {
     /// A line without fields.
     #[inline]
-    pub(crate) fn new() -> Line<'a>
+    pub fn new() -> Line<'a>
         ensures { IsNew result }
     {
         Line {

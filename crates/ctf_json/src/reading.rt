@@ -39,25 +39,25 @@ impl From<Invalid> for NotRead {
     }
 }
 
-/// What a text has at the keys, if serde_json reads it. Nothing else is kept of it.
-#[inline]
+/// Reads a text into a line without fields: what it has at the keys, if serde_json reads it.
+/// Nothing else is kept of it.
 pub fn read_line<'a>(
     alloc: Global,
     text: &'a str,
     scratch: &'a mut Scratch,
-) -> Result<Line<'a>, NotRead>
-    ensures ok { IfOk result (λ line. IsReadAt text.now (line_said line)) }
+    line: &mut Line<'a>,
+) -> Result<(), NotRead>
+    ensures ok { IsNew line.old → OnOk result (IsReadAt text.now (line_said line.new)) }
     ensures refused { result ≡ Err why.NotJson → read_text text.now ≡ None }
 {
     let Ok(mut reader) = Reader::new(text, scratch) else {
         return Err(NotRead::Memory);
     };
-    let mut line = Line::new();
-    line_at(alloc, &mut reader, &mut line)?;
+    line_at(alloc, &mut reader, line)?;
     if reader.next().is_some() {
         return Err(NotRead::NotJson);
     }
-    Ok(line)
+    Ok(())
 }
 
 /// Keeps what the next value has at the keys.

@@ -64,8 +64,9 @@ fn read_text(
     ensures memory { IfErr result (λ refusal. refusal.1.code ≡ MEMORY
         → refusal ≡ (0, out_of_memory)) }
 {
-    match ctf_json::read_line(alloc, text, scratch) {
-        Ok(line) => read_fields(alloc, &line),
+    let mut line = Line::new();
+    match ctf_json::read_line(alloc, text, scratch, &mut line) {
+        Ok(()) => read_fields(alloc, &line),
         Err(NotRead::NotJson) => Err((0, placeless(Fault::NOT_JSON))),
         Err(NotRead::Memory) => Err((0, placeless(Fault::MEMORY))),
     }

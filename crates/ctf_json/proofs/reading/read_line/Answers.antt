@@ -10,7 +10,7 @@ returns-in_err-line_at-clause-refused c is =
     read-refused c.args.text.now (rw (← c.in-Ok.ensures.ok) failed)
 
 pub returns-clause-ok : goal.returns-clause-ok
-returns-clause-ok c =
+returns-clause-ok c new =
     let rest = c.line_at.new.reader in
     let last : rest ≡ [] = grind arith in
-    read-kept (IsNew c.new-line.result) c.args.text.now (line_said c.line_at.new.line) rest (rw (← c.in-Ok.ensures.ok) c.in_ok-line_at.ensures.ok) last c.new-line.ensures
+    read-kept (IsNew c.args.line.now) c.args.text.now (line_said c.line_at.new.line) rest (rw (← c.in-Ok.ensures.ok) c.in_ok-line_at.ensures.ok) last new

@@ -7,12 +7,12 @@ use Rattle.ctf_lines.proofs.reading.read_text.Goals as goal
 
 pub returns-in-Ok-clause-ok : goal.returns-in-Ok-clause-ok
 returns-in-Ok-clause-ok c =
-    let found = c.in-Ok.ensures.ok in
-    let same : value_asked (read c.args.text.now) ≡ value_asked (Some (line_said c.in-Ok.line)) = ap value_asked found.is ∙ sym (asked-same (line_said c.in-Ok.line) found.whole found.same) in
+    let found = c.in-Ok.ensures.ok c.new-line.ensures in
+    let same : value_asked (read c.args.text.now) ≡ value_asked (Some (line_said c.read_line.new.line)) = ap value_asked found.is ∙ sym (asked-same (line_said c.read_line.new.line) found.whole found.same) in
     rw same c.read_fields.ensures.ok
 
 pub returns-in-Ok-clause-refused : goal.returns-in-Ok-clause-refused
 returns-in-Ok-clause-refused c =
-    let found = c.in-Ok.ensures.ok in
-    let same : value_asked (read c.args.text.now) ≡ value_asked (Some (line_said c.in-Ok.line)) = ap value_asked found.is ∙ sym (asked-same (line_said c.in-Ok.line) found.whole found.same) in
+    let found = c.in-Ok.ensures.ok c.new-line.ensures in
+    let same : value_asked (read c.args.text.now) ≡ value_asked (Some (line_said c.read_line.new.line)) = ap value_asked found.is ∙ sym (asked-same (line_said c.read_line.new.line) found.whole found.same) in
     rw same c.read_fields.ensures.refused
