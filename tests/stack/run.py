@@ -132,17 +132,20 @@ def deep_types() -> Iterable[Case]:
 
 
 def deep_drafts() -> Iterable[Case]:
-    """Structs in each other, a member at the bottom, one on top, and an update."""
+    """Structs in each other, a member at the bottom, one on top, and an update. They are put into
+    each other from the bottom, or from the top, so that all above get deeper with each."""
     for layers in (LAYERS, LAYERS + 1):
-        lines = [ask(1, "create"),
-                 ask(1, "add", d=1, what="integer", size=4, encoding=1, offset=0, bits=32)]
-        lines += [ask(1, "add", d=1, what="struct") for _ in range(layers + 1)]
-        lines += [ask(1, "add", d=1, what="member", t=3 + i, type=2 + i) for i in range(layers)]
-        lines += [ask(1, "add", d=1, what="member", t=2, type=1),
-                  ask(1, "add", d=1, what="member", t=1 + layers, type=layers),
-                  ask(1, "update", d=1)]
-        yield Case(f"a draft of {layers} structs in each other", lines + questions(layers))
-        yield Case(f"a draft of {layers} structs, shown", lines + shown(layers))
+        for end, places in (("bottom", range(layers)), ("top", range(layers - 1, -1, -1))):
+            lines = [ask(1, "create"),
+                     ask(1, "add", d=1, what="integer", size=4, encoding=1, offset=0, bits=32)]
+            lines += [ask(1, "add", d=1, what="struct") for _ in range(layers + 1)]
+            lines += [ask(1, "add", d=1, what="member", t=3 + i, type=2 + i) for i in places]
+            lines += [ask(1, "add", d=1, what="member", t=2, type=1),
+                      ask(1, "add", d=1, what="member", t=1 + layers, type=layers),
+                      ask(1, "update", d=1)]
+            name = f"a draft of {layers} structs in each other from the {end}"
+            yield Case(name, lines + questions(layers))
+            yield Case(f"{name}, shown", lines + shown(layers))
 
 
 def found_by_name() -> Case:
