@@ -15,6 +15,7 @@ static struct results {
     struct ctfd_member member;
     struct ctfd_member_row members[2];
     struct ctfd_enumerator_row enumerators[2];
+    struct ctfd_visit_row visited[2];
     struct ctfd_function function;
     struct ctfd_label label;
     char text[64];
@@ -57,6 +58,7 @@ static void refuse_type(struct ctfd *d, uint16_t t, enum ctfd_status status)
     REFUSED(ctfd_enumerator(d, t, 0, TEXT, &got.value, &got.len), status);
     REFUSED(ctfd_members(d, t, 0, got.members, 2, &got.wide), status);
     REFUSED(ctfd_enumerators(d, t, 0, got.enumerators, 2, &got.wide), status);
+    REFUSED(ctfd_visit(d, t, got.visited, 2, &got.wide), status);
     REFUSED(ctfd_enum_name(d, t, 0, TEXT, &got.len), status);
     REFUSED(ctfd_enum_value(d, t, "x", 1, &got.value), status);
     REFUSED(ctfd_return(d, t, &got.to), status);
@@ -299,6 +301,8 @@ static void lend(const struct bytes *ctf)
         CTFD_OK);
     CHECK(ctfd_open_lent(&types, lent.at, lent.len - 1, "", 0, "", 0, false, false, false,
         &place) == CTFD_PAST_END);
+    CHECK(ctfd_open_lent(&types, lent.at, 35, "", 0, "", 0, false, false, false,
+        &place) == CTFD_SHORT_HEADER);
     CHECK(ctfd_open_lent(&types, lent.at, lent.len, "abc", 3, "", 0, true, false, false,
         &place) == CTFD_BAD_SYMTAB);
     CHECK(ctfd_count(&types, &count) == CTFD_OK && count == 526);
@@ -308,6 +312,31 @@ static void lend(const struct bytes *ctf)
     CHECK(ctfd_length(&child, t, &count) == CTFD_OK && count == 24);
     ctfd_close(&child);
     free(lent.at);
+}
+
+/* A draft of one type whose name has that many letters is written, or is too big to be. */
+static void write_long_name(size_t letters, enum ctfd_status status)
+{
+    struct ctfd draft = CTFD_NONE;
+    char *name = (char *)malloc(letters);
+    uint64_t count = 0, place = 0;
+    uint16_t t = 0;
+    if (name == NULL)
+        exit(2);
+    memset(name, 'a', letters);
+    CHECK(ctfd_create(&draft, false, &place) == CTFD_OK);
+    CHECK(ctfd_add_unknown(&draft, name, letters, true, &t) == CTFD_OK && t == 1);
+    CHECK(ctfd_update(&draft, &count, &place) == status);
+    CHECK(ctfd_count(&draft, &count) == CTFD_OK && count == (status == CTFD_OK ? 1 : 0));
+    ctfd_close(&draft);
+    free(name);
+}
+
+/* A header, a head, and a name between two zero bytes have 67,108,864 bytes, or one more. */
+static void write_the_longest(void)
+{
+    write_long_name(67108818, CTFD_OK);
+    write_long_name(67108819, CTFD_DICT_TOO_BIG);
 }
 
 int main(int argc, char **argv)
@@ -335,6 +364,7 @@ int main(int argc, char **argv)
     refuse_opens(&types, &ctf);
     refuse_imports(&types);
     lend(&ctf);
+    write_the_longest();
     ctfd_close(&types);
     refuse_all(&types);
     free_bytes(&ctf);

@@ -26,6 +26,8 @@ TRANSCRIPTS = ("each kind is added", "names of declared types", "no request",
 # The longer runs are read by pieces of some lines, and then by as much as the program asks for.
 LONGER = (Sizes(256, 64), Sizes(65_536, 1000))
 FAILED = 3
+# Of a longer run each read and each write would fail in turn for minutes.
+MOST_LINES = 5_000
 
 Job = Callable[[], Report]
 
@@ -88,8 +90,9 @@ class Case:
 
 
 def longest(runs: Iterator[Run], many: int) -> list[Run]:
-    """The runs of the most lines."""
-    return sorted(runs, key=lambda run: len(run.lines))[-many:]
+    """The runs of the most lines, but for those of more than `MOST_LINES`."""
+    fit = (run for run in runs if len(run.lines) <= MOST_LINES)
+    return sorted(fit, key=lambda run: len(run.lines))[-many:]
 
 
 def cases(service: Service) -> Iterator[Case]:

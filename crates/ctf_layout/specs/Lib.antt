@@ -2,6 +2,7 @@ pub mod Bases
 pub mod Extents
 pub mod Table
 pub mod Work
+pub mod WorkRows
 pub mod Kept
 pub mod Over
 pub mod Fitting

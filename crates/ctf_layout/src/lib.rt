@@ -11,6 +11,7 @@ mod kept;
 mod layout;
 mod path_names;
 mod paths;
+mod rows;
 mod source;
 mod types;
 
@@ -18,3 +19,4 @@ pub use figures::{reference, referred, resolve};
 pub use layout::Layout;
 pub use path_names::PathName;
 pub use paths::path;
+pub use rows::work_is_counted;
