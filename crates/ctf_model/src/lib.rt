@@ -29,12 +29,12 @@ pub use layers::{Layer, Qualifier};
 pub use lists::{Parts, no_parts};
 pub use numbers::{Place, TypeNum};
 pub use rows::{
-    bytes_denote, bytes_have_faults, dictionaries_are_written, drafts_live, dumps_are,
-    enumerators_and_labels_are_added, faults_have_codes, figures_are, figures_over_parents,
-    imports_are_judged, kinds_denote, kinds_have_faults, lists_are_long, members_are_added,
-    members_are_placed, names_are_found, names_are_spelled, names_are_written, names_over_parents,
-    numbers_name, paths_lead, records_are_written, symbols_have_faults, symbols_tell,
-    types_are_added, values_over_parents, values_show,
+    arguments_are_named, bytes_denote, bytes_have_faults, dictionaries_are_written, drafts_live,
+    dumps_are, enumerators_and_labels_are_added, faults_have_codes, figures_are,
+    figures_over_parents, imports_are_judged, kinds_denote, kinds_have_faults, lists_are_long,
+    members_are_added, members_are_placed, names_are_found, names_are_spelled, names_are_written,
+    names_over_parents, numbers_name, paths_lead, records_are_written, symbols_have_faults,
+    symbols_tell, types_are_added, values_over_parents, values_show,
 };
 pub use sections::Section;
 pub use symbols::SymbolClass;

@@ -12,7 +12,7 @@ ghost use Rattle.ctf_model.specs.rules.FaultRows.{ConstantsAreCodes};
 ghost use Rattle.ctf_model.specs.names.FindRows.{NamesAreFound};
 ghost use Rattle.ctf_model.specs.figures.FigureRows.{FiguresAre, FiguresOverParents, PathsLead};
 ghost use Rattle.ctf_model.specs.spaces.ImportRows.{ImportsAreJudged};
-ghost use Rattle.ctf_model.specs.format.KindRows.{KindsDenote, KindsHaveFaults};
+ghost use Rattle.ctf_model.specs.format.KindRows.{ArgumentsAreNamed, KindsDenote, KindsHaveFaults};
 ghost use Rattle.ctf_model.specs.names.NameRows.{NamesAreSpelled, NamesOverParents};
 ghost use Rattle.ctf_model.specs.symbols.SymbolRows.{SymbolsHaveFaults, SymbolsTell};
 ghost use Rattle.ctf_model.specs.values.ValueRows.{ValuesShow, ValuesOverParents};
@@ -37,6 +37,11 @@ pub fn bytes_denote()
 /// The first fault of bytes, at its place.
 pub fn bytes_have_faults()
     ensures { BytesHaveFaults }
+{}
+
+/// Which types the arguments of functions name.
+pub fn arguments_are_named()
+    ensures { ArgumentsAreNamed }
 {}
 
 /// What records of each kind denote.

@@ -3,6 +3,7 @@ use Rattle.std.specs.Prelude.{◌≡◌, ℕ, ◌+◌, ◌*◌, ◌^◌, ◌/◌
 use Rattle.ctf_model.specs.format.Dictionary.{denoted}
 use Rattle.ctf_model.specs.rules.Faults.{first_fault}
 use Rattle.ctf_model.specs.format.Record.{kinds}
+use Rattle.ctf_model.specs.format.Shown.{is_variadic, named_arguments}
 use Rattle.ctf_model.specs.format.SpelledTypes.{is_short_kind}
 use Rattle.ctf_model.specs.format.Rows.{word, header, integer_record, alone, fault, int, of_types}
 use Rattle.ctf_model.specs.format.Term.{Scalar, Elements, Member, Enumerator, Body, Term}
@@ -144,3 +145,13 @@ pub record KindsHaveFaults : Type 0 where
       first_fault (alone (header 0 0 0 0 24 0 ++ (head 0 6 1 8 ++ word 0 ++ half 2 ++ half 0)
       ++ head 0 3 0 1))
       ≡ None
+
+-- a last argument 0 names no type: more arguments may follow
+pub record ArgumentsAreNamed : Type 0 where
+  pub none : named_arguments [] ≡ []
+  pub two : named_arguments (3 ∷ 7 ∷ []) ≡ 3 ∷ 7 ∷ []
+  pub first_of_none : named_arguments (0 ∷ 7 ∷ []) ≡ 0 ∷ 7 ∷ []
+  pub more : named_arguments (3 ∷ 7 ∷ 0 ∷ []) ≡ 3 ∷ 7 ∷ []
+  pub more_alone : named_arguments (0 ∷ []) ≡ []
+  pub no_more : is_variadic (3 ∷ 7 ∷ []) ≡ false
+  pub may_follow : is_variadic (3 ∷ 0 ∷ []) ≡ true
