@@ -1,4 +1,5 @@
 pub mod Listed
+pub mod Served
 pub mod LongChains
 pub mod Indexed
 pub mod Naming

@@ -1,5 +1,5 @@
 -- Names one after the other.
-use Rattle.std.proofs.Common.{◌≡◌, ℕ, suc, ◌+◌, ◌-◌, ◌*◌, ◌/◌, ◌<◌, ◌≤◌, Bool, true, false, cond, take, drop, List, [], ◌∷◌, ◌++◌, Option, Some, None, Result, Ok, Err, refl, sym, ap, ◌∙◌, arith}
+use Rattle.std.proofs.Common.{◌≡◌, ℕ, suc, ◌+◌, ◌-◌, ◌*◌, ◌/◌, ◌<◌, ◌≤◌, Bool, true, false, cond, drop, List, [], ◌∷◌, ◌++◌, Option, Some, None, Result, Ok, Err, refl, sym, ap, ◌∙◌, arith}
 use Rattle.std.specs.Prelude.{is_none}
 use Rattle.std.proofs.Math.Nat.{mul-suc}
 use Rattle.std.proofs.lemmas.List.{drop-drop}
@@ -8,7 +8,7 @@ use Rattle.ctf_model.specs.format.Bytes.{u32_at}
 use Rattle.ctf_model.specs.rules.Faults.{Site, label_sites, item_sites, record_sites, first_nameless, sites, types}
 use Rattle.ctf_model.specs.format.Header.{Fields, fields, range_of}
 use Rattle.ctf_model.specs.format.Name.{Tables, name}
-use Rattle.ctf_model.specs.format.Section.{Piece, records}
+use Rattle.ctf_model.specs.format.Section.{Piece}
 use Rattle.ctf_check.specs.Stages.{header_sites, own_sites}
 use Rattle.ctf_model.specs.declared.faults.Fault.{Fault}
 use Rattle.ctf_model.specs.declared.sections.Section.TheVariants.{SLabels, STypes}
@@ -76,10 +76,9 @@ label_part t ctf h r e f =
     let less : (36 + (fields ctf).objtoff) - (36 + (fields ctf).lbloff) ≡ (fields ctf).objtoff - (fields ctf).lbloff = omega arith in
     rw (f, e, less) refl
 
-pub record_part : (t : Tables) (ctf : List ℕ) (h : Fields) (r : ℕ × ℕ) → h ≡ fields ctf → r ≡ range_of h STypes
-    → first_nameless t (record_sites r.0 (records (take (r.1 - r.0) (drop r.0 ctf)))) ≡ first_nameless t (record_sites (36 + (fields ctf).typeoff) (types ctf))
-unfolding types
-record_part t ctf h r e f = rw (f, e) refl
+pub record_part : (t : Tables) (ctf : List ℕ) (h : Fields) (r : ℕ × ℕ) (rs : List (Result Piece Fault)) → h ≡ fields ctf → r ≡ range_of h STypes → rs ≡ types ctf
+    → first_nameless t (record_sites r.0 rs) ≡ first_nameless t (record_sites (36 + (fields ctf).typeoff) (types ctf))
+record_part t ctf h r rs e f g = rw (f, e, g) refl
 
 -- ---- records, one after the other
 
@@ -87,10 +86,6 @@ pub record_then_rest : (t : Tables) (start : ℕ) (p : Piece) (rest : List (Resu
     → first_nameless t (record_sites start (Ok p ∷ rest)) ≡ option_or (first_nameless t (own_sites (start + p.at) p.bytes)) (first_nameless t (record_sites start rest))
 unfolding record_sites
 record_then_rest t start p rest = nameless_append t (own_sites (start + p.at) p.bytes) (record_sites start rest)
-
-pub no_record : (t : Tables) (start : ℕ) (f : Fault) (rest : List (Result Piece Fault)) → first_nameless t (record_sites start (Err f ∷ rest)) ≡ None
-unfolding record_sites first_nameless
-no_record t start f rest = refl
 
 pub no_more_records : (t : Tables) (start : ℕ) → first_nameless t (record_sites start []) ≡ None
 unfolding record_sites first_nameless

@@ -1,5 +1,6 @@
 pub mod CheckedView
 pub mod EndsView
+pub mod Enough
 pub mod FactsView
 pub mod HeldView
 pub mod Holdings

@@ -1,16 +1,15 @@
 //! The rule of names: each name reference names something.
 ghost use Rattle.std.specs.Prelude.{◌≡◌, ◌≤◌, ◌<◌, ◌+◌, ◌*◌, ◌^◌, length};
 ghost use Rattle.ctf_model.specs.format.Header.{fields};
-ghost use Rattle.ctf_model.specs.rules.Faults.{first_nameless, label_sites, item_sites, list_sites, record_sites, sites};
+ghost use Rattle.ctf_model.specs.rules.Faults.{first_nameless, label_sites, item_sites, list_sites, record_sites, sites, types};
 ghost use Rattle.ctf_model.specs.format.Record.{kind as kind_in};
-ghost use Rattle.ctf_model.specs.format.Section.{records};
 ghost use Rattle.ctf_records.specs.RecordView.{bytes_of};
 ghost use Rattle.ctf_check.specs.EndsView.{tables_in};
 ghost use Rattle.ctf_check.specs.Stages.{header_sites, own_sites};
 
 use crate::ends::NameEnds;
 use ctf_model::{Kind, Section};
-use ctf_records::{Record, Records};
+use ctf_records::Record;
 use ctf_sections::Header;
 use ctf_sections::bytes::u32_at;
 
@@ -46,6 +45,7 @@ fn bad_in_labels(ctf: &[u8], start: usize, count: usize, ends: NameEnds<'_>) -> 
 /// The first of the names of `count` items of a list that is bad: its place in the dictionary,
 /// where the list begins at `start`.
 #[tactic(auto, using(crate::proofs::Sites::item_sites_next, crate::proofs::Sites::item_sites_end), unfolding(ctf_model::specs::rules::Faults::first_nameless))]
+#[inline(never)]
 fn bad_in_items(
     list: &[u8],
     start: usize,
@@ -89,7 +89,7 @@ fn bad_in_list(term: &Record<'_>, start: usize, ends: NameEnds<'_>) -> Option<u6
 /// The first of the names of a record that is bad: its place in the dictionary, where the record
 /// begins at `start`.
 #[tactic(auto, unfolding(ctf_model::specs::rules::Faults::first_nameless))]
-fn bad_in_record(term: &Record<'_>, start: usize, ends: NameEnds<'_>) -> Option<u64>
+pub fn bad_in_record(term: &Record<'_>, start: usize, ends: NameEnds<'_>) -> Option<u64>
     requires near { start + length (bytes_of term.now) < 2 ^ 64 }
     ensures { result ≡ first_nameless (tables_in ends.entry) (own_sites start (bytes_of term.now)) }
 {
@@ -99,27 +99,18 @@ fn bad_in_record(term: &Record<'_>, start: usize, ends: NameEnds<'_>) -> Option<
     bad_in_list(term, start, ends)
 }
 
-/// The first of the names of records that is bad: its place in the dictionary, where their section
-/// begins at `start`.
-#[tactic(auto, using(crate::proofs::Sites::record_then_rest, crate::proofs::Sites::no_record, crate::proofs::Sites::no_more_records))]
-fn bad_in_records(types: &[u8], start: usize, ends: NameEnds<'_>) -> Option<u64>
-    requires { start < 2 ^ 63 }
-    ensures { result ≡ first_nameless (tables_in ends.entry)
-        (record_sites start (records types.now)) }
-{
-    for record in Records::new(types) {
-        let Ok(record) = record else { return None };
-        if let Some(place) = bad_in_record(&record, start + record.place(), ends) {
-            return Some(place);
-        }
-    }
-    None
-}
-
-/// The first name of a dictionary that is bad: the place of its reference.
-pub fn bad_name(ctf: &[u8], header: Header, ends: NameEnds<'_>) -> Option<u64>
+/// The first name of a dictionary that is bad, where that of its records is known: the place of its
+/// reference.
+pub fn bad_name(
+    ctf: &[u8],
+    header: Header,
+    ends: NameEnds<'_>,
+    in_records: Option<u64>,
+) -> Option<u64>
     requires fields { header ≡ fields ctf.now }
     requires inside { 36 + header.stroff + header.strlen ≤ length ctf.now }
+    requires in_records { in_records ≡ first_nameless (tables_in ends)
+        (record_sites (36 + (fields ctf.now).typeoff) (types ctf.now)) }
     ensures { result ≡ first_nameless (tables_in ends.entry) (sites ctf.now) }
 {
     if let Some(place) = bad_in_header(header, ends) {
@@ -129,6 +120,5 @@ pub fn bad_name(ctf: &[u8], header: Header, ends: NameEnds<'_>) -> Option<u64>
     if let Some(place) = bad_in_labels(ctf, start, (end - start) / 8, ends) {
         return Some(place);
     }
-    let (start, end) = header.range(Section::STypes);
-    bad_in_records(&ctf[start..end], start, ends)
+    in_records
 }

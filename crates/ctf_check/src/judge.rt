@@ -4,9 +4,10 @@ ghost use Rattle.ctf_chains.specs.Starts.{starts_in};
 ghost use Rattle.ctf_model.specs.format.Header.{fields};
 ghost use Rattle.ctf_model.specs.rules.Faults.{first_fault, types as types_of, walk_fault};
 ghost use Rattle.ctf_model.specs.format.Section.{records};
+ghost use Rattle.ctf_check.specs.Enough.{records_enough};
 ghost use Rattle.ctf_check.specs.ListsView.{given};
 ghost use Rattle.ctf_check.specs.Named.{first_that_misnames};
-ghost use Rattle.ctf_check.specs.Stages.{IsTypesFault, fault_before_chains, records_fault};
+ghost use Rattle.ctf_check.specs.Stages.{IsTypesFault, fault_before_chains};
 ghost use Rattle.ctf_model.specs.rules.Refusals.{out_of_memory};
 
 use crate::bad_names::bad_name;
@@ -16,9 +17,9 @@ use crate::lists::LentLists;
 use crate::references::{Numbers, bad_reference};
 use crate::sections::bytes_in;
 use crate::symbols::judge_symbols;
+use crate::walked::walk;
 use ctf_chains::Starts;
 use ctf_model::{Fault, Section};
-use ctf_records::Records;
 use ctf_sections::Header;
 use std::alloc::Global;
 
@@ -29,35 +30,19 @@ pub struct Findings {
     pub starts: Starts,
 }
 
-/// How many records a section has.
-#[tactic(auto, using(crate::proofs::Reading::walk_len))]
-fn count_records(types: &[u8]) -> Result<usize, Fault>
-    ensures count { IfOk result (λ n. n ≡ length (records types.now)) }
-    ensures few { IfOk result (λ n. n ≤ 32766) }
-    ensures exact_ok { OnOk result (records_fault (records types.now) ≡ None) }
-    ensures exact_err { IfErr result (λ f. records_fault (records types.now) ≡ Some f) }
-{
-    let mut count = 0;
-    for record in Records::new(types) {
-        let _record = record?;
-        count += 1;
-    }
-    if count > 32766 {
-        return Err(Fault {
-            code: Fault::TOO_MANY,
-            place: 32767,
-        });
-    }
-    Ok(count)
-}
-
 /// Judges the types of records: what they name, and then their chains. Answers where they begin.
 ///
 /// Takes six bytes for each record while it runs, of which the answer keeps four.
-fn judge_types(alloc: Global, types: &[u8], numbers: Numbers) -> Result<Starts, Fault>
+fn judge_types(
+    alloc: Global,
+    types: &[u8],
+    numbers: Numbers,
+    enough: usize,
+) -> Result<Starts, Fault>
     requires whole { walk_fault (records types.now) ≡ None }
     requires count { numbers.count ≡ length (records types.now) }
     requires short { length types.now < 2 ^ 32 }
+    requires enough { enough ≡ records_enough numbers.child (records types.now) }
     ensures ok { OnOk result (IsTypesFault numbers.child (records types.now) None) }
     ensures starts { IfOk result (λ s. s ≡ starts_in (records types.now)) }
     ensures err { IfErr result (λ f. (f ≡ out_of_memory)
@@ -66,7 +51,7 @@ fn judge_types(alloc: Global, types: &[u8], numbers: Numbers) -> Result<Starts, 
         (first_that_misnames numbers.child numbers.count (records types.now) ≡ None)
         ⊎ IsTypesFault numbers.child (records types.now) (Some f)) }
 {
-    match bad_reference(types, numbers) {
+    match bad_reference(types, numbers, enough) {
         Some(place) => Err(Fault {
             code: Fault::BAD_REFERENCE,
             place,
@@ -100,17 +85,21 @@ pub fn check(
 {
     let header = Header::read(ctf)?;
     let types = bytes_in(ctf, header, Section::STypes);
-    let count = count_records(types)?;
     let ends = NameEnds::new(bytes_in(ctf, header, Section::SStrings), strs);
-    if let Some(place) = bad_name(ctf, header, ends) {
+    let child = header.parname() != 0;
+    let (start, _) = header.range(Section::STypes);
+    let walked = walk(types, start, child, ends)?;
+    if let Some(place) = bad_name(ctf, header, ends, walked.bad_name) {
         return Err(Fault {
             code: Fault::BAD_NAME,
             place,
         });
     }
-    let child = header.parname() != 0;
-    let numbers = Numbers { child, count };
-    let starts = judge_types(alloc, types, numbers)?;
+    let numbers = Numbers {
+        child,
+        count: walked.count,
+    };
+    let starts = judge_types(alloc, types, numbers, walked.enough)?;
     judge_symbols(LentLists { ctf, sym, strs }, header, numbers)?;
     Ok(Findings { header, starts })
 }

@@ -4,6 +4,7 @@
 mod bad_names;
 mod checked;
 mod ends;
+mod enough;
 mod entries;
 mod facts;
 mod heads;
@@ -19,6 +20,7 @@ mod sections;
 mod symbols;
 mod told;
 mod typed;
+mod walked;
 
 pub use checked::Checked;
 pub use facts::{Facts, Shape};

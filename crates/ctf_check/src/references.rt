@@ -5,6 +5,7 @@ ghost use Rattle.ctf_model.specs.rules.References.{has_long_tag as long_tag_in, 
 ghost use Rattle.ctf_model.specs.format.Section.{records};
 ghost use Rattle.ctf_records.specs.ListedTypes.{listed_types};
 ghost use Rattle.ctf_records.specs.RecordView.{bytes_of};
+ghost use Rattle.ctf_check.specs.Enough.{records_enough};
 ghost use Rattle.ctf_check.specs.Named.{first_that_misnames, misnames as misnames_in};
 
 use ctf_model::{Kind, Place, TypeNum};
@@ -19,7 +20,7 @@ pub struct Numbers {
 }
 
 /// Whether the mark of the long form stands where a forward has what it declares.
-fn has_long_tag(term: &Record<'_>) -> bool
+pub fn has_long_tag(term: &Record<'_>) -> bool
     ensures { result ≡ long_tag_in (bytes_of term.now) }
 {
     match term.kind() {
@@ -72,7 +73,7 @@ impl Numbers {
 
 /// The first record that names a type which is not there: its number.
 #[tactic(auto, unfolding(crate::specs::Named::first_that_misnames))]
-pub fn bad_reference(types: &[u8], numbers: Numbers) -> Option<u64>
+fn searched(types: &[u8], numbers: Numbers) -> Option<u64>
     ensures { result ≡ first_that_misnames numbers.child numbers.count (records types.now) }
 {
     for record in Records::new(types) {
@@ -82,4 +83,17 @@ pub fn bad_reference(types: &[u8], numbers: Numbers) -> Option<u64>
         }
     }
     None
+}
+
+/// The same, where it is known how many types are enough for the records: they are read only to find
+/// the one for which there are too few.
+#[tactic(auto, using(crate::proofs::Served::none_misnames))]
+pub fn bad_reference(types: &[u8], numbers: Numbers, enough: usize) -> Option<u64>
+    requires enough { enough ≡ records_enough numbers.child (records types.now) }
+    ensures { result ≡ first_that_misnames numbers.child numbers.count (records types.now) }
+{
+    if enough <= numbers.count {
+        return None;
+    }
+    searched(types, numbers)
 }

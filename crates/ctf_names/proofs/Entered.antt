@@ -19,7 +19,7 @@ use Rattle.ctf_order.specs.declared.entries.Entry.{Entry}
 use Rattle.ctf_order.specs.declared.order.Order.{Order}
 use Rattle.ctf_order.proofs.Lent.{any_to, early, itself, only, same_itself}
 use Rattle.ctf_order.proofs.Search.{any_from, both, has_first, text_is}
-use Rattle.ctf_names.specs.Entries.{is_called_by, is_entry_of, is_of, AreInOrder, HasEntries, IsEntryAt}
+use Rattle.ctf_names.specs.Entries.{is_called_by, is_entry_of, is_of, AreInOrder, HasEntries, IsEntryAt, Repeats}
 use Rattle.ctf_names.specs.Sorts.{tag_shown}
 use Rattle.ctf_names.proofs.Places.{first_passes, none_passes}
 
@@ -83,6 +83,20 @@ entered t tag terms i entries e has says = record {
     inside_case : (f : Entry) → Contains entries f ⊎ Contains (e ∷ []) f → is_entry_of t tag terms f ≡ true
     inside_case f (inl h) = has.inside f h
     inside_case f (inr h) = rw (← only e f h) says.1
+
+-- nor is one entered that repeats another
+pub repeated : (t : Tables) (tag : Option Tag) (terms : List Term) (i : ℕ) (entries : List Entry) (e : Entry) → HasEntries t tag terms i entries → IsEntryAt t tag terms i (Some e) → Repeats entries e → HasEntries t tag terms (i + 1) entries
+repeated t tag terms i entries e has says r = record {
+  inside = has.inside;
+  all = λ j x lt. by_next {P = λ j. slice_get terms j ≡ Some x → is_of tag x ≡ true → list_any (is_early (name t) x.name j) entries ≡ true} i (λ k less. has.all k x less) (λ is of. any_to (is_early (name t) x.name i) entries r.other (other_early x is) r.there) j lt;
+}
+  where
+    other_early : (x : Term) → slice_get terms i ≡ Some x → is_early (name t) x.name i r.other ≡ true
+    other_early x is =
+        let here : is_called_by t tag e.reference (Some x) ≡ true = rw (says.0, is) at says.1 in
+        let parts = both (is_of tag x) (is_text (name t e.reference) x.name) here in
+        let called : is_text (name t r.other.reference) x.name ≡ true = ap (λ (n : ℕ). is_text (name t n) x.name) r.same ∙ parts.1 in
+        rw (le-leb r.other.item i (omega (arith, r.early, says.0)), called) refl
 
 pub none_yet : (t : Tables) (tag : Option Tag) (terms : List Term) → HasEntries t tag terms 0 []
 none_yet t tag terms = record { inside = λ e h. absurd (omega (arith, h.1)); all = λ i x lt. absurd (omega (arith, lt)) }

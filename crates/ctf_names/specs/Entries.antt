@@ -1,5 +1,5 @@
 -- The types that an index of names has of each sort. The words are ours.
-use Rattle.std.specs.Prelude.{◌≡◌, ◌<◌, ℕ, length, ◌&&◌, Bool, true, false, List, Option, Some, None, MatchOption, slice_get}
+use Rattle.std.specs.Prelude.{◌≡◌, ◌<◌, ◌≤◌, ℕ, length, ◌&&◌, Bool, true, false, List, Option, Some, None, MatchOption, slice_get}
 use Rattle.std.specs.List.{list_any, Contains}
 use Rattle.std.specs.List.Sorted.{IsSortedBy}
 use Rattle.ctf_model.specs.format.Dictionary.{text_or_empty}
@@ -28,6 +28,13 @@ abbrev pub IsEntryAt : Tables → Option Tag → List Term → ℕ → Option En
 IsEntryAt t tag terms place found =
     MatchOption found ((x : Term) → slice_get terms place ≡ Some x → is_of tag x ≡ false)
     (λ e. (e.item ≡ place) × (is_entry_of t tag terms e ≡ true))
+
+-- one of the entries has the same reference, and is that of a type which is not greater
+pub record Repeats (entries : List Entry) (e : Entry) : Type 0 where
+  pub other : Entry
+  pub there : Contains entries other
+  pub same : other.reference ≡ e.reference
+  pub early : other.item ≤ e.item
 
 -- entries of types of the sort: of each of the first so many the entry,
 -- or that of a smaller one of its name

@@ -1,11 +1,11 @@
 //! The types of a dictionary by their sorts, and its pointers, as they stand: each type is read
 //! once.
-ghost use Rattle.std.specs.Prelude.{◌≡◌, ◌+◌, ◌<◌, ◌^◌, IfOk, OnOk, List};
+ghost use Rattle.std.specs.Prelude.{◌≡◌, ◌+◌, ◌<◌, ◌^◌, IfOk, OnOk, List, true};
 ghost use Rattle.ctf_check.specs.CheckedView.{dictionary_of, tables_of};
 ghost use Rattle.ctf_model.specs.format.Name.{Tables};
 ghost use Rattle.ctf_model.specs.format.Term.{Term};
 ghost use Rattle.ctf_names.specs.Briefs.{HasAll, IsBriefAt};
-ghost use Rattle.ctf_names.specs.Entries.{HasEntries};
+ghost use Rattle.ctf_names.specs.Entries.{HasEntries, Repeats};
 ghost use Rattle.ctf_names.specs.Pointers.{HasPointers};
 ghost use Rattle.ctf_names.specs.Sorts.{tag_in};
 
@@ -26,7 +26,24 @@ pub(crate) struct Gathered {
     pub(crate) pointers: Vec<Pointer>,
 }
 
-/// Puts the type with a number from 0 behind the entries of a sort, if it is one of these.
+/// Whether an entry has the name of the last one, which is that of a smaller type.
+fn is_repeated(entries: &[Entry], entry: Entry) -> bool
+    ensures { result ≡ true → Repeats entries.now entry }
+{
+    let len = entries.len();
+    if len == 0 {
+        return false;
+    }
+    let last = entries[len - 1];
+    if last.reference == entry.reference {
+        last.item <= entry.item
+    } else {
+        false
+    }
+}
+
+/// Puts the type with a number from 0 behind the entries of a sort, if it is one of these and not
+/// the repetition of the last one's name.
 fn put(entries: &mut Vec<Entry>, of: Brief, sort: Sort, place: usize) -> Result<(), AllocError>
     requires { place < 2 ^ 32 }
     ensures { (t : Tables) (terms : List Term) → IsBriefAt t terms place of
@@ -36,6 +53,9 @@ fn put(entries: &mut Vec<Entry>, of: Brief, sort: Sort, place: usize) -> Result<
     let Some(entry) = entry_of(of, sort, place) else {
         return Ok(());
     };
+    if is_repeated(entries.as_slice(), entry) {
+        return Ok(());
+    }
     entries.push(entry)?;
     Ok(())
 }

@@ -23,6 +23,7 @@ pub(crate) struct Named<'a> {
 }
 
 /// What a reference names that points into the name of another.
+#[inline(always)]
 fn rest_of<'a>(before: Named<'a>, reference: u32) -> Option<&'a [u8]>
     ensures { (texts : AnyTexts) → IsLent (naming texts) before.entry
         → ForSome result (λ r. naming texts reference ≡ Some r.now) }
@@ -39,6 +40,7 @@ fn rest_of<'a>(before: Named<'a>, reference: u32) -> Option<&'a [u8]>
 }
 
 /// What a reference names. Where it points into the name of the one before it, no byte is read.
+#[inline(always)]
 fn name_after<'a>(texts: &Texts<'a>, before: Option<Named<'a>>, reference: u32) -> Option<&'a [u8]>
     requires { ForSome before (IsLent (naming texts.now)) }
     ensures { option_copied result ≡ naming texts.now reference }
@@ -52,6 +54,7 @@ fn name_after<'a>(texts: &Texts<'a>, before: Option<Named<'a>>, reference: u32) 
 }
 
 /// Whether an item has the reference of a smaller one.
+#[inline(always)]
 fn is_repeated(before: Option<Named<'_>>, item: Entry) -> bool
     ensures { result ≡ repeats (option_map (λ n. n.entry) before.entry) item }
 {
@@ -68,6 +71,7 @@ fn is_repeated(before: Option<Named<'_>>, item: Entry) -> bool
 }
 
 /// An item beside its name, if it has one, and is not the repetition of a smaller one.
+#[inline(always)]
 fn next_named<'a>(texts: &Texts<'a>, before: Option<Named<'a>>, item: Entry) -> Option<Named<'a>>
     requires { ForSome before (IsLent (naming texts.now)) }
     ensures { IsNextLent (naming texts.now) (option_map (λ n. n.entry) before.entry) item result }

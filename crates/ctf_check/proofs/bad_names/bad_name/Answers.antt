@@ -1,6 +1,6 @@
 use Rattle.std.proofs.Common.{Some, None, refl, sym, ◌∙◌}
 use Rattle.ctf_check.specs.EndsView.{tables_in}
-use Rattle.ctf_check.proofs.Sites.{sites_parts, header_part, label_part, record_part}
+use Rattle.ctf_check.proofs.Sites.{sites_parts, header_part, label_part}
 use Rattle.ctf_check.proofs.bad_names.bad_name.Goals as goal
 
 pub returns-in-Some : goal.returns-in-Some
@@ -24,5 +24,4 @@ returns c =
     let ctf = c.args.ctf.now in
     let of_header = c.bad_in_header.ensures ∙ header_part t ctf c.args.header c.requires.fields in
     let of_labels = c.bad_in_labels.ensures ∙ label_part t ctf c.args.header c.range-start.result c.requires.fields c.range-start.ensures.range in
-    let of_records = c.bad_in_records.ensures ∙ record_part t ctf c.args.header c.range-start-2.result c.requires.fields c.range-start-2.ensures.range in
-    sym (sites_parts t ctf None None c.bad_in_records.result (sym c.in_default.is ∙ of_header) (sym c.in_default-bad_in_labels.is ∙ of_labels) of_records)
+    sym (sites_parts t ctf None None c.args.in_records (sym c.in_default.is ∙ of_header) (sym c.in_default-bad_in_labels.is ∙ of_labels) c.requires.in_records)

@@ -1,7 +1,0 @@
-use Rattle.std.proofs.Common.{◌≡◌, ◌+◌, length}
-use Rattle.ctf_model.specs.rules.Faults.{walk_fault}
-use Rattle.ctf_model.specs.format.Section.{records}
-use Rattle.ctf_check.proofs.judge.count_records.Given as goal
-
-abbrev pub invariant-loop-record : goal.invariant-loop-record
-invariant-loop-record l = (walk_fault l.record-iterator ≡ walk_fault (records l.types)) × (l.count + length l.record-iterator ≡ length (records l.types))
