@@ -1,6 +1,7 @@
 pub mod Telling
 pub mod Digits
 pub mod Turns
+pub mod Left
 pub mod Fronts
 pub mod Places
 pub mod AtNames
@@ -8,3 +9,7 @@ pub mod Lines
 pub mod Begun
 pub mod Listed
 pub mod Kept
+pub mod Escapes
+pub mod Lexing
+pub mod Punctuation
+pub mod WordFronts

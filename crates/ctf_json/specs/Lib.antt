@@ -3,3 +3,8 @@ pub mod Passed
 pub mod Keys
 pub mod Values
 pub mod Kept
+pub mod Memory
+pub mod Plain
+pub mod PlainLexer
+pub mod PlainReader
+pub mod Readers

@@ -8,9 +8,14 @@ mod lists;
 mod looking;
 mod numbers;
 mod passing;
+mod plain_lexer;
+mod plain_reader;
+mod readers;
 mod reading;
+mod runs;
 mod values;
 mod wanted;
+mod words;
 
 pub use keys::KEYS;
 pub use line::{Fields, Line};

@@ -13,10 +13,11 @@ ghost use Rattle.ctf_json.specs.declared.wanted.Wanted.TheVariants as wants;
 
 use crate::numbers::natural;
 use crate::passing::{pass_from, pass_items};
+use crate::readers::Reader;
 use crate::reading::NotRead;
 use crate::values::{Field, Read};
 use crate::wanted::Wanted;
-use json::{Invalid, Reader, Token};
+use json::{Invalid, Token};
 use std::alloc::Global;
 
 /// What is kept of the items of an array that has begun.

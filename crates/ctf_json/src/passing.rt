@@ -1,10 +1,12 @@
 //! Passes values that no one asks for, and builds nothing.
 ghost use Rattle.std.specs.Prelude.{◌≡◌, ◌<◌, ◌≤◌, ◌∷◌, None, Some, MatchResult, OnOk, length};
 ghost use Rattle.json.specs.Reads.{token_of};
+ghost use Rattle.ctf_json.specs.Memory.{IsLeft};
 ghost use Rattle.ctf_json.specs.Passed.{passed_items, passed_members, passed_value};
 
 use crate::numbers::has_value;
-use json::{Invalid, Reader, Token};
+use crate::readers::Reader;
+use json::{Invalid, Token};
 
 /// Passes a value. Invalid if there is none whose arrays and objects nest no deeper than `depth`,
 /// or if one of its numbers has no value.
@@ -14,6 +16,7 @@ pub(crate) fn pass(reader: &mut Reader<'_>, depth: usize) -> Result<(), Invalid>
     ensures passed { MatchResult result (λ _. passed_value depth reader.old ≡ Some reader.new)
         (λ _. passed_value depth reader.old ≡ None) }
     ensures shorter { OnOk result (length reader.new < length reader.old) }
+    ensures left { OnOk result (IsLeft reader.old reader.new) }
 {
     let token = reader.next().ok_or(Invalid)?;
     pass_from(token, reader, depth)
@@ -31,6 +34,7 @@ pub(crate) fn pass_from(
         (λ _. passed_value depth (token_of token.entry ∷ reader.old) ≡ Some reader.new)
         (λ _. passed_value depth (token_of token.entry ∷ reader.old) ≡ None) }
     ensures shorter { OnOk result (length reader.new ≤ length reader.old) }
+    ensures left { OnOk result (IsLeft (token_of token.entry ∷ reader.old) reader.new) }
 {
     match token {
         Token::Null | Token::Bool(_) | Token::String(_) => Ok(()),
@@ -74,6 +78,7 @@ fn pass_members(reader: &mut Reader<'_>, depth: usize) -> Result<(), Invalid>
     ensures passed { MatchResult result (λ _. passed_members depth reader.old ≡ Some reader.new)
         (λ _. passed_members depth reader.old ≡ None) }
     ensures shorter { OnOk result (length reader.new < length reader.old) }
+    ensures left { OnOk result (IsLeft reader.old reader.new) }
 {
     while let Some(_) = reader.next_key()? {
         pass(reader, depth)?;

@@ -5,6 +5,7 @@ ghost use Rattle.json.specs.Reads.{token_of};
 ghost use Rattle.serde_json.specs.Read.{read as read_text};
 ghost use Rattle.ctf_json.specs.Keys.{wanted_at};
 ghost use Rattle.ctf_json.specs.Kept.{AreKept, IsKept, IsReadAt};
+ghost use Rattle.ctf_json.specs.Memory.{IsLeft, list_among, takes_memory};
 ghost use Rattle.ctf_json.specs.Passed.{begun, passed_members, passed_value};
 ghost use Rattle.ctf_json.specs.Told.{told};
 ghost use Rattle.ctf_json.specs.Values.{IsNew, fits, line_said, read_said, said};
@@ -14,8 +15,9 @@ use crate::keys::{place_of, wanted};
 use crate::line::Line;
 use crate::lists::list_at;
 use crate::passing::{pass, pass_from};
+use crate::readers::Reader;
 use crate::values::{Field, Read};
-use json::{Invalid, Reader, Scratch, Token};
+use json::{Invalid, Scratch, Token};
 use std::alloc::Global;
 
 /// How deep arrays and objects may nest.
@@ -49,6 +51,7 @@ pub fn read_line<'a>(
 ) -> Result<(), NotRead>
     ensures ok { IsNew line.old → OnOk result (IsReadAt text.now (line_said line.new)) }
     ensures refused { result ≡ Err why.NotJson → read_text text.now ≡ None }
+    ensures memory { result ≡ Err why.Memory → takes_memory text.now ≡ true }
 {
     let Ok(mut reader) = Reader::new(text, scratch) else {
         return Err(NotRead::Memory);
@@ -66,6 +69,7 @@ fn line_at<'a>(alloc: Global, reader: &mut Reader<'a>, line: &mut Line<'a>) -> R
     ensures ok { OnOk result (AreKept (IsNew line.old) (read_value 127 reader.old)
         (line_said line.new) reader.new) }
     ensures refused { result ≡ Err why.NotJson → passed_value 127 reader.old ≡ None }
+    ensures memory { result ≡ Err why.Memory → list_among reader.old ≡ true }
 {
     let token = reader.next().ok_or(Invalid)?;
     if let Token::BeginObject = token {
@@ -88,6 +92,7 @@ fn members_at<'a>(
         (read_members (read_value depth) (length reader.old) reader.old)) (line_said line.new)
         reader.new) }
     ensures refused { result ≡ Err why.NotJson → passed_members depth reader.old ≡ None }
+    ensures memory { result ≡ Err why.Memory → list_among reader.old ≡ true }
 {
     while let Some(key) = reader.next_key()? {
         if let Some(place) = place_of(key) {
@@ -113,6 +118,8 @@ fn next_value<'a>(
     ensures fits { IfOk result (λ v. fits (wanted_at key.now) v ≡ true) }
     ensures shorter { OnOk result (length reader.new < length reader.old) }
     ensures refused { result ≡ Err why.NotJson → passed_value depth reader.old ≡ None }
+    ensures memory { result ≡ Err why.Memory → list_among reader.old ≡ true }
+    ensures left { OnOk result (IsLeft reader.old reader.new) }
 {
     let token = reader.next().ok_or(Invalid)?;
     if let Token::BeginArray = token {

@@ -370,9 +370,13 @@ module _ (a b : Data) (same : (key : List ℕ) → is_one_of key keys ≡ true �
   asked_with (word.Held question) = about_held (Some question) (Some question) refl
   asked_with word.Bytes = about_held _ _ bytes
 
+  -- of the same word
+  pub word-same : asks.word_asked a ≡ asks.word_asked b
+  word-same = ap (option_and_then (λ w. word_named w words)) (text (codes "op") refl)
+
   request : asks.request_asked a ≡ asks.request_asked b
   request =
-      ap (λ o. option_and_then (asks.asked_with a) (option_and_then (λ w. word_named w words) o)) (text (codes "op") refl)
+      ap (option_and_then (asks.asked_with a)) word-same
       ∙ each (asks.asked_with a) (asks.asked_with b) asked_with (asks.word_asked b)
 
   asked_by : (session : Option ℕ) → asks.asked_by a session ≡ asks.asked_by b session

@@ -11,3 +11,4 @@ pub mod Objects
 pub mod Passes
 pub mod Decimals
 pub mod AskedParts
+pub mod Needing

@@ -3,3 +3,4 @@ pub mod Appending
 pub mod Fronts
 pub mod Putting
 pub mod LineBuffers
+pub mod Memory

@@ -1,5 +1,5 @@
 //! What can be read from a line, and what can be written as one.
-ghost use Rattle.std.specs.Prelude.{◌≡◌, ◌≢◌, ◌<◌, length, ℕ, List, Result, Ok, Err, IfOk, IfErr};
+ghost use Rattle.std.specs.Prelude.{◌≡◌, ◌≢◌, ◌<◌, length, ℕ, List, Bool, true, Result, Ok, Err, IfOk, IfErr};
 ghost use Rattle.ctf_lines.specs.Appending.{Writes};
 
 use ctf_json::Scratch;
@@ -17,6 +17,9 @@ pub trait FromLine: Sized {
     /// refusal.
     ghost asked: { List ℕ → Result (ℕ × Self) (ℕ × Fault) };
 
+    /// Whether memory may be taken to read a line.
+    ghost takes_memory: { List ℕ → Bool };
+
     /// Reads a line, given without its newline.
     fn read(alloc: Global, scratch: &mut Scratch, line: &[u8]) -> Result<(u32, Self), (u32, Fault)>
         ensures ok { IfOk result (λ said. asked line.now ≡ Ok said) }
@@ -26,6 +29,8 @@ pub trait FromLine: Sized {
         // Where memory was refused, no session is said.
         ensures memory { IfErr result (λ refusal. refusal.1.code ≡ MEMORY
             → refusal ≡ (0, placeless MEMORY)) }
+        ensures needed { IfErr result (λ refusal. refusal.1.code ≡ MEMORY
+            → takes_memory line.now ≡ true) }
         // A line that is too long takes no memory.
         ensures long { longest_line < length line.now → asked line.now ≡ result };
 }

@@ -1,8 +1,9 @@
 //! Reads the request of a line.
-ghost use Rattle.std.specs.Prelude.{◌≡◌, ◌≢◌, ◌≤◌, IfSome, Option, None, Some, IfOk, IfErr, Ok, Err, codes, option_map, option_and_then};
+ghost use Rattle.std.specs.Prelude.{◌≡◌, ◌≢◌, ◌≤◌, IfSome, Option, None, Some, IfOk, IfErr, Ok, Err, codes, option_map, option_and_then, OnErr, true};
 ghost use Rattle.serde_json.specs.Find.{as_array, as_number, as_u64, get};
 ghost use Rattle.serde_json.specs.Read.{read as read_json};
 ghost use Rattle.ctf_json.specs.Values.{line_said as view, texts_said, value_said as value_view};
+ghost use Rattle.ctf_lines.specs.Memory.{keeps_text, takes_memory, word_keeps_text};
 ghost use Rattle.ctf_protocol.specs.lines.Ask.{ask, open_asked, list_named, close_asked, import_asked, publication_asked, publish_asked, take_asked, withdraw_asked, about_type as type_question_asked, about_slot as slot_question_asked, about_held as held_question_asked, bytes_asked, symbol_asked, show_asked, names_asked, part_asked, word_asked, asked_with, request_asked, value_asked};
 ghost use Rattle.ctf_protocol.specs.lines.LineFields.{names_spelled, in_range, number_in, text_in, slot_under as slot_named, slot_in, type_asked, name_under as name_asked, from_asked, count_asked, window_asked};
 ghost use Rattle.ctf_protocol.specs.words.Words.{word_named, words};
@@ -31,6 +32,8 @@ const LONGEST_KEPT: usize = 8_192;
 
 impl FromLine for Request {
     ghost asked = { ask };
+
+    ghost takes_memory = { takes_memory };
 
     fn read(
         alloc: Global,
@@ -63,6 +66,8 @@ fn read_text(
         → value_asked (read_json text.now) ≡ Err refusal) }
     ensures memory { IfErr result (λ refusal. refusal.1.code ≡ MEMORY
         → refusal ≡ (0, out_of_memory)) }
+    ensures needed { IfErr result (λ refusal. refusal.1.code ≡ MEMORY
+        → takes_memory text.now ≡ true) }
 {
     let mut line = Line::new();
     match ctf_json::read_line(alloc, text, scratch, &mut line) {
@@ -79,6 +84,8 @@ fn read_fields(alloc: Global, line: &Line<'_>) -> Result<(u32, Request), (u32, F
         → value_asked (Some (view line.now)) ≡ Err refusal) }
     ensures memory { IfErr result (λ refusal. refusal.1.code ≡ MEMORY
         → refusal ≡ (0, placeless MEMORY)) }
+    ensures needed { IfErr result (λ refusal. refusal.1.code ≡ MEMORY
+        → word_keeps_text (word_asked (view line.now)) ≡ true) }
 {
     let Some(session) = number(line, "s", 1, u64::from(u32::MAX)) else {
         return Err((0, placeless(Fault::BAD_REQUEST)));
@@ -120,7 +127,8 @@ pub(crate) fn text<'a>(line: &Line<'a>, key: &str) -> Option<&'a str>
 }
 
 fn read_request(alloc: Global, line: &Line<'_>) -> Result<Option<Request>, AllocError>
-    ensures { IfOk result (λ request. request ≡ request_asked (view line.now)) }
+    ensures ok { IfOk result (λ request. request ≡ request_asked (view line.now)) }
+    ensures needed { OnErr result (word_keeps_text (word_asked (view line.now)) ≡ true) }
 {
     let Some(word) = word(line) else {
         return Ok(None);
@@ -162,7 +170,8 @@ fn named_long(text: &str) -> Option<Word>
 
 /// What a word asks, with its fields. Those that take no memory are asked most.
 fn read_word(alloc: Global, line: &Line<'_>, word: Word) -> Result<Option<Request>, AllocError>
-    ensures { IfOk result (λ request. request ≡ asked_with (view line.now) word) }
+    ensures ok { IfOk result (λ request. request ≡ asked_with (view line.now) word) }
+    ensures needed { OnErr result (keeps_text word ≡ true) }
 {
     match word {
         Word::Plain(question) => Ok(about_type(line, Some(TypeQuestion::Plain(question)))),
@@ -172,7 +181,8 @@ fn read_word(alloc: Global, line: &Line<'_>, word: Word) -> Result<Option<Reques
 
 #[inline(never)]
 fn read_other(alloc: Global, line: &Line<'_>, word: Word) -> Result<Option<Request>, AllocError>
-    ensures { IfOk result (λ request. request ≡ asked_with (view line.now) word) }
+    ensures ok { IfOk result (λ request. request ≡ asked_with (view line.now) word) }
+    ensures needed { OnErr result (keeps_text word ≡ true) }
 {
     match word {
         Word::Part => read_part(alloc, line),

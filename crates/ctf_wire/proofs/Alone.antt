@@ -18,12 +18,12 @@ use Rattle.ctf_protocol.proofs.SessionRuns.{found_same}
 use Rattle.ctf_wire.specs.Memory.{IsGrantedUnless, MayNeedMemory}
 use Rattle.ctf_wire.specs.Served.{Answers}
 use Rattle.ctf_laws.proofs.Promises.{runs_promise}
-use Rattle.ctf_wire.specs.Serving.{AllStay, AreMarked, BrokerStep, IsMarked, LineSteps, Said, ServesAlone}
+use Rattle.ctf_wire.specs.Serving.{AllStay, AreMarked, BrokerStep, IsMarked, LineSteps, MayWant, Said, ServesAlone}
 use Rattle.ctf_broker.specs.Table.{Libraries, library_at}
 
--- what a line did: memory was refused to reading one that is not too long, or it was answered
+-- what a line did: memory was refused to reading one that may want it, or it was answered
 abbrev Did : (ℕ → State) → List ℕ → List ℕ → (ℕ → State) → Type 0
-Did old line written new = ((length line ≤ 1048576) × (written ≡ reply_line (no_memory 0)) × AllStay old new) ⊎ Said old (ask line) written new
+Did old line written new = (MayWant (Some line) × (written ≡ reply_line (no_memory 0)) × AllStay old new) ⊎ Said old (ask line) written new
 
 -- a line that is too long to be stored asks what its place does
 did_stored : (old new : ℕ → State) (line written : List ℕ) → LineSteps old (stored line) written new → Did old line written new

@@ -1,5 +1,6 @@
 -- What serving the lines of all sessions does to a broker and a sink. Source: ours.
-use Rattle.std.specs.Prelude.{◌≡◌, ◌≢◌, ℕ, ◌≤◌, List, [], ◌∷◌, ◌++◌, length, Option, None, Some, Result, Ok, Err, ◌⊎◌}
+use Rattle.std.specs.Prelude.{◌≡◌, ◌≢◌, ℕ, ◌≤◌, List, [], ◌∷◌, ◌++◌, length, true, Option, None, Some, Result, Ok, Err, ◌⊎◌}
+use Rattle.ctf_lines.specs.Memory.{takes_memory}
 use Rattle.ctf_protocol.specs.lines.Ask.{ask}
 use Rattle.ctf_protocol.specs.lines.Lines.{longest_line}
 use Rattle.ctf_protocol.specs.lines.Output.{Mark, answered, calls_after, calls_made, out, refused, unread}
@@ -36,10 +37,11 @@ Said old (Ok said) written new =
     (reply : Reply) × (written ≡ reply_line reply) × Steps old said.0 said.1 reply new
     × IsGrantedUnless old said.0 said.1 reply new
 
--- memory may be refused to reading a line, but to none that is too long
+-- memory may be refused to reading a line, but to none that is too long, and to none that has no
+-- backslash and no list and asks what keeps no text, however long it is
 abbrev pub MayWant : Option (List ℕ) → Type 0
 MayWant None = ⊥
-MayWant (Some line) = length line ≤ longest_line
+MayWant (Some line) = (length line ≤ longest_line) × (takes_memory line ≡ true)
 
 -- one line among the libraries of all sessions: memory was refused to reading it,
 -- or it was answered
@@ -52,10 +54,10 @@ LineSteps old line written new =
 abbrev pub BrokerStep : Libraries → Option (List ℕ) → List ℕ → Libraries → Type 0
 BrokerStep old line written new = LineSteps (library_at old) line written (library_at new)
 
--- a mark that memory was refused to reading a line stands at none that is too long, and one that
--- it was refused to a request stands at none that needs no memory
+-- a mark that memory was refused to reading a line stands at none that needs none to be read, and
+-- one that it was refused to a request stands at none that needs no memory
 abbrev pub IsMarked : (ℕ → State) → List ℕ → Result (ℕ × Request) (ℕ × Fault) → Mark → Type 0
-IsMarked libraries line said unread = length line ≤ longest_line
+IsMarked libraries line said unread = MayWant (Some line)
 IsMarked libraries line said refused = MayRefuse libraries said
 IsMarked libraries line said answered = Unit {0}
 

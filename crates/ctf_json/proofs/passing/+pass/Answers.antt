@@ -6,6 +6,7 @@ use Rattle.json.proofs.Grammar.{value_is, value-begin_array, value-begin_object,
 use Rattle.serde_json.specs.Read.{number_of}
 use Rattle.ctf_json.specs.Told.{in_range, items_in_range, members_in_range}
 use Rattle.ctf_json.specs.Passed.{passed, passed_items, passed_members, passed_value}
+use Rattle.ctf_json.proofs.Left.{left_key}
 use Rattle.ctf_json.proofs.Turns.{passed-array, passed-object, pass_item, pass_member, refuse_item, refuse_member}
 use Rattle.ctf_json.proofs.passing.+pass.Goals as goal
 
@@ -49,8 +50,13 @@ pass_members-loop-reader-preserved t c =
     let s = c.next_key.new.self in
     let key : read_key l.reader ≡ Some (Some k, s) = grind arith in
     let less = read_key-shorter l.reader (Some k) s key in
-    let lesser = c.in_ok-pass.ensures.shorter in
-    (n - 1, omega (arith, l.invariant.1), l.invariant.2 ∙ pass_member p n k l.reader s _ (omega (arith, l.invariant.1)) key c.in_ok-pass.ensures.passed, omega (arith, l.invariant.3))
+    let lesser = c.in_ok-pass.ensures.shorter in (
+      n - 1,
+      omega (arith, l.invariant.1),
+      l.invariant.2 ∙ pass_member p n k l.reader s _ (omega (arith, l.invariant.1)) key c.in_ok-pass.ensures.passed,
+      omega (arith, l.invariant.3),
+      λ h. l.invariant.4 (left_key l.reader (Some k) s key (c.in_ok-pass.ensures.left h)),
+    )
 
 pub pass_members-returns-in_err-pass-clause-passed : goal.pass_members-returns-in_err-pass-clause-passed
 pass_members-returns-in_err-pass-clause-passed t c =

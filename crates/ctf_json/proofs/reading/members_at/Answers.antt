@@ -9,6 +9,7 @@ use Rattle.ctf_json.specs.Told.{in_range, members_in_range, told}
 use Rattle.ctf_json.specs.Values.{keys, line_said, read_said}
 use Rattle.ctf_json.proofs.Fronts.{mapped, none_before, one_member_more, then_last, unmoved}
 use Rattle.ctf_json.proofs.Kept.{last_kept, not_one, other_kept}
+use Rattle.ctf_json.proofs.Left.{all_left, left_key}
 use Rattle.ctf_json.proofs.Telling.{get-told}
 use Rattle.ctf_json.proofs.Turns.{passed-some, refuse_member, refused_behind}
 use Rattle.ctf_json.proofs.reading.members_at.Goals as goal
@@ -17,7 +18,7 @@ use Rattle.std.specs.Prelude.{option_map}
 pub loop-key-init : goal.loop-key-init
 loop-key-init c =
     let old = c.args.reader.now in
-    (length old, omega arith, (λ ms. ms), (λ q. None), unmoved (members (value c.args.depth) (length old) old), none_before, omega arith, λ new q one. new q)
+    (length old, omega arith, (λ ms. ms), (λ q. None), unmoved (members (value c.args.depth) (length old) old), none_before, omega arith, all_left old, λ new q one. new q)
 
 pub returns-in_err-key-clause-refused : goal.returns-in_err-key-clause-refused
 returns-in_err-key-clause-refused c is =
@@ -37,6 +38,14 @@ returns-in_err-value-clause-refused c is =
     let ts = c.next_key.new.self in
     let key : read_key l.reader ≡ Some (Some k, ts) = grind arith in
     refused_behind members_in_range s.2 s.5.good (members p (length old) old) (members p s.0 l.reader) s.4 (refuse_member p s.0 k l.reader ts key (grind arith))
+
+pub returns-in_err-value-clause-memory : goal.returns-in_err-value-clause-memory
+returns-in_err-value-clause-memory c is =
+    let l = c.loop-key in
+    let k = c.in-Some.key.now in
+    let ts = c.next_key.new.self in
+    let key : read_key l.reader ≡ Some (Some k, ts) = grind arith in
+    l.invariant.7 (left_key l.reader (Some k) ts key (grind arith))
 
 pub returns-in_err-pass-clause-refused : goal.returns-in_err-pass-clause-refused
 returns-in_err-pass-clause-refused c is =
@@ -80,7 +89,8 @@ loop-key-preserved-in-Some-place_of c =
       s.4 ∙ ap (parse_map s.2) (members_more p n k l.reader ts r j.0 (omega (arith, s.1, less)) key j.1) ∙ mapped s.2 (member k j.0) (members p (n - 1) r),
       one_member_more s.2 s.3 k j.0 s.5 j.2,
       omega (arith, s.6, less, lesser),
-      λ new q one. c.keep.ensures q ∙ last_kept k q j.0 s.3 (read_said c.in_ok-value.value) (get q (line_said l.line)) j.3 (s.7 new q one),
+      (λ h. s.7 (left_key l.reader (Some k) ts key (done.left h))),
+      λ new q one. c.keep.ensures q ∙ last_kept k q j.0 s.3 (read_said c.in_ok-value.value) (get q (line_said l.line)) j.3 (s.8 new q one),
     )
 
 pub loop-key-preserved : goal.loop-key-preserved
@@ -104,7 +114,8 @@ loop-key-preserved c =
       s.4 ∙ ap (parse_map s.2) (members_more p n k l.reader ts r j.0 (omega (arith, s.1, less)) key j.1) ∙ mapped s.2 (member k j.0) (members p (n - 1) r),
       one_member_more s.2 s.3 k j.0 s.5 j.2,
       omega (arith, s.6, less, lesser),
-      λ new q one. other_kept k q j.0 s.3 (get q (line_said l.line)) (not_one k keys nowhere) one (s.7 new q one),
+      (λ h. s.7 (left_key l.reader (Some k) ts key (c.in_ok-pass.ensures.left h))),
+      λ new q one. other_kept k q j.0 s.3 (get q (line_said l.line)) (not_one k keys nowhere) one (s.8 new q one),
     )
 
 pub returns-clause-ok : goal.returns-clause-ok
@@ -117,5 +128,5 @@ returns-clause-ok c =
       object ms,
       ap (parse_map object) (s.4 ∙ ap (parse_map s.2) (members_end p s.0 l.reader r s.1 (grind arith))),
       s.5.good no_members,
-      λ new q one. s.7 new q one ∙ ap (option_map (kept (wanted_at q))) (ap (option_map told) (sym (s.5.last q no_members)) ∙ get-told q (object ms)),
+      λ new q one. s.8 new q one ∙ ap (option_map (kept (wanted_at q))) (ap (option_map told) (sym (s.5.last q no_members)) ∙ get-told q (object ms)),
     )

@@ -4,6 +4,7 @@ use Rattle.json.specs.Reads.{token_of}
 use Rattle.json.proofs.Grammar.{value_is, value-begin_array}
 use Rattle.ctf_json.specs.Keys.{wanted_at}
 use Rattle.ctf_json.specs.Kept.{listed}
+use Rattle.ctf_json.specs.Memory.{list_among}
 use Rattle.ctf_json.specs.Passed.{passed, passed_items, passed_value}
 use Rattle.ctf_json.specs.Told.{in_range, told_items}
 use Rattle.ctf_json.specs.Values.{said}
@@ -56,4 +57,6 @@ returns c =
       fits = refl;
       shorter = omega (arith, longer, shorter);
       refused = λ is. grind arith;
+      memory = λ is. grind arith;
+      left = λ h. ap list_among first ∙ c.in_ok-pass_from.ensures.left h;
     }

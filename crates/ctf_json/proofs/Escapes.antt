@@ -1,0 +1,35 @@
+-- Whether a byte stands in a text.
+use Rattle.std.proofs.Common.{◌≡◌, ℕ, suc, zero, ◌<◌, ◌≤◌, Bool, true, false, ◌||◌, ◌==◌, List, [], ◌∷◌, length, get_or, refl, sym, ap, ◌∙◌, arith}
+use Rattle.std.specs.Prelude.{slice_index}
+use Rattle.std.proofs.lemmas.Bool.{false≢true, true≢false, or_parts}
+use Rattle.std.proofs.lemmas.Bool.Decides.{nat_tests}
+use Rattle.memchr.specs.Find.{Nowhere, Passes, is_byte}
+use Rattle.ctf_json.specs.Memory.{has_byte}
+
+or_left : (b c : Bool) → b ≡ true → (b || c) ≡ true
+or_left true c e = refl
+or_left false c e = absurd (false≢true e)
+
+or_right : (b c : Bool) → c ≡ true → (b || c) ≡ true
+or_right true c e = refl
+or_right false c e = e
+
+neither : (b c : Bool) → b ≡ false → c ≡ false → (b || c) ≡ false
+neither true c e f = e
+neither false c e f = f
+
+pub found : (xs : List ℕ) (k : ℕ) → k < length xs → is_byte 92 (slice_index xs k) ≡ true → has_byte 92 xs ≡ true
+found [] k h e = let no : ⊥ = omega arith in absurd no
+found (x ∷ xs) zero h e = or_left (x == 92) (has_byte 92 xs) (grind (arith, nat_tests, e))
+found (x ∷ xs) (suc k) h e = or_right (x == 92) (has_byte 92 xs) (found xs k (omega arith) e)
+
+pub nowhere : (xs : List ℕ) → Nowhere (Passes (is_byte 92) xs) 0 (length xs) → has_byte 92 xs ≡ false
+nowhere [] h = refl
+nowhere (x ∷ xs) h =
+    let first = h 0 (omega arith) (omega arith) in
+    neither (x == 92) (has_byte 92 xs) (grind (arith, nat_tests, first)) (nowhere xs (λ k low high. h (suc k) (omega arith) (omega arith)))
+
+pub no_escape_at : (xs : List ℕ) (i : ℕ) → has_byte 92 xs ≡ false → get_or xs i 32 ≡ 92 → ⊥
+no_escape_at [] i e is = let no : ⊥ = omega (arith, is) in no
+no_escape_at (x ∷ xs) zero e is = true≢false (sym (ap (λ y. y == 92) is) ∙ (or_parts (x == 92) (has_byte 92 xs) e).0)
+no_escape_at (x ∷ xs) (suc i) e is = no_escape_at xs i (or_parts (x == 92) (has_byte 92 xs) e).1 is

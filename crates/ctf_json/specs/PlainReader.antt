@@ -1,0 +1,45 @@
+-- The model of a reader of texts without escapes. Only private clauses cite it.
+use Rattle.std.specs.Prelude.{◌≡◌, ◌≢◌, ℕ, List, [], ◌∷◌, Bool, true, false, ⊤}
+use Rattle.json.specs.Token.{Token, bad}
+use Rattle.json.specs.Word.{head}
+use Rattle.json.specs.Lex.{between, lex, fresh, after_value, after_comma, may_begin, may_close, punctuate}
+use Rattle.json.specs.Lex as spec
+use Rattle.ctf_json.specs.declared.plain_reader.Place.{Place}
+use Rattle.ctf_json.specs.declared.plain_reader.Place.TheVariants.{Fresh, AfterValue, AfterComma, Failed}
+
+abbrev pub tokens_at : Place → List ℕ → List Token
+tokens_at Fresh text = punctuate fresh (lex between text)
+tokens_at AfterValue text = punctuate after_value (lex between text)
+tokens_at AfterComma text = punctuate after_comma (lex between text)
+tokens_at Failed text = []
+
+abbrev pub NotBeforeComma : Place → List ℕ → Type 0
+NotBeforeComma Fresh text = ⊤
+NotBeforeComma AfterValue text = head text ≢ 44
+NotBeforeComma AfterComma text = ⊤
+NotBeforeComma Failed text = ⊤
+
+-- wherever a value may begin, the text `old` gives t and then what `new` gives
+abbrev pub Begins : List ℕ → Token → Place → List ℕ → Type 0
+Begins old t place new = (p : spec.Place) → may_begin p ≡ true → punctuate p (lex between old) ≡ t ∷ tokens_at place new
+
+abbrev pub Closes : List ℕ → Token → Place → List ℕ → Type 0
+Closes old t place new = (p : spec.Place) → may_close p ≡ true → punctuate p (lex between old) ≡ t ∷ tokens_at place new
+
+abbrev pub closes_at : Place → Bool
+closes_at Fresh = true
+closes_at AfterValue = true
+closes_at AfterComma = false
+closes_at Failed = false
+
+abbrev pub begins_at : Place → Bool
+begins_at Fresh = true
+begins_at AfterValue = false
+begins_at AfterComma = true
+begins_at Failed = false
+
+abbrev pub refused_at : Place → List Token
+refused_at Fresh = bad ∷ []
+refused_at AfterValue = bad ∷ []
+refused_at AfterComma = bad ∷ []
+refused_at Failed = []

@@ -1,0 +1,122 @@
+//! Readers of texts: over memory that is lent to them, or of a text without escapes, over none.
+ghost use Rattle.std.specs.Prelude.{◌≡◌, [], ◌∷◌, None, Some, true, IfOk, MatchOption, MatchResult, OnErr, option_map};
+ghost use Rattle.std.specs.Bool.{MatchBool};
+ghost use Rattle.json.specs.Json.{after_end_array, read_key};
+ghost use Rattle.json.specs.Lex.{tokens};
+ghost use Rattle.json.specs.Reads.{token_of};
+ghost use Rattle.ctf_json.specs.Memory.{has_byte};
+
+use crate::plain_reader::PlainReader;
+use json::{Invalid, Scratch, Token};
+use memchr::memchr;
+use std::alloc::AllocError;
+use std::marker::Model;
+
+/// How long a text is that is sooner read byte by byte than by way of an index.
+const SHORT: usize = 512;
+
+#[derive(Drop)]
+pub(crate) enum Source<'a> {
+    Lent(json::Reader<'a>),
+    Plain(PlainReader<'a>),
+}
+
+/// A clause sees the tokens that are still to come.
+#[derive(Drop)]
+pub(crate) struct Reader<'a> {
+    source: Source<'a>,
+}
+
+impl<'a> Model for Reader<'a> {
+    ghost use Rattle.std.specs.Prelude.{List};
+    ghost use Rattle.json.specs.Token.{Token as SpecToken, tokens_code};
+
+    ghost Value = { List SpecToken };
+
+    ghost coded = { tokens_code };
+
+    ghost use Rattle.ctf_json.specs.Readers.{left_of};
+
+    ghost view = { λ a. left_of a.source };
+}
+
+fn has_escape(text: &[u8]) -> bool
+    ensures { result ≡ has_byte 92 text.now }
+{
+    match memchr(b'\\', text) {
+        Some(_) => true,
+        None => false,
+    }
+}
+
+fn without_scratch<'a>(text: &'a str) -> Result<Reader<'a>, AllocError>
+    ensures ok { IfOk result (λ reader. reader ≡ tokens text.now) }
+    ensures full { OnErr result (has_byte 92 text.now ≡ true) }
+{
+    if has_escape(text.as_bytes()) {
+        return Err(AllocError);
+    }
+    Ok(Reader {
+        source: Source::Plain(PlainReader::new(text)),
+    })
+}
+
+impl<'a> Reader<'a> {
+    /// A short text without escapes is read where it stands. Of others, strings with escapes are
+    /// written to the scratch, which grows to the length of the text; where it can't, a text
+    /// without escapes is read all the same.
+    pub(crate) fn new(text: &'a str, scratch: &'a mut Scratch) -> Result<Reader<'a>, AllocError>
+        ensures ok { IfOk result (λ reader. reader ≡ tokens text.now) }
+        ensures full { OnErr result (has_byte 92 text.now ≡ true) }
+    {
+        if text.len() <= SHORT {
+            if let Ok(reader) = without_scratch(text) {
+                return Ok(reader);
+            }
+        }
+        match json::Reader::new(text, scratch) {
+            Ok(reader) => Ok(Reader {
+                source: Source::Lent(reader),
+            }),
+            Err(AllocError) => without_scratch(text),
+        }
+    }
+
+    #[inline(always)]
+    pub(crate) fn next(&mut self) -> Option<Token<'a>>
+        ensures { MatchOption result ((self.old ≡ []) × (self.new ≡ []))
+            (λ t. self.old ≡ token_of t ∷ self.new) }
+    {
+        match &mut self.source {
+            Source::Plain(reader) => reader.next(),
+            Source::Lent(reader) => reader.next(),
+        }
+    }
+
+    /// A key, or None at the brace that closes an object.
+    #[inline(always)]
+    pub(crate) fn next_key(&mut self) -> Result<Option<&'a str>, Invalid>
+        ensures value { MatchResult result
+            (λ k. read_key self.old ≡ Some (option_map (λ s. s.now) k, self.new))
+            (λ _. read_key self.old ≡ None) }
+    {
+        let token = self.next().ok_or(Invalid)?;
+        match token {
+            Token::Key(key) => Ok(Some(key)),
+            Token::EndObject => Ok(None),
+            _ => Err(Invalid),
+        }
+    }
+
+    /// Takes the bracket that closes an array, if it is next.
+    #[inline(always)]
+    pub(crate) fn take_end_array(&mut self) -> bool
+        ensures { MatchBool result (after_end_array self.old ≡ Some self.new)
+            ((after_end_array self.old ≡ None) × (self.new ≡ self.old)) }
+    {
+        match &mut self.source {
+            Source::Plain(reader) => reader.take_end_array(),
+            Source::Lent(reader) => reader.take_end_array(),
+        }
+    }
+}
