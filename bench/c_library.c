@@ -2,8 +2,9 @@
  *
  * usage: c_library CTF QUESTION ROUNDS
  *
- * A round asks it of each type, member or name that it is for. Prints how many calls a round has,
- * how many nanoseconds all rounds took, and how many bytes the dictionary has.
+ * A round asks it of each type, member or name that it is for: of members, of enumerators and of
+ * all that lies in a struct by the row. Prints how many calls a round has, or rows, how many
+ * nanoseconds all rounds took, and how many bytes the dictionary has.
  */
 #include "c_library.h"
 
@@ -87,33 +88,68 @@ static void collect(void)
     }
 }
 
+/* How many rows a call fills. */
+#define ROWS 64
+
+/* The first byte of a name, which stands in the section. */
+static unsigned char begins(uint32_t list, uint64_t at)
+{
+    return list == CTFD_IN_SECTION ? (unsigned char)bytes[at] : 0;
+}
+
 static size_t ask_members(void)
 {
-    size_t i, at, calls = 0;
+    static struct ctfd_member_row rows[ROWS];
+    size_t i, at, from, calls = 0;
     for (i = 0; i < structs.len; i++) {
-        struct ctfd_member member;
-        char name[64];
-        for (at = 0; ctfd_member(&types, (uint16_t)structs.at[i], at, name, sizeof name,
-                 &member) == CTFD_OK; at++) {
-            sum += member.offset + member.type + (unsigned char)*name;
-            calls++;
+        uint64_t count = 1;
+        for (from = 0; from < count; from += ROWS) {
+            ctfd_members(&types, (uint16_t)structs.at[i], from, rows, ROWS, &count);
+            for (at = 0; at < ROWS && from + at < count; at++)
+                sum += rows[at].offset + rows[at].type +
+                    begins(rows[at].name_list, rows[at].name_at);
         }
+        calls += count;
     }
     return calls;
 }
 
 static size_t ask_enumerators(void)
 {
-    size_t i, at, calls = 0;
+    static struct ctfd_enumerator_row rows[ROWS];
+    size_t i, at, from, calls = 0;
     for (i = 0; i < enums.len; i++) {
-        char name[64];
-        int32_t value = 0;
-        uint64_t len = 0;
-        for (at = 0; ctfd_enumerator(&types, (uint16_t)enums.at[i], at, name, sizeof name, &value,
-                 &len) == CTFD_OK; at++) {
-            sum += (uint64_t)value + (unsigned char)*name;
-            calls++;
+        uint64_t count = 1;
+        for (from = 0; from < count; from += ROWS) {
+            ctfd_enumerators(&types, (uint16_t)enums.at[i], from, rows, ROWS, &count);
+            for (at = 0; at < ROWS && from + at < count; at++)
+                sum += (uint64_t)rows[at].value + begins(rows[at].name_list, rows[at].name_at);
         }
+        calls += count;
+    }
+    return calls;
+}
+
+/* A struct with all that lies in it, in one call where the room suffices. */
+static size_t ask_visit(void)
+{
+    static struct ctfd_visit_row *rows;
+    static size_t room = ROWS;
+    size_t i, at, calls = 0;
+    for (i = 0; i < structs.len; i++) {
+        uint64_t count = 0;
+        while (rows == NULL ||
+            (ctfd_visit(&types, (uint16_t)structs.at[i], rows, room, &count) == CTFD_OK &&
+                count > room)) {
+            room *= 2;
+            rows = realloc(rows, room * sizeof *rows);
+            if (rows == NULL)
+                exit(2);
+        }
+        for (at = 0; at < count; at++)
+            sum += rows[at].offset + rows[at].type + rows[at].depth +
+                begins(rows[at].name_list, rows[at].name_at);
+        calls += count;
     }
     return calls;
 }
@@ -225,7 +261,9 @@ static size_t round_of(const char *question)
         return ask_named(question);
     if (is_one_of(question, "value enumerated"))
         return ask_firsts(question);
-    if (is_one_of(question, "visit types"))
+    if (strcmp(question, "visit") == 0)
+        return ask_visit();
+    if (strcmp(question, "types") == 0)
         return 0;
     if (strcmp(question, "reference") == 0) {
         uint16_t to = 0;

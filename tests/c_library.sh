@@ -11,11 +11,13 @@
 # - An object file that has seen no header of ours, and ctypes, use libctfd.so.
 # - Dumps by the calls of ctfd.h and by those of libctf are those of `ctfd dump`: of programs, of a
 #   child with its parent, and with pointers of 4 bytes.
-# - What is asked of each type, member, enumerator, name and symbol is answered as by the service.
+# - What is asked of each type, member, enumerator, name and symbol is answered as by the service,
+#   and rows as by the single calls; a visit goes from a child into its parent.
 # - Lines are answered as by the service.
 # - What is refused writes no result and closes nothing; so does each allocation that is refused.
-# - Dictionaries that were made to cost much cost a time that is linear in their bytes: twice as
-#   many types or names take at most 2.2 times the instructions, as valgrind counts them.
+# - Dictionaries that were made to cost much cost a time that is linear in their bytes, and a visit
+#   one that is linear in its rows: twice as many types, names or rows take at most 2.2 times the
+#   instructions, as valgrind counts them.
 # - ELF files are opened, by libelf and zlib where these are here (c_library/elf.sh).
 # - Damaged dictionaries, lines and random calls, and walks of libctf's calls over random
 #   dictionaries, under AddressSanitizer and UndefinedBehaviorSanitizer: N rounds of them (10000;
@@ -96,7 +98,7 @@ for header in ctfd ctfd_libctf; do
     fi
 done
 
-for name in dump answers lines refusals refuse libctf hostile; do
+for name in dump answers visits lines refusals refuse libctf hostile; do
     count "compile $name.c" compile "$tests/$name.c" $name
 done
 for name in ctfdump first; do
@@ -204,12 +206,14 @@ done
 echo 'struct lua_State: 200 bytes' > wanted
 (cd "$top" && "$work/first") > seen
 count "the first example" same wanted seen
+count "visits in a child" ./visits
 count refusals ./refusals "$top/examples"
 count "libctf's calls" ./libctf "$top/examples" "$work"
 count "what was made to cost much" timeout 60 ./hostile
 if command -v valgrind > /dev/null; then
     count "a circle of types" twice circle 16383
     count "names that have one hash" twice names 25575
+    count "a visit that ends nowhere" twice visit 20000
 else
     echo "skipped: no valgrind here"
 fi

@@ -343,6 +343,28 @@ enum ctfd_status ctfd_members(struct ctfd *handle, uint16_t t, size_t from,
 enum ctfd_status ctfd_enumerators(struct ctfd *handle, uint16_t t, size_t from,
     struct ctfd_enumerator_row *rows, size_t rows_len, uint64_t *count);
 
+/* A type in a visit: `type` is that of a member of the struct or union `holder`, which lies in
+ * `depth` others and begins `offset` bits behind the beginning of the outermost: UINT64_MAX past 64
+ * bits. The lists of its name are those of the dictionary that has the holder. The outermost type
+ * comes first, without a name, at depth 0 and as its own holder. */
+struct ctfd_visit_row {
+    uint64_t offset;
+    uint64_t name_at;
+    uint32_t name_list;
+    uint32_t depth;
+    uint16_t type;
+    uint16_t holder;
+};
+
+/* Fills rows with a type and all that lies in it, as far as they reach: the members of the struct
+ * or union that it stands for, in order, each followed by what lies in that. What an array holds or
+ * a pointer points to is not visited, and a member whose type is no struct or union, or is not
+ * there, has nothing in it. `*count` is how many rows all take; where that is more than rows_len,
+ * it is rows_len + 1, however many there are: ask again with more, as twice as many. It takes as
+ * long as the rows that it fills. */
+enum ctfd_status ctfd_visit(struct ctfd *handle, uint16_t t, struct ctfd_visit_row *rows,
+    size_t rows_len, uint64_t *count);
+
 /* What a function type returns, and the type of an argument: a last 0 says that more may follow.
  * Refused alike. */
 enum ctfd_status ctfd_return(struct ctfd *handle, uint16_t t, uint16_t *out);
@@ -518,6 +540,7 @@ CTFD_ASSERT(sizeof(struct ctfd_encoding) == 12 && sizeof(struct ctfd_array) == 8
 CTFD_ASSERT(sizeof(struct ctfd_member) == 24 && sizeof(struct ctfd_label) == 16);
 CTFD_ASSERT(sizeof(struct ctfd_function) == 16);
 CTFD_ASSERT(sizeof(struct ctfd_member_row) == 24 && sizeof(struct ctfd_enumerator_row) == 16);
+CTFD_ASSERT(sizeof(struct ctfd_visit_row) == 32);
 #undef CTFD_ASSERT
 
 #ifdef __cplusplus

@@ -206,6 +206,56 @@ static void enumerators_by_rows(uint16_t t)
     }
 }
 
+/* A visit's rows, as the single calls have them: each type, and then its members in turn. `next` is
+ * the number of the row that is compared, behind the last of them where there are no more. */
+static void visit_by_calls(const struct ctfd_visit_row *rows, size_t count, size_t *next,
+    struct ctfd_visit_row at)
+{
+    struct ctfd_member one;
+    uint32_t kind = CTFD_UNKNOWN;
+    uint16_t holder = 0;
+    size_t i;
+    if (ctfd_resolve(&types, at.type, &holder) != CTFD_OK ||
+        ctfd_kind(&types, holder, &kind) != CTFD_OK || (kind != CTFD_STRUCT && kind != CTFD_UNION))
+        return;
+    for (i = 0; *next < count &&
+         ctfd_member(&types, holder, i, room, sizeof room, &one) == CTFD_OK; i++) {
+        const struct ctfd_visit_row *row = &rows[(*next)++];
+        if (row->offset != at.offset + one.offset || row->type != one.type ||
+            row->holder != holder || row->depth != at.depth + 1 ||
+            !stands(row->name_list, row->name_at, room, one.name_len))
+            printf("visit %u %zu: another row\n", rows->type, *next - 1);
+        visit_by_calls(rows, count, next, *row);
+    }
+}
+
+/* The rows of a visit, in as much room as they need and in less. */
+static void visit_by_rows(uint16_t t)
+{
+    static struct ctfd_visit_row rows[4096], fewer[4];
+    uint64_t count = 0, all = 0, len;
+    size_t next = 1;
+    if (ctfd_visit(&types, t, rows, sizeof rows / sizeof rows[0], &all) != CTFD_OK ||
+        all == 0 || all > sizeof rows / sizeof rows[0]) {
+        if (ctfd_length(&types, t, &count) == CTFD_OK)
+            printf("visit %u: not told\n", t);
+        return;
+    }
+    visit_by_calls(rows, all, &next, rows[0]);
+    if (next != all || rows[0].type != t || rows[0].offset != 0 || rows[0].depth != 0 ||
+        rows[0].holder != t || rows[0].name_list != CTFD_NOWHERE || rows[0].name_at != 0)
+        printf("visit %u: %llu rows\n", t, (unsigned long long)all);
+    for (len = 0; len <= 4; len++) {
+        memset(fewer, 0x5a, sizeof fewer);
+        if (ctfd_visit(&types, t, fewer, len, &count) != CTFD_OK ||
+            count != (all <= len ? all : len + 1) ||
+            memcmp(fewer, rows, sizeof rows[0] * (all < len ? all : len)) != 0)
+            printf("visit %u: another %llu rows\n", t, (unsigned long long)len);
+        if (all < 4 && len == 4 && fewer[all].offset != 0x5a5a5a5a5a5a5a5a)
+            printf("visit %u: a row is written\n", t);
+    }
+}
+
 static void texts(uint16_t t)
 {
     uint8_t memory[64];
@@ -285,6 +335,7 @@ int main(int argc, char **argv)
         lists(type);
         members_by_rows(type);
         enumerators_by_rows(type);
+        visit_by_rows(type);
         texts(type);
     }
     symbols((uint32_t)(sym.len / 24));

@@ -211,6 +211,21 @@ static void ask_text(struct ctfd *d)
     free(memory.at);
 }
 
+/* A visit into a block of just that length. */
+static void ask_visit(struct ctfd *d, uint16_t t, size_t len)
+{
+    struct ctfd_visit_row *rows =
+        (struct ctfd_visit_row *)calloc(len != 0 ? len : 1, sizeof *rows);
+    uint64_t all = 77;
+    enum ctfd_status status;
+    if (rows == NULL)
+        exit(2);
+    status = ctfd_visit(d, t, rows, len, &all);
+    count(status);
+    CHECK(status == CTFD_OK ? all <= len + 1 : all == 77 && rows[0].type == 0);
+    free(rows);
+}
+
 /* Rows in a block of just their length. */
 static void ask_rows(struct ctfd *d)
 {
@@ -233,6 +248,7 @@ static void ask_rows(struct ctfd *d)
     CHECK(status == CTFD_OK || (all == 77 && enumerators[0].name_at == 0));
     free(members);
     free(enumerators);
+    ask_visit(d, t, len);
 }
 
 /* Something is added to what may be a draft. */

@@ -4,6 +4,7 @@
  * usage: hostile               checks what ctf_type_compat answers of arrays in circles
  *        hostile circle TYPES  compares two arrays of a circle of so many types less one
  *        hostile names NAMES   lists so many enumerators, whose names have one hash
+ *        hostile visit ROWS    fills so many rows of a visit that has more than anybody could
  *
  * With two words nothing is checked but that the answer is right: what it costs is counted from
  * outside, of so many and of twice as many.
@@ -17,6 +18,7 @@
 #define INTEGER (CTF_K_INTEGER << 11 | ROOT)
 #define ARRAY (CTF_K_ARRAY << 11 | ROOT)
 #define ENUM (CTF_K_ENUM << 11 | ROOT)
+#define STRUCT (CTF_K_STRUCT << 11 | ROOT)
 
 static void put_integer(struct made *made, uint32_t name)
 {
@@ -193,14 +195,63 @@ static int list_names(unsigned names)
     return listed != names;
 }
 
+/* A struct with two members of the type in front of it, which is half as long. */
+static void put_pair(struct made *made)
+{
+    unsigned i;
+    put_head(made, 0, STRUCT | 2, 0);
+    for (i = 0; i < 2; i++) {
+        put32(made, 0);
+        put16(made, made->types);
+        put16(made, 8 * i);
+    }
+    made->types++;
+}
+
+/* 512 structs in each other, each twice in the next: 2^513 rows, of which some are filled. */
+static int visit_doubled(unsigned rows_len)
+{
+    enum { DEEP = 512 };
+    static const char strings[] = "\0int";
+    struct made made = { (uint8_t *)malloc(100 + 24 * DEEP), 0, 1 };
+    struct ctfd_visit_row *rows = (struct ctfd_visit_row *)calloc(rows_len, sizeof *rows);
+    struct ctfd types = CTFD_NONE;
+    uint64_t place, count = 0;
+    unsigned i, wrong = 0;
+    if (made.at == NULL || rows == NULL)
+        exit(2);
+    begin_made(&made);
+    put_integer(&made, 1);
+    for (i = 0; i < DEEP; i++)
+        put_pair(&made);
+    end_made(&made, strings, sizeof strings);
+    wrong += ctfd_open(&types, made.at, made.len, "", 0, "", 0, false, false, false, &place) !=
+        CTFD_OK;
+    wrong += ctfd_visit(&types, DEEP + 1, rows, rows_len, &count) != CTFD_OK;
+    wrong += count != rows_len + 1ull;
+    for (i = 0; i < rows_len && i <= DEEP; i++)
+        wrong += rows[i].type != DEEP + 1 - i || rows[i].depth != i || rows[i].offset != 0;
+    for (; i < rows_len; i++)
+        wrong += rows[i].type + rows[i].depth != DEEP + 1;
+    ctfd_close(&types);
+    free(rows);
+    free(made.at);
+    return wrong != 0;
+}
+
 int main(int argc, char **argv)
 {
     unsigned count = argc > 2 ? (unsigned)strtoul(argv[2], NULL, 10) : 0;
+    if (argc > 2 && strcmp(argv[1], "visit") == 0)
+        return visit_doubled(count);
     if (argc > 2)
         return strcmp(argv[1], "circle") == 0 ? compare_circle(count) : list_names(count);
     compare_with_themselves();
     compare_doubled();
     CHECK(compare_circle(32766) == 0);
     CHECK(list_names(51150) == 0);
+    CHECK(visit_doubled(1) == 0);
+    CHECK(visit_doubled(513) == 0);
+    CHECK(visit_doubled(100000) == 0);
     return counted("hostile");
 }

@@ -10,22 +10,58 @@
 #define MOST_BYTES 16777216
 #endif
 
+/* Details stand in blocks, which are freed all at once. */
+#define BLOCK_BYTES 8192
+
+struct ctfd__block {
+    struct ctfd__block *next;
+    size_t size, used;
+};
+
+/* Room for details, which are not cleared; NULL where there is no memory. */
+static void *taken(ctf_file_t *fp, size_t size)
+{
+    struct ctfd__block *block = fp->blocks;
+    if (block == NULL || block->size - block->used < size) {
+        size_t room = size > BLOCK_BYTES ? size : BLOCK_BYTES;
+        block = (struct ctfd__block *)malloc(sizeof *block + room);
+        if (block == NULL)
+            return NULL;
+        block->next = fp->blocks;
+        block->size = room;
+        block->used = 0;
+        fp->blocks = block;
+    }
+    block->used += size;
+    return (char *)(block + 1) + block->used - size;
+}
+
+static void free_blocks(ctf_file_t *fp)
+{
+    while (fp->blocks != NULL) {
+        struct ctfd__block *next = fp->blocks->next;
+        free(fp->blocks);
+        fp->blocks = next;
+    }
+}
+
 void ctfd__forget_details(ctf_file_t *fp)
 {
     size_t i, j;
     if (fp->details_bytes == 0)
         return;
+    fp->dropped++;
     for (i = 0; i < sizeof fp->pages / sizeof fp->pages[0]; i++) {
-        for (j = 0; fp->pages[i] != NULL && j < 256; j++) {
+        for (j = 0; fp->pages[i] != NULL && j < CTFD_PAGE; j++) {
             struct ctfd__details *gone = fp->pages[i]->details[j];
             if (gone == NULL)
                 continue;
             free(gone->by_value);
             free(gone->by_name);
-            free(gone);
             fp->pages[i]->details[j] = NULL;
         }
     }
+    free_blocks(fp);
     fp->details_bytes = 0;
 }
 
@@ -65,9 +101,9 @@ static enum ctfd_status read_members(ctf_file_t *fp, uint16_t t, struct ctfd__de
         status = ctfd_members(&fp->types, t, from, rows, more, &count);
         for (i = 0; status == CTFD_OK && i < more; i++) {
             struct ctfd__item *item = &made->items[from + i];
+            item->name = lent(fp, is_lent, rows[i].name_list, rows[i].name_at);
             item->at = rows[i].offset;
             item->type = rows[i].type;
-            item->name = lent(fp, is_lent, rows[i].name_list, rows[i].name_at);
         }
     }
     return status;
@@ -85,8 +121,9 @@ static enum ctfd_status read_enumerators(ctf_file_t *fp, uint16_t t, struct ctfd
         status = ctfd_enumerators(&fp->types, t, from, rows, more, &count);
         for (i = 0; status == CTFD_OK && i < more; i++) {
             struct ctfd__item *item = &made->items[from + i];
-            item->at = (uint32_t)rows[i].value;
             item->name = lent(fp, is_lent, rows[i].name_list, rows[i].name_at);
+            item->at = (uint32_t)rows[i].value;
+            item->type = 0;
         }
     }
     return status;
@@ -96,8 +133,12 @@ static enum ctfd_status read_arguments(ctf_file_t *fp, uint16_t t, struct ctfd__
 {
     enum ctfd_status status = CTFD_OK;
     uint32_t i;
-    for (i = 0; status == CTFD_OK && i < made->count; i++)
-        status = ctfd_argument(&fp->types, t, i, &made->items[i].type);
+    for (i = 0; status == CTFD_OK && i < made->count; i++) {
+        struct ctfd__item *item = &made->items[i];
+        item->name = NULL;
+        item->at = 0;
+        status = ctfd_argument(&fp->types, t, i, &item->type);
+    }
     return status;
 }
 
@@ -146,18 +187,22 @@ static enum ctfd_status count_items(ctf_file_t *fp, uint16_t t, uint32_t kind, u
     }
 }
 
-/* Details with room for so many items, where the file keeps them from now on. */
-static struct ctfd__details *placed(ctf_file_t *fp, uint16_t t, size_t count)
+/* Details of a kind with room for so many items, where the file keeps them from now on. */
+static struct ctfd__details *placed(ctf_file_t *fp, uint16_t t, uint32_t kind, size_t count)
 {
+    static const struct ctfd__details none;
     size_t size = sizeof(struct ctfd__details) + count * sizeof(struct ctfd__item);
     struct ctfd__page *page = ctfd__page(fp, t);
     struct ctfd__details *made;
     if (fp->details_bytes + size > MOST_BYTES)
         ctfd__forget_details(fp);
-    made = page != NULL ? (struct ctfd__details *)calloc(1, size) : NULL;
+    made = page != NULL ? (struct ctfd__details *)taken(fp, size) : NULL;
     if (made == NULL)
         return NULL;
-    page->details[t & 255] = made;
+    *made = none;
+    made->kind = kind;
+    made->count = (uint32_t)count;
+    page->details[t % CTFD_PAGE] = made;
     fp->details_bytes += size;
     return made;
 }
@@ -172,18 +217,15 @@ struct ctfd__details *ctfd__read(ctf_file_t *fp, uint16_t t)
         status = count_items(fp, t, kind, &count);
     if (ctfd__done(fp, status) != 0)
         return NULL;
-    made = placed(fp, t, (size_t)count);
+    made = placed(fp, t, kind, (size_t)count);
     if (made == NULL) {
         (void)ctfd__fail(fp, CTFD_MEMORY);
         return NULL;
     }
-    made->kind = kind;
-    made->count = (uint32_t)count;
     status = read_all(fp, t, made);
     if (status == CTFD_OK)
         return made;
-    fp->pages[t >> 8]->details[t & 255] = NULL;
-    free(made);
+    fp->pages[t / CTFD_PAGE]->details[t % CTFD_PAGE] = NULL;
     (void)ctfd__done(fp, status);
     return NULL;
 }

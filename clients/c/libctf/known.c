@@ -29,120 +29,120 @@ void ctfd__forget(ctf_file_t *fp)
 
 struct ctfd__page *ctfd__page(ctf_file_t *fp, uint16_t t)
 {
-    struct ctfd__page *page = fp->pages[t >> 8];
+    struct ctfd__page *page = fp->pages[t / CTFD_PAGE];
     if (page == NULL)
-        page = fp->pages[t >> 8] = (struct ctfd__page *)calloc(1, sizeof *page);
+        page = fp->pages[t / CTFD_PAGE] = (struct ctfd__page *)calloc(1, sizeof *page);
     return page;
 }
 
 enum ctfd_status ctfd__kind(ctf_file_t *fp, uint16_t t, uint32_t *kind)
 {
-    struct ctfd__page *page = fp->pages[t >> 8];
+    struct ctfd__page *page = fp->pages[t / CTFD_PAGE];
     enum ctfd_status status;
-    if (page != NULL && (page->known[t & 255] & KNOWS_KIND) != 0) {
-        *kind = page->kinds[t & 255];
+    if (page != NULL && (page->known[t % CTFD_PAGE] & KNOWS_KIND) != 0) {
+        *kind = page->kinds[t % CTFD_PAGE];
         return CTFD_OK;
     }
     status = ctfd_kind(&fp->types, t, kind);
     if (status == CTFD_OK && (page = ctfd__page(fp, t)) != NULL) {
-        page->kinds[t & 255] = (uint8_t)*kind;
-        page->known[t & 255] |= KNOWS_KIND;
+        page->kinds[t % CTFD_PAGE] = (uint8_t)*kind;
+        page->known[t % CTFD_PAGE] |= KNOWS_KIND;
     }
     return status;
 }
 
 enum ctfd_status ctfd__root(ctf_file_t *fp, uint16_t t, uint32_t *root)
 {
-    struct ctfd__page *page = fp->pages[t >> 8];
+    struct ctfd__page *page = fp->pages[t / CTFD_PAGE];
     enum ctfd_status status;
-    if (page != NULL && (page->known[t & 255] & KNOWS_ROOT) != 0) {
-        *root = (page->known[t & 255] & IS_ROOT) != 0;
+    if (page != NULL && (page->known[t % CTFD_PAGE] & KNOWS_ROOT) != 0) {
+        *root = (page->known[t % CTFD_PAGE] & IS_ROOT) != 0;
         return CTFD_OK;
     }
     status = ctfd_root(&fp->types, t, root);
     if (status == CTFD_OK && (page = ctfd__page(fp, t)) != NULL)
-        page->known[t & 255] |= (uint8_t)(KNOWS_ROOT | (*root != 0 ? IS_ROOT : 0));
+        page->known[t % CTFD_PAGE] |= (uint8_t)(KNOWS_ROOT | (*root != 0 ? IS_ROOT : 0));
     return status;
 }
 
 enum ctfd_status ctfd__resolve(ctf_file_t *fp, uint16_t t, uint16_t *to)
 {
-    struct ctfd__page *page = fp->pages[t >> 8];
+    struct ctfd__page *page = fp->pages[t / CTFD_PAGE];
     enum ctfd_status status;
-    if (page != NULL && (page->known[t & 255] & KNOWS_RESOLVED) != 0) {
-        *to = page->resolved[t & 255];
+    if (page != NULL && (page->known[t % CTFD_PAGE] & KNOWS_RESOLVED) != 0) {
+        *to = page->resolved[t % CTFD_PAGE];
         return CTFD_OK;
     }
     status = ctfd_resolve(&fp->types, t, to);
     if (status == CTFD_OK && (page = ctfd__page(fp, t)) != NULL) {
-        page->resolved[t & 255] = *to;
-        page->known[t & 255] |= KNOWS_RESOLVED;
+        page->resolved[t % CTFD_PAGE] = *to;
+        page->known[t % CTFD_PAGE] |= KNOWS_RESOLVED;
     }
     return status;
 }
 
 enum ctfd_status ctfd__reference(ctf_file_t *fp, uint16_t t, uint16_t *to)
 {
-    struct ctfd__page *page = fp->pages[t >> 8];
+    struct ctfd__page *page = fp->pages[t / CTFD_PAGE];
     enum ctfd_status status;
-    if (page != NULL && (page->known[t & 255] & KNOWS_REFERENCE) != 0) {
-        *to = page->references[t & 255];
+    if (page != NULL && (page->known[t % CTFD_PAGE] & KNOWS_REFERENCE) != 0) {
+        *to = page->references[t % CTFD_PAGE];
         return CTFD_OK;
     }
     status = ctfd_reference(&fp->types, t, to);
     if (status == CTFD_OK && (page = ctfd__page(fp, t)) != NULL) {
-        page->references[t & 255] = *to;
-        page->known[t & 255] |= KNOWS_REFERENCE;
+        page->references[t % CTFD_PAGE] = *to;
+        page->known[t % CTFD_PAGE] |= KNOWS_REFERENCE;
     }
     return status;
 }
 
 enum ctfd_status ctfd__pointer(ctf_file_t *fp, uint16_t t, uint16_t *to)
 {
-    struct ctfd__page *page = fp->pages[t >> 8];
+    struct ctfd__page *page = fp->pages[t / CTFD_PAGE];
     enum ctfd_status status;
-    if (page != NULL && (page->known[t & 255] & KNOWS_POINTER) != 0) {
-        if (page->pointers[t & 255] == 0)
+    if (page != NULL && (page->known[t % CTFD_PAGE] & KNOWS_POINTER) != 0) {
+        if (page->pointers[t % CTFD_PAGE] == 0)
             return CTFD_NOT_FOUND;
-        *to = page->pointers[t & 255];
+        *to = page->pointers[t % CTFD_PAGE];
         return CTFD_OK;
     }
     status = ctfd_pointer(&fp->types, t, to);
     if ((status == CTFD_OK || status == CTFD_NOT_FOUND) && (page = ctfd__page(fp, t)) != NULL) {
-        page->pointers[t & 255] = status == CTFD_OK ? *to : 0;
-        page->known[t & 255] |= KNOWS_POINTER;
+        page->pointers[t % CTFD_PAGE] = status == CTFD_OK ? *to : 0;
+        page->known[t % CTFD_PAGE] |= KNOWS_POINTER;
     }
     return status;
 }
 
 enum ctfd_status ctfd__size(ctf_file_t *fp, uint16_t t, uint64_t *bytes)
 {
-    struct ctfd__page *page = fp->pages[t >> 8];
+    struct ctfd__page *page = fp->pages[t / CTFD_PAGE];
     enum ctfd_status status;
-    if (page != NULL && (page->known[t & 255] & KNOWS_SIZE) != 0) {
-        *bytes = page->sizes[t & 255];
+    if (page != NULL && (page->known[t % CTFD_PAGE] & KNOWS_SIZE) != 0) {
+        *bytes = page->sizes[t % CTFD_PAGE];
         return CTFD_OK;
     }
     status = ctfd_size(&fp->types, t, bytes);
     if (status == CTFD_OK && *bytes <= UINT32_MAX && (page = ctfd__page(fp, t)) != NULL) {
-        page->sizes[t & 255] = (uint32_t)*bytes;
-        page->known[t & 255] |= KNOWS_SIZE;
+        page->sizes[t % CTFD_PAGE] = (uint32_t)*bytes;
+        page->known[t % CTFD_PAGE] |= KNOWS_SIZE;
     }
     return status;
 }
 
 enum ctfd_status ctfd__align(ctf_file_t *fp, uint16_t t, uint64_t *bytes)
 {
-    struct ctfd__page *page = fp->pages[t >> 8];
+    struct ctfd__page *page = fp->pages[t / CTFD_PAGE];
     enum ctfd_status status;
-    if (page != NULL && (page->known[t & 255] & KNOWS_ALIGN) != 0) {
-        *bytes = page->aligns[t & 255];
+    if (page != NULL && (page->known[t % CTFD_PAGE] & KNOWS_ALIGN) != 0) {
+        *bytes = page->aligns[t % CTFD_PAGE];
         return CTFD_OK;
     }
     status = ctfd_align(&fp->types, t, bytes);
     if (status == CTFD_OK && *bytes <= UINT16_MAX && (page = ctfd__page(fp, t)) != NULL) {
-        page->aligns[t & 255] = (uint16_t)*bytes;
-        page->known[t & 255] |= KNOWS_ALIGN;
+        page->aligns[t % CTFD_PAGE] = (uint16_t)*bytes;
+        page->known[t % CTFD_PAGE] |= KNOWS_ALIGN;
     }
     return status;
 }

@@ -29,29 +29,48 @@ static struct ctfd__details *details_of(ctf_file_t *fp, uint16_t t, bool is_of_e
     return NULL;
 }
 
-/* An item by its number, with its name; `left` is false behind the last. NULL on an error, and
- * behind the last. A callback may have changed what is open, so each is looked up anew. */
-static const struct ctfd__item *item_at(ctf_file_t *fp, uint16_t t, bool is_of_enum, uint32_t i,
-    bool *left)
+/* A list of items that is walked. */
+struct walk {
+    ctf_file_t *fp;
+    const struct ctfd__details *details; /* as they are while the file has dropped no more */
+    uint64_t dropped;
+    uint16_t t;
+    bool is_of_enum;
+};
+
+static struct walk walk_of(ctf_file_t *fp, uint16_t t, bool is_of_enum)
 {
-    const struct ctfd__details *details = details_of(fp, t, is_of_enum);
-    *left = details == NULL || i < details->count;
-    if (details == NULL || !*left)
+    struct walk walk = { fp, NULL, 0, t, is_of_enum };
+    return walk;
+}
+
+/* An item by its number, with its name; `left` is false behind the last. NULL on an error, and
+ * behind the last. Where a callback has changed what is open, details are looked up anew. */
+static inline const struct ctfd__item *item_at(struct walk *walk, uint32_t i, bool *left)
+{
+    const struct ctfd__item *item;
+    if (walk->details == NULL || walk->dropped != walk->fp->dropped) {
+        walk->details = details_of(walk->fp, walk->t, walk->is_of_enum);
+        walk->dropped = walk->fp->dropped;
+    }
+    *left = walk->details == NULL || i < walk->details->count;
+    if (walk->details == NULL || !*left)
         return NULL;
-    if (details->items[i].name == NULL && ctfd__keep_name(fp, t, i) == NULL)
-        return NULL;
-    return &details->items[i];
+    item = &walk->details->items[i];
+    return item->name != NULL || ctfd__keep_name(walk->fp, walk->t, i) != NULL ? item : NULL;
 }
 
 int ctf_member_iter(ctf_file_t *fp, ctf_id_t type, ctf_member_f *each, void *arg)
 {
     const struct ctfd__item *item;
+    struct walk walk;
     uint32_t i;
     bool left;
     type = ctf_type_resolve(fp, type);
     if (type == CTF_ERR)
         return (int)CTF_ERR;
-    for (i = 0; (item = item_at(fp, (uint16_t)type, false, i, &left)) != NULL; i++) {
+    walk = walk_of(fp, (uint16_t)type, false);
+    for (i = 0; (item = item_at(&walk, i, &left)) != NULL; i++) {
         int said = each(item->name, (ctf_id_t)item->type, (ulong_t)item->at, arg);
         if (said != 0)
             return said;
@@ -70,6 +89,7 @@ struct visited {
 static int visit(ctf_file_t *fp, struct visited at, ctf_visit_f *each, void *arg)
 {
     const struct ctfd__item *item;
+    struct walk walk;
     uint16_t resolved = 0;
     uint32_t i, kind = 0;
     bool left;
@@ -81,7 +101,8 @@ static int visit(ctf_file_t *fp, struct visited at, ctf_visit_f *each, void *arg
     said = each(at.name, at.type, at.offset, at.depth, arg);
     if (said != 0 || (kind != CTFD_STRUCT && kind != CTFD_UNION))
         return said;
-    for (i = 0; (item = item_at(fp, resolved, false, i, &left)) != NULL; i++) {
+    walk = walk_of(fp, resolved, false);
+    for (i = 0; (item = item_at(&walk, i, &left)) != NULL; i++) {
         struct visited in = { item->name, (ctf_id_t)item->type, at.offset + (ulong_t)item->at,
             at.depth + 1 };
         said = visit(fp, in, each, arg);
@@ -106,12 +127,14 @@ static int value_of(const struct ctfd__item *item)
 int ctf_enum_iter(ctf_file_t *fp, ctf_id_t type, ctf_enum_f *each, void *arg)
 {
     const struct ctfd__item *item;
+    struct walk walk;
     uint32_t i;
     bool left;
     type = ctf_type_resolve(fp, type);
     if (type == CTF_ERR)
         return (int)CTF_ERR;
-    for (i = 0; (item = item_at(fp, (uint16_t)type, true, i, &left)) != NULL; i++) {
+    walk = walk_of(fp, (uint16_t)type, true);
+    for (i = 0; (item = item_at(&walk, i, &left)) != NULL; i++) {
         int said = each(item->name, value_of(item), arg);
         if (said != 0)
             return said;

@@ -42,6 +42,7 @@ struct ctfd__item {
     uint16_t type;
 };
 
+struct ctfd__block;
 struct ctfd__index;
 
 /* What a type's record holds: of an integer, a float, an array, a function, a struct, a union or an
@@ -58,16 +59,19 @@ struct ctfd__details {
     struct ctfd__item items[];
 };
 
-/* What was found of 256 types; each answer is kept as it was given, or is not there yet. */
+/* How many types a page has: few, so that one that is asked of a few types stays small. */
+#define CTFD_PAGE 64
+
+/* What was found of some types; each answer is kept as it was given, or is not there yet. */
 struct ctfd__page {
-    struct ctfd__details *details[256];
-    uint16_t resolved[256];
-    uint16_t references[256];
-    uint16_t pointers[256]; /* 0 where there is none */
-    uint16_t aligns[256];
-    uint32_t sizes[256];
-    uint8_t kinds[256];
-    uint8_t known[256];
+    struct ctfd__details *details[CTFD_PAGE];
+    uint16_t resolved[CTFD_PAGE];
+    uint16_t references[CTFD_PAGE];
+    uint16_t pointers[CTFD_PAGE]; /* 0 where there is none */
+    uint16_t aligns[CTFD_PAGE];
+    uint32_t sizes[CTFD_PAGE];
+    uint8_t kinds[CTFD_PAGE];
+    uint8_t known[CTFD_PAGE];
 };
 
 struct ctf_file {
@@ -84,8 +88,10 @@ struct ctf_file {
     void *bytes; /* those of a draft, for ctf_dataptr and ctf_string_iter */
     struct ctfd__lists lists;
     struct ctfd__texts texts;
-    struct ctfd__page *pages[256];
+    struct ctfd__page *pages[65536 / CTFD_PAGE];
+    struct ctfd__block *blocks;
     size_t details_bytes;
+    uint64_t dropped; /* counts how often details were dropped */
     uint64_t generation; /* counts changes of what is open, from 1 */
     uint64_t labels;
     char *room;
@@ -169,8 +175,8 @@ HIDDEN struct ctfd__details *ctfd__read(ctf_file_t *fp, uint16_t t);
 /* Those of a type, until a callback is called or others are asked for. */
 static inline struct ctfd__details *ctfd__details(ctf_file_t *fp, uint16_t t)
 {
-    const struct ctfd__page *page = fp->pages[t >> 8];
-    struct ctfd__details *known = page != NULL ? page->details[t & 255] : NULL;
+    const struct ctfd__page *page = fp->pages[t / CTFD_PAGE];
+    struct ctfd__details *known = page != NULL ? page->details[t % CTFD_PAGE] : NULL;
     return known != NULL ? known : ctfd__read(fp, t);
 }
 

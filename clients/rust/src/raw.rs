@@ -69,6 +69,25 @@ pub struct EnumeratorRow {
     pub value: i32,
 }
 
+/// A type in a visit: that of a member of a struct or union, and where its name stands, as of a
+/// [`MemberRow`], in the dictionary that has the struct or union.
+#[repr(C)]
+#[derive(Clone, Copy, Debug, Default, PartialEq, Eq)]
+pub struct VisitRow {
+    /// Where it begins, in bits from the beginning of the outermost type: `u64::MAX` past 64 bits.
+    pub offset: u64,
+    /// How many bytes stand in front of its name.
+    pub name_at: u64,
+    /// The number of the list that its name stands in.
+    pub name_list: u32,
+    /// How many types it lies in.
+    pub depth: u32,
+    /// The number of its type.
+    pub tnum: u16,
+    /// The number of the struct or union whose member it is; the outermost type is its own.
+    pub holder: u16,
+}
+
 #[repr(C)]
 #[derive(Default)]
 pub struct Label {
@@ -202,6 +221,13 @@ extern "C" {
         t: u16,
         from: usize,
         rows: *mut EnumeratorRow,
+        rows_len: usize,
+        count: *mut u64,
+    ) -> u32;
+    pub fn ctfd_visit(
+        handle: *mut Handle,
+        t: u16,
+        rows: *mut VisitRow,
         rows_len: usize,
         count: *mut u64,
     ) -> u32;

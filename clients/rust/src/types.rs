@@ -5,7 +5,7 @@ use crate::dictionary::Dictionary;
 use crate::faults::{told, told_at, Refusal};
 use crate::lists::{Arguments, Enumerators, Member, Members};
 use crate::names::{fill, text, Name};
-use crate::raw::{self, EnumeratorRow, MemberRow};
+use crate::raw::{self, EnumeratorRow, MemberRow, VisitRow};
 use std::fmt;
 
 /// The kinds of types, by their numbers in sys/ctf.h.
@@ -348,6 +348,16 @@ impl<'d> Type<'d> {
         let (at, len, mut count) = (rows.as_mut_ptr(), rows.len(), 0);
         let handle = self.of.handle();
         told(unsafe { raw::ctfd_enumerators(handle, self.number, from, at, len, &mut count) })?;
+        Ok(count)
+    }
+
+    /// Fills rows with the type and all that lies in it: the members of the struct or union that
+    /// it stands for, each followed by what lies in that. Answers how many rows that takes, or one
+    /// more than there are.
+    pub fn visit_rows(self, rows: &mut [VisitRow]) -> Result<u64, Refusal> {
+        let (at, len, mut count) = (rows.as_mut_ptr(), rows.len(), 0);
+        let handle = self.of.handle();
+        told(unsafe { raw::ctfd_visit(handle, self.number, at, len, &mut count) })?;
         Ok(count)
     }
 

@@ -1,6 +1,8 @@
 //! What is told of lua's types is what a dump of them says.
 
-use ctfd::{Dictionary, EnumeratorRow, Fault, Kind, MemberRow, Model, Options, Service};
+use ctfd::{
+    Dictionary, EnumeratorRow, Fault, Kind, MemberRow, Model, Options, Service, Type, VisitRow,
+};
 use std::fs;
 
 const EXAMPLES: &str = concat!(env!("CARGO_MANIFEST_DIR"), "/../../examples");
@@ -162,6 +164,51 @@ fn rows_say_where_names_stand() {
             assert_eq!((rows[0].value, name), (one.value, &*one.name));
             assert_eq!(t.enumerator_value(name).unwrap(), one.value);
         }
+    }
+}
+
+/// What lies in a type, by the single calls, without where names stand.
+fn lying_in(t: Type<'_>, offset: u64, depth: u32, rows: &mut Vec<VisitRow>) {
+    let Ok(Some(holder)) = t.resolve() else {
+        return;
+    };
+    for member in holder.members().into_iter().flatten() {
+        let row = VisitRow {
+            offset: offset + member.offset,
+            depth: depth + 1,
+            tnum: member.kind.map_or(0, Type::number),
+            holder: holder.number(),
+            ..VisitRow::default()
+        };
+        rows.push(row);
+        if let Some(kind) = member.kind {
+            lying_in(kind, row.offset, row.depth, rows);
+        }
+    }
+}
+
+#[test]
+fn a_visit_fills_rows_with_all_that_lies_in_a_type() {
+    let types = lua();
+    for t in types.types() {
+        let outermost = VisitRow {
+            name_list: 2,
+            tnum: t.number(),
+            holder: t.number(),
+            ..VisitRow::default()
+        };
+        let mut wanted = vec![outermost];
+        lying_in(t, 0, 0, &mut wanted);
+        let mut rows = vec![VisitRow::default(); wanted.len()];
+        assert_eq!(t.visit_rows(&mut rows), Ok(wanted.len() as u64));
+        let shown = rows.iter().zip(&wanted).map(|(row, one)| VisitRow {
+            name_at: one.name_at,
+            name_list: one.name_list,
+            ..*row
+        });
+        assert!(shown.eq(wanted.iter().copied()));
+        let fewer = wanted.len() - 1;
+        assert_eq!(t.visit_rows(&mut rows[..fewer]), Ok(wanted.len() as u64));
     }
 }
 

@@ -4,3 +4,5 @@ pub mod Texts
 pub mod Asked
 pub mod Filled
 pub mod Into
+pub mod Parts
+pub mod Lying

@@ -7,3 +7,4 @@ pub mod handles
 pub mod names
 pub mod service
 pub mod Rowed
+pub mod Visiting

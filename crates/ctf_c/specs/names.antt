@@ -4,3 +4,4 @@ pub mod Places
 pub mod Holders
 pub mod Firsts
 pub mod Filling
+pub mod Visits

@@ -17,4 +17,5 @@ mod service;
 mod symbols;
 mod texts;
 mod types;
+mod visits;
 mod whole;

@@ -5,12 +5,12 @@ use Rattle.std.proofs.lemmas.Bool.{cases_lt}
 use Rattle.std.proofs.lemmas.Option.{same_Some, slice_get_within}
 use Rattle.ctf_c.specs.names.Filling.{Fills}
 
-set_same : {R : Type 0} (rows : List R) (i : ℕ) (row : R) → i < length rows → slice_get (set rows i row) i ≡ Some row
+pub set_same : {R : Type 0} (rows : List R) (i : ℕ) (row : R) → i < length rows → slice_get (set rows i row) i ≡ Some row
 set_same [] i row lt = absurd (omega arith)
 set_same (r ∷ rows) zero row lt = refl
 set_same (r ∷ rows) (suc i) row lt = set_same rows i row (omega arith)
 
-set_other : {R : Type 0} (rows : List R) (i j : ℕ) (row : R) → (j ≡ i → ⊥) → slice_get (set rows i row) j ≡ slice_get rows j
+pub set_other : {R : Type 0} (rows : List R) (i j : ℕ) (row : R) → (j ≡ i → ⊥) → slice_get (set rows i row) j ≡ slice_get rows j
 set_other [] i j row other = refl
 set_other (r ∷ rows) zero zero row other = absurd (other refl)
 set_other (r ∷ rows) zero (suc j) row other = refl

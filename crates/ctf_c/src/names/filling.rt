@@ -37,7 +37,7 @@ fn enumerator_row(
 }
 
 /// What is told of a member, from 0.
-fn member_row(
+pub fn member_row(
     dictionary: &Checked<'_>,
     names: &NameRows<'_>,
     members: &Members<'_>,

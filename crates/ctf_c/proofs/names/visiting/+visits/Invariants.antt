@@ -1,0 +1,19 @@
+use Rattle.std.proofs.Common.{◌*◌, ◌+◌, take, Some}
+use Rattle.std.specs.Prelude.{flat_map}
+use Rattle.ctf_model.specs.opened.Open.{space_in}
+use Rattle.ctf_c.specs.Visiting.{FillsOn, TellsIn}
+use Rattle.ctf_c.specs.names.Visits.{inside, placed_with}
+use Rattle.ctf_c.proofs.names.visiting.+visits.Given as goal
+
+abbrev pub decreases-visit_inside : goal.decreases-visit_inside
+decreases-visit_inside l = 3 * l.at.left
+
+abbrev pub decreases-visit_member : goal.decreases-visit_member
+decreases-visit_member l = 3 * l.left + 1
+
+abbrev pub decreases-visit_members : goal.decreases-visit_members
+decreases-visit_members l = 3 * l.at.left + 2
+
+abbrev pub invariant-visit_members-loop-index : goal.invariant-visit_members-loop-index
+invariant-visit_members-loop-index l =
+    FillsOn (TellsIn (Some l.dictionary)) (flat_map (placed_with (inside l.at.left (space_in l.dictionary)) l.holder.0 l.at.offset l.at.depth) (take l.index l.members)) l.fn.count l.count l.fn.rows l.rows

@@ -1,0 +1,74 @@
+-- What lies in a type: the members of the struct or union that it stands for, each followed by what
+-- lies in it. Source: libctf(3LIB), ctf_type_visit; that types which hold nothing, or are not there,
+-- end no visit, and how far offsets go, is ours.
+use Rattle.std.specs.Prelude.{ℕ, zero, suc, ◌+◌, ◌-◌, ◌^◌, min, List, [], ◌∷◌, flat_map, Result, Ok, Err}
+use Rattle.ctf_model.specs.declared.faults.Fault.{Fault}
+use Rattle.ctf_model.specs.format.Term.{Member}
+use Rattle.ctf_model.specs.opened.Questions.{members_answered, on_shape, resolved_answered, shape_of}
+use Rattle.ctf_model.specs.spaces.Space.{Space, space_type}
+use Rattle.ctf_model.specs.values.Values.{most_values}
+
+-- a member in a visit: the struct or union that has it, its name, its type, how many bits lie in
+-- front of it from the beginning of the outermost type, and how many types it lies in
+pub record Visited : Type 0 where
+  pub holder : ℕ
+  pub name : List ℕ
+  pub tnum : ℕ
+  pub offset : ℕ
+  pub depth : ℕ
+
+-- the outermost type by itself
+abbrev pub outermost : ℕ → Visited
+outermost t = record { holder = t; name = []; tnum = t; offset = 0; depth = 0 }
+
+-- ---- a struct or union
+
+abbrev pub or_zero : Result ℕ Fault → ℕ
+or_zero (Ok n) = n
+or_zero (Err fault) = 0
+
+-- the number of the type that a type stands for, 0 where that is none
+abbrev pub stands_for : Space → ℕ → ℕ
+stands_for s t = or_zero (resolved_answered s t)
+
+abbrev pub or_nothing : Result (List Member) Fault → List Member
+or_nothing (Ok members) = members
+or_nothing (Err fault) = []
+
+-- the members of a struct or union; other types have none
+abbrev pub members_of : Space → ℕ → List Member
+members_of s n = or_nothing (on_shape members_answered (shape_of (space_type s n)))
+
+-- ---- what lies in it
+
+-- where a member begins whose type begins at an offset: as far as 64 bits say it
+abbrev pub offset_within : ℕ → Member → ℕ
+offset_within offset m = min (offset + m.offset) (2 ^ 64 - 1)
+
+-- a member of a type that begins at an offset, and lies in so many others
+abbrev pub placed : ℕ → ℕ → ℕ → Member → Visited
+placed holder offset depth m =
+    record {
+      holder = holder;
+      name = m.name;
+      tnum = m.tnum;
+      offset = offset_within offset m;
+      depth = depth + 1;
+    }
+
+-- the same, followed by what lies in it, which is said of an offset, a depth and a type
+abbrev pub placed_with : (ℕ → ℕ → ℕ → List Visited) → ℕ → ℕ → ℕ → Member → List Visited
+placed_with inside holder offset depth m =
+    placed holder offset depth m ∷ inside (offset_within offset m) (depth + 1) m.tnum
+
+-- what lies in a type that begins at an offset and lies in so many others, where at most so many
+-- lie in each other
+unfoldable pub inside : ℕ → Space → ℕ → ℕ → ℕ → List Visited
+inside zero s offset depth t = []
+inside (suc k) s offset depth t =
+    flat_map (placed_with (inside k s) (stands_for s t) offset depth)
+    (members_of s (stands_for s t))
+
+-- a type and what lies in it: so many types as can follow on each other at most
+abbrev pub visited : Space → ℕ → List Visited
+visited s t = outermost t ∷ inside most_values s 0 0 t
