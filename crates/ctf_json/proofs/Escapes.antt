@@ -18,16 +18,16 @@ neither : (b c : Bool) → b ≡ false → c ≡ false → (b || c) ≡ false
 neither true c e f = e
 neither false c e f = f
 
-pub found : (xs : List ℕ) (k : ℕ) → k < length xs → is_byte 92 (slice_index xs k) ≡ true → has_byte 92 xs ≡ true
-found [] k h e = let no : ⊥ = omega arith in absurd no
-found (x ∷ xs) zero h e = or_left (x == 92) (has_byte 92 xs) (grind (arith, nat_tests, e))
-found (x ∷ xs) (suc k) h e = or_right (x == 92) (has_byte 92 xs) (found xs k (omega arith) e)
+pub found : (b : ℕ) (xs : List ℕ) (k : ℕ) → k < length xs → is_byte b (slice_index xs k) ≡ true → has_byte b xs ≡ true
+found b [] k h e = let no : ⊥ = omega arith in absurd no
+found b (x ∷ xs) zero h e = or_left (x == b) (has_byte b xs) (grind (arith, nat_tests, e))
+found b (x ∷ xs) (suc k) h e = or_right (x == b) (has_byte b xs) (found b xs k (omega arith) e)
 
-pub nowhere : (xs : List ℕ) → Nowhere (Passes (is_byte 92) xs) 0 (length xs) → has_byte 92 xs ≡ false
-nowhere [] h = refl
-nowhere (x ∷ xs) h =
+pub nowhere : (b : ℕ) (xs : List ℕ) → Nowhere (Passes (is_byte b) xs) 0 (length xs) → has_byte b xs ≡ false
+nowhere b [] h = refl
+nowhere b (x ∷ xs) h =
     let first = h 0 (omega arith) (omega arith) in
-    neither (x == 92) (has_byte 92 xs) (grind (arith, nat_tests, first)) (nowhere xs (λ k low high. h (suc k) (omega arith) (omega arith)))
+    neither (x == b) (has_byte b xs) (grind (arith, nat_tests, first)) (nowhere b xs (λ k low high. h (suc k) (omega arith) (omega arith)))
 
 pub no_escape_at : (xs : List ℕ) (i : ℕ) → has_byte 92 xs ≡ false → get_or xs i 32 ≡ 92 → ⊥
 no_escape_at [] i e is = let no : ⊥ = omega (arith, is) in no

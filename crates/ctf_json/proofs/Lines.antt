@@ -1,5 +1,5 @@
 -- What a line has at a name, by its fields and its lists.
-use Rattle.std.proofs.Common.{◌≡◌, ℕ, ◌<◌, List, [], ◌∷◌, length, set, Bool, true, false, cond, codes, Option, Some, None, option_map, option_and_then, Vec, Global, Bor, refl, sym, ap, ◌∙◌, subst, bytes_eq}
+use Rattle.std.proofs.Common.{◌≡◌, ℕ, ◌<◌, List, [], ◌∷◌, length, set, Bool, true, false, cond, codes, Option, Some, None, option_map, option_and_then, Vec, Global, refl, sym, ap, ◌∙◌, subst, bytes_eq}
 use Rattle.std.specs.Prelude.{⊤, if◌then◌else◌}
 use Rattle.std.proofs.lemmas.Bool.{false≢true}
 use Rattle.std.proofs.lemmas.Slice.Eq.{bytes_eq-Decides}
@@ -7,6 +7,8 @@ use Rattle.serde_json.specs.Data.{Data, Num, array, Members, put}
 use Rattle.serde_json.specs.Find.{as_array, get, get_member}
 use Rattle.serde_json.specs.Read.{number_of}
 use Rattle.serde_json.proofs.Views.{get_member-put, get_member-put_other}
+use Rattle.ctf_joined.specs.Joined.{texts}
+use Rattle.ctf_joined.specs.declared.joined.Joined.{Joined}
 use Rattle.ctf_json.specs.Keys.{place_in, wanted_at}
 use Rattle.ctf_json.specs.Told.{told_number}
 use Rattle.ctf_json.specs.Values.{args_without, fits, keys, line_said, members_said, names_without, numbers_said, put_some, said, texts_said}
@@ -42,8 +44,8 @@ put_over : (q k : List ℕ) (o : Option Data) (ms : Members) → get_member q (p
 put_over q k None ms = over_none (bytes_eq q k) (get_member q ms)
 put_over q k (Some d) ms = put_by q k d ms (bytes_eq q k) refl
 
-abbrev as_names : Option (Vec (Bor (List ℕ)) Global) → Option Data
-as_names o = option_map (λ v. array (texts_said v.items)) o
+abbrev as_names : Option Joined → Option Data
+as_names o = option_map (λ v. array (texts_said (texts v))) o
 
 abbrev as_args : Option (Vec ℕ Global) → Option Data
 as_args o = option_map (λ v. array (numbers_said v.items)) o
@@ -130,13 +132,13 @@ no_list (k ∷ ks) q [] = refl
 no_list (k ∷ ks) q (v ∷ vs) = no_list_by (bytes_eq q k) v (at_name q ks vs) (no_list ks q vs)
 
 -- the list that stands at each of the two
-pub names_listed : (line : Line) → option_and_then as_array (get names_key (line_said line)) ≡ option_map (λ v. texts_said v.items) line.names
+pub names_listed : (line : Line) → option_and_then as_array (get names_key (line_said line)) ≡ option_map (λ v. texts_said (texts v)) line.names
 names_listed line = ap (option_and_then as_array) (line_at names_key (as_args line.args) (as_names line.names) (members_said keys line.fields.all)) ∙ by_names line.names
   where
     field_none : option_and_then as_array (get_member names_key (members_said keys line.fields.all)) ≡ None
     field_none = ap (option_and_then as_array) (member_is names_key keys line.fields.all refl) ∙ no_list keys names_key line.fields.all
 
-    by_names : (o : Option (Vec (Bor (List ℕ)) Global)) → option_and_then as_array (over true (as_names o) (get_member names_key (members_said keys line.fields.all))) ≡ option_map (λ v. texts_said v.items) o
+    by_names : (o : Option Joined) → option_and_then as_array (over true (as_names o) (get_member names_key (members_said keys line.fields.all))) ≡ option_map (λ v. texts_said (texts v)) o
     by_names None = field_none
     by_names (Some v) = refl
 
@@ -150,16 +152,15 @@ args_listed line = ap (option_and_then as_array) (line_at args_key (as_args line
     by_args None = field_none
     by_args (Some v) = refl
 
-pub listed_names : (line : Line) (v : Vec (Bor (List ℕ)) Global) (ts : List (Bor (List ℕ))) → line.names ≡ Some v → ts ≡ v.items → Some (texts_said ts) ≡ option_and_then as_array (get names_key (line_said line))
-listed_names line v ts e is = ap (λ l. Some (texts_said l)) is ∙ sym (names_listed line ∙ ap (option_map (λ w. texts_said w.items)) e)
+pub listed_names : (line : Line) (v : Joined) → line.names ≡ Some v → Some (texts_said (texts v)) ≡ option_and_then as_array (get names_key (line_said line))
+listed_names line v e = sym (names_listed line ∙ ap (option_map (λ w. texts_said (texts w))) e)
 
 pub listed_args : (line : Line) (v : Vec ℕ Global) (ns : List ℕ) → line.args ≡ Some v → ns ≡ v.items → Some (numbers_said ns) ≡ option_and_then as_array (get args_key (line_said line))
 listed_args line v ns e is = ap (λ l. Some (numbers_said l)) is ∙ sym (args_listed line ∙ ap (option_map (λ w. numbers_said w.items)) e)
 
-pub got_names : (key : List ℕ) (line : Line) (v : Vec (Bor (List ℕ)) Global) (ts : List (Bor (List ℕ))) → Texts ≡ wanted_at key → line.names ≡ Some v → ts ≡ v.items → Some (array (texts_said ts)) ≡ get key (line_said line)
-got_names key line v ts w e is =
-    ap (λ l. Some (array (texts_said l))) is
-    ∙ sym (names_here key (as_args line.args) (as_names line.names) (members_said keys line.fields.all) (sym w) ∙ ap (λ o. over true (as_names o) (get_member key (members_said keys line.fields.all))) e)
+pub got_names : (key : List ℕ) (line : Line) (v : Joined) → Texts ≡ wanted_at key → line.names ≡ Some v → Some (array (texts_said (texts v))) ≡ get key (line_said line)
+got_names key line v w e =
+    sym (names_here key (as_args line.args) (as_names line.names) (members_said keys line.fields.all) (sym w) ∙ ap (λ o. over true (as_names o) (get_member key (members_said keys line.fields.all))) e)
 
 pub got_args : (key : List ℕ) (line : Line) (v : Vec ℕ Global) (ns : List ℕ) → Numbers ≡ wanted_at key → line.args ≡ Some v → ns ≡ v.items → Some (array (numbers_said ns)) ≡ get key (line_said line)
 got_args key line v ns w e is =
@@ -197,7 +198,7 @@ module _ (key q : List ℕ) where
       let not = apart args_key other ((bytes_eq-Decides key args_key).1 is) in
       ap (λ b. over b (Some d) (over (bytes_eq q names_key) names x)) not ∙ sym (ap (λ b. over b args (over (bytes_eq q names_key) names x)) not)
 
-  module _ (args : Option (Vec ℕ Global)) (names : Option (Vec (Bor (List ℕ)) Global)) (f : Data) (x : Option Data) where
+  module _ (args : Option (Vec ℕ Global)) (names : Option Joined) (f : Data) (x : Option Data) where
     -- a field at a key takes the place of a list there
     field_by : (w : Wanted) (b : Bool) → bytes_eq key q ≡ b → wanted_at key ≡ w → parts q (as_args (args_without w args)) (as_names (names_without w names)) (cond b (Some f) x) ≡ cond b (Some f) (parts q (as_args args) (as_names names) x)
     field_by Texts true same is = ap (λ k. parts k (as_args args) None (Some f)) (sym ((bytes_eq-Decides key q).0 same) ∙ at_names key is)
@@ -218,7 +219,7 @@ module _ (key q : List ℕ) where
 pub line_parts : (q : List ℕ) (line : Line) → get q (line_said line) ≡ parts q (as_args line.args) (as_names line.names) (at_name q keys line.fields.all)
 line_parts q line = line_at q (as_args line.args) (as_names line.names) (members_said keys line.fields.all) ∙ ap (parts q (as_args line.args) (as_names line.names)) (member_is q keys line.fields.all refl)
 
-pub texts_fit : (w : Wanted) (v : Vec (Bor (List ℕ)) Global) → fits w (was.Texts v) ≡ true → w ≡ Texts
+pub texts_fit : (w : Wanted) (v : Joined) → fits w (was.Texts v) ≡ true → w ≡ Texts
 texts_fit Texts v e = refl
 texts_fit Numbers v e = absurd (false≢true e)
 texts_fit Nothing v e = absurd (false≢true e)
@@ -229,19 +230,19 @@ numbers_fit Numbers v e = refl
 numbers_fit Nothing v e = absurd (false≢true e)
 
 -- a value at a key, and all else as it was
-abbrev pub has : List ℕ → List (Option Field) → Option (Vec (Bor (List ℕ)) Global) → Option (Vec ℕ Global) → Option Data
+abbrev pub has : List ℕ → List (Option Field) → Option Joined → Option (Vec ℕ Global) → Option Data
 has q fields names args = get_member q (put_some args_key (as_args args) (put_some names_key (as_names names) (members_said keys fields)))
 
-has_parts : (q : List ℕ) (fields : List (Option Field)) (names : Option (Vec (Bor (List ℕ)) Global)) (args : Option (Vec ℕ Global)) → has q fields names args ≡ parts q (as_args args) (as_names names) (at_name q keys fields)
+has_parts : (q : List ℕ) (fields : List (Option Field)) (names : Option Joined) (args : Option (Vec ℕ Global)) → has q fields names args ≡ parts q (as_args args) (as_names names) (at_name q keys fields)
 has_parts q fields names args = line_at q (as_args args) (as_names names) (members_said keys fields) ∙ ap (parts q (as_args args) (as_names names)) (member_is q keys fields refl)
 
-pub list_kept : (key q : List ℕ) (fields : List (Option Field)) (names : Option (Vec (Bor (List ℕ)) Global)) (args : Option (Vec ℕ Global)) (v : Vec (Bor (List ℕ)) Global) → key ≡ names_key
-    → has q fields (Some v) args ≡ cond (bytes_eq key q) (Some (array (texts_said v.items))) (has q fields names args)
+pub list_kept : (key q : List ℕ) (fields : List (Option Field)) (names : Option Joined) (args : Option (Vec ℕ Global)) (v : Joined) → key ≡ names_key
+    → has q fields (Some v) args ≡ cond (bytes_eq key q) (Some (array (texts_said (texts v)))) (has q fields names args)
 list_kept key q fields names args v is =
-    has_parts q fields (Some v) args ∙ names_kept key q (as_args args) (as_names names) (array (texts_said v.items)) (at_name q keys fields) (bytes_eq key q) refl is
-    ∙ ap (cond (bytes_eq key q) (Some (array (texts_said v.items)))) (sym (has_parts q fields names args))
+    has_parts q fields (Some v) args ∙ names_kept key q (as_args args) (as_names names) (array (texts_said (texts v))) (at_name q keys fields) (bytes_eq key q) refl is
+    ∙ ap (cond (bytes_eq key q) (Some (array (texts_said (texts v))))) (sym (has_parts q fields names args))
 
-pub numbers_kept : (key q : List ℕ) (fields : List (Option Field)) (names : Option (Vec (Bor (List ℕ)) Global)) (args : Option (Vec ℕ Global)) (v : Vec ℕ Global) → key ≡ args_key
+pub numbers_kept : (key q : List ℕ) (fields : List (Option Field)) (names : Option Joined) (args : Option (Vec ℕ Global)) (v : Vec ℕ Global) → key ≡ args_key
     → has q fields names (Some v) ≡ cond (bytes_eq key q) (Some (array (numbers_said v.items))) (has q fields names args)
 numbers_kept key q fields names args v is =
     has_parts q fields names (Some v) ∙ args_kept key q (as_args args) (as_names names) (array (numbers_said v.items)) (at_name q keys fields) (bytes_eq key q) refl is

@@ -43,7 +43,8 @@ IsKept w read d rest =
 abbrev pub AreKept : Type 0 → Option (json.Json × List Token) → Data → List Token → Type 0
 AreKept If read part rest =
     (j : json.Json) × (read ≡ Some (j, rest)) × (in_range j ≡ true)
-    × (If → (key : List ℕ) → is_one_of key keys ≡ true → get key part ≡ option_map (kept (wanted_at key)) (get key (told j)))
+    × (If → (key : List ℕ) → is_one_of key keys ≡ true
+    → get key part ≡ option_map (kept (wanted_at key)) (get key (told j)))
 
 -- ---- texts
 
@@ -51,4 +52,5 @@ AreKept If read part rest =
 pub record IsReadAt (text : List ℕ) (part : Data) : Type 0 where
   pub whole : Data
   pub is : read text ≡ Some whole
-  pub same : (key : List ℕ) → is_one_of key keys ≡ true → get key part ≡ option_map (kept (wanted_at key)) (get key whole)
+  pub same : (key : List ℕ) → is_one_of key keys ≡ true
+      → get key part ≡ option_map (kept (wanted_at key)) (get key whole)

@@ -21,10 +21,14 @@ NotBeforeComma Failed text = ⊤
 
 -- wherever a value may begin, the text `old` gives t and then what `new` gives
 abbrev pub Begins : List ℕ → Token → Place → List ℕ → Type 0
-Begins old t place new = (p : spec.Place) → may_begin p ≡ true → punctuate p (lex between old) ≡ t ∷ tokens_at place new
+Begins old t place new =
+    (p : spec.Place) → may_begin p ≡ true
+    → punctuate p (lex between old) ≡ t ∷ tokens_at place new
 
 abbrev pub Closes : List ℕ → Token → Place → List ℕ → Type 0
-Closes old t place new = (p : spec.Place) → may_close p ≡ true → punctuate p (lex between old) ≡ t ∷ tokens_at place new
+Closes old t place new =
+    (p : spec.Place) → may_close p ≡ true
+    → punctuate p (lex between old) ≡ t ∷ tokens_at place new
 
 abbrev pub closes_at : Place → Bool
 closes_at Fresh = true

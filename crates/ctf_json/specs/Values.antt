@@ -1,9 +1,10 @@
 -- What the parts of a line say, in the words of serde_json.
 use Rattle.std.specs.Prelude.{◌≡◌, ℕ, ◌&&◌, List, [], ◌∷◌, Bool, true, false, codes, is_some, map, nat_le, Option, Some, None, option_map, option_and_then, if◌then◌else◌}
-use Rattle.std.specs.Borrow.{Bor}
 use Rattle.serde_json.specs.Data.{Data, null, boolean, number, string, array, object, unsigned, Items, no_items, item, Members, no_members, put}
 use Rattle.serde_json.specs.Find.{as_number, as_str, as_u64, get}
 use Rattle.serde_json.specs.Read.{number_of}
+use Rattle.ctf_joined.specs.Joined.{texts}
+use Rattle.ctf_joined.specs.declared.joined.Joined.{Joined}
 use Rattle.ctf_json.specs.Told.{told_number}
 use Rattle.ctf_json.specs.declared.keys.TheConstants.{KEYS}
 use Rattle.ctf_json.specs.declared.line.Line.{Line}
@@ -28,13 +29,13 @@ abbrev pub front : {A : Type 0} → (A → Data) → List A → Items → Items
 front says [] ds = ds
 front says (x ∷ xs) ds = item (says x) (front says xs ds)
 
-abbrev pub text_said : Bor (List ℕ) → Data
-text_said text = string text.now
+abbrev pub text_said : List ℕ → Data
+text_said text = string text
 
 abbrev pub number_said : ℕ → Data
 number_said n = number (unsigned n)
 
-abbrev pub texts_said : List (Bor (List ℕ)) → Items
+abbrev pub texts_said : List (List ℕ) → Items
 texts_said texts = front text_said texts no_items
 
 abbrev pub numbers_said : List ℕ → Items
@@ -68,27 +69,27 @@ said (field.String s) = string s.now
 -- of a value that was read
 abbrev pub read_said : Read → Data
 read_said (was.Field f) = said f
-read_said (was.Texts texts) = array (texts_said texts.items)
+read_said (was.Texts joined) = array (texts_said (texts joined))
 read_said (was.Numbers numbers) = array (numbers_said numbers.items)
 
 -- of one that is looked up
 abbrev pub value_said : Value → Data
 value_said (is.Field f) = said f
-value_said (is.Texts texts) = array (texts_said texts.now)
+value_said (is.Texts joined) = array (texts_said (texts joined.now))
 value_said (is.Numbers numbers) = array (numbers_said numbers.now)
 
 -- a list is the one that is wanted
 abbrev pub fits : Wanted → Read → Bool
 fits w (was.Field f) = true
-fits Texts (was.Texts texts) = true
-fits Numbers (was.Texts texts) = false
-fits Nothing (was.Texts texts) = false
+fits Texts (was.Texts joined) = true
+fits Numbers (was.Texts joined) = false
+fits Nothing (was.Texts joined) = false
 fits Texts (was.Numbers numbers) = false
 fits Numbers (was.Numbers numbers) = true
 fits Nothing (was.Numbers numbers) = false
 
 -- a line's lists, without that which is wanted
-abbrev pub names_without : Wanted → Option (Vec (Bor (List ℕ)) Global) → Option (Vec (Bor (List ℕ)) Global)
+abbrev pub names_without : Wanted → Option Joined → Option Joined
 names_without Texts names = None
 names_without Numbers names = names
 names_without Nothing names = names
@@ -114,7 +115,7 @@ members_said (k ∷ ks) (v ∷ vs) = put_some k (option_map said v) (members_sai
 abbrev pub line_said : Line → Data
 line_said line =
     object (put_some (codes "args") (option_map (λ v. array (numbers_said v.items)) line.args)
-    (put_some (codes "names") (option_map (λ v. array (texts_said v.items)) line.names)
+    (put_some (codes "names") (option_map (λ joined. array (texts_said (texts joined))) line.names)
     (members_said keys line.fields.all)))
 
 -- a line without fields

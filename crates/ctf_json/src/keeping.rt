@@ -29,7 +29,8 @@ impl<'a> Line<'a> {
         requires place { place_in key.now keys ≡ Some place }
         requires fits { fits (wanted_at key.now) value ≡ true }
         ensures { (q : List ℕ) → found_under q (line_said self.new)
-            ≡ cond (bytes_eq key.now q) (Some (read_said value.entry)) (found_under q (line_said self.old)) }
+            ≡ cond (bytes_eq key.now q) (Some (read_said value.entry))
+            (found_under q (line_said self.old)) }
     {
         match value {
             Read::Field(field) => self.keep_field(place, field, wanted(key)),

@@ -3,6 +3,7 @@ ghost use Rattle.std.specs.Prelude.{◌≡◌, length};
 
 use crate::keys::COUNT;
 use crate::values::Field;
+use ctf_joined::Joined;
 
 /// What is no list at each of the keys.
 #[derive(Drop)]
@@ -15,6 +16,6 @@ pub struct Fields<'a> {
 #[derive(Drop)]
 pub struct Line<'a> {
     pub(crate) fields: Fields<'a>,
-    pub(crate) names: Option<Vec<&'a str>>,
+    pub(crate) names: Option<Joined>,
     pub(crate) args: Option<Vec<u16>>,
 }

@@ -17,6 +17,7 @@ use crate::readers::Reader;
 use crate::reading::NotRead;
 use crate::values::{Field, Read};
 use crate::wanted::Wanted;
+use ctf_joined::Joined;
 use json::{Invalid, Token};
 use std::alloc::Global;
 
@@ -51,7 +52,7 @@ fn texts_at<'a>(alloc: Global, reader: &mut Reader<'a>, depth: usize) -> Result<
     ensures shorter { OnOk result (length reader.new < length reader.old) }
     ensures refused { result ≡ std.Err why.NotJson → passed_items depth reader.old ≡ None }
 {
-    let mut texts = Vec::new(alloc);
+    let mut texts = Joined::new(alloc);
     while !reader.take_end_array() {
         let token = reader.next().ok_or(Invalid)?;
         let Some(text) = text(token) else {
@@ -59,7 +60,7 @@ fn texts_at<'a>(alloc: Global, reader: &mut Reader<'a>, depth: usize) -> Result<
             pass_items(reader, depth)?;
             return Ok(Read::Field(Field::Null));
         };
-        if texts.push(text).is_err() {
+        if texts.push(text.as_bytes()).is_err() {
             return Err(NotRead::Memory);
         }
     }
@@ -90,6 +91,7 @@ fn numbers_at<'a>(alloc: Global, reader: &mut Reader<'a>, depth: usize) -> Resul
 }
 
 /// The number of 16 bits that a value is which begins with a token.
+#[inline(always)]
 fn small_number(token: Token<'_>) -> Option<u16>
     ensures { result ≡ small (told (begun (token_of token.entry))) }
 {
@@ -101,6 +103,7 @@ fn small_number(token: Token<'_>) -> Option<u16>
 }
 
 /// The text that a value is which begins with a token.
+#[inline(always)]
 fn text<'a>(token: Token<'a>) -> Option<&'a str>
     ensures { option_map (λ text. text.now) result ≡ as_str (told (begun (token_of token.entry))) }
 {

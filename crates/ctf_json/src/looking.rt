@@ -3,6 +3,7 @@ ghost use Rattle.std.specs.Prelude.{◌≡◌, codes, option_map, option_and_the
 ghost use Rattle.serde_json.specs.Find.{get as found_under, as_array as array_said, as_bool as truth_said, as_i64 as signed_said, as_number as number_said, as_str as text_said, as_u64 as unsigned_said};
 ghost use Rattle.serde_json.specs.View.{number_view};
 ghost use Rattle.serde_json.specs.Data.{object};
+ghost use Rattle.ctf_joined.specs.Joined.{texts};
 ghost use Rattle.ctf_json.specs.Values.{keys, line_said, members_said, numbers_said, texts_said, value_said};
 
 use crate::keys::{place_of, wanted};
@@ -10,6 +11,7 @@ use crate::line::Line;
 use crate::numbers::{natural, number};
 use crate::values::{Field, Value};
 use crate::wanted::Wanted;
+use ctf_joined::Joined;
 use serde_json::Number;
 
 /// The value at a key.
@@ -18,7 +20,7 @@ pub fn get<'v, 'a>(line: &'v Line<'a>, key: &str) -> Option<Value<'v, 'a>>
 {
     match wanted(key) {
         Wanted::Texts => match &line.names {
-            Some(texts) => Some(Value::Texts(texts.as_slice())),
+            Some(texts) => Some(Value::Texts(texts)),
             None => plain(line, key),
         },
         Wanted::Numbers => match &line.args {
@@ -85,12 +87,12 @@ pub fn as_i64(value: &Value<'_, '_>) -> Option<i64>
 }
 
 /// The names of a line, where they are a list of texts.
-pub fn names<'v, 'a>(line: &'v Line<'a>) -> Option<&'v [&'a str]>
-    ensures { option_map (λ texts. texts_said texts.now) result
+pub fn names<'v>(line: &'v Line<'_>) -> Option<&'v Joined>
+    ensures { option_map (λ names. texts_said (texts names.now)) result
         ≡ option_and_then array_said (found_under (codes "names") (line_said line.now)) }
 {
     match &line.names {
-        Some(texts) => Some(texts.as_slice()),
+        Some(texts) => Some(texts),
         None => None,
     }
 }

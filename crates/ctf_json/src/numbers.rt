@@ -12,6 +12,7 @@ use fast_float::Numeral;
 use serde_json::Number;
 
 /// Whether a text begins with a minus.
+#[inline(always)]
 fn has_minus(bytes: &[u8]) -> bool
     ensures value { result ≡ (slice_index bytes.now 0 == 45) }
     ensures some { IsTrue result → 0 < length bytes.now }
@@ -26,6 +27,7 @@ fn nearest(negative: bool, numeral: &Numeral<'_>) -> Option<Number>
     Number::from_f64(numeral.to_float::<f64>(negative))
 }
 
+#[inline(always)]
 fn digit(byte: u8) -> Option<u64>
     ensures { IfSome result (λ d. (digit_value byte < 10) × (d ≡ digit_value byte)) }
 {
@@ -36,6 +38,7 @@ fn digit(byte: u8) -> Option<u64>
 }
 
 /// The value of digits alone, as almost all numbers are. A value that may not fit is left out.
+#[inline(always)]
 fn digits_alone(bytes: &[u8]) -> Option<u64>
     ensures { IfSome result (λ n. number_from false (scan bytes.now) ≡ Some (unsigned_number n)) }
 {
@@ -95,6 +98,7 @@ pub fn number(text: &str) -> Option<Number>
 }
 
 /// The value of a number's text that is no sign and no fraction, and fits.
+#[inline(always)]
 pub(crate) fn natural(text: &str) -> Option<u64>
     ensures { result ≡ option_and_then unsigned_of (number_of text.now) }
 {

@@ -1,5 +1,5 @@
 //! Readers of texts: over memory that is lent to them, or of a text without escapes, over none.
-ghost use Rattle.std.specs.Prelude.{◌≡◌, [], ◌∷◌, None, Some, true, IfOk, MatchOption, MatchResult, OnErr, option_map};
+ghost use Rattle.std.specs.Prelude.{◌≡◌, ◌||◌, [], ◌∷◌, None, Some, true, IfOk, MatchOption, MatchResult, OnErr, length, nat_le, option_map};
 ghost use Rattle.std.specs.Bool.{MatchBool};
 ghost use Rattle.json.specs.Json.{after_end_array, read_key};
 ghost use Rattle.json.specs.Lex.{tokens};
@@ -14,6 +14,23 @@ use std::marker::Model;
 
 /// How long a text is that is sooner read byte by byte than by way of an index.
 const SHORT: usize = 512;
+
+fn has(byte: u8, text: &[u8]) -> bool
+    ensures { result ≡ has_byte byte text.now }
+{
+    match memchr(byte, text) {
+        Some(_) => true,
+        None => false,
+    }
+}
+
+/// Whether a text is sooner read where it stands: a short one, and one whose strings and numbers
+/// may be as short as the items of a list.
+fn is_sooner_plain(text: &[u8]) -> bool
+    ensures { result ≡ (nat_le (length text.now) 512 || has_byte 91 text.now) }
+{
+    text.len() <= SHORT || has(b'[', text)
+}
 
 #[derive(Drop)]
 pub(crate) enum Source<'a> {
@@ -40,20 +57,11 @@ impl<'a> Model for Reader<'a> {
     ghost view = { λ a. left_of a.source };
 }
 
-fn has_escape(text: &[u8]) -> bool
-    ensures { result ≡ has_byte 92 text.now }
-{
-    match memchr(b'\\', text) {
-        Some(_) => true,
-        None => false,
-    }
-}
-
 fn without_scratch<'a>(text: &'a str) -> Result<Reader<'a>, AllocError>
     ensures ok { IfOk result (λ reader. reader ≡ tokens text.now) }
     ensures full { OnErr result (has_byte 92 text.now ≡ true) }
 {
-    if has_escape(text.as_bytes()) {
+    if has(b'\\', text.as_bytes()) {
         return Err(AllocError);
     }
     Ok(Reader {
@@ -62,14 +70,14 @@ fn without_scratch<'a>(text: &'a str) -> Result<Reader<'a>, AllocError>
 }
 
 impl<'a> Reader<'a> {
-    /// A short text without escapes is read where it stands. Of others, strings with escapes are
-    /// written to the scratch, which grows to the length of the text; where it can't, a text
-    /// without escapes is read all the same.
+    /// A text without escapes that is short or has a list is read where it stands. Of others,
+    /// strings with escapes are written to the scratch, which grows to the length of the text;
+    /// where it can't, a text without escapes is read all the same.
     pub(crate) fn new(text: &'a str, scratch: &'a mut Scratch) -> Result<Reader<'a>, AllocError>
         ensures ok { IfOk result (λ reader. reader ≡ tokens text.now) }
         ensures full { OnErr result (has_byte 92 text.now ≡ true) }
     {
-        if text.len() <= SHORT {
+        if is_sooner_plain(text.as_bytes()) {
             if let Ok(reader) = without_scratch(text) {
                 return Ok(reader);
             }

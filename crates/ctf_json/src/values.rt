@@ -1,4 +1,5 @@
 //! Values of a line.
+use ctf_joined::Joined;
 
 /// What is kept of a value that is no list.
 #[derive(Clone, Copy, Drop)]
@@ -15,7 +16,7 @@ pub enum Field<'a> {
 #[derive(Drop)]
 pub enum Read<'a> {
     Field(Field<'a>),
-    Texts(Vec<&'a str>),
+    Texts(Joined),
     Numbers(Vec<u16>),
 }
 
@@ -23,6 +24,6 @@ pub enum Read<'a> {
 #[derive(Clone, Copy, Drop)]
 pub enum Value<'v, 'a> {
     Field(Field<'a>),
-    Texts(&'v [&'a str]),
+    Texts(&'v Joined),
     Numbers(&'v [u16]),
 }

@@ -54,12 +54,10 @@ fn follow_parents(parent: &Space<'_>, number: TypeNum) -> Result<TypeNum, Fault>
     ensures { let d = (space_of parent.now).own in result_map_both (λ t. t.0) (λ f. f) result
         ≡ resolved (alone d (space_of parent.now).model) number.0 }
 {
-    match follow(parent, number) {
-        Ok(at) => match at.place(parent.child()) {
-            Place::Parents(_) => Err(placeless(Fault::NO_PARENT)),
-            _ => Ok(at),
-        },
-        Err(fault) => Err(fault),
+    let at = follow(parent, number)?;
+    match at.place(parent.child()) {
+        Place::Parents(_) => Err(placeless(Fault::NO_PARENT)),
+        _ => Ok(at),
     }
 }
 
@@ -82,10 +80,8 @@ pub fn resolve(space: &Space<'_>, number: TypeNum) -> Result<TypeNum, Fault>
     ensures { result_map_both (λ t. t.0) (λ f. f) result
         ≡ resolved (space_of space.now) number.0 }
 {
-    match follow(space, number) {
-        Ok(at) => onward(space, at),
-        Err(fault) => Err(fault),
-    }
+    let at = follow(space, number)?;
+    onward(space, at)
 }
 
 /// What a type refers to, by its shape.
@@ -103,8 +99,6 @@ pub fn reference(space: &Space<'_>, number: TypeNum) -> Result<TypeNum, Fault>
     ensures { result_map_both (λ t. t.0) (λ f. f) result
         ≡ reference_of (space_of space.now) number.0 }
 {
-    match space.term(number) {
-        Ok(found) => referred(found.shape()),
-        Err(fault) => Err(fault),
-    }
+    let found = space.term(number)?;
+    referred(found.shape())
 }

@@ -17,6 +17,6 @@ mod types;
 
 pub use figures::{reference, referred, resolve};
 pub use layout::Layout;
-pub use path_names::PathName;
+pub use path_names::PathNames;
 pub use paths::path;
 pub use rows::work_is_counted;

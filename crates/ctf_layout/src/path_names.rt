@@ -1,28 +1,43 @@
-//! What may stand as a name in a path.
-ghost use Rattle.std.specs.Prelude.{◌≡◌, ℕ, List};
+//! What may stand as the names of a path.
+ghost use Rattle.std.specs.Prelude.{◌≡◌, ◌<◌, ℕ, List, [], get_or, length, map};
+ghost use Rattle.ctf_joined.specs.Joined.{texts};
 
-use ctf_model::Piece;
+use ctf_joined::Joined;
 
-/// A name, as bytes.
-pub trait PathName {
-    ghost bytes_of: { Self → List ℕ };
+/// Names, as lists of bytes.
+pub trait PathNames {
+    ghost names_of: { Self → List (List ℕ) };
 
-    fn bytes(&self) -> &[u8]
-        ensures { result.now ≡ bytes_of self.now };
+    /// How many names there are.
+    fn count(&self) -> usize
+        ensures { result ≡ length (names_of self.now) };
+
+    /// The name at a place.
+    fn name(&self, place: usize) -> &[u8]
+        requires { place < length (names_of self.now) }
+        ensures { result.now ≡ get_or (names_of self.now) place [] };
 }
 
-impl<'a> PathName for &'a [u8] {
-    ghost bytes_of = { λ name. name.now };
+impl<'n, 'a> PathNames for &'n [&'a [u8]] {
+    ghost names_of = { λ names. map (λ name. name.now) names.now };
 
-    fn bytes(&self) -> &[u8] {
-        self
+    fn count(&self) -> usize {
+        self.len()
+    }
+
+    fn name(&self, place: usize) -> &[u8] {
+        self[place]
     }
 }
 
-impl PathName for Piece {
-    ghost bytes_of = { λ name. name };
+impl PathNames for Joined {
+    ghost names_of = { texts };
 
-    fn bytes(&self) -> &[u8] {
-        self.as_slice()
+    fn count(&self) -> usize {
+        self.len()
+    }
+
+    fn name(&self, place: usize) -> &[u8] {
+        self.text(place)
     }
 }

@@ -1,5 +1,5 @@
 //! Where a member of a member lies.
-ghost use Rattle.std.specs.Prelude.{◌≡◌, map, option_map};
+ghost use Rattle.std.specs.Prelude.{◌≡◌, option_map};
 ghost use Rattle.std.specs.Result.{result_map_both};
 ghost use Rattle.ctf_layout.specs.Reached.{position_of, spot};
 ghost use Rattle.ctf_model.specs.figures.Paths.{member_position, members_found, path as path_to, step_to as stepped};
@@ -8,7 +8,7 @@ ghost use Rattle.ctf_space.specs.SpaceView.{space_of};
 ghost use Rattle.ctf_views.specs.ItemsView.{member as shown_member};
 
 use crate::figures::resolve;
-use crate::path_names::PathName;
+use crate::path_names::PathNames;
 use ctf_model::{Fault, TypeNum, placeless};
 use ctf_space::Space;
 use ctf_views::{Member, Members, Variant};
@@ -71,20 +71,20 @@ fn step_to(space: &Space<'_>, step: u64, name: &[u8], at: Reached) -> Result<Rea
 /// Where the member lies that names lead to, from a type on: how many bits lie in front of it, and
 /// its type as it is declared. Each step takes the first member with its name, and looks into no
 /// unnamed member; no name leads to the beginning of the type itself.
-pub fn path<N: PathName>(
+pub fn path<N: PathNames>(
     space: &Space<'_>,
     number: TypeNum,
-    names: &[N],
+    names: &N,
 ) -> Result<(u64, TypeNum), Fault>
     ensures { result_map_both position_of (λ f. f) result
-        ≡ path_to (space_of space.now) number.0 (map N.bytes_of names.now) }
+        ≡ path_to (space_of space.now) number.0 (N.names_of names.now) }
 {
     let mut at = Reached {
         offset: 0,
         tnum: number,
     };
-    for step in 0..names.len() {
-        at = step_to(space, step as u64, names[step].bytes(), at)?;
+    for step in 0..names.count() {
+        at = step_to(space, step as u64, names.name(step), at)?;
     }
     Ok((at.offset, at.tnum))
 }

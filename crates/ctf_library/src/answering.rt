@@ -290,7 +290,7 @@ fn tell<'a, 'q>(
         },
         TypeQuestion::Members(window) => Told::Lent(members(x.variant(), *window)),
         TypeQuestion::Enumerators(window) => Told::Lent(enumerators(x.variant(), *window)),
-        TypeQuestion::Path(names) => Told::Lent(position_answer(path(space, t, names.as_slice()))),
+        TypeQuestion::Path(names) => Told::Lent(position_answer(path(space, t, names.as_joined()))),
         TypeQuestion::Show { memory, offset } => Told::Value {
             memory: memory.as_slice(),
             offset: *offset,

@@ -12,3 +12,4 @@ pub mod Passes
 pub mod Decimals
 pub mod AskedParts
 pub mod Needing
+pub mod Pushed

@@ -2,6 +2,7 @@
 ghost use Rattle.std.specs.Prelude.{◌≡◌, ◌≢◌, ◌≤◌, IfSome, Option, None, Some, IfOk, IfErr, Ok, Err, codes, option_map, option_and_then, OnErr, true};
 ghost use Rattle.serde_json.specs.Find.{as_array, as_number, as_u64, get};
 ghost use Rattle.serde_json.specs.Read.{read as read_json};
+ghost use Rattle.ctf_joined.specs.Joined.{texts};
 ghost use Rattle.ctf_json.specs.Values.{line_said as view, texts_said, value_said as value_view};
 ghost use Rattle.ctf_lines.specs.Memory.{keeps_text, takes_memory, word_keeps_text};
 ghost use Rattle.ctf_protocol.specs.lines.Ask.{ask, open_asked, list_named, close_asked, import_asked, publication_asked, publish_asked, take_asked, withdraw_asked, about_type as type_question_asked, about_slot as slot_question_asked, about_held as held_question_asked, bytes_asked, symbol_asked, show_asked, names_asked, part_asked, word_asked, asked_with, request_asked, value_asked};
@@ -16,6 +17,7 @@ use crate::drafts::{add, create, discard, update};
 use crate::line_traits::FromLine;
 use crate::models::model;
 use crate::spelled::{name, names, piece};
+use ctf_joined::Joined;
 use ctf_json::{Line, NotRead, Scratch, Value, as_str, as_u64, get};
 use ctf_protocol::{
     Change, DataModel, Fault, HeldQuestion, ListName, Names, Piece, PlainQuestion, PublicationName,
@@ -376,8 +378,8 @@ fn names_under(alloc: Global, line: &Line<'_>) -> Result<Option<Names>, AllocErr
 }
 
 /// The texts under a key that are a list of names.
-fn texts_under<'v, 'a>(line: &'v Line<'a>) -> Option<&'v [&'a str]>
-    ensures { option_and_then (λ texts. names_spelled (texts_said texts.now)) result
+fn texts_under<'v>(line: &'v Line<'_>) -> Option<&'v Joined>
+    ensures { option_and_then (λ spelled. names_spelled (texts_said (texts spelled.now))) result
         ≡ option_and_then names_spelled
         (option_and_then as_array (get (codes "names") (view line.now))) }
 {

@@ -1,5 +1,6 @@
 //! Bytes that texts of a line spell: by hexadecimal digits, or as a name with its escapes.
-ghost use Rattle.std.specs.Prelude.{◌≡◌, ◌<◌, IfOk, IfSome, length, option_map, option_and_then};
+ghost use Rattle.std.specs.Prelude.{◌≡◌, ◌<◌, ◌≤◌, ◌++◌, [], ◌∷◌, All, IfOk, IfSome, None, Some, cond, length, option_map, option_and_then};
+ghost use Rattle.ctf_joined.specs.Joined.{texts};
 ghost use Rattle.ctf_json.specs.Values.{texts_said, value_said as view};
 ghost use Rattle.ctf_protocol.specs.lines.LineFields.{bytes_spelled, not_too_many, not_too_many_names, name_spelled, names_spelled};
 ghost use Rattle.ctf_protocol.specs.lines.Text.{digit_value as digit_value_of, byte_value as byte_value_of, bytes_spelled_by};
@@ -7,6 +8,7 @@ ghost use Rattle.ctf_lines.specs.Fronts.{IsFront, escape as escape_of};
 
 use crate::digits::decode;
 use crate::escapes::{are_plain, is_plain};
+use ctf_joined::Joined;
 use ctf_json::{Value, as_str};
 use ctf_protocol::{LONGEST_PIECE, Names, Piece};
 use std::alloc::{AllocError, Global};
@@ -88,16 +90,30 @@ fn bytes_of(alloc: Global, text: &[u8]) -> Result<Option<Vec<u8>>, AllocError>
 fn escaped_bytes_of(alloc: Global, text: &[u8]) -> Result<Option<Vec<u8>>, AllocError>
     ensures { IfOk result (λ bytes. option_map (λ v. v.items) bytes ≡ bytes_spelled_by text.now) }
 {
-    let mut bytes = Vec::with_capacity(alloc, text.len())?;
+    let mut bytes = Vec::new(alloc);
+    if spell(&mut bytes, text)? {
+        Ok(Some(bytes))
+    } else {
+        Ok(None)
+    }
+}
+
+/// Writes the bytes that a text spells in place of others. False where it spells none.
+fn spell(bytes: &mut Vec<u8>, text: &[u8]) -> Result<bool, AllocError>
+    ensures { IfOk result (λ good. cond good (Some bytes.new.items) None
+        ≡ bytes_spelled_by text.now) }
+{
+    bytes.clear();
+    bytes.reserve_exact(text.len())?;
     let mut rest = text;
     while !rest.is_empty() {
         let Some((byte, behind)) = front(rest) else {
-            return Ok(None);
+            return Ok(false);
         };
         bytes.push_reserved(byte);
         rest = behind;
     }
-    Ok(Some(bytes))
+    Ok(true)
 }
 
 /// The name that a text spells.
@@ -121,9 +137,37 @@ pub fn name(alloc: Global, value: &Value<'_, '_>) -> Result<Option<Piece>, Alloc
     }
 }
 
+/// Adds a name that is no longer than a request may bring. False where it is longer.
+fn push_short(names: &mut Joined, name: &[u8]) -> Result<bool, AllocError>
+    ensures { IfOk result (λ good. cond good (Some (texts names.new)) None
+        ≡ option_map (λ name. texts names.old ++ name ∷ []) (not_too_many name.now)) }
+{
+    if name.len() > LONGEST_PIECE {
+        return Ok(false);
+    }
+    names.push(name)?;
+    Ok(true)
+}
+
+/// Adds the name that a text spells. False where it spells none.
+fn push_spelled(names: &mut Joined, bytes: &mut Vec<u8>, text: &[u8]) -> Result<bool, AllocError>
+    ensures { IfOk result (λ good. cond good (Some (texts names.new)) None
+        ≡ option_map (λ name. texts names.old ++ name ∷ [])
+        (option_and_then not_too_many (bytes_spelled_by text.now))) }
+{
+    if are_plain(text) {
+        return push_short(names, text);
+    }
+    if !spell(bytes, text)? {
+        return Ok(false);
+    }
+    push_short(names, bytes.as_slice())
+}
+
 /// Names that are no more than a request may bring.
-fn short_list(names: Vec<Piece>) -> Option<Names>
-    ensures { result ≡ not_too_many_names names.items }
+fn short_list(names: Joined) -> Option<Names>
+    requires { All (λ name. length name ≤ 1048576) (texts names) }
+    ensures { result ≡ not_too_many_names (texts names) }
 {
     if names.len() <= LONGEST_PIECE {
         Some(Names::new(names))
@@ -133,15 +177,15 @@ fn short_list(names: Vec<Piece>) -> Option<Names>
 }
 
 /// The names that texts spell, if each spells one and they are no more than a request may bring.
-pub fn names(alloc: Global, texts: &[&str]) -> Result<Option<Names>, AllocError>
+pub fn names(alloc: Global, spelled: &Joined) -> Result<Option<Names>, AllocError>
     ensures { IfOk result (λ names. names
-        ≡ option_and_then not_too_many_names (names_spelled (texts_said texts.now))) }
+        ≡ option_and_then not_too_many_names (names_spelled (texts_said (texts spelled.now)))) }
 {
-    let mut names = Vec::with_capacity(alloc, texts.len())?;
-    for text in texts {
-        match spelled(alloc, text)? {
-            Some(name) => names.push_reserved(name),
-            None => return Ok(None),
+    let mut names = Joined::new(alloc);
+    let mut bytes = Vec::new(alloc);
+    for place in 0..spelled.len() {
+        if !push_spelled(&mut names, &mut bytes, spelled.text(place))? {
+            return Ok(None);
         }
     }
     Ok(short_list(names))

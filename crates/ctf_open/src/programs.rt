@@ -109,9 +109,7 @@ impl OpenDictionary {
         ensures { result_map_both (λ t. t.0) (λ f. f) result
             ≡ named_answered index (function_of (own_in self.now) number) }
     {
-        match self.function(number) {
-            Ok(function) => named(function.args, index),
-            Err(fault) => Err(fault),
-        }
+        let function = self.function(number)?;
+        named(function.args, index)
     }
 }

@@ -85,10 +85,7 @@ pub fn signature_of(x: Shape<'_>) -> Result<Signature<'_>, Fault>
 fn return_of(x: Shape<'_>) -> Result<TypeNum, Fault>
     ensures { result_map_both (λ t. t.0) (λ f. f) result ≡ return_answered (shape_view x.entry) }
 {
-    match signature_of(x) {
-        Ok(signature) => Ok(signature.ret),
-        Err(fault) => Err(fault),
-    }
+    Ok(signature_of(x)?.ret)
 }
 
 #[inline(always)]
@@ -164,10 +161,8 @@ impl OpenDictionary {
         ensures { result_map_both shape_view (λ f. f) result
             ≡ shape_of (space_type (space_in self.now) t.0) }
     {
-        match self.space().term(t) {
-            Ok(found) => Ok(found.shape()),
-            Err(fault) => Err(fault),
-        }
+        let found = self.space().term(t)?;
+        Ok(found.shape())
     }
 
     /// The kind of a type.
@@ -176,20 +171,15 @@ impl OpenDictionary {
         ensures { result
             ≡ on_shape kind_answered (shape_of (space_type (space_in self.now) t.0)) }
     {
-        match self.space().term(t) {
-            Ok(found) => Ok(found.kind()),
-            Err(fault) => Err(fault),
-        }
+        let found = self.space().term(t)?;
+        Ok(found.kind())
     }
 
     /// Whether look-ups by name see a type.
     pub fn root(&self, t: TypeNum) -> Result<bool, Fault>
         ensures { result ≡ root_answered (space_type (space_in self.now) t.0) }
     {
-        match self.space().term(t) {
-            Ok(found) => Ok(found.root()),
-            Err(fault) => Err(fault),
-        }
+        Ok(self.space().term(t)?.root())
     }
 
     /// What a forward declares.
@@ -339,7 +329,7 @@ impl OpenDictionary {
             ≡ path_answered (space_in self.now) (name.now ∷ []) t.0 }
     {
         self.shape(t)?;
-        path(&self.space(), t, &[name])
+        path(&self.space(), t, &[name].as_slice())
     }
 
     /// The type of an object of the program, by the number of its symbol.
@@ -401,6 +391,6 @@ impl OpenDictionary {
             ≡ path_answered (space_in self.now) (map (λ name. name.now) names.now) t.0 }
     {
         self.shape(t)?;
-        path(&self.space(), t, names)
+        path(&self.space(), t, &names)
     }
 }

@@ -1,39 +1,40 @@
 //! Names that a request brings.
-ghost use Rattle.std.specs.Prelude.{◌≡◌, length};
-
-use ctf_model::{LONGEST_PIECE, Piece};
+use ctf_joined::Joined;
 use std::marker::Model;
 
 /// A list of names, at most `LONGEST_PIECE` of them, each of at most as many bytes.
 #[derive(Drop)]
 pub struct Names {
-    names: Vec<Piece>,
+    names: Joined,
 }
 
 impl Model for Names {
-    ghost use Rattle.std.specs.Prelude.{ℕ, List, ◌≤◌, vec_len};
-    ghost use Rattle.ctf_model.specs.declared.bytes.TheConstants.{LONGEST_PIECE};
+    ghost use Rattle.std.specs.Prelude.{ℕ, List};
+    ghost use Rattle.ctf_joined.specs.Joined.{texts};
+    ghost use Rattle.ctf_protocol.specs.words.Short.{AreShort};
 
     ghost Value = { List (List ℕ) };
 
-    ghost view = { λ n. n.names.items };
+    ghost view = { λ n. texts n.names };
 
-    ghost invariant = { λ n. vec_len n.names ≤ LONGEST_PIECE };
+    ghost invariant = { λ n. AreShort (texts n.names) };
 }
 
 impl Names {
-    ghost use Rattle.std.specs.Prelude.{◌≤◌, vec_len};
+    ghost use Rattle.std.specs.Prelude.{◌≡◌};
+    ghost use Rattle.ctf_joined.specs.Joined.{texts};
+    ghost use Rattle.ctf_protocol.specs.words.Short.{AreShort};
 
-    pub fn new(names: Vec<Piece>) -> Names
-        requires { vec_len names ≤ LONGEST_PIECE }
-        ensures { result ≡ names.items }
+    pub fn new(names: Joined) -> Names
+        requires { AreShort (texts names) }
+        ensures { result ≡ texts names }
     {
         Names { names }
     }
 
-    pub fn as_slice(&self) -> &[Piece]
-        ensures { result.now ≡ self.now }
+    pub fn as_joined(&self) -> &Joined
+        ensures { texts result.now ≡ self.now }
     {
-        self.names.as_slice()
+        &self.names
     }
 }

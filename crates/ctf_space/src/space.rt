@@ -137,20 +137,14 @@ impl<'a> Space<'a> {
         ensures { result_map_both (λ n. n.now) (λ f. f) result
             ≡ name_in (space_type (space_of self.now) number.0) }
     {
-        match self.term(number) {
-            Ok(found) => Ok(found.name()),
-            Err(fault) => Err(fault),
-        }
+        Ok(self.term(number)?.name())
     }
 
     /// What stands behind the head of the type that a number names.
     pub fn variant(&self, number: TypeNum) -> Result<Variant<'a>, Fault>
         ensures { shown_found result ≡ shown_in (space_type (space_of self.now) number.0) }
     {
-        match self.term(number) {
-            Ok(found) => Ok(found.variant()),
-            Err(fault) => Err(fault),
-        }
+        Ok(self.term(number)?.variant())
     }
 
     /// The dictionary itself.

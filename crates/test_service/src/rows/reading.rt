@@ -355,12 +355,8 @@ const NAMES: [(&str, &[&[u8]]); 8] = [
 
 /// Whether these are the names.
 fn are(names: &Names, want: &[&[u8]]) -> bool {
-    let names = names.as_slice();
-    names.len() == want.len()
-        && names
-            .iter()
-            .zip(want)
-            .all(|(name, want)| name.as_slice() == *want)
+    let names = names.as_joined();
+    names.len() == want.len() && (0..want.len()).all(|place| names.text(place) == want[place])
 }
 
 /// Whether a request asks for a path by these names, from type 3 of slot 2.

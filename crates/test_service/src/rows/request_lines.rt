@@ -67,7 +67,8 @@ fn the_longest_line_is_read(rt: HostRuntime) -> Result<(), Fail> {
         (1_048_576, "{\"ok\":{},\"s\":7}\n{\"ok\":{},\"s\":8}\n"),
         (
             1_048_577,
-            "{\"fault\":{\"code\":59,\"name\":\"LongLine\",\"place\":0},\"s\":0}\n{\"ok\":{},\"s\":8}\n",
+            "{\"fault\":{\"code\":59,\"name\":\"LongLine\",\"place\":0},\"s\":0}\n\
+                {\"ok\":{},\"s\":8}\n",
         ),
     ];
     for (len, want) in rows {

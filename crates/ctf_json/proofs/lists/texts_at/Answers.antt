@@ -3,6 +3,7 @@ use Rattle.json.specs.Json.{after_end_array}
 use Rattle.json.specs.Reads.{token_of}
 use Rattle.json.proofs.Grammar.{value_is}
 use Rattle.serde_json.specs.Data.{array, null}
+use Rattle.ctf_joined.specs.Joined.{texts}
 use Rattle.ctf_json.specs.Passed.{begun, passed, passed_value}
 use Rattle.ctf_json.specs.Told.{in_range, told, told_items}
 use Rattle.ctf_json.specs.Values.{is_text, text_said}
@@ -10,7 +11,7 @@ use Rattle.ctf_json.proofs.Listed.{SoFar, text_is, text_test, all_read, nothing_
 use Rattle.ctf_json.proofs.lists.texts_at.Goals as goal
 
 pub loop-reader-init : goal.loop-reader-init
-loop-reader-init c = nothing_yet is_text text_test text_said c.args.depth c.args.reader.now c.new-texts.result.items c.new-texts.ensures.items
+loop-reader-init c = nothing_yet is_text text_test text_said c.args.depth c.args.reader.now (texts c.new-texts.result) c.new-texts.ensures
 
 pub returns-in_err-token-clause-refused : goal.returns-in_err-token-clause-refused
 returns-in_err-token-clause-refused c is =
@@ -18,7 +19,7 @@ returns-in_err-token-clause-refused c is =
     let going : (after_end_array l.reader ≡ None) × (c.take_end_array.new.self ≡ l.reader) = grind arith in
     let empty : c.take_end_array.new.self ≡ [] = grind arith in
     let none : passed_value c.args.depth l.reader ≡ None = ap (passed_value c.args.depth) (sym going.1 ∙ empty) ∙ ap (passed in_range) (value_is c.args.depth []) in
-    refused_here is_text text_test text_said c.args.depth c.args.reader.now l.reader l.texts.items l.invariant going.0 none
+    refused_here is_text text_test text_said c.args.depth c.args.reader.now l.reader (texts l.texts) l.invariant going.0 none
 
 pub returns-in_err-pass_from-clause-refused : goal.returns-in_err-pass_from-clause-refused
 returns-in_err-pass_from-clause-refused c is =
@@ -26,14 +27,14 @@ returns-in_err-pass_from-clause-refused c is =
     let going : (after_end_array l.reader ≡ None) × (c.take_end_array.new.self ≡ l.reader) = grind arith in
     let first : c.take_end_array.new.self ≡ token_of c.in_ok-token.token ∷ c.next.new.self = grind arith in
     let failed : passed_value c.args.depth (token_of c.in_ok-token.token ∷ c.next.new.self) ≡ None = c.in_err-pass_from.ensures.passed in
-    refused_here is_text text_test text_said c.args.depth c.args.reader.now l.reader l.texts.items l.invariant going.0 (ap (passed_value c.args.depth) (sym going.1 ∙ first) ∙ failed)
+    refused_here is_text text_test text_said c.args.depth c.args.reader.now l.reader (texts l.texts) l.invariant going.0 (ap (passed_value c.args.depth) (sym going.1 ∙ first) ∙ failed)
 
 pub returns-in_err-pass_items-clause-refused : goal.returns-in_err-pass_items-clause-refused
 returns-in_err-pass_items-clause-refused c is =
     let l = c.loop-reader in
     let going : (after_end_array l.reader ≡ None) × (c.take_end_array.new.self ≡ l.reader) = grind arith in
     let first : c.take_end_array.new.self ≡ token_of c.in_ok-token.token ∷ c.next.new.self = grind arith in
-    refused_later is_text text_test text_said c.args.depth c.args.reader.now l.reader l.texts.items (token_of c.in_ok-token.token) c.next.new.self c.pass_from.new.reader l.invariant going.0 (sym going.1 ∙ first) c.in_ok-pass_from.ensures.passed c.in_err-pass_items.ensures.passed
+    refused_later is_text text_test text_said c.args.depth c.args.reader.now l.reader (texts l.texts) (token_of c.in_ok-token.token) c.next.new.self c.pass_from.new.reader l.invariant going.0 (sym going.1 ∙ first) c.in_ok-pass_from.ensures.passed c.in_err-pass_items.ensures.passed
 
 pub returns-in_default-clause-ok : goal.returns-in_default-clause-ok
 returns-in_default-clause-ok c =
@@ -42,7 +43,7 @@ returns-in_default-clause-ok c =
     let going : (after_end_array l.reader ≡ None) × (c.take_end_array.new.self ≡ l.reader) = grind arith in
     let first : c.take_end_array.new.self ≡ t ∷ c.next.new.self = grind arith in
     let not : is_text (told (begun t)) ≡ false = ap is_some (sym c.in_default.ensures) in
-    let o = other is_text text_test text_said c.args.depth c.args.reader.now l.reader l.texts.items t c.next.new.self c.pass_from.new.reader c.pass_items.new.reader l.invariant going.0 (sym going.1 ∙ first) c.in_ok-pass_from.ensures.passed not c.in_ok-pass_items.ensures.passed in
+    let o = other is_text text_test text_said c.args.depth c.args.reader.now l.reader (texts l.texts) t c.next.new.self c.pass_from.new.reader c.pass_items.new.reader l.invariant going.0 (sym going.1 ∙ first) c.in_ok-pass_from.ensures.passed not c.in_ok-pass_items.ensures.passed in
     (o.0, o.1, o.2, ap (λ b. cond b (array (told_items o.0)) null) o.3)
 
 pub loop-reader-preserved : goal.loop-reader-preserved
@@ -51,14 +52,14 @@ loop-reader-preserved c =
     let t = token_of c.in_ok-token.token in
     let going : (after_end_array l.reader ≡ None) × (c.take_end_array.new.self ≡ l.reader) = grind arith in
     let first : c.take_end_array.new.self ≡ t ∷ c.next.new.self = grind arith in
-    let x = c.in-Some.text in
-    let is = text_is (told (begun t)) c.in-Some.text.now c.in-Some.ensures in
-    let pushed : c.push.new.self.items ≡ l.texts.items ++ x ∷ [] = search rules in
+    let x = c.in-Some.text.now in
+    let is = text_is (told (begun t)) x c.in-Some.ensures in
+    let pushed : texts c.push.new.self ≡ texts l.texts ++ x ∷ [] = grind arith in
     subst (λ xs. SoFar is_text text_test text_said c.args.depth c.args.reader.now xs c.next.new.self) (sym pushed)
-    (one_more_read is_text text_test text_said c.args.depth c.args.reader.now l.reader l.texts.items x t c.next.new.self l.invariant going.0 (sym going.1 ∙ first) is.0 is.1)
+    (one_more_read is_text text_test text_said c.args.depth c.args.reader.now l.reader (texts l.texts) x t c.next.new.self l.invariant going.0 (sym going.1 ∙ first) is.0 is.1)
 
 pub returns-clause-ok : goal.returns-clause-ok
 returns-clause-ok c =
     let l = c.loop-reader in
-    let a = all_read is_text text_test text_said c.args.depth c.args.reader.now l.reader c.take_end_array.new.self l.texts.items l.invariant (grind arith) in
+    let a = all_read is_text text_test text_said c.args.depth c.args.reader.now l.reader c.take_end_array.new.self (texts l.texts) l.invariant (grind arith) in
     (a.0, a.1, a.2, ap (λ b. cond b (array (told_items a.0)) null) a.3 ∙ ap array a.4)

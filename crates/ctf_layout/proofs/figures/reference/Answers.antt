@@ -5,5 +5,5 @@ use Rattle.ctf_check.specs.TypedView.{spelled}
 use Rattle.ctf_layout.proofs.Follow.{referred_shape}
 use Rattle.ctf_layout.proofs.figures.reference.Goals as goal
 
-pub returns-in-Ok : goal.returns-in-Ok
-returns-in-Ok c = c.referred.ensures ∙ sym (referred_shape (spelled c.in-Ok.found) (shape_view c.shape.result) c.shape.ensures) ∙ ap referred_by (rw c.in-Ok.is at c.term.ensures)
+pub returns : goal.returns
+returns c = c.referred.ensures ∙ sym (referred_shape (spelled c.in_ok-found.found) (shape_view c.shape.result) c.shape.ensures) ∙ ap referred_by (rw c.in_ok-found.was at c.term.ensures)

@@ -1,5 +1,4 @@
 use Rattle.std.proofs.Common.{ap, refl, ◌∙◌}
-use Rattle.std.proofs.lemmas.List.{map-id}
 use Rattle.ctf_check.specs.TypedView.{spelled}
 use Rattle.ctf_model.specs.figures.Paths.{path}
 use Rattle.ctf_model.specs.format.Shown.{enumerators_in, kind_of, members_in, shown}
@@ -20,5 +19,5 @@ returns-in-Enumerators c = rw c.in-Enumerators.is (told shown (λ z. as_fields (
 pub returns-in-Path : goal.returns-in-Path
 returns-in-Path c =
     let s = space_of c.args.space.now in
-    let names = map-id _ ∙ c.as_slice.ensures in
+    let names = c.as_joined.ensures in
     rw c.in-Path.is (told kind_of (λ k. as_fields position_fields (path s c.args.t.0 c.in-Path.names)) (about.Path c.in-Path.names) s c.args.t.0 (spelled c.args.x.now) c.args.kind _ c.requires.kind (c.position_answer.ensures ∙ ap (as_fields position_fields) (c.path.ensures ∙ ap (path s c.args.t.0) names)) (λ x. refl))

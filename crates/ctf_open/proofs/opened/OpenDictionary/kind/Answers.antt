@@ -5,7 +5,7 @@ use Rattle.ctf_model.specs.spaces.Space.{space_type}
 use Rattle.ctf_open.proofs.ByShape.{kind_known}
 use Rattle.ctf_open.proofs.opened.OpenDictionary.kind.Goals as goal
 
-pub returns-in-Ok : goal.returns-in-Ok
-returns-in-Ok c =
-    kind_known (spelled c.in-Ok.found) c.kind.result c.kind.ensures
-    ∙ (ap (λ r. on_shape kind_answered (shape_of r)) c.in-Ok.ensures ∙ ap (λ s. on_shape kind_answered (shape_of (space_type s c.args.t.0))) c.space.ensures.space)
+pub returns : goal.returns
+returns c =
+    kind_known (spelled c.in_ok-found.found) c.kind.result c.kind.ensures
+    ∙ (ap (λ r. on_shape kind_answered (shape_of r)) c.in_ok-found.ensures ∙ ap (λ s. on_shape kind_answered (shape_of (space_type s c.args.t.0))) c.space.ensures.space)

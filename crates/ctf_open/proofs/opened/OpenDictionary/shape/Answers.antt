@@ -6,7 +6,7 @@ use Rattle.ctf_model.specs.spaces.Space.{space_type}
 use Rattle.ctf_open.proofs.ByShape.{shape_known}
 use Rattle.ctf_open.proofs.opened.OpenDictionary.shape.Goals as goal
 
-pub returns-in-Ok : goal.returns-in-Ok
-returns-in-Ok c =
-    shape_known (spelled c.in-Ok.found) (shape_view c.shape.result) c.shape.ensures
-    ∙ (ap (λ r. shape_of r) c.in-Ok.ensures ∙ ap (λ s. shape_of (space_type s c.args.t.0)) c.space.ensures.space)
+pub returns : goal.returns
+returns c =
+    shape_known (spelled c.in_ok-found.found) (shape_view c.shape.result) c.shape.ensures
+    ∙ (ap (λ r. shape_of r) c.in_ok-found.ensures ∙ ap (λ s. shape_of (space_type s c.args.t.0)) c.space.ensures.space)

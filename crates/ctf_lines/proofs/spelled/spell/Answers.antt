@@ -1,7 +1,7 @@
 use Rattle.std.proofs.Common.{sym, ◌∙◌}
 use Rattle.std.proofs.lemmas.Bool.{eqb-true}
 use Rattle.ctf_lines.proofs.Fronts.{spelled_end}
-use Rattle.ctf_lines.proofs.spelled.escaped_bytes_of.Goals as goal
+use Rattle.ctf_lines.proofs.spelled.spell.Goals as goal
 
 pub returns : goal.returns
 returns c =

@@ -1,7 +1,7 @@
 use Rattle.std.proofs.Common.{◌≡◌, ◌+◌, ◌≤◌, ◌++◌, length, vec_len, vec_capacity}
 use Rattle.std.specs.Option.{option_map}
 use Rattle.ctf_protocol.specs.lines.Text.{bytes_spelled_by}
-use Rattle.ctf_lines.proofs.spelled.escaped_bytes_of.Given as goal
+use Rattle.ctf_lines.proofs.spelled.spell.Given as goal
 
 abbrev pub invariant-loop-rest : goal.invariant-loop-rest
 invariant-loop-rest l = record {
