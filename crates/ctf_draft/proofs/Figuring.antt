@@ -1,5 +1,5 @@
 -- What numbers of a draft come to, step by step.
-use Rattle.std.proofs.Common.{◌≡◌, ℕ, suc, ◌-◌, ◌<◌, Bool, true, false, cond, eqb, length, Option, Some, None, Result, Ok, Err, is_some, refl, sym, ap, ◌∙◌, arith}
+use Rattle.std.proofs.Common.{◌≡◌, ℕ, suc, ◌+◌, ◌-◌, ◌<◌, Bool, true, false, cond, eqb, length, Option, Some, None, Result, Ok, Err, is_some, refl, sym, ap, ◌∙◌, arith}
 use Rattle.std.specs.Prelude.{MatchOption, slice_get, option_map}
 use Rattle.std.proofs.lemmas.Option.{slice_get_within}
 use Rattle.ctf_model.specs.rules.Chains.{own_index}
@@ -68,6 +68,14 @@ module _ (figure : Figure) (parents : ℕ → Result ℕ Fault) (d : Dictionary)
 
   pub own_at : 0 < most → (i : ℕ) (body : Body) → own_index d.child (length d.terms) n ≡ Some i → option_map (λ x. x.body) (slice_get d.terms i) ≡ Some body → comes_to figure parents d most n ≡ figure.of_type (comes_to figure parents d (most - 1)) n body
   own_at lt i body own got = some_follow lt ∙ own_step figure parents d (most - 1) n i body own got
+
+  -- before the first of them
+  pub at_first : comes_to figure parents d most n ≡ comes_to figure parents d (most - 0) n
+  at_first = let same : most ≡ most - 0 = omega arith in ap (λ (k : ℕ). comes_to figure parents d k n) same
+
+  -- after one more of them
+  pub one_on : (step : ℕ) → comes_to figure parents d ((most - step) - 1) n ≡ comes_to figure parents d (most - (step + 1)) n
+  one_on step = let same : (most - step) - 1 ≡ most - (step + 1) = omega arith in ap (λ (k : ℕ). comes_to figure parents d k n) same
 
   pub elsewhere_at : 0 < most → (r : Result ℕ Fault) → ((k : ℕ) → r ≡ comes_to figure parents d (suc k) n) → r ≡ comes_to figure parents d most n
   elsewhere_at lt r h = h (most - 1) ∙ sym (some_follow lt)

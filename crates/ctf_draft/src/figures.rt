@@ -76,20 +76,23 @@ impl Draft {
         ensures { let s = space_of self.now.draft in result ≡ comes_to
             (sizing s.model) (parents_figure (sizing s.model) s.parent) s.own most n.0 }
     {
-        if most == 0 {
-            return Err(placeless(Fault::INCOMPLETE));
+        let mut at = n;
+        for step in 0..most {
+            if at.0 == 0 {
+                return Err(placeless(Fault::INCOMPLETE));
+            }
+            let Some(i) = self.own_index(at) else {
+                return self.size_elsewhere(at);
+            };
+            match self.own_body(i).sizing(self.model) {
+                Sizing::Itself(size) => return size,
+                Sizing::One(t) => at = t,
+                Sizing::Row(count, t) => {
+                    return repeated(count, self.size_within(t, most - step - 1));
+                }
+            }
         }
-        if n.0 == 0 {
-            return Err(placeless(Fault::INCOMPLETE));
-        }
-        let Some(i) = self.own_index(n) else {
-            return self.size_elsewhere(n);
-        };
-        match self.own_body(i).sizing(self.model) {
-            Sizing::Itself(size) => size,
-            Sizing::One(t) => self.size_within(t, most - 1),
-            Sizing::Row(count, t) => repeated(count, self.size_within(t, most - 1)),
-        }
+        Err(placeless(Fault::INCOMPLETE))
     }
 
     /// The size of a type, in bytes.
@@ -114,32 +117,24 @@ impl Draft {
         }
     }
 
-    /// The type that a type stands for, where so many numbers may follow on each other.
-    fn resolve_within(&self, n: TypeNum, most: u16) -> Result<TypeNum, Fault>
-        ensures { let s = space_of self.now.draft in
-            result_map_both (λ t. t.0) (λ f. f) result ≡ comes_to
-            resolving (parents_figure resolving s.parent) s.own most n.0 }
-    {
-        if most == 0 {
-            return Err(placeless(Fault::INCOMPLETE));
-        }
-        if n.0 == 0 {
-            return Ok(n);
-        }
-        let Some(i) = self.own_index(n) else {
-            return self.resolve_elsewhere(n);
-        };
-        match self.own_body(i).renamed() {
-            Some(t) => self.resolve_within(t, most - 1),
-            None => Ok(n),
-        }
-    }
-
     /// The type that a type stands for, typedefs and qualifiers followed.
     pub(crate) fn resolved(&self, n: TypeNum) -> Result<TypeNum, Fault>
         ensures { result_map_both (λ t. t.0) (λ f. f) result
             ≡ resolved (space_of self.now.draft) n.0 }
     {
-        self.resolve_within(n, MOST_NUMBERS)
+        let mut at = n;
+        for _step in 0..MOST_NUMBERS {
+            if at.0 == 0 {
+                return Ok(at);
+            }
+            let Some(i) = self.own_index(at) else {
+                return self.resolve_elsewhere(at);
+            };
+            match self.own_body(i).renamed() {
+                Some(t) => at = t,
+                None => return Ok(at),
+            }
+        }
+        Err(placeless(Fault::INCOMPLETE))
     }
 }

@@ -1,5 +1,5 @@
 //! Where a member is placed.
-ghost use Rattle.std.specs.Prelude.{◌≡◌, ◌+◌, ◌<◌, ◌^◌, ◌⊎◌, ℕ, IfOk, IfErr, MatchOption, Some, is_some, option_map, true, false, unwrap_or, Ok, Err};
+ghost use Rattle.std.specs.Prelude.{◌≡◌, ◌+◌, ◌<◌, ◌^◌, ◌⊎◌, ℕ, IfOk, IfErr, MatchOption, Option, Some, is_some, option_map, true, false, unwrap_or, Ok, Err};
 ghost use Rattle.ctf_draft.specs.Pending.{StandsPending};
 ghost use Rattle.ctf_draft.specs.Reaching.{Knows};
 ghost use Rattle.ctf_draft.specs.Planning.{planned, planned_shallow, planned_with, stands_behind};
@@ -160,26 +160,55 @@ impl Draft {
         }
     }
 
-    /// Where a member goes whose type has an alignment, and what size that makes.
+    /// The place of a member of a pending type, where that hangs on no alignment: it is stated, or
+    /// no member stands in front.
+    fn free_place(&self, n: TypeNum, i: usize, offset: Option<u64>) -> Option<u64>
+        requires { StandsPending self.now.draft n.0 i }
+        ensures { MatchOption result (Unit {0}) (λ place. (tnum : ℕ)
+            → member_place_in (space_of self.now.draft) (body_at self.now.draft n.0) tnum offset
+            ≡ Ok place) }
+    {
+        if offset.is_some() {
+            return offset;
+        }
+        match self.pending_body(n, i).stands_behind() {
+            Some(_) => None,
+            None => Some(0),
+        }
+    }
+
+    /// Whether the bound of a type tells that no more than 512 steps by value begin at it.
+    fn is_shallow(&self, tnum: TypeNum) -> bool
+        ensures { result ≡ true → is_deep self.now.draft tnum.0 ≡ false }
+    {
+        match self.own_index(tnum) {
+            Some(i) => self.depths.is_shallow(i),
+            None => true,
+        }
+    }
+
+    /// Where a member goes that has a place, and what size that makes.
     fn plan_shallow(
         &self,
         n: TypeNum,
         i: usize,
         tnum: TypeNum,
-        align: Result<u64, Fault>,
-        offset: Option<u64>,
+        place: Result<u128, Fault>,
     ) -> Result<Plan, Fault>
         requires pending { StandsPending self.now.draft n.0 i }
-        requires align { align ≡ align_in (space_of self.now.draft) tnum.0 }
-        ensures { result ≡ planned_shallow self.now.draft n.0 tnum.0 offset }
+        requires small { IfOk place (λ place. place < 2 ^ 71) }
+        ensures { (offset : Option ℕ) → place ≡ member_place_in (space_of self.now.draft)
+            (body_at self.now.draft n.0) tnum.0 offset
+            → result ≡ planned_shallow self.now.draft n.0 tnum.0 offset }
     {
         let bits = self.bits_filled(tnum)?;
-        let place = self.member_place(n, i, align, offset)?;
+        let place = place?;
         let said = self.pending_body(n, i).said_size();
         held(place, grown(said, place, bits))
     }
 
-    /// The same, with what is known of types in a table.
+    /// The same, with what is known of types in a table. Alignments are asked where a place hangs
+    /// on one.
     fn plan_by(
         &self,
         marks: &mut Marks,
@@ -195,9 +224,17 @@ impl Draft {
             ⊎ (planned self.now.draft n.0 tnum.0 offset ≡ Err f)) }
         ensures knows { Knows self.now.draft marks.new }
     {
+        if let Some(place) = self.free_place(n, i, offset) {
+            if self.is_shallow(tnum) {
+                return self.plan_shallow(n, i, tnum, Ok(u128::from(place)));
+            }
+        }
         let found = self.alignment(marks, tnum)?;
         match found {
-            Some(align) => self.plan_shallow(n, i, tnum, align, offset),
+            Some(align) => {
+                let place = self.member_place(n, i, align, offset);
+                self.plan_shallow(n, i, tnum, place)
+            }
             None => Err(placeless(Fault::DEEP_MEMBER)),
         }
     }

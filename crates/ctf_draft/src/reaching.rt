@@ -60,17 +60,18 @@ impl Draft {
             (λ align. align ≡ comes_to (aligning s.model)
             (parents_figure (aligning s.model) s.parent) s.own most n.0) }
     {
-        if most == 0 {
-            return None;
+        let mut at = n;
+        for _step in 0..most {
+            let Some(i) = self.own_index(at) else {
+                return Some(self.align_elsewhere(at));
+            };
+            match self.own_body(i).aligning(self.model)? {
+                Sizing::Itself(align) => return Some(align),
+                Sizing::One(t) => at = t,
+                Sizing::Row(_, _) => return None,
+            }
         }
-        let Some(i) = self.own_index(n) else {
-            return Some(self.align_elsewhere(n));
-        };
-        match self.own_body(i).aligning(self.model)? {
-            Sizing::Itself(align) => Some(align),
-            Sizing::One(t) => self.align_within(t, most - 1),
-            Sizing::Row(_, _) => None,
-        }
+        None
     }
 
     /// How deep an own type is and how it is aligned, if the budget is enough for its depth. Each
