@@ -24,13 +24,13 @@ pub(crate) fn base(text: &[u8]) -> &[u8]
     ensures base { result.now ≡ base_of text.now }
     ensures inside { length result.now ≤ length text.now }
 {
-    let mut end = 0;
-    for i in 0..text.len() {
-        if !is_star_or_blank(text[i]) {
-            end = i + 1;
+    for behind in 0..text.len() {
+        let end = text.len() - behind;
+        if !is_star_or_blank(text[end - 1]) {
+            return &text[..end];
         }
     }
-    &text[..end]
+    &[]
 }
 
 /// How many stars there are.

@@ -1,43 +1,62 @@
 //! Names by numbers, and against a text.
-ghost use Rattle.std.specs.Prelude.{◌≡◌, ◌<◌, ◌^◌, take};
+ghost use Rattle.std.specs.Prelude.{◌≡◌, ◌+◌, ◌*◌, ◌<◌, ◌≤◌, ◌^◌, length};
 ghost use Rattle.ctf_order.specs.Naming.{naming};
-ghost use Rattle.ctf_order.specs.Names.{front as front_of, hash as hash_of, is_text, rank as rank_of};
+ghost use Rattle.ctf_order.specs.Names.{hash as hash_of, hash_of_bytes, hash_of_words, is_text as is_the_text, mixed as mixed_of, rank as rank_of};
 
 use crate::texts::Texts;
+use ctf_sections::bytes::u64_at;
 
-/// How many bytes at the front of a name are read for its rank.
-const FRONT: usize = 64;
+/// How many bytes at the front of a name are read for its rank, beside its last eight.
+const FRONT: usize = 56;
 
 /// What the numbers of half a word stay below.
 const HALF: u64 = 1 << 32;
 
-/// The first bytes of a name, or all where they are fewer.
-fn prefix(name: &[u8], most: usize) -> &[u8]
-    ensures { result.now ≡ take most name.now }
-{
-    if most < name.len() {
-        &name[..most]
-    } else {
-        name
-    }
-}
+/// Odd, and without a pattern: a product with it has high bits that depend on all others.
+const FACTOR: u64 = 0x9e37_79b9_7f4a_7c15;
 
-fn front(name: &[u8]) -> &[u8]
-    ensures { result.now ≡ front_of name.now }
-{
-    prefix(name, FRONT)
-}
-
-/// A number below `HALF` for some bytes.
-fn hash(bytes: &[u8]) -> u64
+/// A number below 2^32 for one before it and a word more: the high half of a product.
+fn mixed(hash: u64, word: u64) -> u64
     ensures below { result < 2 ^ 32 }
-    ensures is { result ≡ hash_of bytes.now }
+    ensures is { result ≡ mixed_of hash word }
 {
-    let mut hash = 2_166_136_261;
-    for byte in bytes {
-        hash = (hash * 16_777_619 + *byte as u64) % HALF;
+    hash.wrapping_add(word).wrapping_mul(FACTOR) >> 32
+}
+
+/// That of a name of less than eight bytes.
+fn bytes_hash(name: &[u8]) -> u64
+    ensures below { result < 2 ^ 32 }
+    ensures is { result ≡ hash_of_bytes name.now }
+{
+    let mut hash = 0;
+    for byte in name {
+        hash = mixed(hash, u64::from(*byte));
     }
     hash
+}
+
+/// That of a longer name: of its last eight bytes, and then of so many words at its front.
+fn words_hash(name: &[u8], words: usize) -> u64
+    requires long { 8 ≤ length name.now }
+    requires inside { words * 8 ≤ length name.now }
+    ensures below { result < 2 ^ 32 }
+    ensures is { result ≡ hash_of_words name.now words }
+{
+    let mut hash = mixed(0, u64_at(name, name.len() - 8));
+    for word in 0..words {
+        hash = mixed(hash, u64_at(name, word * 8));
+    }
+    hash
+}
+
+fn hash(name: &[u8]) -> u64
+    ensures below { result < 2 ^ 32 }
+    ensures is { result ≡ hash_of name.now }
+{
+    if name.len() < 8 {
+        return bytes_hash(name);
+    }
+    words_hash(name, name.len().min(FRONT) / 8)
 }
 
 /// The number of a name that names are put in order by. It reads 64 bytes at most.
@@ -45,12 +64,12 @@ fn hash(bytes: &[u8]) -> u64
 pub(crate) fn rank(name: &[u8]) -> u64
     ensures { result ≡ rank_of name.now }
 {
-    name.len() as u64 % HALF * HALF + hash(front(name))
+    hash(name) * HALF + name.len() as u64 % HALF
 }
 
 /// Whether a reference names a text. It reads one byte more than the text has at most.
 pub(crate) fn is_named(texts: &Texts<'_>, reference: u32, text: &[u8]) -> bool
-    ensures { result ≡ is_text (naming texts.now reference) text.now }
+    ensures { result ≡ is_the_text (naming texts.now reference) text.now }
 {
     match texts.short_name(reference, text.len()) {
         Some(name) => name == text,

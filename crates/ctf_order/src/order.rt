@@ -1,8 +1,8 @@
 //! Items in the order of their names.
-ghost use Rattle.std.specs.Prelude.{◌≡◌, IfOk, List};
+ghost use Rattle.std.specs.Prelude.{◌≡◌, ◌≤◌, IfOk, IsTrue, List, length};
 ghost use Rattle.ctf_order.specs.Holding.{Fits, IsFound};
 ghost use Rattle.ctf_order.specs.Naming.{naming};
-ghost use Rattle.ctf_order.specs.Searching.{first_of};
+ghost use Rattle.ctf_order.specs.Searching.{first_of, AreLowerBefore, AreParted, IsNear};
 ghost use Rattle.ctf_order.specs.declared.entries.Entry.{Entry as Item};
 
 use crate::comparing::{is_named, rank};
@@ -10,6 +10,9 @@ use crate::entries::{Entry, Ranked};
 use crate::lending::{arrange, ranked_items};
 use crate::texts::Texts;
 use std::alloc::{AllocError, Global};
+
+/// How many items round a guess are searched first.
+const WINDOW: usize = 32;
 
 /// Items in the order of their names: plain numbers, which borrow nothing. It keeps 16 bytes for
 /// each item at most, whatever the names are.
@@ -33,6 +36,57 @@ fn first_named(texts: &Texts<'_>, entries: &[Ranked], rank: u64, text: &[u8]) ->
     None
 }
 
+/// So much of a count as a rank is of all ranks.
+fn part(count: usize, rank: u64) -> usize {
+    ((rank >> 32).wrapping_mul(count as u64) >> 32) as usize
+}
+
+/// Where the first item of a rank stands, roughly: ranks are spread evenly. From where it would
+/// stand by itself, the distance is taken from the rank that stands there.
+fn guess(entries: &[Ranked], rank: u64) -> usize {
+    let count = entries.len();
+    let first = part(count, rank);
+    match entries.get(first) {
+        Some(one) => {
+            if one.rank < rank {
+                first.saturating_add(part(count, rank - one.rank))
+            } else {
+                first.saturating_sub(part(count, one.rank - rank))
+            }
+        },
+        None => first,
+    }
+}
+
+/// Whether the items of a rank begin among `WINDOW` items from a place on, and not with the first.
+fn is_near(entries: &[Ranked], from: usize, rank: u64) -> bool
+    ensures { IsTrue result → IsNear entries.now from rank }
+{
+    if entries.len() < WINDOW {
+        return false;
+    }
+    if entries.len() - WINDOW < from {
+        return false;
+    }
+    if entries[from].rank < rank {
+        rank <= entries[from + (WINDOW - 1)].rank
+    } else {
+        false
+    }
+}
+
+/// Where the items of a rank begin, or would.
+fn begin(entries: &[Ranked], rank: u64) -> usize
+    ensures inside { result ≤ length entries.now }
+    ensures low { AreParted entries.now rank → AreLowerBefore entries.now rank result }
+{
+    let from = guess(entries, rank).saturating_sub(WINDOW / 2);
+    if is_near(entries, from, rank) {
+        return from + entries[from..from + WINDOW].partition_point(|e| e.rank < rank);
+    }
+    entries.partition_point(|e| e.rank < rank)
+}
+
 impl Order {
     /// The items of a dictionary, by their names. An item without a name is left out. Of items with
     /// one reference the least is kept, since it is the one that is found.
@@ -47,16 +101,16 @@ impl Order {
         Ok(Order { entries })
     }
 
-    /// The least item of a name. It is found by halves among numbers, and takes no memory. Of each
-    /// name that has the rank of the text it reads one byte more than the text has at most. Names
-    /// of one rank have one length and do not overlap, so it reads each table once at most, however
-    /// many have that rank.
+    /// The least item of a name. It is found by halves among numbers, of few where ranks are spread
+    /// evenly, and takes no memory. Of each name that has the rank of the text it reads one byte
+    /// more than the text has at most. Names of one rank have one length and do not overlap, so it
+    /// reads each table once at most, however many have that rank.
     pub fn find(&self, texts: &Texts<'_>, text: &[u8]) -> Option<u32>
         ensures { (items : List Item) → Fits (naming texts.now) items self.now
             → IsFound (naming texts.now) items text.now result }
     {
         let rank = rank(text);
-        let from = self.entries.partition_point(|e| e.rank < rank);
+        let from = begin(&self.entries, rank);
         first_named(texts, &self.entries[from..], rank, text)
     }
 }

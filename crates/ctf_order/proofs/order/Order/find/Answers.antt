@@ -1,7 +1,5 @@
-use Rattle.std.proofs.Common.{ltb, List, map, ◌-◌, length, take, drop, sym, ap, ◌∙◌, arith}
+use Rattle.std.proofs.Common.{List, map, ◌-◌, length, take, drop, sym, ap, ◌∙◌}
 use Rattle.std.proofs.lemmas.Bool.{ltb-true}
-use Rattle.std.proofs.lemmas.Grind.{common_steps}
-use Rattle.std.proofs.lemmas.List.Sorted.{IsPartitionPoint-from_clause}
 use Rattle.ctf_order.specs.Naming.{naming}
 use Rattle.ctf_order.specs.Names.{rank}
 use Rattle.ctf_order.specs.Searching.{first_of}
@@ -16,11 +14,11 @@ returns c = λ items fits.
     let t = naming c.args.texts.now in
     let text = c.args.text.now in
     let kept = c.args.self.now.entries.items in
-    let from = c.partition_point-from.result in
+    let from = c.begin-from.result in
     let rises = rises_by t (map entry_in kept) fits.sorted in
-    let point = IsPartitionPoint-from_clause (λ r. ltb r.rank (rank text)) _ _ c.partition_point-from.ensures.partitioned (rw c.deref.ensures.value (parted t text kept fits.ranked rises)) (λ a r q k. grind (arith, common_steps)) in
-    let point_here = rw c.deref.ensures.value at point.0 in
-    let skips = skipped t text from kept fits.ranked (λ j d lt inside. ltb-true _ _ (point_here j d (omega arith) lt)) in
+    let parts = parted t text kept fits.ranked rises in
+    let low = rw c.rank-rank.ensures at (rw c.deref.ensures.value at c.begin-from.ensures.low) in
+    let skips = skipped t text from kept fits.ranked (λ j d lt inside. ltb-true _ _ (low parts j d lt inside)) in
     let rest = ap (λ (rs : List Ranked). take (length rs - from) (drop from rs)) c.deref-2.ensures.value ∙ tail_all kept from in
     let says = rw c.rank-rank.ensures at c.first_named.ensures ∙ ap (first_of t (rank text) text) rest ∙ sym skips in
     rw says (found_by t items (map entry_in kept) text fits.stands (first_of t (rank text) text kept) (searched t text kept fits.ranked rises))
