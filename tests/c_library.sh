@@ -13,6 +13,8 @@
 #   child with its parent, and with pointers of 4 bytes.
 # - What is asked of each type, member, enumerator, name and symbol is answered as by the service,
 #   and rows as by the single calls; a visit goes from a child into its parent.
+# - A visit of each type has the same rows by both headers and by GNU libctf of the same types
+#   (c_library/peer.py).
 # - Lines are answered as by the service.
 # - What is refused writes no result and closes nothing; so does each allocation that is refused.
 # - Dictionaries that were made to cost much cost a time that is linear in their bytes, and a visit
@@ -207,6 +209,26 @@ echo 'struct lua_State: 200 bytes' > wanted
 (cd "$top" && "$work/first") > seen
 count "the first example" same wanted seen
 count "visits in a child" ./visits
+
+if echo '#include <ctf-api.h>' | cc -E - > /dev/null 2>&1; then
+    count "compile peer.c for rows" compile "$tests/peer.c" peer_rows -DROWS
+    count "compile peer.c for libctf's calls" compile "$tests/peer.c" peer_calls
+    count "compile peer.c for GNU libctf" cc -std=gnu11 -O2 -Wall -Wextra -Wpedantic -Werror -DGNU \
+        "$tests/peer.c" -lctf-nobfd -o peer_gnu
+    for name in lua zlib; do
+        count "the types of $name by GNU libctf" \
+            "$tests/peer.py" "$program" "$top/examples/$name.ctf" .
+        ./peer_gnu gnu.ctf < theirs > wanted || true
+        for door in rows calls; do
+            ./peer_$door "$top/examples/$name.ctf" < ours > seen || true
+            count "visits in $name by $door, beside GNU libctf's" same wanted seen
+        done
+        count "enough was visited" [ "$(grep -c '^  ' wanted)" -gt 400 ]
+    done
+else
+    echo "skipped: no GNU libctf here (Debian: binutils-dev)"
+fi
+
 count refusals ./refusals "$top/examples"
 count "libctf's calls" ./libctf "$top/examples" "$work"
 count "what was made to cost much" timeout 60 ./hostile

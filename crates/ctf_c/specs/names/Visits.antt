@@ -1,6 +1,6 @@
 -- What lies in a type: the members of the struct or union that it stands for, each followed by what
--- lies in it. Source: libctf(3LIB), ctf_type_visit; that types which hold nothing, or are not there,
--- end no visit, and how far offsets go, is ours.
+-- lies in it. Source: libctf(3LIB), ctf_type_visit; that types which hold nothing, or are not
+-- there, end no visit, and how far offsets go, is ours.
 use Rattle.std.specs.Prelude.{ℕ, zero, suc, ◌+◌, ◌-◌, ◌^◌, min, List, [], ◌∷◌, flat_map, Result, Ok, Err}
 use Rattle.ctf_model.specs.declared.faults.Fault.{Fault}
 use Rattle.ctf_model.specs.format.Term.{Member}
