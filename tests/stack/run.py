@@ -4,8 +4,9 @@
 usage: run.py PROGRAM [--thread THREAD] [--least]
 
 Each case is a dictionary or a draft as deep as the format's rules let it be, and one layer deeper,
-which is refused; or a line of brackets. PROGRAM answers its lines under `ulimit -s` of ENOUGH KiB as
-it does without. THREAD is thread.c, compiled: it answers them on a thread with a stack of as much.
+which is refused; a child as deep as its parent; or a line of brackets. PROGRAM answers its lines
+under `ulimit -s` of the KiB that are enough as it does without. THREAD is thread.c, compiled: it
+answers them on a thread with a stack of as much.
 With --least, the least stack that each case works with is told, in steps of 4 KiB. The status is 1
 where something is answered otherwise.
 """
@@ -22,8 +23,9 @@ from typing import Callable, Iterable, Sequence
 
 from runs import ask, joined
 
-# What docs/LIMITS.md and clients/c/ctfd.h say that is needed, in KiB.
-ENOUGH = 256
+# What docs/LIMITS.md and clients/c/ctfd.h say that is needed, in KiB: for a dictionary, and for a
+# child over its parent, each of which may be as deep as a dictionary by itself.
+ENOUGH, ENOUGH_OVER_PARENT = 256, 384
 STEP, MOST = 4, 8192
 LAYERS = 512
 INT = struct.pack("<I", 0x01000020)
@@ -36,16 +38,26 @@ class Case:
 
     name: str
     lines: list[bytes]
+    enough: int = ENOUGH
 
 
 def record(kind: int, vlen: int, field: int, rest: bytes = b"") -> bytes:
     return struct.pack("<IHH", 0, kind << 11 | vlen, field) + rest
 
 
+def of_types(body: bytes, parname: int, strings: bytes) -> bytes:
+    header = struct.pack("<8I", 0, parname, 0, 0, 0, 0, len(body), len(strings))
+    return b"\xf1\xcf\x02\x00" + header + body + strings
+
+
 def dictionary(types: Iterable[bytes]) -> bytes:
     """An integer, and types behind it."""
-    body = record(INTEGER, 0, 4, INT) + b"".join(types)
-    return b"\xf1\xcf\x02\x00" + struct.pack("<8I", 0, 0, 0, 0, 0, 0, len(body), 1) + body + b"\0"
+    return of_types(record(INTEGER, 0, 4, INT) + b"".join(types), 0, b"\0")
+
+
+def child(types: Iterable[bytes]) -> bytes:
+    """A dictionary over another one."""
+    return of_types(b"".join(types), 1, b"\0parent\0")
 
 
 # ---- types over the one of a number
@@ -148,6 +160,22 @@ def deep_drafts() -> Iterable[Case]:
             yield Case(f"{name}, shown", lines + shown(layers))
 
 
+def deep_children() -> Iterable[Case]:
+    """A type over the deepest one of a parent, as deep again."""
+    for name, over in {**VALUES, **DECLARATIONS}.items():
+        top = 0x8000 + LAYERS
+        below = [1 + LAYERS, *range(0x8001, top)]
+        lines = [*handed_in(chain(over, LAYERS)),
+                 *handed_in(child(over(i, t) for i, t in enumerate(below))),
+                 ask(1, "import", d=2, parent=1)]
+        memory = {"bytes": "0000000000000000", "offset": 0}
+        lines += [ask(1, word, d=2, t=t, **fields) for t in (top, 0x8001, 0x8000 + LAYERS // 2)
+                  for word, fields in {"show": memory, "name": {}, "size": {}, "align": {},
+                                       "resolve": {}, "pointer": {},
+                                       "path": {"names": [""] * 2 * LAYERS}}.items()]
+        yield Case(f"{LAYERS} {name} over as many of a parent", lines, ENOUGH_OVER_PARENT)
+
+
 def found_by_name() -> Case:
     """Long names that are written in a question."""
     stars = "int" + "*" * 500_000
@@ -165,7 +193,7 @@ def bracketed() -> Case:
 
 
 def cases() -> list[Case]:
-    return [*deep_types(), *deep_drafts(), found_by_name(), bracketed()]
+    return [*deep_types(), *deep_drafts(), *deep_children(), found_by_name(), bracketed()]
 
 
 # ---- who answers
@@ -224,8 +252,8 @@ def main() -> int:
             checks += 1
             if options.least:
                 print(f"{case.name:58}{one.name:12}{one.least(case, wanted):6} KiB", flush=True)
-            elif one.answers(case, ENOUGH) != wanted:
-                print(f"{case.name}: {one.name} answers otherwise with {ENOUGH} KiB of stack")
+            elif one.answers(case, case.enough) != wanted:
+                print(f"{case.name}: {one.name} answers otherwise with {case.enough} KiB of stack")
                 wrong += 1
     print(f"stack: {checks} checks, {wrong} wrong")
     return 1 if wrong else 0
