@@ -141,6 +141,15 @@ def chained_draft(depth, width, kind="struct"):
     yield member(2 + depth, 1 + depth)
 
 
+def struct_over_unions(depth, width):
+    """A struct's second member, whose place hangs on the alignment of a chain of unions that grew at
+    its bottom."""
+    yield from chained_draft(depth, width, "union")
+    yield added('"what":"struct","name":"top"')
+    yield member(3 + depth, 1)
+    yield member(3 + depth, 2 + depth)
+
+
 def updated_again(megabytes):
     """An update of a draft to which nothing was added since the last one. Its members have names
     of a MB."""
@@ -193,7 +202,9 @@ SESSIONS = [
     Session("show: 500 structs in each other", lambda: nested_structs(500)),
     Session("add: a member on top of 500,000", lambda: chained_draft(500, 1000)),
     Session("add: a member on top of 500,000 in unions",
-            lambda: chained_draft(500, 1000, "union"), known=7),
+            lambda: chained_draft(500, 1000, "union")),
+    Session("add: a member of a struct over 500,000 in unions",
+            lambda: struct_over_unions(500, 1000), known=9),
     Session("update: nothing pending, 60 MB", lambda: updated_again(60)),
     Session("check: 155 MB again", checked_again),
     Session("import: the same parent, 65 MB", lambda: imported_again(7940)),
