@@ -33,7 +33,7 @@ class Costs(WithFront):
     def test_bytes_behind_half_a_line(self) -> None:
         front = self.front().started()
         talker, other = self.talker(front), self.talker(front)
-        cost = [min(drops(self, front, talker, other, start) for _ in range(3))
+        cost = [min(drops(self, front, talker, other, start) for _ in range(12))
                 for start in (b"", 1_000_000 * b" ")]
         print(f"a byte: {1e6 * cost[0]:.1f} us; behind 1 MB: {1e6 * cost[1]:.1f} us",
               file=sys.stderr)
