@@ -9,5 +9,5 @@ mod strings;
 
 pub use ends::{end_of_names, up_to_zero};
 pub use header::Header;
-pub use matching::is_text;
+pub use matching::{LastDifference, is_text, is_text_after};
 pub use strings::{Strings, short_text, text};

@@ -3,7 +3,7 @@ ghost use Rattle.std.specs.Prelude.{◌≡◌, ◌+◌, Some, option_copied, tak
 ghost use Rattle.ctf_model.specs.format.Name.{name as named, table as table_of, text_at};
 ghost use Rattle.ctf_sections.specs.ShortNames.{if_short, is_named};
 
-use crate::matching::is_text;
+use crate::matching::{LastDifference, is_text_after};
 use memchr::memchr;
 
 /// The tables of names: the string section, and the strings of a symbol table where they are there.
@@ -92,10 +92,17 @@ impl<'a> Strings<'a> {
     pub fn is_name(&self, reference: u32, text: &[u8]) -> bool
         ensures { result ≡ is_named text.now (named (tables self.now) reference) }
     {
+        self.is_name_after(reference, text, &mut LastDifference::new())
+    }
+
+    /// Whether a reference names a text, where other names were compared with it before.
+    pub fn is_name_after(&self, reference: u32, text: &[u8], last: &mut LastDifference) -> bool
+        ensures { result ≡ is_named text.now (named (tables self.now) reference) }
+    {
         match (reference & 0x7fff_ffff) as usize {
             0 => text.is_empty(),
             offset => match self.table(reference) {
-                Some(table) => is_text(table, offset, text),
+                Some(table) => is_text_after(table, offset, text, last),
                 None => false,
             },
         }

@@ -14,8 +14,8 @@ use crate::row::Row;
 use crate::rows::{Rows, bytes_at};
 use ctf_model::TypeNum;
 use ctf_records::{WIDE_MEMBERS, member_len};
-use ctf_sections::Strings;
 use ctf_sections::bytes::{u16_at, u32_at};
+use ctf_sections::{LastDifference, Strings};
 use std::marker::Model;
 
 /// From how many bytes on a name is long.
@@ -51,8 +51,15 @@ pub struct MemberRow<'a> {
 
 impl<'a> MemberRow<'a> {
     /// Whether the member that begins some bytes has a name. Where the name is long, what its
-    /// reference was found not to name is not compared again.
-    fn is_named(&self, bytes: &[u8], name: &[u8], missed: &mut MissCache) -> bool
+    /// reference was found not to name is not compared again, and the place where the last name
+    /// differed is compared first.
+    fn is_named(
+        &self,
+        bytes: &[u8],
+        name: &[u8],
+        missed: &mut MissCache,
+        last: &mut LastDifference,
+    ) -> bool
         requires inside { len_of_member self.now.size ≤ length bytes.now }
         requires good { IsSome (member_of self.now.size (tables self.now.strings) bytes.now) }
         requires missed { AreMissed name.now (tables self.now.strings) missed.old }
@@ -67,7 +74,7 @@ impl<'a> MemberRow<'a> {
         if missed.has(reference) {
             return false;
         }
-        if self.strings.is_name(reference, name) {
+        if self.strings.is_name_after(reference, name, last) {
             return true;
         }
         missed.keep(reference);
@@ -116,8 +123,14 @@ fn first_named(row: MemberRow<'_>, bytes: &[u8], count: usize, name: &[u8]) -> O
         option_and_then (slice_get members) result ≡ member_named name.now members }
 {
     let mut missed = MissCache::new();
+    let mut last = LastDifference::new();
     for index in 0..count {
-        if row.is_named(bytes_at(row, bytes, count, index), name, &mut missed) {
+        if row.is_named(
+            bytes_at(row, bytes, count, index),
+            name,
+            &mut missed,
+            &mut last,
+        ) {
             return Some(index);
         }
     }

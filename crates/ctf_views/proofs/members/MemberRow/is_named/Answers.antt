@@ -11,4 +11,4 @@ returns-then-has-clause-value c =
 
 pub returns-clause-missed : goal.returns-clause-missed
 returns-clause-missed c =
-    missed_more c.args.name.now (tables c.args.self.now.strings) c.args.missed.now c.keep.new.self c.u32_at-reference.result c.requires.missed c.keep.ensures (sym c.is_name-2.ensures ∙ c.if-is_name.false)
+    missed_more c.args.name.now (tables c.args.self.now.strings) c.args.missed.now c.keep.new.self c.u32_at-reference.result c.requires.missed c.keep.ensures (sym c.is_name_after.ensures ∙ c.if-is_name_after.false)
