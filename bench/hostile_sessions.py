@@ -95,18 +95,31 @@ def many_arguments():
 # ---- paths
 
 
-def steps(count, place):
-    """Structs of 1,023 members in each other, each member by a name of 2,000 bytes that the others
-    share but for four bytes at a place, and the way through the last ones.
+LONG_NAME = 2000
+
+
+def unlike_at(place):
+    """1,023 names that differ in four bytes at a place."""
+    front, back = b"a" * place, b"a" * (LONG_NAME - 4 - place)
+    return [front + b"%04d" % i + back for i in range(1023)]
+
+
+def unlike_each_elsewhere():
+    """1,023 names, each of which differs from the last one at a place of its own."""
+    return [b"a" * (400 + i) + b"b" + b"a" * (LONG_NAME - 401 - i) for i in range(1022)] \
+        + [b"a" * LONG_NAME]
+
+
+def steps(count, texts):
+    """Structs in each other, each with a member by each of these names, and the way through the
+    last ones.
 
     A table of what each reference was found to name would help these alone: steps whose names are
     shorter and shorter ends of the same texts have new references each."""
-    length = 2000
-    front, back = b"a" * place, b"a" * (length - 4 - place)
-    texts = [front + b"%04d" % i + back for i in range(1023)]
     types = made.integer(0)
     for i in range(count):
-        items = b"".join(struct.pack("<IHH", 1 + k * (length + 1), 1 + i, 0) for k in range(1023))
+        items = b"".join(struct.pack("<IHH", 1 + k * (LONG_NAME + 1), 1 + i, 0)
+                         for k in range(1023))
         types += record(0, 6, 1023, 4, items)
     yield from opened((dictionary(types, b"\0" + b"".join(t + b"\0" for t in texts)), b"", b""))
     way = json.dumps([texts[-1].decode()] * count, separators=(",", ":"))
@@ -195,10 +208,14 @@ SESSIONS = [
             lambda: many_names("[" * 100 + "]" * 100), known=13),
     Session("line: 1 MB of names of a path", lambda: many_names('"a"'), known=27),
     Session("line: 1 MB of arguments", many_arguments, known=14),
-    Session("path: 500 steps, 1,023 names unlike at the front", lambda: steps(500, 0), read=6.1),
-    Session("path: 500 steps, 1,023 names unlike at the end", lambda: steps(500, 1996), read=6.1),
-    Session("path: 500 steps, 1,023 names unlike in the middle", lambda: steps(500, 1000),
-            read=6.1, known=110),
+    Session("path: 500 steps, 1,023 names unlike at the front",
+            lambda: steps(500, unlike_at(0)), read=6.1),
+    Session("path: 500 steps, 1,023 names unlike at the end",
+            lambda: steps(500, unlike_at(1996)), read=6.1),
+    Session("path: 500 steps, 1,023 names unlike in the middle",
+            lambda: steps(500, unlike_at(1000)), read=6.1),
+    Session("path: 500 steps, 1,023 names unlike each elsewhere",
+            lambda: steps(500, unlike_each_elsewhere()), read=6.1, known=110),
     Session("show: 500 structs in each other", lambda: nested_structs(500)),
     Session("add: a member on top of 500,000", lambda: chained_draft(500, 1000)),
     Session("add: a member on top of 500,000 in unions",
