@@ -152,9 +152,6 @@ args_listed line = ap (option_and_then as_array) (line_at args_key (as_args line
     by_args None = field_none
     by_args (Some v) = refl
 
-pub listed_names : (line : Line) (v : Joined) → line.names ≡ Some v → Some (texts_said (texts v)) ≡ option_and_then as_array (get names_key (line_said line))
-listed_names line v e = sym (names_listed line ∙ ap (option_map (λ w. texts_said (texts w))) e)
-
 pub listed_args : (line : Line) (v : Vec ℕ Global) (ns : List ℕ) → line.args ≡ Some v → ns ≡ v.items → Some (numbers_said ns) ≡ option_and_then as_array (get args_key (line_said line))
 listed_args line v ns e is = ap (λ l. Some (numbers_said l)) is ∙ sym (args_listed line ∙ ap (option_map (λ w. numbers_said w.items)) e)
 

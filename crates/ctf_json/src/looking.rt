@@ -86,15 +86,12 @@ pub fn as_i64(value: &Value<'_, '_>) -> Option<i64>
     as_number(value)?.as_i64()
 }
 
-/// The names of a line, where they are a list of texts.
-pub fn names<'v>(line: &'v Line<'_>) -> Option<&'v Joined>
-    ensures { option_map (λ names. texts_said (texts names.now)) result
-        ≡ option_and_then array_said (found_under (codes "names") (line_said line.now)) }
+/// The names of a line, where they are a list of texts. They are taken out of it.
+pub fn take_names(line: &mut Line<'_>) -> Option<Joined>
+    ensures { option_map (λ names. texts_said (texts names)) result
+        ≡ option_and_then array_said (found_under (codes "names") (line_said line.old)) }
 {
-    match &line.names {
-        Some(texts) => Some(texts),
-        None => None,
-    }
+    line.names.take()
 }
 
 /// The types of a line's arguments, where they are a list of numbers of 16 bits.

@@ -4,6 +4,8 @@ use Rattle.std.proofs.lemmas.List.Elements.{All-append}
 use Rattle.std.specs.Prelude.{⊤, option_and_then, if◌then◌else◌}
 use Rattle.std.specs.Option.{option_map}
 use Rattle.ctf_protocol.specs.lines.LineFields.{not_too_many}
+use Rattle.ctf_protocol.specs.lines.Text.{bytes_spelled_by, text_of}
+use Rattle.ctf_lines.proofs.Plain.{plain_spelled}
 
 abbrev IsNone : {A : Type 0} → Option A → Type 0
 IsNone None = ⊤
@@ -15,6 +17,10 @@ names_or (Some names) = names
 
 abbrev pub AreShort : List (List ℕ) → Type 0
 AreShort names = All (λ name. length name ≤ 1048576) names
+
+abbrev name_or : Option (List ℕ) → List ℕ
+name_or None = []
+name_or (Some name) = name
 
 -- the name that was put behind others
 abbrev pub Pushed : List (List ℕ) → List (List ℕ) → Option (List ℕ) → Type 0
@@ -44,3 +50,20 @@ short_more names name all short = All-append (λ name. length name ≤ 1048576) 
 
 pub short_of : (new names : List (List ℕ)) → new ≡ names → AreShort names → AreShort new
 short_of new names same short = subst AreShort (sym same) short
+
+pub short_spelled : (text : List ℕ) → length text ≤ 1048576 → text_of text ≡ text → Some text ≡ option_and_then not_too_many (bytes_spelled_by text)
+short_spelled text short plain =
+    let within : nat_le (length text) 1048576 ≡ true = grind (arith, short) in
+    sym (ap (option_and_then not_too_many) (plain_spelled text plain) ∙ ap (λ b. if b then Some text else None) within)
+
+-- a name that was spelled is short
+pub spelled_short : (name : List ℕ) (o : Option (List ℕ)) → Some name ≡ option_and_then not_too_many o → length name ≤ 1048576
+spelled_short name None is = absurd (subst IsNone (sym is) tt)
+spelled_short name (Some bytes) is = by_length (nat_le (length bytes) 1048576) refl is
+  where
+    by_length : (b : Bool) → nat_le (length bytes) 1048576 ≡ b → Some name ≡ (if b then Some bytes else None) → length name ≤ 1048576
+    by_length true e same =
+        let len = ap length (ap name_or same) in
+        let within : length bytes ≤ 1048576 = grind (arith, e) in
+        omega (arith, len, within)
+    by_length false e same = absurd (subst IsNone (sym same) tt)

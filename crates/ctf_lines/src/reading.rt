@@ -10,8 +10,11 @@ ghost use Rattle.ctf_protocol.specs.lines.LineFields.{names_spelled, in_range, n
 ghost use Rattle.ctf_protocol.specs.words.Words.{word_named, words};
 ghost use Rattle.ctf_model.specs.rules.Refusals.{placeless, out_of_memory};
 ghost use Rattle.ctf_model.specs.declared.faults.TheConstants.Fault.{MEMORY};
+ghost use Rattle.ctf_protocol.specs.declared.questions.Question.TheVariants as asked;
 ghost use Rattle.ctf_protocol.specs.declared.questions.SlotQuestion.TheVariants as whole;
 ghost use Rattle.ctf_protocol.specs.declared.questions.TypeQuestion.TheVariants as about;
+ghost use Rattle.ctf_protocol.specs.declared.requests.Request.TheVariants as request;
+ghost use Rattle.ctf_protocol.specs.declared.words.Word.TheVariants as word;
 
 use crate::drafts::{add, create, discard, update};
 use crate::line_traits::FromLine;
@@ -73,21 +76,21 @@ fn read_text(
 {
     let mut line = Line::new();
     match ctf_json::read_line(alloc, text, scratch, &mut line) {
-        Ok(()) => read_fields(alloc, &line),
+        Ok(()) => read_fields(alloc, &mut line),
         Err(NotRead::NotJson) => Err((0, placeless(Fault::NOT_JSON))),
         Err(NotRead::Memory) => Err((0, placeless(Fault::MEMORY))),
     }
 }
 
-fn read_fields(alloc: Global, line: &Line<'_>) -> Result<(u32, Request), (u32, Fault)>
-    ensures ok { IfOk result (λ said. value_asked (Some (view line.now)) ≡ Ok said) }
+fn read_fields(alloc: Global, line: &mut Line<'_>) -> Result<(u32, Request), (u32, Fault)>
+    ensures ok { IfOk result (λ said. value_asked (Some (view line.old)) ≡ Ok said) }
     ensures session { IfOk result (λ said. said.0 ≢ 0) }
     ensures refused { IfErr result (λ refusal. refusal.1.code ≢ MEMORY
-        → value_asked (Some (view line.now)) ≡ Err refusal) }
+        → value_asked (Some (view line.old)) ≡ Err refusal) }
     ensures memory { IfErr result (λ refusal. refusal.1.code ≡ MEMORY
         → refusal ≡ (0, placeless MEMORY)) }
     ensures needed { IfErr result (λ refusal. refusal.1.code ≡ MEMORY
-        → word_keeps_text (word_asked (view line.now)) ≡ true) }
+        → word_keeps_text (word_asked (view line.old)) ≡ true) }
 {
     let Some(session) = number(line, "s", 1, u64::from(u32::MAX)) else {
         return Err((0, placeless(Fault::BAD_REQUEST)));
@@ -128,9 +131,9 @@ pub(crate) fn text<'a>(line: &Line<'a>, key: &str) -> Option<&'a str>
     as_str(&get(line, key)?)
 }
 
-fn read_request(alloc: Global, line: &Line<'_>) -> Result<Option<Request>, AllocError>
-    ensures ok { IfOk result (λ request. request ≡ request_asked (view line.now)) }
-    ensures needed { OnErr result (word_keeps_text (word_asked (view line.now)) ≡ true) }
+fn read_request(alloc: Global, line: &mut Line<'_>) -> Result<Option<Request>, AllocError>
+    ensures ok { IfOk result (λ request. request ≡ request_asked (view line.old)) }
+    ensures needed { OnErr result (word_keeps_text (word_asked (view line.old)) ≡ true) }
 {
     let Some(word) = word(line) else {
         return Ok(None);
@@ -171,8 +174,8 @@ fn named_long(text: &str) -> Option<Word>
 }
 
 /// What a word asks, with its fields. Those that take no memory are asked most.
-fn read_word(alloc: Global, line: &Line<'_>, word: Word) -> Result<Option<Request>, AllocError>
-    ensures ok { IfOk result (λ request. request ≡ asked_with (view line.now) word) }
+fn read_word(alloc: Global, line: &mut Line<'_>, word: Word) -> Result<Option<Request>, AllocError>
+    ensures ok { IfOk result (λ request. request ≡ asked_with (view line.old) word) }
     ensures needed { OnErr result (keeps_text word ≡ true) }
 {
     match word {
@@ -182,8 +185,8 @@ fn read_word(alloc: Global, line: &Line<'_>, word: Word) -> Result<Option<Reques
 }
 
 #[inline(never)]
-fn read_other(alloc: Global, line: &Line<'_>, word: Word) -> Result<Option<Request>, AllocError>
-    ensures ok { IfOk result (λ request. request ≡ asked_with (view line.now) word) }
+fn read_other(alloc: Global, line: &mut Line<'_>, word: Word) -> Result<Option<Request>, AllocError>
+    ensures ok { IfOk result (λ request. request ≡ asked_with (view line.old) word) }
     ensures needed { OnErr result (keeps_text word ≡ true) }
 {
     match word {
@@ -205,7 +208,7 @@ fn read_other(alloc: Global, line: &Line<'_>, word: Word) -> Result<Option<Reque
         Word::Members => Ok(about_type(line, members(line))),
         Word::Enumerators => Ok(about_type(line, enumerators(line))),
         Word::Find => Ok(about_slot(line, find(alloc, line)?)),
-        Word::Path => Ok(about_type(line, path(alloc, line)?)),
+        Word::Path => path(alloc, line),
         Word::Show => Ok(about_type(line, show(alloc, line)?)),
         Word::Symbol => Ok(about_slot(line, symbol(alloc, line)?)),
         Word::Object => Ok(about_slot(line, object(line))),
@@ -357,19 +360,38 @@ fn enumerators(line: &Line<'_>) -> Option<TypeQuestion>
     Some(TypeQuestion::Enumerators(window(line)?))
 }
 
-fn path(alloc: Global, line: &Line<'_>) -> Result<Option<TypeQuestion>, AllocError>
-    ensures { IfOk result (λ question. question
-        ≡ option_map (λ names. about.Path names) (names_asked (view line.now))) }
+/// A path asks with its names, which are taken out of the line.
+fn path(alloc: Global, line: &mut Line<'_>) -> Result<Option<Request>, AllocError>
+    ensures { IfOk result (λ request. request ≡ asked_with (view line.old) word.Path) }
 {
-    match names_under(alloc, line)? {
-        Some(names) => Ok(Some(TypeQuestion::Path(names))),
-        None => Ok(None),
-    }
+    let d = slot(line);
+    let t = type_number(line);
+    let names = names_under(alloc, line)?;
+    Ok(path_along(d, t, names))
 }
 
-/// The names of a field.
-fn names_under(alloc: Global, line: &Line<'_>) -> Result<Option<Names>, AllocError>
-    ensures { IfOk result (λ names. names ≡ names_asked (view line.now)) }
+/// A path from a type of a slot along names, where all three are good.
+fn path_along(d: Option<SlotNumber>, t: Option<TypeNum>, names: Option<Names>) -> Option<Request>
+    ensures { result
+        ≡ option_and_then (λ question. option_and_then (λ d. option_map (λ t.
+        request.Asks d (asked.OfType t question)) t) d)
+        (option_map (λ names. about.Path names) names) }
+{
+    let names = names?;
+    let d = d?;
+    let t = t?;
+    Some(Request::Asks {
+        d,
+        question: Question::OfType {
+            t,
+            question: TypeQuestion::Path(names),
+        },
+    })
+}
+
+/// The names of a field, which are taken out of the line.
+fn names_under(alloc: Global, line: &mut Line<'_>) -> Result<Option<Names>, AllocError>
+    ensures { IfOk result (λ names. names ≡ names_asked (view line.old)) }
 {
     match texts_under(line) {
         Some(texts) => names(alloc, texts),
@@ -377,13 +399,13 @@ fn names_under(alloc: Global, line: &Line<'_>) -> Result<Option<Names>, AllocErr
     }
 }
 
-/// The texts under a key that are a list of names.
-fn texts_under<'v>(line: &'v Line<'_>) -> Option<&'v Joined>
-    ensures { option_and_then (λ spelled. names_spelled (texts_said (texts spelled.now))) result
+/// The texts under a key that are a list of names, which are taken out of the line.
+fn texts_under(line: &mut Line<'_>) -> Option<Joined>
+    ensures { option_and_then (λ spelled. names_spelled (texts_said (texts spelled))) result
         ≡ option_and_then names_spelled
-        (option_and_then as_array (get (codes "names") (view line.now))) }
+        (option_and_then as_array (get (codes "names") (view line.old))) }
 {
-    ctf_json::names(line)
+    ctf_json::take_names(line)
 }
 
 /// The memory that a value stands in, and the bit that it begins at.

@@ -1,5 +1,5 @@
 //! Bytes that texts of a line spell: by hexadecimal digits, or as a name with its escapes.
-ghost use Rattle.std.specs.Prelude.{◌≡◌, ◌<◌, ◌≤◌, ◌++◌, [], ◌∷◌, All, IfOk, IfSome, None, Some, cond, length, option_map, option_and_then};
+ghost use Rattle.std.specs.Prelude.{◌≡◌, ◌<◌, ◌≤◌, ◌++◌, [], ◌∷◌, All, IfOk, IfSome, IsTrue, None, Some, cond, length, option_map, option_and_then};
 ghost use Rattle.ctf_joined.specs.Joined.{texts};
 ghost use Rattle.ctf_json.specs.Values.{texts_said, value_said as view};
 ghost use Rattle.ctf_protocol.specs.lines.LineFields.{bytes_spelled, not_too_many, not_too_many_names, name_spelled, names_spelled};
@@ -176,8 +176,43 @@ fn short_list(names: Joined) -> Option<Names>
     }
 }
 
+/// Whether a text is the name that it spells.
+fn spells_itself(text: &[u8]) -> bool
+    ensures { IsTrue result
+        → Some text.now ≡ option_and_then not_too_many (bytes_spelled_by text.now) }
+{
+    if text.len() > LONGEST_PIECE {
+        return false;
+    }
+    are_plain(text)
+}
+
+/// Whether all texts are the names that they spell.
+fn spell_themselves(spelled: &Joined) -> bool
+    ensures spelled { IsTrue result
+        → names_spelled (texts_said (texts spelled.now)) ≡ Some (texts spelled.now) }
+    ensures short { IsTrue result → All (λ name. length name ≤ 1048576) (texts spelled.now) }
+{
+    for place in 0..spelled.len() {
+        if !spells_itself(spelled.text(place)) {
+            return false;
+        }
+    }
+    true
+}
+
 /// The names that texts spell, if each spells one and they are no more than a request may bring.
-pub fn names(alloc: Global, spelled: &Joined) -> Result<Option<Names>, AllocError>
+pub fn names(alloc: Global, spelled: Joined) -> Result<Option<Names>, AllocError>
+    ensures { IfOk result (λ names. names
+        ≡ option_and_then not_too_many_names (names_spelled (texts_said (texts spelled)))) }
+{
+    if spell_themselves(&spelled) {
+        return Ok(short_list(spelled));
+    }
+    escaped_names(alloc, &spelled)
+}
+
+fn escaped_names(alloc: Global, spelled: &Joined) -> Result<Option<Names>, AllocError>
     ensures { IfOk result (λ names. names
         ≡ option_and_then not_too_many_names (names_spelled (texts_said (texts spelled.now)))) }
 {

@@ -7,7 +7,7 @@ use Rattle.ctf_protocol.specs.lines.LineFields.{name_spelled, names_spelled, not
 use Rattle.ctf_protocol.specs.lines.Text.{bytes_spelled_by}
 use Rattle.ctf_lines.proofs.Pushed.{none_pushed, pushed, short_more, short_of}
 use Rattle.ctf_lines.proofs.SaidItems.{next_said, none_said, all_said}
-use Rattle.ctf_lines.proofs.spelled.names.Goals as goal
+use Rattle.ctf_lines.proofs.spelled.escaped_names.Goals as goal
 
 pub returns-then-not-branch : goal.returns-then-not-branch
 returns-then-not-branch c =

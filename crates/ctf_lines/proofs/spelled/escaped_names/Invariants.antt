@@ -3,7 +3,7 @@ use Rattle.std.specs.Option.{option_map}
 use Rattle.ctf_joined.specs.Joined.{texts}
 use Rattle.ctf_json.specs.Values.{texts_said}
 use Rattle.ctf_protocol.specs.lines.LineFields.{names_spelled}
-use Rattle.ctf_lines.proofs.spelled.names.Given as goal
+use Rattle.ctf_lines.proofs.spelled.escaped_names.Given as goal
 
 abbrev pub invariant-loop-place : goal.invariant-loop-place
 invariant-loop-place l = record {
