@@ -188,13 +188,13 @@ fn spells_itself(text: &[u8]) -> bool
 }
 
 /// Whether all texts are the names that they spell.
-fn spell_themselves(spelled: &Joined) -> bool
+fn spell_themselves(names: &Joined) -> bool
     ensures spelled { IsTrue result
-        → names_spelled (texts_said (texts spelled.now)) ≡ Some (texts spelled.now) }
-    ensures short { IsTrue result → All (λ name. length name ≤ 1048576) (texts spelled.now) }
+        → names_spelled (texts_said (texts names.now)) ≡ Some (texts names.now) }
+    ensures short { IsTrue result → All (λ name. length name ≤ 1048576) (texts names.now) }
 {
-    for place in 0..spelled.len() {
-        if !spells_itself(spelled.text(place)) {
+    for place in 0..names.len() {
+        if !spells_itself(names.text(place)) {
             return false;
         }
     }

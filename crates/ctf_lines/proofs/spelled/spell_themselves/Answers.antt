@@ -13,7 +13,7 @@ use Rattle.ctf_lines.proofs.spelled.spell_themselves.Goals as goal
 pub loop-place-preserved : goal.loop-place-preserved
 loop-place-preserved c =
     let l = c.loop-place in
-    let all = texts c.args.spelled.now in
+    let all = texts c.args.names.now in
     let one = get_or all l.place [] in
     let yes : c.spells_itself.result ≡ true = grind arith in
     let said : Some one ≡ option_and_then not_too_many (bytes_spelled_by one) = ap Some (sym c.text.ensures) ∙ c.spells_itself.ensures yes ∙ ap (λ t. option_and_then not_too_many (bytes_spelled_by t)) c.text.ensures in
@@ -27,7 +27,7 @@ loop-place-preserved c =
 pub returns : goal.returns
 returns c =
     let l = c.loop-place in
-    let all = texts c.args.spelled.now in
+    let all = texts c.args.names.now in
     let end : length all ≤ l.place = grind arith in
     let whole = take_all l.place all end in
     record {

@@ -7,6 +7,6 @@ use Rattle.ctf_lines.proofs.spelled.spell_themselves.Given as goal
 
 abbrev pub invariant-loop-place : goal.invariant-loop-place
 invariant-loop-place l = record {
-  spelled : names_spelled (texts_said (texts l.spelled)) ≡ option_map (λ more. take l.place (texts l.spelled) ++ more) (names_spelled (texts_said (drop l.place (texts l.spelled))));
-  short : All (λ name. length name ≤ 1048576) (take l.place (texts l.spelled));
+  spelled : names_spelled (texts_said (texts l.names)) ≡ option_map (λ more. take l.place (texts l.names) ++ more) (names_spelled (texts_said (drop l.place (texts l.names))));
+  short : All (λ name. length name ≤ 1048576) (take l.place (texts l.names));
 }
