@@ -23,9 +23,8 @@ from typing import Callable, Iterable, Sequence
 
 from runs import ask, joined
 
-# What docs/LIMITS.md and clients/c/ctfd.h say that is needed, in KiB: for a dictionary, and for a
-# child over its parent, each of which may be as deep as a dictionary by itself.
-ENOUGH, ENOUGH_OVER_PARENT = 256, 384
+# What docs/LIMITS.md and clients/c/ctfd.h say that is enough, in KiB.
+ENOUGH = 256
 STEP, MOST = 4, 8192
 LAYERS = 512
 INT = struct.pack("<I", 0x01000020)
@@ -38,7 +37,6 @@ class Case:
 
     name: str
     lines: list[bytes]
-    enough: int = ENOUGH
 
 
 def record(kind: int, vlen: int, field: int, rest: bytes = b"") -> bytes:
@@ -173,7 +171,7 @@ def deep_children() -> Iterable[Case]:
                   for word, fields in {"show": memory, "name": {}, "size": {}, "align": {},
                                        "resolve": {}, "pointer": {},
                                        "path": {"names": [""] * 2 * LAYERS}}.items()]
-        yield Case(f"{LAYERS} {name} over as many of a parent", lines, ENOUGH_OVER_PARENT)
+        yield Case(f"{LAYERS} {name} over as many of a parent", lines)
 
 
 def found_by_name() -> Case:
@@ -252,8 +250,8 @@ def main() -> int:
             checks += 1
             if options.least:
                 print(f"{case.name:58}{one.name:12}{one.least(case, wanted):6} KiB", flush=True)
-            elif one.answers(case, case.enough) != wanted:
-                print(f"{case.name}: {one.name} answers otherwise with {case.enough} KiB of stack")
+            elif one.answers(case, ENOUGH) != wanted:
+                print(f"{case.name}: {one.name} answers otherwise with {ENOUGH} KiB of stack")
                 wrong += 1
     print(f"stack: {checks} checks, {wrong} wrong")
     return 1 if wrong else 0

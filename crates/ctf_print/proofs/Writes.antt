@@ -111,11 +111,13 @@ pub no_size : (show : Shows) (p contents count : ℕ) (sized : Result ℕ Fault)
 unfolding then_pieces
 no_size show p contents count sized fault e = rw e refl
 
--- the first element shows why none is shown
-pub none_found : (show : Shows) (p contents count size : ℕ) (sized : Result ℕ Fault) (fault : Fault) → sized ≡ Ok size → 0 < count → ((q : ℕ) → show contents q ≡ ends fault) → separated (each_element show p contents count sized) ≡ ends fault
-unfolding then_pieces
-none_found show p contents count size sized fault e some none =
-    separated_is (each_element show p contents count sized) ∙ at_element show p contents count size 0 sized e some ∙ rw (none (p + 8 * size * 0)) refl
+-- the first element is refused wherever it stands, and all are with it
+pub first_element_refused : (old : List ℕ) (show : Shows) (p contents count size : ℕ) (sized : Result ℕ Fault) (fault : Fault) → sized ≡ Ok size → 0 < count → ((q : ℕ) → Refused old (show contents q) fault) → Refused old (separated (each_element show p contents count sized)) fault
+first_element_refused old show p contents count size sized fault e some refused =
+    let first = show contents (p + 8 * size * 0) in
+    let rest = separated_from 1 (drop 1 (each_element show p contents count sized)) in
+    let is = separated_is (each_element show p contents count sized) ∙ at_element show p contents count size 0 sized e some in
+    refused_as old old (separated (each_element show p contents count sized)) (then_pieces first rest) fault (ap (written old) is ∙ sym (next_nothing old old (then_pieces first rest))) (refused_first old first rest fault (refused (p + 8 * size * 0)))
 
 -- ---- members
 
@@ -140,6 +142,11 @@ some_member {A = A} f (x ∷ xs) i h = at (slice_get (x ∷ xs) i) refl
     at (Some y) e = (y, at_member f (x ∷ xs) i y e)
     at None e = absurd (there (x ∷ xs) i h e)
 
+pub some_at : {A : Type 0} (xs : List A) (i : ℕ) → i < length xs → (x : A) × (slice_get xs i ≡ Some x)
+some_at [] i h = absurd (omega arith)
+some_at (x ∷ xs) zero h = (x, refl)
+some_at (x ∷ xs) (suc i) h = some_at xs i (omega arith)
+
 pub no_more_members : {A : Type 0} (f : A → Pieces) (xs : List A) (i : ℕ) → length xs ≤ i → separated_from i (drop i (map f xs)) ≡ no_pieces
 no_more_members f xs i h = rw (drop_all i (map f xs) (omega (arith, length-map xs f))) refl
 
@@ -157,6 +164,11 @@ first_refused old now whole a rest f is ha = refused_as old now whole (then_piec
 pub later_refused : (r : Result (Unit {0}) Fault) (old now : List ℕ) (a b : Pieces) → written old a ≡ written now b → IfErr r (Refused now b) → IfErr r (Refused old a)
 later_refused (Ok x) old now a b same h = h
 later_refused (Err f) old now a b same h = refused_as old now a b f same h
+
+-- what comes later ends the text
+pub later_ended : {E : Type 0} (r : Result (Unit {0}) E) (old now : List ℕ) (a b : Pieces) (f : Fault) → written old a ≡ written now b → IfErr r (λ _. Refused now b f) → IfErr r (λ _. Refused old a f)
+later_ended (Ok x) old now a b f same h = h
+later_ended (Err e) old now a b f same h = refused_as old now a b f same h
 
 -- ---- a name
 

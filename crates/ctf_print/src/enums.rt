@@ -46,7 +46,7 @@ fn enum_size(said: Option<u64>) -> u64
 }
 
 /// Puts an enum, by its number and the size in bytes that it says.
-#[inline(never)]
+#[inline(always)]
 pub fn show_enum(
     memory: &[u8],
     at: u128,

@@ -69,8 +69,8 @@ fn found_behind<'a>(
 
 /// The same, put into a place: where values stand in each other, each has one such place on the
 /// stack, and none for a result that is moved.
-#[inline(never)]
-fn put_found<'a>(
+#[inline(always)]
+pub fn find_how<'a>(
     image: &Image<'a>,
     number: TypeNum,
     nesting: u32,
@@ -84,23 +84,6 @@ fn put_found<'a>(
 {
     *found = found_behind(image, number, nesting, known)?;
     Ok(())
-}
-
-/// The same. It is inlined, so that the call's own result takes stack only until it is looked at.
-#[inline(always)]
-pub fn find<'a>(
-    image: &Image<'a>,
-    number: TypeNum,
-    nesting: u32,
-    known: &mut ShowCache<'_>,
-    found: &mut Found<'a>,
-) -> Result<(), Fault>
-    requires known { known.old ≡ types_of image.now }
-    ensures found { IfOk result (λ _. IsFound image.now nesting number.0 found.new) }
-    ensures fault { IfErr result (λ f. (p : ℕ) → shows image.now nesting number.0 p ≡ ends f) }
-    ensures kept { known.new ≡ known.old }
-{
-    put_found(image, number, nesting, known, found)
 }
 
 /// A place in which nothing is found yet.

@@ -90,7 +90,7 @@ fn put_integer(encoding: Encoding, number: u64, out: &mut Text) -> Result<(), Fa
 }
 
 /// Puts an integer whose storage begins at a bit.
-#[inline(never)]
+#[inline(always)]
 pub fn show_integer(
     memory: &[u8],
     at: u128,
@@ -116,7 +116,7 @@ pub fn show_integer(
 }
 
 /// Puts a float whose storage begins at a bit.
-#[inline(never)]
+#[inline(always)]
 pub fn show_float(memory: &[u8], at: u128, encoding: Encoding, out: &mut Text) -> Result<(), Fault>
     ensures ok { OnOk result (written out.old
         (float_shown memory.now at (encoding_info encoding)) ≡ Ok out.new) }

@@ -6,6 +6,7 @@ mod found;
 mod image;
 mod integers;
 mod numbers;
+mod pen;
 mod places;
 mod show_cache;
 mod showing;

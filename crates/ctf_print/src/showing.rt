@@ -7,11 +7,12 @@ ghost use Rattle.ctf_space.specs.SpaceView.{space_of};
 ghost use Rattle.ctf_print.specs.Written.{added};
 
 use crate::image::Image;
+use crate::pen::Pen;
 use crate::show_cache::ShowCache;
 use crate::text::Text;
 use crate::values::show_value;
 use ctf_layout::Layout;
-use ctf_model::{Fault, TypeNum};
+use ctf_model::{Fault, TypeNum, placeless};
 use ctf_space::Space;
 use std::alloc::Global;
 
@@ -41,16 +42,15 @@ pub fn show(
         layout,
         memory,
     };
-    let mut text = Text::new(alloc);
-    let mut known = ShowCache::new(alloc, *space);
-    show_value(
-        &image,
-        number,
-        u128::from(offset),
-        MOST_VALUES,
-        &mut known,
-        &mut text,
-    )?;
-    out.extend_from_slice(text.as_slice())?;
+    let mut pen = Pen {
+        known: ShowCache::new(alloc, *space),
+        out: Text::new(alloc),
+        fault: placeless(Fault::INCOMPLETE),
+    };
+    match show_value(&image, number, u128::from(offset), MOST_VALUES, &mut pen) {
+        Ok(()) => {}
+        Err(_) => return Err(pen.fault),
+    }
+    out.extend_from_slice(pen.out.as_slice())?;
     Ok(())
 }

@@ -1,8 +1,8 @@
 //! A text of bounded length, and how pieces are put behind it.
-ghost use Rattle.std.specs.Prelude.{◌≡◌, ◌+◌, ◌≤◌, ◌++◌, [], length, vec_capacity, vec_len, IfErr, IsOk, IsTrue, OnOk, Err, Ok};
+ghost use Rattle.std.specs.Prelude.{◌≡◌, ◌+◌, ◌≤◌, ◌++◌, [], length, vec_capacity, vec_len, IfErr, IsFalse, IsOk, IsTrue, OnOk, Err, Ok};
 ghost use Rattle.ctf_model.specs.values.Pieces.{ends, no_pieces, piece};
 ghost use Rattle.ctf_model.specs.values.Values.{label};
-ghost use Rattle.ctf_print.specs.Written.{Refused, comma_before, written};
+ghost use Rattle.ctf_print.specs.Written.{Refused, written};
 
 use ctf_model::{Fault, placeless};
 use std::alloc::Global;
@@ -78,18 +78,30 @@ impl Text {
         Ok(())
     }
 
-    /// The same for a piece of a few bytes, for which there mostly is memory.
+    /// Puts a piece of a few bytes if there is room and memory for it, as there mostly is.
     #[inline(always)]
     #[tactic(auto, unfolding(crate::specs::Written::written))]
+    pub fn put_at_once(&mut self, bytes: &[u8]) -> bool
+        ensures put { IsTrue result → written self.old (piece bytes.now) ≡ Ok self.new }
+        ensures kept { IsFalse result → self.new ≡ self.old }
+    {
+        if !has_room(&self.bytes, bytes.len()) {
+            return false;
+        }
+        append(&mut self.bytes, bytes);
+        true
+    }
+
+    /// Puts a piece of a few bytes.
+    #[inline(always)]
     pub fn put_short(&mut self, bytes: &[u8]) -> Result<(), Fault>
         ensures ok { OnOk result (written self.old (piece bytes.now) ≡ Ok self.new) }
         ensures err { IfErr result (Refused self.old (piece bytes.now)) }
     {
-        if !has_room(&self.bytes, bytes.len()) {
-            return self.put(bytes);
+        if self.put_at_once(bytes) {
+            return Ok(());
         }
-        append(&mut self.bytes, bytes);
-        Ok(())
+        self.put(bytes)
     }
 
     /// Puts no piece: a text as it stands is not too long.
@@ -111,26 +123,15 @@ impl Text {
         ensures fault { result ≡ Err fault }
         ensures ok { OnOk result (written self.old (ends fault) ≡ Ok self.new) }
         ensures err { IfErr result (Refused self.old (ends fault)) }
+        ensures kept { self.new ≡ self.old }
     {
         let _ = &self.bytes;
         Err(fault)
     }
 
-    /// Puts what stands before the item with a number, from 0.
-    #[inline(always)]
-    pub fn put_comma(&mut self, item: usize) -> Result<(), Fault>
-        ensures ok { OnOk result (written self.old (comma_before item) ≡ Ok self.new) }
-        ensures err { IfErr result (Refused self.old (comma_before item)) }
-    {
-        if item == 0 {
-            return self.put_nothing();
-        }
-        self.put_short(b", ")
-    }
-
     /// Puts the name of a member and what stands behind it, if it has a name.
     #[inline(never)]
-    fn put_name(&mut self, name: &[u8]) -> Result<(), Fault>
+    pub fn put_name(&mut self, name: &[u8]) -> Result<(), Fault>
         ensures ok { OnOk result (written self.old (label name.now) ≡ Ok self.new) }
         ensures err { IfErr result (Refused self.old (label name.now)) }
     {
@@ -139,14 +140,5 @@ impl Text {
         }
         self.put(name)?;
         self.put_short(b" = ")
-    }
-
-    /// The same. Where it is called, its result takes the stack only as long as that is looked at.
-    #[inline(always)]
-    pub fn put_label(&mut self, name: &[u8]) -> Result<(), Fault>
-        ensures ok { OnOk result (written self.old (label name.now) ≡ Ok self.new) }
-        ensures err { IfErr result (Refused self.old (label name.now)) }
-    {
-        self.put_name(name)
     }
 }

@@ -2,30 +2,26 @@
 //! than so many values stand in each other.
 //!
 //! A struct in a struct takes one frame of the stack, that of `show_members`, and an array in an
-//! array that of `show_array`: what else they call in turn is inlined there, and what is left to a
-//! call of its own, as an integer, has no locals in these frames.
-ghost use Rattle.std.specs.Prelude.{◌≡◌, ◌*◌, map, IfErr, OnOk, Ok};
+//! array that of `show_array`. A frame holds what is found of one type and where its value stands:
+//! `Pen` has what all of them share, and what is done once for a member or an array is a call.
+ghost use Rattle.std.specs.Prelude.{◌≡◌, ◌*◌, ◌<◌, length, map, slice_get, IfErr, OnOk, Ok, Some};
+ghost use Rattle.ctf_model.specs.format.Term.{Member};
 ghost use Rattle.ctf_model.specs.figures.Figures.{size as size_of};
 ghost use Rattle.ctf_model.specs.values.Pieces.{separated};
 ghost use Rattle.ctf_model.specs.spaces.Space.{pointer_size};
 ghost use Rattle.ctf_model.specs.values.Values.{array_shown, elements_shown, member_shown, members_shown};
-ghost use Rattle.ctf_views.specs.ItemsView.{member as member_view};
 ghost use Rattle.ctf_print.specs.ImageView.{memory_of, shows, types_of};
 ghost use Rattle.ctf_print.specs.Placing.{shown_how};
 ghost use Rattle.ctf_print.specs.Telling.{told_shown};
 ghost use Rattle.ctf_print.specs.ToldView.{told_view};
 ghost use Rattle.ctf_print.specs.Written.{Refused, written};
 
-use crate::enums::show_enum;
-use crate::found::{Found, find, nothing_found};
+use crate::found::{Found, nothing_found};
 use crate::image::Image;
-use crate::integers::{show_float, show_integer};
-use crate::numbers::show_raw;
-use crate::show_cache::ShowCache;
+use crate::pen::{Ended, Pen};
 use crate::telling::Told;
-use crate::text::Text;
 use ctf_model::{DataModel, Fault, TypeNum, placeless};
-use ctf_views::{ArrayInfo, Member, Members};
+use ctf_views::{ArrayInfo, Members};
 
 /// How many bits a pointer has.
 fn pointer_bits(model: DataModel) -> u128
@@ -45,37 +41,29 @@ fn show_elements(
     array: ArrayInfo,
     at: u128,
     nesting: u32,
-    known: &mut ShowCache<'_>,
-    out: &mut Text,
-) -> Result<(), Fault>
-    requires known { known.old ≡ types_of image.now }
-    ensures ok { OnOk result (written out.old
+    pen: &mut Pen<'_>,
+) -> Result<(), Ended>
+    requires known { pen.old.known ≡ types_of image.now }
+    ensures ok { OnOk result (written pen.old.out
         (elements_shown (shows image.now nesting) at array.contents.0 array.count
-        (size_of (types_of image.now) array.contents.0)) ≡ Ok out.new) }
-    ensures err { IfErr result (Refused out.old
+        (size_of (types_of image.now) array.contents.0)) ≡ Ok pen.new.out) }
+    ensures err { IfErr result (λ _. Refused pen.old.out
         (elements_shown (shows image.now nesting) at array.contents.0 array.count
-        (size_of (types_of image.now) array.contents.0))) }
-    ensures kept { known.new ≡ known.old }
+        (size_of (types_of image.now) array.contents.0)) pen.new.fault) }
+    ensures kept { pen.new.known ≡ pen.old.known }
 {
     if array.count == 0 {
-        return out.put_nothing();
+        return pen.put_nothing();
     }
-    let size = match image.size(array.contents) {
-        Ok(size) => size,
-        Err(fault) => return out.end(fault),
-    };
     let mut found = nothing_found();
-    match find(image, array.contents, nesting, known, &mut found) {
-        Ok(()) => {}
-        Err(fault) => return out.end(fault),
-    }
+    let size = pen.begin_elements(image, array.contents, nesting, &mut found)?;
     let mut place = at;
     for i in 0..array.count {
-        out.put_comma(i as usize)?;
-        show_told(image, &found, place, known, out)?;
+        pen.put_comma(i as usize)?;
+        show_told(image, &found, place, pen)?;
         place = place.saturating_add(u128::from(size) * 8);
     }
-    out.put_nothing()
+    pen.put_nothing()
 }
 
 #[inline(never)]
@@ -85,43 +73,45 @@ fn show_array(
     array: ArrayInfo,
     at: u128,
     nesting: u32,
-    known: &mut ShowCache<'_>,
-    out: &mut Text,
-) -> Result<(), Fault>
-    requires known { known.old ≡ types_of image.now }
-    ensures ok { OnOk result (written out.old
+    pen: &mut Pen<'_>,
+) -> Result<(), Ended>
+    requires known { pen.old.known ≡ types_of image.now }
+    ensures ok { OnOk result (written pen.old.out
         (array_shown (shows image.now nesting) at array.contents.0 array.count
-        (size_of (types_of image.now) array.contents.0)) ≡ Ok out.new) }
-    ensures err { IfErr result (Refused out.old
+        (size_of (types_of image.now) array.contents.0)) ≡ Ok pen.new.out) }
+    ensures err { IfErr result (λ _. Refused pen.old.out
         (array_shown (shows image.now nesting) at array.contents.0 array.count
-        (size_of (types_of image.now) array.contents.0))) }
-    ensures kept { known.new ≡ known.old }
+        (size_of (types_of image.now) array.contents.0)) pen.new.fault) }
+    ensures kept { pen.new.known ≡ pen.old.known }
 {
-    out.put_short(b"[")?;
-    show_elements(image, array, at, nesting, known, out)?;
-    out.put_short(b"]")
+    pen.put_short(b"[")?;
+    show_elements(image, array, at, nesting, pen)?;
+    pen.put_short(b"]")
 }
 
+/// Puts the member with a number, from 0. What is found of its type is put into a place.
 #[inline(always)]
 #[cycle(values)]
-fn show_member(
-    image: &Image<'_>,
-    member: Member<'_>,
+fn show_member<'a>(
+    image: &Image<'a>,
+    members: &Members<'_>,
+    i: usize,
     at: u128,
     nesting: u32,
-    known: &mut ShowCache<'_>,
-    out: &mut Text,
-) -> Result<(), Fault>
-    requires known { known.old ≡ types_of image.now }
-    ensures ok { OnOk result (written out.old
-        (member_shown (shows image.now nesting) at (member_view member.entry)) ≡ Ok out.new) }
-    ensures err { IfErr result (Refused out.old
-        (member_shown (shows image.now nesting) at (member_view member.entry))) }
-    ensures kept { known.new ≡ known.old }
+    found: &mut Found<'a>,
+    pen: &mut Pen<'_>,
+) -> Result<(), Ended>
+    requires known { pen.old.known ≡ types_of image.now }
+    requires inside { i < length members.now }
+    ensures ok { (m : Member) → slice_get members.now i ≡ Some m → OnOk result
+        (written pen.old.out (member_shown (shows image.now nesting) at m) ≡ Ok pen.new.out) }
+    ensures err { (m : Member) → slice_get members.now i ≡ Some m → IfErr result
+        (λ _. Refused pen.old.out (member_shown (shows image.now nesting) at m) pen.new.fault) }
+    ensures kept { pen.new.known ≡ pen.old.known }
 {
-    out.put_label(member.name)?;
-    let place = at.saturating_add(u128::from(member.offset));
-    show_value(image, member.tnum, place, nesting, known, out)
+    let offset = pen.begin_member(image, members, i, nesting, found)?;
+    let place = at.saturating_add(u128::from(offset));
+    show_told(image, found, place, pen)
 }
 
 /// Puts members, separated by commas.
@@ -132,21 +122,25 @@ fn show_each_member(
     members: &Members<'_>,
     at: u128,
     nesting: u32,
-    known: &mut ShowCache<'_>,
-    out: &mut Text,
-) -> Result<(), Fault>
-    requires known { known.old ≡ types_of image.now }
-    ensures ok { OnOk result (written out.old
-        (separated (map (member_shown (shows image.now nesting) at) members.now)) ≡ Ok out.new) }
-    ensures err { IfErr result (Refused out.old
-        (separated (map (member_shown (shows image.now nesting) at) members.now))) }
-    ensures kept { known.new ≡ known.old }
+    pen: &mut Pen<'_>,
+) -> Result<(), Ended>
+    requires known { pen.old.known ≡ types_of image.now }
+    ensures ok { OnOk result (written pen.old.out
+        (separated (map (member_shown (shows image.now nesting) at) members.now))
+        ≡ Ok pen.new.out) }
+    ensures err { IfErr result (λ _. Refused pen.old.out
+        (separated (map (member_shown (shows image.now nesting) at) members.now))
+        pen.new.fault) }
+    ensures kept { pen.new.known ≡ pen.old.known }
 {
-    for i in 0..members.len() {
-        out.put_comma(i)?;
-        show_member(image, members.get(i).unwrap(), at, nesting, known, out)?;
+    let mut found = nothing_found();
+    let mut i = 0;
+    while i < members.len() {
+        pen.put_comma(i)?;
+        show_member(image, members, i, at, nesting, &mut found, pen)?;
+        i += 1;
     }
-    out.put_nothing()
+    pen.put_nothing()
 }
 
 #[inline(never)]
@@ -156,61 +150,49 @@ fn show_members(
     members: &Members<'_>,
     at: u128,
     nesting: u32,
-    known: &mut ShowCache<'_>,
-    out: &mut Text,
-) -> Result<(), Fault>
-    requires known { known.old ≡ types_of image.now }
-    ensures ok { OnOk result (written out.old
-        (members_shown (shows image.now nesting) at members.now) ≡ Ok out.new) }
-    ensures err { IfErr result (Refused out.old
-        (members_shown (shows image.now nesting) at members.now)) }
-    ensures kept { known.new ≡ known.old }
+    pen: &mut Pen<'_>,
+) -> Result<(), Ended>
+    requires known { pen.old.known ≡ types_of image.now }
+    ensures ok { OnOk result (written pen.old.out
+        (members_shown (shows image.now nesting) at members.now) ≡ Ok pen.new.out) }
+    ensures err { IfErr result (λ _. Refused pen.old.out
+        (members_shown (shows image.now nesting) at members.now) pen.new.fault) }
+    ensures kept { pen.new.known ≡ pen.old.known }
 {
-    out.put_short(b"{")?;
-    show_each_member(image, members, at, nesting, known, out)?;
-    out.put_short(b"}")
+    pen.put_short(b"{")?;
+    show_each_member(image, members, at, nesting, pen)?;
+    pen.put_short(b"}")
 }
 
-/// Puts the value of a type that is shown so.
-#[inline(always)]
+/// Puts the value of a type that is shown so. It goes on to what does that, and has no frame then.
+#[inline(never)]
 #[cycle(values)]
-fn show_told(
-    image: &Image<'_>,
-    found: &Found<'_>,
-    at: u128,
-    known: &mut ShowCache<'_>,
-    out: &mut Text,
-) -> Result<(), Fault>
-    requires known { known.old ≡ types_of image.now }
+fn show_told(image: &Image<'_>, found: &Found<'_>, at: u128, pen: &mut Pen<'_>) -> Result<(), Ended>
+    requires known { pen.old.known ≡ types_of image.now }
     requires how { shown_how (types_of image.now) found.now.number.0 ≡ told_view found.now.how }
-    ensures ok { OnOk result (written out.old
+    ensures ok { OnOk result (written pen.old.out
         (told_shown (types_of image.now) (memory_of image.now) (shows image.now found.now.nesting)
-        at (told_view found.now.how)) ≡ Ok out.new) }
-    ensures err { IfErr result (Refused out.old
+        at (told_view found.now.how)) ≡ Ok pen.new.out) }
+    ensures err { IfErr result (λ _. Refused pen.old.out
         (told_shown (types_of image.now) (memory_of image.now) (shows image.now found.now.nesting)
-        at (told_view found.now.how))) }
-    ensures kept { known.new ≡ known.old }
+        at (told_view found.now.how)) pen.new.fault) }
+    ensures kept { pen.new.known ≡ pen.old.known }
 {
     let nesting = found.nesting;
     match &found.how {
-        Told::Integer(encoding) => show_integer(image.memory, at, *encoding, out),
-        Told::Float(encoding) => show_float(image.memory, at, *encoding, out),
-        Told::Pointer => show_raw(image.memory, at, pointer_bits(image.space.model()), out),
+        Told::Integer(encoding) => pen.write_integer(image.memory, at, *encoding),
+        Told::Float(encoding) => pen.write_float(image.memory, at, *encoding),
+        Told::Pointer => pen.write_raw(image.memory, at, pointer_bits(image.space.model())),
         Told::Enum(said, enumerators) => {
-            show_enum(
-                image.memory,
-                at,
-                found.number,
-                *said,
-                enumerators,
-                known,
-                out,
-            )
+            pen.write_enum(image.memory, at, found.number, *said, enumerators)
         }
-        Told::Members(members) => show_members(image, members, at, nesting, known, out),
-        Told::Array(array) => show_array(image, *array, at, nesting, known, out),
-        Told::As(next) => show_again(image, *next, at, nesting, known, out),
-        Told::Incomplete => out.end(placeless(Fault::INCOMPLETE)),
+        Told::Members(members) => show_members(image, members, at, nesting, pen),
+        Told::Array(array) => show_array(image, *array, at, nesting, pen),
+        Told::As(next) => show_again(image, *next, at, nesting, pen),
+        Told::Incomplete => {
+            pen.end(placeless(Fault::INCOMPLETE));
+            Err(Ended)
+        }
     }
 }
 
@@ -223,20 +205,18 @@ pub fn show_value(
     number: TypeNum,
     at: u128,
     nesting: u32,
-    known: &mut ShowCache<'_>,
-    out: &mut Text,
-) -> Result<(), Fault>
-    requires known { known.old ≡ types_of image.now }
+    pen: &mut Pen<'_>,
+) -> Result<(), Ended>
+    requires known { pen.old.known ≡ types_of image.now }
     ensures ok { OnOk result
-        (written out.old (shows image.now nesting number.0 at) ≡ Ok out.new) }
-    ensures err { IfErr result (Refused out.old (shows image.now nesting number.0 at)) }
-    ensures kept { known.new ≡ known.old }
+        (written pen.old.out (shows image.now nesting number.0 at) ≡ Ok pen.new.out) }
+    ensures err { IfErr result
+        (λ _. Refused pen.old.out (shows image.now nesting number.0 at) pen.new.fault) }
+    ensures kept { pen.new.known ≡ pen.old.known }
 {
     let mut found = nothing_found();
-    match find(image, number, nesting, known, &mut found) {
-        Ok(()) => show_told(image, &found, at, known, out),
-        Err(fault) => out.end(fault),
-    }
+    pen.look_up(image, number, nesting, &mut found)?;
+    show_told(image, &found, at, pen)
 }
 
 /// The same, where one typedef or qualifier more is followed.
@@ -247,14 +227,14 @@ fn show_again(
     number: TypeNum,
     at: u128,
     nesting: u32,
-    known: &mut ShowCache<'_>,
-    out: &mut Text,
-) -> Result<(), Fault>
-    requires known { known.old ≡ types_of image.now }
+    pen: &mut Pen<'_>,
+) -> Result<(), Ended>
+    requires known { pen.old.known ≡ types_of image.now }
     ensures ok { OnOk result
-        (written out.old (shows image.now nesting number.0 at) ≡ Ok out.new) }
-    ensures err { IfErr result (Refused out.old (shows image.now nesting number.0 at)) }
-    ensures kept { known.new ≡ known.old }
+        (written pen.old.out (shows image.now nesting number.0 at) ≡ Ok pen.new.out) }
+    ensures err { IfErr result
+        (λ _. Refused pen.old.out (shows image.now nesting number.0 at) pen.new.fault) }
+    ensures kept { pen.new.known ≡ pen.old.known }
 {
-    show_value(image, number, at, nesting, known, out)
+    show_value(image, number, at, nesting, pen)
 }

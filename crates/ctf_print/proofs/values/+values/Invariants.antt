@@ -1,4 +1,4 @@
-use Rattle.std.proofs.Common.{◌≡◌, ◌^◌, ◌*◌, ◌+◌, ◌-◌, min, drop, map}
+use Rattle.std.proofs.Common.{◌≡◌, ◌^◌, ◌*◌, ◌+◌, ◌-◌, min, drop, length, map}
 use Rattle.ctf_model.specs.figures.Figures.{size as size_of}
 use Rattle.ctf_model.specs.values.Pieces.{separated}
 use Rattle.ctf_model.specs.values.Values.{each_element, elements_shown, member_shown}
@@ -32,15 +32,18 @@ decreases-show_told l = 5 * l.found.now.nesting + 4
 
 abbrev pub invariant-show_elements-loop-i : goal.invariant-show_elements-loop-i
 invariant-show_elements-loop-i l = record {
-  rest : written l.fn.out (elements_shown (shows l.image l.nesting) l.at l.fn.array.contents.0 l.fn.array.count (size_of (types_of l.image) l.fn.array.contents.0))
-      ≡ written l.out (separated_from l.i (drop l.i (each_element (shows l.image l.nesting) l.at l.fn.array.contents.0 l.fn.array.count (size_of (types_of l.image) l.fn.array.contents.0))));
+  rest : written l.fn.pen.out (elements_shown (shows l.image l.nesting) l.at l.fn.array.contents.0 l.fn.array.count (size_of (types_of l.image) l.fn.array.contents.0))
+      ≡ written l.pen.out (separated_from l.i (drop l.i (each_element (shows l.image l.nesting) l.at l.fn.array.contents.0 l.fn.array.count (size_of (types_of l.image) l.fn.array.contents.0))));
   place : l.place ≡ min (l.at + 8 * l.size * l.i) (2 ^ 128 - 1);
-  known : l.known ≡ l.fn.known;
+  known : l.pen.known ≡ l.fn.pen.known;
 }
 
 abbrev pub invariant-show_each_member-loop-i : goal.invariant-show_each_member-loop-i
 invariant-show_each_member-loop-i l = record {
-  rest : written l.fn.out (separated (map (member_shown (shows l.image l.nesting) l.at) l.members))
-      ≡ written l.out (separated_from l.i (drop l.i (map (member_shown (shows l.image l.nesting) l.at) l.members)));
-  known : l.known ≡ l.fn.known;
+  rest : written l.fn.pen.out (separated (map (member_shown (shows l.image l.nesting) l.at) l.members))
+      ≡ written l.pen.out (separated_from l.i (drop l.i (map (member_shown (shows l.image l.nesting) l.at) l.members)));
+  known : l.pen.known ≡ l.fn.pen.known;
 }
+
+abbrev pub decreases-show_each_member-loop-i : goal.decreases-show_each_member-loop-i
+decreases-show_each_member-loop-i l = length l.members - l.i

@@ -1,0 +1,298 @@
+//! What goes on from value to value while one is shown.
+ghost use Rattle.std.specs.Prelude.{◌≡◌, ◌<◌, ℕ, length, slice_get, IfErr, IfOk, OnOk, Ok, Some};
+ghost use Rattle.ctf_model.specs.figures.Figures.{size as size_of};
+ghost use Rattle.ctf_model.specs.format.Term.{Member};
+ghost use Rattle.ctf_model.specs.values.Pieces.{ends, no_pieces, piece, separated};
+ghost use Rattle.ctf_model.specs.values.Values.{each_element, enum_shown, float_shown, integer_shown, label, member_shown, raw_shown};
+ghost use Rattle.ctf_views.specs.PartsView.{encoding_info};
+ghost use Rattle.ctf_print.specs.Finding.{IsBegun, IsFound};
+ghost use Rattle.ctf_print.specs.ImageView.{shows, types_of};
+ghost use Rattle.ctf_print.specs.Placing.{shown_how};
+ghost use Rattle.ctf_print.specs.Telling as told;
+ghost use Rattle.ctf_print.specs.Telling.{said_size};
+ghost use Rattle.ctf_print.specs.Written.{Refused, comma_before, written};
+
+use crate::enums::show_enum;
+use crate::found::{Found, find_how};
+use crate::image::Image;
+use crate::integers::{show_float, show_integer};
+use crate::numbers::show_raw;
+use crate::show_cache::ShowCache;
+use crate::text::Text;
+use ctf_model::{Fault, TypeNum};
+use ctf_views::{Encoding, Enumerators, Members};
+
+/// No more is shown: the pen says why.
+#[derive(Clone, Copy)]
+pub struct Ended;
+
+/// The text, what is known of types, and why the text ended. Values that stand in each other share
+/// one: each takes stack for its own state alone, and none for a fault.
+#[derive(Drop)]
+pub struct Pen<'a> {
+    pub known: ShowCache<'a>,
+    pub out: Text,
+    pub fault: Fault,
+}
+
+impl<'a> Pen<'a> {
+    /// Ends the text by a fault.
+    #[inline(always)]
+    pub fn end(&mut self, fault: Fault)
+        ensures refused { Refused self.old.out (ends fault) self.new.fault }
+        ensures kept { self.new.known ≡ self.old.known }
+        ensures text { self.new.out ≡ self.old.out }
+    {
+        let _ = self.out.end(fault);
+        self.fault = fault;
+    }
+
+    /// Puts a piece for which there may be no memory yet.
+    #[inline(never)]
+    fn put_slowly(&mut self, bytes: &[u8]) -> Result<(), Ended>
+        ensures ok { OnOk result (written self.old.out (piece bytes.now) ≡ Ok self.new.out) }
+        ensures err { IfErr result (λ _. Refused self.old.out (piece bytes.now) self.new.fault) }
+        ensures kept { self.new.known ≡ self.old.known }
+    {
+        match self.out.put(bytes) {
+            Ok(()) => Ok(()),
+            Err(fault) => {
+                self.fault = fault;
+                Err(Ended)
+            }
+        }
+    }
+
+    /// Puts a piece of a few bytes, for which there mostly is memory.
+    #[inline(always)]
+    pub fn put_short(&mut self, bytes: &[u8]) -> Result<(), Ended>
+        ensures ok { OnOk result (written self.old.out (piece bytes.now) ≡ Ok self.new.out) }
+        ensures err { IfErr result (λ _. Refused self.old.out (piece bytes.now) self.new.fault) }
+        ensures kept { self.new.known ≡ self.old.known }
+    {
+        if self.out.put_at_once(bytes) {
+            return Ok(());
+        }
+        self.put_slowly(bytes)
+    }
+
+    /// Puts no piece: a text as it stands is not too long.
+    #[inline(always)]
+    pub fn put_nothing(&mut self) -> Result<(), Ended>
+        ensures ok { OnOk result (written self.old.out (no_pieces) ≡ Ok self.new.out) }
+        ensures err { IfErr result (λ _. Refused self.old.out (no_pieces) self.new.fault) }
+        ensures kept { self.new.known ≡ self.old.known }
+    {
+        match self.out.put_nothing() {
+            Ok(()) => Ok(()),
+            Err(fault) => {
+                self.fault = fault;
+                Err(Ended)
+            }
+        }
+    }
+
+    /// Puts what stands before the item with a number, from 0.
+    #[inline(always)]
+    pub fn put_comma(&mut self, item: usize) -> Result<(), Ended>
+        ensures ok { OnOk result (written self.old.out (comma_before item) ≡ Ok self.new.out) }
+        ensures err { IfErr result (λ _. Refused self.old.out (comma_before item) self.new.fault) }
+        ensures kept { self.new.known ≡ self.old.known }
+    {
+        if item == 0 {
+            return self.put_nothing();
+        }
+        self.put_short(b", ")
+    }
+
+    /// Puts the name of a member and what stands behind it, if it has a name.
+    #[inline(always)]
+    fn write_label(&mut self, name: &[u8]) -> Result<(), Ended>
+        ensures ok { OnOk result (written self.old.out (label name.now) ≡ Ok self.new.out) }
+        ensures err { IfErr result (λ _. Refused self.old.out (label name.now) self.new.fault) }
+        ensures kept { self.new.known ≡ self.old.known }
+    {
+        match self.out.put_name(name) {
+            Ok(()) => Ok(()),
+            Err(fault) => {
+                self.fault = fault;
+                Err(Ended)
+            }
+        }
+    }
+
+    /// Puts so many bits as they are.
+    #[inline(never)]
+    pub fn write_raw(&mut self, memory: &[u8], at: u128, width: u128) -> Result<(), Ended>
+        ensures ok { OnOk result (written self.old.out (raw_shown memory.now at width)
+            ≡ Ok self.new.out) }
+        ensures err { IfErr result (λ _. Refused self.old.out (raw_shown memory.now at width)
+            self.new.fault) }
+        ensures kept { self.new.known ≡ self.old.known }
+    {
+        match show_raw(memory, at, width, &mut self.out) {
+            Ok(()) => Ok(()),
+            Err(fault) => {
+                self.fault = fault;
+                Err(Ended)
+            }
+        }
+    }
+
+    /// Puts an integer whose storage begins at a bit.
+    #[inline(never)]
+    pub fn write_integer(
+        &mut self,
+        memory: &[u8],
+        at: u128,
+        encoding: Encoding,
+    ) -> Result<(), Ended>
+        ensures ok { OnOk result (written self.old.out
+            (integer_shown memory.now at (encoding_info encoding)) ≡ Ok self.new.out) }
+        ensures err { IfErr result (λ _. Refused self.old.out
+            (integer_shown memory.now at (encoding_info encoding)) self.new.fault) }
+        ensures kept { self.new.known ≡ self.old.known }
+    {
+        match show_integer(memory, at, encoding, &mut self.out) {
+            Ok(()) => Ok(()),
+            Err(fault) => {
+                self.fault = fault;
+                Err(Ended)
+            }
+        }
+    }
+
+    /// Puts a float whose storage begins at a bit.
+    #[inline(never)]
+    pub fn write_float(&mut self, memory: &[u8], at: u128, encoding: Encoding) -> Result<(), Ended>
+        ensures ok { OnOk result (written self.old.out
+            (float_shown memory.now at (encoding_info encoding)) ≡ Ok self.new.out) }
+        ensures err { IfErr result (λ _. Refused self.old.out
+            (float_shown memory.now at (encoding_info encoding)) self.new.fault) }
+        ensures kept { self.new.known ≡ self.old.known }
+    {
+        match show_float(memory, at, encoding, &mut self.out) {
+            Ok(()) => Ok(()),
+            Err(fault) => {
+                self.fault = fault;
+                Err(Ended)
+            }
+        }
+    }
+
+    /// Puts an enum, by its number and the size in bytes that it says.
+    #[inline(never)]
+    pub fn write_enum(
+        &mut self,
+        memory: &[u8],
+        at: u128,
+        number: TypeNum,
+        said: Option<u64>,
+        enumerators: &Enumerators<'_>,
+    ) -> Result<(), Ended>
+        requires { shown_how self.old.known number.0 ≡ told.enum said enumerators.now }
+        ensures ok { OnOk result (written self.old.out
+            (enum_shown memory.now at (said_size said) enumerators.now) ≡ Ok self.new.out) }
+        ensures err { IfErr result (λ _. Refused self.old.out
+            (enum_shown memory.now at (said_size said) enumerators.now) self.new.fault) }
+        ensures kept { self.new.known ≡ self.old.known }
+    {
+        let put = show_enum(
+            memory,
+            at,
+            number,
+            said,
+            enumerators,
+            &mut self.known,
+            &mut self.out,
+        );
+        match put {
+            Ok(()) => Ok(()),
+            Err(fault) => {
+                self.fault = fault;
+                Err(Ended)
+            }
+        }
+    }
+
+    /// Finds how the values of a number's type are shown, and puts that into a place.
+    #[inline(never)]
+    pub fn look_up<'b>(
+        &mut self,
+        image: &Image<'b>,
+        number: TypeNum,
+        nesting: u32,
+        found: &mut Found<'b>,
+    ) -> Result<(), Ended>
+        requires known { self.old.known ≡ types_of image.now }
+        ensures found { IfOk result (λ _. IsFound image.now nesting number.0 found.new) }
+        ensures refused { IfErr result (λ _. (p : ℕ)
+            → Refused self.old.out (shows image.now nesting number.0 p) self.new.fault) }
+        ensures kept { self.new.known ≡ self.old.known }
+        ensures text { self.new.out ≡ self.old.out }
+    {
+        match find_how(image, number, nesting, &mut self.known, found) {
+            Ok(()) => Ok(()),
+            Err(fault) => {
+                self.end(fault);
+                Err(Ended)
+            }
+        }
+    }
+
+    /// Finds how the elements of an array are shown, and their size in bytes.
+    #[inline(never)]
+    pub fn begin_elements<'b>(
+        &mut self,
+        image: &Image<'b>,
+        contents: TypeNum,
+        nesting: u32,
+        found: &mut Found<'b>,
+    ) -> Result<u64, Ended>
+        requires known { self.old.known ≡ types_of image.now }
+        ensures found { IfOk result (λ size. (size_of (types_of image.now) contents.0 ≡ Ok size)
+            × IsFound image.now nesting contents.0 found.new) }
+        ensures refused { IfErr result (λ _. (p count : ℕ) → 0 < count
+            → Refused self.old.out (separated (each_element (shows image.now nesting) p contents.0
+            count (size_of (types_of image.now) contents.0))) self.new.fault) }
+        ensures kept { self.new.known ≡ self.old.known }
+        ensures text { self.new.out ≡ self.old.out }
+    {
+        match image.size(contents) {
+            Ok(size) => {
+                self.look_up(image, contents, nesting, found)?;
+                Ok(size)
+            }
+            Err(fault) => {
+                self.end(fault);
+                Err(Ended)
+            }
+        }
+    }
+
+    /// Puts what stands in front of the value of a member, finds how that is shown, and answers its
+    /// offset.
+    #[inline(never)]
+    pub fn begin_member<'b>(
+        &mut self,
+        image: &Image<'b>,
+        members: &Members<'_>,
+        i: usize,
+        nesting: u32,
+        found: &mut Found<'b>,
+    ) -> Result<u64, Ended>
+        requires known { self.old.known ≡ types_of image.now }
+        requires inside { i < length members.now }
+        ensures begun { (m : Member) → slice_get members.now i ≡ Some m → IfOk result
+            (IsBegun image.now nesting m self.old.out self.new.out found.new) }
+        ensures refused { (m : Member) → slice_get members.now i ≡ Some m → IfErr result
+            (λ _. (p : ℕ) → Refused self.old.out (member_shown (shows image.now nesting) p m)
+            self.new.fault) }
+        ensures kept { self.new.known ≡ self.old.known }
+    {
+        let member = members.get(i).unwrap();
+        self.write_label(member.name)?;
+        self.look_up(image, member.tnum, nesting, found)?;
+        Ok(member.offset)
+    }
+}
