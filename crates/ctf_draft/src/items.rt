@@ -152,10 +152,8 @@ impl Draft {
         let i = self.aggregate_for(n, name.as_slice(), tnum)?;
         let plan = self.plan(n, i, tnum, offset)?;
         let offset = plan.offset;
-        match self.put_member(n, i, Member { name, tnum, offset }, plan.size) {
-            Ok(()) => Ok(offset),
-            Err(fault) => Err(fault),
-        }
+        self.put_member(n, i, Member { name, tnum, offset }, plan.size)?;
+        Ok(offset)
     }
 
     /// Adds an enumerator behind the others of the enum at a place.

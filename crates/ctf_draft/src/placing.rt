@@ -134,10 +134,8 @@ impl Draft {
             return Ok(0);
         };
         let bits = self.bits_filled(last.tnum)?;
-        match align {
-            Ok(align) => Ok(aligned_from(u128::from(last.offset) + bits, align)),
-            Err(fault) => Err(fault),
-        }
+        let align = align?;
+        Ok(aligned_from(u128::from(last.offset) + bits, align))
     }
 
     /// The place of a member of a pending type: the one that is stated, or its own.

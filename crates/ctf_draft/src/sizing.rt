@@ -34,13 +34,9 @@ fn pointer_size(model: DataModel) -> u64
 pub(crate) fn repeated(count: u32, size: Result<u64, Fault>) -> Result<u64, Fault>
     ensures { result ≡ times count size }
 {
-    match size {
-        Err(fault) => Err(fault),
-        Ok(size) => match size.checked_mul(u64::from(count)) {
-            Some(size) => Ok(size),
-            None => Err(placeless(Fault::TOO_BIG)),
-        },
-    }
+    let size = size?;
+    size.checked_mul(u64::from(count))
+        .ok_or(placeless(Fault::TOO_BIG))
 }
 
 /// The greater of two, or the first fault.

@@ -73,9 +73,7 @@ impl Draft {
     {
         let size = self.size(n)?;
         let at = self.resolved(n)?;
-        match self.width_at(at) {
-            Ok(width) => Ok(filled(size, width)),
-            Err(fault) => Err(fault),
-        }
+        let width = self.width_at(at)?;
+        Ok(filled(size, width))
     }
 }

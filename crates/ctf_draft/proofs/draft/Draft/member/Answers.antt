@@ -21,14 +21,14 @@ returns-in_err-plan-clause-exact_err c =
     let d = c.args.self.now.draft in
     rw (p.1, p.2) (refused_or_memory d c.args.n.0 c.args.name c.args.tnum.0 c.args.offset c.in_err-plan.field-0.0 (ap (λ (name : List ℕ). against_name d c.args.n.0 name c.args.tnum.0) (sym c.as_slice.ensures) ∙ c.in_ok-i.ensures.ok) c.in_err-plan.ensures.err)
 
-pub returns-in-Ok-clause-ok : goal.returns-in-Ok-clause-ok
-returns-in-Ok-clause-ok c =
+pub returns-clause-ok : goal.returns-clause-ok
+returns-clause-ok c =
     let d = c.args.self.now.draft in
     let n = c.args.n.0 in
     let p = c.in_ok-plan.plan in
     let body = with_member (record { name = c.args.name; tnum = c.args.tnum.0; offset = p.offset }) p.size in
     let same = ap (λ o. o.draft) c.plan.ensures.same in
-    let after : replaced d n (body (body_at d n)) ≡ c.put_member.new.self.draft = sym (c.in-Ok.ensures.ok ∙ ap (λ (e : Draft). replaced e n (body (body_at e n))) same) in
+    let after : replaced d n (body (body_at d n)) ≡ c.put_member.new.self.draft = sym (c.in_ok-put_member.ensures.ok ∙ ap (λ (e : Draft). replaced e n (body (body_at e n))) same) in
     member_accepted d n c.args.name c.args.tnum.0 c.args.offset p (ap (λ (name : List ℕ). against_name d n name c.args.tnum.0) (sym c.as_slice.ensures) ∙ c.in_ok-i.ensures.ok) c.in_ok-plan.ensures.ok
     ∙ ap (λ (e : Draft). let r : Result Added Fault = Ok (record { draft = e; answer = p.offset }) in r) after
 
