@@ -31,10 +31,9 @@ fn pointer_behind(space: &Space<'_>, index: &NameIndex, target: TypeNum) -> Resu
     ensures { let s = space_of space.now in result_map_both (λ t. t.0) (λ f. f) result
         ≡ pointer_behind_of s (resolved_of s target.0) }
 {
-    match resolve(space, target) {
-        Ok(TypeNum(0)) => Err(placeless(Fault::NOT_FOUND)),
-        Ok(resolved) => or_not_found(least(space, index, Sought::PointerTo(resolved))),
-        Err(fault) => Err(fault),
+    match resolve(space, target)? {
+        TypeNum(0) => Err(placeless(Fault::NOT_FOUND)),
+        resolved => or_not_found(least(space, index, Sought::PointerTo(resolved))),
     }
 }
 
@@ -106,8 +105,6 @@ pub fn find(space: &Space<'_>, index: &NameIndex, text: &[u8]) -> Result<TypeNum
         sort: parts.sort,
         name: parts.name,
     };
-    match or_not_found(least(space, index, sought)) {
-        Ok(first) => pointed(space, index, stars(&text[base.len()..]), first),
-        Err(fault) => Err(fault),
-    }
+    let first = or_not_found(least(space, index, sought))?;
+    pointed(space, index, stars(&text[base.len()..]), first)
 }

@@ -51,10 +51,7 @@ pub fn around(layer: Layer, inside: Result<NameLengths, Fault>) -> Result<NameLe
     ensures { (x : Result Declaration Refusal) → measured x ≡ inside
         → result ≡ measured (round_of layer x) }
 {
-    match inside {
-        Ok(lengths) => Ok(round(layer, lengths)),
-        Err(fault) => Err(fault),
-    }
+    Ok(round(layer, inside?))
 }
 
 /// How long the text of a type is whose outermost layer is this one.

@@ -28,14 +28,12 @@ fn by_record<'a>(image: &Image<'a>, number: TypeNum, nesting: u32) -> Result<Fou
     if nesting == 0 || number.0 == 0 {
         return Err(placeless(Fault::INCOMPLETE));
     }
-    match image.space.term(number) {
-        Ok(found) => Ok(Found {
-            number,
-            nesting: nesting - 1,
-            how: told_by(found.shape()),
-        }),
-        Err(fault) => Err(fault),
-    }
+    let term = image.space.term(number)?;
+    Ok(Found {
+        number,
+        nesting: nesting - 1,
+        how: told_by(term.shape()),
+    })
 }
 
 /// How the values of a number's type are shown, wherever they stand, or why none is. Typedefs and
