@@ -106,10 +106,8 @@ impl Slot {
         ensures same { slot_bytes (slot_of self.new) ≡ slot_bytes (slot_of self.old) }
     {
         let body = body(alloc, kind)?;
-        match self.dictionary.add(alloc, name.as_slice(), root, body) {
-            Ok(t) => Ok(Counts::one("t", u64::from(t.0))),
-            Err(fault) => Err(fault),
-        }
+        let t = self.dictionary.add(alloc, name.as_slice(), root, body)?;
+        Ok(Counts::one("t", u64::from(t.0)))
     }
 
     fn add_member(
@@ -127,10 +125,8 @@ impl Slot {
         ensures same { slot_bytes (slot_of self.new) ≡ slot_bytes (slot_of self.old) }
     {
         let part = Part::Member(t, name.as_slice(), tnum, offset);
-        match self.dictionary.add_part(alloc, part) {
-            Ok(offset) => Ok(Counts::one("offset", offset)),
-            Err(fault) => Err(fault),
-        }
+        let offset = self.dictionary.add_part(alloc, part)?;
+        Ok(Counts::one("offset", offset))
     }
 
     fn add_enumerator(
@@ -147,10 +143,8 @@ impl Slot {
         ensures same { slot_bytes (slot_of self.new) ≡ slot_bytes (slot_of self.old) }
     {
         let part = Part::Enumerator(t, name.as_slice(), value);
-        match self.dictionary.add_part(alloc, part) {
-            Ok(_) => Ok(Counts::done()),
-            Err(fault) => Err(fault),
-        }
+        self.dictionary.add_part(alloc, part)?;
+        Ok(Counts::done())
     }
 
     fn add_label(&mut self, alloc: Global, name: &Piece, last: u32) -> Result<Counts, Fault>
@@ -161,10 +155,8 @@ impl Slot {
         ensures same { slot_bytes (slot_of self.new) ≡ slot_bytes (slot_of self.old) }
     {
         let part = Part::Label(name.as_slice(), last);
-        match self.dictionary.add_part(alloc, part) {
-            Ok(_) => Ok(Counts::done()),
-            Err(fault) => Err(fault),
-        }
+        self.dictionary.add_part(alloc, part)?;
+        Ok(Counts::done())
     }
 
     /// Adds to its draft; the number of a type or the offset of a member is answered.

@@ -205,10 +205,8 @@ fn name<'a>(alloc: Global, space: &Space<'_>, t: TypeNum) -> Result<Answer<'a>, 
     ensures { MayAnswer (as_fields name_fields (spelled_name (space_of space.now) t.0)) result }
 {
     let mut text = Vec::new(alloc);
-    match spell(alloc, space, t, &mut text) {
-        Ok(()) => Ok(Answer::made("name", Bytes::from(text))),
-        Err(fault) => Err(fault),
-    }
+    spell(alloc, space, t, &mut text)?;
+    Ok(Answer::made("name", Bytes::from(text)))
 }
 
 /// What a value of a type shows, in memory and from a bit on.
@@ -225,10 +223,8 @@ fn value<'a>(
         (value_text (space_of space.now) memory.now t.0 offset)) result }
 {
     let mut text = Vec::new(alloc);
-    match show(alloc, space, layout, t, memory, offset, &mut text) {
-        Ok(()) => Ok(Answer::made("text", Bytes::from(text))),
-        Err(fault) => Err(fault),
-    }
+    show(alloc, space, layout, t, memory, offset, &mut text)?;
+    Ok(Answer::made("text", Bytes::from(text)))
 }
 
 /// What is told of a type: an answer that is lent and takes no memory, or what text is to be made.

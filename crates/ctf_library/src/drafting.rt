@@ -74,10 +74,8 @@ impl Slot {
             others,
             most: QUOTA,
         };
-        match self.dictionary.update_within(alloc, Some(room)) {
-            Ok(types) => Ok(Counts::one("types", types)),
-            Err(fault) => Err(fault),
-        }
+        let types = self.dictionary.update_within(alloc, Some(room))?;
+        Ok(Counts::one("types", types))
     }
 
     fn discard(&mut self) -> Result<Counts, Fault>
@@ -86,10 +84,8 @@ impl Slot {
         ensures number { self.new.number ≡ self.old.number }
         ensures same { slot_bytes (slot_of self.new) ≡ slot_bytes (slot_of self.old) }
     {
-        match self.dictionary.discard() {
-            Ok(types) => Ok(Counts::one("types", types)),
-            Err(fault) => Err(fault),
-        }
+        let types = self.dictionary.discard()?;
+        Ok(Counts::one("types", types))
     }
 
     /// A slot with a new draft, over a parent if there is one, updated with nothing in it, where it
@@ -110,15 +106,16 @@ impl Slot {
             others f) }
     {
         let model = model_of(parent, creation);
-        let room = Room {
+        let room = Some(Room {
             others,
             most: QUOTA,
-        };
+        });
         let parname = creation.parname();
         let parlabel = creation.parlabel();
-        match OpenDictionary::create_within(alloc, parent, parname, parlabel, model, Some(room)) {
-            Ok(dictionary) => Ok(Slot { number, dictionary }),
-            Err(fault) => Err(fault),
-        }
+        let draft = OpenDictionary::create_within(alloc, parent, parname, parlabel, model, room)?;
+        Ok(Slot {
+            number,
+            dictionary: draft,
+        })
     }
 }

@@ -161,11 +161,8 @@ impl Library {
         ensures { Makes self.old (parts list piece.now self.old) result self.new }
     {
         let has_room = fits(self.charge(), piece.len() as u128);
-        let added = self.stage.add(self.alloc, list, piece, has_room);
-        match added {
-            Ok(length) => Ok(Counts::one("length", length)),
-            Err(fault) => Err(fault),
-        }
+        let length = self.stage.add(self.alloc, list, piece, has_room)?;
+        Ok(Counts::one("length", length))
     }
 
     fn check(&mut self) -> Result<Counts, Fault>

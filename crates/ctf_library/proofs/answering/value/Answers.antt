@@ -2,6 +2,6 @@ use Rattle.std.proofs.Common.{inl, refl}
 use Rattle.ctf_library.proofs.Named.{shown}
 use Rattle.ctf_library.proofs.answering.value.Goals as goal
 
-pub returns-in-Ok : goal.returns-in-Ok
-returns-in-Ok c =
-    inl (shown _ _ _ _ c.new-text.ensures.items c.in-Ok.ensures.exact_ok (rw (c.made.ensures, c.from.ensures) refl))
+pub returns : goal.returns
+returns c =
+    inl (shown _ _ _ _ c.new-text.ensures.items c.in_ok-show.ensures.exact_ok (rw (c.made.ensures, c.from.ensures) refl))

@@ -1,19 +1,22 @@
-use Rattle.std.proofs.Common.{◌≡◌, ℕ, List, Ok, Err, codes, ap, refl, subst}
-use Rattle.ctf_library.specs.Drafting.{IsStepped}
-use Rattle.ctf_protocol.specs.sessions.Opened.{slot_stepped}
+use Rattle.std.proofs.Common.{◌≡◌, ℕ, List, Ok, codes, ap, refl, sym, ◌∙◌}
+use Rattle.std.proofs.lemmas.Result.{err_from_is_err_and}
 use Rattle.ctf_library.specs.SlotView.{slot_of}
-use Rattle.ctf_protocol.specs.sessions.Opened.{open_of, slot_with}
+use Rattle.ctf_protocol.specs.sessions.Opened.{open_of}
+use Rattle.ctf_library.proofs.Creating.{either}
 use Rattle.ctf_library.proofs.DraftSteps.{done_step, refused_step, under}
 use Rattle.ctf_protocol.specs.answers.Answers.{Answer}
 use Rattle.ctf_model.specs.opened.Steps.{member_added}
 use Rattle.ctf_library.proofs.slots.Slot.add_member.Goals as goal
 
-pub returns-in-Ok-clause-step : goal.returns-in-Ok-clause-step
-returns-in-Ok-clause-step c =
-    let is : c.as_slice.result.now ≡ c.args.name.now = c.as_slice.ensures.bytes in
-    subst (λ (x : List ℕ). IsStepped (slot_stepped (under (codes "offset")) (slot_of c.args.self.now) (member_added c.args.t.0 x c.args.tnum.0 c.args.offset (open_of (slot_of c.args.self.now)))) (Ok c.one.result) (slot_of c.args.self.now) (slot_with c.args.self.now.number c.add_part.new.self)) is (done_step _ (slot_of c.args.self.now) _ _ _ _ c.in-Ok.ensures.ok (ap (λ (a : Answer). Ok a) c.one.ensures))
+pub returns-clause-step : goal.returns-clause-step
+returns-clause-step c =
+    let s = slot_of c.args.self.now in
+    let named = ap (λ (x : List ℕ). member_added c.args.t.0 x c.args.tnum.0 c.args.offset (open_of s)) (sym c.as_slice.ensures.bytes) in
+    done_step (under (codes "offset")) s _ c.add_part.new.self _ _ (named ∙ c.in_ok-offset.ensures.ok) (ap (λ (a : Answer). Ok a) c.one.ensures)
 
-pub returns-in-Err-clause-step : goal.returns-in-Err-clause-step
-returns-in-Err-clause-step c =
-    let is : c.as_slice.result.now ≡ c.args.name.now = c.as_slice.ensures.bytes in
-    subst (λ (x : List ℕ). IsStepped (slot_stepped (under (codes "offset")) (slot_of c.args.self.now) (member_added c.args.t.0 x c.args.tnum.0 c.args.offset (open_of (slot_of c.args.self.now)))) (Err c.in-Err.fault) (slot_of c.args.self.now) (slot_with c.args.self.now.number c.add_part.new.self)) is (refused_step _ (slot_of c.args.self.now) _ _ _ _ c.in-Err.ensures.exact_err c.in-Err.ensures.as_before refl)
+pub returns-in_err-offset-clause-step : goal.returns-in_err-offset-clause-step
+returns-in_err-offset-clause-step c =
+    let p = err_from_is_err_and c.from_residual.result c.from_residual.ensures.1 in
+    let s = slot_of c.args.self.now in
+    let named = ap (λ (x : List ℕ). member_added c.args.t.0 x c.args.tnum.0 c.args.offset (open_of s)) (sym c.as_slice.ensures.bytes) in
+    rw (p.1, p.2) (refused_step (under (codes "offset")) s _ c.add_part.new.self c.in_err-offset.field-0.0 _ (either (λ e. named ∙ e) c.in_err-offset.ensures.exact_err) c.in_err-offset.ensures.as_before refl)
