@@ -135,6 +135,7 @@ fn show_each_member(
 {
     let mut found = nothing_found();
     let mut i = 0;
+    // Their number is asked for again each time, so that no frame keeps it.
     while i < members.len() {
         pen.put_comma(i)?;
         show_member(image, members, i, at, nesting, &mut found, pen)?;
