@@ -12,9 +12,9 @@ use std::rc::Rc;
 /// The types of a dictionary, and of its parent where it has one, by their names: a type is found
 /// by halves.
 ///
-/// It keeps plain numbers, at most 16 bytes for each type that is visible to look-ups by name, 4 for
-/// each pointer and 2 for each type, and borrows nothing. Those of a parent are shared with the
-/// parent's own index.
+/// It keeps plain numbers, at most 16 bytes for each type that is visible to look-ups by name, 4
+/// for each pointer and 2 for each type, and borrows nothing. Those of a parent are shared with
+/// the parent's own index.
 #[derive(Drop)]
 pub struct NameIndex {
     pub(crate) own: Rc<Names>,

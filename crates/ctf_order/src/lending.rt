@@ -102,8 +102,8 @@ fn ranked<'a>(alloc: Global, texts: &Texts<'a>, items: &[Entry]) -> Result<Vec<R
     Ok(ranked)
 }
 
-/// The same for items in any order, if their names have at most `most` bytes together. Of those that
-/// have more, no more than that and one name is read.
+/// The same for items in any order, if their names have at most `most` bytes together. Of those
+/// that have more, no more than that and one name is read.
 fn ranked_within<'a>(
     alloc: Global,
     texts: &Texts<'a>,

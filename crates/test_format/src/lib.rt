@@ -1,4 +1,4 @@
-//! What the public calls of the crates that read the format answer of bytes that were typed by hand.
+//! What the public calls of the crates that read the format answer of bytes typed by hand.
 #![tactic(auto)]
 
 mod format;

@@ -65,7 +65,8 @@ stop_code b = if nat_le 8 (length b) && is_none (kind b) then BAD_KIND else TRUN
 abbrev pub record_or_stop : List ℕ → ℕ → ℕ → (ℕ → List (Result Piece Fault)) → Option ℕ
     → List (Result Piece Fault)
 record_or_stop b index at later None = Err (record { code = stop_code b; place = index }) ∷ []
-record_or_stop b index at later (Some n) = Ok (record { index = index; at = at; bytes = take n b }) ∷ later n
+record_or_stop b index at later (Some n) =
+    Ok (record { index = index; at = at; bytes = take n b }) ∷ later n
 
 -- the records in order, and then the fault of a rest that none begins;
 -- each record has a byte, so their number is bounded
