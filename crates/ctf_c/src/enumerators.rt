@@ -20,10 +20,8 @@ fn valued(dictionary: &OpenDictionary, t: TypeNum, value: i32) -> Result<Enumera
     ensures { result_map_both enumerator_view (λ f. f) result
         ≡ on_shape (valued_answered value) (shape_of (space_type (space_in dictionary.now) t.0)) }
 {
-    match dictionary.space().term(t) {
-        Ok(found) => with_value(&found, value),
-        Err(fault) => Err(fault),
-    }
+    let found = dictionary.space().term(t)?;
+    with_value(&found, value)
 }
 
 /// The first enumerator of an enum that has a name.
@@ -35,10 +33,8 @@ fn named<'a>(
     ensures { result_map_both enumerator_view (λ f. f) result
         ≡ on_shape (named_answered name.now) (shape_of (space_type (space_in dictionary.now) t.0)) }
 {
-    match dictionary.space().term(t) {
-        Ok(found) => with_name(&found, name),
-        Err(fault) => Err(fault),
-    }
+    let found = dictionary.space().term(t)?;
+    with_name(&found, name)
 }
 
 /// The name of the first enumerator that has a value. As much of it is written as fits.

@@ -44,10 +44,8 @@ fn members(
         (on_shape members_answered (shape_of (space_type (space_in dictionary.now) t.0)))
         from result rows.old rows.new }
 {
-    match held_type(&dictionary.space(), t) {
-        Ok(found) => members_into(&found, from, rows),
-        Err(fault) => Err(fault),
-    }
+    let found = held_type(&dictionary.space(), t)?;
+    members_into(&found, from, rows)
 }
 
 /// The same of the enumerators of a type.
@@ -61,10 +59,8 @@ fn enumerators(
         (on_shape enumerators_answered (shape_of (space_type (space_in dictionary.now) t.0)))
         from result rows.old rows.new }
 {
-    match held_type(&dictionary.space(), t) {
-        Ok(found) => enumerators_into(&found, from, rows),
-        Err(fault) => Err(fault),
-    }
+    let found = held_type(&dictionary.space(), t)?;
+    enumerators_into(&found, from, rows)
 }
 
 /// The members of a struct or union from a number on, as many as there are rows, and how many it

@@ -7,8 +7,8 @@ use Rattle.ctf_model.specs.opened.Questions.{on_shape, shape_of}
 use Rattle.ctf_model.specs.spaces.Space.{space_type}
 use Rattle.ctf_c.proofs.enumerators.named.Goals as goal
 
-pub returns-in-Ok : goal.returns-in-Ok
-returns-in-Ok c =
+pub returns : goal.returns
+returns c =
     let name = c.args.name.now in
-    said_by (λ (e : Enumerator). bytes_eq name e.name) (spelled c.in-Ok.found) _ c.with_name.ensures
-    ∙ (ap (λ r. on_shape (named_answered name) (shape_of r)) c.in-Ok.ensures ∙ ap (λ s. on_shape (named_answered name) (shape_of (space_type s c.args.t.0))) c.space.ensures.space)
+    said_by (λ (e : Enumerator). bytes_eq name e.name) (spelled c.in_ok-found.found) _ c.with_name.ensures
+    ∙ (ap (λ r. on_shape (named_answered name) (shape_of r)) c.in_ok-found.ensures ∙ ap (λ s. on_shape (named_answered name) (shape_of (space_type s c.args.t.0))) c.space.ensures.space)

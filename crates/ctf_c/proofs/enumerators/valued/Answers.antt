@@ -13,10 +13,10 @@ use Rattle.ctf_model.specs.spaces.Space.{space_type}
 use Rattle.ctf_views.specs.ItemsView.{enumerator as enumerator_view}
 use Rattle.ctf_c.proofs.enumerators.valued.Goals as goal
 
-pub returns-in-Ok : goal.returns-in-Ok
-returns-in-Ok c =
+pub returns : goal.returns
+returns c =
     let value = c.args.value in
     let same = to_z-of_z {w = w32} {z = value} c.ranges.value in
-    let said = subst (λ v. option_map (λ (x : Term). valued_answered v (shape x.body)) (spelled c.in-Ok.found) ≡ Some (result_map_both enumerator_view (λ f. f) c.with_value.result)) same c.with_value.ensures in
-    said_by (λ (e : Enumerator). int_eq e.value value) (spelled c.in-Ok.found) _ said
-    ∙ (ap (λ r. on_shape (valued_answered value) (shape_of r)) c.in-Ok.ensures ∙ ap (λ s. on_shape (valued_answered value) (shape_of (space_type s c.args.t.0))) c.space.ensures.space)
+    let said = subst (λ v. option_map (λ (x : Term). valued_answered v (shape x.body)) (spelled c.in_ok-found.found) ≡ Some (result_map_both enumerator_view (λ f. f) c.with_value.result)) same c.with_value.ensures in
+    said_by (λ (e : Enumerator). int_eq e.value value) (spelled c.in_ok-found.found) _ said
+    ∙ (ap (λ r. on_shape (valued_answered value) (shape_of r)) c.in_ok-found.ensures ∙ ap (λ s. on_shape (valued_answered value) (shape_of (space_type s c.args.t.0))) c.space.ensures.space)
