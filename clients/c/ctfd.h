@@ -23,8 +23,8 @@
  *   child and its parent after an import, and all that imported the same parent. They stay on the
  *   thread that opened them. Handles that share nothing may be used on other threads.
  * - No call is made from a signal handler.
- * - The stack has room: 256 KiB. Measured were at most 104 KiB, to show structs that lie 512 deep
- *   in each other, and 184 KiB over such a parent.
+ * - The stack has room: 256 KiB. Measured were at most 112 KiB, to show structs that lie 512 deep
+ *   in each other, and 200 KiB over such a parent.
  * All else is told by statuses, whatever the bytes, the numbers, the names and the lines are.
  *
  * What a caller is given
