@@ -256,8 +256,22 @@ def pending(count):
     yield line("update", '"d":1')
 
 
+def publications(count):
+    """Publications of one session under names of their own, each taken by another session and
+    closed there, and then withdrawn."""
+    yield from opened((dictionary(made.integer(0), b"\0"), b"", b""))
+    for i in range(count):
+        yield line("publish", '"d":1,"name":"p%d"' % i)
+    for i in range(count):
+        yield line("take", '"owner":1,"name":"p%d"' % i, session=2)
+        yield line("close", '"d":%d' % (1 + i), session=2)
+    for i in range(count):
+        yield line("withdraw", '"name":"p%d"' % i)
+
+
 GROWTHS = [
     Growth("sessions", 40_000, sessions),
     Growth("slots", 1_000, slots),
+    Growth("publications", 64_000, publications),
     Growth("pending types", 32_000, pending),
 ]
