@@ -25,11 +25,11 @@ fn add(
     dictionary: &mut OptionBox<OpenDictionary>,
     name: &[u8],
     root: bool,
-    body: NewBody,
+    body: NewBody<'_>,
     out: &mut u16,
 ) -> u32
     ensures { Steps (asked dictionary.old.held.value
-        (type_added (record { name = name.now; root = root; body = new_body_of body })))
+        (type_added (record { name = name.now; root = root; body = new_body_of body.entry })))
         result out.old out.new dictionary.old.held.value dictionary.new.held.value }
 {
     let Some(dictionary) = dictionary.get_mut() else {
@@ -345,7 +345,7 @@ pub extern "C" fn ctfd_add_function(
 {
     match numbers(alloc, args) {
         Ok(args) => {
-            let body = NewBody::Function(TypeNum(ret), args);
+            let body = NewBody::Function(TypeNum(ret), args.as_slice());
             add(alloc, handle.option_box(), name, root, body, out)
         }
         Err(error) => status(Fault::from(error)),

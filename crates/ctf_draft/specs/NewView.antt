@@ -36,7 +36,7 @@ new_body_of (handed.Scalar kind size e) = new_scalar kind (scalar_of size e)
 new_body_of (handed.Reference kind t) = new_reference kind t.0
 new_body_of (handed.Array a) = new.array (array_info a)
 new_body_of (handed.Function returned arguments) =
-    new.function returned.0 (map number_of arguments.items)
+    new.function returned.0 (map number_of arguments.now)
 new_body_of (handed.Aggregate kind size) = new_aggregate kind size
 new_body_of (handed.Enum size) = new.enum size
 new_body_of (handed.Forward tag) = new.forward (tag_of tag)

@@ -14,7 +14,8 @@ ghost use Rattle.ctf_model.specs.format.Shown.{list_length, shown};
 
 use crate::draft::Draft;
 use crate::naming::has_zero;
-use crate::new_types::{NewBody, NewType, made};
+use crate::new_types::{NewBody, NewType};
+use crate::pushing::push_type;
 use crate::types::ReferenceKind;
 use ctf_model::{Bytes, Fault, Place, TypeNum, placeless};
 
@@ -59,7 +60,7 @@ impl Draft {
     }
 
     /// Whether a new type names one that is not there.
-    fn names_absent(&self, new: &NewBody) -> bool
+    fn names_absent(&self, new: &NewBody<'_>) -> bool
         ensures { result ≡ list_any (is_absent_in self.now.draft)
             (references (new_body (new_body_of new.now))) }
     {
@@ -67,14 +68,14 @@ impl Draft {
             NewBody::Reference(_, tnum) => self.is_absent(*tnum),
             NewBody::Array(info) => self.is_absent(info.contents) || self.is_absent(info.index),
             NewBody::Function(returned, arguments) => {
-                self.is_absent(*returned) || self.any_absent(arguments.as_slice())
+                self.is_absent(*returned) || self.any_absent(arguments)
             }
             _ => false,
         }
     }
 
     /// Why a type is not added, if it isn't.
-    fn against_type(&self, new: &NewType) -> Option<Fault>
+    fn against_type(&self, new: &NewType<'_>) -> Option<Fault>
         ensures { result ≡ first_met (against_type self.now.draft (new_term (new_of new.now))) }
     {
         if has_zero(new.name.as_slice()) {
@@ -101,7 +102,7 @@ impl Draft {
     }
 
     /// The type of a draft that a new type holds by value, if it does.
-    fn held_by(&self, new: &NewBody) -> Option<usize>
+    fn held_by(&self, new: &NewBody<'_>) -> Option<usize>
         ensures held { AllByRecursion (λ n. own_index_of (is_some self.now.draft.parent)
             (count_of self.now.draft) n ≡ result) (by_value (new_body (new_body_of new.now))) }
         ensures inside { MatchOption result (Unit {0}) (λ j. j < count_of self.now.draft) }
@@ -116,11 +117,11 @@ impl Draft {
 
     /// Adds a type behind the others, and answers its number.
     #[tactic(auto, unfolding(ctf_model::specs::drafts::Adders::add_type))]
-    pub fn add(&mut self, new: NewType) -> Result<TypeNum, Fault>
-        ensures ok { IfOk result (λ n. add_type self.old.draft (new_of new)
+    pub fn add(&mut self, new: NewType<'_>) -> Result<TypeNum, Fault>
+        ensures ok { IfOk result (λ n. add_type self.old.draft (new_of new.entry)
             ≡ Ok (record { draft = self.new.draft; answer = n.0 })) }
         ensures exact_err { IfErr result (λ f. (f ≡ out_of_memory)
-            ⊎ (add_type self.old.draft (new_of new) ≡ Err f)) }
+            ⊎ (add_type self.old.draft (new_of new.entry) ≡ Err f)) }
         ensures as_before { OnErr result (self.new ≡ self.old) }
         ensures dictionary { self.new.dictionary ≡ self.old.dictionary }
     {
@@ -131,9 +132,7 @@ impl Draft {
         let held = self.held_by(&new.body);
         self.depths
             .make_next(self.alloc, self.updated, self.types.len(), held)?;
-        let Ok(_) = self.types.push(made(self.alloc, new)) else {
-            return Err(placeless(Fault::MEMORY));
-        };
+        push_type(self.alloc, &mut self.types, new)?;
         Ok(number)
     }
 
@@ -158,7 +157,7 @@ impl Draft {
 }
 
 /// How many arguments a new type has.
-fn arguments_in(new: &NewBody) -> usize
+fn arguments_in(new: &NewBody<'_>) -> usize
     ensures { result ≡ list_length (shown (new_body (new_body_of new.now))) }
 {
     match new {

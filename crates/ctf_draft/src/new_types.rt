@@ -1,5 +1,5 @@
 //! Types as they are added to a draft, without members or enumerators.
-ghost use Rattle.std.specs.Prelude.{◌≡◌, []};
+ghost use Rattle.std.specs.Prelude.{◌≡◌, [], IfOk};
 ghost use Rattle.ctf_draft.specs.NewView.{new_body_of, new_of};
 ghost use Rattle.ctf_draft.specs.TakenView.{names_in};
 ghost use Rattle.ctf_draft.specs.TypeView.{body_of, type_of};
@@ -11,17 +11,18 @@ use crate::types::{AggregateKind, Body, DraftType, ReferenceKind, ScalarKind};
 use ctf_model::{Bytes, TypeNum};
 use ctf_records::Tag;
 use ctf_views::{ArrayInfo, Encoding};
-use std::alloc::Global;
+use std::alloc::{AllocError, Global};
 
-/// What a new type is, by its kind. Sizes are in bytes.
-#[derive(Drop)]
-pub enum NewBody {
+/// What a new type is, by its kind. Sizes are in bytes. Arguments are lent: they are copied once the
+/// type is accepted.
+#[derive(Clone, Copy, Drop)]
+pub enum NewBody<'a> {
     Unknown,
     Scalar(ScalarKind, u64, Encoding),
     Reference(ReferenceKind, TypeNum),
     Array(ArrayInfo),
     /// What it returns, and its arguments.
-    Function(TypeNum, Vec<TypeNum>),
+    Function(TypeNum, &'a [TypeNum]),
     /// Its size until members make it greater.
     Aggregate(AggregateKind, u64),
     Enum(u64),
@@ -30,42 +31,45 @@ pub enum NewBody {
 
 /// A new type.
 #[derive(Drop)]
-pub struct NewType {
+pub struct NewType<'a> {
     pub name: Bytes,
     pub root: bool,
-    pub body: NewBody,
+    pub body: NewBody<'a>,
 }
 
-/// What a new type is once it is added: its lists are empty. It takes no memory.
-fn body_from(alloc: Global, new: NewBody) -> Body
-    ensures made { body_of result ≡ new_body (new_body_of new) }
-    ensures bare { names_in result ≡ [] }
-    ensures fits { FitsNew (new_body_of new) }
+/// What a new type is once it is added: its lists of members and enumerators are empty.
+fn body_from(alloc: Global, new: NewBody<'_>) -> Result<Body, AllocError>
+    ensures made { IfOk result (λ body. body_of body ≡ new_body (new_body_of new.entry)) }
+    ensures bare { IfOk result (λ body. names_in body ≡ []) }
+    ensures fits { FitsNew (new_body_of new.entry) }
 {
-    match new {
+    let body = match new {
         NewBody::Unknown => Body::Unknown,
         NewBody::Scalar(kind, size, encoding) => Body::Scalar(kind, size, encoding),
         NewBody::Reference(kind, tnum) => Body::Reference(kind, tnum),
         NewBody::Array(info) => Body::Array(info),
-        NewBody::Function(returned, arguments) => Body::Function(returned, arguments),
+        NewBody::Function(returned, arguments) => {
+            Body::Function(returned, Vec::from_slice(alloc, arguments)?)
+        }
         NewBody::Aggregate(kind, size) => Body::Aggregate(kind, size, Vec::new(alloc)),
         NewBody::Enum(size) => Body::Enum(size, Vec::new(alloc)),
         NewBody::Forward(tag) => Body::Forward(tag),
-    }
+    };
+    Ok(body)
 }
 
 /// The type that a new type makes.
-pub(crate) fn made(alloc: Global, new: NewType) -> DraftType
-    ensures made { type_of result ≡ new_term (new_of new) }
-    ensures fits { FitsNew (new_body_of new.body) }
+pub(crate) fn made(alloc: Global, new: NewType<'_>) -> Result<DraftType, AllocError>
+    ensures made { IfOk result (λ t. type_of t ≡ new_term (new_of new.entry)) }
+    ensures fits { FitsNew (new_body_of new.entry.body) }
 {
     let NewType { name, root, body } = new;
-    let body = body_from(alloc, body);
+    let body = body_from(alloc, body)?;
     let taken = Taken::new(alloc);
-    DraftType {
+    Ok(DraftType {
         name,
         root,
         body,
         taken,
-    }
+    })
 }

@@ -1,10 +1,14 @@
-//! Members and enumerators, behind the others of a type.
-ghost use Rattle.std.specs.Prelude.{◌≡◌, ◌<◌, [], false, map, unwrap_or, vec_capacity, vec_len, IfErr, OnErr, OnOk};
+//! Types, members and enumerators, behind others.
+ghost use Rattle.std.specs.Prelude.{◌≡◌, ◌<◌, ◌+◌, ◌++◌, ◌∷◌, [], false, map, unwrap_or, vec_capacity, vec_len, IfErr, OnErr, OnOk};
+ghost use Rattle.ctf_draft.specs.NewView.{new_body_of, new_of};
 ghost use Rattle.ctf_draft.specs.TypeView.{body_of, enumerator_of, member_of, type_of};
 ghost use Rattle.ctf_model.specs.drafts.Adders.{is_taken, with_body, with_enumerator, with_member};
+ghost use Rattle.ctf_model.specs.drafts.Fitting.{FitsNew};
+ghost use Rattle.ctf_model.specs.drafts.NewTypes.{new_term};
 ghost use Rattle.ctf_model.specs.rules.Refusals.{out_of_memory};
 ghost use Rattle.ctf_model.specs.format.Shown.{enumerators_in, members_in, shown};
 
+use crate::new_types::{NewType, made};
 use crate::types::{Body, DraftType, Enumerator, Member};
 use ctf_model::Fault;
 use std::alloc::{AllocError, Global};
@@ -20,6 +24,23 @@ fn make_room<T>(items: &mut Vec<T>) -> Result<(), AllocError>
         return Ok(());
     }
     items.reserve_exact(items.len() / 16 + 1)
+}
+
+/// Adds a type behind others.
+pub(crate) fn push_type(
+    alloc: Global,
+    types: &mut Vec<DraftType>,
+    new: NewType<'_>,
+) -> Result<(), AllocError>
+    ensures types { OnOk result (map type_of types.new.items
+        ≡ map type_of types.old.items ++ new_term (new_of new.entry) ∷ []) }
+    ensures len { OnOk result (vec_len types.new ≡ vec_len types.old + 1) }
+    ensures same { OnErr result (types.new.items ≡ types.old.items) }
+    ensures same_len { OnErr result (vec_len types.new ≡ vec_len types.old) }
+    ensures fits { FitsNew (new_body_of new.entry.body) }
+{
+    types.push(made(alloc, new)?)?;
+    Ok(())
 }
 
 /// Adds a member behind the others of a struct or union, which then has a size. None has its name.

@@ -36,7 +36,7 @@ fn tag(declared: Declared) -> Tag
     }
 }
 
-fn scalar(kind: ScalarKind, scalar: &NewScalar) -> NewBody
+fn scalar<'a>(kind: ScalarKind, scalar: &NewScalar) -> NewBody<'a>
     ensures { new_body_of result ≡ new_scalar kind (scalar_of scalar.now) }
 {
     let encoding = Encoding {
@@ -47,7 +47,7 @@ fn scalar(kind: ScalarKind, scalar: &NewScalar) -> NewBody
     NewBody::Scalar(kind, scalar.size, encoding)
 }
 
-fn array(array: &NewArray) -> NewBody
+fn array<'a>(array: &NewArray) -> NewBody<'a>
     ensures { new_body_of result ≡ new.array (array_of array.now) }
 {
     NewBody::Array(ArrayInfo {
@@ -57,25 +57,17 @@ fn array(array: &NewArray) -> NewBody
     })
 }
 
-fn function(alloc: Global, returned: TypeNum, args: &TypeNums) -> Result<NewBody, AllocError>
-    ensures { IfOk result (λ b. new_body_of b
-        ≡ new.function returned.0 (map (λ t. t.0) args.now)) }
+/// A new type of a kind, as a draft takes it. A function's arguments are lent.
+fn body(kind: &NewKind) -> NewBody<'_>
+    ensures { new_body_of result ≡ asked_body kind.now }
 {
-    let args = Vec::from_slice(alloc, args.as_slice())?;
-    Ok(NewBody::Function(returned, args))
-}
-
-/// A new type of a kind, as a draft takes it.
-fn body(alloc: Global, kind: &NewKind) -> Result<NewBody, AllocError>
-    ensures { IfOk result (λ b. new_body_of b ≡ asked_body kind.now) }
-{
-    let body = match kind {
+    match kind {
         NewKind::Unknown => NewBody::Unknown,
         NewKind::Integer(parts) => scalar(ScalarKind::Integer, parts),
         NewKind::Float(parts) => scalar(ScalarKind::Float, parts),
         NewKind::Pointer(t) => NewBody::Reference(ReferenceKind::Pointer, *t),
         NewKind::Array(parts) => array(parts),
-        NewKind::Function(returned, args) => function(alloc, *returned, args)?,
+        NewKind::Function(returned, args) => NewBody::Function(*returned, args.as_slice()),
         NewKind::Struct(size) => NewBody::Aggregate(AggregateKind::Struct, *size),
         NewKind::Union(size) => NewBody::Aggregate(AggregateKind::Union, *size),
         NewKind::Enum(size) => NewBody::Enum(*size),
@@ -84,8 +76,7 @@ fn body(alloc: Global, kind: &NewKind) -> Result<NewBody, AllocError>
         NewKind::Volatile(t) => NewBody::Reference(ReferenceKind::Volatile, *t),
         NewKind::Const(t) => NewBody::Reference(ReferenceKind::Const, *t),
         NewKind::Restrict(t) => NewBody::Reference(ReferenceKind::Restrict, *t),
-    };
-    Ok(body)
+    }
 }
 
 impl Slot {
@@ -105,8 +96,9 @@ impl Slot {
         ensures number { self.new.number ≡ self.old.number }
         ensures same { slot_bytes (slot_of self.new) ≡ slot_bytes (slot_of self.old) }
     {
-        let body = body(alloc, kind)?;
-        let t = self.dictionary.add(alloc, name.as_slice(), root, body)?;
+        let t = self
+            .dictionary
+            .add(alloc, name.as_slice(), root, body(kind))?;
         Ok(Counts::one("t", u64::from(t.0)))
     }
 

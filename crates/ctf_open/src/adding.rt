@@ -96,13 +96,14 @@ impl OpenDictionary {
         alloc: Global,
         name: &[u8],
         root: bool,
-        body: NewBody,
+        body: NewBody<'_>,
     ) -> Result<TypeNum, Fault>
         ensures ok { IfOk result (λ t.
-            type_added (record { name = name.now; root = root; body = new_body_of body }) self.old
+            type_added (record { name = name.now; root = root; body = new_body_of body.entry })
+            self.old
             ≡ Ok (record { served = self.new; answer = t.0 })) }
         ensures exact_err { IfErr result (λ f. (f ≡ out_of_memory)
-            ⊎ (type_added (record { name = name.now; root = root; body = new_body_of body })
+            ⊎ (type_added (record { name = name.now; root = root; body = new_body_of body.entry })
             self.old ≡ Err f)) }
         ensures as_before { OnErr result (self.new ≡ self.old) }
         ensures own { self.new.own ≡ self.old.own }
