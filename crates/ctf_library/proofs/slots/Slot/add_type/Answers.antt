@@ -18,7 +18,7 @@ returns-clause-step c =
 
 pub returns-in_err-t-clause-step : goal.returns-in_err-t-clause-step
 returns-in_err-t-clause-step c =
-    let p = err_from_is_err_and c.from_residual-in_err-t.result c.from_residual-in_err-t.ensures.1 in
+    let p = err_from_is_err_and c.from_residual.result c.from_residual.ensures.1 in
     let s = slot_of c.args.self.now in
     let asked = ap (λ (b : NewBody). type_added (record { name = c.args.name.now; root = c.args.root; body = b }) (open_of s)) (sym c.body.ensures) ∙ ap (λ (x : List ℕ). type_added (record { name = x; root = c.args.root; body = new_body_of c.body.result }) (open_of s)) (sym c.as_slice.ensures.bytes) in
     rw (p.1, p.2) (refused_step (under (codes "t")) s _ c.add.new.self c.in_err-t.field-0.0 _ (either (λ e. asked ∙ e) c.in_err-t.ensures.exact_err) c.in_err-t.ensures.as_before refl)
