@@ -8,8 +8,13 @@ use std::alloc::{AllocError, Global};
 /// A depth that says nothing: more than the longest chain of steps.
 pub(crate) const UNKNOWN: u16 = 513;
 
-/// How many types a rise goes up through at most.
-const MOST_RISES: u16 = 513;
+/// How many types a rise goes up through at most, one after the other. Where no type contains
+/// itself, that is no more than the greatest bound; around a circle it may be three times as many.
+const MOST_RISES: u16 = 1600;
+
+/// How many holders of types a rise looks at before it says of all further ones that nothing is
+/// known: a type may have to rise by each of the ways that lead to it.
+const MOST_LOOKS: usize = 65_536;
 
 /// For each type a number of steps by value that no chain from it exceeds, and for each pending
 /// type those that hold it by value. Of a type without a bound nothing is known.
@@ -20,10 +25,53 @@ pub(crate) struct Depths {
 }
 
 /// The bound of a type that holds one of a bound.
+#[inline(always)]
 fn over(bound: u16) -> u16
     ensures { result ≡ min 513 (bound + 1) }
 {
     if bound < UNKNOWN { bound + 1 } else { UNKNOWN }
+}
+
+/// The bound that a type gets which needs one at least so great: that one, as long as so many may
+/// be looked at.
+#[inline(always)]
+fn raised(least: u16, looks: usize) -> u16
+    ensures { least ≤ result }
+{
+    if looks == 0 {
+        least.max(UNKNOWN)
+    } else {
+        least
+    }
+}
+
+/// Whether no type holds one.
+#[inline(always)]
+fn is_on_top(above: &[Vec<u16>], i: usize) -> bool
+    ensures { result ≡ true → slice_index_or (above_of above.now) i [] ≡ [] }
+{
+    i >= above.len() || above[i].is_empty()
+}
+
+/// Makes the bound of a pending type at least so great, where this changes no other: its bound is
+/// that great, or no type holds it. Whether this is done.
+#[inline(always)]
+fn lift_alone(bounds: &mut [u16], above: &[Vec<u16>], first: usize, i: usize, least: u16) -> bool
+    ensures len { length bounds.new ≡ length bounds.old }
+    ensures lifted { IsLifted first (above_of above.now) bounds.old bounds.new }
+    ensures high { result ≡ true → least ≤ bound bounds.new i }
+{
+    if i < first || i >= bounds.len() {
+        return false;
+    }
+    if bounds[i] >= least {
+        return true;
+    }
+    if is_on_top(above, i) {
+        bounds[i] = least;
+        return true;
+    }
+    false
 }
 
 /// Makes the bound of a type at least so great, and those of all above it accordingly. Whether
@@ -35,6 +83,7 @@ fn lift(
     i: usize,
     least: u16,
     rises: u16,
+    looks: &mut usize,
 ) -> bool
     ensures len { length bounds.new ≡ length bounds.old }
     ensures lifted { result ≡ true → IsLifted first (above_of above.now) bounds.old bounds.new }
@@ -49,22 +98,20 @@ fn lift(
     if rises == 0 {
         return false;
     }
-    bounds[i] = least;
+    let value = raised(least, *looks);
+    bounds[i] = value;
     if i >= above.len() {
         return true;
     }
-    let next = over(least);
+    let next = over(value);
     let holders = above[i].as_slice();
+    *looks = looks.saturating_sub(holders.len());
     for k in 0..holders.len() {
-        if !lift(
-            bounds,
-            above,
-            first,
-            usize::from(holders[k]),
-            next,
-            rises - 1,
-        ) {
-            return false;
+        let holder = usize::from(holders[k]);
+        if !lift_alone(bounds, above, first, holder, next) {
+            if !lift(bounds, above, first, holder, next, rises - 1, looks) {
+                return false;
+            }
         }
     }
     true
@@ -169,7 +216,9 @@ impl Depths {
     {
         let least = over(self.bound(j));
         let bounds = self.bounds.as_mut_slice();
-        if !lift(bounds, self.above.as_slice(), first, i, least, MOST_RISES) {
+        let above = self.above.as_slice();
+        let mut looks = MOST_LOOKS;
+        if !lift(bounds, above, first, i, least, MOST_RISES, &mut looks) {
             self.bounds.clear();
         }
     }

@@ -21,6 +21,7 @@ pub(crate) const MOST_NUMBERS: u16 = 514;
 
 impl Draft {
     /// The place of an own type, from 0, if the number names one.
+    #[inline(always)]
     pub(crate) fn own_index(&self, n: TypeNum) -> Option<usize>
         ensures { let d = self.now.draft in
             result ≡ own_index_of (is_some d.parent) (count_of d) n.0 }
@@ -32,6 +33,7 @@ impl Draft {
     }
 
     /// What an own type is.
+    #[inline(always)]
     pub(crate) fn own_body(&self, i: usize) -> &Body
         requires { i < count_of self.now.draft }
         ensures { option_map (λ x. x.body) (slice_get (held self.now.draft).terms i)

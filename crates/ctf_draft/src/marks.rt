@@ -86,6 +86,7 @@ impl Marks {
     }
 
     /// What is known of a type.
+    #[inline(always)]
     pub(crate) fn get(&self, i: usize) -> Option<Reach>
         requires { i < length self.now }
         ensures { slice_index_or self.now i None ≡ result }
@@ -99,6 +100,7 @@ impl Marks {
     }
 
     /// Keeps what was found.
+    #[inline(always)]
     pub(crate) fn set(&mut self, i: usize, reach: Reach)
         requires { i < length self.old }
         ensures { self.new ≡ slice_set self.old i (Some reach) }

@@ -12,6 +12,7 @@ use crate::sizing::{Sizing, greater};
 use ctf_model::{Fault, TypeNum, placeless};
 
 /// What is known, if the budget is enough for it.
+#[inline(always)]
 fn within(known: Reach, budget: u16) -> Option<Reach>
     ensures { MatchOption result (budget < known.depth)
         (λ same. (same ≡ known) × (known.depth ≤ budget)) }
@@ -23,6 +24,7 @@ fn within(known: Reach, budget: u16) -> Option<Reach>
     }
 }
 
+#[inline(always)]
 fn longer(a: u16, b: u16) -> u16
     ensures { result ≡ max a b }
 {
@@ -30,6 +32,7 @@ fn longer(a: u16, b: u16) -> u16
 }
 
 /// The greater alignment, where another one counts.
+#[inline(always)]
 fn beside(align: Result<u64, Fault>, other: Result<u64, Fault>, counts: bool) -> Result<u64, Fault>
     ensures { result ≡ (if counts then greater_of align other else align) }
 {
@@ -101,9 +104,13 @@ impl Draft {
                     if budget == 0 {
                         return None;
                     }
-                    let Some(found) = self.reach(marks, j, budget - 1) else {
-                        return None;
+                    let found = match marks.get(j) {
+                        Some(known) => known,
+                        None => self.reach(marks, j, budget - 1)?,
                     };
+                    if found.depth >= budget {
+                        return None;
+                    }
                     Reach {
                         depth: found.depth + 1,
                         align: found.align,

@@ -40,6 +40,7 @@ pub(crate) fn repeated(count: u32, size: Result<u64, Fault>) -> Result<u64, Faul
 }
 
 /// The greater of two, or the first fault.
+#[inline(always)]
 pub(crate) fn greater(a: Result<u64, Fault>, b: Result<u64, Fault>) -> Result<u64, Fault>
     ensures { result ≡ greater_of a b }
 {
@@ -120,6 +121,7 @@ impl Body {
     }
 
     /// How many types it leads to by value, counted as often as it names them.
+    #[inline(always)]
     pub(crate) fn value_count(&self) -> usize
         ensures { result ≡ length (by_value (body_of self.now)) }
     {
@@ -132,6 +134,7 @@ impl Body {
     }
 
     /// One of the types that it leads to by value.
+    #[inline(always)]
     pub(crate) fn value_type(&self, k: usize) -> TypeNum
         requires { k < length (by_value (body_of self.now)) }
         ensures { result.0 ≡ slice_index (by_value (body_of self.now)) k }

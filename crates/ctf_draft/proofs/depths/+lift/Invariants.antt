@@ -11,5 +11,5 @@ abbrev pub invariant-loop-k : goal.invariant-loop-k
 invariant-loop-k l = record {
   len : length l.bounds ≡ length l.initial.bounds;
   lifted : IsLifted l.first (above_of l.above) l.initial.bounds l.bounds;
-  done : AllByRecursion (λ p. min 513 (l.least + 1) ≤ bound l.bounds p) (take l.k l.holders);
+  done : AllByRecursion (λ p. min 513 (l.value + 1) ≤ bound l.bounds p) (take l.k l.holders);
 }
