@@ -90,6 +90,7 @@ module _ (d e : Draft) (known : List (Option Reach)) (knows : Knows d known) (pa
           record {
             inside = let lt = was.inside in omega arith;
             depth = same_depth (held d) (held e) (IsKnown known) stay j r.depth k was.depth;
+            short = was.short;
             aligned = was.aligned ∙ sym (same_align j k);
           };
       closed = λ j r is.

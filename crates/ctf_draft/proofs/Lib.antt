@@ -15,3 +15,4 @@ pub mod Rounds
 pub mod Lifting
 pub mod Bounded
 pub mod Holding
+pub mod OneMore

@@ -176,6 +176,7 @@ reach_is d i k depth a r lt short whole longest aligned same_depth same_align =
     record {
       inside = lt;
       depth = subst (IsDepth (value_edges (held d)) i) (sym same_depth) deep;
+      short = omega (arith, short, same_depth);
       aligned = same_align ∙ aligned ∙ ap (λ (m : ℕ). greater (own_align d.model body) (greatest_of (align (space_of d)) (take m (by_value body)))) every ∙ sym (align_is d.model (align (space_of d)) body) ∙ sym rule;
     }
 

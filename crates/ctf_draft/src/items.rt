@@ -127,8 +127,9 @@ impl Draft {
         ensures dictionary { self.new.dictionary ≡ self.old.dictionary }
     {
         let held = self.own_index(member.tnum);
+        let stays = self.stays_known(&self.marks, i, member.tnum);
         self.depths.make_ready(self.alloc, self.updated, i, held)?;
-        self.marks.leave(i);
+        self.marks.leave_unless(stays, i);
         push_member(self.alloc, &mut self.types[i], member, size)
     }
 

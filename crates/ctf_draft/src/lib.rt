@@ -19,6 +19,7 @@ mod pushing;
 mod reach;
 mod reaching;
 mod sizing;
+mod staying;
 mod taken;
 mod types;
 mod widths;

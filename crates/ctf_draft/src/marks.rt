@@ -1,5 +1,5 @@
 //! What is known of each type from the members that were placed.
-ghost use Rattle.std.specs.Prelude.{◌≡◌, ◌<◌, ◌≤◌, ◌⊎◌, ℕ, None, Some, [], is_some, length, slice_index_or, slice_set, OnOk};
+ghost use Rattle.std.specs.Prelude.{◌≡◌, ◌<◌, ◌≤◌, ◌⊎◌, ℕ, true, false, None, Some, [], is_some, length, slice_index_or, slice_set, OnOk};
 
 use crate::mark::Mark;
 use crate::reach::Reach;
@@ -78,11 +78,34 @@ impl Marks {
         }
     }
 
+    /// The same, unless what is known stays right.
+    pub(crate) fn leave_unless(&mut self, stays: bool, i: usize)
+        ensures same { stays ≡ true → self.new ≡ self.old }
+        ensures left { (self.new ≡ self.old)
+            ⊎ ((j : ℕ) → slice_index_or self.new j None ≡ None) }
+        ensures unknown { stays ≡ false → slice_index_or self.new i None ≡ None }
+    {
+        if !stays {
+            self.leave(i);
+        }
+    }
+
     /// Whether something is known of a type.
     fn has(&self, i: usize) -> bool
         ensures { result ≡ is_some (slice_index_or self.now i None) }
     {
-        i < self.marks.len() && self.get(i).is_some()
+        self.known(i).is_some()
+    }
+
+    /// What is known of a type, of which there may be no mark.
+    pub(crate) fn known(&self, i: usize) -> Option<Reach>
+        ensures { slice_index_or self.now i None ≡ result }
+    {
+        if i < self.marks.len() {
+            self.get(i)
+        } else {
+            None
+        }
     }
 
     /// What is known of a type.

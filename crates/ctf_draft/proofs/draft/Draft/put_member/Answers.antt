@@ -1,5 +1,5 @@
-use Rattle.std.proofs.Common.{◌≤◌, is_some, List, [], length, map, unwrap_or, option_map, set, sym, ap, subst, ◌∙◌, arith}
-use Rattle.std.proofs.lemmas.List.{length-map, length-take, map-set}
+use Rattle.std.proofs.Common.{◌≡◌, ◌≤◌, Option, get_or, is_some, List, [], length, map, unwrap_or, option_map, set, sym, ap, subst, ◌∙◌, arith}
+use Rattle.std.proofs.lemmas.List.{get_or-map, length-map, length-take, map-set}
 use Rattle.ctf_model.specs.format.Shown.{members_in, shown}
 use Rattle.ctf_model.specs.format.Term.{Body, Term}
 use Rattle.std.proofs.lemmas.Result.{on_ok_weaker, on_err_weaker}
@@ -11,8 +11,11 @@ use Rattle.ctf_model.specs.rules.Chains.{own_index}
 use Rattle.ctf_draft.specs.DraftView.{Owned}
 use Rattle.ctf_draft.specs.TypeView.{member_of, type_of}
 use Rattle.ctf_draft.proofs.Pending.{body_here, left_here, put_here}
-use Rattle.ctf_draft.specs.Reaching.{Knows}
+use Rattle.ctf_model.specs.figures.FigureLaws.{nothing}
+use Rattle.ctf_draft.specs.declared.reach.Reach.{Reach}
+use Rattle.ctf_draft.specs.Reaching.{Knows, Stays}
 use Rattle.ctf_draft.proofs.Known.{left_known, other_known}
+use Rattle.ctf_draft.proofs.OneMore.{by_either, pushed_known}
 use Rattle.ctf_draft.proofs.Sounding.{either_sound}
 use Rattle.ctf_draft.proofs.Holding.{place_inside, pushed_bounded}
 use Rattle.ctf_draft.proofs.Views.{seen}
@@ -54,8 +57,17 @@ invariant_of-self-2 c =
     let sound = c.requires.sound (subst IsSound view c.self.invariant.4) in
     let new = c.push_member.new.to in
     let all = map-set type_of d.types.items c.args.i new in
-    let left_marks = left_known before d.marks c.leave.new.self c.leave.ensures.left c.self.invariant.5 in
-    let knows = subst (λ (ts : List Term). Knows (seen d.parname d.parlabel parent d.model d.updated d.updated_labels ts d.labels) c.leave.new.self) (sym all) (other_known d.parname d.parlabel parent d.model c.leave.new.self d.updated d.updated_labels (map type_of d.types.items) d.labels c.args.i (type_of new) c.leave.ensures.unknown left_marks) in
+    let left_marks = left_known before d.marks c.leave_unless.new.self c.leave_unless.ensures.left c.self.invariant.5 in
+    let marks = c.leave_unless.new.self in
+    let terms = map type_of d.types.items in
+    let low = place_inside d.parname d.parlabel parent d.model d.updated d.updated_labels d.types.items d.labels n c.args.i e view c.requires.pending in
+    let was : get_or terms c.args.i nothing ≡ type_of c.index_mut.result.now = get_or-map type_of d.types.items c.args.i c.index_mut.result.now nothing low ∙ ap type_of (sym c.index_mut.ensures.value) in
+    let knows = subst (λ (ts : List Term). Knows (seen d.parname d.parlabel parent d.model d.updated d.updated_labels ts d.labels) marks) (sym all)
+    (by_either c.stays_known-stays.result
+    (λ yes.
+    pushed_known d.parname d.parlabel parent d.model marks d.updated d.updated_labels terms d.labels c.push_member.result c.args.i (type_of c.index_mut.result.now) (type_of new) (member_of c.args.member) c.args.size (omega (arith, low, length-map d.types.items type_of)) was c.push_member.ensures.ok c.push_member.ensures.as_before
+    (subst (λ (x : Draft). Stays x marks c.args.i c.args.member.tnum.0) (sym view) (subst (λ (ks : List (Option Reach)). Stays e ks c.args.i c.args.member.tnum.0) (sym (c.leave_unless.ensures.same yes)) (c.stays_known-stays.ensures yes))) left_marks)
+    (λ no. other_known d.parname d.parlabel parent d.model marks d.updated d.updated_labels terms d.labels c.args.i (type_of new) (c.leave_unless.ensures.unknown no) left_marks)) in
     let bounded = c.make_ready.ensures.still before (omega (arith, length-take d.updated (map type_of d.types.items), length-map d.types.items type_of, few)) c.self.invariant.6 in
     let own = c.own_index-held.ensures ∙ ap (λ (x : Draft). own_index (is_some x.parent) (count_of x) c.args.member.tnum.0) (sym view) in (
       c.self.invariant.0,
