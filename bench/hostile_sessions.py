@@ -163,6 +163,64 @@ def struct_over_unions(depth, width):
     yield member(3 + depth, 2 + depth)
 
 
+def grown_again(depth, width):
+    """The same once more, behind a member at the bottom that changes no alignment."""
+    yield from struct_over_unions(depth, width)
+    yield member(2, 1)
+    yield member(3 + depth, 2 + depth)
+
+
+def aligned_again(depth, width):
+    """The same behind a member at the bottom that changes the alignment of all unions."""
+    yield from struct_over_unions(depth, width)
+    yield added('"what":"integer","name":"long","size":8,"encoding":1,"offset":0,"bits":64')
+    yield member(2, 4 + depth)
+    yield member(3 + depth, 2 + depth)
+
+
+def deeper(count):
+    """A struct that gets deeper under so many types."""
+    yield line("create")
+    yield added('"what":"struct","name":"inner"')
+    yield added('"what":"struct","name":"outer"')
+    for _ in range(count):
+        yield added('"what":"typedef","name":"","type":2')
+    yield member(2, 1)
+
+
+def deeper_by_each_way(ways, count):
+    """A struct that gets deeper by as many steps as there are ways from it to another one, each
+    longer by a step than the one before; and so many types above that."""
+    yield line("create")
+    yield added('"what":"struct","name":"s"')
+    for i in range(ways):
+        yield added('"what":"typedef","name":"t","type":%d' % (1 + i))
+    bottom, top = 2 + ways, 3 + ways
+    yield added('"what":"struct","name":"bottom"')
+    yield added('"what":"struct","name":"top"')
+    yield member(top, bottom)
+    for i in range(ways):
+        yield added('"what":"struct","name":"w%d"' % i)
+        yield member(top, 1 + top + i)
+    yield member(1 + top, bottom)
+    for i in range(1, ways):
+        yield member(1 + top + i, top + i)
+    for _ in range(count):
+        yield added('"what":"typedef","name":"","type":%d' % top)
+    yield member(bottom, 1 + ways)
+
+
+def circle(count):
+    """Two structs that contain each other from now on, and so many types above one of them."""
+    yield line("create")
+    yield added('"what":"struct","name":"a"')
+    yield added('"what":"struct","name":"b"')
+    for _ in range(count):
+        yield added('"what":"typedef","name":"","type":1')
+    yield member(2, 1)
+    yield member(1, 2)
+
+
 def updated_again(megabytes):
     """An update of a draft to which nothing was added since the last one. Its members have names
     of a MB."""
@@ -221,7 +279,12 @@ SESSIONS = [
     Session("add: a member on top of 500,000 in unions",
             lambda: chained_draft(500, 1000, "union")),
     Session("add: a member of a struct over 500,000 in unions",
-            lambda: struct_over_unions(500, 1000), known=9),
+            lambda: struct_over_unions(500, 1000)),
+    Session("add: the same, one of which grew", lambda: grown_again(500, 1000)),
+    Session("add: the same, all of which are aligned otherwise", lambda: aligned_again(500, 1000)),
+    Session("add: a member that makes 32,000 types deeper", lambda: deeper(32_000)),
+    Session("add: the same, by 255 ways", lambda: deeper_by_each_way(255, 31_000)),
+    Session("add: a member that closes a circle under 32,000 types", lambda: circle(32_000)),
     Session("update: nothing pending, 60 MB", lambda: updated_again(60)),
     Session("check: 155 MB again", checked_again),
     Session("import: the same parent, 65 MB", lambda: imported_again(7940)),
