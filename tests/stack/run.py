@@ -158,6 +158,18 @@ def deep_drafts() -> Iterable[Case]:
             yield Case(f"{name}, shown", lines + shown(layers))
 
 
+def circled_drafts() -> Iterable[Case]:
+    """Structs in each other, as many as there may be, where one of them then comes into the first.
+    All that are in this circle get deeper until nothing is known of their depth, and then all above
+    it do."""
+    for last in (2, 3, LAYERS // 2, LAYERS):
+        lines = [ask(1, "create")]
+        lines += [ask(1, "add", d=1, what="struct") for _ in range(LAYERS + 1)]
+        lines += [ask(1, "add", d=1, what="member", t=2 + i, type=1 + i) for i in range(LAYERS)]
+        lines += [ask(1, "add", d=1, what="member", t=1, type=last), ask(1, "update", d=1)]
+        yield Case(f"a draft of {LAYERS} structs in each other, {last} in a circle", lines)
+
+
 def deep_children() -> Iterable[Case]:
     """A type over the deepest one of a parent, as deep again."""
     for name, over in {**VALUES, **DECLARATIONS}.items():
@@ -191,7 +203,8 @@ def bracketed() -> Case:
 
 
 def cases() -> list[Case]:
-    return [*deep_types(), *deep_drafts(), *deep_children(), found_by_name(), bracketed()]
+    return [*deep_types(), *deep_drafts(), *circled_drafts(), *deep_children(), found_by_name(),
+            bracketed()]
 
 
 # ---- who answers
