@@ -1,5 +1,6 @@
 -- Whether a byte stands in a text.
-use Rattle.std.proofs.Common.{◌≡◌, ℕ, suc, zero, ◌<◌, ◌≤◌, Bool, true, false, ◌||◌, ◌==◌, List, [], ◌∷◌, length, get_or, refl, sym, ap, ◌∙◌, arith}
+use Rattle.std.proofs.Common.{◌≡◌, ℕ, suc, zero, ◌+◌, ◌<◌, ◌≤◌, Bool, true, false, ◌||◌, ◌==◌, List, [], ◌∷◌, length, get_or, drop, refl, sym, ap, ◌∙◌, arith}
+use Rattle.std.proofs.lemmas.List.{drop_all, drop_more}
 use Rattle.std.specs.Prelude.{slice_index}
 use Rattle.std.proofs.lemmas.Bool.{false≢true, true≢false, or_parts}
 use Rattle.std.proofs.lemmas.Bool.Decides.{nat_tests}
@@ -33,3 +34,20 @@ pub no_escape_at : (xs : List ℕ) (i : ℕ) → has_byte 92 xs ≡ false → ge
 no_escape_at [] i e is = let no : ⊥ = omega (arith, is) in no
 no_escape_at (x ∷ xs) zero e is = true≢false (sym (ap (λ y. y == 92) is) ∙ (or_parts (x == 92) (has_byte 92 xs) e).0)
 no_escape_at (x ∷ xs) (suc i) e is = no_escape_at xs i (or_parts (x == 92) (has_byte 92 xs) e).1 is
+
+or_moved : (f e r : Bool) → (f || (e || r)) ≡ ((e || f) || r)
+or_moved true true r = refl
+or_moved true false r = refl
+or_moved false true r = refl
+or_moved false false r = refl
+
+-- one byte more was looked at
+pub looked_on : (b : ℕ) (xs : List ℕ) (i : ℕ) (f : Bool) → i < length xs → has_byte b xs ≡ (f || has_byte b (drop i xs)) → has_byte b xs ≡ (((get_or xs i 0 == b) || f) || has_byte b (drop (i + 1) xs))
+looked_on b xs i f h e = e ∙ ap (λ l. f || has_byte b l) (drop_more xs i 0 h) ∙ or_moved f (get_or xs i 0 == b) (has_byte b (drop (i + 1) xs))
+
+or_none : (f : Bool) → (f || false) ≡ f
+or_none true = refl
+or_none false = refl
+
+pub looked_through : (b : ℕ) (xs : List ℕ) (i : ℕ) (f : Bool) → length xs ≤ i → has_byte b xs ≡ (f || has_byte b (drop i xs)) → f ≡ has_byte b xs
+looked_through b xs i f h e = sym (e ∙ ap (λ l. f || has_byte b l) (drop_all i xs h) ∙ or_none f)

@@ -1,7 +1,7 @@
 -- Lexemes of a text, from a place on.
 use Rattle.std.proofs.Common.{◌≡◌, ℕ, suc, ◌+◌, ◌-◌, ◌<◌, ◌≤◌, Bool, true, false, not, ◌||◌, cond, ◌==◌, nat_lt, List, [], ◌∷◌, ◌++◌, length, take, drop, get_or, Option, Some, None, add-zero, lt_of_not-le, refl, sym, ap, ◌∙◌, subst, arith}
 use Rattle.std.proofs.lemmas.List.{drop_more, append_assoc, append-nil, drop-drop, drop_all, get_or-drop, get_or_default, get_or_past, length-drop}
-use Rattle.std.proofs.lemmas.Bool.{false≢true, true≢false, or_parts, or_cases, not-true, eqb-true, ne_eqb, lt-ltb}
+use Rattle.std.proofs.lemmas.Bool.{false≢true, true≢false, or_parts, not-true, eqb-true, ne_eqb}
 use Rattle.std.specs.List.{prefix_len}
 use Rattle.json.specs.Token.{bad}
 use Rattle.json.specs.Text.{after_backslash, content, plain, prepend}
@@ -86,7 +86,7 @@ word_byte true b x xs k = refl
 word_byte false true x xs k = refl
 word_byte false false x xs k = refl
 
-word_goes : (x : ℕ) (xs : List ℕ) → (is_operator x || is_space x) ≡ false → lex in_word (x ∷ xs) ≡ lex in_word xs
+pub word_goes : (x : ℕ) (xs : List ℕ) → (is_operator x || is_space x) ≡ false → lex in_word (x ∷ xs) ≡ lex in_word xs
 unfolding lex
 word_goes x xs h =
     let parts = or_parts (is_operator x) (is_space x) h in
@@ -104,7 +104,7 @@ either : (a b : Bool) (P : Type 0) → (a ≡ true → P) → (b ≡ true → P)
 either true b P f g e = f refl
 either false b P f g e = g e
 
-word_stops : (xs : List ℕ) (x : ℕ) → (is_operator x || is_space x) ≡ true → lex between (x ∷ xs) ≡ lex in_word (x ∷ xs)
+pub word_stops : (xs : List ℕ) (x : ℕ) → (is_operator x || is_space x) ≡ true → lex between (x ∷ xs) ≡ lex in_word (x ∷ xs)
 unfolding lex
 word_stops xs x h =
     let P : ℕ → Type 0 = λ c. lex between (c ∷ xs) ≡ lex in_word (c ∷ xs) in

@@ -13,3 +13,5 @@ pub mod Escapes
 pub mod Lexing
 pub mod Punctuation
 pub mod WordFronts
+pub mod Numerals
+pub mod Alone

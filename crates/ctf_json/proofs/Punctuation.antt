@@ -7,7 +7,7 @@ use Rattle.json.specs.Text.{content, plain}
 use Rattle.json.specs.Word.{is_operator, is_space, head, ends_word, after_number, number_before, word}
 use Rattle.json.specs.Lex.{Lexeme, token, comma, colon, Class, quote, backslash, operator, space, other, class, operator_lexeme, string_token, between, lex}
 use Rattle.json.specs.Lex.{Place, fresh, after_value, after_comma, after_key, begins_colon, may_begin, may_close, if_allowed, place_token, punctuate}
-use Rattle.json.specs.Align.{is_good, begins_well, is_blank}
+use Rattle.json.specs.Align.{is_good, is_blank}
 use Rattle.json.specs.Json.{after_end_array}
 use Rattle.ctf_json.specs.PlainReader.{tokens_at, closes_at, begins_at, refused_at, NotBeforeComma}
 use Rattle.ctf_json.specs.declared.plain_reader.Place as reader

@@ -1,5 +1,6 @@
 -- What is kept of what was read.
 use Rattle.std.specs.Prelude.{◌≡◌, ℕ, List, true, cond, Option, Some, option_map}
+use Rattle.std.specs.Str.{bytes_eq}
 use Rattle.json.specs.Token.{Token}
 use Rattle.json.specs.Json as json
 use Rattle.serde_json.specs.Data.{Data, null, boolean, number, string, array, object, Items}
@@ -38,6 +39,12 @@ IsListed w read d rest =
 abbrev pub IsKept : Wanted → Option (json.Json × List Token) → Data → List Token → Type 0
 IsKept w read d rest =
     (j : json.Json) × (read ≡ Some (j, rest)) × (in_range j ≡ true) × (kept w (told j) ≡ d)
+
+-- a value at a key, of which this is kept there, and all else as it was
+abbrev pub IsKeptAt : List ℕ → Option (json.Json × List Token) → Data → Data → List Token → Type 0
+IsKeptAt key read old new rest =
+    (d : Data) × IsKept (wanted_at key) read d rest
+    × ((q : List ℕ) → get q new ≡ cond (bytes_eq key q) (Some d) (get q old))
 
 -- a whole, of which a part is kept if this is so
 abbrev pub AreKept : Type 0 → Option (json.Json × List Token) → Data → List Token → Type 0

@@ -1,8 +1,10 @@
 -- A text without escapes, and runs of bytes in it. Only private clauses cite it.
-use Rattle.std.specs.Prelude.{◌≡◌, ℕ, List, [], false, true}
+use Rattle.std.specs.Prelude.{◌≡◌, ℕ, List, [], false, true, is_some}
 use Rattle.json.specs.Align.{is_blank}
-use Rattle.json.specs.Lex.{class}
-use Rattle.json.specs.Word.{head}
+use Rattle.json.specs.Lex.{class, other}
+use Rattle.json.specs.Token.{number}
+use Rattle.json.specs.Word.{head, word}
+use Rattle.serde_json.specs.Read.{number_of}
 use Rattle.ctf_json.specs.Memory.{has_byte}
 
 abbrev pub HasNoEscape : List ℕ → Type 0
@@ -11,3 +13,7 @@ HasNoEscape text = has_byte 92 text ≡ false
 -- a text begins with a lexeme, or is at its end
 abbrev pub BeginsOrEnds : List ℕ → Type 0
 BeginsOrEnds text = is_blank (class (head text)) ≡ true → text ≡ []
+
+-- a text begins with this number, which has a value
+abbrev pub IsNumber : List ℕ → List ℕ → Type 0
+IsNumber text s = (class (head text) ≡ other) × (word text ≡ number s) × (is_some (number_of s) ≡ true)

@@ -1,9 +1,13 @@
 -- The model of a reader of texts without escapes. Only private clauses cite it.
 use Rattle.std.specs.Prelude.{◌≡◌, ◌≢◌, ℕ, List, [], ◌∷◌, Bool, true, false, ⊤}
-use Rattle.json.specs.Token.{Token, bad}
+use Rattle.json.specs.Token.{Token, bad, boolean, null, number, string}
 use Rattle.json.specs.Word.{head}
 use Rattle.json.specs.Lex.{between, lex, fresh, after_value, after_comma, may_begin, may_close, punctuate}
 use Rattle.json.specs.Lex as spec
+use Rattle.ctf_json.specs.Passed.{begun}
+use Rattle.ctf_json.specs.Told.{in_range}
+use Rattle.ctf_json.specs.declared.values.Field.{Field}
+use Rattle.ctf_json.specs.declared.values.Field.TheVariants as field
 use Rattle.ctf_json.specs.declared.plain_reader.Place.{Place}
 use Rattle.ctf_json.specs.declared.plain_reader.Place.TheVariants.{Fresh, AfterValue, AfterComma, Failed}
 
@@ -47,3 +51,24 @@ refused_at Fresh = bad ∷ []
 refused_at AfterValue = bad ∷ []
 refused_at AfterComma = bad ∷ []
 refused_at Failed = []
+
+-- the token that a field is
+abbrev pub token_said : Field → Token
+token_said field.Null = null
+token_said (field.Bool b) = boolean b
+token_said (field.Number s) = number s.now
+token_said (field.String s) = string s.now
+
+abbrev pub HasValue : Field → Type 0
+HasValue f = in_range (begun (token_said f)) ≡ true
+
+-- tokens begin with a field, whose number has a value
+abbrev pub IsField : List Token → Field → List Token → Type 0
+IsField old f new = (old ≡ token_said f ∷ new) × HasValue f
+
+-- so does a text, wherever a value may begin
+abbrev pub BeginsField : List ℕ → Field → List ℕ → Type 0
+BeginsField old f new =
+    ((p : spec.Place) → may_begin p ≡ true
+    → punctuate p (lex between old) ≡ token_said f ∷ punctuate after_value (lex between new))
+    × HasValue f

@@ -39,7 +39,13 @@ pub(crate) fn place_of(name: &str) -> Option<usize>
     ensures place { result ≡ place_in name.now (map (λ key. key.now) KEYS.now) }
     ensures inside { IfSome result (λ place. place < 30) }
 {
-    place_among(name, KEYS)
+    match name.as_bytes() {
+        b"s" => Some(0),
+        b"d" => Some(2),
+        b"t" => Some(3),
+        b"op" => Some(1),
+        _ => place_among(name, KEYS),
+    }
 }
 
 /// The place of a name among these.

@@ -1,13 +1,13 @@
 //! Lexemes of a text without escapes, read where they stand.
-ghost use Rattle.std.specs.Prelude.{◌≡◌, [], None, Some, IfSome, MatchOption, drop, true};
+ghost use Rattle.std.specs.Prelude.{◌≡◌, ◌⊎◌, [], None, Some, IfSome, MatchOption, drop, false, true};
 ghost use Rattle.json.specs.Align.{is_blank};
 ghost use Rattle.json.specs.Lex.{between, class, lex, operator, other};
 ghost use Rattle.json.specs.Reads.{token_of};
 ghost use Rattle.json.specs.Text.{content, plain};
 ghost use Rattle.json.specs.Word.{head, word};
-ghost use Rattle.ctf_json.specs.Plain.{HasNoEscape};
+ghost use Rattle.ctf_json.specs.Plain.{HasNoEscape, IsNumber};
 
-use crate::runs::{blanks_end, byte_at, plain_end, word_end};
+use crate::runs::{blanks_end, byte_at, digits_end, is_first_digit, plain_end, word_end};
 use crate::words::word;
 use json::Token;
 use std::marker::Model;
@@ -86,5 +86,54 @@ impl<'a> Lexer<'a> {
         }
         self.at = blanks_end(text.as_bytes(), stop + 1);
         Some(&text[start..stop])
+    }
+
+    /// Passes a string if one of two bytes stands right behind it.
+    #[inline(always)]
+    pub(crate) fn string_before(&mut self, one: u8, other: u8) -> Option<&'a str>
+        requires opening { head self.old ≡ 34 }
+        requires solid { (is_blank (class one) ≡ false) × (is_blank (class other) ≡ false) }
+        ensures value { MatchOption result (self.new ≡ self.old)
+            (λ s. content plain (drop 1 self.old) ≡ Some s.now) }
+        ensures after { IfSome result (λ _. lex between self.new ≡ drop 1 (lex between self.old)) }
+        ensures next { IfSome result (λ _. (head self.new ≡ one) ⊎ (head self.new ≡ other)) }
+    {
+        let text = self.text;
+        let start = self.at + 1;
+        let stop = plain_end(text.as_bytes(), start);
+        if byte_at(text.as_bytes(), stop) != b'"' {
+            return None;
+        }
+        let next = byte_at(text.as_bytes(), stop + 1);
+        if (next != one) & (next != other) {
+            return None;
+        }
+        self.at = stop + 1;
+        Some(&text[start..stop])
+    }
+
+    /// Passes a number of few digits, of which the first is no zero, if a comma or a brace stands
+    /// right behind it.
+    #[inline(always)]
+    pub(crate) fn digits(&mut self) -> Option<&'a str>
+        ensures value { MatchOption result (self.new ≡ self.old) (λ s. IsNumber self.old s.now) }
+        ensures after { IfSome result (λ _. lex between self.new ≡ drop 1 (lex between self.old)) }
+    {
+        let text = self.text;
+        let bytes = text.as_bytes();
+        let start = self.at;
+        if !is_first_digit(byte_at(bytes, start)) {
+            return None;
+        }
+        let end = digits_end(bytes, start);
+        if end - start > 19 {
+            return None;
+        }
+        let next = byte_at(bytes, end);
+        if (next != b',') & (next != b'}') {
+            return None;
+        }
+        self.at = end;
+        Some(&text[start..end])
     }
 }

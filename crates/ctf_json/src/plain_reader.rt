@@ -5,12 +5,14 @@ ghost use Rattle.json.specs.Align.{is_blank, is_good as good};
 ghost use Rattle.json.specs.Json.{after_end_array, read_key};
 ghost use Rattle.json.specs.Lex.{after_value, between, class, lex, punctuate, tokens};
 ghost use Rattle.json.specs.Reads.{Yields, token_of};
+ghost use Rattle.json.specs.Token as spec;
 ghost use Rattle.json.specs.Word.{head};
 ghost use Rattle.ctf_json.specs.Plain.{HasNoEscape};
-ghost use Rattle.ctf_json.specs.PlainReader.{Begins, Closes, NotBeforeComma, begins_at, closes_at, refused_at, tokens_at};
+ghost use Rattle.ctf_json.specs.PlainReader.{Begins, BeginsField, Closes, IsField, NotBeforeComma, begins_at, closes_at, refused_at, tokens_at};
 
 use crate::plain_lexer::Lexer;
 use crate::runs::is_white;
+use crate::values::Field;
 use json::{Invalid, Token};
 use std::marker::Model;
 
@@ -184,6 +186,19 @@ fn read<'a>(lexer: &mut Lexer<'a>, place: Place) -> (Option<Token<'a>>, Place)
     (Some(token), next)
 }
 
+/// The text or the number of few digits that is next, if a comma or a brace stands right behind it.
+#[inline(always)]
+fn field<'a>(lexer: &mut Lexer<'a>) -> Option<Field<'a>>
+    ensures { MatchOption result (lexer.new ≡ lexer.old)
+        (λ f. BeginsField lexer.old f lexer.new) }
+{
+    if lexer.peek() == b'"' {
+        Some(Field::String(lexer.string_before(b',', b'}')?))
+    } else {
+        Some(Field::Number(lexer.digits()?))
+    }
+}
+
 impl<'a> PlainReader<'a> {
     #[inline(always)]
     pub(crate) fn new(text: &'a str) -> PlainReader<'a>
@@ -218,5 +233,55 @@ impl<'a> PlainReader<'a> {
         self.lexer.skip();
         self.place = after_value(&mut self.lexer);
         true
+    }
+
+    /// Takes a key, if one is next and its colon stands right behind it.
+    #[inline(always)]
+    fn take_key(&mut self) -> Option<&'a str>
+        ensures { MatchOption result (self.new ≡ self.old)
+            (λ k. self.old ≡ spec.key k.now ∷ self.new) }
+    {
+        if !self.place.may_begin() {
+            return None;
+        }
+        if self.lexer.peek() != b'"' {
+            return None;
+        }
+        let key = self.lexer.string_before(b':', b':')?;
+        self.lexer.skip();
+        self.place = Place::Fresh;
+        Some(key)
+    }
+
+    /// A key, or None at the brace that closes an object.
+    #[inline(always)]
+    pub(crate) fn next_key(&mut self) -> Result<Option<&'a str>, Invalid>
+        ensures value { MatchResult result
+            (λ k. read_key self.old ≡ Some (option_map (λ s. s.now) k, self.new))
+            (λ _. read_key self.old ≡ None) }
+    {
+        if let Some(key) = self.take_key() {
+            return Ok(Some(key));
+        }
+        let token = self.next().ok_or(Invalid)?;
+        match token {
+            Token::Key(key) => Ok(Some(key)),
+            Token::EndObject => Ok(None),
+            _ => Err(Invalid),
+        }
+    }
+
+    /// Takes a text or a number of few digits, if one is next and a comma or a brace stands right
+    /// behind it.
+    #[inline(always)]
+    pub(crate) fn take_field(&mut self) -> Option<Field<'a>>
+        ensures { MatchOption result (self.new ≡ self.old) (λ f. IsField self.old f self.new) }
+    {
+        if !self.place.may_begin() {
+            return None;
+        }
+        let field = field(&mut self.lexer)?;
+        self.place = after_value(&mut self.lexer);
+        Some(field)
     }
 }

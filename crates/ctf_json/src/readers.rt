@@ -5,8 +5,10 @@ ghost use Rattle.json.specs.Json.{after_end_array, read_key};
 ghost use Rattle.json.specs.Lex.{tokens};
 ghost use Rattle.json.specs.Reads.{token_of};
 ghost use Rattle.ctf_json.specs.Memory.{has_byte};
+ghost use Rattle.ctf_json.specs.PlainReader.{IsField};
 
 use crate::plain_reader::PlainReader;
+use crate::values::Field;
 use json::{Invalid, Scratch, Token};
 use memchr::memchr;
 use std::alloc::AllocError;
@@ -15,9 +17,23 @@ use std::marker::Model;
 /// How long a text is that is sooner read byte by byte than by way of an index.
 const SHORT: usize = 512;
 
+/// Whether a byte stands in a short text, which is looked through to its end.
+fn has_in_short(byte: u8, text: &[u8]) -> bool
+    ensures { result ≡ has_byte byte text.now }
+{
+    let mut found = false;
+    for other in text {
+        found = (*other == byte) | found;
+    }
+    found
+}
+
 fn has(byte: u8, text: &[u8]) -> bool
     ensures { result ≡ has_byte byte text.now }
 {
+    if text.len() <= SHORT {
+        return has_in_short(byte, text);
+    }
     match memchr(byte, text) {
         Some(_) => true,
         None => false,
@@ -108,11 +124,24 @@ impl<'a> Reader<'a> {
             (λ k. read_key self.old ≡ Some (option_map (λ s. s.now) k, self.new))
             (λ _. read_key self.old ≡ None) }
     {
-        let token = self.next().ok_or(Invalid)?;
-        match token {
-            Token::Key(key) => Ok(Some(key)),
-            Token::EndObject => Ok(None),
-            _ => Err(Invalid),
+        match &mut self.source {
+            Source::Plain(reader) => reader.next_key(),
+            Source::Lent(reader) => match reader.next() {
+                Some(Token::Key(key)) => Ok(Some(key)),
+                Some(Token::EndObject) => Ok(None),
+                _ => Err(Invalid),
+            },
+        }
+    }
+
+    /// Takes a text or a number of few digits, if one is next where that is seen at once.
+    #[inline(always)]
+    pub(crate) fn take_field(&mut self) -> Option<Field<'a>>
+        ensures { MatchOption result (self.new ≡ self.old) (λ f. IsField self.old f self.new) }
+    {
+        match &mut self.source {
+            Source::Plain(reader) => reader.take_field(),
+            Source::Lent(_) => None,
         }
     }
 

@@ -1,14 +1,14 @@
 //! Reads what is asked of a line, with memory that is lent to each read.
-ghost use Rattle.std.specs.Prelude.{◌≡◌, ◌<◌, IfOk, OnOk, None, Err, length, true};
+ghost use Rattle.std.specs.Prelude.{◌≡◌, ◌<◌, IfOk, OnOk, None, Some, Err, length, true};
 ghost use Rattle.json.specs.Json.{members as read_members, object, parse_map, value as read_value};
 ghost use Rattle.json.specs.Reads.{token_of};
 ghost use Rattle.serde_json.specs.Read.{read as read_text};
-ghost use Rattle.ctf_json.specs.Keys.{wanted_at};
-ghost use Rattle.ctf_json.specs.Kept.{AreKept, IsKept, IsReadAt};
+ghost use Rattle.ctf_json.specs.Keys.{place_in, wanted_at};
+ghost use Rattle.ctf_json.specs.Kept.{AreKept, IsKept, IsKeptAt, IsReadAt};
 ghost use Rattle.ctf_json.specs.Memory.{IsLeft, list_among, takes_memory};
 ghost use Rattle.ctf_json.specs.Passed.{begun, passed_members, passed_value};
 ghost use Rattle.ctf_json.specs.Told.{told};
-ghost use Rattle.ctf_json.specs.Values.{IsNew, fits, line_said, read_said, said};
+ghost use Rattle.ctf_json.specs.Values.{IsNew, fits, keys, line_said, read_said, said};
 ghost use Rattle.ctf_json.specs.declared.reading.NotRead.TheVariants as why;
 
 use crate::keys::{place_of, wanted};
@@ -96,8 +96,7 @@ fn members_at<'a>(
 {
     while let Some(key) = reader.next_key()? {
         if let Some(place) = place_of(key) {
-            let value = next_value(alloc, reader, depth, key)?;
-            line.keep(key, place, value);
+            keep_next(alloc, reader, depth, key, place, line)?;
         } else {
             pass(reader, depth)?;
         }
@@ -105,8 +104,35 @@ fn members_at<'a>(
     Ok(())
 }
 
+/// Keeps the next value at a key. Most are seen to end at once.
+#[inline(always)]
+fn keep_next<'a>(
+    alloc: Global,
+    reader: &mut Reader<'a>,
+    depth: usize,
+    key: &str,
+    place: usize,
+    line: &mut Line<'a>,
+) -> Result<(), NotRead>
+    requires { place_in key.now keys ≡ Some place }
+    ensures ok { OnOk result (IsKeptAt key.now (read_value depth reader.old) (line_said line.old)
+        (line_said line.new) reader.new) }
+    ensures shorter { OnOk result (length reader.new < length reader.old) }
+    ensures refused { result ≡ Err why.NotJson → passed_value depth reader.old ≡ None }
+    ensures memory { result ≡ Err why.Memory → list_among reader.old ≡ true }
+    ensures left { OnOk result (IsLeft reader.old reader.new) }
+{
+    if let Some(field) = reader.take_field() {
+        line.keep(key, place, Read::Field(field));
+        return Ok(());
+    }
+    let value = next_value(alloc, reader, depth, key)?;
+    line.keep(key, place, value);
+    Ok(())
+}
+
 /// What is kept of the next value, which stands at a key.
-#[inline]
+#[inline(never)]
 fn next_value<'a>(
     alloc: Global,
     reader: &mut Reader<'a>,

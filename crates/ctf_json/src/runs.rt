@@ -1,5 +1,5 @@
 //! Runs of bytes of a text.
-ghost use Rattle.std.specs.Prelude.{◌≡◌, ◌+◌, ◌≤◌, ◌||◌, drop, get_or, length};
+ghost use Rattle.std.specs.Prelude.{◌≡◌, ◌+◌, ◌≤◌, ◌||◌, IsTrue, drop, get_or, length};
 ghost use Rattle.std.specs.Char.{is_ascii_digit};
 ghost use Rattle.std.specs.List.{prefix_len};
 ghost use Rattle.json.specs.Align.{is_blank};
@@ -51,6 +51,14 @@ pub(crate) fn plain_end(text: &[u8], from: usize) -> usize
         i += 1;
     }
     i
+}
+
+/// Whether a byte is a digit, but no zero.
+#[inline(always)]
+pub(crate) fn is_first_digit(c: u8) -> bool
+    ensures { IsTrue result → (49 ≤ c) × (c ≤ 57) }
+{
+    (b'1' <= c) & (c <= b'9')
 }
 
 #[inline(always)]

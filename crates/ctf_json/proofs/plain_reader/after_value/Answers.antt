@@ -1,7 +1,6 @@
 use Rattle.std.proofs.Common.{◌≡◌, refl, sym, ap, ◌∙◌, arith}
 use Rattle.json.specs.Word.{head}
 use Rattle.json.specs.Lex.{class, after_value, after_comma, punctuate}
-use Rattle.json.specs.Align.{begins_well}
 use Rattle.ctf_json.proofs.Punctuation.{at_operator}
 use Rattle.ctf_json.proofs.plain_reader.after_value.Goals as goal
 

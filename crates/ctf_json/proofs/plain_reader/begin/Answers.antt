@@ -2,7 +2,7 @@ use Rattle.std.proofs.Common.{◌≡◌, ◌∷◌, true, refl, sym, ap, ◌∙�
 use Rattle.json.specs.Token as spec
 use Rattle.json.specs.Word.{head}
 use Rattle.json.specs.Lex.{token, class, other, fresh, after_value, may_begin, punctuate}
-use Rattle.json.specs.Align.{begins_well, is_good}
+use Rattle.json.specs.Align.{is_good}
 use Rattle.json.specs.Reads.{token_of}
 use Rattle.ctf_json.proofs.Lexing.{lex_first}
 use Rattle.ctf_json.proofs.Punctuation.{rest, at_operator, allowed, IsWord, IsWord-word, good_word, bad_word, stray}

@@ -2,7 +2,7 @@ use Rattle.std.proofs.Common.{◌≡◌, ◌∷◌, None, Some, refl, sym, ap, �
 use Rattle.json.specs.Token as spec
 use Rattle.json.specs.Word.{head}
 use Rattle.json.specs.Lex.{token, colon, class, between, lex, fresh, after_value, after_key, may_begin, place_token, punctuate}
-use Rattle.json.specs.Align.{begins_well, is_blank}
+use Rattle.json.specs.Align.{is_blank}
 use Rattle.ctf_json.proofs.Punctuation.{rest, at_operator, at_string, no_colon, allowed}
 use Rattle.ctf_json.proofs.plain_reader.string.Goals as goal
 

@@ -6,7 +6,7 @@ use Rattle.ctf_json.specs.Keys.{place_in, wanted_at}
 use Rattle.ctf_json.specs.Kept.{kept}
 use Rattle.ctf_json.specs.Passed.{passed}
 use Rattle.ctf_json.specs.Told.{in_range, members_in_range, told}
-use Rattle.ctf_json.specs.Values.{keys, line_said, read_said}
+use Rattle.ctf_json.specs.Values.{keys, line_said}
 use Rattle.ctf_json.proofs.Fronts.{mapped, none_before, one_member_more, then_last, unmoved}
 use Rattle.ctf_json.proofs.Kept.{last_kept, not_one, other_kept}
 use Rattle.ctf_json.proofs.Left.{all_left, left_key}
@@ -28,8 +28,8 @@ returns-in_err-key-clause-refused c is =
     let old = c.args.reader.now in
     refused_behind members_in_range s.2 s.5.good (members p (length old) old) (members p s.0 l.reader) s.4 (ap (passed members_in_range) (members_no_key p s.0 l.reader c.in_err-key.ensures.value))
 
-pub returns-in_err-value-clause-refused : goal.returns-in_err-value-clause-refused
-returns-in_err-value-clause-refused c is =
+pub returns-in_err-keep_next-clause-refused : goal.returns-in_err-keep_next-clause-refused
+returns-in_err-keep_next-clause-refused c is =
     let p = value c.args.depth in
     let l = c.loop-key in
     let s = l.invariant in
@@ -39,8 +39,8 @@ returns-in_err-value-clause-refused c is =
     let key : read_key l.reader ≡ Some (Some k, ts) = grind arith in
     refused_behind members_in_range s.2 s.5.good (members p (length old) old) (members p s.0 l.reader) s.4 (refuse_member p s.0 k l.reader ts key (grind arith))
 
-pub returns-in_err-value-clause-memory : goal.returns-in_err-value-clause-memory
-returns-in_err-value-clause-memory c is =
+pub returns-in_err-keep_next-clause-memory : goal.returns-in_err-keep_next-clause-memory
+returns-in_err-keep_next-clause-memory c is =
     let l = c.loop-key in
     let k = c.in-Some.key.now in
     let ts = c.next_key.new.self in
@@ -58,18 +58,18 @@ returns-in_err-pass-clause-refused c is =
     let key : read_key l.reader ≡ Some (Some k, ts) = grind arith in
     refused_behind members_in_range s.2 s.5.good (members p (length old) old) (members p s.0 l.reader) s.4 (refuse_member p s.0 k l.reader ts key c.in_err-pass.ensures.passed)
 
-pub loop-key-smaller-in-Some-place_of : goal.loop-key-smaller-in-Some-place_of
-loop-key-smaller-in-Some-place_of c =
+pub loop-key-smaller-in-Continue-branch-3 : goal.loop-key-smaller-in-Continue-branch-3
+loop-key-smaller-in-Continue-branch-3 c =
     let l = c.loop-key in
     let k = c.in-Some.key.now in
     let ts = c.next_key.new.self in
     let key : read_key l.reader ≡ Some (Some k, ts) = grind arith in
     let less = read_key-shorter l.reader (Some k) ts key in
-    let lesser = c.in_ok-value.ensures.shorter in
+    let lesser = c.in_ok-keep_next.ensures.shorter in
     omega (arith, less, lesser)
 
-pub loop-key-preserved-in-Some-place_of : goal.loop-key-preserved-in-Some-place_of
-loop-key-preserved-in-Some-place_of c =
+pub loop-key-preserved-in-Continue-branch-3 : goal.loop-key-preserved-in-Continue-branch-3
+loop-key-preserved-in-Continue-branch-3 c =
     let p = value c.args.depth in
     let l = c.loop-key in
     let s = l.invariant in
@@ -77,11 +77,12 @@ loop-key-preserved-in-Some-place_of c =
     let k = c.in-Some.key.now in
     let ts = c.next_key.new.self in
     let key : read_key l.reader ≡ Some (Some k, ts) = grind arith in
-    let done = c.in_ok-value.ensures in
-    let r = c.next_value.new.reader in
+    let done = c.in_ok-keep_next.ensures in
+    let r = c.keep_next.new.reader in
     let less = read_key-shorter l.reader (Some k) ts key in
     let lesser = done.shorter in
-    let j = done.ok in (
+    let d = done.ok.0 in
+    let j = done.ok.1 in (
       n - 1,
       omega (arith, s.1, less, lesser),
       (λ ms. s.2 (member k j.0 ms)),
@@ -90,7 +91,7 @@ loop-key-preserved-in-Some-place_of c =
       one_member_more s.2 s.3 k j.0 s.5 j.2,
       omega (arith, s.6, less, lesser),
       (λ h. s.7 (left_key l.reader (Some k) ts key (done.left h))),
-      λ new q one. c.keep.ensures q ∙ last_kept k q j.0 s.3 (read_said c.in_ok-value.value) (get q (line_said l.line)) j.3 (s.8 new q one),
+      λ new q one. done.ok.2 q ∙ last_kept k q j.0 s.3 d (get q (line_said l.line)) j.3 (s.8 new q one),
     )
 
 pub loop-key-preserved : goal.loop-key-preserved

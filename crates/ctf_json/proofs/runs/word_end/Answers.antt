@@ -1,5 +1,4 @@
-use Rattle.std.proofs.Common.{◌≡◌, ◌||◌, get_or, true, false, sym, ◌∙◌, arith}
-use Rattle.json.specs.Word.{is_operator, is_space}
+use Rattle.std.proofs.Common.{◌≡◌, true, false, sym, ◌∙◌, arith}
 use Rattle.ctf_json.proofs.Lexing.{word_at_end, word_ended, word_passed}
 use Rattle.ctf_json.proofs.runs.word_end.Goals as goal
 

@@ -2,7 +2,7 @@ use Rattle.std.proofs.Common.{◌≡◌, None, Some, refl, sym, ap, ◌∙◌, i
 use Rattle.json.specs.Token as spec
 use Rattle.json.specs.Word.{head}
 use Rattle.json.specs.Lex.{class, after_value, may_close, punctuate}
-use Rattle.json.specs.Align.{begins_well, is_blank}
+use Rattle.json.specs.Align.{is_blank}
 use Rattle.json.specs.Json.{after_end_array}
 use Rattle.ctf_json.specs.PlainReader.{tokens_at}
 use Rattle.ctf_json.proofs.Punctuation.{rest, at_operator, allowed, closed, not_closed, no_end_array, refused_no_end}
