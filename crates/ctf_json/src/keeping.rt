@@ -3,7 +3,7 @@ ghost use Rattle.std.specs.Prelude.{◌≡◌, ◌<◌, ℕ, List, Some, None, t
 ghost use Rattle.std.specs.Str.{bytes_eq};
 ghost use Rattle.serde_json.specs.Find.{get as found_under};
 ghost use Rattle.ctf_json.specs.Keys.{place_in, wanted_at};
-ghost use Rattle.ctf_json.specs.Values.{IsNew, args_without, fits, keys, line_said, names_without, read_said};
+ghost use Rattle.ctf_json.specs.Values.{IsNew, args_without, fits, keys, line_said, names_without, read_said, said};
 
 use crate::keys::{COUNT, wanted};
 use crate::line::{Fields, Line};
@@ -33,10 +33,21 @@ impl<'a> Line<'a> {
             (found_under q (line_said self.old)) }
     {
         match value {
-            Read::Field(field) => self.keep_field(place, field, wanted(key)),
+            Read::Field(field) => self.keep_at(key, place, field),
             Read::Texts(texts) => self.names = Some(texts),
             Read::Numbers(numbers) => self.args = Some(numbers),
         }
+    }
+
+    /// Keeps what is no list at a key, in place of a value that is there.
+    #[inline(always)]
+    pub(crate) fn keep_at(&mut self, key: &str, place: usize, field: Field<'a>)
+        requires { place_in key.now keys ≡ Some place }
+        ensures { (q : List ℕ) → found_under q (line_said self.new)
+            ≡ cond (bytes_eq key.now q) (Some (said field.entry))
+            (found_under q (line_said self.old)) }
+    {
+        self.keep_field(place, field, wanted(key));
     }
 
     /// Keeps what is no list.

@@ -235,6 +235,23 @@ impl<'a> PlainReader<'a> {
         true
     }
 
+    /// Takes the brace that begins an object, if it is next.
+    #[inline(always)]
+    pub(crate) fn take_object(&mut self) -> bool
+        ensures { MatchBool result (self.old ≡ spec.begin_object ∷ self.new)
+            (self.new ≡ self.old) }
+    {
+        if !self.place.may_begin() {
+            return false;
+        }
+        if self.lexer.peek() != b'{' {
+            return false;
+        }
+        self.lexer.skip();
+        self.place = Place::Fresh;
+        true
+    }
+
     /// Takes a key, if one is next and its colon stands right behind it.
     #[inline(always)]
     fn take_key(&mut self) -> Option<&'a str>
@@ -260,9 +277,19 @@ impl<'a> PlainReader<'a> {
             (λ k. read_key self.old ≡ Some (option_map (λ s. s.now) k, self.new))
             (λ _. read_key self.old ≡ None) }
     {
-        if let Some(key) = self.take_key() {
-            return Ok(Some(key));
+        match self.take_key() {
+            Some(key) => Ok(Some(key)),
+            None => self.any_key(),
         }
+    }
+
+    /// The same, wherever the key and its colon stand.
+    #[inline(never)]
+    fn any_key(&mut self) -> Result<Option<&'a str>, Invalid>
+        ensures value { MatchResult result
+            (λ k. read_key self.old ≡ Some (option_map (λ s. s.now) k, self.new))
+            (λ _. read_key self.old ≡ None) }
+    {
         let token = self.next().ok_or(Invalid)?;
         match token {
             Token::Key(key) => Ok(Some(key)),

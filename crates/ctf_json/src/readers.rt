@@ -4,6 +4,7 @@ ghost use Rattle.std.specs.Bool.{MatchBool};
 ghost use Rattle.json.specs.Json.{after_end_array, read_key};
 ghost use Rattle.json.specs.Lex.{tokens};
 ghost use Rattle.json.specs.Reads.{token_of};
+ghost use Rattle.json.specs.Token as spec;
 ghost use Rattle.ctf_json.specs.Memory.{has_byte};
 ghost use Rattle.ctf_json.specs.PlainReader.{IsField};
 
@@ -73,6 +74,21 @@ impl<'a> Model for Reader<'a> {
     ghost view = { λ a. left_of a.source };
 }
 
+/// A key, or None at the brace that closes an object.
+#[inline(never)]
+fn lent_key<'a>(reader: &mut json::Reader<'a>) -> Result<Option<&'a str>, Invalid>
+    ensures value { MatchResult result
+        (λ k. read_key reader.old ≡ Some (option_map (λ s. s.now) k, reader.new))
+        (λ _. read_key reader.old ≡ None) }
+{
+    let token = reader.next().ok_or(Invalid)?;
+    match token {
+        Token::Key(key) => Ok(Some(key)),
+        Token::EndObject => Ok(None),
+        _ => Err(Invalid),
+    }
+}
+
 fn without_scratch<'a>(text: &'a str) -> Result<Reader<'a>, AllocError>
     ensures ok { IfOk result (λ reader. reader ≡ tokens text.now) }
     ensures full { OnErr result (has_byte 92 text.now ≡ true) }
@@ -126,11 +142,19 @@ impl<'a> Reader<'a> {
     {
         match &mut self.source {
             Source::Plain(reader) => reader.next_key(),
-            Source::Lent(reader) => match reader.next() {
-                Some(Token::Key(key)) => Ok(Some(key)),
-                Some(Token::EndObject) => Ok(None),
-                _ => Err(Invalid),
-            },
+            Source::Lent(reader) => lent_key(reader),
+        }
+    }
+
+    /// Takes the brace that begins an object, if it is next and that is seen at once.
+    #[inline(always)]
+    pub(crate) fn take_object(&mut self) -> bool
+        ensures { MatchBool result (self.old ≡ spec.begin_object ∷ self.new)
+            (self.new ≡ self.old) }
+    {
+        match &mut self.source {
+            Source::Plain(reader) => reader.take_object(),
+            Source::Lent(_) => false,
         }
     }
 

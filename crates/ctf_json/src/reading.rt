@@ -1,5 +1,5 @@
 //! Reads what is asked of a line, with memory that is lent to each read.
-ghost use Rattle.std.specs.Prelude.{◌≡◌, ◌<◌, IfOk, OnOk, None, Some, Err, length, true};
+ghost use Rattle.std.specs.Prelude.{◌≡◌, ◌<◌, IfOk, MatchResult, OnOk, None, Some, Err, length, true};
 ghost use Rattle.json.specs.Json.{members as read_members, object, parse_map, value as read_value};
 ghost use Rattle.json.specs.Reads.{token_of};
 ghost use Rattle.serde_json.specs.Read.{read as read_text};
@@ -71,6 +71,9 @@ fn line_at<'a>(alloc: Global, reader: &mut Reader<'a>, line: &mut Line<'a>) -> R
     ensures refused { result ≡ Err why.NotJson → passed_value 127 reader.old ≡ None }
     ensures memory { result ≡ Err why.Memory → list_among reader.old ≡ true }
 {
+    if reader.take_object() {
+        return members_at(alloc, reader, MAX_DEPTH - 1, line);
+    }
     let token = reader.next().ok_or(Invalid)?;
     if let Token::BeginObject = token {
         members_at(alloc, reader, MAX_DEPTH - 1, line)?;
@@ -98,10 +101,21 @@ fn members_at<'a>(
         if let Some(place) = place_of(key) {
             keep_next(alloc, reader, depth, key, place, line)?;
         } else {
-            pass(reader, depth)?;
+            pass_unknown(reader, depth)?;
         }
     }
     Ok(())
+}
+
+/// Passes a value that no one asks for.
+#[inline(never)]
+fn pass_unknown(reader: &mut Reader<'_>, depth: usize) -> Result<(), Invalid>
+    ensures passed { MatchResult result (λ _. passed_value depth reader.old ≡ Some reader.new)
+        (λ _. passed_value depth reader.old ≡ None) }
+    ensures shorter { OnOk result (length reader.new < length reader.old) }
+    ensures left { OnOk result (IsLeft reader.old reader.new) }
+{
+    pass(reader, depth)
 }
 
 /// Keeps the next value at a key. Most are seen to end at once.
@@ -123,9 +137,30 @@ fn keep_next<'a>(
     ensures left { OnOk result (IsLeft reader.old reader.new) }
 {
     if let Some(field) = reader.take_field() {
-        line.keep(key, place, Read::Field(field));
+        line.keep_at(key, place, field);
         return Ok(());
     }
+    keep_any(alloc, reader, depth, key, place, line)
+}
+
+/// The same, for any value.
+#[inline(never)]
+fn keep_any<'a>(
+    alloc: Global,
+    reader: &mut Reader<'a>,
+    depth: usize,
+    key: &str,
+    place: usize,
+    line: &mut Line<'a>,
+) -> Result<(), NotRead>
+    requires { place_in key.now keys ≡ Some place }
+    ensures ok { OnOk result (IsKeptAt key.now (read_value depth reader.old) (line_said line.old)
+        (line_said line.new) reader.new) }
+    ensures shorter { OnOk result (length reader.new < length reader.old) }
+    ensures refused { result ≡ Err why.NotJson → passed_value depth reader.old ≡ None }
+    ensures memory { result ≡ Err why.Memory → list_among reader.old ≡ true }
+    ensures left { OnOk result (IsLeft reader.old reader.new) }
+{
     let value = next_value(alloc, reader, depth, key)?;
     line.keep(key, place, value);
     Ok(())

@@ -1,13 +1,27 @@
-use Rattle.std.proofs.Common.{◌≡◌, [], ◌∷◌, length, None, ap, ◌∙◌, arith}
-use Rattle.json.specs.Json.{members, value}
+use Rattle.std.proofs.Common.{◌≡◌, List, [], ◌∷◌, length, None, Option, OnOk, sym, ap, ◌∙◌, subst, arith}
+use Rattle.json.specs.Json.{Json, members, value}
+use Rattle.json.specs.Token.{Token}
 use Rattle.json.specs.Reads.{token_of}
 use Rattle.json.proofs.Grammar.{value_is, value-begin_object}
 use Rattle.ctf_json.specs.Passed.{passed, passed_members, passed_value}
 use Rattle.ctf_json.specs.Told.{in_range}
-use Rattle.ctf_json.specs.Values.{line_said}
+use Rattle.ctf_json.specs.Kept.{AreKept}
+use Rattle.ctf_json.specs.Values.{IsNew, line_said}
 use Rattle.ctf_json.proofs.Kept.{nothing_kept}
 use Rattle.ctf_json.proofs.Turns.{passed-object}
 use Rattle.ctf_json.proofs.reading.line_at.Goals as goal
+
+pub returns-then-take_object-clause-ok : goal.returns-then-take_object-clause-ok
+returns-then-take_object-clause-ok c =
+    let ts = c.take_object.new.self in
+    let opened = ap (value 127) c.if-take_object.ensures ∙ value-begin_object 127 ts (omega arith) in
+    let P : Option (Json × List Token) → Type 0 = λ read. OnOk c.members_at.result (AreKept (IsNew c.args.line.now) read (line_said c.members_at.new.line) c.members_at.new.reader) in
+    subst P (sym opened) c.members_at.ensures.ok
+
+pub returns-then-take_object-clause-refused : goal.returns-then-take_object-clause-refused
+returns-then-take_object-clause-refused c is =
+    let ts = c.take_object.new.self in
+    ap (passed_value 127) c.if-take_object.ensures ∙ ap (passed in_range) (value-begin_object 127 ts (omega arith)) ∙ passed-object (members (value 126) (length ts) ts) ∙ c.members_at.ensures.refused is
 
 pub returns-in_err-token-clause-refused : goal.returns-in_err-token-clause-refused
 returns-in_err-token-clause-refused c is =

@@ -47,8 +47,8 @@ returns-in_err-keep_next-clause-memory c is =
     let key : read_key l.reader ≡ Some (Some k, ts) = grind arith in
     l.invariant.7 (left_key l.reader (Some k) ts key (grind arith))
 
-pub returns-in_err-pass-clause-refused : goal.returns-in_err-pass-clause-refused
-returns-in_err-pass-clause-refused c is =
+pub returns-in_err-pass_unknown-clause-refused : goal.returns-in_err-pass_unknown-clause-refused
+returns-in_err-pass_unknown-clause-refused c is =
     let p = value c.args.depth in
     let l = c.loop-key in
     let s = l.invariant in
@@ -56,7 +56,7 @@ returns-in_err-pass-clause-refused c is =
     let k = c.in-Some.key.now in
     let ts = c.next_key.new.self in
     let key : read_key l.reader ≡ Some (Some k, ts) = grind arith in
-    refused_behind members_in_range s.2 s.5.good (members p (length old) old) (members p s.0 l.reader) s.4 (refuse_member p s.0 k l.reader ts key c.in_err-pass.ensures.passed)
+    refused_behind members_in_range s.2 s.5.good (members p (length old) old) (members p s.0 l.reader) s.4 (refuse_member p s.0 k l.reader ts key c.in_err-pass_unknown.ensures.passed)
 
 pub loop-key-smaller-in-Continue-branch-3 : goal.loop-key-smaller-in-Continue-branch-3
 loop-key-smaller-in-Continue-branch-3 c =
@@ -103,10 +103,10 @@ loop-key-preserved c =
     let k = c.in-Some.key.now in
     let ts = c.next_key.new.self in
     let key : read_key l.reader ≡ Some (Some k, ts) = grind arith in
-    let r = c.pass.new.reader in
-    let j = passed-some in_range (p ts) r c.in_ok-pass.ensures.passed in
+    let r = c.pass_unknown.new.reader in
+    let j = passed-some in_range (p ts) r c.in_ok-pass_unknown.ensures.passed in
     let less = read_key-shorter l.reader (Some k) ts key in
-    let lesser = c.in_ok-pass.ensures.shorter in
+    let lesser = c.in_ok-pass_unknown.ensures.shorter in
     let nowhere : place_in k keys ≡ None = sym c.place_of.ensures.place ∙ grind arith in (
       n - 1,
       omega (arith, s.1, less, lesser),
@@ -115,7 +115,7 @@ loop-key-preserved c =
       s.4 ∙ ap (parse_map s.2) (members_more p n k l.reader ts r j.0 (omega (arith, s.1, less)) key j.1) ∙ mapped s.2 (member k j.0) (members p (n - 1) r),
       one_member_more s.2 s.3 k j.0 s.5 j.2,
       omega (arith, s.6, less, lesser),
-      (λ h. s.7 (left_key l.reader (Some k) ts key (c.in_ok-pass.ensures.left h))),
+      (λ h. s.7 (left_key l.reader (Some k) ts key (c.in_ok-pass_unknown.ensures.left h))),
       λ new q one. other_kept k q j.0 s.3 (get q (line_said l.line)) (not_one k keys nowhere) one (s.8 new q one),
     )
 

@@ -1,16 +1,13 @@
 use Rattle.std.proofs.Common.{Some, cond, sym, ap, ◌∙◌, bytes_eq}
 use Rattle.ctf_json.specs.Keys.{wanted_at}
-use Rattle.ctf_json.specs.Values.{args_without, fits, names_without, read_said}
-use Rattle.ctf_json.proofs.Lines.{at_args, at_names, field_kept, has, list_kept, numbers_fit, numbers_kept, texts_fit}
+use Rattle.ctf_json.specs.Values.{fits, read_said}
+use Rattle.ctf_json.proofs.Lines.{at_args, at_names, has, list_kept, numbers_fit, numbers_kept, texts_fit}
 use Rattle.ctf_json.proofs.line.Line.keep.Goals as goal
 
 pub returns-in-Field : goal.returns-in-Field
 returns-in-Field c q =
     let old = c.args.self.now in
-    let kept = c.keep_field.ensures in
-    let w = c.wanted.ensures in
-    field_kept c.args.key.now q old c.keep_field.new.self c.args.place c.in-Field.field c.requires.place kept.inside kept.fields (kept.names ∙ ap (λ x. names_without x old.names) w) (kept.args ∙ ap (λ x. args_without x old.args) w)
-    ∙ ap (λ v. cond (bytes_eq c.args.key.now q) (Some (read_said v)) (has q old.fields.all old.names old.args)) (sym c.in-Field.is)
+    c.keep_at.ensures q ∙ ap (λ v. cond (bytes_eq c.args.key.now q) (Some (read_said v)) (has q old.fields.all old.names old.args)) (sym c.in-Field.is)
 
 pub returns-in-Texts : goal.returns-in-Texts
 returns-in-Texts c q =
