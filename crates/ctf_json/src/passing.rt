@@ -18,6 +18,9 @@ pub(crate) fn pass(reader: &mut Reader<'_>, depth: usize) -> Result<(), Invalid>
     ensures shorter { OnOk result (length reader.new < length reader.old) }
     ensures left { OnOk result (IsLeft reader.old reader.new) }
 {
+    if reader.take_array() {
+        return pass_from(Token::BeginArray, reader, depth);
+    }
     let token = reader.next().ok_or(Invalid)?;
     pass_from(token, reader, depth)
 }

@@ -252,6 +252,23 @@ impl<'a> PlainReader<'a> {
         true
     }
 
+    /// Takes the bracket that begins an array, if it is next.
+    #[inline(always)]
+    pub(crate) fn take_array(&mut self) -> bool
+        ensures { MatchBool result (self.old ≡ spec.begin_array ∷ self.new)
+            (self.new ≡ self.old) }
+    {
+        if !self.place.may_begin() {
+            return false;
+        }
+        if self.lexer.peek() != b'[' {
+            return false;
+        }
+        self.lexer.skip();
+        self.place = Place::Fresh;
+        true
+    }
+
     /// Takes a key, if one is next and its colon stands right behind it.
     #[inline(always)]
     fn take_key(&mut self) -> Option<&'a str>

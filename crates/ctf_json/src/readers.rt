@@ -158,6 +158,18 @@ impl<'a> Reader<'a> {
         }
     }
 
+    /// Takes the bracket that begins an array, if it is next and that is seen at once.
+    #[inline(always)]
+    pub(crate) fn take_array(&mut self) -> bool
+        ensures { MatchBool result (self.old ≡ spec.begin_array ∷ self.new)
+            (self.new ≡ self.old) }
+    {
+        match &mut self.source {
+            Source::Plain(reader) => reader.take_array(),
+            Source::Lent(_) => false,
+        }
+    }
+
     /// Takes a text or a number of few digits, if one is next where that is seen at once.
     #[inline(always)]
     pub(crate) fn take_field(&mut self) -> Option<Field<'a>>

@@ -74,6 +74,11 @@ pass_members-returns-clause-passed t c =
     let l = c.loop-reader in
     l.invariant.2 ∙ ap (passed members_in_range) (members_end p l.invariant.0 l.reader c.next_key.new.self l.invariant.1 (grind arith))
 
+pub pass-returns-then-take_array-clause-passed : goal.pass-returns-then-take_array-clause-passed
+pass-returns-then-take_array-clause-passed t c =
+    let same = ap (passed_value c.args.depth) c.if-take_array.ensures in
+    rw same c.pass_from.ensures.passed
+
 pub pass-returns-in_err-token-clause-passed : goal.pass-returns-in_err-token-clause-passed
 pass-returns-in_err-token-clause-passed t c =
     let empty : c.args.reader.now ≡ [] = grind arith in
