@@ -296,7 +296,7 @@ impl<'a> PlainReader<'a> {
     {
         match self.take_key() {
             Some(key) => Ok(Some(key)),
-            None => self.any_key(),
+            None => Ok(self.any_key()?),
         }
     }
 

@@ -142,7 +142,7 @@ impl<'a> Reader<'a> {
     {
         match &mut self.source {
             Source::Plain(reader) => reader.next_key(),
-            Source::Lent(reader) => lent_key(reader),
+            Source::Lent(reader) => Ok(lent_key(reader)?),
         }
     }
 
