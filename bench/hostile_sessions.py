@@ -257,13 +257,13 @@ def imported_again(count):
 
 SESSIONS = [
     Session("line: 1 MB of lists, 100 deep, in an unknown field",
-            lambda: unknown_field("[" * 100 + "]" * 100), known=13),
+            lambda: unknown_field("[" * 100 + "]" * 100)),
     Session("line: 1 MB of brackets in each other", too_deep),
     Session("line: 1 MB of [],[],.. in an unknown field", lambda: unknown_field("[]")),
     Session("line: 1 MB of 0,0,.. in an unknown field", lambda: unknown_field("0")),
     Session("line: 1 MB of one field", repeated_field),
     Session("line: 1 MB of lists, 100 deep, in a path",
-            lambda: many_names("[" * 100 + "]" * 100), known=13),
+            lambda: many_names("[" * 100 + "]" * 100)),
     Session("line: 1 MB of names of a path", lambda: many_names('"a"')),
     Session("line: 1 MB of arguments", many_arguments, known=14),
     Session("path: 500 steps, 1,023 names unlike at the front",

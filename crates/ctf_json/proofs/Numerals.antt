@@ -1,7 +1,6 @@
--- A number at the front of a text that is digits alone, of which the first is no zero, and behind
--- which a comma or a brace stands.
+-- A number at the front of a text that is digits alone, and behind which a comma or a brace stands.
 use Rattle.std.proofs.Common.{◌≡◌, ℕ, suc, ◌+◌, ◌-◌, ◌<◌, ◌≤◌, Bool, true, false, ◌&&◌, ◌||◌, cond, ◌==◌, nat_le, List, [], ◌∷◌, length, take, drop, Some, None, option_and_then, ◌⊎◌, inl, inr, refl, sym, ap, ◌∙◌, subst, arith}
-use Rattle.std.proofs.lemmas.Bool.{ne_eqb, leb-true, and_parts}
+use Rattle.std.proofs.lemmas.Bool.{ne_eqb, eqb-true, leb-true, and_parts}
 use Rattle.std.proofs.lemmas.Bool.Decides.{nat_tests}
 use Rattle.std.proofs.lemmas.List.{length-drop}
 use Rattle.std.proofs.lemmas.List.Sums.{prefix_len-le-length}
@@ -57,7 +56,7 @@ digit_class x low high = kind (x == 34) (x == 92) (is_operator x) (is_space x) (
 
 -- ---- a run of digits
 
-some_digits : (t : List ℕ) → 49 ≤ head t → head t ≤ 57 → 0 < prefix_len is_ascii_digit t
+some_digits : (t : List ℕ) → 48 ≤ head t → head t ≤ 57 → 0 < prefix_len is_ascii_digit t
 some_digits [] low high = let no : ⊥ = omega (arith, low) in absurd no
 some_digits (x ∷ xs) low high = subst (λ b. 0 < cond b (1 + prefix_len is_ascii_digit xs) 0) (sym (is_digit x (omega (arith, low)) high)) (omega arith)
 
@@ -72,7 +71,7 @@ run_passed : (xs : List ℕ) → lex in_word xs ≡ lex in_word (drop (prefix_le
 run_passed [] = refl
 run_passed (x ∷ xs) = run_byte (is_ascii_digit x) x (prefix_len is_ascii_digit xs) xs refl (run_passed xs)
 
-first_passed : (t : List ℕ) → 49 ≤ head t → head t ≤ 57 → lex in_word t ≡ lex in_word (drop 1 t)
+first_passed : (t : List ℕ) → 48 ≤ head t → head t ≤ 57 → lex in_word t ≡ lex in_word (drop 1 t)
 first_passed [] low high = refl
 first_passed (x ∷ xs) low high = goes_on x xs (omega (arith, low)) high
 
@@ -106,20 +105,25 @@ ends_there (x ∷ xs) h = word_stops xs x (by_end (λ y. (is_operator y || is_sp
 last_of : (a b c : Bool) (x y z w : Token) → a ≡ false → b ≡ false → c ≡ false → cond a x (cond b y (cond c z w)) ≡ w
 last_of a b c x y z w e f g = (λ i. cond (e i) x (cond (f i) y (cond (g i) z w)))
 
-module _ (t : List ℕ) (n : ℕ) (is : n ≡ prefix_len is_ascii_digit t) (low : 49 ≤ head t) (high : head t ≤ 57) (ends : Ends (head (drop n t))) where
+module _ (t : List ℕ) (n : ℕ) (is : n ≡ prefix_len is_ascii_digit t) (low : 48 ≤ head t) (high : head t ≤ 57) (zero : head t ≡ 48 → n ≤ 1) (ends : Ends (head (drop n t))) where
   some : 0 < n
   some = omega (arith, is, some_digits t low high)
 
   digits_are : after_digits t ≡ Some (drop n t)
   digits_are = ap (λ k. cond (k == 0) None (Some (drop k t))) (sym is) ∙ ap (λ b. cond b None (Some (drop n t))) (not_zero n some)
 
+  by_zero : (b : Bool) → (head t == 48) ≡ b → cond b (Some (drop 1 t)) (after_digits t) ≡ Some (drop n t)
+  by_zero true e =
+      let one : 1 ≡ n = omega (arith, some, zero (eqb-true (head t) 48 e)) in
+      ap (λ k. Some (drop k t)) one
+  by_zero false e = digits_are
+
   number_end : after_number t ≡ Some (drop n t)
   unfolding after_number
   number_end =
       let r = drop n t in
       ap (λ b. option_and_then after_exponent (option_and_then after_fraction (after_whole (cond b (drop 1 t) t)))) (ne_eqb (head t) 45 (λ e. omega (arith, e, low)))
-      ∙ ap (λ b. option_and_then after_exponent (option_and_then after_fraction (cond b (Some (drop 1 t)) (after_digits t)))) (ne_eqb (head t) 48 (λ e. omega (arith, e, low)))
-      ∙ ap (λ o. option_and_then after_exponent (option_and_then after_fraction o)) digits_are
+      ∙ ap (λ o. option_and_then after_exponent (option_and_then after_fraction o)) (by_zero (head t == 48) refl)
       ∙ ap (λ b. option_and_then after_exponent (cond b (after_digits (drop 1 r)) (Some r))) (by_end (λ x. (x == 46) ≡ false) (head r) ends refl refl)
       ∙ ap (λ b. cond b (after_digits (after_sign (drop 1 r))) (Some r)) (by_end (λ x. ((x == 101) || (x == 69)) ≡ false) (head r) ends refl refl)
 

@@ -16,7 +16,7 @@ pub const KEYS: &[&str] = &[
 pub(crate) const COUNT: usize = 30;
 
 /// Whether a name is that of a key. Both are short, and mostly differ at once.
-#[inline]
+#[inline(always)]
 pub(crate) fn is_key(name: &str, key: &str) -> bool
     ensures { result ≡ bytes_eq name.now key.now }
 {
@@ -34,7 +34,7 @@ pub(crate) fn is_key(name: &str, key: &str) -> bool
 }
 
 /// The place of a name among the keys. Those that are asked for most are known at once.
-#[inline]
+#[inline(always)]
 pub(crate) fn place_of(name: &str) -> Option<usize>
     ensures place { result ≡ place_in name.now (map (λ key. key.now) KEYS.now) }
     ensures inside { IfSome result (λ place. place < 30) }
@@ -51,7 +51,7 @@ pub(crate) fn place_of(name: &str) -> Option<usize>
 }
 
 /// The place of a name among these.
-#[inline]
+#[inline(never)]
 fn place_among(name: &str, keys: &[&str]) -> Option<usize>
     ensures place { result ≡ place_in name.now (map (λ key. key.now) keys.now) }
     ensures inside { IfSome result (λ place. place < length keys.now) }
@@ -65,6 +65,7 @@ fn place_among(name: &str, keys: &[&str]) -> Option<usize>
 }
 
 /// Which list is wanted at a key.
+#[inline(always)]
 pub(crate) fn wanted(key: &str) -> Wanted
     ensures { result ≡ wanted_at key.now }
 {

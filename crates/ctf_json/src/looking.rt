@@ -15,6 +15,7 @@ use ctf_joined::Joined;
 use serde_json::Number;
 
 /// The value at a key.
+#[inline(always)]
 pub fn get<'v, 'a>(line: &'v Line<'a>, key: &str) -> Option<Value<'v, 'a>>
     ensures { option_map value_said result ≡ found_under key.now (line_said line.now) }
 {
@@ -32,7 +33,7 @@ pub fn get<'v, 'a>(line: &'v Line<'a>, key: &str) -> Option<Value<'v, 'a>>
 }
 
 /// What is no list at a key.
-#[inline]
+#[inline(always)]
 fn plain<'v, 'a>(line: &'v Line<'a>, key: &str) -> Option<Value<'v, 'a>>
     ensures { option_map value_said result
         ≡ found_under key.now (object (members_said keys line.now.fields.all)) }
@@ -71,6 +72,7 @@ fn as_number(value: &Value<'_, '_>) -> Option<Number>
     }
 }
 
+#[inline(always)]
 pub fn as_u64(value: &Value<'_, '_>) -> Option<u64>
     ensures { result ≡ option_and_then unsigned_said (number_said (value_said value.now)) }
 {

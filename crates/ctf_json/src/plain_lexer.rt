@@ -7,7 +7,7 @@ ghost use Rattle.json.specs.Text.{content, plain};
 ghost use Rattle.json.specs.Word.{head, word};
 ghost use Rattle.ctf_json.specs.Plain.{HasNoEscape, IsNumber};
 
-use crate::runs::{blanks_end, byte_at, digits_end, is_first_digit, plain_end, word_end};
+use crate::runs::{are_few, blanks_end, byte_at, digits_end, is_digit, plain_end, word_end};
 use crate::words::word;
 use json::Token;
 use std::marker::Model;
@@ -65,6 +65,9 @@ impl<'a> Lexer<'a> {
         ensures value { token_of result ≡ word self.old }
         ensures after { lex between self.new ≡ drop 1 (lex between self.old) }
     {
+        if let Some(text) = self.digits() {
+            return Token::Number(text);
+        }
         let token = word(self.text, self.at);
         let end = word_end(self.text.as_bytes(), self.at + 1);
         self.at = blanks_end(self.text.as_bytes(), end);
@@ -112,8 +115,7 @@ impl<'a> Lexer<'a> {
         Some(&text[start..stop])
     }
 
-    /// Passes a number of few digits, of which the first is no zero, if a comma or a brace stands
-    /// right behind it.
+    /// Passes a number of few digits, if a comma or a brace stands right behind it.
     #[inline(always)]
     pub(crate) fn digits(&mut self) -> Option<&'a str>
         ensures value { MatchOption result (self.new ≡ self.old) (λ s. IsNumber self.old s.now) }
@@ -122,11 +124,12 @@ impl<'a> Lexer<'a> {
         let text = self.text;
         let bytes = text.as_bytes();
         let start = self.at;
-        if !is_first_digit(byte_at(bytes, start)) {
+        let first = byte_at(bytes, start);
+        if !is_digit(first) {
             return None;
         }
         let end = digits_end(bytes, start);
-        if end - start > 19 {
+        if !are_few(first, end - start) {
             return None;
         }
         let next = byte_at(bytes, end);

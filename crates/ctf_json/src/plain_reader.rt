@@ -301,7 +301,7 @@ impl<'a> PlainReader<'a> {
     }
 
     /// The same, wherever the key and its colon stand.
-    #[inline(never)]
+    #[inline(always)]
     fn any_key(&mut self) -> Result<Option<&'a str>, Invalid>
         ensures value { MatchResult result
             (λ k. read_key self.old ≡ Some (option_map (λ s. s.now) k, self.new))

@@ -75,7 +75,7 @@ impl<'a> Model for Reader<'a> {
 }
 
 /// A key, or None at the brace that closes an object.
-#[inline(never)]
+#[inline(always)]
 fn lent_key<'a>(reader: &mut json::Reader<'a>) -> Result<Option<&'a str>, Invalid>
     ensures value { MatchResult result
         (λ k. read_key reader.old ≡ Some (option_map (λ s. s.now) k, reader.new))

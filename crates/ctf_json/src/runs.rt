@@ -53,12 +53,24 @@ pub(crate) fn plain_end(text: &[u8], from: usize) -> usize
     i
 }
 
-/// Whether a byte is a digit, but no zero.
 #[inline(always)]
-pub(crate) fn is_first_digit(c: u8) -> bool
-    ensures { IsTrue result → (49 ≤ c) × (c ≤ 57) }
+pub(crate) fn is_digit(c: u8) -> bool
+    ensures { IsTrue result → (48 ≤ c) × (c ≤ 57) }
 {
-    (b'1' <= c) & (c <= b'9')
+    (b'0' <= c) & (c <= b'9')
+}
+
+/// Whether so many digits are a number of few digits: one zero, or at most 19 digits with no zero
+/// in front.
+#[inline(always)]
+pub(crate) fn are_few(first: u8, count: usize) -> bool
+    ensures { IsTrue result → (count ≤ 19) × (first ≡ 48 → count ≤ 1) }
+{
+    if first == b'0' {
+        count <= 1
+    } else {
+        count <= 19
+    }
 }
 
 #[inline(always)]

@@ -82,6 +82,7 @@ fn read_text(
     }
 }
 
+#[inline(always)]
 fn read_fields(alloc: Global, line: &mut Line<'_>) -> Result<(u32, Request), (u32, Fault)>
     ensures ok { IfOk result (λ said. value_asked (Some (view line.old)) ≡ Ok said) }
     ensures session { IfOk result (λ said. said.0 ≢ 0) }
@@ -103,6 +104,7 @@ fn read_fields(alloc: Global, line: &mut Line<'_>) -> Result<(u32, Request), (u3
 }
 
 /// The number that a value is, where it is in a range.
+#[inline(always)]
 pub(crate) fn number_within(value: &Value<'_, '_>, low: u64, high: u64) -> Option<u64>
     ensures number { result ≡ option_and_then (in_range low high)
         (option_and_then as_u64 (as_number (value_view value.now))) }
@@ -117,6 +119,7 @@ pub(crate) fn number_within(value: &Value<'_, '_>, low: u64, high: u64) -> Optio
 }
 
 /// The number of a field, where it is there and in its range.
+#[inline(always)]
 pub(crate) fn number(line: &Line<'_>, key: &str, low: u64, high: u64) -> Option<u64>
     ensures number { result ≡ number_in low high key.now (view line.now) }
     ensures in_range { IfSome result (λ n. (low ≤ n) × (n ≤ high)) }
@@ -131,6 +134,7 @@ pub(crate) fn text<'a>(line: &Line<'a>, key: &str) -> Option<&'a str>
     as_str(&get(line, key)?)
 }
 
+#[inline(always)]
 fn read_request(alloc: Global, line: &mut Line<'_>) -> Result<Option<Request>, AllocError>
     ensures ok { IfOk result (λ request. request ≡ request_asked (view line.old)) }
     ensures needed { OnErr result (word_keeps_text (word_asked (view line.old)) ≡ true) }
@@ -142,6 +146,7 @@ fn read_request(alloc: Global, line: &mut Line<'_>) -> Result<Option<Request>, A
 }
 
 /// The word of a line.
+#[inline(always)]
 fn word(line: &Line<'_>) -> Option<Word>
     ensures { result ≡ word_asked (view line.now) }
 {
@@ -174,6 +179,7 @@ fn named_long(text: &str) -> Option<Word>
 }
 
 /// What a word asks, with its fields. Those that take no memory are asked most.
+#[inline(always)]
 fn read_word(alloc: Global, line: &mut Line<'_>, word: Word) -> Result<Option<Request>, AllocError>
     ensures ok { IfOk result (λ request. request ≡ asked_with (view line.old) word) }
     ensures needed { OnErr result (keeps_text word ≡ true) }
@@ -221,6 +227,7 @@ fn read_other(alloc: Global, line: &mut Line<'_>, word: Word) -> Result<Option<R
 }
 
 /// The number of a slot that a value is.
+#[inline(always)]
 pub(crate) fn as_slot_number(value: &Value<'_, '_>) -> Option<SlotNumber>
     ensures { result ≡ option_and_then (in_range 1 4294967295)
         (option_and_then as_u64 (as_number (value_view value.now))) }
@@ -230,12 +237,14 @@ pub(crate) fn as_slot_number(value: &Value<'_, '_>) -> Option<SlotNumber>
 }
 
 /// The number of a slot in a field.
+#[inline(always)]
 fn slot_under(line: &Line<'_>, key: &str) -> Option<SlotNumber>
     ensures { result ≡ slot_named key.now (view line.now) }
 {
     as_slot_number(&get(line, key)?)
 }
 
+#[inline(always)]
 pub(crate) fn slot(line: &Line<'_>) -> Option<SlotNumber>
     ensures { result ≡ slot_in (view line.now) }
 {
@@ -312,6 +321,7 @@ fn take(alloc: Global, line: &Line<'_>) -> Result<Option<Request>, AllocError>
     }
 }
 
+#[inline(always)]
 pub(crate) fn type_number(line: &Line<'_>) -> Option<TypeNum>
     ensures { result ≡ type_asked (view line.now) }
 {
@@ -528,6 +538,7 @@ fn about_held(line: &Line<'_>, question: Option<HeldQuestion>) -> Option<Request
 }
 
 /// A question on a type of a slot, where its own fields are good.
+#[inline(always)]
 fn about_type(line: &Line<'_>, question: Option<TypeQuestion>) -> Option<Request>
     ensures { result ≡ type_question_asked question (view line.now) }
 {
