@@ -265,7 +265,7 @@ SESSIONS = [
     Session("line: 1 MB of lists, 100 deep, in a path",
             lambda: many_names("[" * 100 + "]" * 100)),
     Session("line: 1 MB of names of a path", lambda: many_names('"a"')),
-    Session("line: 1 MB of arguments", many_arguments, known=14),
+    Session("line: 1 MB of arguments", many_arguments),
     Session("path: 500 steps, 1,023 names unlike at the front",
             lambda: steps(500, unlike_at(0)), read=6.1),
     Session("path: 500 steps, 1,023 names unlike at the end",
