@@ -167,7 +167,7 @@ fn keep_any<'a>(
 }
 
 /// What is kept of the next value, which stands at a key.
-#[inline(never)]
+#[inline]
 fn next_value<'a>(
     alloc: Global,
     reader: &mut Reader<'a>,
