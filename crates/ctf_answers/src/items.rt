@@ -1,5 +1,5 @@
 //! Lists, and their items.
-ghost use Rattle.std.specs.Prelude.{◌≡◌, ◌<◌, length, Some, slice_get};
+ghost use Rattle.std.specs.Prelude.{◌≡◌, ◌<◌, length, Some, IfSome, slice_get};
 ghost use Rattle.ctf_protocol.specs.answers.Answers.{entry as said_entry};
 ghost use Rattle.ctf_protocol.specs.answers.Questions.{member_item as said_member, enumerator_item as said_enumerator};
 ghost use Rattle.ctf_protocol.specs.answers.SlotAnswers.{label_item as said_label};
@@ -85,6 +85,17 @@ impl<'a> Items<'a> {
                 Item::Bare(Single::Number(u64::from(args.get(index).unwrap().0)))
             }
             Items::Labels(labels) => label_item(labels.get(index).unwrap()),
+        }
+    }
+    /// The member with a number, from 0, where the list is of members.
+    pub(crate) fn member(&self, index: usize) -> Option<Member<'a>>
+        requires { index < length (items_of self.now) }
+        ensures { IfSome result (λ member.
+            Some (said_member (member_view member)) ≡ slice_get (items_of self.now) index) }
+    {
+        match self {
+            Items::Members(members) => members.get(index),
+            _ => None,
         }
     }
 }

@@ -1,10 +1,12 @@
 //! The items of a list that are answered.
-ghost use Rattle.std.specs.Prelude.{◌≡◌, ◌<◌, ◌≤◌, length, take, Some, slice_get};
-ghost use Rattle.ctf_protocol.specs.answers.Questions.{windowed};
+ghost use Rattle.std.specs.Prelude.{◌≡◌, ◌<◌, ◌≤◌, length, take, Some, IfSome, slice_get};
+ghost use Rattle.ctf_protocol.specs.answers.Questions.{member_item as said_member, windowed};
+ghost use Rattle.ctf_views.specs.ItemsView.{member as member_view};
 ghost use Rattle.ctf_answers.specs.Items.{item_of, items_of};
 
 use crate::items::{Item, Items};
 use ctf_protocol::Window;
+use ctf_views::Member;
 use std::marker::Model;
 
 /// Some items of a list: those from one on, as many as are answered.
@@ -66,5 +68,13 @@ impl<'a> Listed<'a> {
         ensures { Some (item_of result) ≡ slice_get self.now index }
     {
         self.items.get(self.from + index)
+    }
+    /// The member with a number, from 0, where the list is of members.
+    pub fn member(&self, index: usize) -> Option<Member<'a>>
+        requires { index < length self.now }
+        ensures { IfSome result (λ member.
+            Some (said_member (member_view member)) ≡ slice_get self.now index) }
+    {
+        self.items.member(self.from + index)
     }
 }

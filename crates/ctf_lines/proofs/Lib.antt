@@ -8,6 +8,7 @@ pub mod HexText
 pub mod SaidItems
 pub mod Plain
 pub mod Objects
+pub mod MemberTexts
 pub mod Passes
 pub mod Decimals
 pub mod AskedParts

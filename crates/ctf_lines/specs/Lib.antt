@@ -2,5 +2,6 @@ pub mod Commas
 pub mod Appending
 pub mod Fronts
 pub mod Putting
+pub mod Rows
 pub mod LineBuffers
 pub mod Memory

@@ -6,28 +6,29 @@ use Rattle.ctf_lines.specs.declared.line_buffers.LineBuffer.{LineBuffer}
 -- a text was put on, where the buffer isn't full then; it never was, and the list was not moved
 pub record TakesIn (old : LineBuffer) (text : List ℕ) (new : LineBuffer) : Type 0 where
   pub capacity : vec_capacity new.out ≡ vec_capacity old.out
+  pub end : new.end ≡ old.end
   pub behind : List ℕ
   pub kept : new.out.items ≡ old.out.items ++ behind
   pub len : vec_len new.out ≡ vec_len old.out + length behind
   pub open_before : new.is_full ≡ false → old.is_full ≡ false
   pub written : new.is_full ≡ false → behind ≡ text
-  pub room : new.is_full ≡ false → new.room + length text ≡ old.room
 
 pub none_taken : (buffer : LineBuffer) → TakesIn buffer [] buffer
 none_taken buffer = record {
   capacity = refl;
+  end = refl;
   behind = [];
   kept = sym (append-nil buffer.out.items);
   len = omega arith;
   open_before = λ e. e;
   written = λ e. refl;
-  room = λ e. omega arith;
 }
 
 pub both_taken : (old mid new : LineBuffer) (a b : List ℕ) → TakesIn old a mid → TakesIn mid b new
     → TakesIn old (a ++ b) new
 both_taken old mid new a b first second = record {
   capacity = second.capacity ∙ first.capacity;
+  end = second.end ∙ first.end;
   behind = first.behind ++ second.behind;
   kept =
       second.kept ∙ ap (λ (t : List ℕ). t ++ second.behind) first.kept
@@ -41,9 +42,4 @@ both_taken old mid new a b first second = record {
   written = λ e.
       ap (λ (t : List ℕ). t ++ second.behind) (first.written (second.open_before e))
       ∙ ap (λ (t : List ℕ). a ++ t) (second.written e);
-  room = λ e.
-      let both = length-append a b in
-      let one = first.room (second.open_before e) in
-      let other = second.room e in
-      omega (arith, both, one, other);
 }

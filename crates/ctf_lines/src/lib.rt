@@ -2,6 +2,7 @@
 #![tactic(auto)]
 
 mod additions;
+mod appending;
 mod digits;
 mod drafts;
 mod escapes;
@@ -12,6 +13,7 @@ mod measures;
 mod models;
 mod no_memory;
 mod reading;
+mod rows;
 mod series;
 mod singles;
 mod spelled;

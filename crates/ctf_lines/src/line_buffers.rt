@@ -1,32 +1,35 @@
 //! Room behind the lines that are there, on which a line is put in one pass.
-ghost use Rattle.std.specs.Prelude.{◌≡◌, ◌+◌, ◌≤◌, ◌++◌, false, length, vec_len, vec_capacity};
+ghost use Rattle.std.specs.Prelude.{◌≡◌, ◌+◌, ◌≤◌, ◌++◌, false, length, vec_len, vec_capacity, decimal};
 ghost use Rattle.ctf_lines.specs.Appending.{HasRoom, Appended};
+ghost use Rattle.ctf_lines.specs.Rows.{member_row};
 
+use crate::appending::{appended, between, numbered, with_member};
 use crate::escapes::append_hex;
 use crate::text_sinks::TextSink;
-use crate::texts::appended;
+use core::mem::replace_with;
 use std::mem::replace;
 
-/// A list, and how many bytes may be put behind it. Where a text found no room, nothing more is
-/// told of what was put on.
+/// A list, and how long it may get. Where a text found no room, nothing more is told of what was
+/// put on.
 #[derive(Drop)]
 pub struct LineBuffer {
     out: Vec<u8>,
-    room: usize,
+    end: usize,
     is_full: bool,
-    ghost inside: { vec_len out + room ≤ vec_capacity out },
+    ghost within: { vec_len out ≤ end },
+    ghost inside: { end ≤ vec_capacity out },
 }
 
 impl LineBuffer {
     /// Room for at most so many bytes.
     pub fn new(out: Vec<u8>, most: usize) -> LineBuffer
         ensures out { result.out ≡ out }
-        ensures room { (result.is_full ≡ false) × (result.room ≤ most) }
+        ensures room { (result.is_full ≡ false) × (result.end ≤ vec_len out + most) }
     {
-        let room = most.min(out.capacity() - out.len());
+        let end = out.len() + most.min(out.capacity() - out.len());
         LineBuffer {
             out,
-            room,
+            end,
             is_full: false,
         }
     }
@@ -37,6 +40,56 @@ impl LineBuffer {
     {
         (self.out, self.is_full)
     }
+
+    /// How many bytes may be put on.
+    #[inline(always)]
+    fn room(&self) -> usize
+        ensures { result + vec_len self.now.out ≡ self.now.end }
+    {
+        self.end - self.out.len()
+    }
+}
+
+/// A text between two others.
+#[derive(Clone, Copy)]
+struct Between<'a> {
+    front: &'a [u8],
+    text: &'a [u8],
+    back: &'a [u8],
+}
+
+/// A member whose name stands as it is.
+#[derive(Clone, Copy)]
+struct MemberRow<'a> {
+    name: &'a [u8],
+    offset: u64,
+    number: u64,
+}
+
+#[inline(always)]
+fn and_text(out: Vec<u8>, text: &[u8]) -> (Vec<u8>, ())
+    requires { HasRoom out text.now }
+    ensures { Appended out result.0 text.now }
+{
+    (appended(out, text), ())
+}
+
+#[inline(always)]
+fn and_between(out: Vec<u8>, row: Between<'_>) -> (Vec<u8>, ())
+    requires { HasRoom out (row.front.now ++ (row.text.now ++ row.back.now)) }
+    ensures { Appended out result.0
+        (row.entry.front.now ++ (row.entry.text.now ++ row.entry.back.now)) }
+{
+    (between(out, row.front, row.text, row.back), ())
+}
+
+#[inline(always)]
+fn and_member(out: Vec<u8>, row: MemberRow<'_>) -> (Vec<u8>, ())
+    requires { HasRoom out (member_row row.name.now row.offset row.number) }
+    ensures { Appended out result.0
+        (member_row row.entry.name.now row.entry.offset row.entry.number) }
+{
+    (with_member(out, row.name, row.offset, row.number), ())
 }
 
 impl TextSink for LineBuffer {
@@ -50,20 +103,16 @@ impl TextSink for LineBuffer {
 
     #[inline(always)]
     fn put(&mut self, text: &[u8]) {
-        if text.len() <= self.room {
-            let empty = Vec::new(*self.out.allocator());
-            self.room -= text.len();
-            self.out = appended(replace(&mut self.out, empty), text);
+        if text.len() <= self.room() {
+            replace_with(&mut self.out, text, and_text);
         } else {
-            self.room = 0;
             self.is_full = true;
         }
     }
 
     #[inline(always)]
     fn put_one(&mut self, byte: u8) {
-        if self.room > 0 {
-            self.room -= 1;
+        if self.room() > 0 {
             self.out.push_reserved(byte);
         } else {
             self.is_full = true;
@@ -73,24 +122,49 @@ impl TextSink for LineBuffer {
     #[inline(always)]
     fn put_between(&mut self, front: &[u8], text: &[u8], back: &[u8]) {
         let ends = front.len() + back.len();
-        if ends <= self.room && text.len() <= self.room - ends {
-            let empty = Vec::new(*self.out.allocator());
-            self.room -= ends + text.len();
-            let out = replace(&mut self.out, empty);
-            self.out = appended(appended(appended(out, front), text), back);
+        let room = self.room();
+        if ends <= room && text.len() <= room - ends {
+            replace_with(&mut self.out, Between { front, text, back }, and_between);
         } else {
-            self.room = 0;
+            self.is_full = true;
+        }
+    }
+
+    #[inline(always)]
+    #[tactic(auto, using(crate::proofs::MemberTexts::numbered_short))]
+    fn put_numbered(&mut self, front: &[u8], number: u64, back: &[u8]) {
+        if front.len() + back.len() + 20 <= self.room() {
+            let empty = Vec::new(*self.out.allocator());
+            self.out = numbered(replace(&mut self.out, empty), front, number, back);
+        } else {
+            self.is_full = true;
+        }
+    }
+
+    #[inline(always)]
+    #[tactic(auto, using(crate::proofs::MemberTexts::member_short))]
+    fn put_member(&mut self, name: &[u8], offset: u64, number: u64) {
+        let room = self.room();
+        if name.len() <= room && 69 <= room - name.len() {
+            replace_with(
+                &mut self.out,
+                MemberRow {
+                    name,
+                    offset,
+                    number,
+                },
+                and_member,
+            );
+        } else {
             self.is_full = true;
         }
     }
 
     #[tactic(auto, using(crate::proofs::HexText::hex_of_twice))]
     fn put_hex(&mut self, bytes: &[u8]) {
-        if bytes.len() <= self.room / 2 {
-            self.room -= 2 * bytes.len();
+        if bytes.len() <= self.room() / 2 {
             append_hex(&mut self.out, bytes);
         } else {
-            self.room = 0;
             self.is_full = true;
         }
     }

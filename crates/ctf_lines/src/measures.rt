@@ -3,6 +3,7 @@ ghost use Rattle.std.specs.Prelude.{◌≡◌, ◌+◌, ◌≤◌, min};
 
 use crate::text_sinks::TextSink;
 use crate::texts::TOO_LONG;
+use itoa::Buffer;
 
 /// How long the texts are that were put on, as far as the line of a reply may go.
 #[derive(Drop)]
@@ -62,6 +63,19 @@ impl TextSink for Measure {
         *self = Measure {
             len: plus(plus(self.len, front.len() + back.len()), text.len()),
         };
+    }
+
+    fn put_numbered(&mut self, front: &[u8], number: u64, back: &[u8]) {
+        let digits = Buffer::new().format(number).len();
+        *self = Measure {
+            len: plus(self.len, front.len() + digits + back.len()),
+        };
+    }
+
+    fn put_member(&mut self, name: &[u8], offset: u64, number: u64) {
+        self.put_between(b"{\"name\":\"", name, b"\",\"offset\":");
+        self.put_numbered(b"", offset, b",\"type\":");
+        self.put_numbered(b"", number, b"}");
     }
 
     #[tactic(auto, using(crate::proofs::HexText::hex_of_twice))]

@@ -16,6 +16,7 @@ fn truth(value: bool) -> &'static str
 }
 
 /// Puts a value on.
+#[inline(always)]
 pub fn put_single<P: TextSink>(sink: &mut P, value: &Single<'_>)
     ensures { P.Took sink.old (single_text (single_of value.now)) sink.new }
 {
@@ -62,19 +63,8 @@ fn put_quoted_hex<P: TextSink>(sink: &mut P, bytes: &[u8])
     sink.put_one(b'"');
 }
 
-/// Puts a key and its colon on. The keys of members are known as a whole.
+/// Puts a key and its colon on.
 pub fn put_key<P: TextSink>(sink: &mut P, key: &str)
-    ensures { P.Took sink.old (key_text key.now) sink.new }
-{
-    match key.as_bytes() {
-        b"name" => sink.put(b"\"name\":"),
-        b"type" => sink.put(b"\"type\":"),
-        b"offset" => sink.put(b"\"offset\":"),
-        _ => put_any_key(sink, key),
-    }
-}
-
-fn put_any_key<P: TextSink>(sink: &mut P, key: &str)
     ensures { P.Took sink.old (key_text key.now) sink.new }
 {
     sink.put_between(b"\"", key.as_bytes(), b"\":");

@@ -1,6 +1,7 @@
 //! What texts are put on: the end of a line, or a measure of how long they are.
-ghost use Rattle.std.specs.Prelude.{◌≡◌, ◌≤◌, ◌++◌, [], ◌∷◌, true, ℕ, List, length};
+ghost use Rattle.std.specs.Prelude.{◌≡◌, ◌≤◌, ◌++◌, [], ◌∷◌, true, ℕ, List, length, decimal};
 ghost use Rattle.ctf_protocol.specs.lines.Text.{hex_of};
+ghost use Rattle.ctf_lines.specs.Rows.{member_row};
 
 /// What texts are put on, one behind the other.
 pub trait TextSink {
@@ -21,8 +22,17 @@ pub trait TextSink {
 
     /// Puts a text on between two short ones.
     fn put_between(&mut self, front: &[u8], text: &[u8], back: &[u8])
-        requires { (length front.now ≤ 4) × (length back.now ≤ 4) }
+        requires { (length front.now ≤ 16) × (length back.now ≤ 16) }
         ensures { Took self.old (front.now ++ (text.now ++ back.now)) self.new };
+
+    /// Puts a number on between two short texts.
+    fn put_numbered(&mut self, front: &[u8], number: u64, back: &[u8])
+        requires { (length front.now ≤ 16) × (length back.now ≤ 16) }
+        ensures { Took self.old (front.now ++ (decimal number ++ back.now)) self.new };
+
+    /// Puts a member on, whose name stands as it is.
+    fn put_member(&mut self, name: &[u8], offset: u64, number: u64)
+        ensures { Took self.old (member_row name.now offset number) self.new };
 
     /// Puts on the digits of bytes, two for each.
     fn put_hex(&mut self, bytes: &[u8])

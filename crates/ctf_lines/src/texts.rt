@@ -3,6 +3,7 @@ ghost use Rattle.std.specs.Prelude.{◌≡◌, ◌+◌, ◌<◌, ◌≤◌, ◌+
 ghost use Rattle.ctf_model.specs.dumps.Texts.{signed_decimal};
 ghost use Rattle.ctf_lines.specs.Appending.{HasRoom, Appended};
 
+use crate::appending::appended;
 use crate::escapes::append_hex;
 use crate::text_sinks::TextSink;
 use itoa::Buffer;
@@ -13,19 +14,6 @@ pub const LONGEST_REPLY: usize = 4_194_304;
 
 /// The length, newline included, that any line counts as which is longer than a reply's may be.
 pub const TOO_LONG: usize = 4_194_306;
-
-/// A list with bytes behind it, for which there is room.
-#[inline(always)]
-pub fn appended(out: Vec<u8>, bytes: &[u8]) -> Vec<u8>
-    requires { HasRoom out bytes.now }
-    ensures { Appended out result bytes.now }
-{
-    let mut lines = out;
-    for byte in bytes {
-        lines.push_reserved(*byte);
-    }
-    lines
-}
 
 /// Appends bytes where there is room.
 fn append(out: &mut Vec<u8>, bytes: &[u8])
@@ -65,6 +53,18 @@ impl TextSink for Vec<u8> {
         self.put(back);
     }
 
+    fn put_numbered(&mut self, front: &[u8], number: u64, back: &[u8]) {
+        self.put(front);
+        self.put(Buffer::new().format(number).as_bytes());
+        self.put(back);
+    }
+
+    fn put_member(&mut self, name: &[u8], offset: u64, number: u64) {
+        self.put_between(b"{\"name\":\"", name, b"\",\"offset\":");
+        self.put_numbered(b"", offset, b",\"type\":");
+        self.put_numbered(b"", number, b"}");
+    }
+
     #[tactic(auto, using(crate::proofs::HexText::hex_of_twice))]
     fn put_hex(&mut self, bytes: &[u8]) {
         if bytes.len() <= (self.capacity() - self.len()) / 2 {
@@ -77,41 +77,11 @@ impl TextSink for Vec<u8> {
     ghost joined = { both_appended };
 }
 
-fn digit(number: u64) -> u8
-    requires { number < 10 }
-    ensures { result ≡ 48 + number }
-{
-    b'0' + number as u8
-}
-
-fn put_two_digits<P: TextSink>(sink: &mut P, number: u64)
-    requires { (10 ≤ number) × (number < 100) }
-    ensures { P.Took sink.old (decimal number) sink.new }
-{
-    sink.put(&[digit(number / 10), digit(number % 10)]);
-}
-
-fn put_three_digits<P: TextSink>(sink: &mut P, number: u64)
-    requires { (100 ≤ number) × (number < 1000) }
-    ensures { P.Took sink.old (decimal number) sink.new }
-{
-    let front = number / 10;
-    sink.put(&[digit(front / 10), digit(front % 10), digit(number % 10)]);
-}
-
-/// Puts a number on. Most are small.
+/// Puts a number on.
 pub fn put_number<P: TextSink>(sink: &mut P, number: u64)
     ensures { P.Took sink.old (decimal number) sink.new }
 {
-    if number < 10 {
-        sink.put_one(digit(number));
-    } else if number < 100 {
-        put_two_digits(sink, number);
-    } else if number < 1000 {
-        put_three_digits(sink, number);
-    } else {
-        sink.put(Buffer::new().format(number).as_bytes());
-    }
+    sink.put_numbered(b"", number, b"");
 }
 
 pub fn put_signed<P: TextSink>(sink: &mut P, value: i32)

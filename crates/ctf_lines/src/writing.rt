@@ -8,9 +8,10 @@ ghost use Rattle.ctf_lines.specs.Appending.{Appended, IsAsBefore, Writes, and_te
 use crate::line_buffers::LineBuffer;
 use crate::line_traits::ToLine;
 use crate::measures::Measure;
+use crate::rows::Fields;
 use crate::series::put_series;
 use crate::text_sinks::TextSink;
-use crate::texts::{LONGEST_REPLY, put_number};
+use crate::texts::LONGEST_REPLY;
 use ctf_answers::{Answer, Counts, Reply, Single};
 use ctf_protocol::{Fault, fault_name, placeless};
 use std::alloc::AllocError;
@@ -27,13 +28,9 @@ pub const SHORT_PASS: usize = 131_072;
 fn put_line<P: TextSink>(sink: &mut P, under: &str, session: u32, fields: &Answer<'_>)
     ensures { P.Took sink.old (object_line under.now session fields.now) sink.new }
 {
-    sink.put(b"{\"");
-    sink.put(under.as_bytes());
-    sink.put(b"\":{");
-    put_series(sink, fields);
-    sink.put(b"},\"s\":");
-    put_number(sink, u64::from(session));
-    sink.put(b"}\n");
+    sink.put_between(b"{\"", under.as_bytes(), b"\":{");
+    put_series(sink, &Fields { answer: fields });
+    sink.put_numbered(b"},\"s\":", u64::from(session), b"}\n");
 }
 
 /// The length of the line of an object, newline included; `TOO_LONG` for any that is longer than a

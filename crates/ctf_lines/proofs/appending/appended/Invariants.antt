@@ -1,5 +1,5 @@
 use Rattle.std.proofs.Common.{◌≡◌, ◌++◌, ◌+◌, take, vec_capacity, vec_len}
-use Rattle.ctf_lines.proofs.texts.appended.Given as goal
+use Rattle.ctf_lines.proofs.appending.appended.Given as goal
 
 abbrev pub invariant-loop-byte : goal.invariant-loop-byte
 invariant-loop-byte l = record {

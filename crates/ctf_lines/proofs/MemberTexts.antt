@@ -1,0 +1,59 @@
+-- Rows of lists, and how long they are.
+use Rattle.std.proofs.Common.{◌≡◌, ℕ, ◌+◌, ◌<◌, ◌≤◌, ◌^◌, List, [], ◌∷◌, ◌++◌, length, length-append, append_assoc, codes, decimal, sym, ap, ◌∙◌, arith}
+use Rattle.std.specs.Prelude.{Vec}
+use Rattle.std.specs.List.{concat}
+use Rattle.std.specs.declared.alloc.Global.{Global}
+use Rattle.ctf_model.specs.dumps.Texts.{with_commas}
+use Rattle.ctf_model.specs.format.Term.{Member}
+use Rattle.ctf_protocol.specs.lines.Text.{text_of}
+use Rattle.ctf_protocol.specs.lines.ReplyLines.{item_text, key_text, quoted}
+use Rattle.ctf_protocol.specs.answers.Questions.{member_item}
+use Rattle.ctf_lines.specs.Appending.{Appended}
+use Rattle.ctf_lines.specs.Rows.{member_row}
+use Rattle.ctf_lines.proofs.Objects.{three_parts}
+use Rattle.ctf_lines.proofs.Short.{decimal_64}
+
+pub numbered_short : (front back : List ℕ) (n : ℕ) → n < 2 ^ 64 → length (front ++ (decimal n ++ back)) ≤ length front + length back + 20
+numbered_short front back n fits =
+    let digits = decimal_64 n fits in
+    let all = length-append front (decimal n ++ back) in
+    let rest = length-append (decimal n) back in
+    omega (arith, digits, all, rest)
+
+pub member_short : (name : List ℕ) (offset number : ℕ) → offset < 2 ^ 64 → number < 2 ^ 64 → length (member_row name offset number) ≤ length name + 69
+member_short name offset number fits small =
+    let first = decimal_64 offset fits in
+    let second = decimal_64 number small in
+    let end = length-append (decimal number) (codes "}") in
+    let behind = length-append (decimal offset) (codes ",\"type\":" ++ (decimal number ++ codes "}")) in
+    let all = length-append name (codes "\",\"offset\":" ++ (decimal offset ++ (codes ",\"type\":" ++ (decimal number ++ codes "}")))) in
+    omega (arith, first, second, end, behind, all)
+
+-- a member whose name stands as a text
+row_text : (text : List ℕ) (offset number : ℕ) → member_row text offset number ≡ concat (codes "{" ∷ with_commas ((key_text (codes "name") ++ quoted text) ∷ (key_text (codes "offset") ++ decimal offset) ∷ (key_text (codes "type") ++ decimal number) ∷ []) ∷ codes "}" ∷ [])
+row_text text offset number =
+    let behind = codes ",\"offset\":" ++ (decimal offset ++ (codes ",\"type\":" ++ (decimal number ++ codes "}"))) in
+    ap (λ (t : List ℕ). codes "{\"name\":\"" ++ t) (sym (append_assoc text (codes "\"") behind))
+    ∙ ap (λ (t : List ℕ). 123 ∷ t) (three_parts (key_text (codes "name") ++ quoted text) (key_text (codes "offset") ++ decimal offset) (key_text (codes "type") ++ decimal number))
+
+pub member_text : (m : Member) → text_of m.name ≡ m.name → member_row m.name m.offset m.tnum ≡ item_text (member_item m)
+member_text m same = ap (λ (t : List ℕ). member_row t m.offset m.tnum) (sym same) ∙ row_text (text_of m.name) m.offset m.tnum
+
+-- the pieces of a member, one behind the other
+pub pieces : (front name back digits more last : List ℕ) → (front ++ (name ++ back)) ++ ((digits ++ more) ++ last) ≡ front ++ (name ++ (back ++ (digits ++ (more ++ last))))
+pieces front name back digits more last =
+    append_assoc front (name ++ back) ((digits ++ more) ++ last)
+    ∙ ap (λ (t : List ℕ). front ++ t)
+    (append_assoc name back ((digits ++ more) ++ last)
+    ∙ ap (λ (t : List ℕ). name ++ (back ++ t)) (append_assoc digits more last))
+
+pub two_appended : {old mid new : Vec ℕ Global} {a b : List ℕ} → Appended old mid a → Appended mid new b → Appended old new (a ++ b)
+two_appended {old} {mid} {new} {a} {b} one two =
+    let both = length-append a b in
+    let len = one.len in
+    let more = two.len in
+    record {
+      items = two.items ∙ ap (λ (t : List ℕ). t ++ b) one.items ∙ append_assoc old.items a b;
+      len = omega (arith, both, len, more);
+      capacity = two.capacity ∙ one.capacity;
+    }

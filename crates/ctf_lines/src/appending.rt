@@ -1,0 +1,112 @@
+//! Texts behind a list that is held by value, where there is room.
+ghost use Rattle.std.specs.Prelude.{◌≡◌, ◌+◌, ◌<◌, ◌≤◌, ◌++◌, length, vec_len, vec_capacity, decimal};
+ghost use Rattle.ctf_lines.specs.Appending.{HasRoom, Appended};
+ghost use Rattle.ctf_lines.specs.Rows.{member_row};
+
+use itoa::Buffer;
+
+/// A list with bytes behind it.
+#[inline(always)]
+pub fn appended(out: Vec<u8>, bytes: &[u8]) -> Vec<u8>
+    requires { HasRoom out bytes.now }
+    ensures { Appended out result bytes.now }
+{
+    let mut lines = out;
+    for byte in bytes {
+        lines.push_reserved(*byte);
+    }
+    lines
+}
+
+fn digit(number: u64) -> u8
+    requires { number < 10 }
+    ensures { result ≡ 48 + number }
+{
+    b'0' + number as u8
+}
+
+#[inline(always)]
+fn with_digit(out: Vec<u8>, number: u64) -> Vec<u8>
+    requires number { number < 10 }
+    requires room { HasRoom out (decimal number) }
+    ensures { Appended out result (decimal number) }
+{
+    appended(out, &[digit(number)])
+}
+
+#[inline(always)]
+fn with_two_digits(out: Vec<u8>, number: u64) -> Vec<u8>
+    requires number { (10 ≤ number) × (number < 100) }
+    requires room { HasRoom out (decimal number) }
+    ensures { Appended out result (decimal number) }
+{
+    appended(out, &[digit(number / 10), digit(number % 10)])
+}
+
+#[inline(always)]
+fn with_three_digits(out: Vec<u8>, number: u64) -> Vec<u8>
+    requires number { (100 ≤ number) × (number < 1000) }
+    requires room { HasRoom out (decimal number) }
+    ensures { Appended out result (decimal number) }
+{
+    let front = number / 10;
+    appended(
+        out,
+        &[digit(front / 10), digit(front % 10), digit(number % 10)],
+    )
+}
+
+/// Not part of its callers, since most numbers are short.
+#[inline(never)]
+fn with_long_number(out: Vec<u8>, number: u64) -> Vec<u8>
+    requires { HasRoom out (decimal number) }
+    ensures { Appended out result (decimal number) }
+{
+    appended(out, Buffer::new().format(number).as_bytes())
+}
+
+/// A list with a number behind it.
+#[inline(always)]
+fn with_number(out: Vec<u8>, number: u64) -> Vec<u8>
+    requires { HasRoom out (decimal number) }
+    ensures { Appended out result (decimal number) }
+{
+    if number < 10 {
+        with_digit(out, number)
+    } else if number < 100 {
+        with_two_digits(out, number)
+    } else if number < 1000 {
+        with_three_digits(out, number)
+    } else {
+        with_long_number(out, number)
+    }
+}
+
+/// A list with a text behind it that stands between two others.
+#[inline(always)]
+pub fn between(out: Vec<u8>, front: &[u8], text: &[u8], back: &[u8]) -> Vec<u8>
+    requires { HasRoom out (front.now ++ (text.now ++ back.now)) }
+    ensures { Appended out result (front.now ++ (text.now ++ back.now)) }
+{
+    appended(appended(appended(out, front), text), back)
+}
+
+/// A list with a number behind it that stands between two texts.
+#[inline(always)]
+pub fn numbered(out: Vec<u8>, front: &[u8], number: u64, back: &[u8]) -> Vec<u8>
+    requires { HasRoom out (front.now ++ (decimal number ++ back.now)) }
+    ensures { Appended out result (front.now ++ (decimal number ++ back.now)) }
+{
+    appended(with_number(appended(out, front), number), back)
+}
+
+/// A list with a member behind it whose name stands as it is.
+#[inline(always)]
+pub fn with_member(out: Vec<u8>, name: &[u8], offset: u64, number: u64) -> Vec<u8>
+    requires { HasRoom out (member_row name.now offset number) }
+    ensures { Appended out result (member_row name.now offset number) }
+{
+    let out = between(out, b"{\"name\":\"", name, b"\",\"offset\":");
+    let out = numbered(out, b"", offset, b",\"type\":");
+    numbered(out, b"", number, b"}")
+}
