@@ -158,16 +158,26 @@ def deep_drafts() -> Iterable[Case]:
             yield Case(f"{name}, shown", lines + shown(layers))
 
 
+def above(first: int, count: int, held: int) -> list[bytes]:
+    """So many structs, each of which contains the one before it, and the first of them another one;
+    they have the numbers from the first one's on."""
+    numbers = [held, *range(first, first + count)]
+    return [ask(1, "add", d=1, what="member", t=outer, type=inner)
+            for inner, outer in zip(numbers, numbers[1:])]
+
+
 def circled_drafts() -> Iterable[Case]:
     """Structs in each other, as many as there may be, where one of them then comes into the first.
     All that are in this circle get deeper until nothing is known of their depth, and then all above
-    it do."""
+    it do: those that contain one of the circle, or as many others."""
     for last in (2, 3, LAYERS // 2, LAYERS):
-        lines = [ask(1, "create")]
-        lines += [ask(1, "add", d=1, what="struct") for _ in range(LAYERS + 1)]
-        lines += [ask(1, "add", d=1, what="member", t=2 + i, type=1 + i) for i in range(LAYERS)]
-        lines += [ask(1, "add", d=1, what="member", t=1, type=last), ask(1, "update", d=1)]
-        yield Case(f"a draft of {LAYERS} structs in each other, {last} in a circle", lines)
+        for others in (0, LAYERS - 1):
+            lines = [ask(1, "create")]
+            lines += [ask(1, "add", d=1, what="struct") for _ in range(LAYERS + 1 + others)]
+            lines += above(2, last - 1 if others else LAYERS, 1) + above(LAYERS + 2, others, 1)
+            lines += [ask(1, "add", d=1, what="member", t=1, type=last), ask(1, "update", d=1)]
+            beside = f" and {others} above these" if others else ""
+            yield Case(f"a draft of {LAYERS} structs, {last} in a circle{beside}", lines)
 
 
 def deep_children() -> Iterable[Case]:

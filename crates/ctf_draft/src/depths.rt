@@ -8,9 +8,10 @@ use std::alloc::{AllocError, Global};
 /// A depth that says nothing: more than the longest chain of steps.
 pub(crate) const UNKNOWN: u16 = 513;
 
-/// How many types a rise goes up through at most, one after the other. Where no type contains
-/// itself, that is no more than the greatest bound; around a circle it may be three times as many.
-const MOST_RISES: u16 = 1600;
+/// How many types a rise goes up through at most, one after the other, each with 200 bytes of stack.
+/// Where no type contains itself, that is no more than the greatest bound; around a circle it may be
+/// more.
+const MOST_RISES: u16 = 1026;
 
 /// How many holders of types a rise looks at before it says of all further ones that nothing is
 /// known: a type may have to rise by each of the ways that lead to it.
