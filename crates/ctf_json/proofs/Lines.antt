@@ -11,6 +11,7 @@ use Rattle.ctf_joined.specs.Joined.{texts}
 use Rattle.ctf_joined.specs.declared.joined.Joined.{Joined}
 use Rattle.ctf_json.specs.Keys.{place_in, wanted_at}
 use Rattle.ctf_json.specs.Told.{told_number}
+use Rattle.ctf_model.specs.declared.numbers.TypeNum.{TypeNum}
 use Rattle.ctf_json.specs.Values.{args_without, fits, keys, line_said, members_said, names_without, numbers_said, put_some, said, texts_said}
 use Rattle.ctf_json.specs.declared.values.Field.{Field}
 use Rattle.ctf_json.specs.declared.values.Field.TheVariants as field
@@ -47,7 +48,7 @@ put_over q k (Some d) ms = put_by q k d ms (bytes_eq q k) refl
 abbrev as_names : Option Joined → Option Data
 as_names o = option_map (λ v. array (texts_said (texts v))) o
 
-abbrev as_args : Option (Vec ℕ Global) → Option Data
+abbrev as_args : Option (Vec TypeNum Global) → Option Data
 as_args o = option_map (λ v. array (numbers_said v.items)) o
 
 -- what a line of these parts has at a name
@@ -148,18 +149,15 @@ args_listed line = ap (option_and_then as_array) (line_at args_key (as_args line
     field_none : option_and_then as_array (get_member args_key (members_said keys line.fields.all)) ≡ None
     field_none = ap (option_and_then as_array) (member_is args_key keys line.fields.all refl) ∙ no_list keys args_key line.fields.all
 
-    by_args : (o : Option (Vec ℕ Global)) → option_and_then as_array (over true (as_args o) (get_member args_key (members_said keys line.fields.all))) ≡ option_map (λ v. numbers_said v.items) o
+    by_args : (o : Option (Vec TypeNum Global)) → option_and_then as_array (over true (as_args o) (get_member args_key (members_said keys line.fields.all))) ≡ option_map (λ v. numbers_said v.items) o
     by_args None = field_none
     by_args (Some v) = refl
-
-pub listed_args : (line : Line) (v : Vec ℕ Global) (ns : List ℕ) → line.args ≡ Some v → ns ≡ v.items → Some (numbers_said ns) ≡ option_and_then as_array (get args_key (line_said line))
-listed_args line v ns e is = ap (λ l. Some (numbers_said l)) is ∙ sym (args_listed line ∙ ap (option_map (λ w. numbers_said w.items)) e)
 
 pub got_names : (key : List ℕ) (line : Line) (v : Joined) → Texts ≡ wanted_at key → line.names ≡ Some v → Some (array (texts_said (texts v))) ≡ get key (line_said line)
 got_names key line v w e =
     sym (names_here key (as_args line.args) (as_names line.names) (members_said keys line.fields.all) (sym w) ∙ ap (λ o. over true (as_names o) (get_member key (members_said keys line.fields.all))) e)
 
-pub got_args : (key : List ℕ) (line : Line) (v : Vec ℕ Global) (ns : List ℕ) → Numbers ≡ wanted_at key → line.args ≡ Some v → ns ≡ v.items → Some (array (numbers_said ns)) ≡ get key (line_said line)
+pub got_args : (key : List ℕ) (line : Line) (v : Vec TypeNum Global) (ns : List TypeNum) → Numbers ≡ wanted_at key → line.args ≡ Some v → ns ≡ v.items → Some (array (numbers_said ns)) ≡ get key (line_said line)
 got_args key line v ns w e is =
     ap (λ l. Some (array (numbers_said l))) is
     ∙ sym (args_here key (as_args line.args) (as_names line.names) (members_said keys line.fields.all) (sym w) ∙ ap (λ o. over true (as_args o) (get_member key (members_said keys line.fields.all))) e)
@@ -195,7 +193,7 @@ module _ (key q : List ℕ) where
       let not = apart args_key other ((bytes_eq-Decides key args_key).1 is) in
       ap (λ b. over b (Some d) (over (bytes_eq q names_key) names x)) not ∙ sym (ap (λ b. over b args (over (bytes_eq q names_key) names x)) not)
 
-  module _ (args : Option (Vec ℕ Global)) (names : Option Joined) (f : Data) (x : Option Data) where
+  module _ (args : Option (Vec TypeNum Global)) (names : Option Joined) (f : Data) (x : Option Data) where
     -- a field at a key takes the place of a list there
     field_by : (w : Wanted) (b : Bool) → bytes_eq key q ≡ b → wanted_at key ≡ w → parts q (as_args (args_without w args)) (as_names (names_without w names)) (cond b (Some f) x) ≡ cond b (Some f) (parts q (as_args args) (as_names names) x)
     field_by Texts true same is = ap (λ k. parts k (as_args args) None (Some f)) (sym ((bytes_eq-Decides key q).0 same) ∙ at_names key is)
@@ -221,25 +219,25 @@ texts_fit Texts v e = refl
 texts_fit Numbers v e = absurd (false≢true e)
 texts_fit Nothing v e = absurd (false≢true e)
 
-pub numbers_fit : (w : Wanted) (v : Vec ℕ Global) → fits w (was.Numbers v) ≡ true → w ≡ Numbers
+pub numbers_fit : (w : Wanted) (v : Vec TypeNum Global) → fits w (was.Numbers v) ≡ true → w ≡ Numbers
 numbers_fit Texts v e = absurd (false≢true e)
 numbers_fit Numbers v e = refl
 numbers_fit Nothing v e = absurd (false≢true e)
 
 -- a value at a key, and all else as it was
-abbrev pub has : List ℕ → List (Option Field) → Option Joined → Option (Vec ℕ Global) → Option Data
+abbrev pub has : List ℕ → List (Option Field) → Option Joined → Option (Vec TypeNum Global) → Option Data
 has q fields names args = get_member q (put_some args_key (as_args args) (put_some names_key (as_names names) (members_said keys fields)))
 
-has_parts : (q : List ℕ) (fields : List (Option Field)) (names : Option Joined) (args : Option (Vec ℕ Global)) → has q fields names args ≡ parts q (as_args args) (as_names names) (at_name q keys fields)
+has_parts : (q : List ℕ) (fields : List (Option Field)) (names : Option Joined) (args : Option (Vec TypeNum Global)) → has q fields names args ≡ parts q (as_args args) (as_names names) (at_name q keys fields)
 has_parts q fields names args = line_at q (as_args args) (as_names names) (members_said keys fields) ∙ ap (parts q (as_args args) (as_names names)) (member_is q keys fields refl)
 
-pub list_kept : (key q : List ℕ) (fields : List (Option Field)) (names : Option Joined) (args : Option (Vec ℕ Global)) (v : Joined) → key ≡ names_key
+pub list_kept : (key q : List ℕ) (fields : List (Option Field)) (names : Option Joined) (args : Option (Vec TypeNum Global)) (v : Joined) → key ≡ names_key
     → has q fields (Some v) args ≡ cond (bytes_eq key q) (Some (array (texts_said (texts v)))) (has q fields names args)
 list_kept key q fields names args v is =
     has_parts q fields (Some v) args ∙ names_kept key q (as_args args) (as_names names) (array (texts_said (texts v))) (at_name q keys fields) (bytes_eq key q) refl is
     ∙ ap (cond (bytes_eq key q) (Some (array (texts_said (texts v))))) (sym (has_parts q fields names args))
 
-pub numbers_kept : (key q : List ℕ) (fields : List (Option Field)) (names : Option Joined) (args : Option (Vec ℕ Global)) (v : Vec ℕ Global) → key ≡ args_key
+pub numbers_kept : (key q : List ℕ) (fields : List (Option Field)) (names : Option Joined) (args : Option (Vec TypeNum Global)) (v : Vec TypeNum Global) → key ≡ args_key
     → has q fields names (Some v) ≡ cond (bytes_eq key q) (Some (array (numbers_said v.items))) (has q fields names args)
 numbers_kept key q fields names args v is =
     has_parts q fields names (Some v) ∙ args_kept key q (as_args args) (as_names names) (array (numbers_said v.items)) (at_name q keys fields) (bytes_eq key q) refl is

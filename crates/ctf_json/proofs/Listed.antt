@@ -8,6 +8,7 @@ use Rattle.json.proofs.Grammar.{items_end, items_more, value_is, skip_value-shor
 use Rattle.serde_json.specs.Data as tree
 use Rattle.serde_json.specs.Data.{Num, Data, unsigned}
 use Rattle.serde_json.specs.Find.{as_str}
+use Rattle.ctf_model.specs.declared.numbers.TypeNum.{TypeNum}
 use Rattle.ctf_json.specs.Told.{told, told_items, in_range, items_in_range}
 use Rattle.ctf_json.specs.Passed.{begun, passed, passed_items, passed_value}
 use Rattle.ctf_json.specs.Values.{are, front, is_small, is_text, number_said, small}
@@ -63,9 +64,9 @@ abbrev text_or : Option (List ℕ) → List ℕ
 text_or None = []
 text_or (Some s) = s
 
-abbrev number_or : Option ℕ → ℕ
+abbrev number_or : Option TypeNum → ℕ
 number_or None = 0
-number_or (Some n) = n
+number_or (Some t) = t.0
 
 pub text_is : (d : Data) (s : List ℕ) → Some s ≡ as_str d → (is_text d ≡ true) × (d ≡ tree.string s)
 text_is tree.null s e = absurd (subst IsNone (sym e) tt)
@@ -75,16 +76,16 @@ text_is (tree.string r) s e = (refl, ap (λ o. tree.string (text_or o)) (sym e))
 text_is (tree.array ds) s e = absurd (subst IsNone (sym e) tt)
 text_is (tree.object ms) s e = absurd (subst IsNone (sym e) tt)
 
-small_by : (b : Bool) (m n : ℕ) → Some n ≡ (if b then Some m else None) → (b ≡ true) × (m ≡ n)
+small_by : (b : Bool) (m : ℕ) (t : TypeNum) → Some t ≡ (if b then Some (record { 0 = m }) else None) → (b ≡ true) × (m ≡ t.0)
 small_by true m n e = (refl, ap number_or (sym e))
 small_by false m n e = absurd (subst IsNone (sym e) tt)
 
-pub number_is : (d : Data) (n : ℕ) → Some n ≡ small d → (is_small d ≡ true) × (d ≡ number_said n)
+pub number_is : (d : Data) (n : TypeNum) → Some n ≡ small d → (is_small d ≡ true) × (d ≡ number_said n)
 number_is tree.null n e = absurd (subst IsNone (sym e) tt)
 number_is (tree.boolean b) n e = absurd (subst IsNone (sym e) tt)
 number_is (tree.number (unsigned m)) n e =
     let is = small_by (nat_le m 65535) m n e in
-    (ap is_some (sym e), ap number_said is.1)
+    (ap is_some (sym e), ap (λ k. tree.number (unsigned k)) is.1)
 number_is (tree.number (tree.negative z)) n e = absurd (subst IsNone (sym e) tt)
 number_is (tree.number (tree.float x)) n e = absurd (subst IsNone (sym e) tt)
 number_is (tree.string r) n e = absurd (subst IsNone (sym e) tt)

@@ -5,6 +5,7 @@ use Rattle.serde_json.specs.Find.{as_number, as_str, as_u64, get}
 use Rattle.serde_json.specs.Read.{number_of}
 use Rattle.ctf_joined.specs.Joined.{texts}
 use Rattle.ctf_joined.specs.declared.joined.Joined.{Joined}
+use Rattle.ctf_model.specs.declared.numbers.TypeNum.{TypeNum}
 use Rattle.ctf_json.specs.Told.{told_number}
 use Rattle.ctf_json.specs.declared.keys.TheConstants.{KEYS}
 use Rattle.ctf_json.specs.declared.line.Line.{Line}
@@ -32,13 +33,13 @@ front says (x ∷ xs) ds = item (says x) (front says xs ds)
 abbrev pub text_said : List ℕ → Data
 text_said text = string text
 
-abbrev pub number_said : ℕ → Data
-number_said n = number (unsigned n)
+abbrev pub number_said : TypeNum → Data
+number_said t = number (unsigned t.0)
 
 abbrev pub texts_said : List (List ℕ) → Items
 texts_said texts = front text_said texts no_items
 
-abbrev pub numbers_said : List ℕ → Items
+abbrev pub numbers_said : List TypeNum → Items
 numbers_said numbers = front number_said numbers no_items
 
 -- whether all are so
@@ -46,10 +47,10 @@ abbrev pub are : (Data → Bool) → Items → Bool
 are test no_items = true
 are test (item d ds) = test d && are test ds
 
--- the number of 16 bits that a value is
-abbrev pub small : Data → Option ℕ
+-- the number of a type, of 16 bits, that a value is
+abbrev pub small : Data → Option TypeNum
 small d =
-    option_and_then (λ n. if nat_le n 65535 then Some n else None)
+    option_and_then (λ n. if nat_le n 65535 then Some (record { 0 = n }) else None)
     (option_and_then as_u64 (as_number d))
 
 abbrev pub is_text : Data → Bool
@@ -94,7 +95,7 @@ names_without Texts names = None
 names_without Numbers names = names
 names_without Nothing names = names
 
-abbrev pub args_without : Wanted → Option (Vec ℕ Global) → Option (Vec ℕ Global)
+abbrev pub args_without : Wanted → Option (Vec TypeNum Global) → Option (Vec TypeNum Global)
 args_without Texts args = args
 args_without Numbers args = None
 args_without Nothing args = args

@@ -19,7 +19,7 @@ mod words;
 
 pub use keys::KEYS;
 pub use line::{Fields, Line};
-pub use looking::{args, as_bool, as_i64, as_str, as_u64, get, take_names};
+pub use looking::{as_bool, as_i64, as_str, as_u64, get, take_args, take_names};
 pub use numbers::number;
 pub use reading::{NotRead, read_line};
 pub use values::{Field, Read, Value};

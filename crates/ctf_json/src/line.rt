@@ -4,6 +4,7 @@ ghost use Rattle.std.specs.Prelude.{◌≡◌, length};
 use crate::keys::COUNT;
 use crate::values::Field;
 use ctf_joined::Joined;
+use ctf_model::TypeNum;
 
 /// What is no list at each of the keys.
 #[derive(Drop)]
@@ -17,5 +18,5 @@ pub struct Fields<'a> {
 pub struct Line<'a> {
     pub(crate) fields: Fields<'a>,
     pub(crate) names: Option<Joined>,
-    pub(crate) args: Option<Vec<u16>>,
+    pub(crate) args: Option<Vec<TypeNum>>,
 }

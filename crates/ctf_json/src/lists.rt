@@ -18,6 +18,7 @@ use crate::reading::NotRead;
 use crate::values::{Field, Read};
 use crate::wanted::Wanted;
 use ctf_joined::Joined;
+use ctf_model::TypeNum;
 use json::{Invalid, Token};
 use std::alloc::Global;
 
@@ -90,16 +91,16 @@ fn numbers_at<'a>(alloc: Global, reader: &mut Reader<'a>, depth: usize) -> Resul
     Ok(Read::Numbers(numbers))
 }
 
-/// The number of 16 bits that a value is which begins with a token.
+/// The number of a type, which is of 16 bits, that a value is which begins with a token.
 #[inline(always)]
-fn small_number(token: Token<'_>) -> Option<u16>
+fn small_number(token: Token<'_>) -> Option<TypeNum>
     ensures { result ≡ small (told (begun (token_of token.entry))) }
 {
     let Token::Number(text) = token else {
         return None;
     };
     let number = natural(text)?;
-    u16::try_from(number).ok()
+    Some(TypeNum(u16::try_from(number).ok()?))
 }
 
 /// The text that a value is which begins with a token.

@@ -12,6 +12,7 @@ use crate::numbers::{natural, number};
 use crate::values::{Field, Value};
 use crate::wanted::Wanted;
 use ctf_joined::Joined;
+use ctf_model::TypeNum;
 use serde_json::Number;
 
 /// The value at a key.
@@ -96,13 +97,11 @@ pub fn take_names(line: &mut Line<'_>) -> Option<Joined>
     line.names.take()
 }
 
-/// The types of a line's arguments, where they are a list of numbers of 16 bits.
-pub fn args<'v>(line: &'v Line<'_>) -> Option<&'v [u16]>
-    ensures { option_map (λ numbers. numbers_said numbers.now) result
-        ≡ option_and_then array_said (found_under (codes "args") (line_said line.now)) }
+/// The types of a line's arguments, where they are a list of numbers of 16 bits. They are taken out
+/// of it.
+pub fn take_args(line: &mut Line<'_>) -> Option<Vec<TypeNum>>
+    ensures { option_map (λ args. numbers_said args.items) result
+        ≡ option_and_then array_said (found_under (codes "args") (line_said line.old)) }
 {
-    match &line.args {
-        Some(numbers) => Some(numbers.as_slice()),
-        None => None,
-    }
+    line.args.take()
 }

@@ -1,5 +1,6 @@
 //! Values of a line.
 use ctf_joined::Joined;
+use ctf_model::TypeNum;
 
 /// What is kept of a value that is no list.
 #[derive(Clone, Copy, Drop)]
@@ -11,13 +12,13 @@ pub enum Field<'a> {
     String(&'a str),
 }
 
-/// What is kept of a value that was read. Of an array all texts or all numbers of 16 bits, at the
-/// key where these are wanted; any other, and an object, is null.
+/// What is kept of a value that was read. Of an array all texts or all numbers of types, which are of
+/// 16 bits, at the key where these are wanted; any other, and an object, is null.
 #[derive(Drop)]
 pub enum Read<'a> {
     Field(Field<'a>),
     Texts(Joined),
-    Numbers(Vec<u16>),
+    Numbers(Vec<TypeNum>),
 }
 
 /// The value at a key.
@@ -25,5 +26,5 @@ pub enum Read<'a> {
 pub enum Value<'v, 'a> {
     Field(Field<'a>),
     Texts(&'v Joined),
-    Numbers(&'v [u16]),
+    Numbers(&'v [TypeNum]),
 }

@@ -1,15 +1,18 @@
 //! Reads what is added to a draft.
-ghost use Rattle.std.specs.Prelude.{◌≡◌, ◌≢◌, IfOk, Some, codes, option_and_then};
+ghost use Rattle.std.specs.Prelude.{◌≡◌, ◌≢◌, IfOk, Some, codes, option_and_then, option_map};
 ghost use Rattle.serde_json.specs.Find.{as_array, get};
 ghost use Rattle.ctf_json.specs.Values.{line_said as view, number_said, numbers_said};
 ghost use Rattle.ctf_protocol.specs.lines.LineFields.{text_in, type_under as type_asked_under};
 ghost use Rattle.ctf_protocol.specs.lines.AskAdditions.{addition_asked, addition_with as addition_asked_with, declared_named, kind_with, new_array_asked, new_enumerator_asked, new_function_asked, new_label_asked, new_member_asked, new_type_asked, offset_asked, root_asked, scalar_asked, size_or as size_or_asked, type_listed as type_listed_by, types_listed as types_listed_by, value_asked_for};
 ghost use Rattle.ctf_protocol.specs.declared.addables.Addable.TheVariants as adds;
+ghost use Rattle.ctf_protocol.specs.declared.additions.Addition.TheVariants as added;
 
 use crate::drafts::name_or_empty;
 use crate::reading::{number, number_within, text, type_number};
 use ctf_json::{Line, as_bool, as_i64, get};
-use ctf_protocol::{Addable, Addition, Declared, NewArray, NewKind, NewScalar, TypeNum, TypeNums};
+use ctf_protocol::{
+    Addable, Addition, Declared, NewArray, NewKind, NewScalar, Piece, TypeNum, TypeNums,
+};
 use std::alloc::{AllocError, Global};
 
 /// The number of a type under a key.
@@ -58,44 +61,46 @@ fn array(line: &Line<'_>) -> Option<NewArray>
     })
 }
 
-/// The type that a number is.
-#[inline]
-fn listed(number: u16) -> TypeNum
-    ensures { Some result ≡ type_listed_by (number_said number) }
+/// A number of 16 bits is that of a type.
+#[inline(always)]
+fn is_listed(number: TypeNum)
+    ensures { Some number ≡ type_listed_by (number_said number) }
+{}
+
+/// Numbers of 16 bits are those of types. No code is left of this.
+fn are_listed(numbers: &[TypeNum])
+    ensures { types_listed_by (numbers_said numbers.now) ≡ Some numbers.now }
 {
-    TypeNum(number)
+    for number in numbers {
+        is_listed(*number);
+    }
 }
 
 /// The types that numbers are.
-fn types_listed(alloc: Global, numbers: &[u16]) -> Result<TypeNums, AllocError>
-    ensures { IfOk result (λ types. types_listed_by (numbers_said numbers.now) ≡ Some types) }
+fn types_listed(numbers: Vec<TypeNum>) -> TypeNums
+    ensures { types_listed_by (numbers_said numbers.items) ≡ Some result }
 {
-    let mut types = Vec::with_capacity(alloc, numbers.len())?;
-    for number in numbers {
-        types.push_reserved(listed(*number));
-    }
-    Ok(TypeNums::new(types))
+    are_listed(numbers.as_slice());
+    TypeNums::new(numbers)
 }
 
-/// The numbers under a key that are a list of types.
-fn args<'v>(line: &'v Line<'_>) -> Option<&'v [u16]>
-    ensures { option_and_then (λ args. types_listed_by (numbers_said args.now)) result
+/// The numbers that are a list of types, which are taken out of the line.
+fn args(line: &mut Line<'_>) -> Option<Vec<TypeNum>>
+    ensures { option_and_then (λ args. types_listed_by (numbers_said args.items)) result
         ≡ option_and_then types_listed_by
-        (option_and_then as_array (get (codes "args") (view line.now))) }
+        (option_and_then as_array (get (codes "args") (view line.old))) }
 {
-    ctf_json::args(line)
+    ctf_json::take_args(line)
 }
 
-fn function(alloc: Global, line: &Line<'_>) -> Result<Option<NewKind>, AllocError>
-    ensures { IfOk result (λ x. x ≡ new_function_asked (view line.now)) }
+/// A function that returns a type, with the types of its arguments, which are taken out of the
+/// line.
+fn function(line: &mut Line<'_>) -> Option<NewKind>
+    ensures { result ≡ new_function_asked (view line.old) }
 {
-    let Some(returned) = type_under(line, "type") else {
-        return Ok(None);
-    };
-    match args(line) {
-        Some(numbers) => Ok(Some(NewKind::Function(returned, types_listed(alloc, numbers)?))),
-        None => Ok(None),
-    }
+    let returned = type_under(line, "type")?;
+    let args = args(line)?;
+    Some(NewKind::Function(returned, types_listed(args)))
 }
 
 /// What a forward declares.
@@ -120,6 +125,17 @@ fn root(line: &Line<'_>) -> Option<bool>
     }
 }
 
+/// A new type of a kind, with its name and whether look-ups see it, where all three are good.
+fn named_type(kind: Option<NewKind>, name: Option<Piece>, root: Option<bool>) -> Option<Addition>
+    ensures { result ≡ option_and_then (λ kind. option_and_then (λ name. option_map (λ root.
+        added.Type name root kind) root) name) kind }
+{
+    let kind = kind?;
+    let name = name?;
+    let root = root?;
+    Some(Addition::Type { name, root, kind })
+}
+
 /// A new type of a kind, where its own fields are good.
 fn new_type(
     alloc: Global,
@@ -128,16 +144,18 @@ fn new_type(
 ) -> Result<Option<Addition>, AllocError>
     ensures { IfOk result (λ addition. addition ≡ new_type_asked kind (view line.now)) }
 {
-    let Some(kind) = kind else {
-        return Ok(None);
-    };
-    let Some(name) = name_or_empty(alloc, line, "name")? else {
-        return Ok(None);
-    };
-    let Some(root) = root(line) else {
-        return Ok(None);
-    };
-    Ok(Some(Addition::Type { name, root, kind }))
+    let name = name_or_empty(alloc, line, "name")?;
+    Ok(named_type(kind, name, root(line)))
+}
+
+/// A new function, whose arguments are taken out of the line.
+fn new_function(alloc: Global, line: &mut Line<'_>) -> Result<Option<Addition>, AllocError>
+    ensures { IfOk result (λ addition. addition
+        ≡ new_type_asked (new_function_asked (view line.old)) (view line.old)) }
+{
+    let name = name_or_empty(alloc, line, "name")?;
+    let root = root(line);
+    Ok(named_type(function(line), name, root))
 }
 
 /// An offset in bits, if it is stated.
@@ -236,26 +254,23 @@ fn kind(line: &Line<'_>, what: Addable) -> Option<NewKind>
 /// What is added, with its fields.
 fn addition_with(
     alloc: Global,
-    line: &Line<'_>,
+    line: &mut Line<'_>,
     what: Addable,
 ) -> Result<Option<Addition>, AllocError>
-    ensures { IfOk result (λ addition. addition ≡ addition_asked_with (view line.now) what) }
+    ensures { IfOk result (λ addition. addition ≡ addition_asked_with (view line.old) what) }
 {
     match what {
         Addable::Member => member(alloc, line),
         Addable::Enumerator => enumerator(alloc, line),
         Addable::Label => label(alloc, line),
-        Addable::Function => {
-            let kind = function(alloc, line)?;
-            new_type(alloc, line, kind)
-        }
+        Addable::Function => new_function(alloc, line),
         _ => new_type(alloc, line, kind(line, what)),
     }
 }
 
 /// What a line adds to a draft.
-pub(crate) fn addition(alloc: Global, line: &Line<'_>) -> Result<Option<Addition>, AllocError>
-    ensures { IfOk result (λ addition. addition ≡ addition_asked (view line.now)) }
+pub(crate) fn addition(alloc: Global, line: &mut Line<'_>) -> Result<Option<Addition>, AllocError>
+    ensures { IfOk result (λ addition. addition ≡ addition_asked (view line.old)) }
 {
     let Some(word) = text(line, "what") else {
         return Ok(None);

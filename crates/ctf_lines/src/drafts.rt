@@ -57,8 +57,8 @@ pub(crate) fn create(alloc: Global, line: &Line<'_>) -> Result<Option<Request>, 
     }
 }
 
-pub(crate) fn add(alloc: Global, line: &Line<'_>) -> Result<Option<Request>, AllocError>
-    ensures { IfOk result (λ request. request ≡ add_asked (view line.now)) }
+pub(crate) fn add(alloc: Global, line: &mut Line<'_>) -> Result<Option<Request>, AllocError>
+    ensures { IfOk result (λ request. request ≡ add_asked (view line.old)) }
 {
     let Some(d) = slot(line) else {
         return Ok(None);
