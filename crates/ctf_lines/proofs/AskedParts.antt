@@ -1,5 +1,5 @@
 -- What is asked of a part of a line that has what is kept of the line under each key.
-use Rattle.std.proofs.Common.{◌≡◌, ℕ, List, [], ◌∷◌, Bool, true, false, ◌&&◌, cond, is_none, is_some, nat_le, Option, Some, None, option_map, option_and_then, codes, refl, sym, ap, ap₂, ◌∙◌}
+use Rattle.std.proofs.Common.{◌≡◌, ℕ, List, [], ◌∷◌, Bool, true, false, ◌&&◌, cond, is_none, is_some, nat_le, Option, Some, None, option_map, option_and_then, codes, refl, sym, ap, ◌∙◌}
 use Rattle.std.specs.Prelude.{if◌then◌else◌, unwrap_or}
 use Rattle.serde_json.specs.Data as json
 use Rattle.serde_json.specs.Data.{Data, Items}
@@ -84,7 +84,10 @@ no_text (json.string s) e = absurd (false≢true (sym e))
 no_text (json.array ds) e = refl
 no_text (json.object ms) e = refl
 
-no_number : (low high : Bool) (n : ℕ) → is_some (if high then Some n else None) ≡ false → as_type (if low && high then Some n else None) ≡ None
+abbrev typed : Bool → ℕ → Option TypeNum
+typed high n = if high then Some (record { 0 = n }) else None
+
+no_number : (low high : Bool) (n : ℕ) → is_some (typed high n) ≡ false → as_type (if low && high then Some n else None) ≡ None
 no_number low true n e = absurd (false≢true (sym e))
 no_number true false n e = refl
 no_number false false n e = refl

@@ -1,5 +1,5 @@
 -- A name that is put behind others, if it is short enough.
-use Rattle.std.proofs.Common.{◌≡◌, ◌<◌, ◌≤◌, ◌++◌, ℕ, zero, suc, List, [], ◌∷◌, All, Bool, true, false, Option, Some, None, nat_le, length, refl, sym, ap, ◌∙◌, subst, arith}
+use Rattle.std.proofs.Common.{◌≡◌, ◌≤◌, ◌++◌, ℕ, zero, suc, List, [], ◌∷◌, All, Bool, true, false, Option, Some, None, nat_le, length, refl, sym, ap, ◌∙◌, subst, arith}
 use Rattle.std.proofs.lemmas.List.Elements.{All-append}
 use Rattle.std.specs.Prelude.{⊤, option_and_then, if◌then◌else◌}
 use Rattle.std.specs.Option.{option_map}

@@ -1,4 +1,4 @@
-use Rattle.std.proofs.Common.{◌≡◌, ◌+◌, ◌++◌, List, drop, take, ap, sym, ◌∙◌, Some}
+use Rattle.std.proofs.Common.{◌+◌, ◌++◌, List, drop, take, ap, sym, ◌∙◌, Some}
 use Rattle.std.proofs.lemmas.List.{take_all, take_more}
 use Rattle.std.specs.Option.{option_map}
 use Rattle.ctf_json.specs.Values.{number_said, numbers_said}
@@ -11,7 +11,7 @@ pub loop-number-preserved : goal.loop-number-preserved
 loop-number-preserved c =
     let l = c.loop-number in
     let all = c.args.numbers.now in
-    next_said number_said type_listed all l.number-index _ (take l.number-index all) l.number c.loop-number-test.true c.is_listed.ensures l.invariant
+    next_said number_said type_listed all l.number-index _ (take l.number-index all) _ c.loop-number-test.true c.is_listed.ensures l.invariant
     ∙ ap (λ (types : List TypeNum). option_map (λ more. types ++ more) (types_listed (numbers_said (drop (l.number-index + 1) all)))) (sym (take_more all l.number-index _ c.loop-number-test.true))
 
 pub returns : goal.returns
