@@ -1,14 +1,13 @@
-//! Items of lists, and fields.
+//! Items of lists.
 ghost use Rattle.std.specs.Prelude.{◌≡◌, ◌++◌, [], ◌∷◌, map};
-ghost use Rattle.ctf_protocol.specs.lines.ReplyLines.{item_text, list_text, object_text, field_text, json_text};
+ghost use Rattle.ctf_protocol.specs.lines.ReplyLines.{item_text, object_text};
 ghost use Rattle.ctf_answers.specs.Singles.{entry_of};
 ghost use Rattle.ctf_answers.specs.Items.{item_of};
-ghost use Rattle.ctf_answers.specs.Fields.{field_of, value_of};
 
-use crate::series::{Series, put_series};
-use crate::singles::{put_entry, put_key, put_quoted, put_single};
+use crate::series::Series;
+use crate::singles::{put_entry, put_single};
 use crate::text_sinks::TextSink;
-use ctf_answers::{Answer, Entry, Field, Item, Listed, Value};
+use ctf_answers::{Entry, Item, Listed};
 
 /// Puts an object of two parts on.
 fn put_two<P: TextSink>(sink: &mut P, a: &Entry<'_>, b: &Entry<'_>)
@@ -58,48 +57,5 @@ impl<'a> Series for Listed<'a> {
 
     fn put_text<P: TextSink>(&self, sink: &mut P, index: usize) {
         put_item(sink, &self.get(index));
-    }
-}
-
-/// Puts the items of a list on.
-fn put_list<P: TextSink>(sink: &mut P, items: &Listed<'_>)
-    ensures { P.Took sink.old (list_text items.now) sink.new }
-{
-    sink.put_one(b'[');
-    put_series(sink, items);
-    sink.put_one(b']');
-}
-
-/// Puts a field's value on.
-fn put_value<P: TextSink>(sink: &mut P, value: Value<'_, '_>)
-    ensures { P.Took sink.old (json_text (value_of value.entry)) sink.new }
-{
-    match value {
-        Value::One(value) => put_single(sink, &value),
-        Value::Many(items) => put_list(sink, items),
-        Value::Made(text) => put_quoted(sink, text),
-    }
-}
-
-/// Puts a field on.
-fn put_field<P: TextSink>(sink: &mut P, field: Field<'_, '_>)
-    ensures { P.Took sink.old (field_text (field_of field.entry)) sink.new }
-{
-    put_key(sink, field.key);
-    put_value(sink, field.value);
-}
-
-impl<'a> Series for Answer<'a> {
-    ghost use Rattle.std.specs.Prelude.{map};
-    ghost use Rattle.ctf_protocol.specs.lines.ReplyLines.{field_text};
-
-    ghost texts = { λ fields. map field_text fields };
-
-    fn count(&self) -> usize {
-        self.len()
-    }
-
-    fn put_text<P: TextSink>(&self, sink: &mut P, index: usize) {
-        put_field(sink, self.get(index));
     }
 }
