@@ -7,8 +7,10 @@
  * tells how many bytes were written by then. At the end a line tells how many of each there were.
  *
  * READ_BOUND, where it is not 0, takes the place of the program's own bound on reads. That is a
- * number in its code, 2^40: an instruction `movabs $0x10000000000, %r`, which has to be there once.
- * Else a line says how often it is there, and the status is NO_BOUND.
+ * number in its code, 2^40: an instruction `movabs $0x10000000000, %r` with a comparison of two
+ * registers right behind it, which has to be there once. (A number that is put together from a
+ * tag and other bytes may be the same, and is compared with nothing.) Else a line says how often
+ * it is there, and the status is NO_BOUND.
  */
 #define _GNU_SOURCE
 #include <errno.h>
@@ -70,15 +72,17 @@ ssize_t write(int file, const void *buffer, size_t size)
     return taken;
 }
 
-/* Finds `movabs $0x10000000000, %r` in a piece of code: two bytes, and the number in eight. */
+/* Finds `movabs $0x10000000000, %r` and `cmp %r, %r` in a piece of code: two bytes, the number in
+ * eight, and three bytes. */
 static void find_in(unsigned char *code, size_t size, struct found *found)
 {
     const uint64_t most = MOST_READS;
 
-    for (size_t at = 0; at + 10 <= size; at++) {
+    for (size_t at = 0; at + 13 <= size; at++) {
         int is_movabs = (code[at] & 0xfe) == 0x48 && (code[at + 1] & 0xf8) == 0xb8;
+        int is_compared = (code[at + 10] & 0xf8) == 0x48 && (code[at + 11] & 0xfd) == 0x39;
 
-        if (!is_movabs || memcmp(code + at + 2, &most, sizeof most) != 0)
+        if (!is_movabs || !is_compared || memcmp(code + at + 2, &most, sizeof most) != 0)
             continue;
         found->first = found->count++ ? found->first : code + at + 2;
     }
