@@ -19,6 +19,7 @@ C compiler.
 from __future__ import annotations
 
 import argparse
+import functools
 import importlib.machinery
 import importlib.util
 import os
@@ -55,8 +56,8 @@ def stamp_what_was_built(kit: Path) -> None:
     library = importlib.util.module_from_spec(made)
     sys.modules["rtlib"] = library
     loader.exec_module(library)
+    setattr(library, "Crate", stamped_once(library.Crate))
     crates = library.crates_below(str(TOP))
-    stamp_each_once(type(crates[0]))
     below = {low.name: low for crate in crates if Path(crate.folder) == CRATE
              for low in crate.below()}
     for low in below.values():
@@ -67,17 +68,16 @@ def stamp_what_was_built(kit: Path) -> None:
             (built / "stamp").write_text(low.stamp(), encoding="utf-8")
 
 
-def stamp_each_once(kind: type) -> None:
-    """The kit computes the stamp of a crate anew for each way that leads down to it."""
-    computed = kind.stamp
-    known: dict[str, str] = {}
+def stamped_once(kind: type) -> type:
+    """A kit's crate that keeps its stamp: as it is, one computes it anew for each way that leads
+    down to it. The kit's own `rt ci` puts a kind of crate of its own in this place too."""
 
-    def stamp(crate: object) -> str:
-        if crate.folder not in known:
-            known[crate.folder] = computed(crate)
-        return known[crate.folder]
+    class Stamped(kind):  # type: ignore[misc]
+        @functools.lru_cache(maxsize=None)
+        def stamp(self) -> str:
+            return str(super().stamp())
 
-    kind.stamp = stamp
+    return Stamped
 
 
 def extracted(archive: Path, into: Path, *names: str) -> list[Path]:
