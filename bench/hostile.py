@@ -7,8 +7,7 @@ Each case is a dictionary and one request (or a dump), some behind many others; 
 last request (hostile_sessions.py). Told are the megabytes that were read and written, the
 milliseconds of processor time that the request took, the least of three runs, and those for each
 megabyte. Wanted are at most 10 ms for each MB; what takes no more than 5 ms in all is within that.
-What is known to take more is told with what it took when this was written. With --limit, the status
-is 1 where a case takes more than FACTOR times as long as is wanted, or as is known.
+With --limit, the status is 1 where a case takes more than FACTOR times as long.
 
 Then come requests of so many sessions, slots and pending types, and how much longer they take than
 those of half as many: with --limit, more than three times as long is too much.
@@ -227,16 +226,15 @@ def growth(program, case):
 
 @dataclass(frozen=True)
 class Row:
-    """What a case took, and what it is known to take where that is more than is wanted."""
+    """What a case took."""
 
     name: str
     megabytes: float
     milliseconds: float
-    known: float = 0.0
     grown: float | None = None
 
     def is_over(self, factor):
-        wanted = max(LEAST, WANTED * self.megabytes, self.known)
+        wanted = max(LEAST, WANTED * self.megabytes)
         return factor is not None and self.milliseconds > factor * wanted
 
     def told(self, factor):
@@ -244,7 +242,6 @@ class Row:
         words = [f"{self.name:52}{self.megabytes:8.2f} MB{self.milliseconds:9.1f} ms"
                  f"{rate:9.1f} ms/MB"]
         words += [f"x{self.grown:.2f}"] if self.grown else []
-        words += [f"known: {self.known:.0f} ms"] if self.known else []
         words += ["TOO SLOW"] if self.is_over(factor) else []
         return "  ".join(words)
 
@@ -262,7 +259,7 @@ def session_row(program, case):
         with Service(program) as service:
             taken.append(service.timed(case.lines()))
     seconds, moved, _ = min(taken)
-    return Row(case.name, case.read + moved / 1_000_000, 1000 * seconds, case.known)
+    return Row(case.name, case.read + moved / 1_000_000, 1000 * seconds)
 
 
 def all_seconds(program, case, size):

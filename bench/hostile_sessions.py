@@ -16,13 +16,11 @@ INT = '"what":"integer","name":"int","size":4,"encoding":1,"offset":0,"bits":32'
 @dataclass(frozen=True)
 class Session:
     """Requests that make ready, and the last, which is timed. `read` is how many megabytes of a
-    dictionary it reads, and `known` how many milliseconds it takes today where that is more than
-    is wanted."""
+    dictionary it reads."""
 
     name: str
     lines: Callable[[], Iterator[str]]
     read: float = 0.0
-    known: float = 0.0
 
 
 @dataclass(frozen=True)
@@ -104,25 +102,46 @@ def unlike_at(place):
     return [front + b"%04d" % i + back for i in range(1023)]
 
 
-def unlike_each_elsewhere():
-    """1,023 names, each of which differs from the last one at a place of its own."""
-    return [b"a" * (400 + i) + b"b" + b"a" * (LONG_NAME - 401 - i) for i in range(1022)] \
-        + [b"a" * LONG_NAME]
+def unlike_each_elsewhere(length=LONG_NAME, first=400):
+    """1,023 names, each of which differs from the last one at a place of its own, where there are
+    as many places."""
+    places = [first + i % (length - first - 8) for i in range(1022)]
+    return [b"a" * at + b"b" + b"a" * (length - 1 - at) for at in places] + [b"a" * length]
 
 
-def steps(count, texts):
+# By what a search picks the two slots, of 4,096, in which it keeps where a name differs.
+FACTORS = (0x9e3779b97f4a7c15, 0xc2b2ae3d27d4eb4f)
+
+
+def is_crowded(end):
+    """Whether both slots of a name that ends somewhere are of the first 256."""
+    return all((end * factor) % (1 << 64) >> 52 < 256 for factor in FACTORS)
+
+
+def placed(texts, may_end):
+    """A table of texts, each of which ends where it may, and the places where they begin."""
+    table, begins = bytearray(1), []
+    for text in texts:
+        while not may_end(len(table) + len(text)):
+            table.append(0)
+        begins.append(len(table))
+        table += text + b"\0"
+    return bytes(table), begins
+
+
+def steps(count, texts, shorter=0, may_end=lambda end: True):
     """Structs in each other, each with a member by each of these names, and the way through the
-    last ones.
-
-    A table of what each reference was found to name would help these alone: steps whose names are
-    shorter and shorter ends of the same texts have new references each."""
+    last ones. The names of each step are shorter than those before by so many bytes: they are ends
+    of the same texts."""
+    table, begins = placed(texts, may_end)
     types = made.integer(0)
     for i in range(count):
-        items = b"".join(struct.pack("<IHH", 1 + k * (LONG_NAME + 1), 1 + i, 0)
-                         for k in range(1023))
-        types += record(0, 6, 1023, 4, items)
-    yield from opened((dictionary(types, b"\0" + b"".join(t + b"\0" for t in texts)), b"", b""))
-    way = json.dumps([texts[-1].decode()] * count, separators=(",", ":"))
+        cut = shorter * (count - 1 - i)
+        items = b"".join(struct.pack("<IHH", begin + cut, 1 + i, 0) for begin in begins)
+        types += record(0, 6, len(begins), 4, items)
+    yield from opened((dictionary(types, table), b"", b""))
+    way = json.dumps([texts[-1][shorter * i:].decode() for i in range(count)],
+                     separators=(",", ":"))
     yield line("path", '"d":1,"t":%d,"names":%s' % (1 + count, way))
 
 
@@ -273,7 +292,13 @@ SESSIONS = [
     Session("path: 500 steps, 1,023 names unlike in the middle",
             lambda: steps(500, unlike_at(1000)), read=6.1),
     Session("path: 500 steps, 1,023 names unlike each elsewhere",
-            lambda: steps(500, unlike_each_elsewhere()), read=6.1, known=110),
+            lambda: steps(500, unlike_each_elsewhere()), read=6.1),
+    Session("path: the same, made for the slots of a search",
+            lambda: steps(500, unlike_each_elsewhere(), may_end=is_crowded), read=6.4),
+    Session("path: the same, ends of the names before",
+            lambda: steps(500, unlike_each_elsewhere(first=600), shorter=1), read=6.1),
+    Session("path: 500 steps, 1,023 names of 255 bytes unlike each elsewhere",
+            lambda: steps(500, unlike_each_elsewhere(255, 8)), read=4.4),
     Session("show: 500 structs in each other", lambda: nested_structs(500)),
     Session("add: a member on top of 500,000", lambda: chained_draft(500, 1000)),
     Session("add: a member on top of 500,000 in unions",

@@ -10,8 +10,12 @@ ghost use Rattle.ctf_views.specs.ItemsView.{member as shown_member};
 use crate::figures::resolve;
 use crate::path_names::PathNames;
 use ctf_model::{Fault, TypeNum, placeless};
+use ctf_sections::{Differences, Places};
 use ctf_space::Space;
 use ctf_views::{Member, Members, Variant};
+
+/// From how many bytes on the names of a path are long.
+const LONG: usize = 4096;
 
 /// How far a path has come: how many bits lie in front, and the type that is declared there.
 #[derive(Clone, Copy)]
@@ -54,13 +58,19 @@ fn behind(step: u64, offset: u64, member: Option<Member<'_>>) -> Result<Reached,
 }
 
 /// One step of a path: to the first member with a name.
-fn step_to(space: &Space<'_>, step: u64, name: &[u8], at: Reached) -> Result<Reached, Fault>
+fn step_to(
+    space: &Space<'_>,
+    step: u64,
+    name: &[u8],
+    at: Reached,
+    others: &mut Differences<'_>,
+) -> Result<Reached, Fault>
     ensures { result_map_both spot (λ f. f) result
         ≡ stepped (space_of space.now) step name.now (spot at) }
 {
     let number = resolve(space, at.tnum)?;
     match members(space, number) {
-        Some(members) => behind(step, at.offset, members.named(name)),
+        Some(members) => behind(step, at.offset, members.named(name, others)),
         None => Err(Fault {
             code: Fault::NOT_AGGREGATE,
             place: step,
@@ -68,13 +78,21 @@ fn step_to(space: &Space<'_>, step: u64, name: &[u8], at: Reached) -> Result<Rea
     }
 }
 
-/// Where the member lies that names lead to, from a type on: how many bits lie in front of it, and
-/// its type as it is declared. Each step takes the first member with its name, and looks into no
-/// unnamed member; no name leads to the beginning of the type itself.
-pub fn path<N: PathNames>(
+/// Whether the names of a path are long, all together.
+fn are_long<N: PathNames>(names: &N) -> bool {
+    let mut left = LONG;
+    for place in 0..names.count() {
+        left = left.saturating_sub(names.name(place).len());
+    }
+    left == 0
+}
+
+/// All steps of a path from a type on.
+fn follow_names<N: PathNames>(
     space: &Space<'_>,
     number: TypeNum,
     names: &N,
+    others: &mut Differences<'_>,
 ) -> Result<(u64, TypeNum), Fault>
     ensures { result_map_both position_of (λ f. f) result
         ≡ path_to (space_of space.now) number.0 (N.names_of names.now) }
@@ -84,7 +102,26 @@ pub fn path<N: PathNames>(
         tnum: number,
     };
     for step in 0..names.count() {
-        at = step_to(space, step as u64, names.name(step), at)?;
+        at = step_to(space, step as u64, names.name(step), at, others)?;
     }
     Ok((at.offset, at.tnum))
+}
+
+/// Where the member lies that names lead to, from a type on: how many bits lie in front of it, and
+/// its type as it is declared. Each step takes the first member with its name, and looks into no
+/// unnamed member; no name leads to the beginning of the type itself. Where names are long, it is
+/// kept for all steps where others differed from them.
+pub fn path<N: PathNames>(
+    space: &Space<'_>,
+    number: TypeNum,
+    names: &N,
+) -> Result<(u64, TypeNum), Fault>
+    ensures { result_map_both position_of (λ f. f) result
+        ≡ path_to (space_of space.now) number.0 (N.names_of names.now) }
+{
+    if !are_long(names) {
+        return follow_names(space, number, names, &mut Differences::none());
+    }
+    let mut places = Places::new();
+    follow_names(space, number, names, &mut Differences::kept_in(&mut places))
 }

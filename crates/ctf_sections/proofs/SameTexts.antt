@@ -80,6 +80,13 @@ in_front [] t e = absurd cc
 in_front (x ∷ xs) [] e = refl
 in_front (x ∷ xs) (y ∷ ys) e = front_case x xs y ys (is_zero x) (y == x) refl refl (in_front xs ys) e
 
+-- what holds of each text that is named, and not here, says that this one is not
+pub unless_named : (bytes t : List ℕ) (b : Bool) → b ≡ false → (is_named t (text bytes) ≡ true → b ≡ true) → false ≡ is_named t (text bytes)
+unless_named bytes t b e of_named = sym (false_from_ne_true (is_named t (text bytes)) (λ named. apart (sym e ∙ of_named named)))
+  where
+    apart : false ≡ true → ⊥
+    apart f = absurd cc
+
 -- ---- what a search for a zero byte from behind says
 
 taken_len : (bytes : List ℕ) (n : ℕ) → n < length bytes → length (take n bytes) ≡ n

@@ -4,7 +4,8 @@ ghost use Rattle.std.specs.Str.{bytes_eq};
 ghost use Rattle.ctf_model.specs.format.Name.{text as text_in, text_at};
 ghost use Rattle.ctf_sections.specs.ShortNames.{is_named};
 
-use crate::bytes::u64_at;
+use crate::alike::are_alike_at;
+use crate::differences::Differences;
 use memchr::memrchr;
 
 /// Whether a zero byte stands at a place.
@@ -18,71 +19,12 @@ fn is_end(bytes: &[u8], at: usize) -> bool
     }
 }
 
-/// Whether two texts of one length have the same eight bytes from a place on, or the same last
-/// eight where fewer follow. Of texts of fewer than eight bytes nothing is looked at.
-fn are_alike_at(text: &[u8], other: &[u8], place: usize) -> bool
-    requires { length text.now ≡ length other.now }
-    ensures { text.now ≡ other.now → IsTrue result }
-{
-    if text.len() < 8 {
-        return true;
-    }
-    let last = text.len() - 8;
-    let at = if place < last { place } else { last };
-    u64_at(text, at) == u64_at(other, at)
-}
-
-/// The first place where two texts of one length differ.
-fn first_difference(text: &[u8], other: &[u8]) -> usize
-    requires { length text.now ≡ length other.now }
-{
-    for at in 0..text.len() {
-        if text[at] != other[at] {
-            return at;
-        }
-    }
-    0
-}
-
-/// Where the last name that was compared with a text differed from it. Names that differ from one
-/// text often differ at one place: there they are compared first. It is found a few times alone, so
-/// names that each differ elsewhere are not searched for it.
-#[derive(Clone, Copy, Debug)]
-pub struct LastDifference {
-    place: usize,
-    searches_left: u8,
-}
-
-impl LastDifference {
-    /// None so far.
-    pub fn new() -> LastDifference {
-        LastDifference {
-            place: 0,
-            searches_left: 4,
-        }
-    }
-
-    /// Whether two texts of one length are the same.
-    fn are_same(&mut self, text: &[u8], other: &[u8]) -> bool
-        requires { length text.now ≡ length other.now }
-        ensures { result ≡ bytes_eq text.now other.now }
-    {
-        if text == other {
-            return true;
-        }
-        if self.searches_left > 0 {
-            self.searches_left -= 1;
-            self.place = first_difference(text, other);
-        }
-        false
-    }
-}
-
-/// Whether the text in front of the first zero byte is this one. It looks at the byte behind it, at
-/// the bytes at both ends and where others differed, and then for a zero byte from behind: of texts
-/// that overlap it compares no more than one.
-fn begins_with(bytes: &[u8], text: &[u8], last: &mut LastDifference) -> bool
-    ensures { result ≡ is_named text.now (text_in bytes.now) }
+/// Whether a zero byte stands behind as many bytes as a text has, whose first eight and last eight
+/// bytes are the text's.
+fn has_ends(bytes: &[u8], text: &[u8]) -> bool
+    ensures end { IsTrue result → (slice_get bytes.now (length text.now) ≡ Some 0) }
+    ensures inside { IsTrue result → length text.now < length bytes.now }
+    ensures named { IsTrue (is_named text.now (text_in bytes.now)) → IsTrue result }
 {
     if !is_end(bytes, text.len()) {
         return false;
@@ -91,31 +33,64 @@ fn begins_with(bytes: &[u8], text: &[u8], last: &mut LastDifference) -> bool
     if !are_alike_at(text, front, text.len()) {
         return false;
     }
-    if !are_alike_at(text, front, 0) {
+    are_alike_at(text, front, 0)
+}
+
+/// Whether the text in front of the first zero byte is this one. It looks at the byte behind it, at
+/// the bytes at both ends, and then for a zero byte from behind: of texts that overlap it compares
+/// no more than one.
+fn begins_with(bytes: &[u8], text: &[u8]) -> bool
+    ensures { result ≡ is_named text.now (text_in bytes.now) }
+{
+    if !has_ends(bytes, text) {
         return false;
     }
-    if !are_alike_at(text, front, last.place) {
-        return false;
-    }
+    let front = &bytes[..text.len()];
     match memrchr(0, front) {
         Some(_) => false,
-        None => last.are_same(text, front),
+        None => text == front,
     }
+}
+
+/// The same, where others were compared before: it looks also where these differed. `end` is where
+/// the text would end.
+fn begins_with_after(bytes: &[u8], text: &[u8], end: usize, others: &mut Differences<'_>) -> bool
+    ensures { result ≡ is_named text.now (text_in bytes.now) }
+{
+    if !has_ends(bytes, text) {
+        return false;
+    }
+    let front = &bytes[..text.len()];
+    if !others.may_be_same(end, text, front) {
+        return false;
+    }
+    if let Some(zero) = memrchr(0, front) {
+        others.keep(end, text, zero);
+        return false;
+    }
+    if text == front {
+        return true;
+    }
+    others.keep_last(end, text, front);
+    false
 }
 
 /// Whether the text at an offset of a table is this one.
 pub fn is_text(table: &[u8], offset: usize, text: &[u8]) -> bool
     ensures { result ≡ is_named text.now (text_at (Some table.now) offset) }
 {
-    is_text_after(table, offset, text, &mut LastDifference::new())
+    match table.get(offset..) {
+        Some(rest) => begins_with(rest, text),
+        None => false,
+    }
 }
 
 /// Whether the text at an offset of a table is this one, where others were compared with it before.
-pub fn is_text_after(table: &[u8], offset: usize, text: &[u8], last: &mut LastDifference) -> bool
+pub fn is_text_after(table: &[u8], offset: usize, text: &[u8], others: &mut Differences<'_>) -> bool
     ensures { result ≡ is_named text.now (text_at (Some table.now) offset) }
 {
     match table.get(offset..) {
-        Some(rest) => begins_with(rest, text, last),
+        Some(rest) => begins_with_after(rest, text, offset.wrapping_add(text.len()), others),
         None => false,
     }
 }

@@ -3,7 +3,8 @@ ghost use Rattle.std.specs.Prelude.{◌≡◌, ◌+◌, Some, option_copied, tak
 ghost use Rattle.ctf_model.specs.format.Name.{name as named, table as table_of, text_at};
 ghost use Rattle.ctf_sections.specs.ShortNames.{if_short, is_named};
 
-use crate::matching::{LastDifference, is_text_after};
+use crate::differences::Differences;
+use crate::matching::{is_text, is_text_after};
 use memchr::memchr;
 
 /// The tables of names: the string section, and the strings of a symbol table where they are there.
@@ -92,17 +93,24 @@ impl<'a> Strings<'a> {
     pub fn is_name(&self, reference: u32, text: &[u8]) -> bool
         ensures { result ≡ is_named text.now (named (tables self.now) reference) }
     {
-        self.is_name_after(reference, text, &mut LastDifference::new())
-    }
-
-    /// Whether a reference names a text, where other names were compared with it before.
-    pub fn is_name_after(&self, reference: u32, text: &[u8], last: &mut LastDifference) -> bool
-        ensures { result ≡ is_named text.now (named (tables self.now) reference) }
-    {
         match (reference & 0x7fff_ffff) as usize {
             0 => text.is_empty(),
             offset => match self.table(reference) {
-                Some(table) => is_text_after(table, offset, text, last),
+                Some(table) => is_text(table, offset, text),
+                None => false,
+            },
+        }
+    }
+
+    /// Whether a reference names a text, where others were compared before. Names that differ from
+    /// it where they differed from those before are not searched again.
+    pub fn is_name_after(&self, reference: u32, text: &[u8], others: &mut Differences<'_>) -> bool
+        ensures { result ≡ is_named text.now (named (tables self.now) reference) }
+    {
+        match (reference & 0x7fff_ffff) as usize {
+            0 => text.is_empty(), // no table is read
+            offset => match self.table(reference) {
+                Some(table) => is_text_after(table, offset, text, others),
                 None => false,
             },
         }

@@ -1,5 +1,5 @@
 pub mod Items
 pub mod Labelled
-pub mod Misses
+pub mod MemberNames
 pub mod Named
 pub mod Shows

@@ -1,6 +1,5 @@
 pub mod ItemsView
 pub mod LabelRows
 pub mod Lists
-pub mod Missing
 pub mod PartsView
 pub mod VariantView

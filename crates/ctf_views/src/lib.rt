@@ -5,7 +5,6 @@ mod args;
 mod enumerators;
 mod labels;
 mod members;
-mod miss_cache;
 mod parts;
 mod reading;
 mod row;

@@ -7,19 +7,14 @@ ghost use Rattle.ctf_model.specs.format.Spelling.{member_of};
 ghost use Rattle.ctf_sections.specs.StringsView.{tables};
 ghost use Rattle.ctf_views.specs.ItemsView.{member};
 ghost use Rattle.ctf_views.specs.Lists.{AreGood, items_in};
-ghost use Rattle.ctf_views.specs.Missing.{AreMissed};
 
-use crate::miss_cache::MissCache;
 use crate::row::Row;
 use crate::rows::{Rows, bytes_at};
 use ctf_model::TypeNum;
 use ctf_records::{WIDE_MEMBERS, member_len};
 use ctf_sections::bytes::{u16_at, u32_at};
-use ctf_sections::{LastDifference, Strings};
+use ctf_sections::{Differences, Strings};
 use std::marker::Model;
-
-/// From how many bytes on a name is long.
-const LONG: usize = 256;
 
 /// A member: its name, its type, and where it begins in its struct or union, in bits.
 #[derive(Clone, Copy, Debug, PartialEq, Eq)]
@@ -50,35 +45,14 @@ pub struct MemberRow<'a> {
 }
 
 impl<'a> MemberRow<'a> {
-    /// Whether the member that begins some bytes has a name. Where the name is long, what its
-    /// reference was found not to name is not compared again, and the place where the last name
-    /// differed is compared first.
-    fn is_named(
-        &self,
-        bytes: &[u8],
-        name: &[u8],
-        missed: &mut MissCache,
-        last: &mut LastDifference,
-    ) -> bool
+    /// Whether the member that begins some bytes has a name.
+    fn is_named(&self, bytes: &[u8], name: &[u8], others: &mut Differences<'_>) -> bool
         requires inside { len_of_member self.now.size ≤ length bytes.now }
         requires good { IsSome (member_of self.now.size (tables self.now.strings) bytes.now) }
-        requires missed { AreMissed name.now (tables self.now.strings) missed.old }
-        ensures value { Some result ≡ option_map (λ m. bytes_eq name.now m.name)
+        ensures { Some result ≡ option_map (λ m. bytes_eq name.now m.name)
             (member_of self.now.size (tables self.now.strings) bytes.now) }
-        ensures missed { AreMissed name.now (tables self.now.strings) missed.new }
     {
-        let reference = u32_at(bytes, 0);
-        if name.len() < LONG {
-            return self.strings.is_name(reference, name);
-        }
-        if missed.has(reference) {
-            return false;
-        }
-        if self.strings.is_name_after(reference, name, last) {
-            return true;
-        }
-        missed.keep(reference);
-        false
+        self.strings.is_name_after(u32_at(bytes, 0), name, others)
     }
 }
 
@@ -115,22 +89,21 @@ pub type Members<'a> = Rows<'a, MemberRow<'a>>;
 
 /// The number of the first member with a name, of `count` members that stand in bytes.
 #[tactic(auto, using(crate::proofs::Named::named_here, crate::proofs::Named::named_later, crate::proofs::Named::named_nowhere))]
-fn first_named(row: MemberRow<'_>, bytes: &[u8], count: usize, name: &[u8]) -> Option<usize>
+fn first_named(
+    row: MemberRow<'_>,
+    bytes: &[u8],
+    count: usize,
+    name: &[u8],
+    others: &mut Differences<'_>,
+) -> Option<usize>
     requires { AreGood (member_of row.size (tables row.strings)) (len_of_member row.size) count
         bytes.now }
     ensures { let members = items_in (member_of row.entry.size (tables row.entry.strings))
         (len_of_member row.entry.size) count bytes.now in
         option_and_then (slice_get members) result ≡ member_named name.now members }
 {
-    let mut missed = MissCache::new();
-    let mut last = LastDifference::new();
     for index in 0..count {
-        if row.is_named(
-            bytes_at(row, bytes, count, index),
-            name,
-            &mut missed,
-            &mut last,
-        ) {
+        if row.is_named(bytes_at(row, bytes, count, index), name, others) {
             return Some(index);
         }
     }
@@ -138,13 +111,13 @@ fn first_named(row: MemberRow<'_>, bytes: &[u8], count: usize, name: &[u8]) -> O
 }
 
 impl<'a> Rows<'a, MemberRow<'a>> {
-    /// The first member with a name; the empty name is that of each unnamed one. However long the
-    /// members' names are and wherever they overlap, no more bytes are compared than a few times
-    /// those of the tables.
-    pub fn named(&self, name: &[u8]) -> Option<Member<'a>>
+    /// The first member with a name; the empty name is that of each unnamed one. `others` is what
+    /// is known of members that were looked at before: however long their names are and wherever
+    /// they overlap, no more bytes are compared than a few times those of the tables.
+    pub fn named(&self, name: &[u8], others: &mut Differences<'_>) -> Option<Member<'a>>
         ensures { option_map member result ≡ member_named name.now self.now }
     {
         let (row, bytes, count) = self.parts();
-        self.get(first_named(row, bytes, count, name)?)
+        self.get(first_named(row, bytes, count, name, others)?)
     }
 }

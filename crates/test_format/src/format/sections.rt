@@ -2,7 +2,7 @@
 
 use ctf_model::{Fault, Section, placeless};
 use ctf_sections::bytes::{u16_at, u32_at};
-use ctf_sections::{Header, Strings};
+use ctf_sections::{Differences, Header, Places, Strings, is_text_after};
 
 /// An integer named "int": header, one record of 12 bytes, 5 bytes of strings.
 const INT: [u8; 53] = *b"\xf1\xcf\x02\x00\
@@ -185,12 +185,56 @@ fn compares_names(rt: HostRuntime) {
         (0x8000_0001, b"elf", true),
         (0x8000_0009, b"", false),
     ];
+    let mut places = Places::new();
+    let mut others = Differences::kept_in(&mut places);
     for (reference, text, same) in rows {
         assert!(rt; both.is_name(reference, text) == same, "at {reference}");
+        assert!(rt;
+            both.is_name_after(reference, text, &mut others) == same,
+            "at {reference}, after others"
+        );
     }
     let neither = Strings::new(b"", None);
     assert!(rt; neither.is_name(0x8000_0000, b""));
     assert!(rt; !neither.is_name(0x8000_0001, b""));
+}
+
+#[test]
+fn compares_long_names_after_others(rt: HostRuntime) {
+    let mut table = [b'a'; 1505];
+    for end in [300, 601, 902, 1203, 1504] {
+        if let Some(byte) = table.get_mut(end) {
+            *byte = 0;
+        }
+    }
+    for (at, byte) in [(100, b'b'), (501, b'b'), (752, 0)] {
+        if let Some(place) = table.get_mut(at) {
+            *place = byte;
+        }
+    }
+    let text = [b'a'; 300];
+    let rows: [(usize, &[u8], bool); 9] = [
+        (0, &text, false),
+        (301, &text, false),
+        (602, &text, false),
+        (903, &text, true),
+        (1204, &text, true),
+        (101, &text[..199], true),
+        (502, &text[..99], true),
+        (1, &text[..299], false),
+        (753, &text[..149], true),
+    ];
+    let mut places = Places::new();
+    let mut others = Differences::kept_in(&mut places);
+    for _ in 0..3 {
+        for (offset, text, same) in rows {
+            assert!(rt;
+                is_text_after(&table, offset, text, &mut others) == same,
+                "of {} bytes, at {offset}",
+                text.len()
+            );
+        }
+    }
 }
 
 #[test]

@@ -6,7 +6,7 @@ ghost use Rattle.ctf_sections.specs.StringsView.{tables};
 
 use ctf_model::TypeNum;
 use ctf_records::{Tag, record_at};
-use ctf_sections::Strings;
+use ctf_sections::{Differences, Strings};
 use ctf_views::{ArrayInfo, Encoding, Enumerator, Member, Variant, is_variadic, variant};
 
 /// What the one record shows that some bytes are.
@@ -103,20 +103,36 @@ fn finds_narrow_members(rt: HostRuntime) {
     let Some(Variant::Members(mut members)) = shown(types, strings) else {
         panic!(rt; "it is a struct")
     };
+    let mut others = Differences::none();
     assert!(rt;
-        members.named(b"abc") == member(b"abc", 5, 0),
+        members.named(b"abc", &mut others) == member(b"abc", 5, 0),
         "the first of all"
     );
     assert!(rt;
-        members.named(b"ab") == member(b"ab", 6, 8),
+        members.named(b"ab", &mut others) == member(b"ab", 6, 8),
         "the first of two"
     );
-    assert!(rt; members.named(b"") == member(b"", 8, 24), "the unnamed one");
-    assert!(rt; members.named(b"a") == None, "a beginning of a name");
-    assert!(rt; members.named(b"abcd") == None, "a name and more");
-    assert!(rt; members.named(b"bc") == None, "an end of a name");
+    assert!(rt;
+        members.named(b"", &mut others) == member(b"", 8, 24),
+        "the unnamed one"
+    );
+    assert!(rt;
+        members.named(b"a", &mut others) == None,
+        "a beginning of a name"
+    );
+    assert!(rt;
+        members.named(b"abcd", &mut others) == None,
+        "a name and more"
+    );
+    assert!(rt;
+        members.named(b"bc", &mut others) == None,
+        "an end of a name"
+    );
     assert!(rt; members.next() == member(b"abc", 5, 0));
-    assert!(rt; members.named(b"abc") == None, "one that is not left");
+    assert!(rt;
+        members.named(b"abc", &mut others) == None,
+        "one that is not left"
+    );
 }
 
 #[test]
@@ -129,9 +145,10 @@ fn finds_wide_members(rt: HostRuntime) {
     let Some(Variant::Members(members)) = shown(types, strings) else {
         panic!(rt; "it is a union")
     };
-    assert!(rt; members.named(b"a") == member(b"a", 5, 0x1_0000_0007));
-    assert!(rt; members.named(b"b") == member(b"b", 6, 0x1_0000));
-    assert!(rt; members.named(b"") == None);
+    let mut others = Differences::none();
+    assert!(rt; members.named(b"a", &mut others) == member(b"a", 5, 0x1_0000_0007));
+    assert!(rt; members.named(b"b", &mut others) == member(b"b", 6, 0x1_0000));
+    assert!(rt; members.named(b"", &mut others) == None);
 }
 
 #[test]

@@ -4,12 +4,8 @@ use Rattle.ctf_model.specs.format.Spelling.{member_of}
 use Rattle.ctf_sections.specs.StringsView.{tables}
 use Rattle.ctf_views.specs.Lists.{items_in}
 use Rattle.ctf_views.proofs.Items.{items_in_length, row_some}
-use Rattle.ctf_views.proofs.Misses.{none_missed}
 use Rattle.ctf_views.proofs.Named.{named_nowhere}
 use Rattle.ctf_views.proofs.members.first_named.Goals as goal
-
-pub loop-index-init : goal.loop-index-init
-loop-index-init c = record { found = refl; missed = none_missed c.args.name.now (tables c.args.row.strings) c.new-missed.result c.new-missed.ensures }
 
 pub is_named-requires-clause-good : goal.is_named-requires-clause-good
 is_named-requires-clause-good c =
@@ -21,4 +17,4 @@ returns c =
     let len = len_of_member c.args.row.size in
     let members = items_in item len c.args.count c.args.bytes.now in
     let past : length members ≤ c.loop-index.index = omega (arith, items_in_length item len c.args.count c.args.bytes.now c.requires, c.loop-index-test.false) in
-    sym (named_nowhere c.args.name.now members c.loop-index.index past) ∙ c.loop-index.invariant.found
+    sym (named_nowhere c.args.name.now members c.loop-index.index past) ∙ c.loop-index.invariant

@@ -4,7 +4,7 @@ use Rattle.ctf_model.specs.figures.Paths.{and_on, path_from}
 use Rattle.ctf_space.specs.SpaceView.{space_of}
 use Rattle.ctf_layout.specs.Reached.{spot}
 use Rattle.ctf_layout.proofs.PathSteps.{path_end, path_next}
-use Rattle.ctf_layout.proofs.paths.path.Goals as goal
+use Rattle.ctf_layout.proofs.paths.follow_names.Goals as goal
 
 pub returns-in_err-at : goal.returns-in_err-at
 returns-in_err-at g c =

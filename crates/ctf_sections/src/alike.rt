@@ -1,0 +1,36 @@
+//! Whether two texts of one length are alike at a place, and where they are not.
+ghost use Rattle.std.specs.Prelude.{◌≡◌, ◌≤◌, IsTrue, length};
+
+use crate::bytes::u64_at;
+
+/// Whether two texts of one length have the same eight bytes from a place on, or the same last
+/// eight where fewer follow. Of texts of fewer than eight bytes nothing is looked at.
+pub(crate) fn are_alike_at(text: &[u8], other: &[u8], place: usize) -> bool
+    requires { length text.now ≡ length other.now }
+    ensures { text.now ≡ other.now → IsTrue result }
+{
+    if text.len() < 8 {
+        return true;
+    }
+    let last = text.len() - 8;
+    let at = if place < last { place } else { last };
+    u64_at(text, at) == u64_at(other, at)
+}
+
+/// A place within eight bytes of where two texts of one length, which differ, differ last.
+/// It looks at the half behind, and then at the half of that half which differs.
+pub(crate) fn last_difference(text: &[u8], other: &[u8]) -> usize
+    requires { length text.now ≡ length other.now }
+{
+    let mut from = 0;
+    let mut to = text.len();
+    while to - from > 8 {
+        let middle = from + (to - from) / 2;
+        if text[middle..to] == other[middle..to] {
+            to = middle;
+        } else {
+            from = middle;
+        }
+    }
+    from
+}
