@@ -8,7 +8,7 @@ use std::alloc::{AllocError, Global};
 /// A depth that says nothing: more than the longest chain of steps.
 pub(crate) const UNKNOWN: u16 = 513;
 
-/// How many types a rise goes up through at most, one after the other, each with 200 bytes of stack.
+/// How many types a rise goes up through at most, one after the other, each with 150 bytes of stack.
 /// Where no type contains itself, that is no more than the greatest bound; around a circle it may be
 /// more.
 const MOST_RISES: u16 = 1026;
