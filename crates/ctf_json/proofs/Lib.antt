@@ -15,3 +15,5 @@ pub mod Punctuation
 pub mod WordFronts
 pub mod Numerals
 pub mod Alone
+pub mod Masks
+pub mod MaskedRuns

@@ -1,12 +1,15 @@
 //! Runs of bytes of a text.
-ghost use Rattle.std.specs.Prelude.{◌≡◌, ◌+◌, ◌≤◌, ◌||◌, IsTrue, drop, get_or, length};
+ghost use Rattle.std.specs.Prelude.{◌≡◌, ◌+◌, ◌≤◌, ◌||◌, IsTrue, drop, get_or, length, map};
 ghost use Rattle.std.specs.Char.{is_ascii_digit};
 ghost use Rattle.std.specs.List.{prefix_len};
+ghost use Rattle.std.specs.Simd.Lanes.{mask_l};
 ghost use Rattle.json.specs.Align.{is_blank};
 ghost use Rattle.json.specs.Lex.{between, class, in_word, lex};
-ghost use Rattle.json.specs.Run.{is_plain};
+ghost use Rattle.json.specs.Run.{is_plain, is_stop};
 ghost use Rattle.json.specs.Word.{head, is_operator, is_space};
 ghost use Rattle.ctf_json.specs.Plain.{BeginsOrEnds};
+
+use std::simd::prelude::*;
 
 /// The byte at a place, or a space past the end.
 #[inline(always)]
@@ -39,6 +42,54 @@ pub(crate) fn is_white(c: u8) -> bool
     (c == b' ') | (c == b'\t') | (c == b'\n') | (c == b'\r')
 }
 
+/// Which of 16 bytes are quotes, backslashes or control bytes, a bit for each.
+#[inline(always)]
+fn stops_16(v: u8x16) -> u64
+    ensures { result ≡ mask_l (map is_stop v) }
+{
+    (v.simd_eq(u8x16::splat(b'"'))
+        | v.simd_eq(u8x16::splat(b'\\'))
+        | v.simd_lt(u8x16::splat(0x20))).to_bitmask()
+}
+
+/// The same of 8 bytes.
+#[inline(always)]
+fn stops_8(v: u8x8) -> u64
+    ensures { result ≡ mask_l (map is_stop v) }
+{
+    (v.simd_eq(u8x8::splat(b'"'))
+        | v.simd_eq(u8x8::splat(b'\\'))
+        | v.simd_lt(u8x8::splat(0x20))).to_bitmask()
+}
+
+#[inline(always)]
+fn plain_end_slowly(text: &[u8], from: usize) -> usize
+    requires { from ≤ length text.now }
+    ensures { result ≡ from + prefix_len is_plain (drop from text.now) }
+{
+    let mut i = from;
+    while i < text.len() && text[i] != b'"' && text[i] != b'\\' && text[i] >= 0x20 {
+        i += 1;
+    }
+    i
+}
+
+/// The first of them among the last bytes of a text, fewer than 16, or the length.
+#[inline(always)]
+fn plain_end_8(text: &[u8], from: usize) -> usize
+    requires { from ≤ length text.now }
+    ensures { result ≡ from + prefix_len is_plain (drop from text.now) }
+{
+    if text.len() - from < 8 {
+        return plain_end_slowly(text, from);
+    }
+    let found = stops_8(u8x8::from_slice(&text[from..]));
+    if found != 0 {
+        return from + found.trailing_zeros() as usize;
+    }
+    plain_end_slowly(text, from + 8)
+}
+
 /// The first quote, backslash or control byte from a place on, or the length.
 #[inline(always)]
 pub(crate) fn plain_end(text: &[u8], from: usize) -> usize
@@ -47,10 +98,14 @@ pub(crate) fn plain_end(text: &[u8], from: usize) -> usize
     ensures bound { (from ≤ result) × (result ≤ length text.now) }
 {
     let mut i = from;
-    while i < text.len() && text[i] != b'"' && text[i] != b'\\' && text[i] >= 0x20 {
-        i += 1;
+    while text.len() - i >= 16 {
+        let found = stops_16(u8x16::from_slice(&text[i..]));
+        if found != 0 {
+            return i + found.trailing_zeros() as usize;
+        }
+        i += 16;
     }
-    i
+    plain_end_8(text, i)
 }
 
 #[inline(always)]
