@@ -5,7 +5,7 @@ ghost use Rattle.serde_json.specs.Read.{read as read_json};
 ghost use Rattle.ctf_joined.specs.Joined.{texts};
 ghost use Rattle.ctf_json.specs.Values.{line_said as view, texts_said, value_said as value_view};
 ghost use Rattle.ctf_lines.specs.Memory.{keeps_text, takes_memory, word_keeps_text};
-ghost use Rattle.ctf_protocol.specs.lines.Ask.{ask, open_asked, list_named, close_asked, import_asked, publication_asked, publish_asked, take_asked, withdraw_asked, about_type as type_question_asked, about_slot as slot_question_asked, about_held as held_question_asked, bytes_asked, symbol_asked, show_asked, names_asked, part_asked, word_asked, asked_with, request_asked, value_asked};
+ghost use Rattle.ctf_protocol.specs.lines.Ask.{ask, open_asked, list_named, close_asked, import_asked, publication_asked, publish_asked, take_asked, withdraw_asked, about_type as type_question_asked, about_slot as slot_question_asked, about_held as held_question_asked, bytes_asked, symbol_asked, show_asked, names_asked, part_asked, word_asked, asked_with, value_asked};
 ghost use Rattle.ctf_protocol.specs.lines.LineFields.{names_spelled, in_range, number_in, text_in, slot_under as slot_named, slot_in, type_asked, name_under as name_asked, from_asked, count_asked, window_asked};
 ghost use Rattle.ctf_protocol.specs.words.Words.{word_named, words};
 ghost use Rattle.ctf_model.specs.rules.Refusals.{placeless, out_of_memory};
@@ -96,7 +96,10 @@ fn read_fields(alloc: Global, line: &mut Line<'_>) -> Result<(u32, Request), (u3
     let Some(session) = number(line, "s", 1, u64::from(u32::MAX)) else {
         return Err((0, placeless(Fault::BAD_REQUEST)));
     };
-    match read_request(alloc, line) {
+    let Some(word) = word(line) else {
+        return Err((session as u32, placeless(Fault::BAD_REQUEST)));
+    };
+    match read_word(alloc, line, word) {
         Ok(Some(request)) => Ok((session as u32, request)),
         Ok(None) => Err((session as u32, placeless(Fault::BAD_REQUEST))),
         Err(AllocError) => Err((0, placeless(Fault::MEMORY))),
@@ -134,17 +137,6 @@ pub(crate) fn text<'a>(line: &Line<'a>, key: &str) -> Option<&'a str>
     as_str(&get(line, key)?)
 }
 
-#[inline(always)]
-fn read_request(alloc: Global, line: &mut Line<'_>) -> Result<Option<Request>, AllocError>
-    ensures ok { IfOk result (λ request. request ≡ request_asked (view line.old)) }
-    ensures needed { OnErr result (word_keeps_text (word_asked (view line.old)) ≡ true) }
-{
-    let Some(word) = word(line) else {
-        return Ok(None);
-    };
-    read_word(alloc, line, word)
-}
-
 /// The word of a line.
 #[inline(always)]
 fn word(line: &Line<'_>) -> Option<Word>
@@ -174,11 +166,12 @@ fn named_long(text: &str) -> Option<Word>
         "record" => Some(Word::Plain(PlainQuestion::Record)),
         "members" => Some(Word::Members),
         "symbol" => Some(Word::Symbol),
+        "reset" => Some(Word::Reset),
         _ => Word::named(text),
     }
 }
 
-/// What a word asks, with its fields. Those that take no memory are asked most.
+/// What a word asks, with its fields. Those that are asked most are read by themselves.
 #[inline(always)]
 fn read_word(alloc: Global, line: &mut Line<'_>, word: Word) -> Result<Option<Request>, AllocError>
     ensures ok { IfOk result (λ request. request ≡ asked_with (view line.old) word) }
@@ -186,8 +179,25 @@ fn read_word(alloc: Global, line: &mut Line<'_>, word: Word) -> Result<Option<Re
 {
     match word {
         Word::Plain(question) => Ok(about_type(line, Some(TypeQuestion::Plain(question)))),
+        Word::Find => read_find(alloc, line),
+        Word::Symbol => read_symbol(alloc, line),
+        Word::Reset => Ok(Some(Request::Changes(Change::Reset))),
         _ => read_other(alloc, line, word),
     }
+}
+
+#[inline(never)]
+fn read_find(alloc: Global, line: &Line<'_>) -> Result<Option<Request>, AllocError>
+    ensures { IfOk result (λ request. request ≡ asked_with (view line.now) word.Find) }
+{
+    Ok(about_slot(line, find(alloc, line)?))
+}
+
+#[inline(never)]
+fn read_symbol(alloc: Global, line: &Line<'_>) -> Result<Option<Request>, AllocError>
+    ensures { IfOk result (λ request. request ≡ asked_with (view line.now) word.Symbol) }
+{
+    Ok(about_slot(line, symbol(alloc, line)?))
 }
 
 #[inline(never)]
@@ -213,10 +223,10 @@ fn read_other(alloc: Global, line: &mut Line<'_>, word: Word) -> Result<Option<R
         Word::Plain(question) => Ok(about_type(line, Some(TypeQuestion::Plain(question)))),
         Word::Members => Ok(about_type(line, members(line))),
         Word::Enumerators => Ok(about_type(line, enumerators(line))),
-        Word::Find => Ok(about_slot(line, find(alloc, line)?)),
+        Word::Find => read_find(alloc, line),
         Word::Path => path(alloc, line),
         Word::Show => Ok(about_type(line, show(alloc, line)?)),
-        Word::Symbol => Ok(about_slot(line, symbol(alloc, line)?)),
+        Word::Symbol => read_symbol(alloc, line),
         Word::Object => Ok(about_slot(line, object(line))),
         Word::Function => Ok(about_slot(line, function(line))),
         Word::Labels => Ok(about_slot(line, labels(line))),
@@ -435,6 +445,7 @@ fn show(alloc: Global, line: &Line<'_>) -> Result<Option<TypeQuestion>, AllocErr
 }
 
 /// The name that a field spells.
+#[inline(always)]
 fn name_under(alloc: Global, line: &Line<'_>, key: &str) -> Result<Option<Piece>, AllocError>
     ensures { IfOk result (λ name. name ≡ name_asked key.now (view line.now)) }
 {
@@ -444,6 +455,7 @@ fn name_under(alloc: Global, line: &Line<'_>, key: &str) -> Result<Option<Piece>
     }
 }
 
+#[inline(always)]
 fn find(alloc: Global, line: &Line<'_>) -> Result<Option<SlotQuestion>, AllocError>
     ensures { IfOk result (λ question. question
         ≡ option_map (λ written. whole.Find written)
@@ -455,6 +467,7 @@ fn find(alloc: Global, line: &Line<'_>) -> Result<Option<SlotQuestion>, AllocErr
     }
 }
 
+#[inline(always)]
 fn symbol(alloc: Global, line: &Line<'_>) -> Result<Option<SlotQuestion>, AllocError>
     ensures { IfOk result (λ question. question
         ≡ option_map (λ name. whole.Symbol name) (name_asked (codes "name") (view line.now))) }
@@ -502,6 +515,7 @@ fn labels(line: &Line<'_>) -> Option<SlotQuestion>
 }
 
 /// A question on a slot as a whole, where its own fields are good.
+#[inline(always)]
 fn about_slot(line: &Line<'_>, question: Option<SlotQuestion>) -> Option<Request>
     ensures { result ≡ slot_question_asked question (view line.now) }
 {

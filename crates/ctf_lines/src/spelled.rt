@@ -128,6 +128,7 @@ fn spelled(alloc: Global, text: &str) -> Result<Option<Piece>, AllocError>
 }
 
 /// The name that a value spells.
+#[inline]
 pub fn name(alloc: Global, value: &Value<'_, '_>) -> Result<Option<Piece>, AllocError>
     ensures { IfOk result (λ name. name ≡ name_spelled (view value.now)) }
 {
