@@ -1,6 +1,7 @@
 //! The library of a session, in memory of its own.
 ghost use Rattle.std.specs.Prelude.{◌≡◌, IfOk, true};
 ghost use Rattle.ctf_library.specs.Stepping.{Does, Makes};
+ghost use Rattle.ctf_protocol.specs.sessions.State.{empty_state};
 ghost use Rattle.ctf_protocol.specs.sessions.Steps.{change_step, publishes_kept};
 ghost use Rattle.ctf_protocol.specs.sessions.Quiet.{is_quiet_change};
 
@@ -26,12 +27,13 @@ impl Model for Held {
 }
 
 impl Held {
-    /// A library that came of a session's first change.
-    pub fn new(alloc: Global, library: Library) -> Result<Held, AllocError>
-        ensures { IfOk result (λ h. h ≡ library) }
+    /// A library with nothing in it, for a session's first change.
+    #[inline(always)]
+    pub fn new(alloc: Global) -> Result<Held, AllocError>
+        ensures { IfOk result (λ h. h ≡ empty_state) }
     {
         Ok(Held {
-            library: Box::new(alloc, library)?,
+            library: Box::new(alloc, Library::new(alloc))?,
         })
     }
 

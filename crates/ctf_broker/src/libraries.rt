@@ -1,8 +1,5 @@
 //! Sessions and their libraries.
-ghost use Rattle.std.specs.Prelude.{◌≡◌, ◌≢◌, ℕ, IfOk, OnOk, OnErr, Some, true, false};
-ghost use Rattle.std.specs.Ordering.{nat_cmp};
-ghost use Rattle.std.specs.BTreeMap.{IsUnchanged, Updates};
-ghost use Rattle.std.specs.Option.{option_map};
+ghost use Rattle.std.specs.Prelude.{◌≡◌, ◌≢◌, ℕ, IfOk, OnErr, true, false};
 ghost use Rattle.ctf_answers.specs.Replies.{said, said_to};
 ghost use Rattle.ctf_protocol.specs.sessions.Runs.{Answered, IsGranted, Steps, found_in};
 ghost use Rattle.ctf_protocol.specs.sessions.State.{empty_state};
@@ -13,20 +10,10 @@ ghost use Rattle.ctf_broker.specs.Table.{kept_for, library_at};
 
 use crate::held::Held;
 use ctf_answers::Counts;
-use ctf_library::{Library, Loaded, Pool};
-use ctf_protocol::{Change, Fault, PublicationName};
+use ctf_library::{Loaded, Pool};
+use ctf_protocol::{Change, Fault, PublicationName, placeless};
 use std::alloc::{AllocError, Global};
 use std::collections::BTreeMap;
-
-/// Gives a session its library.
-fn insert(libraries: &mut BTreeMap<u32, Held>, session: u32, held: Held) -> Result<(), AllocError>
-    ensures ok { OnOk result
-        (Updates nat_cmp libraries.old libraries.new session (Some held)) }
-    ensures err { OnErr result (IsUnchanged libraries.old libraries.new) }
-{
-    libraries.insert(session, held)?;
-    Ok(())
-}
 
 /// What a change finds: a take, what its owner has published under the name.
 pub fn found_by(
@@ -69,13 +56,13 @@ pub fn step_in(
         → IsGranted (library_at libraries.old.entries) session (Changes change.now)
         (said_to session result) (library_at libraries.new.entries) }
 {
-    if let Some(held) = libraries.get_mut(&session) {
-        return held.step(change, found, pool);
-    }
-    let mut library = Library::new(alloc);
-    let outcome = library.step(change, found, pool);
-    insert(libraries, session, Held::new(alloc, library)?)?;
-    outcome
+    let Ok(entry) = libraries.entry(session) else {
+        return Err(placeless(Fault::MEMORY));
+    };
+    let Ok(held) = entry.or_try_insert_with(|| Held::new(alloc)) else {
+        return Err(placeless(Fault::MEMORY));
+    };
+    held.step(change, found, pool)
 }
 
 /// Publishes a dictionary in the library of a session, which is made where there is none yet.
@@ -92,11 +79,11 @@ pub fn publish_in(
     ensures others { (other : ℕ) → other ≢ session
         → kept_for libraries.new.entries other ≡ kept_for libraries.old.entries other }
 {
-    if let Some(held) = libraries.get_mut(&session) {
-        return held.publish_loaded(name, loaded);
-    }
-    let mut library = Library::new(alloc);
-    let outcome = library.publish_loaded(name, loaded);
-    insert(libraries, session, Held::new(alloc, library)?)?;
-    outcome
+    let Ok(entry) = libraries.entry(session) else {
+        return Err(placeless(Fault::MEMORY));
+    };
+    let Ok(held) = entry.or_try_insert_with(|| Held::new(alloc)) else {
+        return Err(placeless(Fault::MEMORY));
+    };
+    held.publish_loaded(name, loaded)
 }

@@ -58,9 +58,10 @@ impl Machine for Broker {
     ghost Step = { BrokerStep };
 
     fn step(&mut self, scratch: &mut Scratch, line: &[u8], out: &mut Vec<u8>) {
-        match Request::read(self.allocator(), scratch, line) {
-            Ok((session, request)) => answer_request(self, session, &request, out),
-            Err((session, fault)) => append_short(out, session, Err(fault)),
+        let read = Request::read(self.allocator(), scratch, line);
+        match &read {
+            Ok((session, request)) => answer_request(self, *session, request, out),
+            Err((session, fault)) => append_short(out, *session, Err(*fault)),
         }
     }
 
