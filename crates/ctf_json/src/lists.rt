@@ -55,7 +55,7 @@ fn texts_at<'a>(alloc: Global, reader: &mut Reader<'a>, depth: usize) -> Result<
 {
     let mut texts = Joined::new(alloc);
     while !reader.take_end_array() {
-        let token = reader.next().ok_or(Invalid)?;
+        let token = reader.next_item().ok_or(Invalid)?;
         let Some(text) = text(token) else {
             pass_from(token, reader, depth)?;
             pass_items(reader, depth)?;
@@ -78,7 +78,7 @@ fn numbers_at<'a>(alloc: Global, reader: &mut Reader<'a>, depth: usize) -> Resul
 {
     let mut numbers = Vec::new(alloc);
     while !reader.take_end_array() {
-        let token = reader.next().ok_or(Invalid)?;
+        let token = reader.next_item().ok_or(Invalid)?;
         let Some(number) = small_number(token) else {
             pass_from(token, reader, depth)?;
             pass_items(reader, depth)?;

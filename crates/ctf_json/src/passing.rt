@@ -21,7 +21,7 @@ pub(crate) fn pass(reader: &mut Reader<'_>, depth: usize) -> Result<(), Invalid>
     if reader.take_array() {
         return pass_from(Token::BeginArray, reader, depth);
     }
-    let token = reader.next().ok_or(Invalid)?;
+    let token = reader.next_item().ok_or(Invalid)?;
     pass_from(token, reader, depth)
 }
 

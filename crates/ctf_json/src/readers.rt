@@ -6,7 +6,7 @@ ghost use Rattle.json.specs.Lex.{tokens};
 ghost use Rattle.json.specs.Reads.{token_of};
 ghost use Rattle.json.specs.Token as spec;
 ghost use Rattle.ctf_json.specs.Memory.{has_byte};
-ghost use Rattle.ctf_json.specs.PlainReader.{IsField};
+ghost use Rattle.ctf_json.specs.PlainReader.{IsField, token_said};
 
 use crate::plain_reader::PlainReader;
 use crate::values::Field;
@@ -89,6 +89,19 @@ fn lent_key<'a>(reader: &mut json::Reader<'a>) -> Result<Option<&'a str>, Invali
     }
 }
 
+/// The token that a field is.
+#[inline(always)]
+fn token<'a>(field: Field<'a>) -> Token<'a>
+    ensures { token_of result ≡ token_said field.entry }
+{
+    match field {
+        Field::String(text) => Token::String(text),
+        Field::Number(text) => Token::Number(text),
+        Field::Bool(truth) => Token::Bool(truth),
+        Field::Null => Token::Null,
+    }
+}
+
 fn without_scratch<'a>(text: &'a str) -> Result<Reader<'a>, AllocError>
     ensures ok { IfOk result (λ reader. reader ≡ tokens text.now) }
     ensures full { OnErr result (has_byte 92 text.now ≡ true) }
@@ -130,6 +143,18 @@ impl<'a> Reader<'a> {
         match &mut self.source {
             Source::Plain(reader) => reader.next(),
             Source::Lent(reader) => reader.next(),
+        }
+    }
+
+    /// The same, sooner where an item of a list is next that is a text or a number.
+    #[inline(always)]
+    pub(crate) fn next_item(&mut self) -> Option<Token<'a>>
+        ensures { MatchOption result ((self.old ≡ []) × (self.new ≡ []))
+            (λ t. self.old ≡ token_of t ∷ self.new) }
+    {
+        match self.take_field() {
+            Some(field) => Some(token(field)),
+            None => self.next(),
         }
     }
 

@@ -25,25 +25,25 @@ pub returns-in_err-pass_from-clause-refused : goal.returns-in_err-pass_from-clau
 returns-in_err-pass_from-clause-refused c is =
     let l = c.loop-reader in
     let going : (after_end_array l.reader ≡ None) × (c.take_end_array.new.self ≡ l.reader) = grind arith in
-    let first : c.take_end_array.new.self ≡ token_of c.in_ok-token.token ∷ c.next.new.self = grind arith in
-    let failed : passed_value c.args.depth (token_of c.in_ok-token.token ∷ c.next.new.self) ≡ None = c.in_err-pass_from.ensures.passed in
+    let first : c.take_end_array.new.self ≡ token_of c.in_ok-token.token ∷ c.next_item.new.self = grind arith in
+    let failed : passed_value c.args.depth (token_of c.in_ok-token.token ∷ c.next_item.new.self) ≡ None = c.in_err-pass_from.ensures.passed in
     refused_here is_text text_test text_said c.args.depth c.args.reader.now l.reader (texts l.texts) l.invariant going.0 (ap (passed_value c.args.depth) (sym going.1 ∙ first) ∙ failed)
 
 pub returns-in_err-pass_items-clause-refused : goal.returns-in_err-pass_items-clause-refused
 returns-in_err-pass_items-clause-refused c is =
     let l = c.loop-reader in
     let going : (after_end_array l.reader ≡ None) × (c.take_end_array.new.self ≡ l.reader) = grind arith in
-    let first : c.take_end_array.new.self ≡ token_of c.in_ok-token.token ∷ c.next.new.self = grind arith in
-    refused_later is_text text_test text_said c.args.depth c.args.reader.now l.reader (texts l.texts) (token_of c.in_ok-token.token) c.next.new.self c.pass_from.new.reader l.invariant going.0 (sym going.1 ∙ first) c.in_ok-pass_from.ensures.passed c.in_err-pass_items.ensures.passed
+    let first : c.take_end_array.new.self ≡ token_of c.in_ok-token.token ∷ c.next_item.new.self = grind arith in
+    refused_later is_text text_test text_said c.args.depth c.args.reader.now l.reader (texts l.texts) (token_of c.in_ok-token.token) c.next_item.new.self c.pass_from.new.reader l.invariant going.0 (sym going.1 ∙ first) c.in_ok-pass_from.ensures.passed c.in_err-pass_items.ensures.passed
 
 pub returns-in_default-clause-ok : goal.returns-in_default-clause-ok
 returns-in_default-clause-ok c =
     let l = c.loop-reader in
     let t = token_of c.in_ok-token.token in
     let going : (after_end_array l.reader ≡ None) × (c.take_end_array.new.self ≡ l.reader) = grind arith in
-    let first : c.take_end_array.new.self ≡ t ∷ c.next.new.self = grind arith in
+    let first : c.take_end_array.new.self ≡ t ∷ c.next_item.new.self = grind arith in
     let not : is_text (told (begun t)) ≡ false = ap is_some (sym c.in_default.ensures) in
-    let o = other is_text text_test text_said c.args.depth c.args.reader.now l.reader (texts l.texts) t c.next.new.self c.pass_from.new.reader c.pass_items.new.reader l.invariant going.0 (sym going.1 ∙ first) c.in_ok-pass_from.ensures.passed not c.in_ok-pass_items.ensures.passed in
+    let o = other is_text text_test text_said c.args.depth c.args.reader.now l.reader (texts l.texts) t c.next_item.new.self c.pass_from.new.reader c.pass_items.new.reader l.invariant going.0 (sym going.1 ∙ first) c.in_ok-pass_from.ensures.passed not c.in_ok-pass_items.ensures.passed in
     (o.0, o.1, o.2, ap (λ b. cond b (array (told_items o.0)) null) o.3)
 
 pub loop-reader-preserved : goal.loop-reader-preserved
@@ -51,12 +51,12 @@ loop-reader-preserved c =
     let l = c.loop-reader in
     let t = token_of c.in_ok-token.token in
     let going : (after_end_array l.reader ≡ None) × (c.take_end_array.new.self ≡ l.reader) = grind arith in
-    let first : c.take_end_array.new.self ≡ t ∷ c.next.new.self = grind arith in
+    let first : c.take_end_array.new.self ≡ t ∷ c.next_item.new.self = grind arith in
     let x = c.in-Some.text.now in
     let is = text_is (told (begun t)) x c.in-Some.ensures in
     let pushed : texts c.push.new.self ≡ texts l.texts ++ x ∷ [] = grind arith in
-    subst (λ xs. SoFar is_text text_test text_said c.args.depth c.args.reader.now xs c.next.new.self) (sym pushed)
-    (one_more_read is_text text_test text_said c.args.depth c.args.reader.now l.reader (texts l.texts) x t c.next.new.self l.invariant going.0 (sym going.1 ∙ first) is.0 is.1)
+    subst (λ xs. SoFar is_text text_test text_said c.args.depth c.args.reader.now xs c.next_item.new.self) (sym pushed)
+    (one_more_read is_text text_test text_said c.args.depth c.args.reader.now l.reader (texts l.texts) x t c.next_item.new.self l.invariant going.0 (sym going.1 ∙ first) is.0 is.1)
 
 pub returns-clause-ok : goal.returns-clause-ok
 returns-clause-ok c =
