@@ -1,16 +1,25 @@
-//! What the public calls of the crates that read the format answer, each with ample memory.
+//! The public calls of the crates that read the format, a module for each crate.
 
-mod parts;
-
-pub use parts::joined;
-
-#[cfg(test)]
 mod chains;
-#[cfg(test)]
+mod graph;
 mod model;
-#[cfg(test)]
+mod parts;
 mod records;
-#[cfg(test)]
 mod sections;
-#[cfg(test)]
+mod spelled;
 mod views;
+
+use crate::answer::Answer;
+use crate::words::Words;
+
+/// Answers a call: each file of rows has those of one crate.
+pub fn answer_call(file: &str, answer: &mut Answer, words: &mut Words<'_>) {
+    match file {
+        "model.rows" => model::answer_call(answer, words),
+        "sections.rows" => sections::answer_call(answer, words),
+        "records.rows" => records::answer_call(answer, words),
+        "views.rows" => views::answer_call(answer, words),
+        "chains.rows" => chains::answer_call(answer, words),
+        _ => answer.fail(),
+    }
+}

@@ -1,67 +1,66 @@
 //! The calls of ctf_model.
 
-use crate::format::joined;
-use ctf_model::{Bytes, Fault, Piece, Place, TypeNum, fault_name, placeless};
-use std::test::Fail;
+use crate::answer::Answer;
+use crate::format::parts::joined;
+use crate::words::Words;
+use ctf_model::{Bytes, Fault, LONGEST_PIECE, Piece, TypeNum, fault_name, placeless};
+use std::alloc::AllocError;
 
-#[test]
-fn names_faults(rt: HostRuntime) {
-    for (code, want) in [
-        (0, "Memory"),
-        (Fault::BAD_NAME, "BadName"),
-        (Fault::QUOTA_FULL, "QuotaFull"),
-        (63, ""),
-    ] {
-        assert!(rt; fault_name(code) == want, "at {code}");
+/// What bytes say of themselves, and as vectors and as a piece.
+fn owned(answer: &mut Answer, bytes: Bytes) {
+    answer.say(bytes.len());
+    answer.say(bytes.is_empty());
+    answer.bytes(bytes.as_slice());
+    let bytes = bytes.into_vec();
+    answer.bytes(&bytes);
+    if bytes.len() <= LONGEST_PIECE {
+        let piece = Piece::new(bytes);
+        answer.bytes(piece.as_slice());
+        answer.bytes(&piece.into_vec());
     }
-    assert!(rt; placeless(Fault::NO_SLOT).code == 49);
 }
 
-#[test]
-fn owns_bytes(rt: HostRuntime) -> Result<(), Fail> {
-    let alloc = rt.alloc();
-    assert!(rt; Bytes::new(alloc).len() == 0);
-    assert!(rt; Bytes::new(alloc).is_empty());
-    let bytes = Bytes::from(Vec::from_array(alloc, [1u8, 2])?);
-    assert!(rt; bytes.as_slice() == [1u8, 2].as_slice());
-    assert!(rt; bytes.into_vec().as_slice() == [1u8, 2].as_slice());
-    let piece = Piece::new(Vec::from_array(alloc, [3u8])?);
-    assert!(rt; piece.as_slice() == [3u8].as_slice());
-    assert!(rt; piece.into_vec().as_slice() == [3u8].as_slice());
-    Ok(())
+fn put(answer: &mut Answer, bytes: Result<Bytes, AllocError>) {
+    match bytes {
+        Ok(bytes) => answer.bytes(bytes.as_slice()),
+        Err(_) => answer.fail(),
+    }
 }
 
-#[test]
-fn copies_and_appends(rt: HostRuntime) -> Result<(), Fail> {
-    let alloc = rt.alloc();
-    let copy = Bytes::from_slice(alloc, &[1u8, 2, 3])?;
-    assert!(rt; copy.as_slice() == [1u8, 2, 3].as_slice());
-    let mut bytes = Bytes::new(alloc);
-    bytes.append(&[4u8, 5])?;
-    bytes.append(&[])?;
-    bytes.append(&[6u8])?;
-    assert!(rt; bytes.as_slice() == [4u8, 5, 6].as_slice());
-    assert!(rt; bytes.len() == 3);
-    let both = joined(alloc, &[7u8], &[8u8, 9])?;
-    assert!(rt; both.as_slice() == [7u8, 8, 9].as_slice());
-    Ok(())
+/// Appends three lists of bytes.
+fn appended(answer: &mut Answer, words: &mut Words<'_>) {
+    let mut bytes = Bytes::new(answer.alloc());
+    for _ in 0..3 {
+        if bytes.append(&words.bytes()).is_err() {
+            answer.fail();
+        }
+    }
+    answer.bytes(bytes.as_slice());
+    answer.say(bytes.len());
 }
 
-#[test]
-fn places_types(rt: HostRuntime) {
-    let rows = [
-        (0, Place::Nowhere, Place::Nowhere),
-        (1, Place::Own(0), Place::Parents(0)),
-        (0x7fff, Place::Own(0x7ffe), Place::Parents(0x7ffe)),
-        (0x8000, Place::Own(0x7fff), Place::Nowhere),
-        (0x8001, Place::Own(0x8000), Place::Own(0)),
-        (0xffff, Place::Own(0xfffe), Place::Own(0x7ffe)),
-    ];
-    for (number, own, in_child) in rows {
-        assert!(rt; TypeNum(number).place(false) == own, "at {number}");
-        assert!(rt;
-            TypeNum(number).place(true) == in_child,
-            "at {number} in a child"
-        );
+/// Where a number's type stands where there is no parent, and in a child.
+fn placed(answer: &mut Answer, number: TypeNum) {
+    answer.say(number.place(false));
+    answer.say(number.place(true));
+}
+
+/// Answers a call of ctf_model.
+pub fn answer_call(answer: &mut Answer, words: &mut Words<'_>) {
+    match words.word() {
+        "fault_name" => answer.say(fault_name(words.number())),
+        "BAD_NAME" => answer.say(fault_name(Fault::BAD_NAME)),
+        "QUOTA_FULL" => answer.say(fault_name(Fault::QUOTA_FULL)),
+        "NO_SLOT" => answer.say(placeless(Fault::NO_SLOT)),
+        "new" => owned(answer, Bytes::new(answer.alloc())),
+        "owned" => owned(answer, Bytes::from(words.bytes())),
+        "copied" => put(answer, Bytes::from_slice(answer.alloc(), &words.bytes())),
+        "appended" => appended(answer, words),
+        "joined" => {
+            let (front, back) = (words.bytes(), words.bytes());
+            put(answer, joined(answer.alloc(), &front, &back));
+        }
+        "place" => placed(answer, TypeNum(words.number())),
+        _ => answer.fail(),
     }
 }

@@ -2,4 +2,4 @@ use Rattle.test_format.proofs.format.chains.first.Given as goal
 
 -- the ledger is the one of the blank
 abbrev pub ghosts-counted : goal.ghosts-counted
-ghosts-counted g a = record { name = a.blank.name; parts = a.blank.parts }
+ghosts-counted a = record { name = a.blank.name; parts = a.blank.parts }

@@ -1,0 +1,77 @@
+//! A graph of numbers, for the search that knows nothing of types.
+ghost use Rattle.std.specs.Prelude.{◌≡◌, ◌<◌, None, length};
+
+use crate::words::Words;
+use ctf_chains::{Graph, Ticks, first_deep};
+use std::alloc::{AllocError, Global};
+use std::marker::Brand;
+use std::sync::ledger::{Blank, Ledger};
+
+/// Rows of numbers of rows; a number that is no row's leads nowhere.
+#[derive(Drop)]
+struct Rows {
+    rows: Vec<Vec<usize>>,
+}
+
+impl<L: Ledger> Graph<L> for Rows {
+    type Opened = usize;
+
+    ghost use Rattle.std.specs.Prelude.{map, nat_lt, if◌then◌else◌, Some};
+    ghost use Rattle.ctf_chains.specs.Places.{places_at};
+
+    ghost places = { λ s. map
+        (λ row. map (λ j. if nat_lt j (length s.rows.items) then Some j else None) row.items)
+        s.rows.items };
+
+    ghost places_of = { λ s i. places_at (map
+        (λ row. map (λ j. if nat_lt j (length s.rows.items) then Some j else None) row.items)
+        s.rows.items) i };
+
+    fn len(&self) -> usize {
+        self.rows.len()
+    }
+
+    fn open(&self, i: usize, work: &mut Ticks<L>) -> usize {
+        work.tick();
+        i
+    }
+
+    fn place_count(&self, opened: usize) -> usize {
+        if opened < self.rows.len() {
+            self.rows[opened].len()
+        } else {
+            0
+        }
+    }
+
+    fn place(&self, opened: usize, k: usize, work: &mut Ticks<L>) -> Option<usize> {
+        work.tick();
+        let j = self.rows[opened][k];
+        if j < self.rows.len() { Some(j) } else { None }
+    }
+}
+
+/// The first row that leads too far, and what it took to find it, in a ledger of its own.
+fn searched_in<L: Ledger>(
+    alloc: Global,
+    rows: &Rows,
+    blank: Blank,
+) -> Result<(Option<usize>, u64), AllocError>
+    requires name { blank.name ≡ L.name }
+    requires parts { blank.parts ≡ L.parts }
+    requires some { 0 < blank.parts }
+{
+    let mut work = Ticks::<L>::new(blank);
+    let found = first_deep(alloc, rows, &mut work)?;
+    Ok((found, work.count()))
+}
+
+/// The first row that leads too far, and what it took to find it. Of each row the last of its 100
+/// numbers is given, and the others lead nowhere.
+pub fn searched(alloc: Global, words: &mut Words<'_>) -> Result<(Option<usize>, u64), AllocError> {
+    let mut rows = Vec::new(alloc);
+    for _ in 0..words.number::<u16>() {
+        rows.push(vec![in alloc; 99, words.number()]?)?;
+    }
+    searched_in::<Brand>(alloc, &Rows { rows }, Blank::new(1))
+}
