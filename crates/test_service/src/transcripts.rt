@@ -3,11 +3,11 @@
 //! other sessions, where the replies have to be the same.
 
 mod marks;
-mod runs;
-mod told;
+pub mod runs;
+pub mod told;
 
 use crate::transcripts::runs::{Others, are_answered, runs_of};
-use std::{env, fs, io};
+use std::{fs, io};
 
 /// Prints the title of a run and, where the replies are others, that they are. Answers whether they
 /// are those of the run.
@@ -25,25 +25,11 @@ fn replay(rt: &HostRuntime, run: &str, others: &Others) -> io::Result<bool> {
 }
 
 /// Whether all runs of a file are answered as it says.
-fn replay_file(rt: &HostRuntime, name: &str, others: &Others) -> io::Result<bool> {
+pub fn transcript_holds(rt: &HostRuntime, name: &str, others: &Others) -> io::Result<bool> {
     let text = fs::read_to_string(rt, name)?;
     let mut same = true;
     for run in runs_of(&text) {
         same &= replay(rt, run, others)?;
-    }
-    Ok(same)
-}
-
-/// The words name a file of what others say, and then the transcripts.
-pub fn replay_all(rt: &HostRuntime) -> io::Result<bool> {
-    let mut names = env::args(rt)?.skip(1);
-    let Some(name) = names.next() else {
-        return Ok(true);
-    };
-    let others = Others::read(rt.alloc(), &fs::read_to_string(rt, &name)?)?;
-    let mut same = true;
-    for name in names {
-        same &= replay_file(rt, &name, &others)?;
     }
     Ok(same)
 }

@@ -30,12 +30,13 @@ fn put_mark(alloc: Global, out: &mut Vec<u8>, mark: &str, number: u32) -> Result
     out.extend_from_slice(digits.as_bytes())
 }
 
-/// Appends a text with what its marks stand for in the pass of a number.
+/// Appends a text with what its marks stand for in the pass of a number, and its end.
 pub fn put_marked(
     alloc: Global,
     out: &mut Vec<u8>,
     text: &str,
     number: u32,
+    end: &str,
 ) -> Result<(), AllocError> {
     let mut pieces = text.split("«");
     out.extend_from_slice(pieces.next().unwrap_or("").as_bytes())?;
@@ -44,6 +45,5 @@ pub fn put_marked(
         put_mark(alloc, out, mark, number)?;
         out.extend_from_slice(plain.as_bytes())?;
     }
-    out.push(b'\n')?;
-    Ok(())
+    out.extend_from_slice(end.as_bytes())
 }

@@ -1,9 +1,8 @@
-//! Runs in the text of a transcript: a line that begins with `# ` is
-//! the title of one. Below it stand,
-//! in their order, requests behind `> ` and replies behind `< `;
-//! other lines are comments. The lines
-//! below a line such as `* 1..=255` are passed once for each of those numbers, up to the next line
-//! that begins so; below `* then` they are passed once.
+//! Runs in the text of a transcript: a line that begins with `# ` is the title of one. Below it
+//! stand, in their order, requests behind `> ` and replies behind `< `; other lines are comments.
+//! The lines below a line such as `* 1..=255` are passed once for each of those numbers, up to the
+//! next line that begins so; below `* then` they are passed once. Where flushes are noted, `<| ` is
+//! a reply and a bar behind it; `>| ` is a request that no newline ends.
 
 use crate::transcripts::marks::put_marked;
 use crate::transcripts::told::Told;
@@ -51,6 +50,30 @@ fn passes(part: &str) -> RangeInclusive<u32> {
     }
 }
 
+/// Appends a line of a run as it is in the pass of a number.
+fn put_line(
+    alloc: Global,
+    told: &mut Told,
+    line: &str,
+    number: u32,
+    between: &Told,
+) -> Result<(), AllocError> {
+    if let Some(request) = line.strip_prefix("> ") {
+        return put_marked(alloc, &mut told.input, request, number, "\n");
+    }
+    if let Some(request) = line.strip_prefix(">| ") {
+        return put_marked(alloc, &mut told.input, request, number, "");
+    }
+    if let Some(reply) = line.strip_prefix("<| ") {
+        return put_marked(alloc, &mut told.want, reply, number, "\n|");
+    }
+    if let Some(reply) = line.strip_prefix("< ") {
+        put_marked(alloc, &mut told.want, reply, number, "\n")?;
+        return told.append(between);
+    }
+    Ok(())
+}
+
 /// Appends a part of a run as it is in the pass of a number.
 fn put_pass(
     alloc: Global,
@@ -60,12 +83,7 @@ fn put_pass(
     between: &Told,
 ) -> Result<(), AllocError> {
     for line in part.lines() {
-        if let Some(request) = line.strip_prefix("> ") {
-            put_marked(alloc, &mut told.input, request, number)?;
-        } else if let Some(reply) = line.strip_prefix("< ") {
-            put_marked(alloc, &mut told.want, reply, number)?;
-            told.append(between)?;
-        }
+        put_line(alloc, told, line, number, between)?;
     }
     Ok(())
 }
@@ -84,7 +102,7 @@ fn put_part(alloc: Global, told: &mut Told, part: &str, between: &Told) -> Resul
 }
 
 /// The requests of a run and its replies, with what others say.
-fn told(alloc: Global, run: &str, others: &Others) -> Result<Told, AllocError> {
+pub fn told(alloc: Global, run: &str, others: &Others) -> Result<Told, AllocError> {
     let mut told = Told::new(alloc);
     told.append(&others.first)?;
     for part in run.split("\n* ") {

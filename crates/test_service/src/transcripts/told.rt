@@ -26,7 +26,7 @@ impl Told {
 
     /// Whether a run that begins with the lines writes just the replies.
     pub fn are_answered(&self, alloc: Global) -> bool {
-        let (end, written) = served(alloc, &self.input, 4096);
+        let (end, written) = served(alloc, &self.input);
         end.is_ok() && written.as_slice() == self.want.as_slice()
     }
 }

@@ -3,10 +3,10 @@ ghost use Rattle.std.specs.Prelude.{◌≡◌, Some, None, map};
 ghost use Rattle.ctf_wire.specs.Flushes.{Flushes};
 ghost use Rattle.ctf_wire.specs.Streams.{Pushed};
 
-use crate::rows::noted::{BATCHED, THREE};
+use crate::said::Said;
+use crate::transcripts::told::Told;
 use ctf_wire::{Broker, FromReader, Sink, serve};
 use std::alloc::{AllocError, Global};
-use std::test::Fail;
 
 /// Keeps each flushed piece.
 #[derive(Drop)]
@@ -53,10 +53,10 @@ impl Sink for Shelf {
     }
 }
 
-/// What is on the shelf after the three lines' run, where some bytes wait there before it: each
-/// piece with a bar behind it, and what waits.
-fn shelved(alloc: Global, before: &[u8]) -> Result<Vec<u8>, AllocError> {
-    let mut source = FromReader::new(THREE.as_bytes());
+/// What is on the shelf after a run, where some bytes wait there before it: each piece with a bar
+/// behind it, and what waits.
+fn on_shelf(alloc: Global, before: &[u8], input: &[u8]) -> Result<Vec<u8>, AllocError> {
+    let mut source = FromReader::new(input);
     let mut shelf = Shelf {
         alloc,
         pieces: Vec::new(alloc),
@@ -73,17 +73,13 @@ fn shelved(alloc: Global, before: &[u8]) -> Result<Vec<u8>, AllocError> {
     Ok(out)
 }
 
-#[test]
-fn the_replies_of_a_read_are_flushed_at_once(rt: HostRuntime) -> Result<(), Fail> {
-    let written = shelved(rt.alloc(), b"")?;
-    assert!(rt; written.as_slice() == BATCHED.as_bytes());
-    Ok(())
-}
-
-#[test]
-fn what_waits_goes_with_the_first_replies(rt: HostRuntime) -> Result<(), Fail> {
-    let written = shelved(rt.alloc(), b"before ")?;
-    assert!(rt; written.starts_with(b"before {\"ok\":{},\"s\":1}\n{"));
-    assert!(rt; written.ends_with(BATCHED.as_bytes()));
-    Ok(())
+/// What is on the shelf after a run, behind a text that waited there.
+pub fn shelved(said: &mut Said, told: &Told, before: &str) {
+    let Ok(shelf) = on_shelf(said.alloc(), before.as_bytes(), &told.input) else {
+        return said.word("no memory");
+    };
+    match shelf.strip_prefix(before.as_bytes()) {
+        Some(written) => said.front(&told.want, written),
+        None => said.word("other"),
+    }
 }

@@ -1,0 +1,82 @@
+//! Runs of which each call of a sort fails in turn, or that end at each bound on reads.
+
+use crate::said::Said;
+use crate::serving::cases::Case;
+use crate::serving::{Ran, served_in};
+use crate::transcripts::told::Told;
+use ctf_wire::{Broker, RunFault};
+
+/// More calls of each sort than any of the runs makes.
+const CALLS: u32 = 600;
+
+/// What is noted of so many lines: up to the bar of the last.
+fn noted_of(want: &[u8], lines: usize) -> &[u8] {
+    let mut left = lines;
+    let mut len: usize = 0;
+    for byte in want {
+        if left > 0 {
+            len = len.wrapping_add(1);
+            if *byte == b'|' {
+                left = left.wrapping_sub(1);
+            }
+        }
+    }
+    want.get(..len).unwrap_or(b"")
+}
+
+/// What is noted after so many reads, where no two lines end in the same.
+fn noted_after(told: &Told, size: usize, reads: u32) -> &[u8] {
+    let len = size.wrapping_mul(reads as usize).min(told.input.len());
+    let read = told.input.get(..len).unwrap_or(b"");
+    noted_of(
+        &told.want,
+        read.iter().filter(|byte| **byte == b'\n').count(),
+    )
+}
+
+/// Whether a run is cut off as it has to be by a call, or behind so many reads.
+fn is_cut(told: &Told, size: usize, word: &str, number: u32, ran: &Ran) -> bool {
+    let (end, noted) = ran;
+    match word {
+        "reads" => {
+            *end == Err(RunFault::ReadBound) && noted.as_slice() == noted_after(told, size, number)
+        }
+        "read" => {
+            let before = number.wrapping_sub(1);
+            *end == Err(RunFault::Read) && noted.as_slice() == noted_after(told, size, before)
+        }
+        _ => {
+            *end == Err(RunFault::Write)
+                && told.want.starts_with(noted)
+                && noted.len() < told.want.len()
+        }
+    }
+}
+
+/// How many runs are cut off: by the first call of a sort, the second and so on, until one goes on
+/// to its end.
+pub fn each(said: &mut Said, told: &Told, words: &str) {
+    let (size, word) = words.split_once(' ').unwrap_or((words, ""));
+    let size = size.parse::<usize>().unwrap_or(0);
+    let first = if word == "reads" { 0 } else { 1 };
+    let mut cut: u64 = 0;
+    for number in first..CALLS {
+        let case = Case::of(size).with(word, number);
+        let ran = served_in(
+            said.alloc(),
+            &mut Broker::new(said.alloc()),
+            &told.input,
+            case,
+        );
+        if ran.0 == Ok(()) && ran.1.as_slice() == told.want.as_slice() {
+            break;
+        }
+        if !is_cut(told, size, word, number, &ran) {
+            said.word("other at");
+            said.number(u64::from(number));
+            return;
+        }
+        cut = cut.wrapping_add(1);
+    }
+    said.number(cut);
+}

@@ -1,0 +1,76 @@
+//! The calls below `serve` that answer a request: of a library, and of a broker.
+
+use crate::said::Said;
+use crate::transcripts::told::Told;
+use ctf_answers::Reply;
+use ctf_lines::{FromLine, Scratch, ToLine, write_change};
+use ctf_protocol::Request;
+use ctf_wire::{Broker, Library, Pool};
+use std::alloc::{AllocError, Global};
+
+/// Asks a library what a line says, and appends the line of its reply.
+fn ask_library(
+    alloc: Global,
+    out: &mut Vec<u8>,
+    library: &mut Library,
+    pool: &mut Pool,
+    line: &str,
+) -> Result<(), AllocError> {
+    let Ok((session, request)) = Request::read(alloc, &mut Scratch::new(alloc), line.as_bytes())
+    else {
+        return Ok(());
+    };
+    match request {
+        Request::Changes(change) => write_change(out, session, library.step(&change, None, pool)),
+        Request::Asks { d, question } => {
+            let outcome = library.answer(d, &question);
+            Reply { session, outcome }.write(out)
+        }
+    }
+}
+
+/// Asks a broker what a line says, and appends the line of its reply.
+fn ask_broker(
+    alloc: Global,
+    out: &mut Vec<u8>,
+    broker: &mut Broker,
+    line: &str,
+) -> Result<(), AllocError> {
+    let Ok((session, request)) = Request::read(alloc, &mut Scratch::new(alloc), line.as_bytes())
+    else {
+        return Ok(());
+    };
+    match request {
+        Request::Changes(change) => write_change(out, session, broker.step(session, &change)),
+        Request::Asks { d, question } => {
+            let outcome = broker.answer(session, d, &question);
+            Reply { session, outcome }.write(out)
+        }
+    }
+}
+
+/// The lines of a text that bytes are.
+fn lines(bytes: &[u8]) -> &str {
+    std::str::from_utf8(bytes).unwrap_or("no text")
+}
+
+/// What a library answers the lines, of whatever session they are.
+pub fn library(said: &mut Said, told: &Told) {
+    let mut library = Library::new(said.alloc());
+    let mut pool = Pool::new(said.alloc());
+    let mut out = Vec::new(said.alloc());
+    for line in lines(&told.input).lines() {
+        said.note(ask_library(said.alloc(), &mut out, &mut library, &mut pool, line));
+    }
+    said.front(&told.want, &out);
+}
+
+/// What a broker answers the lines.
+pub fn broker(said: &mut Said, told: &Told) {
+    let mut broker = Broker::new(said.alloc());
+    let mut out = Vec::new(said.alloc());
+    for line in lines(&told.input).lines() {
+        said.note(ask_broker(said.alloc(), &mut out, &mut broker, line));
+    }
+    said.front(&told.want, &out);
+}
