@@ -1,7 +1,7 @@
 //! Bytes as a row writes them: pieces with commas between them. A piece is two digits for each
 //! byte, or a `'` and a text. `COUNT*` in front of it stands for so many of it, and `+AT` behind it
-//! makes the number of two bytes at that place greater by one in each next one. A dash stands for no
-//! bytes.
+//! makes the number of two bytes at that place greater by one in each next one. A dash stands for
+//! no bytes.
 
 use ctf_sections::bytes::u16_at;
 use std::alloc::Global;

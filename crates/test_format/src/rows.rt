@@ -1,5 +1,5 @@
-//! Rows in files: a call and what it is given, `=`, and what it answers. A line that begins with `#`
-//! is the title of the rows below it; one that begins with `/` is a comment.
+//! Rows in files: a call and what it is given, `=`, and what it answers. A line that begins with
+//! `#` is the title of the rows below it; one that begins with `/` is a comment.
 
 use crate::answer::Answer;
 use crate::format::answer_call;
