@@ -97,6 +97,9 @@ def parts(program: str) -> list[Part]:
         Part("dumps", ["tests/dumps.py", program]),
         Part("by_hand", [sys.executable, "-m", "unittest", "discover", "-s",
                          "tests/by_hand", "-t", "tests"], words=over),
+        # What people run, as black boxes, with the hostile files that tests/doors makes.
+        Part("doors", [python, "-m", "unittest", "discover", "-s", "tests/doors", "-t", "tests"],
+             words=over, after=of_library),
         Part("ilp32", ["tests/ilp32.sh", program]),
         Part("links", ["tests/links.py"]),
         Part("names", ["tests/names.py"]),
