@@ -74,8 +74,8 @@ def told() -> Optional[Built]:
 
 
 def sum_of_calls() -> str:
-    """The sum of the sources of libctf's calls."""
-    found = hashlib.sha256()
+    """The sum of the sources of libctf's calls, and of how they are compiled."""
+    found = hashlib.sha256(TOP.joinpath("scripts", "libctf.py").read_bytes())
     for path in sorted(CALLS.glob("**/*.[ch]")):
         found.update(f"{path.relative_to(CALLS)} {sum_of(path)}\n".encode())
     return found.hexdigest()

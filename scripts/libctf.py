@@ -6,7 +6,8 @@ usage: scripts/libctf.py ARCHIVE
 ARCHIVE is one that scripts/quick.py or the kit made. The objects of clients/c/libctf go into it, in
 place of those that are there. Beside it are then
 
-- libctfd.so, linked of the objects of the archive: ctfd_* and ctf_* and nothing else is exported;
+- libctfd.so, linked of the objects of the archive: ctfd_* and ctf_* and nothing else is exported,
+  with a version, and what it calls of its own is its own whatever else a process has loaded;
 - libctfd_elf.so and libctfd_elf.a, the part that reads ELF files. libctfd.so loads it where such a
   file is met; a program that links the archive links it too, or leaves it out.
 
@@ -38,8 +39,9 @@ ELF, LOADING = SOURCES / "elf.c", SOURCES / "loading.c"
 PREFIX = "libctf_"
 FLAGS = ("-std=c11", "-O2", "-fPIC", "-fvisibility=hidden", "-ffunction-sections",
          "-fdata-sections", "-Wall", "-Wextra", "-pedantic", f"-I{HEADERS}")
-# Of the objects nothing else is seen from outside.
-EXPORTS = "{ global: ctfd_*; ctf_*; local: *; };\n"
+# Of the objects nothing else is seen from outside. The version keeps a program's calls apart from
+# those of another libctf in its process.
+EXPORTS = f"CTFD_{MAJOR} {{ global: ctfd_*; ctf_*; local: *; }};\n"
 LIBRARIES = ("-lelf", "-lz")
 
 
@@ -104,9 +106,20 @@ class Tools:
         script, made = folder / "exports.map", folder / name
         script.write_text(EXPORTS, encoding="utf-8")
         run(*self.compiler, "-shared", "-o", made, f"-Wl,-soname,{soname(name)}",
-            f"-Wl,--version-script={script}", "-Wl,-z,defs", "-Wl,-z,now", "-Wl,-z,noexecstack",
-            "-Wl,--gc-sections", *words)
+            f"-Wl,--version-script={script}", "-Wl,-Bsymbolic", "-Wl,-z,defs", "-Wl,-z,now",
+            "-Wl,-z,noexecstack", "-Wl,--gc-sections", *words)
         return made
+
+
+def lacks_elf(folder: Path) -> bool:
+    """Whether a built library stands without the part for ELF files, which can be made by now."""
+    if (folder / ELF_SHARED).exists():
+        return False
+    with tempfile.TemporaryDirectory() as made:
+        try:
+            return Tools.found().has_elf(Path(made))
+        except NotCompiled:
+            return False
 
 
 def in_archive() -> list[Path]:

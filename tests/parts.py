@@ -101,6 +101,7 @@ def parts(program: str) -> list[Part]:
         Part("doors", [python, "-m", "unittest", "discover", "-s", "tests/doors", "-t", "tests"],
              words=over, after=of_library),
         Part("ilp32", ["tests/ilp32.sh", program]),
+        Part("house", ["tests/house.py"]),
         Part("links", ["tests/links.py"]),
         Part("names", ["tests/names.py"]),
         Part("pages", ["tests/pages.py"]),

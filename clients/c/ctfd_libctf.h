@@ -136,11 +136,13 @@ typedef int ctf_object_f(const char *name, ctf_id_t type, ulong_t symbol, void *
 #define CTF_SYSTEM_ERROR 1000
 
 /* The part for ELF files, libctfd_elf, is not there; a file without .SUNW_ctf and .ctf; a damaged
- * ELF file; a body that does not inflate to what its header says. */
+ * ELF file; a body that does not inflate to what its header says; a name that does not fit into the
+ * caller's buffer. */
 #define ECTF_ZMISSING 900
 #define ECTF_NOCTFDATA 901
 #define ECTF_ELFVERS 902
 #define ECTF_DECOMPRESS 903
+#define ECTF_NAMELEN 904
 
 #define ECTF_FMT CTFD_BAD_MAGIC
 #define ECTF_NOCTFBUF CTFD_BAD_MAGIC
@@ -156,7 +158,6 @@ typedef int ctf_object_f(const char *name, ctf_id_t type, ulong_t symbol, void *
 #define ECTF_NOTARRAY CTFD_WRONG_KIND
 #define ECTF_NOTINTFP CTFD_WRONG_KIND
 #define ECTF_NOTREF CTFD_NOT_REFERENCE
-#define ECTF_NAMELEN CTFD_TOO_LONG
 #define ECTF_NOMEMBNAM CTFD_NO_MEMBER
 #define ECTF_NOENUMNAM CTFD_NO_MEMBER
 #define ECTF_NOSYMTAB CTFD_NO_SYMBOL

@@ -216,7 +216,8 @@ def without_a_row(page: str) -> list[str]:
 
 def not_as_declared(archive: Path, calls: set[str]) -> list[str]:
     """What an archive and the shared library beside it define otherwise than the headers say, but
-    for the names by which the archive takes memory, and what its own objects share."""
+    for the names by which the archive takes memory, and what its own objects share. Those of the
+    shared library have its version."""
     wanted, found = calls | of_libctf(), []
     inside = {name for name in named(str(archive)) if not re.match("rattle_|ctfd__", name)}
     if inside != wanted:
@@ -224,6 +225,8 @@ def not_as_declared(archive: Path, calls: set[str]) -> list[str]:
     shared = archive.with_name("libctfd.so")
     if not shared.exists():
         return [*found, f"there is no {shared}: scripts/libctf.py makes it"]
+    version = f"CTFD_{(TOP / 'VERSION').read_text(encoding='utf-8').split('.')[0]}"
+    wanted = {version, *(f"{name}@@{version}" for name in wanted)}
     if (seen := named("-D", str(shared))) != wanted:
         found.append(f"declared, or seen of libctfd.so: {sorted(seen ^ wanted)}")
     return found

@@ -491,7 +491,7 @@ static void some_calls(struct made *made)
     for (t = 1; t <= made->types; t++) {
         CHECK(ctf_type_kind(fp, t) > 0 && ctf_type_resolve(fp, t) >= 0);
         if (ctf_type_cname(fp, t, text, sizeof text, "v") == NULL)
-            CHECK(ctf_errno(fp) == CTFD_MEMORY || ctf_errno(fp) == CTFD_TOO_LONG);
+            CHECK(ctf_errno(fp) == CTFD_MEMORY || ctf_errno(fp) == ECTF_NAMELEN);
         (void)ctf_member_iter(fp, t, on_member, &in);
         (void)ctf_enum_iter(fp, t, on_enumerator, &in);
         if (ctf_enum_name(fp, t, 1) == NULL)

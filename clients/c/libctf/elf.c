@@ -89,7 +89,8 @@ static Elf_Scn *named(const struct file *file, const char *name)
     return NULL;
 }
 
-/* The bytes of a section, as long as a list may be; ELF's own compression is undone. */
+/* The bytes of a section, as long as a list may be; ELF's own compression is undone. A section that
+ * has none in the file is refused. */
 static Elf_Data *data_of(Elf_Scn *section, int *error)
 {
     GElf_Shdr header;
@@ -112,7 +113,7 @@ static Elf_Data *data_of(Elf_Scn *section, int *error)
         return NULL;
     }
     data = elf_getdata(section, NULL);
-    return data;
+    return data != NULL && data->d_buf == NULL && data->d_size != 0 ? NULL : data;
 }
 
 static int copied(const void *bytes, size_t len, struct ctfd_elf_list *made)
@@ -169,7 +170,8 @@ static int take_table(const struct file *file, Elf_Scn *section, struct ctfd_elf
     Elf_Data *table, *strings;
     Elf_Scn *named_strings;
     int error;
-    if (gelf_getshdr(section, &header) == NULL || header.sh_entsize == 0 ||
+    if (gelf_getshdr(section, &header) == NULL ||
+        header.sh_entsize != gelf_fsize(file->elf, ELF_T_SYM, 1, EV_CURRENT) ||
         (named_strings = elf_getscn(file->elf, header.sh_link)) == NULL)
         return CTFD_BAD_SYMTAB;
     table = data_of(section, &error);
@@ -198,37 +200,66 @@ struct told {
     unsigned long checksum;
 };
 
-/* The name of a symbol that a dictionary can tell of, else NULL. */
-static const char *considered(const Elf64_Sym *symbol, const struct ctfd_elf_list *strings)
+/* Names may overlap: all of them together are read for so many bytes for each of the tables'. */
+#define MOST_TIMES 64
+
+struct reading {
+    const struct ctfd_elf_list *strings;
+    uint64_t left;
+};
+
+/* The length of a name, without its zero byte; more than there is where it has none, or where too
+ * much has been read. */
+static size_t length_of(struct reading *reading, size_t at)
+{
+    size_t most = reading->strings->len - at;
+    const char *name = (const char *)reading->strings->at + at;
+    const char *end;
+    if (most > reading->left)
+        most = (size_t)reading->left;
+    end = (const char *)memchr(name, '\0', most);
+    reading->left -= end != NULL ? (size_t)(end - name) : most;
+    return end != NULL ? (size_t)(end - name) : reading->strings->len;
+}
+
+/* The length of the name of a symbol that a dictionary can tell of, else 0. */
+static size_t considered(struct reading *reading, const Elf64_Sym *symbol)
 {
     int kind = ELF64_ST_TYPE(symbol->st_info);
     const char *name;
+    size_t len;
     if ((kind != STT_OBJECT && kind != STT_FUNC) || symbol->st_shndx == SHN_UNDEF ||
-        symbol->st_name == 0 || symbol->st_name >= strings->len)
-        return NULL;
-    name = (const char *)strings->at + symbol->st_name;
-    if (memchr(name, '\0', strings->len - symbol->st_name) == NULL || *name == '\0' ||
-        strcmp(name, "_START_") == 0 || strcmp(name, "_END_") == 0 ||
+        symbol->st_name == 0 || symbol->st_name >= reading->strings->len)
+        return 0;
+    name = (const char *)reading->strings->at + symbol->st_name;
+    len = length_of(reading, symbol->st_name);
+    if (len == reading->strings->len || strcmp(name, "_START_") == 0 ||
+        strcmp(name, "_END_") == 0 ||
         (kind == STT_OBJECT && symbol->st_shndx == SHN_ABS && symbol->st_value == 0))
-        return NULL;
-    return name;
+        return 0;
+    return len;
 }
 
-/* The checksum that ctfd-convert writes: of the kinds and names of those, in their order. */
-static unsigned long checksum_of(const struct ctfd_elf_lists *lists)
+/* The checksum that ctfd-convert writes: of the kinds and names of those, in their order. False
+ * where names overlap so that they are too much to read. */
+static bool checksum_of(const struct ctfd_elf_lists *lists, unsigned long *checksum)
 {
     const Elf64_Sym *symbols = (const Elf64_Sym *)lists->symbols.at;
     size_t i, count = lists->symbols.len / sizeof *symbols;
+    struct reading reading = { &lists->strings, 0 };
     uLong sum = crc32(0, NULL, 0);
-    for (i = 0; i < count; i++) {
-        const char *name = considered(&symbols[i], &lists->strings);
+    reading.left = MOST_TIMES * ((uint64_t)lists->strings.len + lists->symbols.len);
+    for (i = 0; i < count && reading.left != 0; i++) {
+        size_t len = considered(&reading, &symbols[i]);
         unsigned char kind = ELF64_ST_TYPE(symbols[i].st_info);
-        if (name == NULL)
+        if (len == 0)
             continue;
         sum = crc32(sum, &kind, 1);
-        sum = crc32(sum, (const unsigned char *)name, (uInt)strlen(name) + 1);
+        sum = crc32(sum, (const unsigned char *)lists->strings.at + symbols[i].st_name,
+            (uInt)len + 1);
     }
-    return sum;
+    *checksum = sum;
+    return i == count;
 }
 
 /* Reads "TABLE,OBJECTS,FUNCTIONS,CHECKSUM"; false where it is something else. */
@@ -256,12 +287,12 @@ static bool find_label(const struct ctfd_elf_list *ctf, struct told *told)
     end = HEADER + number_at(bytes + 16);
     strings = HEADER + number_at(bytes + 28);
     strings_end = strings + number_at(bytes + 32);
-    for (; at + 8 <= end && end <= ctf->len && strings_end <= ctf->len; at += 8) {
+    if (strings_end > ctf->len || strings == strings_end || bytes[strings_end - 1] != '\0')
+        return false;
+    for (; at + 8 <= end && end <= ctf->len; at += 8) {
         uint64_t name = strings + number_at(bytes + at);
         const char *text = (const char *)bytes + name;
-        if (name + sizeof LABEL > strings_end || memcmp(text, LABEL, sizeof LABEL - 1) != 0)
-            continue;
-        if (memchr(text, '\0', (size_t)(strings_end - name)) != NULL)
+        if (name + sizeof LABEL <= strings_end && memcmp(text, LABEL, sizeof LABEL - 1) == 0)
             return read_label(text + sizeof LABEL - 1, told);
     }
     return false;
@@ -296,13 +327,18 @@ static int find_symbols(const struct file *file, Elf_Scn *section, struct ctfd_e
     struct told told;
     bool is_told = find_label(&lists->ctf, &told);
     Elf_Scn *table = is_told ? told_table(file, &told) : linked_table(file, section);
+    unsigned long checksum;
     int error;
     if (table == NULL)
         return 0;
     error = take_table(file, table, lists);
-    if (error == 0 && is_told && checksum_of(lists) != told.checksum)
+    if (error != 0 || !is_told)
+        return error;
+    if (!checksum_of(lists, &checksum))
+        return ECTF_ELFVERS;
+    if (checksum != told.checksum)
         drop_table(lists);
-    return error;
+    return 0;
 }
 
 /* ---- files */

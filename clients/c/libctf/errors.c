@@ -77,14 +77,15 @@ const char *ctf_errmsg(int error)
         "QuotaFull: more than a session may hold",
         "FixedParent: the parent of a draft is fixed",
     };
-    static const char *const of_elf[] = {
+    static const char *const own[] = {
         "an ELF file or a compressed section: link libctfd_elf, or put its .so beside libctfd.so",
         "the ELF file has no section .SUNW_ctf or .ctf: ctfd-convert --section makes one",
         "the ELF file is damaged",
         "the compressed section does not inflate to what its header says",
+        "the name does not fit into the buffer: ctf_type_lname returns its length",
     };
-    if (error >= ECTF_ZMISSING && error <= ECTF_DECOMPRESS)
-        return of_elf[error - ECTF_ZMISSING];
+    if (error >= ECTF_ZMISSING && error <= ECTF_NAMELEN)
+        return own[error - ECTF_ZMISSING];
     if (error > CTF_SYSTEM_ERROR)
         return strerror(error - CTF_SYSTEM_ERROR);
     if (error >= 0 && (size_t)error < sizeof messages / sizeof messages[0])

@@ -5,34 +5,6 @@
 #include <stdlib.h>
 #include <string.h>
 
-ssize_t ctf_type_lname(ctf_file_t *fp, ctf_id_t type, char *text, size_t size)
-{
-    char none;
-    uint64_t len = 0;
-    enum ctfd_status status;
-    if (!ctfd__is_type(fp, type))
-        return (ssize_t)CTF_ERR;
-    status = ctfd_name(&fp->types, (uint16_t)type, size == 0 ? &none : text, size, &len);
-    if (ctfd__done(fp, status) != 0)
-        return (ssize_t)CTF_ERR;
-    if (size > 0)
-        text[len < size ? len : size - 1] = '\0';
-    if (len >= size)
-        (void)ctfd__fail(fp, CTFD_TOO_LONG);
-    return (ssize_t)len;
-}
-
-/* NULL where it does not fit. */
-static char *fitting(ssize_t len, char *text, size_t size)
-{
-    return len >= 0 && (size_t)len < size ? text : NULL;
-}
-
-char *ctf_type_name(ctf_file_t *fp, ctf_id_t type, char *text, size_t size)
-{
-    return fitting(ctf_type_lname(fp, type, text, size), text, size);
-}
-
 /* ---- declarations
  *
  * One begins with a type that has a name of its own. Around what is declared stand stars, brackets
@@ -80,10 +52,12 @@ static void append_turned(struct grown *text, const char *piece)
         at[i] = piece[len - 1 - i];
 }
 
-/* What is put around a name, and the type that the declaration begins with: 0 for void. */
+/* What is put around a name, and the type that the declaration begins with: 0 for void. The pointer
+ * whose star comes next has the qualifiers `of_pointer`, a bit for each kind. */
 struct declaration {
     struct grown front, left, right;
     bool is_named;
+    uint32_t of_pointer;
     uint16_t base;
 };
 
@@ -107,19 +81,64 @@ static const char *qualifier_of(uint32_t kind)
     }
 }
 
+/* The type that a pointer, an array, a function or a qualifier is made of; false for others. */
+static bool inner_of(ctf_file_t *fp, uint16_t t, uint32_t kind, uint16_t *to)
+{
+    struct ctfd_array array;
+    if (kind == CTFD_POINTER || qualifier_of(kind) != NULL)
+        return ctfd__reference(fp, t, to) == CTFD_OK;
+    if (kind == CTFD_FUNCTION)
+        return ctfd_return(&fp->types, t, to) == CTFD_OK;
+    if (kind != CTFD_ARRAY || ctfd_array(&fp->types, t, &array) != CTFD_OK)
+        return false;
+    *to = array.contents;
+    return true;
+}
+
 /* The kind of what qualifiers stand around. */
 static uint32_t qualified(ctf_file_t *fp, uint16_t t)
 {
     uint32_t kind = kind_of(fp, t);
     int steps = 0;
     while (qualifier_of(kind) != NULL && steps++ < 2 * CTFD_DEEPEST) {
-        uint16_t to = 0;
-        if (ctfd_reference(&fp->types, t, &to) != CTFD_OK)
+        if (!inner_of(fp, t, kind, &t))
             return CTFD_UNKNOWN;
-        t = to;
         kind = kind_of(fp, t);
     }
     return kind;
+}
+
+/* Whether a qualifier of a type is one of pointers: of the type itself, or, since C knows no
+ * qualified arrays, of what an array holds. */
+static bool qualifies_pointers(ctf_file_t *fp, uint16_t t, bool *is_array)
+{
+    uint32_t kind = kind_of(fp, t);
+    int steps = 0;
+    *is_array = false;
+    while ((qualifier_of(kind) != NULL || kind == CTFD_ARRAY) && steps++ < 2 * CTFD_DEEPEST) {
+        *is_array = *is_array || kind == CTFD_ARRAY;
+        if (!inner_of(fp, t, kind, &t))
+            return false;
+        kind = kind_of(fp, t);
+    }
+    return kind == CTFD_POINTER;
+}
+
+/* Whether the spelled name of a type, which writes each qualifier of an array in front of all, is
+ * another type in C: one qualifies an array of pointers. */
+static bool is_misspelled(ctf_file_t *fp, uint16_t t)
+{
+    bool is_array = false;
+    uint16_t to = 0;
+    int steps = 0;
+    for (; t != 0 && steps < 2 * CTFD_DEEPEST; t = to, steps++) {
+        uint32_t kind = kind_of(fp, t);
+        if (!inner_of(fp, t, kind, &to))
+            return false;
+        if (qualifier_of(kind) != NULL && qualifies_pointers(fp, to, &is_array) && is_array)
+            return true;
+    }
+    return false;
 }
 
 /* A star, in brackets where an array or a function stands behind it. */
@@ -127,21 +146,28 @@ static void put_star(ctf_file_t *fp, struct declaration *made, uint16_t to)
 {
     uint32_t kind = qualified(fp, to);
     append_turned(&made->left, "*");
+    made->of_pointer = 0;
     if (kind == CTFD_ARRAY || kind == CTFD_FUNCTION) {
         append_turned(&made->left, "(");
         append(&made->right, ")", 1);
     }
 }
 
-/* A qualifier of a pointer stands behind its star, and any other in front of all. */
-static void put_qualifier(ctf_file_t *fp, struct declaration *made, const char *word, uint16_t of)
+/* A qualifier of a pointer stands behind its star, once: an array and what it holds may both have
+ * it. Any other stands in front of all. */
+static void put_qualifier(ctf_file_t *fp, struct declaration *made, uint32_t kind, uint16_t of)
 {
-    if (qualified(fp, of) != CTFD_POINTER) {
+    const char *word = qualifier_of(kind);
+    bool is_array;
+    if (!qualifies_pointers(fp, of, &is_array)) {
         append(&made->front, word, strlen(word));
         append(&made->front, " ", 1);
         return;
     }
-    if (made->is_named || made->left.len != 0 || made->right.len != 0)
+    if ((made->of_pointer & 1u << kind) != 0)
+        return;
+    made->of_pointer |= 1u << kind;
+    if (made->is_named || made->left.len != 0 || made->right.len != 0 || is_array)
         append_turned(&made->left, " ");
     append_turned(&made->left, word);
 }
@@ -152,18 +178,19 @@ static bool put_step(ctf_file_t *fp, struct declaration *made, uint16_t t, uint1
     uint32_t kind = kind_of(fp, t);
     struct ctfd_array array;
     char count[16];
-    if (kind == CTFD_POINTER && ctfd_reference(&fp->types, t, to) == CTFD_OK) {
-        put_star(fp, made, *to);
-    } else if (kind == CTFD_ARRAY && ctfd_array(&fp->types, t, &array) == CTFD_OK) {
+    if (kind == CTFD_ARRAY && ctfd_array(&fp->types, t, &array) == CTFD_OK) {
         append(&made->right, count, (size_t)sprintf(count, "[%u]", array.count));
         *to = array.contents;
-    } else if (kind == CTFD_FUNCTION && ctfd_return(&fp->types, t, to) == CTFD_OK) {
-        append(&made->right, "()", 2);
-    } else if (qualifier_of(kind) != NULL && ctfd_reference(&fp->types, t, to) == CTFD_OK) {
-        put_qualifier(fp, made, qualifier_of(kind), *to);
-    } else {
-        return false;
+        return true;
     }
+    if (!inner_of(fp, t, kind, to))
+        return false;
+    if (kind == CTFD_POINTER)
+        put_star(fp, made, *to);
+    else if (kind == CTFD_FUNCTION)
+        append(&made->right, "()", 2);
+    else
+        put_qualifier(fp, made, kind, *to);
     return true;
 }
 
@@ -176,6 +203,19 @@ static void declare(ctf_file_t *fp, struct declaration *made, uint16_t t)
     made->base = t;
 }
 
+/* Writes as much of a spelled name as fits, and a zero byte; the length of all of it. */
+static ssize_t spelled(ctf_file_t *fp, uint16_t t, char *text, size_t size)
+{
+    char none;
+    uint64_t len = 0;
+    enum ctfd_status status = ctfd_name(&fp->types, t, size == 0 ? &none : text, size, &len);
+    if (ctfd__done(fp, status) != 0)
+        return (ssize_t)CTF_ERR;
+    if (size > 0)
+        text[len < size ? len : size - 1] = '\0';
+    return (ssize_t)len;
+}
+
 /* Appends the name that a declaration begins with, a qualifier in front of the type's own name. */
 static bool append_base(ctf_file_t *fp, struct grown *text, uint16_t base, const char *qualifier)
 {
@@ -186,7 +226,7 @@ static bool append_base(ctf_file_t *fp, struct grown *text, uint16_t base, const
         append(text, "void", 4);
         return true;
     }
-    while ((len = ctf_type_lname(fp, base, fp->room, fp->room_len)) >= (ssize_t)fp->room_len) {
+    while ((len = spelled(fp, base, fp->room, fp->room_len)) >= (ssize_t)fp->room_len) {
         if (!ctfd__make_room(fp, (uint64_t)len))
             return false;
     }
@@ -229,15 +269,13 @@ static bool assemble(ctf_file_t *fp, struct declaration *made, struct grown *tex
 }
 
 /* Writes as much as fits, and a zero byte; the length of all of it. */
-static ssize_t put(ctf_file_t *fp, const struct grown *made, char *text, size_t size)
+static ssize_t put(const struct grown *made, char *text, size_t size)
 {
     size_t len = made->len < size ? made->len : size - (size != 0);
     if (size != 0) {
         memcpy(text, made->at, len);
         text[len] = '\0';
     }
-    if (made->len >= size)
-        (void)ctfd__fail(fp, CTFD_TOO_LONG);
     return (ssize_t)made->len;
 }
 
@@ -255,7 +293,7 @@ static ssize_t spell(ctf_file_t *fp, ctf_id_t type, char *text, size_t size,
     made.is_named = *name != '\0';
     declare(fp, &made, (uint16_t)type);
     if (assemble(fp, &made, &whole, qualifier, name))
-        len = put(fp, &whole, text, size);
+        len = put(&whole, text, size);
     free(made.front.at);
     free(made.left.at);
     free(made.right.at);
@@ -263,12 +301,40 @@ static ssize_t spell(ctf_file_t *fp, ctf_id_t type, char *text, size_t size,
     return len;
 }
 
+/* A length, once it is told where the buffer is too small. */
+static ssize_t measured(ctf_file_t *fp, ssize_t len, size_t size)
+{
+    if (len >= 0 && (size_t)len >= size)
+        (void)ctfd__fail(fp, ECTF_NAMELEN);
+    return len;
+}
+
+ssize_t ctf_type_lname(ctf_file_t *fp, ctf_id_t type, char *text, size_t size)
+{
+    if (!ctfd__is_type(fp, type))
+        return (ssize_t)CTF_ERR;
+    if (is_misspelled(fp, (uint16_t)type))
+        return measured(fp, spell(fp, type, text, size, NULL, ""), size);
+    return measured(fp, spelled(fp, (uint16_t)type, text, size), size);
+}
+
 ssize_t ctf_type_qlname(ctf_file_t *fp, ctf_id_t type, char *text, size_t size,
     const char *qualifier)
 {
     if (qualifier == NULL)
         return ctf_type_lname(fp, type, text, size);
-    return spell(fp, type, text, size, qualifier, "");
+    return measured(fp, spell(fp, type, text, size, qualifier, ""), size);
+}
+
+/* NULL where it does not fit. */
+static char *fitting(ssize_t len, char *text, size_t size)
+{
+    return len >= 0 && (size_t)len < size ? text : NULL;
+}
+
+char *ctf_type_name(ctf_file_t *fp, ctf_id_t type, char *text, size_t size)
+{
+    return fitting(ctf_type_lname(fp, type, text, size), text, size);
 }
 
 char *ctf_type_qname(ctf_file_t *fp, ctf_id_t type, char *text, size_t size,
@@ -279,7 +345,7 @@ char *ctf_type_qname(ctf_file_t *fp, ctf_id_t type, char *text, size_t size,
 
 char *ctf_type_cname(ctf_file_t *fp, ctf_id_t type, char *text, size_t size, const char *name)
 {
-    ssize_t len = name != NULL ? spell(fp, type, text, size, NULL, name)
-                               : ctf_type_lname(fp, type, text, size);
-    return fitting(len, text, size);
+    if (name == NULL)
+        return ctf_type_name(fp, type, text, size);
+    return fitting(measured(fp, spell(fp, type, text, size, NULL, name), size), text, size);
 }

@@ -101,7 +101,7 @@ char *ctf_symbol_name(ctf_file_t *fp, ulong_t symbol, char *text, size_t size)
     if (name == NULL)
         return NULL;
     if (strlen(name) >= size) {
-        (void)ctfd__fail(fp, CTFD_TOO_LONG);
+        (void)ctfd__fail(fp, ECTF_NAMELEN);
         return NULL;
     }
     memcpy(text, name, strlen(name) + 1);

@@ -22,6 +22,7 @@ impl<'d> Declaration<'d> {
     /// What stands round the name, and the type that the declaration begins with.
     fn parts(&self) -> (Option<Type<'d>>, Vec<u8>, Vec<u8>) {
         let (mut front, mut made, mut at) = (Vec::new(), self.name.clone(), self.of);
+        let mut of_pointer = Vec::new(); // the qualifiers of the pointer that comes next
         while let Some(t) = at {
             let kind = t.kind();
             let next = match kind {
@@ -33,13 +34,24 @@ impl<'d> Declaration<'d> {
             };
             let Ok(next) = next else { break };
             match kind {
-                Kind::Pointer => point(&mut made, next),
+                Kind::Pointer => {
+                    point(&mut made, next);
+                    of_pointer.clear();
+                }
                 Kind::Array => {
                     let count = t.array().map_or(0, |array| array.count);
                     made.extend(format!("[{count}]").bytes());
                 }
                 Kind::Function => made.extend(b"()"),
-                _ => qualify(&mut front, &mut made, kind, next),
+                _ if element_of(next).map(Type::kind) != Some(Kind::Pointer) => {
+                    front.extend(word_of(kind));
+                    front.push(b' ');
+                }
+                _ if of_pointer.contains(&kind) => {}
+                _ => {
+                    of_pointer.push(kind);
+                    qualify(&mut made, kind, next);
+                }
             }
             at = next;
         }
@@ -57,24 +69,31 @@ fn point(made: &mut Vec<u8>, to: Option<Type<'_>>) {
     }
 }
 
-/// A qualifier stands behind the star of a pointer, and else in front of all.
-fn qualify(front: &mut Vec<u8>, made: &mut Vec<u8>, kind: Kind, of: Option<Type<'_>>) {
-    let word: &[u8] = match kind {
+fn word_of(qualifier: Kind) -> &'static [u8] {
+    match qualifier {
         Kind::Volatile => b"volatile",
         Kind::Const => b"const",
         _ => b"restrict",
-    };
-    if past_qualifiers(of).map(Type::kind) != Some(Kind::Pointer) {
-        front.extend(word);
-        front.push(b' ');
-        return;
     }
+}
+
+/// Puts a qualifier of a pointer behind the star that comes next, in front of what is there.
+fn qualify(made: &mut Vec<u8>, kind: Kind, of: Option<Type<'_>>) {
     let rest = std::mem::take(made);
-    made.extend(word);
-    if !rest.is_empty() {
+    made.extend(word_of(kind));
+    if !rest.is_empty() || past_qualifiers(of).map(Type::kind) == Some(Kind::Array) {
         made.push(b' ');
     }
     made.extend(rest);
+}
+
+/// What a qualifier is said of, since C knows no qualified arrays: of an array, its elements.
+fn element_of(of: Option<Type<'_>>) -> Option<Type<'_>> {
+    let mut element = past_qualifiers(of);
+    while let Some(array) = element.filter(|t| t.kind() == Kind::Array) {
+        element = past_qualifiers(array.array().ok()?.contents);
+    }
+    element
 }
 
 /// The type that qualifiers stand round, perhaps more than one.
