@@ -13,7 +13,8 @@ from typing import Any
 
 import lldb
 
-sys.path.append(str(pathlib.Path(__file__).resolve().parents[1] / "python"))
+# First: lldb looks for modules in the current folder too, where anybody's ctfd.py may be.
+sys.path.insert(0, str(pathlib.Path(__file__).resolve().parents[1] / "python"))
 
 import ctfd  # noqa: E402
 from ctfd.debuginfo.command import Wanted  # noqa: E402
