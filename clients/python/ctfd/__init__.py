@@ -11,6 +11,8 @@ if sys.version_info < (3, 9):
 
 from .client import startup  # first, and it imports nothing
 
+if startup.is_command():
+    startup.begin_command()
 with startup.AbsoluteFolders():
     from typing import TYPE_CHECKING, Any
 

@@ -95,6 +95,8 @@ def _write_standard(data: bytes) -> None:
         sys.stdout.buffer.flush()
     except OSError as error:
         os.dup2(os.open(os.devnull, os.O_WRONLY), sys.stdout.fileno())
+        if isinstance(error, BrokenPipeError):
+            raise
         raise Error(f"standard output: it can't be written: {error.strerror}") from error
 
 
