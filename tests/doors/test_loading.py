@@ -26,7 +26,7 @@ MODULES = ("ctfd", "json")
 LATER = ("argparse", "array", "bisect", "collections", "contextlib", "copy", "ctypes", "dataclasses",
          "difflib", "enum", "functools", "hashlib", "logging", "math", "mmap", "random", "re",
          "resource", "selectors", "shutil", "socket", "struct", "subprocess", "tempfile",
-         "textwrap", "typing", "weakref")
+         "textwrap", "typing", "weakref", "pycparser")
 RELATIVE = ":.:..:../bin:"
 LUA = EXAMPLES / "lua.ctf"
 ASKED = "struct luaL_Reg"
@@ -35,6 +35,9 @@ CODE = f"""import sys
 sys.path.insert(0, {str(PACKAGE)!r})
 import ctfd
 with ctfd.open({str(LUA)!r}) as types: print(ctfd.listing(types[{ASKED!r}]))
+
+try: ctfd.build.declare("struct own {{ int a; }};")
+except ctfd.Error: pass  # there is no pycparser
 
 """
 OF_DRGN = f"""import sys

@@ -36,7 +36,7 @@ class AbsoluteFolders:
 def is_command() -> bool:
     """Whether a command of this package is what Python runs."""
     path = getattr(sys.modules.get("__main__"), "__file__", None) or ""
-    return os.path.basename(path).startswith("ctfd-")
+    return os.path.basename(os.path.realpath(path)).startswith("ctfd-")
 
 
 def begin_command() -> None:
@@ -46,7 +46,6 @@ def begin_command() -> None:
     import signal
 
     atexit.register(_end_command)
-
     if signal.getsignal(signal.SIGINT) is signal.default_int_handler:
         signal.signal(signal.SIGINT, signal.SIG_DFL)
     while True:

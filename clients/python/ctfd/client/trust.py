@@ -40,9 +40,11 @@ def folder_of_command() -> Optional[str]:
     """The folder of the command that runs, links followed; None where it is none of ours, as in a
     debugger or an interactive Python."""
     path = getattr(sys.modules.get("__main__"), "__file__", None) or ""
-    if not os.path.isabs(path) or not os.path.basename(path).startswith(COMMAND):
+    if not os.path.isabs(path):
         return None
-    return os.path.dirname(os.path.realpath(path)) if os.path.isfile(path) else None
+    real = os.path.realpath(path)
+    is_command = os.path.basename(real).startswith(COMMAND) and os.path.isfile(real)
+    return os.path.dirname(real) if is_command else None
 
 
 def folder_of_clone() -> Optional[str]:
@@ -91,17 +93,17 @@ def _is_closed(place: str) -> bool:
         return True
     if found.st_mode & stat.S_IWOTH:
         return False
-    return not found.st_mode & stat.S_IWGRP or found.st_uid == 0 or _is_own_group(found.st_gid)
+    return not found.st_mode & stat.S_IWGRP or found.st_uid == 0 or _is_own_group(found)
 
 
-def _is_own_group(number: int) -> bool:
-    """Whether a group has this user alone in it, as Debian gives each user one of his name."""
+def _is_own_group(found: os.stat_result) -> bool:
+    """Whether a group has the owner alone in it, as Debian gives each user one of his name."""
     import grp  # here: few folders have a group that may write to them
     import pwd
 
     try:
-        user, group = pwd.getpwuid(os.geteuid()), grp.getgrgid(number)
+        user, group = pwd.getpwuid(found.st_uid), grp.getgrgid(found.st_gid)
     except KeyError:
         return False
-    return (user.pw_gid == number and group.gr_name == user.pw_name
+    return (user.pw_gid == found.st_gid and group.gr_name == user.pw_name
             and set(group.gr_mem) <= {user.pw_name})
