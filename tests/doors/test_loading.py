@@ -169,6 +169,28 @@ class Folder(Hostile):
                                  str(self.folder / "asks.py"), looks_for=kind)
                 self.assert_unmarked(done, (kind, "drgn"), "size: 16")
 
+    def test_c(self) -> None:
+        """libctfd.so loads its part for ELF files from beside itself."""
+        if not LIBRARY.with_name("libctfd_elf.so.0").exists():
+            self.skipTest("the part for ELF files is not built")
+        types = self.with_types()
+        program = self.compiled(f"""
+            #include <stdio.h>
+            #include "{CLIENTS}/c/ctfd_libctf.h"
+            int main(void)
+            {{
+                int error;
+                ctf_file_t *types = ctf_open("{types}", &error);
+                if (types == NULL)
+                    return puts(ctf_errmsg(error)), 1;
+                printf("%zd bytes\\n", ctf_type_size(types, ctf_lookup_by_name(types,
+                                                                     "struct point")));
+                ctf_close(types);
+            }}""", f"-I{CLIENTS}/c", f"-L{LIBRARY.parent}", "-Wl,--no-as-needed", "-lctfd",
+                                f"-Wl,-rpath,{LIBRARY.parent}", name="asks.exe")
+        self.around()
+        self.assert_unmarked(self.door(program), "C", "24 bytes")
+
     def test_python(self) -> None:
         """By a text, from standard input, and interactively; `json` is Python's own too then."""
         self.around()
