@@ -77,7 +77,7 @@ class Kept(Case):
         if subprocess.run(["mount", "-t", "tmpfs", "-o", "size=4k,mode=700", "tmpfs",
                            str(self.cache)], capture_output=True).returncode:
             self.skipTest("no file system can be mounted here")
-        self.addCleanup(subprocess.run, ["umount", str(self.cache)], check=True)
+        self.addCleanup(lambda: subprocess.run(["umount", str(self.cache)], check=True))
         done = self.asked()
         self.assertIn(ANSWER, done.output, done.text)
         self.assertEqual([path.name for path in self.cache.iterdir()], [])

@@ -7,7 +7,8 @@ from pathlib import Path
 
 from .support import EXAMPLES, Case, run, tool
 
-NAMES = {b"luaL_Reg": b"lua\x1b[7m", b"lua_Number": b"lua\r\n\x07\x9b\x7f_x", b"CallInfo": b"\xc2\x9b31m\xff_"}
+NAMES = {b"luaL_Reg": b"lua\x1b[7m", b"lua_Number": b"lua\r\n\x07\x9b\x7f_x",
+         b"CallInfo": b"\xc2\x9b31m\xff_"}
 
 
 class Names(Case):

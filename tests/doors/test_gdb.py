@@ -92,7 +92,9 @@ class Gdb(Debuggers):
 
     def test_a_name_means_the_visible_type(self) -> None:
         """Before it runs, in its own functions, and in one of libc."""
-        for place in ([], ["break main", "run"], ["break other", "run"], ["break write", "run"]):
+        places: List[List[str]] = [[], *([f"break {name}", "run"]
+                                         for name in ("main", "other", "write"))]
+        for place in places:
             done = self.gdb("ctf load", *place, *ASKED, program=self.program)
             self.assertEqual(self.numbers(done), VISIBLE, (place, done.text))
 
@@ -108,8 +110,9 @@ class Gdb(Debuggers):
         assert found, done.text
         self.assertIn("struct dict, 56 bytes", done.output)
         name = found[1]
-        done = self.gdb("ctf load", f"ctf ptype struct {name}", f"ctf print *(struct {name} *) &theirs",
-                        "break write", "run", f"print sizeof(struct {name})", "print *holder.inner",
+        done = self.gdb("ctf load", f"ctf ptype struct {name}",
+                        f"ctf print *(struct {name} *) &theirs", "break write", "run",
+                        f"print sizeof(struct {name})", "print *holder.inner",
                         f"print ((struct {name} *) holder.inner)->table", "ptype holder",
                         program=self.program)
         self.assertIn("size: 48", done.output)
@@ -139,7 +142,8 @@ class Others(Debuggers):
         if "SBTarget" not in run("lldb", "-b", "-o", "script print(lldb.SBTarget)", seconds=30,
                                  environment=around).output:
             self.skipTest("lldb has no Python")
-        for place in ([], ["breakpoint set -n write", "run"]):
+        places: List[List[str]] = [[], ["breakpoint set -n write", "run"]]
+        for place in places:
             lines = [f"command script import {CLIENTS}/lldb/ctfdlldb.py",
                      f"target create {self.program}", "ctfload", *place,
                      "expression (int) sizeof(struct dict)", "expression (int) sizeof(word)",
@@ -168,7 +172,8 @@ with ctfd.open({str(self.program)!r}) as types:
     program.add_type_finder(ctfd.drgn.type_finder(program, types))
     line = ctfd.drgn.names_of_several(types)
     other = re.search(r"struct dict \\(also (dict__[0-9]+)\\)", line)[1]
-    print([drgn.sizeof(program.type(name)) for name in ("struct dict", "word", f"struct {{other}}")])
+    names = ("struct dict", "word", f"struct {{other}}")
+    print([drgn.sizeof(program.type(name)) for name in names])
     print(program.type("struct holder"))
 """
         done = run(python, "-c", code, seconds=30, environment=self.around())

@@ -13,7 +13,7 @@ import subprocess
 import sys
 import unittest
 from pathlib import Path
-from typing import List, Mapping, Optional
+from typing import Dict, List, Mapping, Optional, Tuple
 
 from .support import CLIENTS, COMMANDS, EXAMPLES, LIBRARY, SERVICE, TOOLS, Case, Outcome, Word, run
 
@@ -23,10 +23,11 @@ LIBRARIES = ("libctfd.so", "libctfd.so.0", "libctfd_elf.so", "libctfd_elf.so.0")
 PROGRAMS = ("ctfd", "pkg-config", "objcopy")
 MODULES = ("ctfd", "json")
 # Python's own modules that may be asked for as late as an answer.
-LATER = ("argparse", "array", "bisect", "collections", "contextlib", "copy", "ctypes", "dataclasses",
-         "difflib", "enum", "functools", "hashlib", "logging", "math", "mmap", "random", "re",
-         "resource", "selectors", "shutil", "socket", "struct", "subprocess", "tempfile",
-         "textwrap", "typing", "weakref", "pycparser")
+LATER = ("argparse", "array", "bisect", "collections", "contextlib", "copy", "ctypes",
+         "dataclasses", "difflib", "enum", "functools", "hashlib", "logging", "math", "mmap",
+         "random", "re", "resource", "selectors", "shutil", "socket", "struct", "subprocess",
+         "tempfile", "textwrap", "typing", "weakref", "pycparser")
+POINT = "struct point { long x, y, z; } first; int main(void) { return 0; }"
 RELATIVE = ":.:..:../bin:"
 LUA = EXAMPLES / "lua.ctf"
 ASKED = "struct luaL_Reg"
@@ -134,7 +135,8 @@ class Folder(Hostile):
         program = self.with_types()
         self.around()
         for kind in LOOKS_FOR:
-            done = self.door("lldb", "-b", "-o", f"command script import {CLIENTS}/lldb/ctfdlldb.py",
+            done = self.door("lldb", "-b", "-o",
+                             f"command script import {CLIENTS}/lldb/ctfdlldb.py",
                              "-o", f"target create {program}", "-o", "ctfload",
                              "-o", "expression sizeof(struct point)", looks_for=kind,
                              environment=known)
@@ -143,8 +145,7 @@ class Folder(Hostile):
 
     def with_types(self) -> Path:
         """A program with a section of types, and no debug information."""
-        made = self.compiled("struct point { long x, y, z; } first; int main(void) { return 0; }",
-                             "-g", name="whole.exe")
+        made = self.compiled(POINT, "-g", name="whole.exe")
         subprocess.run([str(TOOLS / "ctfd-convert"), "--section", str(made), str(made) + ".ctf"],
                        check=True, capture_output=True, env={**os.environ, "CTFD": SERVICE})
         subprocess.run(["objcopy", "-g", str(made) + ".ctf"], check=True)
@@ -208,35 +209,37 @@ class Folder(Hostile):
 
     def test_commands(self) -> None:
         """Each by its whole path, by a relative one, and from the PATH."""
-        program = self.compiled("struct point { long x, y, z; } first; int main(void) { return 0; }",
-                                "-g", name="whole.exe")
+        program = self.compiled(POINT, "-g", name="whole.exe")
         self.around(*LATER)
         whole = {"PATH": f"{TOOLS}:{RELATIVE}{os.environ['PATH']}"}
         for name in COMMANDS:
             words, answer = self.asked(name, program)
             for kind in LOOKS_FOR:
-                for path in (TOOLS / f"ctfd-{name}", f"ctfd-{name}",
-                             os.path.relpath(TOOLS / f"ctfd-{name}", self.cwd)):
+                paths: List[Word] = [TOOLS / f"ctfd-{name}", f"ctfd-{name}",
+                                     os.path.relpath(TOOLS / f"ctfd-{name}", self.cwd)]
+                for path in paths:
                     done = self.door(path, *words, looks_for=kind, environment=whole)
                     self.assert_unmarked(done, (name, kind, path), answer)
                     if name in ("convert", "debuginfo", "explore"):
                         (self.folder / "out").unlink()
 
-    def asked(self, name: str, program: Path) -> tuple[List[Word], str]:
+    def asked(self, name: str, program: Path) -> Tuple[List[Word], str]:
         """What a command is asked, and a part of its answer."""
         out = self.folder / "out"
         waits = subprocess.Popen(["sleep", "100"]) if name == "show" else None
         if waits:
             self.addCleanup(waits.wait)
             self.addCleanup(waits.kill)
-        return {"convert": ([program, "--section", out], ""),
-                "debuginfo": ([LUA, out], "types"),
-                "diff": ([LUA, LUA], ""),
-                "explore": ([LUA, "-o", out], ""),
-                "front": (["--socket", self.folder / "socket", f"x={self.folder}/none"],
-                          "the service ended with status"),
-                "show": (["--pid", str(waits.pid if waits else 0), "first"], "has CTF"),
-                "types": ([LUA, ASKED], ANSWER)}[name]
+        known: Dict[str, Tuple[List[Word], str]] = {
+            "convert": ([program, "--section", out], ""),
+            "debuginfo": ([LUA, out], "types"),
+            "diff": ([LUA, LUA], ""),
+            "explore": ([LUA, "-o", out], ""),
+            "front": (["--socket", self.folder / "socket", f"x={self.folder}/none"],
+                      "the service ended with status"),
+            "show": (["--pid", str(waits.pid if waits else 0), "first"], "has CTF"),
+            "types": ([LUA, ASKED], ANSWER)}
+        return known[name]
 
 
 class Others(Hostile):

@@ -138,7 +138,9 @@ class Truncated(Case):
         """gdb reads the program by itself; the plug-in reads it, and its parent from the pipe."""
         self.needs("gdb")
         parent, child = self.folder / "parent", self.folder / "child"
-        for words in ((self.whole, parent), ("--parent", parent, "--section", self.whole, child)):
+        asked: List[List[Word]] = [[self.whole, parent],
+                                   ["--parent", parent, "--section", self.whole, child]]
+        for words in asked:
             done = run(tool("convert"), *words, environment=self.around(), seconds=LIMIT)
             self.assertEqual(done.status, 0, done.text)
         subprocess.run(["objcopy", "-g", str(child)], check=True)

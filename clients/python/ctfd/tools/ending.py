@@ -8,7 +8,8 @@ import sys
 from typing import Callable, Iterator, Optional
 
 INTERRUPTED, UNREAD = 130, 141  # as a shell has it of SIGINT and SIGPIPE
-CLOSED = "standard output is closed, so nothing can be printed: redirect it, to /dev/null if need be"
+CLOSED = ("standard output is closed, so nothing can be printed: redirect it, to /dev/null if need"
+          " be")
 
 
 def outcome(warn: Callable[[str], None], trouble: int, work: Callable[[], int]) -> int:
