@@ -82,6 +82,19 @@ class Kept(Case):
         self.assertIn(ANSWER, done.output, done.text)
         self.assertEqual([path.name for path in self.cache.iterdir()], [])
 
+    def test_no_room_for_a_dictionary(self) -> None:
+        """What the commands convert is kept there too."""
+        self.cache.mkdir(mode=0o700, parents=True)
+        if subprocess.run(["mount", "-t", "tmpfs", "-o", "size=4k,mode=700", "tmpfs",
+                           str(self.cache)], capture_output=True).returncode:
+            self.skipTest("no file system can be mounted here")
+        self.addCleanup(lambda: subprocess.run(["umount", str(self.cache)], check=True))
+        (self.cache / "fills").write_bytes(bytes(4096))
+        done = run(TOOLS / "ctfd-types", self.folder / "whole.exe", "struct point", seconds=30,
+                   environment={"XDG_CACHE_HOME": str(self.cache.parent)})
+        self.assertIn("size: 24", done.output, done.text)
+        self.assertEqual([path.name for path in self.cache.iterdir()], ["fills"])
+
     def test_what_a_crash_has_left(self) -> None:
         """A file that was never written to its end goes, once nobody can be writing it."""
         self.kept().unlink()

@@ -60,9 +60,9 @@ class Names:
             return ""
         listed = [f"{name} (also {_listed(known, MOST_OF_A_NAME)})"
                   for name, known in others.items()]
-        stand = "1 name stands" if len(others) == 1 else f"{len(others)} names stand"
-        return (f"{stand} for several types, and alone for the first, or for none where all are"
-                f" hidden: {_listed(listed, MOST_NAMES)}")
+        begin = ("1 name stands for several types; alone, it means its" if len(others) == 1 else
+                 f"{len(others)} names stand for several types; alone, each means its")
+        return f"{begin} first type that is not hidden: {_listed(listed, MOST_NAMES)}"
 
     def _is_other(self, one: Named) -> bool:
         """Whether its name leads elsewhere. A declaration stands for the type that is found; and a
