@@ -98,27 +98,43 @@ def parsed(name: str) -> Optional[Tuple[str, int]]:
 
 
 def of_dictionary(types: Dictionary) -> Names:
-    """Those of a dictionary's own types, without the copies that bit-fields have."""
+    """Those of a dictionary's own types, without the integers that bit-fields have."""
     own = types.types()
     types.fetch([("record", t.number) for t in own])
-    hidden = [t.number for t in own if not t.is_root and t.kind in COPIED]
-    types.gather(hidden)
-    return Names(_named(t) for t in own if t.name and not is_copy(t))
+    types.gather([t.number for t in own if t.kind == INTEGER
+                  or t.kind == "typedef" and not t.is_root])
+    seen = widest((t.number, t.name, t.encoding.bits) for t in own
+                  if t.kind == INTEGER and t.is_root)
+    return Names(_named(t) for t in own if t.name and not _is_copy(t, seen))
 
 
-def is_copy(t: Type) -> bool:
-    """Whether a hidden type stands for another of its name in bit-fields: an integer of fewer bits
-    than its storage or one that differs in nothing, or a typedef of such a one."""
-    if t.is_root or t.kind not in COPIED:
+def widest(integers: Iterable[Tuple[int, str, int]]) -> Dict[str, Tuple[int, int]]:
+    """Of integers with their numbers, names and bits, the number and bits of the first that has
+    most bits of each name: bit-fields may have others."""
+    found: Dict[str, Tuple[int, int]] = {}
+    for number, name, bits in integers:
+        if name not in found or found[name][1] < bits:
+            found[name] = number, bits
+    return found
+
+
+def _is_copy(t: Type, seen: Dict[str, Tuple[int, int]]) -> bool:
+    """Whether a type is that of bit-fields: an integer of no more bits than another of its name, or
+    a hidden typedef of such a one."""
+    if t.kind not in COPIED or t.is_root and t.kind != INTEGER or t.resolved.kind != INTEGER:
         return False
     end = t.resolved
-    return end.kind == INTEGER and not end.is_root and (
-        0 < end.encoding.bits < 8 * (end.size or 0) or end.dictionary.is_copy(end))
+    number, bits = seen.get(end.name, (end.number, 0))
+    return number != end.number and end.encoding.bits <= bits
 
 
 def name_of(t: Type) -> str:
     """The name of a type, by which a hidden one is found too."""
-    return t.name if t.is_root or not t.name or is_copy(t) else alias(t.name, t.number)
+    if t.is_root or not t.name:
+        return t.name
+    end = t.resolved if t.kind in COPIED else t
+    is_of_bits = end.kind == INTEGER and not end.is_root
+    return t.name if is_of_bits else alias(t.name, t.number)
 
 
 def _named(t: Type) -> Named:

@@ -3,7 +3,7 @@ from __future__ import annotations
 
 from typing import Dict, Iterator, List, Set
 
-from ..client.aliases import Named, Names, TAGGED, alias
+from ..client.aliases import Named, Names, TAGGED, alias, widest
 from ..client.dictionary import OWN_OF_CHILD
 from ..client.model import POINTER_SIZES
 from ..convert.held import size_of
@@ -47,13 +47,15 @@ class TypeWriter:
 
     def _named(self) -> Iterator[Named]:
         """The types with a name, those of a child before its parent's, as look-ups go; without the
-        copies of integers that bit-fields as wide as these have."""
-        seen = {record._replace(root=False) for record in self.table.records
-                if record.kind == "integer" and record.root}
-        for number in sorted(self._own(), key=lambda n: (n <= self.table.bases, n)):
-            record = self.table[number]
-            end = self.table.resolved(number) if record.kind in ("integer", "typedef") else 0
-            is_copy = not record.root and bool(end) and self.table[end] in seen
+        integers that bit-fields have, of no more bits than another of their name."""
+        order = sorted(self._own(), key=lambda n: (n <= self.table.bases, n))
+        listed = [(n, self.table[n]) for n in order]
+        seen = widest((n, one.name, one.encoding.bits) for n, one in listed
+                      if one.kind == "integer" and one.root)
+        for number, record in listed:
+            found, bits = seen.get(record.name, (number, 0))
+            is_copy = (record.kind == "integer" and found != number
+                       and record.encoding.bits <= bits)
             if record.name and not is_copy:
                 word = record.tag if record.kind == "forward" else record.kind
                 yield Named(self._in_dictionary(number), word if word in TAGGED else "",
