@@ -36,7 +36,7 @@ def main(arguments: Optional[Sequence[str]] = None) -> int:
 
 def _status(said: argparse.Namespace) -> int:
     try:
-        with running.keeping(), bounded.memory():
+        with running.keeping(), bounded.within():
             losses = convert(said)
     except KeyboardInterrupt:
         return INTERRUPTED

@@ -11,6 +11,7 @@ from typing import Callable, Iterator, Optional
 
 from ..client.faults import Error
 from ..client.wire import Session, connected
+from ..files import bounded
 from ..version import VERSION
 from . import ending
 
@@ -62,7 +63,7 @@ def _status(command: str, program: Optional[str], work: Callable[[Session], int]
     if isinstance(sys.stdout, io.TextIOWrapper):
         sys.stdout.reconfigure(errors="backslashreplace")
     try:
-        with keeping(), connected(program) as client:
+        with keeping(), connected(program) as client, bounded.within():
             status = work(client.session())
         return status
     except BrokenPipeError:  # a reader such as head has left
@@ -71,7 +72,8 @@ def _status(command: str, program: Optional[str], work: Callable[[Session], int]
     except KeyboardInterrupt:
         return INTERRUPTED
     except MemoryError:
-        warn(command, "memory ran out")
+        warn(command, f"it takes more memory than {bounded.FOR_ALL}, or than there is: a file is"
+             " made or damaged, or too large for this machine")
     except (Error, OSError) as error:
         warn(command, str(error))
     except Exception as error:  # a file that nobody thought of: no user is shown where in the code
