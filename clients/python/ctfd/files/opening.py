@@ -90,7 +90,8 @@ def told_of(what: str) -> Iterator[None]:
         yield
     except Unreadable as error:
         said = str(error)
-        raise error if said.startswith(what) else Unreadable(f"{what}: {said}") from error
+        is_told = said.startswith(what) or f", as the parent of {what}: " in said
+        raise error if is_told else Unreadable(f"{what}: {said}") from error
     except Refused as fault:
         place = f" at {fault.place}" if fault.place else ""
         raise Error(f"{what}: {fault.name}{place}: {fault.advice}") from fault
