@@ -1,4 +1,3 @@
 pub mod Status
 pub mod Asked
 pub mod Starts
-pub mod Serving

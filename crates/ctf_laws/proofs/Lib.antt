@@ -8,3 +8,4 @@ mod Staying
 mod Numbers
 mod Asked
 pub mod Promises
+pub mod Replied

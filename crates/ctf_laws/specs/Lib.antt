@@ -1,3 +1,4 @@
 pub mod Good
 pub mod GoodLaws
 pub mod PlainLaws
+pub mod Replied
