@@ -18,6 +18,7 @@ ghost use Rattle.ctf_laws.specs.GoodLaws.{
   UpdatesDenoteTheDraft,
 };
 ghost use Rattle.ctf_laws.specs.Replied.{RunsReplyRightly};
+ghost use Rattle.ctf_laws.specs.Right.{RightIsOne};
 
 /// An empty library is good, and each request leaves a good one good: so all libraries are good
 /// after any run, whatever sessions ask, in any order, and wherever memory is refused.
@@ -58,4 +59,10 @@ pub fn bytes_denote_what_was_added()
 /// break, and what an update wrote denotes what its draft held.
 pub fn runs_reply_rightly()
     ensures { RunsReplyRightly }
+{}
+
+/// A reply that is right is the only one: what is said to a request and what is left of the library
+/// that it met are settled.
+pub fn right_is_one()
+    ensures { RightIsOne }
 {}
