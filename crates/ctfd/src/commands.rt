@@ -7,8 +7,10 @@ use ctf_command::{MISUSED, RunFault, end, usage_status};
 use std::alloc::{AllocError, Global};
 use std::{env, io};
 
-/// What `--version` prints. docs/PROTOCOL.md says what a version promises.
-const VERSION: &str = "0.2.0";
+/// What `--version` prints: the version, and on a line of its own which build this is. A build
+/// without the proofs has another second line (scripts/quick.py writes it). docs/PROTOCOL.md says
+/// what a version promises.
+const VERSION: &str = "0.2.0\nproved build: rattle-kit-13, logic dac8208d650f15bf";
 
 /// What stands below the help of each command.
 const STATUSES_AND_PAGES: &str = "\
