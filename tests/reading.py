@@ -25,7 +25,8 @@ TOP = Path(__file__).resolve().parents[1]
 CRATES = TOP / "crates"
 PAGE = TOP / "docs" / "READING.md"
 SHORT = {"M": "ctf_model", "P": "ctf_protocol", "W": "ctf_wire", "L": "ctf_laws", "J": "ctf_json",
-         "I": "ctf_lines", "B": "ctf_broker", "Y": "ctf_library", "A": "ctf_answers"}
+         "I": "ctf_lines", "B": "ctf_broker", "Y": "ctf_library", "C": "ctf_check",
+         "N": "ctf_chains", "U": "ctf_writer"}
 STARTS = (("ctf_wire/src/serving.rt", "serve"), ("ctf_check/src/judge.rt", "check"),
           ("ctf_broker/src/broker.rt", "answer"), ("ctf_writer/src/updating.rt", "update"))
 USE = re.compile(r"^(?:ghost |pub )?use Rattle\.([\w.]+)(?:\.\{([^}]*)\}| as (\w+))", re.MULTILINE)
