@@ -90,6 +90,14 @@ for file in "$work"/first/*; do
 done
 count "three packages" says 3 sh -c "ls '$work/first' | wc -l"
 
+# A copy is no build that is known to be proved.
+cp "$program" "$work/copy"
+refuses_copy() {
+    ! "$top/scripts/package.py" release --into "$work/release" --program "$work/copy" \
+        --archive "$archive" 2> "$work/why" && grep -q "make prove" "$work/why"
+}
+count "make release of another build" refuses_copy
+
 deb=$work/first/ctfd_${version}_amd64.deb
 count "dpkg-deb -x" dpkg-deb -x "$deb" "$work/unpacked"
 used "$work/unpacked/usr" "$work/unpacked/usr/lib/x86_64-linux-gnu"
