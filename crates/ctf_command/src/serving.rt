@@ -1,5 +1,5 @@
 //! The service over a reader and a writer.
-ghost use Rattle.std.specs.Prelude.{◌^◌};
+ghost use Rattle.std.specs.Prelude.{◌≡◌, ◌^◌, Err};
 ghost use Rattle.ctf_wire.specs.Endings.{IsReady, PullsAtMost};
 ghost use Rattle.ctf_wire.specs.Serving.{ServesTo};
 
@@ -22,6 +22,8 @@ pub fn serve_lines<R: Read + Drop, W: Write + Drop>(
         (⟦<FromReader<R> as Source>⟧.pulled source.new)
         (⟦<ToWriter<W> as Sink>⟧.pushed sink.old)
         (⟦<ToWriter<W> as Sink>⟧.pushed sink.new) result }
+    ensures memory { result ≡ Err RunFault.Memory →
+        (source.new ≡ source.old) × (sink.new ≡ sink.old) × (broker.new ≡ broker.old) }
     ensures pulls { PullsAtMost (2 ^ 40) (⟦<FromReader<R> as Source>⟧.pulled source.old)
         (⟦<FromReader<R> as Source>⟧.pulled source.new) }
 {
