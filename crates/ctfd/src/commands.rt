@@ -1,5 +1,6 @@
 //! The command line.
 
+use crate::printable::complain;
 use crate::{dumping, serving};
 use clap::error::ErrorKind;
 use clap::{Arg, ArgMatches, Command, Error};
@@ -111,10 +112,17 @@ fn tell(rt: &HostRuntime, error: &Error) -> u8 {
     if error.kind() == ErrorKind::OutOfMemory {
         return end(rt, Err(RunFault::Memory));
     }
-    match error.print(rt) {
-        Ok(()) => usage_status(error.kind()),
-        Err(_) => end(rt, Err(RunFault::Write)),
+    if matches!(
+        error.kind(),
+        ErrorKind::DisplayHelp | ErrorKind::DisplayVersion
+    ) {
+        return match error.print(rt) {
+            Ok(()) => usage_status(error.kind()),
+            Err(_) => end(rt, Err(RunFault::Write)),
+        };
     }
+    complain(rt, error);
+    usage_status(error.kind())
 }
 
 /// Does what the words say, and answers the exit status.

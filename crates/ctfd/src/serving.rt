@@ -1,5 +1,6 @@
 //! `ctfd serve`: files are published, and then standard input is served to standard output.
 
+use crate::printable::complain;
 use clap::ArgMatches;
 use ctf_command::{FromReader, ToWriter, end, serve_lines, start};
 use std::io;
@@ -17,8 +18,9 @@ pub fn run(rt: &HostRuntime, words: &ArgMatches<'_>) -> u8 {
             )
         }
         Err(why) => {
-            let _ = eprintln!(rt; "ctfd: {why}");
-            why.status()
+            let status = why.status();
+            complain(rt, format_args!("ctfd: {why}\n"));
+            status
         }
     }
 }
