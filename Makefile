@@ -4,7 +4,7 @@ PREFIX ?= /usr/local
 CTFD_ARCHIVE ?= crates/ctf_c/out/libctfd.a
 
 PROGRAM = $(if $(CTFD),$(CTFD),crates/ctfd/out/ctfd)
-.PHONY: all check check-all prove install uninstall deb dist help
+.PHONY: all check check-all prove install uninstall deb dist release help
 
 # The program and the library, without checking proofs; nothing where they are built.
 all:
@@ -31,7 +31,8 @@ install:
 uninstall:
 	@$(PLACE) --remove
 
-deb dist:
+# `release` packages the proved build alone.
+deb dist release:
 	@scripts/package.py $@ --program $(PROGRAM) --archive $(CTFD_ARCHIVE)
 
 help:
@@ -49,3 +50,4 @@ help:
 	@echo 'make uninstall    takes these away again'
 	@echo 'make deb          makes dist/ctfd_VERSION_amd64.deb of the same'
 	@echo 'make dist         makes a tarball with an install script, and a wheel, in dist/'
+	@echo 'make release      makes all of these, of what make prove built and of nothing else'

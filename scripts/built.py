@@ -30,6 +30,11 @@ class How(enum.Enum):
     PROVED = "proved"
 
 
+# What a build says of itself, in the program (crates/ctfd/src/commands.rt) and the library.
+SAYS = {How.QUICK: "quick build: proofs not checked",
+        How.PROVED: "proved build: rattle-kit-13, logic dac8208d650f15bf"}
+
+
 @dataclass(frozen=True)
 class Built:
     """How the program was built, and the sums of its sources, of itself and of the library; of

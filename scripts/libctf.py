@@ -43,6 +43,8 @@ FLAGS = ("-std=c11", "-O2", "-fPIC", "-fvisibility=hidden", "-ffunction-sections
 # those of another libctf in its process.
 EXPORTS = f"CTFD_{MAJOR} {{ global: ctfd_*; ctf_*; local: *; }};\n"
 LIBRARIES = ("-lelf", "-lz")
+# What an archive that is given by hand says of how it was built.
+UNTOLD = "a build that nobody told of"
 
 
 class NotCompiled(Exception):
@@ -127,9 +129,10 @@ def in_archive() -> list[Path]:
     return sorted(path for path in SOURCES.glob("*.c") if path not in (ELF, LOADING))
 
 
-def put_objects(tools: Tools, archive: Path, folder: Path) -> None:
+def put_objects(tools: Tools, archive: Path, folder: Path, says: str) -> None:
     """Puts the objects of the calls into an archive, in place of those that are there."""
-    objects = [tools.compiled(source, folder) for source in in_archive()]
+    flag = f'-DCTFD_BUILD="{says}"'
+    objects = [tools.compiled(source, folder, flag) for source in in_archive()]
     old = [name for name in run(tools.archiver, "t", archive).split() if name.startswith(PREFIX)]
     if old:
         run(tools.archiver, "dD", archive, *old)
@@ -170,14 +173,14 @@ def put_shared(made: Path, folder: Path) -> None:
         os.link(folder / made.name, link)
 
 
-def make(archive: Path, archiver: str = "ar") -> list[Path]:
+def make(archive: Path, archiver: str = "ar", says: str = UNTOLD) -> list[Path]:
     """Completes an archive, and makes all that stands beside it. Raises NotCompiled."""
     tools = Tools.found(archiver)
     with tempfile.TemporaryDirectory() as made:
         folder = Path(made)
         whole = folder / archive.name
         shutil.copy2(archive, whole)
-        put_objects(tools, whole, folder)
+        put_objects(tools, whole, folder, says)
         libraries = [share(tools, whole, folder)]
         if tools.has_elf(folder):
             libraries += elf_part(tools, folder)

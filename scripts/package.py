@@ -1,11 +1,12 @@
 #!/usr/bin/env python3
 """Makes packages of what is built, in dist/: the same bytes of the same commit and build.
 
-usage: scripts/package.py deb|dist [--into FOLDER] [--program PROGRAM] [--archive ARCHIVE]
+usage: scripts/package.py deb|dist|release [--into FOLDER] [--program PROGRAM] [--archive ARCHIVE]
 
 `deb` makes a package for Debian, by dpkg-deb alone. `dist` makes a tarball with an install script
 (tarball.sh), and a wheel of the Python package by itself. Both have the program, the library for C,
-headers, manual pages, units, the Python package and its commands. Times in them are that of the
+headers, manual pages, units, the Python package and its commands. `release` makes all of these,
+of the build that the kit made with its proofs (`make prove`) and of no other. Times in them are that of the
 commit, or that of SOURCE_DATE_EPOCH. Needs dpkg-deb for `deb`, git, and what builds a wheel
 (scripts/tree.py).
 """
@@ -163,11 +164,26 @@ def archived(stage: Path, seconds: int) -> bytes:
     return made.getvalue()
 
 
+def release(made: Made, into: Path, seconds: int) -> list[Path]:
+    """Makes all packages, of the proved build alone."""
+    says = built.SAYS[built.How.PROVED]
+    stands = built.told() if made == Made(built.PROGRAM, built.ARCHIVE) else None
+    if not stands or stands.how is not built.How.PROVED:
+        raise Lacking(f"what stands there was built {how_built(made)}: `make prove` first")
+    for path in (made.program, made.archive):
+        if says.encode() not in path.read_bytes():
+            raise Lacking(f"{path} does not say {says!r}: `make prove` first")
+    return [*deb(made, into, seconds), *dist(made, into, seconds)]
+
+
+KINDS = {"deb": deb, "dist": dist, "release": release}
+
+
 def main() -> int:
     assert __doc__
     options = argparse.ArgumentParser(
         usage=" ".join(__doc__.split("usage: ")[1].split("\n\n")[0].split()))
-    options.add_argument("kind", choices=("deb", "dist"))
+    options.add_argument("kind", choices=tuple(KINDS))
     options.add_argument("--into", type=Path, default=TOP / "dist")
     options.add_argument("--program", type=Path, default=built.PROGRAM)
     options.add_argument("--archive", type=Path, default=built.ARCHIVE)
@@ -179,7 +195,7 @@ def main() -> int:
         into.mkdir(parents=True, exist_ok=True)
         seconds = epoch()
         os.environ["SOURCE_DATE_EPOCH"] = str(seconds)
-        for path in {"deb": deb, "dist": dist}[given.kind](made, into, seconds):
+        for path in KINDS[given.kind](made, into, seconds):
             print(path)
     except (Lacking, OSError, ValueError) as why:
         print(f"no package is made: {why}", file=sys.stderr)

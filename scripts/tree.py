@@ -91,7 +91,7 @@ class Made:
             if not path.exists():
                 raise Lacking(f"there is no {path}: `make` builds it")
         said = subprocess.run([self.program, "--version"], stdout=subprocess.PIPE, text=True,
-                              check=False).stdout.strip()
+                              check=False).stdout.partition("\n")[0]
         if said != f"ctfd {version()}":
             raise Lacking(f"{self.program} tells {said!r}, and VERSION has {version()}: "
                           "`make` builds it anew")

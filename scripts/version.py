@@ -34,7 +34,7 @@ class Place:
 
 
 PLACES = (
-    Place("crates/ctfd/src/commands.rt", 'const VERSION: &str = "', '"'),
+    Place("crates/ctfd/src/commands.rt", 'const VERSION: &str = "', '\\n'),
     Place("clients/c/ctfd.h", '#define CTFD_VERSION "', '"'),
     Place("clients/python/ctfd/version.py", 'VERSION = "', '"'),
     Place("clients/rust/Cargo.toml", 'name = "ctfd"\nversion = "', '"'),

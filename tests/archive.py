@@ -30,6 +30,7 @@ from pathlib import Path
 
 TOP = Path(__file__).resolve().parents[1]
 sys.path.insert(0, str(TOP / "scripts"))
+import built  # noqa: E402
 import libctf  # noqa: E402
 
 CRATE = TOP / "crates" / "ctf_c"
@@ -100,7 +101,7 @@ def make(kit: Path) -> None:
     objects = extracted(CRATE / "out" / f"lib{CRATE.name}.a", CRATE / "out" / "objects")
     objects += extracted(kit / "c" / "liblibc_c.a", CRATE / "out" / "heap", "heap.pic.o")
     subprocess.run(["ar", "rcsD", ARCHIVE, *objects], check=True)
-    libctf.make(ARCHIVE)
+    libctf.make(ARCHIVE, says=built.SAYS[built.How.PROVED])
 
 
 def main() -> None:

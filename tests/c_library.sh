@@ -100,6 +100,12 @@ for header in ctfd ctfd_libctf; do
     fi
 done
 
+printf '#include "ctfd_libctf.h"\n#include <stdio.h>\nint main(void) { puts(ctf_build()); }\n' \
+    > build.c
+count "compile build.c" compile build.c build
+count "the library says which build it is" \
+    sh -c './build | grep -q "^proved build: rattle-kit-\|^quick build: proofs not checked$"'
+
 for name in dump answers visits lines refusals refuse libctf hostile; do
     count "compile $name.c" compile "$tests/$name.c" $name
 done

@@ -41,6 +41,11 @@ says() {
     [ "$("$@" 2>&1)" = "$wanted" ] || { "$@"; return 1; }
 }
 
+# first COMMAND..: the first line of what it prints.
+first() {
+    "$@" | head -n 1
+}
+
 # packed KIND INTO: makes a package of what is built.
 packed() {
     "$top/scripts/package.py" "$1" --into "$2" --program "$program" --archive "$archive"
@@ -60,7 +65,7 @@ used() {
     env PATH=/usr/bin:/bin "$below/bin/ctfd-types" "$work/own.ctf" "struct point" > "$work/types" \
         2>&1 || true
     count "ctfd-types in $below" grep -q 'size: 32, cachelines: 1, members: 4' "$work/types"
-    count "the program in $below" says "ctfd $version" "$below/bin/ctfd" --version
+    count "the program in $below" says "ctfd $version" first "$below/bin/ctfd" --version
     count "the header in $below" cc -I"$below/include" "$work/header.c" -o "$work/header" \
         "$libraries/libctfd.a"
     count "the header's version in $below" says "$version" "$work/header"
@@ -74,7 +79,7 @@ used() {
 }
 
 count "one version" "$top/scripts/version.py"
-count "the program's version" says "ctfd $version" "$program" --version
+count "the program's version" says "ctfd $version" first "$program" --version
 
 for kind in deb dist; do
     count "make $kind" packed $kind "$work/first"
@@ -84,6 +89,14 @@ for file in "$work"/first/*; do
     count "the same bytes: ${file##*/}" cmp "$file" "$work/second/${file##*/}"
 done
 count "three packages" says 3 sh -c "ls '$work/first' | wc -l"
+
+# A copy is no build that is known to be proved.
+cp "$program" "$work/copy"
+refuses_copy() {
+    ! "$top/scripts/package.py" release --into "$work/release" --program "$work/copy" \
+        --archive "$archive" 2> "$work/why" && grep -q "make prove" "$work/why"
+}
+count "make release of another build" refuses_copy
 
 deb=$work/first/ctfd_${version}_amd64.deb
 count "dpkg-deb -x" dpkg-deb -x "$deb" "$work/unpacked"

@@ -105,6 +105,7 @@ def parts(program: str) -> list[Part]:
         Part("links", ["tests/links.py"]),
         Part("names", ["tests/names.py"]),
         Part("pages", ["tests/pages.py"]),
+        Part("reading", ["tests/reading.py"]),
         Part("faults", ["tests/faults.py"]),
         Part("refusals", ["tests/refusals.py"]),
         Part("lists_refused", ["tests/lists_refused.py", program], after=of_library),

@@ -24,6 +24,8 @@ expect() {
     [ "$well" = yes ] || failed=1
 }
 
+build='^proved build: rattle-kit-13, logic [0-9a-f]*$\|^quick build: proofs not checked$'
+
 check() {
     if [ -z "$1" ]; then [ ! -s "$work/$2" ]; else grep -q -- "$1" "$work/$2"; fi
 }
@@ -56,6 +58,7 @@ ends /dev/null serve --help;    expect "help of serve" 0 '^Usage: .* \[NAME=FILE
 ends /dev/null --help;          expect "help names the statuses" 0 '^  1  a file was refused$' ''
 ends /dev/null dump --help;     expect "help of dump names the pages" 0 '^Pages: ctfd(1), ' ''
 ends /dev/null --version;       expect "version" 0 '^ctfd [0-9]*\.[0-9]*\.[0-9]*$' ''
+ends /dev/null --version;       expect "which build" 0 "$build" ''
 ends /dev/null -V;              expect "version, by its letter" 0 '^ctfd [0-9]*\.[0-9]*\.[0-9]*$' ''
 fills /dev/null --help;         expect "help, and a full output" 3 '' '^ctfd: Write$'
 fills /dev/null --version;      expect "version, and a full output" 3 '' '^ctfd: Write$'

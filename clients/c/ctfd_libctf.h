@@ -329,6 +329,11 @@ int ctf_discard(ctf_file_t *fp);
 /* Writes what the last update made, or what was opened. */
 int ctf_write(ctf_file_t *fp, int fd);
 
+/* Not one of libctf's: which build this library is, as `ctfd --version` says it of the program:
+ * "proved build: " and the kit that checked its proofs, or "quick build: proofs not checked".
+ */
+const char *ctf_build(void);
+
 #ifdef __cplusplus
 }
 #endif

@@ -44,7 +44,8 @@ impl Model for Broker {
 impl Broker {
     /// A broker in which no session holds anything.
     pub fn new(alloc: Global) -> Broker
-        ensures { (session : ℕ) → library_at result session ≡ empty_state }
+        ensures empty { (session : ℕ) → library_at result session ≡ empty_state }
+        ensures good { AreGood (library_at result) }
     {
         Broker {
             alloc,
@@ -65,6 +66,19 @@ impl Broker {
             (said result) (library_at self.new 0) }
         ensures others { (other : ℕ) → other ≢ 0
             → kept_for self.new other ≡ kept_for self.old other }
+        // Good libraries stay good: what was opened breaks no rule.
+        ensures good { AreGood (library_at self.old) → AreGood (library_at self.new) }
+    {
+        dictionary.keeps_rules();
+        self.publish(name, dictionary)
+    }
+
+    fn publish(&mut self, name: &PublicationName, dictionary: Loaded) -> Result<Counts, Fault>
+        ensures own { Answered (library_at self.old 0)
+            (publishes_kept name.now dictionary (library_at self.old 0))
+            (said result) (library_at self.new 0) }
+        ensures others { (other : ℕ) → other ≢ 0
+            → kept_for self.new other ≡ kept_for self.old other }
     {
         publish_in(self.alloc, &mut self.libraries, OPERATOR, name, dictionary)
     }
@@ -78,6 +92,7 @@ impl Broker {
             (said result) (library_at self.new 0) }
         ensures others { (other : ℕ) → other ≢ 0
             → kept_for self.new other ≡ kept_for self.old other }
+        ensures good { AreGood (library_at self.old) → AreGood (library_at self.new) }
     {
         let parts = Parts {
             ctf: Bytes::from(ctf),
@@ -85,7 +100,7 @@ impl Broker {
             strs: None,
         };
         match Loaded::build(self.alloc, parts, MODEL_UNSAID) {
-            Ok(loaded) => publish_in(self.alloc, &mut self.libraries, OPERATOR, name, loaded),
+            Ok(loaded) => self.load(name, loaded),
             Err((fault, _parts)) => Err(fault),
         }
     }

@@ -111,6 +111,14 @@ impl<'a> Judged<'a> {
         Checked::of(self)
     }
 
+    /// That it breaks no rule, for a proof.
+    pub fn keeps_rules(&self)
+        ensures { first_fault self.now.kept.lists ≡ None }
+    {
+        // A look at a field tells the proof the invariant.
+        let _ = &self.held;
+    }
+
     /// Its lists, handed back where they are its own.
     pub fn into_parts(self) -> Option<Parts>
         ensures { option_map lists_owned result ≡ lists_owned_by self.entry }

@@ -1,4 +1,5 @@
 pub mod Status
 pub mod Asked
+pub mod Files
+pub mod Started
 pub mod Starts
-pub mod Serving

@@ -1,11 +1,12 @@
 //! Files that are read whole.
-ghost use Rattle.std.specs.Prelude.{◌≡◌, ◌<◌, ◌≤◌, IfOk, IfErr, IfSome, length, vec_len};
-ghost use Rattle.ctf_dump.specs.Refused.{status_after};
+ghost use Rattle.std.specs.Prelude.{◌≡◌, ◌<◌, ◌≤◌, IfOk, IfErr, IfSome, IsOk, length, vec_len, ⊤};
+ghost use Rattle.ctf_command.specs.Files.{IsUnread, longest_file};
 
 use ctf_dump::DumpEnd;
 use ctf_protocol::{Fault, placeless};
 use std::alloc::Global;
 use std::fs::File;
+use std::io;
 use std::io::{ErrorKind, Read};
 
 /// The greatest length of a file, in bytes.
@@ -21,8 +22,8 @@ pub fn read_whole<R: Read + Drop>(
 ) -> Result<Vec<u8>, DumpEnd<'_>>
     ensures whole { IfOk result (λ v. IfSome (R.remaining reader) (λ bytes. v.items ≡ bytes)) }
     ensures short { IfOk result (λ v. vec_len v ≤ longest) }
-    ensures refused { IfErr result (λ e. status_after e ≡ 1
-        → IfSome (R.remaining reader) (λ bytes. longest < length bytes)) }
+    ensures refused { IfErr result (λ e. IsUnread name.entry
+        (IfSome (R.remaining reader) (λ bytes. longest < length bytes)) e) }
 {
     let mut bytes = Vec::new(alloc);
     let mut front = reader.take(u64::from(longest) + 1);
@@ -36,11 +37,30 @@ pub fn read_whole<R: Read + Drop>(
     }
 }
 
-/// The bytes of the file with a name.
-pub fn read_file<'a>(rt: &HostRuntime, name: &'a str) -> Result<Vec<u8>, DumpEnd<'a>> {
-    match File::open(rt, name) {
-        Ok(file) => read_whole(rt.alloc(), name, file, LONGEST_FILE),
+/// The bytes of a file that was opened, or was not.
+pub fn read_opened<R: Read + Drop>(
+    alloc: Global,
+    name: &str,
+    opened: io::Result<R>,
+) -> Result<Vec<u8>, DumpEnd<'_>>
+    ensures whole { IfOk result (λ v. IfOk opened (λ reader.
+        IfSome (R.remaining reader) (λ bytes. v.items ≡ bytes))) }
+    ensures opened { IfOk result (λ v. IsOk opened) }
+    ensures short { IfOk result (λ v. vec_len v ≤ longest_file) }
+    ensures refused { IfErr result (λ e. IsUnread name.entry (IfOk opened (λ reader.
+        IfSome (R.remaining reader) (λ bytes. longest_file < length bytes))) e) }
+{
+    match opened {
+        Ok(reader) => read_whole(alloc, name, reader, LONGEST_FILE),
         Err(error) if error.kind() == ErrorKind::OutOfMemory => Err(DumpEnd::Memory),
         Err(_) => Err(DumpEnd::Unread(name)),
     }
+}
+
+/// The bytes of the file with a name.
+pub fn read_file<'a>(rt: &HostRuntime, name: &'a str) -> Result<Vec<u8>, DumpEnd<'a>>
+    ensures short { IfOk result (λ v. vec_len v ≤ longest_file) }
+    ensures refused { IfErr result (λ e. IsUnread name.entry ⊤ e) }
+{
+    read_opened(rt.alloc(), name, File::open(rt, name))
 }

@@ -3,6 +3,7 @@
 #![tactic(auto)]
 
 mod files;
+mod publishing;
 mod serving;
 mod starts;
 mod status;
@@ -11,8 +12,9 @@ mod wanted;
 pub use ctf_dump::{DumpEnd, InputFile, Inputs, dump_lists};
 pub use ctf_model::{Bytes, DataModel};
 pub use ctf_protocol::model_named;
-pub use ctf_wire::{Broker, RunFault};
+pub use ctf_wire::{Broker, FromReader, RunFault, ToWriter};
 pub use files::read_file;
+pub use publishing::start;
 pub use serving::serve_lines;
 pub use starts::NotStarted;
 pub use status::{MISUSED, end, usage_status};

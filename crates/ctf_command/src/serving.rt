@@ -1,20 +1,31 @@
 //! The service over a reader and a writer.
-ghost use Rattle.ctf_command.specs.Serving.{ServesLines};
+ghost use Rattle.std.specs.Prelude.{◌≡◌, ◌^◌, Err};
+ghost use Rattle.ctf_wire.specs.Endings.{IsReady, PullsAtMost};
+ghost use Rattle.ctf_wire.specs.Serving.{ServesTo};
 
-use ctf_wire::{Broker, FromReader, RunFault, ToWriter, serve};
+use ctf_wire::{Broker, FromReader, RunFault, Sink, Source, ToWriter, serve};
 use std::alloc::Global;
 use std::io::{Read, Write};
 
-/// Serves the lines of a reader, and writes their replies to a writer.
+/// Serves the lines of a reader, and writes their replies to a writer. Both are lent, so what was
+/// read and what was written and flushed stands in them.
 pub fn serve_lines<R: Read + Drop, W: Write + Drop>(
     alloc: Global,
     broker: &mut Broker,
-    reader: R,
-    writer: W,
+    source: &mut FromReader<R>,
+    sink: &mut ToWriter<W>,
 ) -> Result<(), RunFault>
-    ensures { ServesLines broker.old broker.new (R.remaining reader) (W.contents writer) result }
+    requires { IsReady (⟦<FromReader<R> as Source>⟧.pulled source.old)
+        (⟦<ToWriter<W> as Sink>⟧.pushed sink.old) (2 ^ 40) }
+    ensures serves { ServesTo (2 ^ 40) broker.old broker.new
+        (⟦<FromReader<R> as Source>⟧.pulled source.old)
+        (⟦<FromReader<R> as Source>⟧.pulled source.new)
+        (⟦<ToWriter<W> as Sink>⟧.pushed sink.old)
+        (⟦<ToWriter<W> as Sink>⟧.pushed sink.new) result }
+    ensures memory { result ≡ Err RunFault.Memory →
+        (source.new ≡ source.old) × (sink.new ≡ sink.old) × (broker.new ≡ broker.old) }
+    ensures pulls { PullsAtMost (2 ^ 40) (⟦<FromReader<R> as Source>⟧.pulled source.old)
+        (⟦<FromReader<R> as Source>⟧.pulled source.new) }
 {
-    let mut source = FromReader::new(reader);
-    let mut sink = ToWriter::new(writer);
-    serve(alloc, broker, &mut source, &mut sink)
+    serve(alloc, broker, source, sink)
 }

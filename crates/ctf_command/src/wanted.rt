@@ -1,6 +1,6 @@
 //! What is to be published before any line is read: words NAME=FILE of the command line.
-ghost use Rattle.std.specs.Prelude.{◌≡◌, IfOk, option_map};
-ghost use Rattle.ctf_command.specs.Asked.{asked_by, asked_of};
+ghost use Rattle.std.specs.Prelude.{◌≡◌, IfOk, option_map, map};
+ghost use Rattle.ctf_command.specs.Asked.{all_asked, asked_by, asked_of};
 
 use ctf_protocol::PublicationName;
 use std::alloc::{AllocError, Global};
@@ -30,7 +30,10 @@ pub fn wanted_by<'a>(alloc: Global, word: &'a str) -> Result<Option<Wanted<'a>>,
 pub fn all_wanted<'a>(
     alloc: Global,
     words: &[&'a str],
-) -> Result<Option<Vec<Wanted<'a>>>, AllocError> {
+) -> Result<Option<Vec<Wanted<'a>>>, AllocError>
+    ensures { IfOk result (λ all. option_map (λ v. map asked_of v.items) all
+        ≡ all_asked (map (λ w. w.now) words.now)) }
+{
     let mut all = Vec::new(alloc);
     for word in words {
         match wanted_by(alloc, word)? {

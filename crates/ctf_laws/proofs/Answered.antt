@@ -57,7 +57,7 @@ one_parent (Some p) None h = absurd h
 space_with : Dictionary → Option Dictionary → DataModel → Space
 space_with own parent model = record { own = own; parent = parent; model = model }
 
-space_is : (slot : Slot) (s : Space) → IsDenoted slot s → slot_space slot ≡ s
+pub space_is : (slot : Slot) (s : Space) → IsDenoted slot s → slot_space slot ≡ s
 unfolding space_with
 space_is slot s h =
     let own = one_dictionary slot.kept.lists (said_by slot.kept.lists) s.own (denotes_said slot.kept.lists h.own.faultless) h.own in
@@ -73,10 +73,10 @@ answers_are_of_what_is_denoted slot s h = record {
 
 -- ---- what is judged
 
-least_at : (s : Lists) (f : Fault) → first_fault s ≡ Some f → IsFirstFault s f
+pub least_at : (s : Lists) (f : Fault) → first_fault s ≡ Some f → IsFirstFault s f
 least_at s f e = subst (λ (o : Option Fault). MatchOption o (KeepsEveryRule s) (IsFirstFault s)) e (least_fault s)
 
-none_at : (s : Lists) → first_fault s ≡ None → KeepsEveryRule s
+pub none_at : (s : Lists) → first_fault s ≡ None → KeepsEveryRule s
 none_at s e = subst (λ (o : Option Fault). MatchOption o (KeepsEveryRule s) (IsFirstFault s)) e (least_fault s)
 
 refused_by : (fault : Option Fault) (state : State) (f : Fault) → (accepts_unless fault state).reply.outcome ≡ Err f → fault ≡ Some f

@@ -8,3 +8,6 @@ mod Staying
 mod Numbers
 mod Asked
 pub mod Promises
+mod Right
+mod One
+pub mod Replied

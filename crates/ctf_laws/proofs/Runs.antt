@@ -1,15 +1,17 @@
 -- Libraries stay good in every run: by induction on the events.
-use Rattle.std.proofs.Common.{◌≡◌, ◌≢◌, ◌⊎◌, inl, inr, ℕ, List, [], ◌∷◌, Bool, true, false, Option, Some, None, eqb, option_and_then, refl, sym, subst, arith}
+use Rattle.std.proofs.Common.{◌≡◌, ◌≢◌, ◌⊎◌, inl, inr, ℕ, zero, suc, List, [], ◌∷◌, Bool, true, false, Option, Some, None, eqb, option_and_then, refl, sym, subst, arith}
 use Rattle.std.specs.Option.{ForSome}
 use Rattle.std.proofs.lemmas.Bool.Decides.{nat_tests}
 use Rattle.ctf_protocol.specs.sessions.Publications.{published_as}
 use Rattle.ctf_protocol.specs.answers.Answers.{Reply}
-use Rattle.ctf_protocol.specs.sessions.Runs.{IsGranted, IsRefused, Steps, found_in, taken_by}
+use Rattle.ctf_protocol.specs.sessions.Runs.{Answered, IsGranted, IsRefused, Steps, found_in, taken_by}
 use Rattle.ctf_protocol.specs.declared.requests.Request.{Request}
 use Rattle.ctf_protocol.specs.sessions.SessionLaws.{Event, Happens, IsReplied}
 use Rattle.ctf_protocol.specs.sessions.State.{State}
+use Rattle.ctf_protocol.specs.sessions.Steps.{publishes_kept}
+use Rattle.ctf_model.specs.spaces.Kept.{Kept}
 use Rattle.ctf_laws.proofs.Slots.{published_good}
-use Rattle.ctf_laws.proofs.Steps.{steps_keep_good}
+use Rattle.ctf_laws.proofs.Steps.{loads_keep_good, steps_keep_good}
 use Rattle.ctf_laws.specs.Good.{AreGood, FitsRequest, IsFaultless, IsGood}
 use Rattle.ctf_laws.specs.GoodLaws.{FoundIsFaultless, RunsKeepGood}
 
@@ -39,6 +41,18 @@ among old new s request reply g fits steps q false t =
 -- one call among good libraries leaves good ones
 pub steps_among : (old new : ℕ → State) (s : ℕ) (request : Request) (reply : Reply) → Steps old s request reply new → AreGood old → FitsRequest request → AreGood new
 steps_among old new s request reply steps g fits = λ q. among old new s request reply g fits steps q (eqb s q) refl
+
+answered_good : (old new : State) (name : List ℕ) (kept : Kept) (reply : Reply) → Answered old (publishes_kept name kept old) reply new → IsFaultless kept → IsGood old → IsGood new
+answered_good old new name kept reply (inl granted) h g = subst IsGood (sym granted.1) (loads_keep_good old name kept g h)
+answered_good old new name kept reply (inr refused) h g = subst IsGood (sym refused.1) g
+
+load_at : (old new : ℕ → State) → IsGood (new 0) → ((other : ℕ) → other ≢ 0 → new other ≡ old other) → AreGood old → AreGood new
+load_at old new here others g zero = here
+load_at old new here others g (suc s) = subst IsGood (sym (others (suc s) (λ e. absurd cc))) (g (suc s))
+
+-- what the operator publishes among good libraries leaves good ones, if it breaks no rule
+pub loads_among : (old new : ℕ → State) (name : List ℕ) (kept : Kept) (reply : Reply) → Answered (old 0) (publishes_kept name kept (old 0)) reply (new 0) → ((other : ℕ) → other ≢ 0 → new other ≡ old other) → IsFaultless kept → AreGood old → AreGood new
+loads_among old new name kept reply own others h g = load_at old new (answered_good (old 0) (new 0) name kept reply own h (g 0)) others g
 
 -- every session's library is as it was but for one
 pub other_stays : (old new : ℕ → State) (event : Event) → Happens old event new → (s : ℕ) → eqb event.session s ≡ false → new s ≡ old s

@@ -37,7 +37,7 @@ use Rattle.ctf_protocol.specs.declared.requests.Request.TheVariants.{Asks, Chang
 use Rattle.ctf_laws.proofs.Drafted.{created_good, redrafted, settled_good, type_leaves, member_leaves, enumerator_leaves, label_leaves}
 use Rattle.ctf_laws.proofs.Slots.{AllGood, child_good, found_good, new_good, parents_good, with_good, withdrawn_good, without_good}
 use Rattle.ctf_laws.specs.Good.{FitsAddition, FitsChange, FitsStep, IsFaultless, IsGood, IsGoodSlot}
-use Rattle.ctf_laws.specs.GoodLaws.{StepsKeepGood}
+use Rattle.ctf_laws.specs.GoodLaws.{LoadsKeepGood, StepsKeepGood}
 
 -- a step leaves a good library
 abbrev Leaves : Outcome → Type 0
@@ -206,3 +206,6 @@ changed state (change.Draft d x) found g fits h = at_slot _ d (slot_at d state.s
 pub steps_keep_good : StepsKeepGood
 steps_keep_good state (Changes c) found g fits h = changed state c found g fits h
 steps_keep_good state (Asks d question) found g fits h = g
+
+pub loads_keep_good : LoadsKeepGood
+loads_keep_good state name kept g h = either (is_some (published_as name state.published)) _ _ g (record { slots = g.slots; published = all_joined (λ (p : Publication). IsFaultless p.kept) state.published _ g.published (h, tt) })

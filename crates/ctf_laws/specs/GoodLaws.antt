@@ -26,7 +26,7 @@ use Rattle.ctf_protocol.specs.sessions.Runs.{found_in, own_state}
 use Rattle.ctf_protocol.specs.sessions.SessionLaws.{Event, Run}
 use Rattle.ctf_protocol.specs.sessions.State.{Slot, State, empty_state}
 use Rattle.ctf_protocol.specs.sessions.SlotQuestions.{slot_answered, slot_space}
-use Rattle.ctf_protocol.specs.sessions.Steps.{checks, opens, step}
+use Rattle.ctf_protocol.specs.sessions.Steps.{checks, opens, publishes_kept, step}
 use Rattle.ctf_protocol.specs.declared.questions.Question.TheVariants.{OfSlot, OfType}
 use Rattle.ctf_protocol.specs.declared.questions.SlotQuestion.{SlotQuestion}
 use Rattle.ctf_protocol.specs.declared.questions.TypeQuestion.{TypeQuestion}
@@ -44,6 +44,12 @@ abbrev pub StepsKeepGood : Type 0
 StepsKeepGood =
     (state : State) (request : Request) (found : Option Kept) → IsGood state → FitsRequest request
     → ForSome found IsFaultless → IsGood (step state request found).state
+
+-- what is published for the operator leaves a good library good, if it breaks no rule
+abbrev pub LoadsKeepGood : Type 0
+LoadsKeepGood =
+    (state : State) (name : List ℕ) (kept : Kept) → IsGood state → IsFaultless kept
+    → IsGood (publishes_kept name kept state).state
 
 -- what a take finds among good libraries breaks no rule
 abbrev pub FoundIsFaultless : Type 0
@@ -138,22 +144,3 @@ BytesDenoteWhatWasAdded =
     → new_draft parent parname parlabel model ≡ Ok d → AllByRecursion FitsDraftChange changes
     → written (held (after d changes)) ≡ Ok bytes
     → Denotes (lists_of bytes) (held (after d changes))
-
--- ---- all of it
-
--- what is promised of every run over libraries that are good at its beginning
-pub record Promised (start : ℕ → State) : Type 0 where
-  -- after any of its lines each session's library is good
-  pub good : (lines : List (List ℕ)) (marks : List Mark)
-      → AreGood (own_state start (calls_made [] lines marks))
-  -- so the lists of each slot and of its parent denote one dictionary, and answers are of these
-  pub denoted : SlotsDenote
-  pub answered : AnswersAreOfWhatIsDenoted
-  -- what is staged is refused by the first rule that it breaks, and by nothing else
-  pub checked : ChecksRefuseByTheFirstRule
-  pub opened : OpensRefuseByTheFirstRule
-  -- the bytes of an updated dictionary denote all that its draft holds
-  pub written : UpdatesDenoteTheDraft
-
-abbrev pub RunsKeepWhatIsPromised : Type 0
-RunsKeepWhatIsPromised = (start : ℕ → State) → AreGood start → Promised start

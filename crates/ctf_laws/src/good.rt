@@ -7,22 +7,25 @@ ghost use Rattle.ctf_laws.specs.GoodLaws.{
   ChecksRefuseByTheFirstRule,
   FoundIsFaultless,
   LinesFit,
+  LoadsKeepGood,
   NothingIsGood,
   OpensAcceptWhatKeepsEveryRule,
   OpensRefuseByTheFirstRule,
   OwnRunsStayGood,
   RunsKeepGood,
-  RunsKeepWhatIsPromised,
   SlotsDenote,
   StepsKeepGood,
   UpdatesDenoteTheDraft,
 };
+ghost use Rattle.ctf_laws.specs.Replied.{RunsReplyRightly};
+ghost use Rattle.ctf_laws.specs.Right.{RightIsOne};
 
 /// An empty library is good, and each request leaves a good one good: so all libraries are good
 /// after any run, whatever sessions ask, in any order, and wherever memory is refused.
 pub fn libraries_stay_good()
     ensures empty { NothingIsGood }
     ensures step { StepsKeepGood }
+    ensures load { LoadsKeepGood }
     ensures found { FoundIsFaultless }
     ensures runs { RunsKeepGood }
     ensures own { OwnRunsStayGood }
@@ -51,7 +54,15 @@ pub fn bytes_denote_what_was_added()
     ensures added { BytesDenoteWhatWasAdded }
 {}
 
-/// All of it in one word: what each run promises that begins with good libraries.
-pub fn runs_keep_what_is_promised()
-    ensures { RunsKeepWhatIsPromised }
+/// Each reply of a run is right of the library that its line meets: a question is answered of the
+/// one dictionary that the lists of its slot denote, lists are refused by the first rule that they
+/// break, and what an update wrote denotes what its draft held.
+pub fn runs_reply_rightly()
+    ensures { RunsReplyRightly }
+{}
+
+/// A reply that is right is the only one: what is said to a request and what is left of the library
+/// that it met are settled.
+pub fn right_is_one()
+    ensures { RightIsOne }
 {}

@@ -149,6 +149,13 @@ impl Loaded {
         self.dictionary.view()
     }
 
+    /// That it breaks no rule, for a proof.
+    pub fn keeps_rules(&self)
+        ensures { first_fault self.now.lists ≡ None }
+    {
+        self.dictionary.keeps_rules();
+    }
+
     /// The data model of its program.
     pub fn model(&self) -> DataModel
         ensures { result ≡ self.now.model }

@@ -17,7 +17,10 @@ use Rattle.ctf_protocol.proofs.Asking.{ask-long}
 use Rattle.ctf_protocol.proofs.SessionRuns.{found_same}
 use Rattle.ctf_wire.specs.Memory.{IsGrantedUnless, MayNeedMemory}
 use Rattle.ctf_wire.specs.Served.{Answers}
-use Rattle.ctf_laws.proofs.Promises.{runs_promise}
+use Rattle.ctf_laws.proofs.Promises.{own_runs_stay_good}
+use Rattle.ctf_laws.proofs.Replied.{runs_reply_rightly}
+use Rattle.ctf_laws.specs.Good.{IsGood}
+use Rattle.ctf_laws.specs.Replied.{AreReplies}
 use Rattle.ctf_wire.specs.Serving.{AllStay, AreMarked, BrokerStep, IsMarked, LineSteps, MayWant, Said, ServesAlone}
 use Rattle.ctf_broker.specs.Table.{Libraries, library_at}
 
@@ -143,5 +146,6 @@ serves_alone old new lines replies a =
       marked = runs.marked;
       replies_are = runs.replies_are;
       libraries_are = runs.libraries_are;
-      promised = runs_promise (library_at old);
+      right = λ g. subst (AreReplies (library_at old) lines runs.marks) (sym runs.replies_are) (runs_reply_rightly (library_at old) lines runs.marks g);
+      good = λ g s. subst IsGood (sym (runs.libraries_are s)) (own_runs_stay_good (library_at old) lines runs.marks g s);
     }

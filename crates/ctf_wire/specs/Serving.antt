@@ -13,7 +13,7 @@ use Rattle.ctf_model.specs.declared.faults.TheConstants.Fault.{LONG_LINE}
 use Rattle.ctf_protocol.specs.answers.Answers.{Reply}
 use Rattle.ctf_protocol.specs.declared.requests.Request.{Request}
 use Rattle.ctf_laws.specs.Good.{AreGood}
-use Rattle.ctf_laws.specs.GoodLaws.{Promised}
+use Rattle.ctf_laws.specs.Replied.{AreReplies}
 use Rattle.ctf_wire.specs.Endings.{EndsBy}
 use Rattle.ctf_wire.specs.Memory.{IsGrantedUnless, MayRefuse}
 use Rattle.ctf_wire.specs.Served.{Answers, BeginsWith, Sent, SentFront}
@@ -68,10 +68,11 @@ AreMarked start calls (line ∷ lines) (mark ∷ marks) =
     × AreMarked start (calls_after calls mark (ask line)) lines marks
 AreMarked start calls _ _ = Unit {0}
 
--- these lines are served: each has the reply that its session's own run gives, each session's
--- library is that of its own run, and where all libraries were good, all is kept that is promised
--- of such a run: what is answered is what the format says, malformed bytes are refused by the first
--- rule that they break, and what an update wrote denotes what it held
+-- these lines are served: each has the reply that its session's own run gives, and each session's
+-- library is that of its own run; where all libraries were good, all are, and each of these replies
+-- is right of the library that its line met: a question is answered of the one dictionary that the
+-- lists of its slot denote, malformed lists are refused by the first rule that they break, and what
+-- an update wrote denotes what its draft held
 pub record RunsAlone (old : Libraries) (lines replies : List (List ℕ))
     (new : Libraries) : Type 0 where
   pub marks : List Mark
@@ -79,7 +80,8 @@ pub record RunsAlone (old : Libraries) (lines replies : List (List ℕ))
   pub replies_are : replies ≡ out (library_at old) [] lines marks
   pub libraries_are : (s : ℕ)
       → library_at new s ≡ own_state (library_at old) (calls_made [] lines marks) s
-  pub promised : AreGood (library_at old) → Promised (library_at old)
+  pub right : AreGood (library_at old) → AreReplies (library_at old) lines marks replies
+  pub good : AreGood (library_at old) → AreGood (library_at new)
 
 -- whatever a broker answers to lines is what each session's own run answers
 abbrev pub ServesAlone : Type 0

@@ -1,5 +1,6 @@
 //! The command line.
 
+use crate::printable::complain;
 use crate::{dumping, serving};
 use clap::error::ErrorKind;
 use clap::{Arg, ArgMatches, Command, Error};
@@ -7,8 +8,10 @@ use ctf_command::{MISUSED, RunFault, end, usage_status};
 use std::alloc::{AllocError, Global};
 use std::{env, io};
 
-/// What `--version` prints. docs/PROTOCOL.md says what a version promises.
-const VERSION: &str = "0.2.0";
+/// What `--version` prints: the version, and on a line of its own which build this is. A build
+/// without the proofs has another second line (scripts/quick.py writes it). docs/PROTOCOL.md says
+/// what a version promises.
+const VERSION: &str = "0.2.0\nproved build: rattle-kit-13, logic dac8208d650f15bf";
 
 /// What stands below the help of each command.
 const STATUSES_AND_PAGES: &str = "\
@@ -109,10 +112,17 @@ fn tell(rt: &HostRuntime, error: &Error) -> u8 {
     if error.kind() == ErrorKind::OutOfMemory {
         return end(rt, Err(RunFault::Memory));
     }
-    match error.print(rt) {
-        Ok(()) => usage_status(error.kind()),
-        Err(_) => end(rt, Err(RunFault::Write)),
+    if matches!(
+        error.kind(),
+        ErrorKind::DisplayHelp | ErrorKind::DisplayVersion
+    ) {
+        return match error.print(rt) {
+            Ok(()) => usage_status(error.kind()),
+            Err(_) => end(rt, Err(RunFault::Write)),
+        };
     }
+    complain(rt, error);
+    usage_status(error.kind())
 }
 
 /// Does what the words say, and answers the exit status.

@@ -1,5 +1,6 @@
 //! `ctfd dump`: a dictionary as text, on standard output.
 
+use crate::printable::{Printable, complain};
 use clap::ArgMatches;
 use ctf_command::{
     Bytes, DataModel, DumpEnd, InputFile, Inputs, MISUSED, dump_lists, model_named, read_file,
@@ -78,7 +79,10 @@ fn dump_files<'a>(
     if watched.has_left {
         return Ok(READER_LEFT);
     }
-    let _ = rt.stderr().write_all(&said);
+    let mut errors = Printable {
+        writer: rt.stderr(),
+    };
+    let _ = errors.write_all(&said);
     Ok(status)
 }
 
@@ -91,8 +95,9 @@ pub fn run(rt: &HostRuntime, words: &ArgMatches<'_>) -> u8 {
     match dump_files(rt, words, model) {
         Ok(status) => status,
         Err(end) => {
-            let _ = eprintln!(rt; "ctfd: {end}");
-            end.status()
+            let status = end.status();
+            complain(rt, format_args!("ctfd: {end}\n"));
+            status
         }
     }
 }

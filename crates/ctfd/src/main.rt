@@ -3,6 +3,7 @@
 
 mod commands;
 mod dumping;
+mod printable;
 mod serving;
 
 use std::process::ExitCode;

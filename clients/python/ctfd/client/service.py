@@ -19,7 +19,8 @@ from .faults import Error, Gone
 BUILT = "crates/ctfd/out/ctfd"
 PATIENCE = 10
 
-_SAYS = re.compile(r"ctfd (\d+)\.(\d+)\.(\d+)\s*\Z")
+# The first line; a second one says which build it is.
+_SAYS = re.compile(r"ctfd (\d+)\.(\d+)\.(\d+)(?:\n|\Z)")
 
 
 def find(name: Optional[str] = None) -> str:

@@ -1,0 +1,12 @@
+/* build.c - which build this library is. */
+#include "private.h"
+
+/* scripts/libctf.py says it. */
+#ifndef CTFD_BUILD
+#define CTFD_BUILD "a build that nobody told of"
+#endif
+
+const char *ctf_build(void)
+{
+    return CTFD_BUILD;
+}

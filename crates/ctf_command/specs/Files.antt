@@ -1,0 +1,20 @@
+-- How a file is read. Source: ours.
+use Rattle.std.specs.Prelude.{◌≡◌, ℕ, List, ⊤}
+use Rattle.std.specs.Borrow.{Bor}
+use Rattle.ctf_model.specs.rules.Refusals.{placeless}
+use Rattle.ctf_model.specs.declared.faults.TheConstants.Fault.{STAGE_FULL}
+use Rattle.ctf_dump.specs.declared.ends.DumpEnd.{DumpEnd}
+use Rattle.ctf_dump.specs.declared.ends.DumpEnd.TheVariants.{Unread, Refused, Memory, Write}
+
+-- the greatest length of a file, in bytes
+abbrev pub longest_file : ℕ
+longest_file = 67108864
+
+-- why the file of this name was not read: it is too long, and then that holds; or it can't be
+-- opened or read; or memory was refused
+abbrev pub IsUnread : Bor (List ℕ) → Type 0 → DumpEnd → Type 0
+IsUnread name Long (Refused file fault) =
+    (file ≡ name) × (fault ≡ placeless STAGE_FULL) × Long
+IsUnread name Long (Unread file) = file ≡ name
+IsUnread name Long Memory = ⊤
+IsUnread name Long Write = ⊥

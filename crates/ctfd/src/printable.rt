@@ -1,0 +1,44 @@
+//! Text for a terminal: control characters in names of files and in words are shown, not obeyed.
+
+use std::fmt::Display;
+use std::io;
+use std::io::Write;
+
+/// Stands in place of a control character.
+const SHOWN: &[u8] = b"?";
+
+/// Whether a terminal takes a byte for an order. A newline ends a line, and a tab is a blank.
+fn is_control(byte: u8) -> bool {
+    byte < b' ' && byte != b'\n' && byte != b'\t' || byte == 0x7f
+}
+
+/// A writer before another, which gets a question mark for each control character.
+#[derive(Drop)]
+pub struct Printable<W> {
+    pub writer: W,
+}
+
+impl<W: Write> Write for Printable<W> {
+    fn write(&mut self, buf: &[u8]) -> io::Result<usize> {
+        let plain = buf
+            .iter()
+            .position(|byte| is_control(*byte))
+            .unwrap_or(buf.len());
+        if plain == 0 && !buf.is_empty() {
+            return self.writer.write(SHOWN);
+        }
+        self.writer.write(&buf[..plain])
+    }
+
+    fn flush(&mut self) -> io::Result<()> {
+        self.writer.flush()
+    }
+}
+
+/// Writes a text to standard error. Where that can't be written nobody can be told.
+pub fn complain<D: Display + Drop>(rt: &HostRuntime, text: D) {
+    let mut errors = Printable {
+        writer: rt.stderr(),
+    };
+    let _ = write!(errors, "{text}");
+}

@@ -1,0 +1,159 @@
+#!/usr/bin/env python3
+"""Tries mutants again without the written proofs that no longer fit them.
+
+usage: tests/emptied.py CRATE[/EDIT]..
+
+A mutant that the gate refuses because a written proof no longer fits may still mean what the
+contract says: another proof might exist. Here each mutant of a crate's must-fail/ is put into a
+copy, the crate is checked, and each written answer at which the check stops is taken out, until
+none is left or the mutant is accepted. What the check says then is printed:
+
+- `false`: a goal is left open for which the prover names values that make it false;
+- `open`: a goal is left open. It is printed, to be judged by hand;
+- `names`: an invariant or a lemma names what the edit took away, so nothing was tried;
+- `accepted`: the mutant is proved. It says nothing: write another.
+
+The status is 1 where a mutant is accepted, or where nothing of it was tried. The copy begins with
+what is built here, so `rt check` in the crate first makes this quick.
+"""
+from __future__ import annotations
+
+import argparse
+import os
+import re
+import shutil
+import subprocess
+import sys
+import tempfile
+from dataclasses import dataclass
+from pathlib import Path
+from typing import Iterator
+
+from further_edits import CRATES, TOP, Edit, of_the_gate
+
+ERROR = re.compile(r"^(?:\./)?(proofs/\S+\.antt):(\d+):\d+: error", re.MULTILINE)
+GOAL = re.compile(r"^note: (src/\S+: it is not proved that .*)$", re.MULTILINE)
+VALUES = re.compile(r"may be false: (.*)$", re.MULTILINE)
+SIGNATURE = re.compile(r"^(?:abbrev |unfoldable )?(?:pub )?([\w-]+) :")
+MOST_TRIES = 12
+
+
+@dataclass(frozen=True)
+class Found:
+    """What is known of a mutant, and what the check said last."""
+
+    kind: str
+    said: str
+
+    @property
+    def is_well(self) -> bool:
+        return self.kind in ("false", "open")
+
+
+def link_or_copy(one: str, other: str) -> None:
+    """Copies a file; one that a check replaces and never changes is linked."""
+    if one.endswith(".oantt"):
+        os.link(one, other)
+    else:
+        shutil.copy2(one, other)
+
+
+def copy_tree(into: Path) -> None:
+    """Copies what a check reads, and what earlier checks kept."""
+    try:
+        shutil.copytree(CRATES, into / "crates", copy_function=link_or_copy)
+    except (OSError, shutil.Error):
+        shutil.rmtree(into / "crates", ignore_errors=True)
+        shutil.copytree(CRATES, into / "crates")
+    for name in ("crates.txt", "HANDLES"):
+        shutil.copy(TOP / name, into)
+
+
+def mutate(crate: Path, edit: Edit) -> None:
+    """Makes the changes of an edit."""
+    for file, old, new in edit.changes():
+        path = crate / file
+        text = path.read_text(encoding="utf-8")
+        path.unlink()
+        path.write_text(text.replace(old, new), encoding="utf-8")
+
+
+def declarations(lines: list[str]) -> Iterator[tuple[int, int]]:
+    """From which line to which each declaration of a file goes, counted from 0."""
+    starts = [number for number, line in enumerate(lines) if SIGNATURE.match(line)]
+    yield from zip(starts, [*starts[1:], len(lines)])
+
+
+def remove_at(path: Path, number: int) -> bool:
+    """Takes the declaration of a line out of a file of answers; whether there was one."""
+    lines = path.read_text(encoding="utf-8").splitlines()
+    for begin, end in declarations(lines):
+        if begin < number <= end:
+            del lines[begin:end]
+            path.unlink()
+            if any(SIGNATURE.match(line) for line in lines):
+                path.write_text("\n".join(lines) + "\n", encoding="utf-8")
+            return True
+    return False
+
+
+def check_says(crate: Path) -> str:
+    """What a check of a crate says."""
+    ended = subprocess.run(["rt", "check"], cwd=crate, stdout=subprocess.PIPE, check=False,
+                           stderr=subprocess.STDOUT, text=True, errors="replace")
+    return ended.stdout
+
+
+def take_out(crate: Path, said: str) -> bool:
+    """Takes out the answers that the check refused; whether there were any."""
+    places = sorted({(file, int(line)) for file, line in ERROR.findall(said)}, reverse=True)
+    answers = [place for place in places if place[0].endswith(("/Answers.antt", "/Proof.antt"))]
+    done = [remove_at(crate / file, line) for file, line in answers if (crate / file).exists()]
+    return any(done)
+
+
+def judge(crate: Path) -> Found:
+    """What is left of a mutant's refusal without the proofs that do not fit it."""
+    for _ in range(MOST_TRIES):
+        said = check_says(crate)
+        if not take_out(crate, said):
+            break
+    if "logic=proved" in said:
+        return Found("accepted", "")
+    goals, values = GOAL.findall(said), VALUES.findall(said)
+    if goals:
+        return Found("false" if values else "open", "; ".join([*goals, *values]))
+    return Found("names", next(iter(said.splitlines()), ""))
+
+
+def of_crate(name: str, only: str, copy: Path) -> Iterator[tuple[str, Found]]:
+    """Each mutant of a crate with what is found."""
+    crate = copy / "crates" / name
+    plain = copy / "plain"
+    shutil.copytree(crate, plain, copy_function=link_or_copy)
+    for edit in of_the_gate(CRATES / name):
+        if only in ("", edit.name):
+            shutil.rmtree(crate)
+            shutil.copytree(plain, crate, copy_function=link_or_copy)
+            mutate(crate, edit)
+            yield edit.name, judge(crate)
+    shutil.rmtree(plain)
+
+
+def main() -> int:
+    assert __doc__
+    options = argparse.ArgumentParser(usage=__doc__.split("usage: ")[1].split("\n")[0])
+    options.add_argument("crates", nargs="+", metavar="CRATE[/EDIT]")
+    wrong = 0
+    with tempfile.TemporaryDirectory() as copy:
+        copy_tree(Path(copy))
+        for asked in options.parse_args().crates:
+            name, _, only = asked.partition("/")
+            for edit, found in of_crate(name, only, Path(copy)):
+                print(f"{name}/{edit}: {found.kind}: {found.said}", flush=True)
+                wrong += not found.is_well
+    return 1 if wrong else 0
+
+
+if __name__ == "__main__":
+    sys.exit(main())
