@@ -1,0 +1,4 @@
+//! Debug information in DWARF, of versions 2 to 5.
+
+pub mod types;
+pub mod units;

@@ -1,0 +1,107 @@
+//! Files that are read: as much of them as is asked for. None is mapped, since somebody may cut a
+//! file while it is read.
+
+use crate::error::{refuse, Result};
+use flate2::Crc;
+use object::read::{ReadCache, ReadRef};
+use std::fs::File;
+use std::io::{Cursor, Read, Seek};
+use std::path::{Path, PathBuf};
+
+/// What the bytes of a file come from: the file, or all that came through a pipe.
+pub trait Source: Read + Seek {}
+impl<T: Read + Seek> Source for T {}
+
+/// The bytes of a file, read where they are asked for.
+pub type Data<'a> = &'a ReadCache<Box<dyn Source>>;
+/// An ELF file.
+pub type Elf<'a> = object::File<'a, Data<'a>>;
+/// A section of an ELF file.
+pub type ElfSection<'a, 'f> = object::Section<'a, 'f, Data<'a>>;
+
+/// The most that is read of a pipe, which tells no length.
+const LONGEST_PIPE: u64 = 1 << 32;
+/// How many bytes a check sum reads at a time.
+const PIECE: u64 = 1 << 20;
+
+/// A file, and where it is.
+pub struct Image {
+    path: PathBuf,
+    cache: ReadCache<Box<dyn Source>>,
+}
+
+impl Image {
+    /// Opens a regular file, or reads a pipe to its end. Anything else is refused: a device may
+    /// have no end.
+    pub fn open(path: &Path) -> Result<Image> {
+        let open = || -> Result<Box<dyn Source>> {
+            let kind = std::fs::metadata(path)?.file_type();
+            if kind.is_file() {
+                return Ok(Box::new(File::open(path)?));
+            }
+            if !is_pipe(&kind) {
+                return refuse("is no regular file");
+            }
+            let mut bytes = Vec::new();
+            File::open(path)?.take(LONGEST_PIPE).read_to_end(&mut bytes)?;
+            Ok(Box::new(Cursor::new(bytes)))
+        };
+        let source = open().map_err(|error| error.of(path.display()))?;
+        Ok(Image { path: path.to_owned(), cache: ReadCache::new(source) })
+    }
+
+    /// Opens a regular file that another file names; anybody may have written that name.
+    pub fn linked(path: &Path) -> Option<Image> {
+        let is_file = std::fs::metadata(path).is_ok_and(|about| about.is_file());
+        is_file.then(|| Image::open(path).ok()).flatten()
+    }
+
+    /// Where the file is.
+    pub fn path(&self) -> &Path {
+        &self.path
+    }
+
+    /// Its bytes, which are read where they are asked for.
+    pub fn data(&self) -> Data<'_> {
+        &self.cache
+    }
+
+    /// Whether it begins as ELF files do.
+    pub fn is_elf(&self) -> bool {
+        self.data().read_bytes_at(0, 4) == Ok(&object::elf::ELFMAG[..])
+    }
+
+    /// The file as ELF, of little-endian machines.
+    pub fn elf(&self) -> Result<Elf<'_>> {
+        let file = object::File::parse(self.data())?;
+        if !object::Object::is_little_endian(&file) {
+            return refuse("is a big-endian file, which is not read");
+        }
+        Ok(file)
+    }
+
+    /// The check sum by which `.gnu_debuglink` knows a file.
+    pub fn crc(&self) -> Result<u32> {
+        let mut crc = Crc::new();
+        let mut file = File::open(&self.path)?.take(LONGEST_PIPE);
+        let mut piece = vec![0; PIECE as usize];
+        loop {
+            let count = file.read(&mut piece)?;
+            if count == 0 {
+                return Ok(crc.sum());
+            }
+            crc.update(&piece[..count]);
+        }
+    }
+}
+
+#[cfg(unix)]
+fn is_pipe(kind: &std::fs::FileType) -> bool {
+    use std::os::unix::fs::FileTypeExt as _;
+    kind.is_fifo()
+}
+
+#[cfg(not(unix))]
+fn is_pipe(_: &std::fs::FileType) -> bool {
+    false
+}

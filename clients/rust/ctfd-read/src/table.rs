@@ -1,0 +1,314 @@
+//! Types of C as records that name each other by number, before they are a dictionary.
+
+use ahash::AHasher;
+use std::borrow::Cow;
+use std::hash::{Hash, Hasher};
+
+/// A name, most often where it stands in the debug information.
+pub type Name<'a> = Cow<'a, [u8]>;
+
+/// The kinds of the format by their numbers, and one that it has not.
+#[derive(Clone, Copy, Debug, PartialEq, Eq, Hash)]
+#[repr(u8)]
+pub enum Kind {
+    Unknown,
+    Integer,
+    Float,
+    Pointer,
+    Array,
+    Function,
+    Struct,
+    Union,
+    Enum,
+    Forward,
+    Typedef,
+    Volatile,
+    Const,
+    Restrict,
+    Atomic,
+}
+
+impl Kind {
+    pub fn is_aggregate(self) -> bool {
+        matches!(self, Kind::Struct | Kind::Union)
+    }
+
+    pub fn is_qualifier(self) -> bool {
+        matches!(self, Kind::Volatile | Kind::Const | Kind::Restrict | Kind::Atomic)
+    }
+
+    /// The word that C has for it.
+    pub fn word(self) -> &'static str {
+        match self {
+            Kind::Struct => "struct",
+            Kind::Union => "union",
+            Kind::Enum => "enum",
+            Kind::Volatile => "volatile",
+            Kind::Const => "const",
+            Kind::Restrict => "restrict",
+            _ => "",
+        }
+    }
+}
+
+/// How an integer or a float encoding in its storage.
+#[derive(Clone, Copy, Debug, Default, PartialEq, Eq, Hash)]
+pub struct Encoding {
+    pub flags: u8,
+    pub offset: u8,
+    pub bits: u64,
+}
+
+/// A member; `offset` is in bits, and `width` that of a bit-field.
+#[derive(Clone, Debug, PartialEq, Eq, Hash)]
+pub struct Member<'a> {
+    pub name: Name<'a>,
+    pub of: u32,
+    pub offset: u64,
+    pub width: Option<u64>,
+}
+
+#[derive(Clone, Debug, PartialEq, Eq, Hash)]
+pub struct Enumerator<'a> {
+    pub name: Name<'a>,
+    pub value: i128,
+}
+
+/// The list behind a record.
+#[derive(Clone, Debug, Default, PartialEq, Eq, Hash)]
+pub enum Parts<'a> {
+    #[default]
+    None,
+    Arguments(Box<[u32]>),
+    Members(Box<[Member<'a>]>),
+    Values(Box<[Enumerator<'a>]>),
+}
+
+/// A type. `of` is what it points to, renames, qualifies, returns or holds; 0 is none. A forward's
+/// `tag` is what it declares. `root` says whether look-ups by name see it.
+#[derive(Clone, Debug, PartialEq, Eq, Hash)]
+pub struct Record<'a> {
+    pub kind: Kind,
+    pub tag: Kind,
+    pub root: bool,
+    pub varargs: bool,
+    pub of: u32,
+    pub index: u32,
+    pub size: u64,
+    pub elements: u64,
+    pub encoding: Encoding,
+    pub name: Name<'a>,
+    pub parts: Parts<'a>,
+}
+
+impl<'a> Record<'a> {
+    pub fn new(kind: Kind, name: Name<'a>) -> Record<'a> {
+        Record {
+            kind,
+            tag: kind,
+            root: true,
+            varargs: false,
+            of: 0,
+            index: 0,
+            size: 0,
+            elements: 0,
+            encoding: Encoding::default(),
+            name,
+            parts: Parts::None,
+        }
+    }
+
+    /// One of which nothing is told yet.
+    pub fn unknown() -> Record<'a> {
+        Record::new(Kind::Unknown, Cow::Borrowed(b""))
+    }
+
+    pub fn arguments(&self) -> &[u32] {
+        match &self.parts {
+            Parts::Arguments(listed) => listed,
+            _ => &[],
+        }
+    }
+
+    pub fn members(&self) -> &[Member<'a>] {
+        match &self.parts {
+            Parts::Members(listed) => listed,
+            _ => &[],
+        }
+    }
+
+    pub fn values(&self) -> &[Enumerator<'a>] {
+        match &self.parts {
+            Parts::Values(listed) => listed,
+            _ => &[],
+        }
+    }
+
+    /// The numbers of the types that it names; 0 is among them.
+    pub fn references(&self) -> impl Iterator<Item = u32> + '_ {
+        [self.of, self.index]
+            .into_iter()
+            .chain(self.arguments().iter().copied())
+            .chain(self.members().iter().map(|member| member.of))
+    }
+
+    /// Gives another number to each type that it names.
+    pub fn renumber(&mut self, mut to: impl FnMut(u32) -> u32) {
+        self.of = to(self.of);
+        self.index = to(self.index);
+        match &mut self.parts {
+            Parts::Arguments(listed) => listed.iter_mut().for_each(|n| *n = to(*n)),
+            Parts::Members(listed) => listed.iter_mut().for_each(|one| one.of = to(one.of)),
+            _ => {}
+        }
+    }
+
+    /// The same with other numbers.
+    pub fn renumbered(&self, to: impl FnMut(u32) -> u32) -> Record<'a> {
+        let mut made = self.clone();
+        made.renumber(to);
+        made
+    }
+
+    /// A struct or union that has a name: in C each circle of types has one.
+    pub fn is_named_aggregate(&self) -> bool {
+        self.kind.is_aggregate() && !self.name.is_empty()
+    }
+
+    /// What two types have in common that differ in no more than what they name.
+    pub fn shape(&self) -> u64 {
+        let mut hasher = AHasher::new_with_keys(1, 2);
+        let parts = (self.arguments().len(), self.members().len());
+        (self.kind, self.tag, self.varargs, self.size, self.elements).hash(&mut hasher);
+        (self.encoding, &self.name, self.values(), parts).hash(&mut hasher);
+        for one in self.members() {
+            (&one.name, one.offset, one.width).hash(&mut hasher);
+        }
+        hasher.finish()
+    }
+
+    /// Whether two types differ in no more than what they name, and who sees them.
+    pub fn has_shape_of(&self, other: &Record<'_>) -> bool {
+        (self.kind, self.tag, self.varargs, self.size, self.elements, self.encoding)
+            == (other.kind, other.tag, other.varargs, other.size, other.elements, other.encoding)
+            && is_same(&self.name, &other.name)
+            && self.values() == other.values()
+            && self.arguments().len() == other.arguments().len()
+            && self.members().len() == other.members().len()
+            && self.members().iter().zip(other.members()).all(|(one, two)| {
+                one.offset == two.offset && one.width == two.width && is_same(&one.name, &two.name)
+            })
+    }
+
+    /// Its name as C has it, with the word in front.
+    pub fn tagged(&self) -> String {
+        let name = String::from_utf8_lossy(&self.name);
+        match self.tag.word() {
+            "" => name.into_owned(),
+            _ if !matches!(self.kind, Kind::Struct | Kind::Union | Kind::Enum | Kind::Forward) => {
+                name.into_owned()
+            }
+            word if name.is_empty() => format!("{word} (anon)"),
+            word => format!("{word} {name}"),
+        }
+    }
+}
+
+/// Whether two names are the same: most often they stand in one place.
+fn is_same(one: &[u8], other: &[u8]) -> bool {
+    std::ptr::eq(one, other) || one == other
+}
+
+/// Records with numbers from 1 on, and what is told of the symbols of which a dictionary can tell
+/// something, in their order. `losses` tells what of their source they do not say.
+#[derive(Default)]
+pub struct Table<'a> {
+    pub records: Vec<Record<'a>>,
+    pub objects: Vec<u32>,
+    pub functions: Vec<Option<Record<'a>>>,
+    pub losses: Vec<String>,
+    pub is_ilp32: bool,
+}
+
+impl<'a> Table<'a> {
+    pub fn get(&self, number: u32) -> &Record<'a> {
+        &self.records[number as usize - 1]
+    }
+
+    pub fn len(&self) -> u32 {
+        self.records.len() as u32
+    }
+
+    pub fn is_empty(&self) -> bool {
+        self.records.is_empty()
+    }
+
+    pub fn add(&mut self, record: Record<'a>) -> u32 {
+        self.records.push(record);
+        self.len()
+    }
+
+    /// Without typedefs and qualifiers; 0 where these lead round.
+    pub fn resolved(&self, mut number: u32) -> u32 {
+        for _ in 0..self.records.len() {
+            if number == 0 {
+                return 0;
+            }
+            let record = self.get(number);
+            if record.kind != Kind::Typedef && !record.kind.is_qualifier() {
+                return number;
+            }
+            number = record.of;
+        }
+        0
+    }
+
+    /// The types that are told of symbols.
+    pub fn symbol_roots(&self) -> Vec<u32> {
+        let told = self.functions.iter().flatten().flat_map(Record::references);
+        self.objects.iter().copied().chain(told).filter(|&n| n != 0).collect()
+    }
+
+    /// For each number, 0 too, whether one of some leads to it.
+    pub fn reached(&self, roots: impl IntoIterator<Item = u32>) -> Vec<bool> {
+        let mut seen = vec![false; self.records.len() + 1];
+        let mut todo: Vec<u32> = roots.into_iter().filter(|&root| root != 0).collect();
+        while let Some(number) = todo.pop() {
+            if !std::mem::replace(&mut seen[number as usize], true) {
+                todo.extend(self.get(number).references().filter(|&n| n != 0 && !seen[n as usize]));
+            }
+        }
+        seen
+    }
+
+    /// Keeps these types in this order; each reference, symbols' too, becomes what `to` says. Of a
+    /// function is told nothing where a type in it is left out.
+    pub fn choose(&mut self, order: &[u32], to: &[u32]) {
+        let to = |n: u32| to[n as usize];
+        let mut old: Vec<Option<Record>> = self.records.drain(..).map(Some).collect();
+        for &number in order {
+            let mut record = old[number as usize - 1].take().expect("a number stands here once");
+            record.renumber(to);
+            self.records.push(record);
+        }
+        self.objects.iter_mut().for_each(|n| *n = to(*n));
+        for told in &mut self.functions {
+            if let Some(function) = told {
+                if function.references().any(|n| n != 0 && to(n) == 0) {
+                    *told = None;
+                } else {
+                    function.renumber(to);
+                }
+            }
+        }
+    }
+
+    /// Keeps these types alone; what named another names 0.
+    pub fn keep(&mut self, order: &[u32]) {
+        let mut to = vec![0; self.records.len() + 1];
+        for (place, &number) in order.iter().enumerate() {
+            to[number as usize] = place as u32 + 1;
+        }
+        self.choose(order, &to);
+    }
+}
