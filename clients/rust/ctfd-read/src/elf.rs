@@ -2,10 +2,12 @@
 
 use crate::error::{refuse, Result};
 use flate2::Crc;
-use crate::image::{Elf, ElfSection, Image};
-use object::read::elf::{FileHeader, SectionHeader};
+use crate::bytes::Names;
+use crate::image::{Data, Elf, ElfSection, Image};
+use crate::symbols::{Symbol, SymbolTable, Symbols};
+use object::read::elf::{FileHeader, SectionHeader, Sym as _};
 use object::{elf, Endianness, Object, ObjectKind, ObjectSection, ObjectSymbol, RelocationTarget};
-use object::{RelocationKind, SymbolFlags, SymbolSection};
+use object::{RelocationKind, SectionIndex, SymbolSection};
 use std::borrow::Cow;
 use std::path::{Path, PathBuf};
 
@@ -20,12 +22,26 @@ pub fn has_debug(file: &Elf<'_>) -> bool {
         .is_some_and(|one| matches!(one.file_range(), Some((_, size)) if size > 0))
 }
 
-/// The file that has the debug information of another: None where that has it itself. It is looked
+/// Where the debug information of a file is: in a file of its own, or in the file itself.
+pub struct DebugFile {
+    /// The file that has it, where that is another.
+    pub debug: Option<Image>,
+}
+
+/// The bytes of a section of a name; none where it is not there.
+pub fn section_bytes<'a>(image: &'a Image, name: &str) -> Result<&'a [u8]> {
+    match image.elf()?.section_by_name(name) {
+        Some(section) => Ok(section.data()?),
+        None => Ok(&[]),
+    }
+}
+
+/// The file that has the debug information of another: none where that has it itself. It is looked
 /// for as gdb does: by the build id, then by the name in .gnu_debuglink, whose check sum must fit.
-pub fn debug_file(image: &Image, folders: &[PathBuf]) -> Result<Option<Image>> {
+pub fn debug_file(image: &Image, folders: &[PathBuf]) -> Result<DebugFile> {
     let file = image.elf()?;
     if has_debug(&file) {
-        return Ok(None);
+        return Ok(DebugFile { debug: None });
     }
     let build = file.build_id()?.unwrap_or_default();
     let (link, sum) = file.gnu_debuglink()?.unwrap_or_default();
@@ -43,15 +59,27 @@ pub fn debug_file(image: &Image, folders: &[PathBuf]) -> Result<Option<Image>> {
         tried.extend(folders().map(|folder| folder.join(inner).join(link)));
     }
     for path in &tried {
-        let Ok(found) = Image::open(path) else { continue };
-        let Ok(other) = found.elf() else { continue };
-        let is_build = !build.is_empty() && other.build_id()? == Some(build);
-        if has_debug(&other) && (is_build || found.crc()? == sum) {
-            return Ok(Some(found));
+        let Some(found) = Image::linked(path) else { continue };
+        let is_debug = match found.elf() {
+            Ok(other) if has_debug(&other) => {
+                let is_build = !build.is_empty() && other.build_id().ok().flatten() == Some(build);
+                is_build || found.crc()? == sum
+            }
+            _ => false,
+        };
+        if is_debug {
+            return Ok(DebugFile { debug: Some(found) });
         }
     }
     let looked: Vec<String> = tried.iter().map(|path| path.display().to_string()).collect();
-    refuse(format!("it has no debug information; no debug file is at {}", looked.join(" or ")))
+    let place = match looked.is_empty() {
+        true => String::new(),
+        false => format!("; no debug file is at {}", looked.join(" or ")),
+    };
+    refuse(format!(
+        "it has no debug information{place}: compile it with -g, or install the debug symbols of \
+         its package"
+    ))
 }
 
 /// The file that `dwz -m` moved common parts to, where a file names one.
@@ -66,7 +94,7 @@ pub fn alternate_file(image: &Image, folders: &[PathBuf]) -> Result<Option<Image
         tried.extend(folders.map(|folder| by_build_id(folder, build)));
     }
     for path in &tried {
-        let Ok(found) = Image::open(path) else { continue };
+        let Some(found) = Image::linked(path) else { continue };
         if found.elf().ok().and_then(|other| other.build_id().ok().flatten()) == Some(build) {
             return Ok(Some(found));
         }
@@ -155,45 +183,118 @@ fn places(file: &Elf<'_>) -> Vec<u64> {
     made
 }
 
-/// A symbol of which a dictionary can tell something.
-pub struct Symbol<'a> {
-    pub name: &'a [u8],
-    pub address: u64,
-    pub is_function: bool,
+/// A symbol table of an ELF file, and the names that go with it.
+struct RawTable<'a> {
+    /// By number in the table: the place of the name, the address, the kind and the section.
+    entries: Vec<(u32, u64, u8, u16)>,
+    names: Names<'a>,
 }
 
-/// The functions and objects of .symtab, in the order in which a dictionary tells of them.
-pub fn symbols<'a>(file: &Elf<'a>) -> Result<Vec<Symbol<'a>>> {
-    let places = places(file);
-    let mut made = Vec::new();
-    for one in file.symbols() {
-        let SymbolFlags::Elf { st_info, .. } = one.flags() else { continue };
-        let is_function = st_info & 15 == elf::STT_FUNC;
-        if !is_function && st_info & 15 != elf::STT_OBJECT || one.is_undefined() {
+/// The names of all symbols together may overlap: they are read for so many bytes for each of the
+/// table's.
+const MOST_TIMES: u64 = 64;
+
+/// A symbol table of a file; None where it has none of that name with bytes in the file.
+fn raw_table<'a, F>(data: Data<'a>, name: &str) -> Result<Option<RawTable<'a>>>
+where
+    F: FileHeader<Endian = Endianness>,
+{
+    let header = F::parse(data)?;
+    let endian = header.endian()?;
+    let sections = header.sections(endian, data)?;
+    let Some((_, section)) = sections.section_by_name(endian, name.as_bytes()) else {
+        return Ok(None);
+    };
+    let Ok(strings) = sections.section(SectionIndex(section.sh_link(endian) as usize)) else {
+        return Ok(None);
+    };
+    if section.sh_type(endian) == elf::SHT_NOBITS {
+        return Ok(None);
+    }
+    let listed: &[F::Sym] = section.data_as_array(endian, data)?;
+    let entry = |one: &F::Sym| {
+        (one.st_name(endian), one.st_value(endian).into(), one.st_type(), one.st_shndx(endian))
+    };
+    let names = Names(strings.data(endian, data)?);
+    Ok(Some(RawTable { entries: listed.iter().map(entry).collect(), names }))
+}
+
+/// The functions and objects of a table, in the order in which a dictionary tells of them; None
+/// where the file has no such table.
+pub fn symbols_of<'a>(image: &'a Image, table: SymbolTable) -> Result<Option<Symbols<'a>>> {
+    let file = image.elf()?;
+    let data = image.data();
+    let raw = if file.is_64() {
+        raw_table::<elf::FileHeader64<Endianness>>(data, table.word())?
+    } else {
+        raw_table::<elf::FileHeader32<Endianness>>(data, table.word())?
+    };
+    let Some(raw) = raw else { return Ok(None) };
+    let places = places(&file);
+    let mut left = MOST_TIMES * (raw.names.0.len() + 24 * raw.entries.len()) as u64;
+    let mut listed = Vec::new();
+    for (place, address, kind, section) in raw.entries {
+        let is_function = kind == elf::STT_FUNC;
+        if !is_function && kind != elf::STT_OBJECT || section == elf::SHN_UNDEF || place == 0 {
             continue;
         }
-        let name = one.name_bytes()?;
-        let section = one.section();
-        let is_nothing = !is_function && section == SymbolSection::Absolute && one.address() == 0;
+        let name = raw.names.at(place.into());
+        let name = name.filter(|name| {
+            left = left.saturating_sub(name.len() as u64);
+            left != 0
+        });
+        let Some(name) = name else {
+            return refuse(format!("the names of {} are damaged", table.word()));
+        };
+        let is_nothing = !is_function && section == elf::SHN_ABS && address == 0;
         if name.is_empty() || name == b"_START_" || name == b"_END_" || is_nothing {
             continue;
         }
-        let place = match section {
-            SymbolSection::Section(index) => places.get(index.0).copied().unwrap_or(0),
-            _ => 0,
-        };
-        made.push(Symbol { name, address: one.address() + place, is_function });
+        let put = places.get(usize::from(section)).copied().unwrap_or(0);
+        let address = address.wrapping_add(put);
+        listed.push(Symbol { name: Cow::Borrowed(name), address, is_function });
     }
-    Ok(made)
+    Ok(Some(Symbols { table, listed }))
 }
 
-/// The symbol table and its strings as the library takes them: tables of 64 bits alone.
-pub fn symbol_table<'a>(image: &'a Image) -> Option<(&'a [u8], &'a [u8])> {
+/// A symbol table and its strings as the library takes them: tables of 64 bits alone.
+pub fn symbol_lists<'a>(image: &'a Image, table: SymbolTable) -> Option<(&'a [u8], &'a [u8])> {
     let data = image.data();
     let header = elf::FileHeader64::<Endianness>::parse(data).ok()?;
     let endian = header.endian().ok()?;
     let sections = header.sections(endian, data).ok()?;
-    let (_, table) = sections.section_by_name(endian, b".symtab")?;
-    let strings = sections.section(object::SectionIndex(table.sh_link(endian) as usize)).ok()?;
-    Some((table.data(endian, data).ok()?, strings.data(endian, data).ok()?))
+    let (_, section) = sections.section_by_name(endian, table.word().as_bytes())?;
+    let strings = sections.section(SectionIndex(section.sh_link(endian) as usize)).ok()?;
+    Some((section.data(endian, data).ok()?, strings.data(endian, data).ok()?))
+}
+
+/// The strings that go with a section of types: those that its link names, or that of the symbols
+/// which it names; else `.strtab`.
+pub fn linked_strings<'a>(image: &'a Image, name: &str) -> Result<&'a [u8]> {
+    if image.elf()?.is_64() {
+        strings_of::<elf::FileHeader64<Endianness>>(image.data(), name)
+    } else {
+        strings_of::<elf::FileHeader32<Endianness>>(image.data(), name)
+    }
+}
+
+fn strings_of<'a, F: FileHeader<Endian = Endianness>>(data: Data<'a>, name: &str) -> Result<&'a [u8]> {
+    let header = F::parse(data)?;
+    let endian = header.endian()?;
+    let sections = header.sections(endian, data)?;
+    let numbered = |number: u32| sections.section(SectionIndex(number as usize)).ok();
+    let of_name = |name: &str| sections.section_by_name(endian, name.as_bytes());
+    let mut found = of_name(name)
+        .map(|(_, section)| section.sh_link(endian))
+        .filter(|&link| link != 0)
+        .and_then(numbered);
+    if let Some(table) = found {
+        if matches!(table.sh_type(endian), elf::SHT_SYMTAB | elf::SHT_DYNSYM) {
+            found = numbered(table.sh_link(endian));
+        }
+    }
+    match found.or_else(|| of_name(".strtab").map(|(_, section)| section)) {
+        Some(section) => Ok(section.data(endian, data)?),
+        None => Ok(&[]),
+    }
 }

@@ -1,7 +1,7 @@
 //! Files that are read: as much of them as is asked for. None is mapped, since somebody may cut a
 //! file while it is read.
 
-use crate::error::{refuse, Result};
+use crate::error::{refuse, Error, Result};
 use flate2::Crc;
 use object::read::{ReadCache, ReadRef};
 use std::fs::File;
@@ -39,8 +39,14 @@ impl Image {
             if kind.is_file() {
                 return Ok(Box::new(File::open(path)?));
             }
+            if kind.is_dir() {
+                return refuse("it is a folder");
+            }
             if !is_pipe(&kind) {
-                return refuse("is no regular file");
+                return refuse(
+                    "it is no file with contents of its own, but a device or the like, which is not \
+                     read",
+                );
             }
             let mut bytes = Vec::new();
             File::open(path)?.take(LONGEST_PIPE).read_to_end(&mut bytes)?;
@@ -54,6 +60,18 @@ impl Image {
     pub fn linked(path: &Path) -> Option<Image> {
         let is_file = std::fs::metadata(path).is_ok_and(|about| about.is_file());
         is_file.then(|| Image::open(path).ok()).flatten()
+    }
+
+    /// Bytes that are no file of their own, as a member of an archive.
+    pub fn of_bytes(path: PathBuf, bytes: Vec<u8>) -> Image {
+        Image { path, cache: ReadCache::new(Box::new(Cursor::new(bytes))) }
+    }
+
+    /// All its bytes.
+    pub fn all(&self) -> Result<&[u8]> {
+        let data = self.data();
+        let length = data.len().map_err(|()| Error("can't be read".to_owned()))?;
+        data.read_bytes_at(0, length).map_err(|()| Error("can't be read".to_owned()))
     }
 
     /// Where the file is.
@@ -75,7 +93,9 @@ impl Image {
     pub fn elf(&self) -> Result<Elf<'_>> {
         let file = object::File::parse(self.data())?;
         if !object::Object::is_little_endian(&file) {
-            return refuse("is a big-endian file, which is not read");
+            return refuse(
+                "a big-endian ELF file, which is not read: take a little-endian build of the program",
+            );
         }
         Ok(file)
     }

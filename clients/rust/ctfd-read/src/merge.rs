@@ -17,9 +17,13 @@ fn tag(record: &Record<'_>) -> Tag {
 }
 
 /// Keeps each type once, in the order of their first copies. A forward is the struct, union or enum
-/// of its tag where the table has just one.
-pub fn merge(table: &mut Table<'_>) {
+/// of its tag where the table has just one. The first `fixed` types, those of a parent, all stay as
+/// they are.
+pub fn merge(table: &mut Table<'_>, fixed: u32) {
     let mut resolved = whole(table);
+    for number in 1..=fixed {
+        resolved[number as usize] = number;
+    }
     let colors = (0..=MOST_ROUNDS)
         .rev()
         .find_map(|left| {
@@ -39,8 +43,8 @@ pub fn merge(table: &mut Table<'_>) {
             None
         })
         .expect("in the last round no forward is resolved");
-    one_of_each(table, &colors, &resolved);
-    name_once(table);
+    one_of_each(table, &colors, &resolved, fixed);
+    name_once(table, fixed);
 }
 
 /// For each type itself, but for a forward the first type of its tag that is declared in full.
@@ -171,25 +175,29 @@ fn fall_apart(
     }
 }
 
-fn one_of_each(table: &mut Table<'_>, colors: &[u32], resolved: &[u32]) {
+fn one_of_each(table: &mut Table<'_>, colors: &[u32], resolved: &[u32], fixed: u32) {
     let mut first: HashMap<u32, u32> = HashMap::from([(colors[0], 0)]);
     let mut order = Vec::new();
     for number in 1..=table.len() {
         let place = number as usize;
-        if resolved[place] == number && !first.contains_key(&colors[place]) {
+        let is_new = resolved[place] == number && !first.contains_key(&colors[place]);
+        if is_new || number <= fixed {
             order.push(number);
-            first.insert(colors[place], order.len() as u32);
+            first.entry(colors[place]).or_insert(order.len() as u32);
         }
     }
     let to: Vec<u32> =
         resolved.iter().map(|&n| first[&colors[n as usize]]).collect();
+    // Those of a parent stay as they are, whatever they name.
+    let parents: Vec<Record<'_>> = table.records[..fixed as usize].to_vec();
     table.choose(&order, &to);
+    table.records.splice(..fixed as usize, parents);
 }
 
 /// Of several types of a name the first that is declared in full is found by it.
-fn name_once(table: &mut Table<'_>) {
+pub fn name_once(table: &mut Table<'_>, fixed: u32) {
     let mut best: HashMap<Tag, usize> = HashMap::new();
-    for place in 0..table.records.len() {
+    for place in fixed as usize..table.records.len() {
         let record = &table.records[place];
         if record.name.is_empty() || !record.root {
             continue;

@@ -6,8 +6,13 @@ use std::collections::HashMap;
 
 const MAGIC: u16 = 0xcff1;
 const VERSION: u8 = 2;
-const LONG_MEMBERS: u64 = 8192;
-const LONG_SIZE: u64 = 0xffff;
+/// Structs and unions of so many bytes or more have members in the long form.
+pub const LONG_MEMBERS: u64 = 8192;
+/// Stands in the field of a record whose size does not fit it.
+pub const LONG_SIZE: u64 = 0xffff;
+/// The number from which on a child's types are its own.
+const CHILD: u32 = 0x8000;
+/// How many types a dictionary has at most.
 pub const MOST_TYPES: u32 = 32_766;
 
 /// Bytes that are appended to, little-endian.
@@ -59,26 +64,32 @@ impl<'t> Names<'t> {
     }
 }
 
-/// The section of a table, with labels that cover all of its types.
-pub fn encoded(table: &Table<'_>, labels: &[String]) -> Result<Vec<u8>> {
-    if table.len() > MOST_TYPES {
-        return refuse(format!("{} types are more than the {MOST_TYPES} of a dictionary", table.len()));
+/// The section of a table. One whose `parent_name` is not empty is a child: the first `bases` types
+/// of the table are then those of its parent, and are not written.
+pub fn encoded(table: &Table<'_>) -> Result<Vec<u8>> {
+    let is_child = !table.parent_name.is_empty();
+    let bases = if is_child { table.bases } else { 0 };
+    if table.len() - bases > MOST_TYPES {
+        let count = table.len() - bases;
+        return refuse(format!("{count} types are more than the {MOST_TYPES} of a dictionary"));
     }
+    let number = |n: u32| if is_child && n > bases { n - bases + CHILD } else { n };
     let mut names = Names { bytes: vec![0], known: HashMap::new() };
+    let (parent, label) = (names.place(&table.parent_name), names.place(&table.parent_label));
     let mut types = Bytes::default();
-    for record in &table.records {
-        write(record, &mut names, &mut types)?;
+    for record in &table.records[bases as usize..] {
+        write(record, &number, &mut names, &mut types)?;
     }
     let mut objects = Bytes::default();
-    table.objects.iter().for_each(|&n| objects.half(n.into()));
+    table.objects.iter().for_each(|&n| objects.half(number(n).into()));
     let mut functions = Bytes::default();
     for one in &table.functions {
         match one {
             None => functions.half(0),
             Some(function) => {
-                let listed = arguments(function);
+                let listed = arguments(function, &number);
                 functions.half((Kind::Function as u64) << 11 | 1 << 10 | listed.len() as u64);
-                functions.half(function.of.into());
+                functions.half(number(function.of).into());
                 listed.into_iter().for_each(|n| functions.half(n));
             }
         }
@@ -86,37 +97,43 @@ pub fn encoded(table: &Table<'_>, labels: &[String]) -> Result<Vec<u8>> {
     while (objects.0.len() + functions.0.len()) % 4 != 0 {
         functions.0.push(0);
     }
-    let mut told = Bytes::default();
-    for label in labels {
-        told.word(names.append(label.as_bytes()));
-        told.word(table.len().into());
+    let mut labels = Bytes::default();
+    for (label, last) in &table.labels {
+        labels.word(names.append(label));
+        labels.word(number(*last).into());
     }
     let mut made = Bytes::default();
     made.half(MAGIC.into());
     made.0.extend([VERSION, 0]);
-    made.two(0); // no parent, and no label of it
+    made.word(label);
+    made.word(parent);
     let mut end = 0;
     made.word(end);
-    for section in [&told, &objects, &functions, &types] {
+    for section in [&labels, &objects, &functions, &types] {
         end += section.0.len() as u64;
         made.word(end);
     }
     made.word(names.bytes.len() as u64);
-    let sections = [told.0, objects.0, functions.0, types.0, names.bytes];
+    let sections = [labels.0, objects.0, functions.0, types.0, names.bytes];
     made.0.extend(sections.concat());
     Ok(made.0)
 }
 
 /// The arguments; a 0 behind them says that more may follow.
-fn arguments(function: &Record<'_>) -> Vec<u64> {
-    let mut listed: Vec<u64> = function.arguments().iter().map(|&n| n.into()).collect();
+fn arguments(function: &Record<'_>, number: &impl Fn(u32) -> u32) -> Vec<u64> {
+    let mut listed: Vec<u64> = function.arguments().iter().map(|&n| number(n).into()).collect();
     listed.extend(function.varargs.then_some(0));
     listed
 }
 
 /// One record, in the long form where its size needs it.
-fn write<'t>(record: &'t Record<'_>, names: &mut Names<'t>, made: &mut Bytes) -> Result<()> {
-    let arguments = arguments(record);
+fn write<'t>(
+    record: &'t Record<'_>,
+    number: &impl Fn(u32) -> u32,
+    names: &mut Names<'t>,
+    made: &mut Bytes,
+) -> Result<()> {
+    let arguments = arguments(record, number);
     let length = match record.kind {
         Kind::Function => arguments.len(),
         _ => record.members().len() + record.values().len(),
@@ -126,7 +143,7 @@ fn write<'t>(record: &'t Record<'_>, names: &mut Names<'t>, made: &mut Bytes) ->
         Kind::Integer | Kind::Float | Kind::Array | Kind::Struct | Kind::Union | Kind::Enum => {
             record.size
         }
-        _ => record.of.into(),
+        _ => number(record.of).into(),
     };
     // The head stands in front, but its name comes behind those of members in the strings.
     let mut tail = Bytes::default();
@@ -139,8 +156,8 @@ fn write<'t>(record: &'t Record<'_>, names: &mut Names<'t>, made: &mut Bytes) ->
             tail.word(flags << 24 | offset << 16 | record.encoding.bits);
         }
         Kind::Array => {
-            tail.half(record.of.into());
-            tail.half(record.index.into());
+            tail.half(number(record.of).into());
+            tail.half(number(record.index).into());
             tail.word(record.elements);
         }
         Kind::Function => {
@@ -149,7 +166,7 @@ fn write<'t>(record: &'t Record<'_>, names: &mut Names<'t>, made: &mut Bytes) ->
                 tail.half(0);
             }
         }
-        Kind::Struct | Kind::Union => members(record, names, &mut tail)?,
+        Kind::Struct | Kind::Union => members(record, number, names, &mut tail)?,
         _ => {
             for one in record.values() {
                 tail.word(names.place(&one.name));
@@ -167,10 +184,15 @@ fn write<'t>(record: &'t Record<'_>, names: &mut Names<'t>, made: &mut Bytes) ->
     Ok(())
 }
 
-fn members<'t>(record: &'t Record<'_>, names: &mut Names<'t>, tail: &mut Bytes) -> Result<()> {
+fn members<'t>(
+    record: &'t Record<'_>,
+    number: &impl Fn(u32) -> u32,
+    names: &mut Names<'t>,
+    tail: &mut Bytes,
+) -> Result<()> {
     for one in record.members() {
         tail.word(names.place(&one.name));
-        tail.half(one.of.into());
+        tail.half(number(one.of).into());
         if record.size >= LONG_MEMBERS {
             tail.half(0);
             tail.two(one.offset);

@@ -1,114 +1,118 @@
-//! What debug information says of functions and objects, and which symbol it is said of.
+//! The symbols of which a dictionary can tell something, in the order in which it tells.
 
-use crate::elf::Symbol;
-use crate::table::{Name, Record};
-use std::collections::{HashMap, HashSet};
+use flate2::Crc;
+use std::borrow::Cow;
 
-/// What is said of a function or an object: the number of its type, or a function's record;
-/// `is_whole` where it is defined there and not just declared.
-pub struct Description<'a> {
-    pub of: u32,
-    pub function: Option<Record<'a>>,
-    pub is_whole: bool,
+/// The checksum's byte for an object, as ELF's `STT_OBJECT` is.
+const OBJECT: u8 = 1;
+/// That for a function.
+const FUNCTION: u8 = 2;
+/// Bytes of a symbol of ELF64, which is what the library takes.
+const ENTRY: usize = 24;
+
+/// Which symbols a dictionary's entries go by.
+#[derive(Clone, Copy, Debug, Default, PartialEq, Eq)]
+pub enum SymbolTable {
+    /// Those of `.symtab`.
+    #[default]
+    Symtab,
+    /// Those of `.dynsym`, which `strip` keeps.
+    Dynsym,
+    /// Those whose names the dictionary has itself.
+    Names,
 }
 
-/// What was said by a name, and by an address where there was one. A function that the compiler
-/// divided has `others` too, one of which may be where it begins. `is_own` says that no other file
-/// sees it, so that its name alone does not tell it.
-pub struct Statement<'a> {
-    pub name: Name<'a>,
-    pub place: Option<u64>,
-    pub said: Description<'a>,
-    pub others: Vec<u64>,
-    pub is_own: bool,
-}
-
-/// Whether anything is wanted of a name or an address.
-pub struct SymbolFilter<'w> {
-    names: HashSet<&'w [u8]>,
-    addresses: HashSet<u64>,
-}
-
-impl<'w> SymbolFilter<'w> {
-    pub fn new(wanted: &[Symbol<'w>]) -> SymbolFilter<'w> {
-        let whole = wanted.iter().map(|one| unversioned(one.name));
-        SymbolFilter {
-            names: whole.flat_map(|name| [name, bare(name)]).collect(),
-            addresses: wanted.iter().map(|one| one.address).collect(),
+impl SymbolTable {
+    /// The word for it in a dictionary's label, and the name of its section.
+    pub fn word(self) -> &'static str {
+        match self {
+            SymbolTable::Symtab => ".symtab",
+            SymbolTable::Dynsym => ".dynsym",
+            SymbolTable::Names => "names",
         }
     }
 
-    pub fn has(&self, name: &[u8], place: Option<u64>) -> bool {
-        self.names.contains(name) || place.is_some_and(|at| self.addresses.contains(&at))
+    /// The table of a word.
+    pub fn of_word(word: &str) -> Option<SymbolTable> {
+        [SymbolTable::Symtab, SymbolTable::Dynsym, SymbolTable::Names]
+            .into_iter()
+            .find(|table| table.word() == word)
     }
 }
 
-/// What was said so far.
-#[derive(Default)]
+/// A symbol: what the debug information says of it is looked for by name and address.
+#[derive(Clone, Debug, PartialEq, Eq)]
+pub struct Symbol<'a> {
+    /// Its name.
+    pub name: Cow<'a, [u8]>,
+    /// Its address in the file.
+    pub address: u64,
+    /// Whether it is a function; else it is an object.
+    pub is_function: bool,
+}
+
+/// The symbols that a dictionary's entries go by, of a table of its file, or of none.
+#[derive(Clone, Debug, Default)]
 pub struct Symbols<'a> {
-    said: Vec<Description<'a>>,
-    by_address: HashMap<u64, Vec<(Name<'a>, usize)>>,
-    by_part: HashMap<u64, Vec<(Name<'a>, usize)>>,
-    by_name: HashMap<Name<'a>, (usize, bool)>,
+    /// Where they are listed.
+    pub table: SymbolTable,
+    /// All of them, in the table's order.
+    pub listed: Vec<Symbol<'a>>,
+}
+
+/// What tells the symbols of a table from those of any other.
+#[derive(Clone, Copy, Debug, PartialEq, Eq)]
+pub struct Identity {
+    /// Where they are listed.
+    pub table: SymbolTable,
+    /// How many of them are objects.
+    pub objects: usize,
+    /// How many of them are functions.
+    pub functions: usize,
+    /// CRC-32 of a byte for the kind, the name and a zero for each, in their order.
+    pub checksum: u32,
 }
 
 impl<'a> Symbols<'a> {
-    /// Takes something in. By name what other files see wins, and a definition over declarations,
-    /// whatever comes first.
-    pub fn tell(&mut self, told: Statement<'a>) {
-        let place = self.said.len();
-        if let Some(at) = told.place {
-            self.by_address.entry(at).or_default().push((told.name.clone(), place));
-        }
-        for &other in &told.others {
-            self.by_part.entry(other).or_default().push((told.name.clone(), place));
-        }
-        let rank = (told.is_own, !told.said.is_whole);
-        let known = self.by_name.get(&told.name);
-        if known.is_none_or(|&(known, is_own)| rank < (is_own, !self.said[known].is_whole)) {
-            self.by_name.insert(told.name, (place, told.is_own));
-        }
-        self.said.push(told.said);
+    /// Those that are objects.
+    pub fn objects(&self) -> impl Iterator<Item = &Symbol<'a>> {
+        self.listed.iter().filter(|one| !one.is_function)
     }
 
-    /// What is told of a symbol: by name and address, else by one of these. In an object file many
-    /// have one address; in what is linked, what no other file sees is elsewhere.
-    pub fn said(&self, wanted: &Symbol<'_>, is_linked: bool) -> Option<&Description<'a>> {
-        let name = unversioned(wanted.name);
-        let named = |among: &HashMap<u64, Vec<(Name<'a>, usize)>>, name: &[u8]| {
-            let listed = among.get(&wanted.address)?;
-            listed.iter().find(|one| *one.0 == *name).map(|one| one.1)
-        };
-        let first = || self.by_address.get(&wanted.address).map(|listed| listed[0].1);
-        let by_name = || {
-            let &(place, is_own) = self.by_name.get(name)?;
-            (!(is_linked && is_own)).then_some(place)
-        };
-        let place = named(&self.by_address, name)
-            .or_else(|| named(&self.by_part, name))
-            .or_else(|| named(&self.by_address, bare(name)))
-            .or_else(|| is_linked.then(first).flatten())
-            .or_else(by_name)?;
-        let said = &self.said[place];
-        (said.function.is_some() == wanted.is_function).then_some(said)
+    /// Those that are functions.
+    pub fn functions(&self) -> impl Iterator<Item = &Symbol<'a>> {
+        self.listed.iter().filter(|one| one.is_function)
     }
-}
 
-fn unversioned(name: &[u8]) -> &[u8] {
-    name.split(|&byte| byte == b'@').next().unwrap_or(name)
-}
-
-/// A symbol's name without what the compiler marks by what is local: `.part.0`, `.lto_priv.3`.
-fn bare(name: &[u8]) -> &[u8] {
-    let is_word = |part: &[u8]| {
-        !part.is_empty() && part.iter().all(|&b| b == b'_' || b.is_ascii_alphanumeric())
-    };
-    let is_number = |part: &[u8]| !part.is_empty() && part.iter().all(u8::is_ascii_digit);
-    for (at, _) in name.iter().enumerate().filter(|(_, &byte)| byte == b'.') {
-        let mut parts = name[at + 1..].split(|&byte| byte == b'.');
-        if parts.next().is_some_and(is_word) && parts.all(is_number) {
-            return &name[..at];
+    /// What tells them from those of any other table.
+    pub fn identity(&self) -> Identity {
+        let mut crc = Crc::new();
+        for one in &self.listed {
+            crc.update(&[if one.is_function { FUNCTION } else { OBJECT }]);
+            crc.update(&one.name);
+            crc.update(&[0]);
+        }
+        let functions = self.functions().count();
+        Identity {
+            table: self.table,
+            objects: self.listed.len() - functions,
+            functions,
+            checksum: crc.sum(),
         }
     }
-    name
+
+    /// A table of ELF64 for symbols that no file has, and its names.
+    pub fn made_table(&self) -> (Vec<u8>, Vec<u8>) {
+        let (mut table, mut names) = (vec![0; ENTRY], vec![0]);
+        for one in &self.listed {
+            table.extend((names.len() as u32).to_le_bytes());
+            table.extend([if one.is_function { FUNCTION } else { OBJECT }, 0]);
+            table.extend(1u16.to_le_bytes());
+            table.extend(one.address.to_le_bytes());
+            table.extend([0; 8]);
+            names.extend(&*one.name);
+            names.push(0);
+        }
+        (table, names)
+    }
 }

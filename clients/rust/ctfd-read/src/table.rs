@@ -29,6 +29,43 @@ pub enum Kind {
 }
 
 impl Kind {
+    /// The kind of a number of the format.
+    pub fn of_number(number: u16) -> Option<Kind> {
+        Some(match number {
+            0 => Kind::Unknown,
+            1 => Kind::Integer,
+            2 => Kind::Float,
+            3 => Kind::Pointer,
+            4 => Kind::Array,
+            5 => Kind::Function,
+            6 => Kind::Struct,
+            7 => Kind::Union,
+            8 => Kind::Enum,
+            9 => Kind::Forward,
+            10 => Kind::Typedef,
+            11 => Kind::Volatile,
+            12 => Kind::Const,
+            13 => Kind::Restrict,
+            _ => return None,
+        })
+    }
+
+    /// Its name, as the service has it.
+    pub fn name(self) -> &'static str {
+        match self {
+            Kind::Unknown => "unknown",
+            Kind::Integer => "integer",
+            Kind::Float => "float",
+            Kind::Pointer => "pointer",
+            Kind::Array => "array",
+            Kind::Function => "function",
+            Kind::Forward => "forward",
+            Kind::Typedef => "typedef",
+            Kind::Atomic => "atomic",
+            tagged => tagged.word(),
+        }
+    }
+
     pub fn is_aggregate(self) -> bool {
         matches!(self, Kind::Struct | Kind::Union)
     }
@@ -221,13 +258,25 @@ fn is_same(one: &[u8], other: &[u8]) -> bool {
 
 /// Records with numbers from 1 on, and what is told of the symbols of which a dictionary can tell
 /// something, in their order. `losses` tells what of their source they do not say.
-#[derive(Default)]
+#[derive(Clone, Default)]
 pub struct Table<'a> {
     pub records: Vec<Record<'a>>,
     pub objects: Vec<u32>,
     pub functions: Vec<Option<Record<'a>>>,
     pub losses: Vec<String>,
     pub is_ilp32: bool,
+    /// Labels of a dictionary, each with the last number that it covers.
+    pub labels: Vec<(Name<'a>, u32)>,
+    /// How many types, the first, are those of its parent; unknown where it lacks that.
+    pub bases: u32,
+    /// The name of its parent; empty without one.
+    pub parent_name: Name<'a>,
+    /// The label of its parent.
+    pub parent_label: Name<'a>,
+    /// Whether it names types of a parent that is not there.
+    pub lacks_parent: bool,
+    /// Whether names of it stand in the strings of its ELF file.
+    pub has_outer_names: bool,
 }
 
 impl<'a> Table<'a> {
@@ -281,10 +330,14 @@ impl<'a> Table<'a> {
         seen
     }
 
-    /// Keeps these types in this order; each reference, symbols' too, becomes what `to` says. Of a
+    /// Keeps these types in this order, without labels and without a parent; each reference, symbols' too, becomes what `to` says. Of a
     /// function is told nothing where a type in it is left out.
     pub fn choose(&mut self, order: &[u32], to: &[u32]) {
         let to = |n: u32| to[n as usize];
+        self.labels.clear();
+        self.bases = 0;
+        self.parent_name = Cow::Borrowed(b"");
+        self.parent_label = Cow::Borrowed(b"");
         let mut old: Vec<Option<Record>> = self.records.drain(..).map(Some).collect();
         for &number in order {
             let mut record = old[number as usize - 1].take().expect("a number stands here once");

@@ -5,6 +5,7 @@
 
 mod convert;
 mod messages;
+mod output;
 
 use std::ffi::OsString;
 use std::path::Path;

@@ -15,7 +15,7 @@ pub fn warn(command: &str, line: impl Display) {
 }
 
 /// A name may hold anything, and a terminal obeys some of it.
-fn printable(letter: char) -> char {
+pub fn printable(letter: char) -> char {
     if letter.is_control() {
         char::REPLACEMENT_CHARACTER
     } else {

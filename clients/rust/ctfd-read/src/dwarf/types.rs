@@ -1,11 +1,11 @@
 //! The types of C in a program's debug information, as a table.
 
 use crate::dwarf::units::{scopes, Debug, Entry, Scope, Unit};
-use crate::elf::Symbol;
+use crate::symbols::{Symbol, Symbols};
 use crate::error::{refuse, Result};
 use crate::join::{NumberHasher, Joiner, Piece};
 use crate::table::{Enumerator, Kind, Encoding, Member, Parts, Record, Table};
-use crate::symbols::{SymbolFilter, Description, Symbols, Statement};
+use crate::descriptions::{Description, Descriptions, Statement, SymbolFilter};
 use gimli::{constants as dw, DwLang, DwTag, LittleEndian, Reader as _, UnitOffset};
 use rayon::prelude::*;
 use std::borrow::Cow;
@@ -22,12 +22,6 @@ const SIGNED: u8 = 1;
 const CHARACTER: u8 = 2;
 const BOOLEAN: u8 = 4;
 
-/// What a file has: its types, and those of them that are wanted for themselves.
-pub struct ProgramTypes<'a> {
-    pub table: Table<'a>,
-    pub roots: Vec<u32>,
-}
-
 /// What one unit tells.
 #[derive(Default)]
 struct UnitTypes<'a> {
@@ -43,65 +37,37 @@ enum Outcome<'a> {
     Nothing,
 }
 
-/// Reads all units of a program: many at a time, joined one after the other in their order.
-pub fn read<'a>(
-    debug: &Debug<'a>,
-    wanted: &[Symbol<'a>],
-    is_linked: bool,
-    is_ilp32: bool,
-) -> Result<ProgramTypes<'a>> {
-    let asked = SymbolFilter::new(wanted);
-    let imports = imports(debug)?;
-    let none = Vec::new();
-    let hear = |number: usize| -> Result<Outcome<'a>> {
-        let unit = debug.open(number)?;
-        let top = Entry::top(&unit)?;
-        if top.tag == dw::DW_TAG_partial_unit {
-            return Ok(Outcome::Nothing);
-        }
-        if top.has(dw::DW_AT_dwo_name) || top.has(dw::DW_AT_GNU_dwo_name) {
-            return refuse("its debug information is in .dwo files, which this sketch does not read");
-        }
-        match top.constant(dw::DW_AT_language).map(|said| DwLang(said as u16)) {
-            Some(dw::DW_LANG_Mips_Assembler) => return Ok(Outcome::Nothing),
-            Some(language) if !is_of_c(language) => return Ok(Outcome::Foreign(language)),
-            _ => {}
-        }
-        let mut reader = Reader::new(debug, &asked, is_ilp32);
-        reader.unit(&unit)?;
-        for &key in imports.get(&debug.start(number)).unwrap_or(&none) {
-            reader.unit(debug.unit_of(key)?)?;
-        }
-        let mut heard = reader.heard;
-        Ok(Outcome::OfC(Piece::new(std::mem::take(&mut heard.records)), heard))
-    };
-    let mut whole = Whole::default();
-    let numbers: Vec<usize> = (0..debug.units()).collect();
-    let mut ready: Vec<Result<Outcome>> = Vec::new();
-    for some in numbers.chunks(AT_ONCE).chain([&[][..]]) {
-        let before = std::mem::take(&mut ready);
-        let (next, joined) = rayon::join(
-            || some.par_iter().map(|&number| hear(number)).collect(),
-            || before.into_iter().try_for_each(|one| one.map(|one| whole.take(one))),
-        );
-        joined?;
-        ready = next;
-    }
-    whole.end(wanted, is_linked, is_ilp32)
-}
-
 /// What all units told so far.
 #[derive(Default)]
-struct Whole<'a> {
+pub struct Collector<'a> {
     joiner: Joiner<'a>,
-    symbols: Symbols<'a>,
+    symbols: Descriptions<'a>,
     roots: Vec<u32>,
     losses: Vec<String>,
     units: usize,
     foreign: BTreeMap<&'static str, usize>,
 }
 
-impl<'a> Whole<'a> {
+impl<'a> Collector<'a> {
+    /// Reads all units of a program: many at a time, joined one after the other in their order.
+    pub fn read(&mut self, debug: &Debug<'a>, wanted: &[Symbol<'a>], is_ilp32: bool) -> Result<()> {
+        let filter = SymbolFilter::new(wanted);
+        let imports = imports(debug)?;
+        let read = |number: usize| read_unit(debug, number, &filter, &imports, is_ilp32);
+        let numbers: Vec<usize> = (0..debug.units()).collect();
+        let mut ready: Vec<Result<Outcome>> = Vec::new();
+        for some in numbers.chunks(AT_ONCE).chain([&[][..]]) {
+            let before = std::mem::take(&mut ready);
+            let (next, joined) = rayon::join(
+                || some.par_iter().map(|&number| read(number)).collect(),
+                || before.into_iter().try_for_each(|one| one.map(|one| self.take(one))),
+            );
+            joined?;
+            ready = next;
+        }
+        Ok(())
+    }
+
     fn take(&mut self, outcome: Outcome<'a>) {
         match outcome {
             Outcome::Nothing => {}
@@ -124,7 +90,13 @@ impl<'a> Whole<'a> {
         }
     }
 
-    fn end(self, wanted: &[Symbol<'_>], is_linked: bool, is_ilp32: bool) -> Result<ProgramTypes<'a>> {
+    /// The table, with what is told of symbols, and the types that are wanted for themselves.
+    pub fn finish(
+        self,
+        wanted: &Symbols<'_>,
+        is_linked: bool,
+        is_ilp32: bool,
+    ) -> Result<(Table<'a>, Vec<u32>)> {
         let listed = self.foreign.iter().map(|(name, units)| format!("{units} units in {name}"));
         let listed: Vec<String> = listed.collect();
         if self.units == 0 && !listed.is_empty() {
@@ -132,7 +104,7 @@ impl<'a> Whole<'a> {
             return refuse(format!("its debug information is of {listed}: types of C alone are read"));
         }
         let mut table = self.joiner.table;
-        for one in wanted {
+        for one in &wanted.listed {
             let said = self.symbols.said(one, is_linked);
             if one.is_function {
                 table.functions.push(said.and_then(|said| said.function.clone()));
@@ -143,8 +115,38 @@ impl<'a> Whole<'a> {
         table.is_ilp32 = is_ilp32;
         table.losses = self.losses;
         table.losses.extend(listed.iter().map(|one| format!("{one}: left out")));
-        Ok(ProgramTypes { table, roots: self.roots })
+        Ok((table, self.roots))
     }
+}
+
+/// What a unit tells, and the units that it imports.
+fn read_unit<'a>(
+    debug: &Debug<'a>,
+    number: usize,
+    filter: &SymbolFilter<'_>,
+    imports: &HashMap<u64, Vec<u64>>,
+    is_ilp32: bool,
+) -> Result<Outcome<'a>> {
+    let unit = debug.open(number)?;
+    let top = Entry::top(&unit)?;
+    if top.tag == dw::DW_TAG_partial_unit {
+        return Ok(Outcome::Nothing);
+    }
+    if top.has(dw::DW_AT_dwo_name) || top.has(dw::DW_AT_GNU_dwo_name) {
+        return refuse("its debug information is in .dwo files, which are not read yet");
+    }
+    match top.constant(dw::DW_AT_language).map(|said| DwLang(said as u16)) {
+        Some(dw::DW_LANG_Mips_Assembler) => return Ok(Outcome::Nothing),
+        Some(language) if !is_of_c(language) => return Ok(Outcome::Foreign(language)),
+        _ => {}
+    }
+    let mut reader = Reader::new(debug, filter, is_ilp32);
+    reader.unit(&unit)?;
+    for &key in imports.get(&debug.start(number)).into_iter().flatten() {
+        reader.unit(debug.unit_of(key)?)?;
+    }
+    let mut heard = reader.heard;
+    Ok(Outcome::OfC(Piece::new(std::mem::take(&mut heard.records)), heard))
 }
 
 /// For each unit those that dwz made of what several have in common, and that it imports first.
@@ -657,41 +659,4 @@ fn location(member: &Entry<'_, '_>) -> Result<i128> {
         }
         _ => Ok(0),
     }
-}
-
-/// The types of the first unit that defines a struct, union, enum or typedef of a name: what that
-/// holds by value in full, and what it points to by name.
-pub fn one<'a>(debug: &Debug<'a>, kind: Kind, name: &[u8], is_ilp32: bool) -> Result<Option<ProgramTypes<'a>>> {
-    let asked = SymbolFilter::new(&[]);
-    let found = (0..debug.units()).into_par_iter().map(|number| -> Result<Option<ProgramTypes<'a>>> {
-        let unit = debug.open(number)?;
-        let Some(offset) = defined(debug, &unit, kind, name)? else { return Ok(None) };
-        let mut reader = Reader::new(debug, &asked, is_ilp32);
-        let root = reader.number(&unit, offset);
-        reader.finish()?;
-        let mut joiner = Joiner::default();
-        let to = joiner.join(Piece::new(std::mem::take(&mut reader.heard.records)));
-        let mut table = joiner.table;
-        table.is_ilp32 = is_ilp32;
-        Ok(Some(ProgramTypes { table, roots: vec![to[root as usize]] }))
-    });
-    found.find_map_first(Result::transpose).transpose()
-}
-
-/// Where a unit defines a type of a name.
-fn defined<'a>(
-    debug: &Debug<'a>,
-    unit: &Unit<'a>,
-    wanted: Kind,
-    name: &[u8],
-) -> Result<Option<UnitOffset>> {
-    for (offset, tag) in scopes(unit)?.into_iter().flat_map(|scope| scope.entries) {
-        if kind(tag) == wanted {
-            let entry = Entry::read(unit, offset)?;
-            if !entry.has(dw::DW_AT_declaration) && *debug.name(&entry)? == *name {
-                return Ok(Some(offset));
-            }
-        }
-    }
-    Ok(None)
 }

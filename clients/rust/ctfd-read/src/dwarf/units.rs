@@ -4,13 +4,14 @@
 //! and its place there.
 
 use crate::elf;
-use crate::image::Elf;
+use crate::image::Image;
 use crate::error::{refuse, Result};
 use gimli::{Abbreviation, AttributeValue, EndianSlice, LittleEndian, UnitHeader, UnitOffset};
 use gimli::{constants as dw, DwAt, DwForm, DwTag, SectionId, UnitType};
 use smallvec::SmallVec;
 use std::borrow::Cow;
 use std::collections::HashMap;
+use std::path::PathBuf;
 use std::sync::OnceLock;
 
 pub type Slice<'a> = EndianSlice<'a, LittleEndian>;
@@ -28,11 +29,20 @@ pub struct Sections<'a> {
 }
 
 impl<'a> Sections<'a> {
-    pub fn load(main: &Elf<'a>, alternate: Option<&Elf<'a>>) -> Result<Self> {
-        let load = |file: &Elf<'a>| {
-            gimli::Dwarf::load(|id: SectionId| elf::section(file, id.name()))
+    /// Those of a file, and of the common one that it names, which is looked for beside it and in
+    /// some folders.
+    pub fn load(image: &'a Image, folders: &[PathBuf]) -> Result<Self> {
+        let file = image.elf()?;
+        let main = gimli::Dwarf::load(|id: SectionId| elf::section(&file, id.name()))?;
+        let Some(common) = elf::alternate_file(image, folders)? else {
+            return Ok(Sections { main, alternate: None });
         };
-        Ok(Sections { main: load(main)?, alternate: alternate.map(load).transpose()? })
+        let file = common.elf()?;
+        let owned = |id: SectionId| -> Result<Cow<'a, [u8]>> {
+            Ok(Cow::Owned(elf::section(&file, id.name())?.into_owned()))
+        };
+        let alternate = Some(gimli::Dwarf::load(owned)?);
+        Ok(Sections { main, alternate })
     }
 }
 
