@@ -64,7 +64,7 @@ version = "0.1.0"
 edition = "2021"
 
 [dependencies]
-ctfd = { path = "$top/clients/rust" }
+ctfd = { path = "$top/clients/rust/ctfd" }
 END
 cat > "$work/own/src/main.rs" << 'END'
 fn main() -> Result<(), Box<dyn std::error::Error>> {

@@ -104,7 +104,8 @@ impl<'a> Section<'a> {
             return refuse(format!("is BTF of version {version}, and only 1 is known"));
         }
         let length = u64::from(head.word()?);
-        let [type_at, types, name_at, names] = [head.word()?, head.word()?, head.word()?, head.word()?];
+        let [type_at, types, name_at, names] =
+            [head.word()?, head.word()?, head.word()?, head.word()?];
         let of_body = |at: u32, count: u32| part(bytes, length + u64::from(at), count.into(), WHAT);
         let mut made = Btf { numbers: vec![0], ..Btf::default() };
         if let Some(base) = base {
@@ -176,7 +177,8 @@ impl<'a> Section<'a> {
     /// such type.
     fn number(&mut self, mut n: u32) -> Option<u32> {
         let mut passed = Vec::new();
-        while let Some(&next) = self.aliases.get(&n).filter(|_| passed.len() <= self.aliases.len()) {
+        while let Some(&next) = self.aliases.get(&n).filter(|_| passed.len() <= self.aliases.len())
+        {
             passed.push(n);
             n = next;
         }
@@ -239,9 +241,9 @@ impl<'a> Section<'a> {
             18 => return Ok(Entry::Alias(field)),
             _ => {
                 return refuse(format!(
-                    "has a type of kind {kind} of BTF, which is newer than this program: kinds 1 to \
+                "has a type of kind {kind} of BTF, which is newer than this program: kinds 1 to \
                      19 are read"
-                ))
+            ))
             }
         }
         Ok(Entry::Type(record))
@@ -280,7 +282,12 @@ impl<'a> Section<'a> {
         Ok(members.into())
     }
 
-    fn values(&mut self, count: u32, is_long: bool, is_signed: bool) -> Result<Box<[Enumerator<'a>]>> {
+    fn values(
+        &mut self,
+        count: u32,
+        is_long: bool,
+        is_signed: bool,
+    ) -> Result<Box<[Enumerator<'a>]>> {
         let mut values = Vec::new();
         for _ in 0..count {
             let (name, low) = (self.types.word()?, self.types.word()?);
@@ -289,7 +296,11 @@ impl<'a> Section<'a> {
                 (false, true) => i128::from(low as i32),
                 (true, _) => {
                     let value = u64::from(self.types.word()?) << 32 | u64::from(low);
-                    if is_signed { i128::from(value as i64) } else { i128::from(value) }
+                    if is_signed {
+                        i128::from(value as i64)
+                    } else {
+                        i128::from(value)
+                    }
                 }
             };
             values.push(Enumerator { name: self.name(name)?, value });

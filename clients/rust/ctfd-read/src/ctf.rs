@@ -5,7 +5,7 @@
 
 use crate::bytes::{part, Names, Reader};
 use crate::error::{refuse, Error, Result};
-use crate::section::{LONG_MEMBERS, LONG_SIZE, MOST_TYPES};
+use crate::section::{LONG_MEMBERS, LONG_SIZE};
 use crate::table::{Encoding, Enumerator, Kind, Member, Name, Parts, Record, Table};
 use flate2::{Decompress, FlushDecompress, Status};
 use object::endian::Endianness;
@@ -355,9 +355,4 @@ impl<'a> Section<'a> {
 /// The numbers of 16 bits that some bytes are.
 fn halves(bytes: &[u8]) -> impl Iterator<Item = u16> + '_ {
     bytes.chunks_exact(2).map(|half| u16::from_le_bytes([half[0], half[1]]))
-}
-
-/// Whether a dictionary may have so many types.
-pub fn holds(count: u32) -> bool {
-    count <= MOST_TYPES
 }

@@ -117,7 +117,11 @@ pub fn described<'a>(table: &mut Table<'a>, symbols: Symbols<'a>) -> Symbols<'a>
 }
 
 /// A child of a dictionary that is there.
-pub fn child<'a>(parent: Parent<'a>, table: Table<'a>, symbols: Symbols<'a>) -> Result<Dictionary<'a>> {
+pub fn child<'a>(
+    parent: Parent<'a>,
+    table: Table<'a>,
+    symbols: Symbols<'a>,
+) -> Result<Dictionary<'a>> {
     let mut made = over(parent.table, table, &parent.name, symbols);
     made.parent = Some(parent.ctf.to_vec());
     Ok(made)
@@ -202,7 +206,8 @@ pub fn split<'a>(
 
 fn parent_bytes(parent: &mut Table<'_>) -> Result<Vec<u8>> {
     let last = parent.len();
-    parent.labels = labels::of_model(parent.model()).map(|it| (Cow::Owned(it), last)).into_iter().collect();
+    parent.labels =
+        labels::of_model(parent.model()).map(|it| (Cow::Owned(it), last)).into_iter().collect();
     encoded(parent)
 }
 
@@ -318,7 +323,8 @@ pub fn report(path: &Path, form: Form, count: u32, made: &Dictionary<'_>) -> Vec
     kinds.sort_by_key(|&(_, count)| std::cmp::Reverse(count)); // a stable sort
     let model = labels::model_word(table.model());
     let name = String::from_utf8_lossy(&table.parent_name);
-    let over = if name.is_empty() { String::new() } else { format!(" over {} of {name}", table.bases) };
+    let over =
+        if name.is_empty() { String::new() } else { format!(" over {} of {name}", table.bases) };
     let mut lines = vec![
         format!("read: {}, {form}, {count} types, {model}", path.display()),
         format!("written: {} types{over}", own.len()),
@@ -359,6 +365,10 @@ pub fn counted(losses: &[String]) -> Vec<String> {
 impl Table<'_> {
     /// The data model of its program.
     pub fn model(&self) -> Model {
-        if self.is_ilp32 { Model::Ilp32 } else { Model::Lp64 }
+        if self.is_ilp32 {
+            Model::Ilp32
+        } else {
+            Model::Lp64
+        }
     }
 }

@@ -1,8 +1,7 @@
 //! ELF files: their sections, the files that have their debug information, and their symbols.
 
-use crate::error::{refuse, Result};
-use flate2::Crc;
 use crate::bytes::Names;
+use crate::error::{refuse, Result};
 use crate::image::{Data, Elf, ElfSection, Image};
 use crate::symbols::{Symbol, SymbolTable, Symbols};
 use object::read::elf::{FileHeader, SectionHeader, Sym as _};
@@ -105,12 +104,6 @@ pub fn alternate_file(image: &Image, folders: &[PathBuf]) -> Result<Option<Image
 fn by_build_id(folder: &Path, build: &[u8]) -> PathBuf {
     let digits: String = build.iter().map(|byte| format!("{byte:02x}")).collect();
     folder.join(".build-id").join(&digits[..2]).join(format!("{}.debug", &digits[2..]))
-}
-
-pub fn crc(bytes: &[u8]) -> u32 {
-    let mut crc = Crc::new();
-    crc.update(bytes);
-    crc.sum()
 }
 
 /// What the sections of a name hold, inflated and relocated; an object file may have more than one.
@@ -278,7 +271,10 @@ pub fn linked_strings<'a>(image: &'a Image, name: &str) -> Result<&'a [u8]> {
     }
 }
 
-fn strings_of<'a, F: FileHeader<Endian = Endianness>>(data: Data<'a>, name: &str) -> Result<&'a [u8]> {
+fn strings_of<'a, F: FileHeader<Endian = Endianness>>(
+    data: Data<'a>,
+    name: &str,
+) -> Result<&'a [u8]> {
     let header = F::parse(data)?;
     let endian = header.endian()?;
     let sections = header.sections(endian, data)?;

@@ -191,9 +191,8 @@ impl<'a> Dictionary<'a> {
             *field = u64::from(head.word()?);
         }
         let body = head.rest();
-        let between = |from: u64, to: u64| {
-            part(body, from, to.checked_sub(from).ok_or_else(damage)?, WHAT)
-        };
+        let between =
+            |from: u64, to: u64| part(body, from, to.checked_sub(from).ok_or_else(damage)?, WHAT);
         let parent = parent.filter(|_| fields[1] != 0).map(|parent| parent.own.clone());
         Ok(Dictionary {
             flags: bytes[3],
@@ -260,7 +259,8 @@ impl<'a> Dictionary<'a> {
     }
 
     fn listed(&self, types: &[u8], names: &[u8]) -> Result<Listed<'a>> {
-        let types = words(types).map(|n| self.number(n).ok_or_else(damage)).collect::<Result<_>>()?;
+        let types =
+            words(types).map(|n| self.number(n).ok_or_else(damage)).collect::<Result<_>>()?;
         let names = (!names.is_empty())
             .then(|| words(names).map(|one| self.name(one)).collect::<Result<_>>())
             .transpose()?;

@@ -71,7 +71,11 @@ impl<'a> Known<'a> {
         let by_place = self.by_place.get(&(key.clone(), one.address)).copied();
         let number = by_place.or_else(by_name).unwrap_or(0);
         let is_function = number != 0 && table.get(number).kind == Kind::Function;
-        if is_function == one.is_function { number } else { 0 }
+        if is_function == one.is_function {
+            number
+        } else {
+            0
+        }
     }
 
     /// Each name with its type, objects first.
@@ -98,7 +102,11 @@ pub struct FileSymbols<'a> {
 impl<'a> FileSymbols<'a> {
     /// One of them.
     pub fn of(&self, table: SymbolTable) -> &Symbols<'a> {
-        if table == SymbolTable::Dynsym { &self.dynsym } else { &self.symtab }
+        if table == SymbolTable::Dynsym {
+            &self.dynsym
+        } else {
+            &self.symtab
+        }
     }
 }
 
@@ -123,11 +131,13 @@ pub fn describe<'a>(
         Some(file) => of_file(&known, table, file.of(wanted)),
     };
     let of_kind = |is_function: bool| {
-        pairs.iter().filter(move |(one, _)| one.is_function == is_function).map(|&(_, number)| number)
+        pairs
+            .iter()
+            .filter(move |(one, _)| one.is_function == is_function)
+            .map(|&(_, number)| number)
     };
     table.objects = of_kind(false).collect();
-    table.functions =
-        of_kind(true).map(|n| (n != 0).then(|| table.get(n).clone())).collect();
+    table.functions = of_kind(true).map(|n| (n != 0).then(|| table.get(n).clone())).collect();
     let kept = pairs.iter().filter(|&&(_, number)| number != 0).map(|(one, _)| key(one)).collect();
     tell_losses(table, &known, &kept, file.is_some(), wanted);
     let listed = pairs.into_iter().map(|(one, _)| one).collect();
@@ -135,7 +145,11 @@ pub fn describe<'a>(
 }
 
 /// Each symbol of a table with its type. By its name alone one is known that no other has.
-fn of_file<'a>(known: &Known<'a>, table: &Table<'_>, symbols: &Symbols<'a>) -> Vec<(Symbol<'a>, u32)> {
+fn of_file<'a>(
+    known: &Known<'a>,
+    table: &Table<'_>,
+    symbols: &Symbols<'a>,
+) -> Vec<(Symbol<'a>, u32)> {
     let mut counts: HashMap<Key<'a>, usize> = HashMap::new();
     for one in &symbols.listed {
         *counts.entry(key(one)).or_default() += 1;

@@ -186,11 +186,7 @@ fn foreign(bytes: &[u8]) -> String {
 }
 
 /// The first of the forms that an ELF file has, or the one asked for; DWARF may be elsewhere.
-fn with_elf(
-    image: &Image,
-    options: &Options,
-    run: &mut Use<'_>,
-) -> Result<()> {
+fn with_elf(image: &Image, options: &Options, run: &mut Use<'_>) -> Result<()> {
     let path = image.path().display().to_string();
     let file = image.elf().map_err(|error| error.of(&path))?;
     let model = model_of(&file);
@@ -234,7 +230,11 @@ fn with_elf(
 }
 
 fn model_of(file: &crate::image::Elf<'_>) -> Model {
-    if file.is_64() { Model::Lp64 } else { Model::Ilp32 }
+    if file.is_64() {
+        Model::Lp64
+    } else {
+        Model::Ilp32
+    }
 }
 
 /// Whether dictionaries are those of the object files that a program was linked of, and its debug
@@ -304,11 +304,7 @@ fn has_short_longs(table: &Table<'_>) -> bool {
 
 // Debug information.
 
-fn with_dwarf(
-    image: &Image,
-    options: &Options,
-    run: &mut Use<'_>,
-) -> Result<()> {
+fn with_dwarf(image: &Image, options: &Options, run: &mut Use<'_>) -> Result<()> {
     let path = image.path().display().to_string();
     let files = elf::debug_file(image, &options.folders).map_err(|error| error.of(&path))?;
     let debug = files.debug.as_ref().unwrap_or(image);
@@ -330,10 +326,13 @@ fn with_dwarf(
         ));
     }
     let debug_path = debug.path().display().to_string();
-    let sections = units::Sections::load(debug, &options.folders).map_err(|error| error.of(&debug_path))?;
+    let sections =
+        units::Sections::load(debug, &options.folders).map_err(|error| error.of(&debug_path))?;
     let units = Debug::new(&sections).map_err(|error| error.of(&debug_path))?;
     let mut collector = Collector::default();
-    collector.read(&units, &symbols.listed, !file.is_64()).map_err(|error| error.of(&debug_path))?;
+    collector
+        .read(&units, &symbols.listed, !file.is_64())
+        .map_err(|error| error.of(&debug_path))?;
     let is_linked = file.kind() != ObjectKind::Relocatable;
     let (mut table, roots) =
         collector.finish(&symbols, is_linked, !file.is_64()).map_err(|error| error.of(&path))?;
@@ -369,12 +368,7 @@ fn note(image: &Image, symbols: &Symbols<'_>, debug: &Image) -> Result<String> {
 
 /// The types of all object files in an archive. Of symbols nothing is told: it has no table of them
 /// that a dictionary could go by.
-fn with_archive(
-    image: &Image,
-    data: &[u8],
-    options: &Options,
-    run: &mut Use<'_>,
-) -> Result<()> {
+fn with_archive(image: &Image, data: &[u8], options: &Options, run: &mut Use<'_>) -> Result<()> {
     let path = image.path();
     let members = members(path, data).map_err(|error| error.of(path.display()))?;
     let mut model = options.model;
@@ -410,9 +404,8 @@ fn with_archive(
         ));
     }
     let symbols = Symbols::default();
-    let (table, roots) = collector
-        .finish(&symbols, false, is_ilp32)
-        .map_err(|error| error.of(path.display()))?;
+    let (table, roots) =
+        collector.finish(&symbols, false, is_ilp32).map_err(|error| error.of(path.display()))?;
     let note = String::new();
     run(ProgramTypes { table, roots, bases: 0, form: Form::Dwarf, symbols, note })
 }
@@ -450,7 +443,8 @@ fn thin_members(path: &Path, data: &[u8]) -> Result<Vec<Image>> {
     while let Some(header) = data.get(at..at + MEMBER) {
         at += MEMBER;
         let name = std::str::from_utf8(&header[..16]).map_err(|_| damage())?.trim_end();
-        let size = std::str::from_utf8(&header[48..58]).ok().and_then(|size| size.trim().parse().ok());
+        let size =
+            std::str::from_utf8(&header[48..58]).ok().and_then(|size| size.trim().parse().ok());
         let size: usize = size.filter(|_| header[58..] == *b"`\n").ok_or_else(damage)?;
         if matches!(name, "/" | "/SYM64/" | "//") {
             let held = at.checked_add(size).and_then(|end| data.get(at..end)).ok_or_else(damage)?;
@@ -547,7 +541,8 @@ const LISTED: usize = 10;
 
 /// How many dictionaries there are, each with its number, its types and the first name of one.
 fn listed(found: &[&[u8]]) -> String {
-    let described = |(place, ctf): (usize, &&[u8])| format!("{} ({})", place + 1, described_by(ctf));
+    let described =
+        |(place, ctf): (usize, &&[u8])| format!("{} ({})", place + 1, described_by(ctf));
     let each: Vec<String> = found.iter().take(LISTED).enumerate().map(described).collect();
     let more = match found.len() {
         count if count > LISTED => format!(" and {} more", count - LISTED),
@@ -688,13 +683,12 @@ fn by_symbols(table: &mut Table<'_>, found: &btf::Btf<'_>, symbols: &Symbols<'_>
 
 /// What BTF tells of functions and variables of which it has the names alone.
 fn by_names<'a>(table: &mut Table<'a>, found: &btf::Btf<'a>) -> Symbols<'a> {
-    let objects: Vec<&btf::NamedSymbol<'a>> = found.objects.iter().filter(|one| one.of != 0).collect();
-    let functions: Vec<(&btf::NamedSymbol<'a>, Record<'a>)> = found
-        .functions
-        .iter()
-        .filter_map(|one| Some((one, prototype(table, one.of)?)))
-        .collect();
-    let symbol = |name: &Cow<'a, [u8]>, is_function| Symbol { name: name.clone(), address: 0, is_function };
+    let objects: Vec<&btf::NamedSymbol<'a>> =
+        found.objects.iter().filter(|one| one.of != 0).collect();
+    let functions: Vec<(&btf::NamedSymbol<'a>, Record<'a>)> =
+        found.functions.iter().filter_map(|one| Some((one, prototype(table, one.of)?))).collect();
+    let symbol =
+        |name: &Cow<'a, [u8]>, is_function| Symbol { name: name.clone(), address: 0, is_function };
     let listed = objects
         .iter()
         .map(|one| symbol(&one.name, false))
@@ -718,7 +712,8 @@ fn btf_of(path: &Path) -> Result<Vec<u8>> {
         let Some(section) = file.section_by_name(".BTF") else {
             return refuse(format!("{}: the base has no section .BTF", path.display()));
         };
-        let data = section.uncompressed_data().map_err(|error| Error::from(error).of(path.display()))?;
+        let data =
+            section.uncompressed_data().map_err(|error| Error::from(error).of(path.display()))?;
         return Ok(data.into_owned());
     }
     let data = image.all().map_err(|error| error.of(path.display()))?;

@@ -229,13 +229,7 @@ impl<'a> Joiner<'a> {
     }
 
     /// A type whose references are found.
-    fn of_record(
-        &self,
-        piece: &Piece<'a>,
-        number: u32,
-        found: &Found,
-        fresh: &mut Chains,
-    ) -> u32 {
+    fn of_record(&self, piece: &Piece<'a>, number: u32, found: &Found, fresh: &mut Chains) -> u32 {
         let record = piece.get(number);
         let of = |n: u32| found.is[n as usize];
         let hash = with_references(piece.shape(number), record.references().map(of));

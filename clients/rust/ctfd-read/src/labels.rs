@@ -39,13 +39,15 @@ fn text_behind<'a>(sections: &Sections<'a>, word: &str) -> Option<(&'a [u8], &'a
     if sections.names.last() != Some(&0) {
         return None;
     }
-    let listed = sections.labels.chunks_exact(8).map(|label| {
-        u32::from_le_bytes([label[0], label[1], label[2], label[3]])
-    });
+    let listed = sections
+        .labels
+        .chunks_exact(8)
+        .map(|label| u32::from_le_bytes([label[0], label[1], label[2], label[3]]));
     for place in listed {
-        let begins = sections.names.get(place as usize..).is_some_and(|text| {
-            text.starts_with(word.as_bytes())
-        });
+        let begins = sections
+            .names
+            .get(place as usize..)
+            .is_some_and(|text| text.starts_with(word.as_bytes()));
         if begins {
             let text = names.at(place.into())?;
             let behind = sections.names.get(place as usize + text.len() + 1..)?;

@@ -1,6 +1,6 @@
 //! What CTF of version 2 holds of a table, and what is told of the rest.
 
-use crate::table::{Kind, Encoding, Member, Name, Parts, Record, Table};
+use crate::table::{Encoding, Kind, Member, Name, Parts, Record, Table};
 use std::borrow::Cow;
 use std::collections::HashMap;
 

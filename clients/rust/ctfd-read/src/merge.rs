@@ -87,9 +87,12 @@ fn ambiguous(table: &Table<'_>, colors: &[u32], resolved: &[u32]) -> HashSet<Tag
 /// A color for each number, 0 too, that two have in common just where they are the same.
 fn colors(table: &Table<'_>, resolved: &[u32]) -> Vec<u32> {
     let mut references: Vec<Vec<u32>> = vec![Vec::new()];
-    references.extend(table.records.iter().map(|record| {
-        record.references().map(|n| resolved[n as usize]).collect()
-    }));
+    references.extend(
+        table
+            .records
+            .iter()
+            .map(|record| record.references().map(|n| resolved[n as usize]).collect()),
+    );
     let mut named_by = vec![Vec::new(); references.len()];
     for (number, named) in references.iter().enumerate() {
         named.iter().for_each(|&n| named_by[n as usize].push(number as u32));
@@ -186,8 +189,7 @@ fn one_of_each(table: &mut Table<'_>, colors: &[u32], resolved: &[u32], fixed: u
             first.entry(colors[place]).or_insert(order.len() as u32);
         }
     }
-    let to: Vec<u32> =
-        resolved.iter().map(|&n| first[&colors[n as usize]]).collect();
+    let to: Vec<u32> = resolved.iter().map(|&n| first[&colors[n as usize]]).collect();
     // Those of a parent stay as they are, whatever they name.
     let parents: Vec<Record<'_>> = table.records[..fixed as usize].to_vec();
     table.choose(&order, &to);
@@ -203,9 +205,7 @@ pub fn name_once(table: &mut Table<'_>, fixed: u32) {
             continue;
         }
         let key = match record.kind {
-            Kind::Typedef | Kind::Integer | Kind::Float => {
-                (Kind::Typedef, record.name.to_vec())
-            }
+            Kind::Typedef | Kind::Integer | Kind::Float => (Kind::Typedef, record.name.to_vec()),
             _ => tag(record),
         };
         let is_forward = record.kind == Kind::Forward;

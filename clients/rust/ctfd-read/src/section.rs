@@ -150,9 +150,13 @@ fn write<'t>(
     match record.kind {
         Kind::Integer | Kind::Float => {
             if record.encoding.bits > 0xffff {
-                return refuse(format!("{}: a width that no type of C has: damage", record.tagged()));
+                return refuse(format!(
+                    "{}: a width that no type of C has: damage",
+                    record.tagged()
+                ));
             }
-            let (flags, offset) = (u64::from(record.encoding.flags), u64::from(record.encoding.offset));
+            let (flags, offset) =
+                (u64::from(record.encoding.flags), u64::from(record.encoding.offset));
             tail.word(flags << 24 | offset << 16 | record.encoding.bits);
         }
         Kind::Array => {

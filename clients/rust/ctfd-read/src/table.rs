@@ -11,20 +11,35 @@ pub type Name<'a> = Cow<'a, [u8]>;
 #[derive(Clone, Copy, Debug, PartialEq, Eq, Hash)]
 #[repr(u8)]
 pub enum Kind {
+    /// One of which nothing is known.
     Unknown,
+    /// An integer.
     Integer,
+    /// A float.
     Float,
+    /// A pointer.
     Pointer,
+    /// An array.
     Array,
+    /// A function.
     Function,
+    /// A struct.
     Struct,
+    /// A union.
     Union,
+    /// An enum.
     Enum,
+    /// A declaration of a struct, union or enum.
     Forward,
+    /// A typedef.
     Typedef,
+    /// `volatile`.
     Volatile,
+    /// `const`.
     Const,
+    /// `restrict`.
     Restrict,
+    /// `_Atomic`, which the format has not.
     Atomic,
 }
 
@@ -66,10 +81,12 @@ impl Kind {
         }
     }
 
+    /// Whether it has members.
     pub fn is_aggregate(self) -> bool {
         matches!(self, Kind::Struct | Kind::Union)
     }
 
+    /// Whether it only qualifies another type.
     pub fn is_qualifier(self) -> bool {
         matches!(self, Kind::Volatile | Kind::Const | Kind::Restrict | Kind::Atomic)
     }
@@ -91,33 +108,47 @@ impl Kind {
 /// How an integer or a float encoding in its storage.
 #[derive(Clone, Copy, Debug, Default, PartialEq, Eq, Hash)]
 pub struct Encoding {
+    /// 1 for signed, 2 for a character, 4 for a boolean; of a float CTF's word for its encoding.
     pub flags: u8,
+    /// The bits in front of it.
     pub offset: u8,
+    /// Its width in bits.
     pub bits: u64,
 }
 
 /// A member; `offset` is in bits, and `width` that of a bit-field.
 #[derive(Clone, Debug, PartialEq, Eq, Hash)]
 pub struct Member<'a> {
+    /// Its name; empty without one.
     pub name: Name<'a>,
+    /// The number of the type that it names; 0 is none.
     pub of: u32,
+    /// Where it begins, in bits.
     pub offset: u64,
+    /// The width of a bit-field, in bits.
     pub width: Option<u64>,
 }
 
+/// A name that an enum gives to a value.
 #[derive(Clone, Debug, PartialEq, Eq, Hash)]
 pub struct Enumerator<'a> {
+    /// Its name; empty without one.
     pub name: Name<'a>,
+    /// Its value.
     pub value: i128,
 }
 
 /// The list behind a record.
 #[derive(Clone, Debug, Default, PartialEq, Eq, Hash)]
 pub enum Parts<'a> {
+    /// Nothing.
     #[default]
     None,
+    /// The types of a function's arguments.
     Arguments(Box<[u32]>),
+    /// The members of a struct or union.
     Members(Box<[Member<'a>]>),
+    /// The enumerators of an enum.
     Values(Box<[Enumerator<'a>]>),
 }
 
@@ -125,20 +156,32 @@ pub enum Parts<'a> {
 /// `tag` is what it declares. `root` says whether look-ups by name see it.
 #[derive(Clone, Debug, PartialEq, Eq, Hash)]
 pub struct Record<'a> {
+    /// What it is.
     pub kind: Kind,
+    /// What a forward declares; else its kind.
     pub tag: Kind,
+    /// Whether look-ups by name see it.
     pub root: bool,
+    /// Whether further arguments may follow.
     pub varargs: bool,
+    /// The number of the type that it names; 0 is none.
     pub of: u32,
+    /// The type by which an array is indexed.
     pub index: u32,
+    /// Its size in bytes, as far as it says that.
     pub size: u64,
+    /// How many elements an array has.
     pub elements: u64,
+    /// How an integer or a float lies in its storage.
     pub encoding: Encoding,
+    /// Its name; empty without one.
     pub name: Name<'a>,
+    /// Its members, enumerators or arguments.
     pub parts: Parts<'a>,
 }
 
 impl<'a> Record<'a> {
+    /// One of a kind and a name, with nothing else said.
     pub fn new(kind: Kind, name: Name<'a>) -> Record<'a> {
         Record {
             kind,
@@ -160,6 +203,7 @@ impl<'a> Record<'a> {
         Record::new(Kind::Unknown, Cow::Borrowed(b""))
     }
 
+    /// Its arguments; none where it is no function.
     pub fn arguments(&self) -> &[u32] {
         match &self.parts {
             Parts::Arguments(listed) => listed,
@@ -167,6 +211,7 @@ impl<'a> Record<'a> {
         }
     }
 
+    /// Its members; none where it has no such.
     pub fn members(&self) -> &[Member<'a>] {
         match &self.parts {
             Parts::Members(listed) => listed,
@@ -174,6 +219,7 @@ impl<'a> Record<'a> {
         }
     }
 
+    /// Its enumerators; none where it is no enum.
     pub fn values(&self) -> &[Enumerator<'a>] {
         match &self.parts {
             Parts::Values(listed) => listed,
@@ -260,10 +306,15 @@ fn is_same(one: &[u8], other: &[u8]) -> bool {
 /// something, in their order. `losses` tells what of their source they do not say.
 #[derive(Clone, Default)]
 pub struct Table<'a> {
+    /// The types, from number 1 on.
     pub records: Vec<Record<'a>>,
+    /// For each object that is considered its type; 0 where nothing is told of it.
     pub objects: Vec<u32>,
+    /// For each function that is considered its record; None where nothing is told of it.
     pub functions: Vec<Option<Record<'a>>>,
+    /// What of their source they do not say, a line each.
     pub losses: Vec<String>,
+    /// Whether pointers have 4 bytes; else they have 8.
     pub is_ilp32: bool,
     /// Labels of a dictionary, each with the last number that it covers.
     pub labels: Vec<(Name<'a>, u32)>,
@@ -280,18 +331,22 @@ pub struct Table<'a> {
 }
 
 impl<'a> Table<'a> {
+    /// The type of a number.
     pub fn get(&self, number: u32) -> &Record<'a> {
         &self.records[number as usize - 1]
     }
 
+    /// How many types there are.
     pub fn len(&self) -> u32 {
         self.records.len() as u32
     }
 
+    /// Whether there are none.
     pub fn is_empty(&self) -> bool {
         self.records.is_empty()
     }
 
+    /// A new type; its number.
     pub fn add(&mut self, record: Record<'a>) -> u32 {
         self.records.push(record);
         self.len()

@@ -68,9 +68,8 @@ impl Words {
                     "ilp32" => Model::Ilp32,
                     _ => Model::Lp64,
                 }),
-                form: word("from").and_then(|word| {
-                    Form::ALL.into_iter().find(|form| form.word() == word)
-                }),
+                form: word("from")
+                    .and_then(|word| Form::ALL.into_iter().find(|form| form.word() == word)),
                 base: path("base"),
                 folders: matches.get_many("debug-folder").unwrap_or_default().cloned().collect(),
                 number: matches.get_one("dictionary").copied(),
@@ -149,9 +148,11 @@ fn options() -> Command {
         .version(env!("CARGO_PKG_VERSION"))
         .about(ABOUT)
         .max_term_width(100)
-        .arg(path("IN").required(true).help(
-            "an ELF file, an archive of object files, or a section of BTF or CTF",
-        ))
+        .arg(
+            path("IN")
+                .required(true)
+                .help("an ELF file, an archive of object files, or a section of BTF or CTF"),
+        )
         .arg(path("OUT").required(true).help("the dictionary to write; - is standard output"));
     let reading = [
         word("from", &["ctf", "btf", "dwarf", "gnu"]).help("the form to read"),

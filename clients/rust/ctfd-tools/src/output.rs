@@ -93,9 +93,8 @@ pub fn add_section(input: &Path, bytes: &[u8], output: &Path) -> Result<()> {
                 let whole = fs::read(&copy.path).map_err(|error| error_of(&copy.path, &error))?;
                 write(output, &whole)?;
                 if !is_standard(output) && output.is_file() {
-                    let mode = fs::metadata(input).and_then(|about| {
-                        fs::set_permissions(output, about.permissions())
-                    });
+                    let mode = fs::metadata(input)
+                        .and_then(|about| fs::set_permissions(output, about.permissions()));
                     mode.map_err(|error| error_of(output, &error))?;
                 }
                 return Ok(());

@@ -82,7 +82,7 @@ impl<'b> Dictionary<'b> {
     /// files that are mapped. Lists that share bytes with each other are copied.
     ///
     /// ```
-    /// let bytes = std::fs::read("../../examples/lua.ctf").unwrap();
+    /// let bytes = std::fs::read("../../../examples/lua.ctf").unwrap();
     /// let types = ctfd::Dictionary::open_lent(&bytes, Default::default()).unwrap();
     /// assert!(types.find("struct lua_State").is_ok());
     /// ```
@@ -90,7 +90,7 @@ impl<'b> Dictionary<'b> {
     /// The bytes are borrowed for as long as the dictionary, or a child of it, is open:
     ///
     /// ```compile_fail,E0505
-    /// let bytes = std::fs::read("../../examples/lua.ctf").unwrap();
+    /// let bytes = std::fs::read("../../../examples/lua.ctf").unwrap();
     /// let types = ctfd::Dictionary::open_lent(&bytes, Default::default()).unwrap();
     /// drop(bytes);
     /// types.count();

@@ -5,7 +5,7 @@ use ctfd::{
 };
 use std::fs;
 
-const EXAMPLES: &str = concat!(env!("CARGO_MANIFEST_DIR"), "/../../examples");
+const EXAMPLES: &str = concat!(env!("CARGO_MANIFEST_DIR"), "/../../../examples");
 
 fn read(name: &str) -> Vec<u8> {
     fs::read(format!("{EXAMPLES}/{name}")).expect(name)

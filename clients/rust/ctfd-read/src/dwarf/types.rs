@@ -1,11 +1,11 @@
 //! The types of C in a program's debug information, as a table.
 
-use crate::dwarf::units::{scopes, Debug, Entry, Scope, Unit};
-use crate::symbols::{Symbol, Symbols};
-use crate::error::{refuse, Result};
-use crate::join::{NumberHasher, Joiner, Piece};
-use crate::table::{Enumerator, Kind, Encoding, Member, Parts, Record, Table};
 use crate::descriptions::{Description, Descriptions, Statement, SymbolFilter};
+use crate::dwarf::units::{scopes, Debug, Entry, Scope, Unit};
+use crate::error::{refuse, Result};
+use crate::join::{Joiner, NumberHasher, Piece};
+use crate::symbols::{Symbol, Symbols};
+use crate::table::{Encoding, Enumerator, Kind, Member, Parts, Record, Table};
 use gimli::{constants as dw, DwLang, DwTag, LittleEndian, Reader as _, UnitOffset};
 use rayon::prelude::*;
 use std::borrow::Cow;
@@ -101,7 +101,9 @@ impl<'a> Collector<'a> {
         let listed: Vec<String> = listed.collect();
         if self.units == 0 && !listed.is_empty() {
             let listed = listed.join(" and ");
-            return refuse(format!("its debug information is of {listed}: types of C alone are read"));
+            return refuse(format!(
+                "its debug information is of {listed}: types of C alone are read"
+            ));
         }
         let mut table = self.joiner.table;
         for one in &wanted.listed {
@@ -161,7 +163,8 @@ fn imports(debug: &Debug<'_>) -> Result<HashMap<u64, Vec<u64>>> {
         let top = Entry::top(&unit)?;
         Ok(top.tag == dw::DW_TAG_partial_unit)
     };
-    let partial: Vec<bool> = numbers.clone().into_par_iter().map(is_partial).collect::<Result<_>>()?;
+    let partial: Vec<bool> =
+        numbers.clone().into_par_iter().map(is_partial).collect::<Result<_>>()?;
     if !debug.has_alternate() && !partial.contains(&true) {
         return Ok(made);
     }
@@ -199,8 +202,13 @@ fn is_of_c(language: DwLang) -> bool {
     const C23: DwLang = DwLang(0x3e);
     matches!(
         language,
-        dw::DW_LANG_C89 | dw::DW_LANG_C | dw::DW_LANG_C99 | dw::DW_LANG_UPC | dw::DW_LANG_C11
-            | C17 | C23
+        dw::DW_LANG_C89
+            | dw::DW_LANG_C
+            | dw::DW_LANG_C99
+            | dw::DW_LANG_UPC
+            | dw::DW_LANG_C11
+            | C17
+            | C23
     )
 }
 
@@ -521,11 +529,7 @@ impl<'d, 'a> Reader<'d, 'a> {
         }
     }
 
-    fn subprogram(
-        &mut self,
-        entry: Entry<'d, 'a>,
-        scopes: &[Scope],
-    ) -> Result<()> {
+    fn subprogram(&mut self, entry: Entry<'d, 'a>, scopes: &[Scope]) -> Result<()> {
         let mut starts = self.debug.starts(&entry)?.into_iter();
         let place = starts.next();
         let chain = self.chain(entry)?;

@@ -4,10 +4,10 @@
 //! and its place there.
 
 use crate::elf;
-use crate::image::Image;
 use crate::error::{refuse, Result};
-use gimli::{Abbreviation, AttributeValue, EndianSlice, LittleEndian, UnitHeader, UnitOffset};
+use crate::image::Image;
 use gimli::{constants as dw, DwAt, DwForm, DwTag, SectionId, UnitType};
+use gimli::{Abbreviation, AttributeValue, EndianSlice, LittleEndian, UnitHeader, UnitOffset};
 use smallvec::SmallVec;
 use std::borrow::Cow;
 use std::collections::HashMap;
@@ -471,9 +471,8 @@ fn behind(
 /// Whether entries of a shape can be wanted: of variables those that may be objects, of enums those
 /// that name something.
 fn is_listed(shape: &Abbreviation) -> bool {
-    let form = |name: DwAt| {
-        shape.attributes().iter().find(|one| one.name() == name).map(|one| one.form())
-    };
+    let form =
+        |name: DwAt| shape.attributes().iter().find(|one| one.name() == name).map(|one| one.form());
     let has = |name: DwAt| form(name).is_some();
     match shape.tag() {
         dw::DW_TAG_structure_type
