@@ -4,8 +4,9 @@ use crate::btf;
 use crate::bytes::Names;
 use crate::ctf::{self, Sections};
 use crate::dictionary::described;
+use crate::dwarf::sections;
 use crate::dwarf::types::Collector;
-use crate::dwarf::units::{self, Debug};
+use crate::dwarf::units::Debug;
 use crate::elf;
 use crate::error::{refuse, Error, Result};
 use crate::gnu;
@@ -327,7 +328,7 @@ fn with_dwarf(image: &Image, options: &Options, run: &mut Use<'_>) -> Result<()>
     }
     let debug_path = debug.path().display().to_string();
     let sections =
-        units::Sections::load(debug, &options.folders).map_err(|error| error.of(&debug_path))?;
+        sections::Sections::load(debug, &options.folders).map_err(|error| error.of(&debug_path))?;
     let units = Debug::new(&sections).map_err(|error| error.of(&debug_path))?;
     let mut collector = Collector::default();
     collector
@@ -386,8 +387,8 @@ fn with_archive(image: &Image, data: &[u8], options: &Options, run: &mut Use<'_>
             ));
         }
         if elf::has_debug(&file) {
-            let sections =
-                units::Sections::load(member, &options.folders).map_err(|error| error.of(&name))?;
+            let sections = sections::Sections::load(member, &options.folders)
+                .map_err(|error| error.of(&name))?;
             with_debug.push((member, sections));
         }
     }

@@ -134,9 +134,6 @@ fn read_unit<'a>(
     if top.tag == dw::DW_TAG_partial_unit {
         return Ok(Outcome::Nothing);
     }
-    if top.has(dw::DW_AT_dwo_name) || top.has(dw::DW_AT_GNU_dwo_name) {
-        return refuse("its debug information is in .dwo files, which are not read yet");
-    }
     match top.constant(dw::DW_AT_language).map(|said| DwLang(said as u16)) {
         Some(dw::DW_LANG_Mips_Assembler) => return Ok(Outcome::Nothing),
         Some(language) if !is_of_c(language) => return Ok(Outcome::Foreign(language)),
@@ -165,7 +162,7 @@ fn imports(debug: &Debug<'_>) -> Result<HashMap<u64, Vec<u64>>> {
     };
     let partial: Vec<bool> =
         numbers.clone().into_par_iter().map(is_partial).collect::<Result<_>>()?;
-    if !debug.has_alternate() && !partial.contains(&true) {
+    if !debug.has_common() && !partial.contains(&true) {
         return Ok(made);
     }
     let whole = numbers.into_par_iter().filter(|&number| !partial[number]);
@@ -321,7 +318,8 @@ impl<'d, 'a> Reader<'d, 'a> {
             Kind::Integer => base(&entry, &mut made)?,
             Kind::Array => return self.array(&entry),
             Kind::Function => return self.function(&entry.children()?, &entry),
-            Kind::Unknown => {}
+            Kind::Unknown if entry.tag == dw::DW_TAG_unspecified_type => {}
+            Kind::Unknown => self.lost_tag(&entry, &made),
             _ => {
                 if kind != Kind::Typedef {
                     made.name = Cow::Borrowed(b"");
@@ -487,6 +485,16 @@ impl<'d, 'a> Reader<'d, 'a> {
         self.of(found.as_ref().unwrap_or(entry))
     }
 
+    fn lost_tag(&mut self, entry: &Entry<'d, 'a>, record: &Record<'a>) {
+        let name = String::from_utf8_lossy(&record.name);
+        let name = if name.is_empty() { String::new() } else { format!(" {name}") };
+        self.lost(&format!(
+            "a type{name} of tag 0x{:x} in the debug information, which is none of C: an unknown \
+             type stands in its place",
+            entry.tag.0
+        ));
+    }
+
     fn lost(&mut self, line: &str) {
         self.heard.losses.push(line.to_owned());
     }
@@ -602,7 +610,10 @@ fn kind(tag: DwTag) -> Kind {
         dw::DW_TAG_structure_type | dw::DW_TAG_class_type => Kind::Struct,
         dw::DW_TAG_union_type => Kind::Union,
         dw::DW_TAG_enumeration_type => Kind::Enum,
-        dw::DW_TAG_pointer_type => Kind::Pointer,
+        // gcc writes references in C too: what a block of OpenMP is handed.
+        dw::DW_TAG_pointer_type | dw::DW_TAG_reference_type | dw::DW_TAG_rvalue_reference_type => {
+            Kind::Pointer
+        }
         dw::DW_TAG_typedef => Kind::Typedef,
         dw::DW_TAG_const_type => Kind::Const,
         dw::DW_TAG_volatile_type => Kind::Volatile,

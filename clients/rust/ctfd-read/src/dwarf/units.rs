@@ -3,54 +3,32 @@
 //! Each entry of all files has a number of its own, its key: which file and which section it is in,
 //! and its place there.
 
-use crate::elf;
+use crate::dwarf::sections::{borrowed, dwo_id, Sections, Skeleton};
 use crate::error::{refuse, Result};
-use crate::image::Image;
-use gimli::{constants as dw, DwAt, DwForm, DwTag, SectionId, UnitType};
+use gimli::{constants as dw, DwAt, DwForm, DwTag, UnitType};
 use gimli::{Abbreviation, AttributeValue, EndianSlice, LittleEndian, UnitHeader, UnitOffset};
 use smallvec::SmallVec;
 use std::borrow::Cow;
-use std::collections::HashMap;
-use std::path::PathBuf;
+use std::collections::{HashMap, HashSet};
 use std::sync::OnceLock;
 
 pub type Slice<'a> = EndianSlice<'a, LittleEndian>;
 pub type Attribute<'a> = gimli::Attribute<Slice<'a>>;
-pub type OwnedSections<'a> = gimli::Dwarf<Cow<'a, [u8]>>;
 
-/// The bits of a key that say that an entry is in dwz's common file, and in .debug_types.
-const ALTERNATE: u64 = 1 << 63;
-const TYPES: u64 = 1 << 62;
-
-/// The sections of a file, and of dwz's common one if there is one.
-pub struct Sections<'a> {
-    main: OwnedSections<'a>,
-    alternate: Option<OwnedSections<'a>>,
-}
-
-impl<'a> Sections<'a> {
-    /// Those of a file, and of the common one that it names, which is looked for beside it and in
-    /// some folders.
-    pub fn load(image: &'a Image, folders: &[PathBuf]) -> Result<Self> {
-        let file = image.elf()?;
-        let main = gimli::Dwarf::load(|id: SectionId| elf::section(&file, id.name()))?;
-        let Some(common) = elf::alternate_file(image, folders)? else {
-            return Ok(Sections { main, alternate: None });
-        };
-        let file = common.elf()?;
-        let owned = |id: SectionId| -> Result<Cow<'a, [u8]>> {
-            Ok(Cow::Owned(elf::section(&file, id.name())?.into_owned()))
-        };
-        let alternate = Some(gimli::Dwarf::load(owned)?);
-        Ok(Sections { main, alternate })
-    }
-}
+/// From this bit on a key has the number of a file.
+const FILE: u32 = 40;
+/// The bit of a key that says that an entry is in .debug_types.
+const TYPES: u64 = 1 << (FILE - 1);
+/// The number of dwz's common file.
+const COMMON: u64 = 1;
 
 /// A unit that is not opened yet.
 struct Slot<'a> {
     header: UnitHeader<Slice<'a>>,
     start: u64,
     end: u64,
+    /// The start of the unit of the program that stands for this one, which is in a .dwo file.
+    skeleton: Option<u64>,
     opened: OnceLock<Result<Unit<'a>>>,
 }
 
@@ -63,7 +41,7 @@ pub struct Unit<'a> {
 
 impl Unit<'_> {
     fn file(&self) -> u64 {
-        self.start & ALTERNATE
+        self.start >> FILE
     }
 
     pub fn has(&self, key: u64) -> bool {
@@ -75,73 +53,150 @@ impl Unit<'_> {
     }
 }
 
-/// The debug information of a program with that of all files that it is spread over.
+/// The debug information of a program with that of all files that it is spread over: the program's
+/// own, dwz's common one, and those of .dwo files. `order` has the units that are read, in their
+/// order, as places among all, which stand by their keys.
 pub struct Debug<'a> {
-    main: gimli::Dwarf<Slice<'a>>,
-    alternate: Option<gimli::Dwarf<Slice<'a>>>,
+    files: Vec<gimli::Dwarf<Slice<'a>>>,
+    has_common: bool,
     slots: Vec<Slot<'a>>,
-    own: usize,
+    order: Vec<usize>,
     signatures: HashMap<u64, u64>,
 }
 
 impl<'a> Debug<'a> {
     pub fn new(sections: &'a Sections<'a>) -> Result<Debug<'a>> {
-        let borrow = |held: &'a OwnedSections<'a>| {
-            held.borrow(|section: &'a Cow<'a, [u8]>| EndianSlice::new(section, LittleEndian))
+        let main = borrowed(&sections.main);
+        let common = match &sections.common {
+            Some(common) => borrowed(common),
+            None => {
+                gimli::Dwarf::load(|_| Ok::<_, gimli::Error>(EndianSlice::new(&[], LittleEndian)))?
+            }
         };
-        let main = borrow(&sections.main);
-        let alternate = sections.alternate.as_ref().map(borrow);
-        let mut slots = slots(&main, 0)?;
-        let own = slots.len();
-        if let Some(alternate) = &alternate {
-            slots.extend(self::slots(alternate, ALTERNATE)?);
-        }
-        let mut signatures = HashMap::new();
-        for slot in &slots {
+        let mut debug = Debug {
+            files: vec![main, common],
+            has_common: sections.common.is_some(),
+            slots: Vec::new(),
+            order: Vec::new(),
+            signatures: HashMap::new(),
+        };
+        debug.take_units(sections)?;
+        for slot in &debug.slots {
             if let UnitType::Type { type_signature, type_offset }
             | UnitType::SplitType { type_signature, type_offset } = slot.header.type_()
             {
                 let key = slot.start + type_offset.0 as u64;
-                signatures.entry(type_signature.0).or_insert(key);
+                debug.signatures.entry(type_signature.0).or_insert(key);
             }
         }
-        Ok(Debug { main, alternate, slots, own, signatures })
+        Ok(debug)
     }
 
-    /// How many units the program has of its own.
+    /// All units: those of the program, in place of a skeleton those that it stands for.
+    fn take_units(&mut self, sections: &'a Sections<'a>) -> Result<()> {
+        let mut ordered: Vec<u64> = Vec::new();
+        let mut met = HashSet::new();
+        for slot in slots(&self.files[0], 0, None)? {
+            match sections.skeletons.get(&slot.start) {
+                None => ordered.push(slot.start),
+                Some(skeleton) => {
+                    let is_first = met.insert(skeleton.split);
+                    let units = self.split_units(sections, skeleton, slot.start, is_first)?;
+                    ordered.extend(units.iter().map(|one| one.start));
+                    self.slots.extend(units);
+                }
+            }
+            self.slots.push(slot);
+        }
+        self.slots.extend(slots(&self.files[COMMON as usize], COMMON << FILE, None)?);
+        self.slots.sort_by_key(|slot| slot.start);
+        let place = |key: u64| self.slots.partition_point(|slot| slot.start < key);
+        self.order = ordered.into_iter().map(place).collect();
+        Ok(())
+    }
+
+    /// The units that a skeleton stands for: those of its .dwo file, or its own in a package of such
+    /// files, from which the type units come with the first.
+    fn split_units(
+        &mut self,
+        sections: &'a Sections<'a>,
+        skeleton: &Skeleton,
+        start: u64,
+        is_first: bool,
+    ) -> Result<Vec<Slot<'a>>> {
+        let split = &sections.splits[skeleton.split];
+        let parts = split.parts(&self.files[0], skeleton.id, is_first)?;
+        let (mut own, mut of_types) = (Vec::new(), Vec::new());
+        for dwarf in parts {
+            let file = (self.files.len() as u64) << FILE;
+            for slot in slots(&dwarf, file, Some(start))? {
+                let is_type = matches!(
+                    slot.header.type_(),
+                    UnitType::Type { .. } | UnitType::SplitType { .. }
+                );
+                if is_type {
+                    of_types.push(slot);
+                } else if dwo_id(&dwarf, &slot.header)? == Some(skeleton.id) {
+                    own.push(slot);
+                }
+            }
+            self.files.push(dwarf);
+        }
+        if own.is_empty() {
+            return refuse(format!(
+                "{} is of another build: it has not the unit that {} is named for",
+                split.path.display(),
+                skeleton.name
+            ));
+        }
+        own.truncate(1);
+        own.append(&mut of_types);
+        Ok(own)
+    }
+
+    /// How many units are read.
     pub fn units(&self) -> usize {
-        self.own
+        self.order.len()
     }
 
-    pub fn has_alternate(&self) -> bool {
-        self.alternate.is_some()
+    pub fn has_common(&self) -> bool {
+        self.has_common
+    }
+
+    fn slot(&self, number: usize) -> &Slot<'a> {
+        &self.slots[self.order[number]]
     }
 
     /// The start of the unit of a number.
     pub fn start(&self, number: usize) -> u64 {
-        self.slots[number].start
+        self.slot(number).start
     }
 
     pub fn version(&self, number: usize) -> u16 {
-        self.slots[number].header.version()
+        self.slot(number).header.version()
     }
 
     /// Whether the header of a unit of DWARF 5 says that dwz made it.
     pub fn is_partial(&self, number: usize) -> bool {
-        self.slots[number].header.type_() == UnitType::Partial
+        self.slot(number).header.type_() == UnitType::Partial
     }
 
     fn dwarf(&self, file: u64) -> &gimli::Dwarf<Slice<'a>> {
-        match &self.alternate {
-            Some(alternate) if file != 0 => alternate,
-            _ => &self.main,
-        }
+        &self.files[file as usize]
     }
 
     /// The unit of a number, opened for who asks alone.
     pub fn open(&self, number: usize) -> Result<Unit<'a>> {
-        let slot = &self.slots[number];
-        let inner = self.dwarf(slot.start & ALTERNATE).unit(slot.header)?;
+        self.opened(self.slot(number))
+    }
+
+    fn opened(&self, slot: &Slot<'a>) -> Result<Unit<'a>> {
+        let mut inner = self.dwarf(slot.start >> FILE).unit(slot.header)?;
+        if let Some(skeleton) = slot.skeleton {
+            let place = self.slots.partition_point(|slot| slot.start < skeleton);
+            let skeleton = self.dwarf(0).unit(self.slots[place].header)?;
+            inner.copy_relocated_attributes(&skeleton);
+        }
         Ok(Unit { inner, start: slot.start, end: slot.end })
     }
 
@@ -151,7 +206,7 @@ impl<'a> Debug<'a> {
         let slot = number.checked_sub(1).map(|number| &self.slots[number]);
         match slot {
             Some(slot) if key < slot.end => {
-                let opened = slot.opened.get_or_init(|| self.open(number - 1));
+                let opened = slot.opened.get_or_init(|| self.opened(slot));
                 opened.as_ref().map_err(|error| crate::error::Error(error.0.clone()))
             }
             _ => refuse("an entry outside of all units: damage"),
@@ -169,8 +224,8 @@ impl<'a> Debug<'a> {
         let Some(value) = entry.value(name) else { return Ok(None) };
         Ok(Some(match value {
             AttributeValue::UnitRef(at) => entry.unit.key(at),
-            AttributeValue::DebugInfoRef(at) => entry.unit.file() | at.0 as u64,
-            AttributeValue::DebugInfoRefSup(at) => ALTERNATE | at.0 as u64,
+            AttributeValue::DebugInfoRef(at) => entry.unit.file() << FILE | at.0 as u64,
+            AttributeValue::DebugInfoRefSup(at) => COMMON << FILE | at.0 as u64,
             AttributeValue::DebugTypesRef(signature) => match self.signatures.get(&signature.0) {
                 Some(&key) => key,
                 None => return refuse("a type unit that is not there: damage"),
@@ -196,7 +251,7 @@ impl<'a> Debug<'a> {
     pub fn text(&self, entry: &Entry<'_, 'a>, name: DwAt) -> Result<Cow<'a, [u8]>> {
         let Some(value) = entry.value(name) else { return Ok(Cow::Borrowed(b"")) };
         let found = match value {
-            AttributeValue::DebugStrRefSup(at) => self.dwarf(ALTERNATE).string(at)?,
+            AttributeValue::DebugStrRefSup(at) => self.dwarf(COMMON).string(at)?,
             value => self.dwarf(entry.unit.file()).attr_string(&entry.unit.inner, value)?,
         };
         Ok(Cow::Borrowed(found.slice()))
@@ -229,12 +284,16 @@ impl<'a> Debug<'a> {
     }
 }
 
-/// All units of a file, with the bit of its keys.
-fn slots<'a>(dwarf: &gimli::Dwarf<Slice<'a>>, file: u64) -> Result<Vec<Slot<'a>>> {
+/// All units of a file, whose keys begin at `file`.
+fn slots<'a>(
+    dwarf: &gimli::Dwarf<Slice<'a>>,
+    file: u64,
+    skeleton: Option<u64>,
+) -> Result<Vec<Slot<'a>>> {
     let mut made = Vec::new();
     let mut add = |header: UnitHeader<Slice<'a>>, start: u64| {
         let end = start + header.length_including_self() as u64;
-        made.push(Slot { header, start, end, opened: OnceLock::new() });
+        made.push(Slot { header, start, end, skeleton, opened: OnceLock::new() });
     };
     let mut units = dwarf.units();
     while let Some(header) = units.next()? {
