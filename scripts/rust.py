@@ -29,7 +29,7 @@ COMMANDS = ("ctfd-convert",)
 DEBIAN = Path("/usr/share/cargo/registry")
 # The packages of Debian with what the crates name, which bring what these name themselves.
 PACKAGES = tuple(f"librust-{name}-dev" for name in ("ahash-0.7", "clap", "flate2", "gimli",
-                                                    "object", "rayon", "smallvec", "thiserror"))
+                                                    "object", "rayon", "smallvec"))
 LEAST = (1, 82)
 
 
