@@ -136,7 +136,7 @@ pub fn with_types<T>(
 ) -> Result<T> {
     let (mut run, mut made) = (Some(run), None);
     read(image, options, &mut |found| {
-        judge(&found.table).map_err(|error| error.of(image.path().display()))?;
+        crate::sound::judge(&found.table).map_err(|error| error.of(image.path().display()))?;
         if let Some(run) = run.take() {
             made = Some(run(found)?);
         }
@@ -722,51 +722,4 @@ fn btf_of(path: &Path) -> Result<Vec<u8>> {
         return refuse(format!("{}: the base is no BTF", path.display()));
     }
     Ok(data.to_vec())
-}
-
-/// Refuses a table in which a type names one that is not there, or has a place or a size that no
-/// type of C has.
-fn judge(table: &Table<'_>) -> Result<()> {
-    let count = table.len();
-    for record in &table.records {
-        if record.references().any(|n| n > count) {
-            return refuse(format!("{} names a type that is not there: damage", named(record)));
-        }
-        if record.size >= LONGEST || record.elements >= LONGEST || record.encoding.bits > 0xffff {
-            return refuse(format!("{} has a size that no type of C has: damage", named(record)));
-        }
-        if record.kind.is_aggregate() {
-            judge_members(record)?;
-        }
-    }
-    if table.symbol_roots().iter().any(|&n| n > count) {
-        return refuse("a symbol has a type that is not there: damage");
-    }
-    Ok(())
-}
-
-const LONGEST: u64 = 1 << 60;
-
-/// A member of a struct that is not large has 16 bits for its place.
-fn judge_members(record: &Record<'_>) -> Result<()> {
-    let last = if record.size < crate::section::LONG_MEMBERS { 0xffff } else { 8 * LONGEST - 1 };
-    for one in record.members() {
-        if one.offset > last || one.width.unwrap_or(0) > 0xffff {
-            let name = String::from_utf8_lossy(&one.name);
-            let name = if name.is_empty() { "(anon)".into() } else { name };
-            return refuse(format!(
-                "{}: its member {name} lies at bit {}, outside of it: damage",
-                named(record),
-                one.offset
-            ));
-        }
-    }
-    Ok(())
-}
-
-fn named(record: &Record<'_>) -> String {
-    match record.tagged() {
-        name if name.is_empty() => format!("a type of kind {}", record.kind.name()),
-        name => name,
-    }
 }

@@ -1,6 +1,7 @@
 //! Which types of a table a dictionary gets: those that some reach, as many as it has numbers.
 
 use crate::error::{refuse, Result};
+use crate::nearest::offered;
 use crate::section::MOST_TYPES;
 use crate::table::{Kind, Record, Table};
 use std::collections::HashSet;
@@ -40,7 +41,12 @@ pub fn named(table: &Table<'_>, names: &[String]) -> Result<Vec<u32>> {
         let before = found.len();
         found.extend((1..=table.len()).filter(is_named));
         if found.len() == before {
-            return refuse(format!("--only {name}: it has no type of this name"));
+            let records = table.records.iter();
+            let names = records.filter(|record| !record.name.is_empty()).map(Record::tagged);
+            return refuse(format!(
+                "--only {name}: it has no type of this name{}",
+                offered(&plain, names)
+            ));
         }
     }
     Ok(found)
