@@ -121,7 +121,7 @@ fn lengths(bytes: &[u8]) -> Option<(u64, u64)> {
 
 /// A dictionary with its body inflated, and the flag of that cleared; one without the flag as it is.
 /// What the header says is the bound: a small body may inflate to anything.
-pub fn inflated(bytes: &[u8]) -> Result<Cow<'_, [u8]>> {
+pub fn inflate(bytes: &[u8]) -> Result<Cow<'_, [u8]>> {
     if bytes.len() < HEADER || bytes[3] & COMPRESSED == 0 {
         return Ok(Cow::Borrowed(bytes));
     }

@@ -73,7 +73,7 @@ impl<'a> Descriptions<'a> {
 
     /// What is told of a symbol: by name and address, else by one of these. In an object file many
     /// have one address; in what is linked, what no other file sees is elsewhere.
-    pub fn said(&self, wanted: &Symbol<'_>, is_linked: bool) -> Option<&Description<'a>> {
+    pub fn description_of(&self, wanted: &Symbol<'_>, is_linked: bool) -> Option<&Description<'a>> {
         let name = unversioned(&wanted.name);
         let named = |among: &HashMap<u64, Vec<(Name<'a>, usize)>>, name: &[u8]| {
             let listed = among.get(&wanted.address)?;

@@ -7,8 +7,8 @@ use crate::inputs::{Form, ProgramTypes};
 use crate::labels;
 use crate::limits::fit;
 use crate::merge::{merge, name_once};
-use crate::section::{encoded, MOST_TYPES};
-use crate::select::{closed, fitting, left_out, named, roots};
+use crate::section::{encode, MOST_TYPES};
+use crate::select::{closure_of_all, fitting, left_out, roots, types_named};
 use crate::symbols::{SymbolTable, Symbols};
 use crate::table::{Record, Table};
 use ctfd::Model;
@@ -41,7 +41,7 @@ pub struct Dictionary<'a> {
 }
 
 /// What is wanted of a file, each type once and as CTF holds it; which of these are the base's.
-pub fn selected<'a>(found: ProgramTypes<'a>, names: &[String]) -> Result<(ProgramTypes<'a>, u32)> {
+pub fn select<'a>(found: ProgramTypes<'a>, names: &[String]) -> Result<(ProgramTypes<'a>, u32)> {
     let ProgramTypes { mut table, roots, bases, form, symbols, note } = found;
     if table.lacks_parent {
         let name = String::from_utf8_lossy(&table.parent_name);
@@ -52,7 +52,7 @@ pub fn selected<'a>(found: ProgramTypes<'a>, names: &[String]) -> Result<(Progra
     }
     let roots: Vec<u32> = match names {
         [] => roots.into_iter().chain(table.symbol_roots()).collect(),
-        names => named(&table, names)?,
+        names => types_named(&table, names)?,
     };
     let seen = table.reached(roots);
     let order: Vec<u32> = (1..=table.len()).filter(|&n| seen[n as usize]).collect();
@@ -94,7 +94,7 @@ fn pruned<'a>(table: &mut Table<'a>, symbols: Symbols<'a>) -> Symbols<'a> {
         return symbols;
     }
     let before = symbols.listed.len();
-    let kept = described(table, symbols);
+    let kept = keep_described(table, symbols);
     let left = before - kept.listed.len();
     if left != 0 {
         table.losses.push(format!(
@@ -105,7 +105,7 @@ fn pruned<'a>(table: &mut Table<'a>, symbols: Symbols<'a>) -> Symbols<'a> {
 }
 
 /// Those symbols alone of which something is told, as where names are the dictionary's own.
-pub fn described<'a>(table: &mut Table<'a>, symbols: Symbols<'a>) -> Symbols<'a> {
+pub fn keep_described<'a>(table: &mut Table<'a>, symbols: Symbols<'a>) -> Symbols<'a> {
     let objects: Vec<bool> = table.objects.iter().map(|&n| n != 0).collect();
     let functions: Vec<bool> = table.functions.iter().map(Option::is_some).collect();
     table.objects.retain(|&n| n != 0);
@@ -171,7 +171,7 @@ pub fn split<'a>(
     symbols: Symbols<'a>,
 ) -> Result<Dictionary<'a>> {
     let wanted: Vec<u32> = if bases == 0 { roots(&table) } else { (1..=bases).collect() };
-    let parents = closed(&table, wanted);
+    let parents = closure_of_all(&table, wanted);
     let known: HashSet<u32> = parents.iter().copied().collect();
     let rest: Vec<u32> = (1..=table.len()).filter(|n| !known.contains(n)).collect();
     if parents.is_empty() {
@@ -208,7 +208,7 @@ fn parent_bytes(parent: &mut Table<'_>) -> Result<Vec<u8>> {
     let last = parent.len();
     parent.labels =
         labels::of_model(parent.model()).map(|it| (Cow::Owned(it), last)).into_iter().collect();
-    encoded(parent)
+    encode(parent)
 }
 
 impl<'a> Dictionary<'a> {
@@ -245,18 +245,18 @@ impl<'a> Dictionary<'a> {
         if let Some(parent) = &self.parent {
             self.table.parent_label = Cow::Owned(labels::of_types(&Sections::of(parent)?));
         }
-        encoded(&self.table)
+        encode(&self.table)
     }
 
     /// The bytes, once the library has opened them, over the parent and with the symbols of the
     /// file. Where its entries don't fit the file's symbol table they are left out, with a line.
-    pub fn judged(&mut self, image: &Image, output: &Path) -> Result<Vec<u8>> {
+    pub fn checked_bytes(&mut self, image: &Image, output: &Path) -> Result<Vec<u8>> {
         let refused = |refusal: ctfd::Refusal| {
             let output = output.display();
             Error(format!("{output}: it is not written, since the service refused it: {refusal}"))
         };
         let bytes = self.bytes()?;
-        match self.opened(&bytes, image) {
+        match self.open(&bytes, image) {
             Ok(()) => return Ok(bytes),
             Err(refusal) if !self.has_entries() || !is_of_symbols(&refusal) => {
                 return Err(refused(refusal))
@@ -268,11 +268,11 @@ impl<'a> Dictionary<'a> {
             image.path().display()
         ));
         let bytes = self.bytes()?;
-        self.opened(&bytes, image).map_err(refused)?;
+        self.open(&bytes, image).map_err(refused)?;
         Ok(bytes)
     }
 
-    fn opened(&self, bytes: &[u8], image: &Image) -> std::result::Result<(), ctfd::Refusal> {
+    fn open(&self, bytes: &[u8], image: &Image) -> std::result::Result<(), ctfd::Refusal> {
         let model = self.table.model();
         let made = (self.symbols.table == SymbolTable::Names).then(|| self.symbols.made_table());
         let lists = match &made {
@@ -340,12 +340,12 @@ pub fn report(path: &Path, form: Form, count: u32, made: &Dictionary<'_>) -> Vec
     ));
     let hidden = own.iter().filter(|record| !record.name.is_empty() && !record.root);
     lines.extend(hidden.map(Record::tagged).map(|name| format!("hidden from look-ups: {name}")));
-    lines.extend(counted(&table.losses).into_iter().map(|line| format!("lost: {line}")));
+    lines.extend(loss_lines(&table.losses).into_iter().map(|line| format!("lost: {line}")));
     lines
 }
 
 /// Each line once, with how often it was told.
-pub fn counted(losses: &[String]) -> Vec<String> {
+pub fn loss_lines(losses: &[String]) -> Vec<String> {
     let mut lines: Vec<(&String, usize)> = Vec::new();
     let mut known = std::collections::HashMap::new();
     for line in losses {

@@ -56,12 +56,12 @@ struct Slice {
     bits: u16,
 }
 
-/// The dictionaries of a section, inflated; of an archive the one that the others share comes first.
+/// The dictionaries of a section, inflate; of an archive the one that the others share comes first.
 pub fn dictionaries(section: &[u8]) -> Result<Vec<Cow<'_, [u8]>>> {
-    listed(section)?.into_iter().map(inflated).collect()
+    dictionaries_of(section)?.into_iter().map(inflate).collect()
 }
 
-fn listed(section: &[u8]) -> Result<Vec<&[u8]>> {
+fn dictionaries_of(section: &[u8]) -> Result<Vec<&[u8]>> {
     if !section.starts_with(&ARCHIVE) {
         return Ok(vec![section]);
     }
@@ -82,8 +82,8 @@ fn listed(section: &[u8]) -> Result<Vec<&[u8]>> {
     Ok(found.into_iter().map(|(_, one)| one).collect())
 }
 
-/// A dictionary whose body, if it is compressed, is inflated; the header bounds it.
-fn inflated(bytes: &[u8]) -> Result<Cow<'_, [u8]>> {
+/// A dictionary whose body, if it is compressed, is inflate; the header bounds it.
+fn inflate(bytes: &[u8]) -> Result<Cow<'_, [u8]>> {
     if bytes.get(..2) != Some(&MAGIC) {
         return refuse(format!("GNU CTF was expected, and it begins with {:02x?}", bytes.get(..4)));
     }
@@ -252,13 +252,13 @@ impl<'a> Dictionary<'a> {
         let [objects, functions, object_names, function_names] = self.symbols;
         let functions = if self.flags & NEW_FUNCTIONS != 0 { functions } else { &[] };
         Ok(Entries {
-            objects: self.listed(objects, object_names)?,
-            functions: self.listed(functions, function_names)?,
+            objects: self.entries_of(objects, object_names)?,
+            functions: self.entries_of(functions, function_names)?,
             is_dynamic: self.flags & DYNAMIC != 0,
         })
     }
 
-    fn listed(&self, types: &[u8], names: &[u8]) -> Result<Listed<'a>> {
+    fn entries_of(&self, types: &[u8], names: &[u8]) -> Result<Listed<'a>> {
         let types =
             words(types).map(|n| self.number(n).ok_or_else(damage)).collect::<Result<_>>()?;
         let names = (!names.is_empty())

@@ -3,7 +3,7 @@
 use crate::btf;
 use crate::bytes::Names;
 use crate::ctf::{self, Sections};
-use crate::dictionary::described;
+use crate::dictionary::keep_described;
 use crate::dwarf::sections;
 use crate::dwarf::types::Collector;
 use crate::dwarf::units::Debug;
@@ -252,7 +252,7 @@ fn is_of_its_objects(
     if ctf::each(section.data).len() > 1 {
         return Ok(true);
     }
-    let plain = ctf::inflated(section.data)?;
+    let plain = ctf::inflate(section.data)?;
     let Ok(sections) = Sections::of(&plain) else { return Ok(false) };
     let is_named = labels::symbols(&sections).is_some();
     Ok(is_named && symbols_of(section.file, &sections)?.is_none())
@@ -338,7 +338,7 @@ fn with_dwarf(image: &Image, options: &Options, run: &mut Use<'_>) -> Result<()>
     let (mut table, roots) =
         collector.finish(&symbols, is_linked, !file.is_64()).map_err(|error| error.of(&path))?;
     let symbols = match symbols.table {
-        SymbolTable::Names => described(&mut table, symbols),
+        SymbolTable::Names => keep_described(&mut table, symbols),
         _ => symbols,
     };
     let note = note(image, &symbols, debug)?;
@@ -482,7 +482,7 @@ fn with_ctf(
     options: &Options,
     run: &mut Use<'_>,
 ) -> Result<()> {
-    let plain = ctf::inflated(chosen(section.data, options.number)?)?;
+    let plain = ctf::inflate(choose(section.data, options.number)?)?;
     let sections = Sections::of(&plain)?;
     let told = if is_ilp32 { Model::Ilp32 } else { Model::Lp64 };
     let model = labels::model(&sections).unwrap_or(told);
@@ -521,18 +521,19 @@ fn with_ctf(
 }
 
 /// The dictionary of a number, which counts from 1, or the only one.
-fn chosen(section: &[u8], number: Option<usize>) -> Result<&[u8]> {
+fn choose(section: &[u8], number: Option<usize>) -> Result<&[u8]> {
     let found = ctf::each(section);
     match number {
         None if found.len() == 1 => Ok(found[0]),
         Some(number) if (1..=found.len()).contains(&number) => Ok(found[number - 1]),
-        Some(number) => {
-            refuse(format!("its section: it has {}: there is no number {number}", listed(&found)))
-        }
+        Some(number) => refuse(format!(
+            "its section: it has {}: there is no number {number}",
+            description_of_all(&found)
+        )),
         None => refuse(format!(
             "its section: it has {}: one is chosen by --dictionary N (ctfd-convert takes it out), \
              and ctfd-convert --from dwarf makes one of all",
-            listed(&found)
+            description_of_all(&found)
         )),
     }
 }
@@ -541,9 +542,9 @@ fn chosen(section: &[u8], number: Option<usize>) -> Result<&[u8]> {
 const LISTED: usize = 10;
 
 /// How many dictionaries there are, each with its number, its types and the first name of one.
-fn listed(found: &[&[u8]]) -> String {
+fn description_of_all(found: &[&[u8]]) -> String {
     let described =
-        |(place, ctf): (usize, &&[u8])| format!("{} ({})", place + 1, described_by(ctf));
+        |(place, ctf): (usize, &&[u8])| format!("{} ({})", place + 1, description_of(ctf));
     let each: Vec<String> = found.iter().take(LISTED).enumerate().map(described).collect();
     let more = match found.len() {
         count if count > LISTED => format!(" and {} more", count - LISTED),
@@ -556,9 +557,9 @@ fn listed(found: &[&[u8]]) -> String {
     format!("{} {plural}: {}{more}", found.len(), each.join(", "))
 }
 
-fn described_by(ctf: &[u8]) -> String {
+fn description_of(ctf: &[u8]) -> String {
     let describe = || -> Result<String> {
-        let plain = ctf::inflated(ctf)?;
+        let plain = ctf::inflate(ctf)?;
         let table = ctf::table_of(&Sections::of(&plain)?, &[], None)?;
         let own = &table.records[table.bases as usize..];
         let is_telling = |record: &&Record<'_>| {
@@ -575,13 +576,13 @@ fn described_by(ctf: &[u8]) -> String {
 /// The bytes of a file's dictionary, inflated: of its section, or of a section by itself.
 pub fn plain_bytes(image: &Image, number: Option<usize>) -> Result<Vec<u8>> {
     if !image.is_elf() {
-        return Ok(ctf::inflated(chosen(image.all()?, number)?)?.into_owned());
+        return Ok(ctf::inflate(choose(image.all()?, number)?)?.into_owned());
     }
     let file = image.elf()?;
     for name in Form::Ctf.sections() {
         if let Some(section) = file.section_by_name(name) {
             let data = section.uncompressed_data()?;
-            return Ok(ctf::inflated(chosen(&data, number)?)?.into_owned());
+            return Ok(ctf::inflate(choose(&data, number)?)?.into_owned());
         }
     }
     refuse("an ELF file without .SUNW_ctf or .ctf")

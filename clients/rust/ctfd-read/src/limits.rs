@@ -19,7 +19,7 @@ pub fn fit(table: &mut Table<'_>) {
             Kind::Atomic => {
                 record.kind = Kind::Typedef;
                 record.tag = Kind::Typedef;
-                record.name = Cow::Owned(format!("_Atomic({})", spelled(table, record.of)).into());
+                record.name = Cow::Owned(format!("_Atomic({})", spelling(table, record.of)).into());
             }
             Kind::Array if record.elements > MOST_COUNT => long_array(table, &mut record),
             Kind::Function => function(&mut table.losses, &mut record),
@@ -48,7 +48,7 @@ fn float(table: &mut Table<'_>, record: &mut Record<'_>) {
     if record.encoding.flags == 0 {
         let name = record.tagged();
         table.losses.push(format!(
-            "{name}: CTF has no word for how this float is encoded; its encoding is 0"
+            "{name}: CTF has no word for how this float is encode; its encoding is 0"
         ));
     }
 }
@@ -241,7 +241,7 @@ fn size_of(table: &Table<'_>, mut number: u32) -> Option<u64> {
 }
 
 /// A type as C spells it in a cast, the arguments of functions left out.
-fn spelled(table: &Table<'_>, mut number: u32) -> String {
+fn spelling(table: &Table<'_>, mut number: u32) -> String {
     let (mut left, mut right) = (String::new(), String::new());
     let mut before: Vec<&str> = Vec::new();
     let kind = |n: u32| if n == 0 { Kind::Unknown } else { table.get(n).kind };

@@ -2,7 +2,7 @@
 
 use std::collections::HashSet;
 
-/// How many are offered.
+/// How many are suggestion.
 const MOST: usize = 3;
 /// How alike two names are at least, of 1 for the same.
 const LEAST: f64 = 0.6;
@@ -17,7 +17,7 @@ fn bare(name: &str) -> &str {
 
 /// Words for a message: `; the nearest are a, b`, or none where nothing is near. First come names of
 /// the same letters under another word, then those that differ in few.
-pub fn offered(name: &str, names: impl Iterator<Item = String>) -> String {
+pub fn suggestion(name: &str, names: impl Iterator<Item = String>) -> String {
     let mut met = HashSet::new();
     let known: Vec<String> = names.filter(|one| met.insert(one.clone())).collect();
     let mut found: Vec<&str> = known

@@ -66,7 +66,7 @@ impl<'t> Names<'t> {
 
 /// The section of a table. One whose `parent_name` is not empty is a child: the first `bases` types
 /// of the table are then those of its parent, and are not written.
-pub fn encoded(table: &Table<'_>) -> Result<Vec<u8>> {
+pub fn encode(table: &Table<'_>) -> Result<Vec<u8>> {
     let is_child = !table.parent_name.is_empty();
     let bases = if is_child { table.bases } else { 0 };
     if table.len() - bases > MOST_TYPES {

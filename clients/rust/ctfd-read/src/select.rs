@@ -1,7 +1,7 @@
 //! Which types of a table a dictionary gets: those that some reach, as many as it has numbers.
 
 use crate::error::{refuse, Result};
-use crate::nearest::offered;
+use crate::nearest::suggestion;
 use crate::section::MOST_TYPES;
 use crate::table::{Kind, Record, Table};
 use std::collections::HashSet;
@@ -27,7 +27,7 @@ pub fn roots(table: &Table<'_>) -> Vec<u32> {
 }
 
 /// The types of some names, as C has them: `struct list_head`, `size_t`.
-pub fn named(table: &Table<'_>, names: &[String]) -> Result<Vec<u32>> {
+pub fn types_named(table: &Table<'_>, names: &[String]) -> Result<Vec<u32>> {
     let mut found = Vec::new();
     for name in names {
         let plain = normal(name);
@@ -45,7 +45,7 @@ pub fn named(table: &Table<'_>, names: &[String]) -> Result<Vec<u32>> {
             let names = records.filter(|record| !record.name.is_empty()).map(Record::tagged);
             return refuse(format!(
                 "--only {name}: it has no type of this name{}",
-                offered(&plain, names)
+                suggestion(&plain, names)
             ));
         }
     }
@@ -122,7 +122,7 @@ fn is_by_value(record: &Record<'_>) -> bool {
 }
 
 /// The types of a parent that holds as many as it has numbers: each with all that it reaches.
-pub fn closed(table: &Table<'_>, roots: impl IntoIterator<Item = u32>) -> Vec<u32> {
+pub fn closure_of_all(table: &Table<'_>, roots: impl IntoIterator<Item = u32>) -> Vec<u32> {
     let mut kept = HashSet::new();
     let mut never = HashSet::new();
     let mut roots: Vec<u32> = roots.into_iter().collect();

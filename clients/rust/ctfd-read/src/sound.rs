@@ -9,10 +9,10 @@ pub fn judge(table: &Table<'_>) -> Result<()> {
     let count = table.len();
     for record in &table.records {
         if record.references().any(|n| n > count) {
-            return refuse(format!("{} names a type that is not there: damage", named(record)));
+            return refuse(format!("{} names a type that is not there: damage", name_of(record)));
         }
         if record.size >= LONGEST || record.elements >= LONGEST || record.encoding.bits > 0xffff {
-            return refuse(format!("{} has a size that no type of C has: damage", named(record)));
+            return refuse(format!("{} has a size that no type of C has: damage", name_of(record)));
         }
         if record.kind.is_aggregate() {
             judge_members(record)?;
@@ -91,7 +91,7 @@ fn judge_members(record: &Record<'_>) -> Result<()> {
             let name = if name.is_empty() { "(anon)".into() } else { name };
             return refuse(format!(
                 "{}: its member {name} lies at bit {}, outside of it: damage",
-                named(record),
+                name_of(record),
                 one.offset
             ));
         }
@@ -99,7 +99,7 @@ fn judge_members(record: &Record<'_>) -> Result<()> {
     Ok(())
 }
 
-fn named(record: &Record<'_>) -> String {
+fn name_of(record: &Record<'_>) -> String {
     match record.tagged() {
         name if name.is_empty() => format!("a type of kind {}", record.kind.name()),
         name => name,

@@ -21,7 +21,7 @@ impl Chance {
 fn read(bytes: Vec<u8>) -> bool {
     let image = Image::of_bytes(PathBuf::from("damaged"), bytes);
     let made = with_types(&image, &Options::default(), |found| {
-        let (found, _) = dictionary::selected(found, &[])?;
+        let (found, _) = dictionary::select(found, &[])?;
         dictionary::alone(found.table, found.symbols).bytes()
     });
     made.is_ok()

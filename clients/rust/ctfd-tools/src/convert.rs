@@ -29,7 +29,7 @@ pub fn main(words: Vec<OsString>) -> ExitCode {
     let words = Words::of(&options().get_matches_from(words));
     match convert(&words) {
         Ok(losses) => {
-            dictionary::counted(&losses).iter().for_each(|line| warn(NAME, line));
+            dictionary::loss_lines(&losses).iter().for_each(|line| warn(NAME, line));
             let is_lossy = !losses.is_empty() && !words.is_lossy;
             ExitCode::from(if is_lossy { LOSSY } else { 0 })
         }
@@ -228,7 +228,7 @@ fn convert(words: &Words) -> Result<Vec<String>> {
         }
         let (form, count) = (found.form, found.table.len());
         with_dictionary(words, &image, found, |mut made| {
-            let bytes = made.judged(&image, &words.output)?;
+            let bytes = made.checked_bytes(&image, &words.output)?;
             write(words, &made, &bytes)?;
             if let Some(path) = &words.report {
                 let mut text = String::new();
@@ -255,7 +255,7 @@ fn with_dictionary<T>(
         return run(plain(words, image, found)?);
     }
     let named = |error: Error| error.within(&words.input.display().to_string());
-    let (found, bases) = dictionary::selected(found, &words.only).map_err(named)?;
+    let (found, bases) = dictionary::select(found, &words.only).map_err(named)?;
     let ProgramTypes { table, symbols, .. } = found;
     if let Some(path) = &words.split {
         return run(dictionary::split(dictionary::parent_name(path), table, bases, symbols)?);

@@ -11,7 +11,7 @@ use std::borrow::Cow;
 use std::collections::HashMap;
 use std::path::{Path, PathBuf};
 
-/// The sections of a file, borrowed where they are not compressed.
+/// The sections of a file, borrow_all where they are not compressed.
 pub type OwnedSections<'a> = gimli::Dwarf<Cow<'a, [u8]>>;
 
 /// A unit that stands for another in a .dwo file has one entry: longer ones are none.
@@ -48,7 +48,7 @@ pub struct Split {
 }
 
 /// The sections as gimli reads them.
-pub fn borrowed<'a>(sections: &'a OwnedSections<'a>) -> gimli::Dwarf<Slice<'a>> {
+pub fn borrow_all<'a>(sections: &'a OwnedSections<'a>) -> gimli::Dwarf<Slice<'a>> {
     sections.borrow(|section: &'a Cow<'a, [u8]>| EndianSlice::new(section, LittleEndian))
 }
 
@@ -67,7 +67,7 @@ impl<'a> Sections<'a> {
             };
             sections.common = Some(gimli::Dwarf::load(owned)?);
         }
-        let named = skeletons(&borrowed(&sections.main))?;
+        let named = skeletons(&borrow_all(&sections.main))?;
         let mut places: HashMap<PathBuf, usize> = HashMap::new();
         for (start, one) in named {
             let split = sections.split_of(image, &one, &mut places)?;

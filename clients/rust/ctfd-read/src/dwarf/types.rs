@@ -74,12 +74,12 @@ impl<'a> Collector<'a> {
             Outcome::Foreign(language) => {
                 *self.foreign.entry(language_name(language)).or_default() += 1;
             }
-            Outcome::OfC(piece, heard) => {
+            Outcome::OfC(piece, unit_types) => {
                 self.units += 1;
                 let to = self.joiner.join(piece);
-                self.roots.extend(heard.roots.iter().map(|&n| to[n as usize]));
-                self.losses.extend(heard.losses);
-                for mut told in heard.told {
+                self.roots.extend(unit_types.roots.iter().map(|&n| to[n as usize]));
+                self.losses.extend(unit_types.losses);
+                for mut told in unit_types.told {
                     told.said.of = to[told.said.of as usize];
                     if let Some(function) = &mut told.said.function {
                         function.renumber(|n| to[n as usize]);
@@ -107,7 +107,7 @@ impl<'a> Collector<'a> {
         }
         let mut table = self.joiner.table;
         for one in &wanted.listed {
-            let said = self.symbols.said(one, is_linked);
+            let said = self.symbols.description_of(one, is_linked);
             if one.is_function {
                 table.functions.push(said.and_then(|said| said.function.clone()));
             } else {
@@ -144,8 +144,8 @@ fn read_unit<'a>(
     for &key in imports.get(&debug.start(number)).into_iter().flatten() {
         reader.unit(debug.unit_of(key)?)?;
     }
-    let mut heard = reader.heard;
-    Ok(Outcome::OfC(Piece::new(std::mem::take(&mut heard.records)), heard))
+    let mut unit_types = reader.unit_types;
+    Ok(Outcome::OfC(Piece::new(std::mem::take(&mut unit_types.records)), unit_types))
 }
 
 /// For each unit those that dwz made of what several have in common, and that it imports first.
@@ -167,7 +167,7 @@ fn imports(debug: &Debug<'_>) -> Result<HashMap<u64, Vec<u64>>> {
     }
     let whole = numbers.into_par_iter().filter(|&number| !partial[number]);
     let listed: Vec<(u64, Vec<u64>)> = whole
-        .map(|number| Ok((debug.start(number), named(debug, &debug.open(number)?)?)))
+        .map(|number| Ok((debug.start(number), imported_units(debug, &debug.open(number)?)?)))
         .collect::<Result<_>>()?;
     let mut met = HashSet::new();
     for (start, named_by) in listed {
@@ -175,7 +175,9 @@ fn imports(debug: &Debug<'_>) -> Result<HashMap<u64, Vec<u64>>> {
         let mut todo: Vec<u64> = named_by.into_iter().filter(|&key| met.insert(key)).collect();
         while let Some(key) = todo.pop() {
             own.push(key);
-            todo.extend(named(debug, debug.unit_of(key)?)?.into_iter().filter(|&k| met.insert(k)));
+            todo.extend(
+                imported_units(debug, debug.unit_of(key)?)?.into_iter().filter(|&k| met.insert(k)),
+            );
         }
         made.insert(start, own);
     }
@@ -183,7 +185,7 @@ fn imports(debug: &Debug<'_>) -> Result<HashMap<u64, Vec<u64>>> {
 }
 
 /// The units that one imports.
-fn named<'a>(debug: &Debug<'a>, unit: &Unit<'a>) -> Result<Vec<u64>> {
+fn imported_units<'a>(debug: &Debug<'a>, unit: &Unit<'a>) -> Result<Vec<u64>> {
     let mut made = Vec::new();
     let top = Entry::top(unit)?;
     for one in top.children()?.iter().filter(|one| one.tag == dw::DW_TAG_imported_unit) {
@@ -221,7 +223,7 @@ struct Reader<'d, 'a> {
     debug: &'d Debug<'a>,
     asked: &'d SymbolFilter<'d>,
     is_ilp32: bool,
-    heard: UnitTypes<'a>,
+    unit_types: UnitTypes<'a>,
     numbers: HashMap<u64, u32, BuildHasherDefault<NumberHasher>>,
     todo: Vec<(&'d Unit<'a>, UnitOffset, u32)>,
     index: u32,
@@ -233,7 +235,7 @@ impl<'d, 'a> Reader<'d, 'a> {
             debug,
             asked,
             is_ilp32,
-            heard: UnitTypes::default(),
+            unit_types: UnitTypes::default(),
             numbers: HashMap::default(),
             todo: Vec::new(),
             index: 0,
@@ -254,7 +256,7 @@ impl<'d, 'a> Reader<'d, 'a> {
                 | dw::DW_TAG_imported_unit => {}
                 _ => {
                     let root = self.number(unit, offset);
-                    self.heard.roots.push(root);
+                    self.unit_types.roots.push(root);
                 }
             }
         }
@@ -265,14 +267,14 @@ impl<'d, 'a> Reader<'d, 'a> {
     fn finish(&mut self) -> Result<()> {
         while let Some((unit, offset, number)) = self.todo.pop() {
             let record = self.record(Entry::read(unit, offset)?)?;
-            self.heard.records[number as usize - 1] = record;
+            self.unit_types.records[number as usize - 1] = record;
         }
         Ok(())
     }
 
     fn add(&mut self, record: Record<'a>) -> u32 {
-        self.heard.records.push(record);
-        self.heard.records.len() as u32
+        self.unit_types.records.push(record);
+        self.unit_types.records.len() as u32
     }
 
     fn number(&mut self, unit: &'d Unit<'a>, offset: UnitOffset) -> u32 {
@@ -496,7 +498,7 @@ impl<'d, 'a> Reader<'d, 'a> {
     }
 
     fn lost(&mut self, line: &str) {
-        self.heard.losses.push(line.to_owned());
+        self.unit_types.losses.push(line.to_owned());
     }
 
     // Symbols.
@@ -513,12 +515,12 @@ impl<'d, 'a> Reader<'d, 'a> {
         if place.is_none() && !is_external {
             return Ok(());
         }
-        let name = self.called(&chain)?;
+        let name = self.name_in(&chain)?;
         if self.asked.has(&name, place) {
-            let of = typed(&chain).map_or(Ok(0), |one| self.of(one))?;
+            let of = type_source(&chain).map_or(Ok(0), |one| self.of(one))?;
             let said = Description { of, function: None, is_whole };
             let is_own = place.is_some() && !is_external;
-            self.heard.told.push(Statement { name, place, said, others: Vec::new(), is_own });
+            self.unit_types.told.push(Statement { name, place, said, others: Vec::new(), is_own });
         }
         Ok(())
     }
@@ -545,7 +547,7 @@ impl<'d, 'a> Reader<'d, 'a> {
         if place.is_none() && !is_external {
             return Ok(());
         }
-        let name = self.called(&chain)?;
+        let name = self.name_in(&chain)?;
         if !self.asked.has(&name, place) {
             return Ok(());
         }
@@ -561,10 +563,16 @@ impl<'d, 'a> Reader<'d, 'a> {
                 .collect::<Result<_>>()?,
             _ => own.children()?,
         };
-        let function = self.function(&parts, typed(&chain).unwrap_or(own))?;
+        let function = self.function(&parts, type_source(&chain).unwrap_or(own))?;
         let said = Description { of: 0, function: Some(function), is_whole: place.is_some() };
         let is_own = place.is_some() && !is_external;
-        self.heard.told.push(Statement { name, place, said, others: starts.collect(), is_own });
+        self.unit_types.told.push(Statement {
+            name,
+            place,
+            said,
+            others: starts.collect(),
+            is_own,
+        });
         Ok(())
     }
 
@@ -587,7 +595,7 @@ impl<'d, 'a> Reader<'d, 'a> {
     }
 
     /// The name of the first entry that has one.
-    fn called(&self, chain: &[Entry<'d, 'a>]) -> Result<Cow<'a, [u8]>> {
+    fn name_in(&self, chain: &[Entry<'d, 'a>]) -> Result<Cow<'a, [u8]>> {
         match chain.iter().find(|one| one.has(dw::DW_AT_name)) {
             Some(one) => self.debug.name(one),
             None => Ok(Cow::Borrowed(b"")),
@@ -597,7 +605,7 @@ impl<'d, 'a> Reader<'d, 'a> {
 
 /// The entry that says the type of a function or object: a definition before what declares it,
 /// which may lack the length of an array.
-fn typed<'e, 'd, 'a>(chain: &'e [Entry<'d, 'a>]) -> Option<&'e Entry<'d, 'a>> {
+fn type_source<'e, 'd, 'a>(chain: &'e [Entry<'d, 'a>]) -> Option<&'e Entry<'d, 'a>> {
     chain.iter().find(|one| one.has(dw::DW_AT_type))
 }
 

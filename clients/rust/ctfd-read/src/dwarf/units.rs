@@ -3,7 +3,7 @@
 //! Each entry of all files has a number of its own, its key: which file and which section it is in,
 //! and its place there.
 
-use crate::dwarf::sections::{borrowed, dwo_id, Sections, Skeleton};
+use crate::dwarf::sections::{borrow_all, dwo_id, Sections, Skeleton};
 use crate::error::{refuse, Result};
 use gimli::{constants as dw, DwAt, DwForm, DwTag, UnitType};
 use gimli::{Abbreviation, AttributeValue, EndianSlice, LittleEndian, UnitHeader, UnitOffset};
@@ -66,9 +66,9 @@ pub struct Debug<'a> {
 
 impl<'a> Debug<'a> {
     pub fn new(sections: &'a Sections<'a>) -> Result<Debug<'a>> {
-        let main = borrowed(&sections.main);
+        let main = borrow_all(&sections.main);
         let common = match &sections.common {
-            Some(common) => borrowed(common),
+            Some(common) => borrow_all(common),
             None => {
                 gimli::Dwarf::load(|_| Ok::<_, gimli::Error>(EndianSlice::new(&[], LittleEndian)))?
             }
@@ -187,10 +187,10 @@ impl<'a> Debug<'a> {
 
     /// The unit of a number, opened for who asks alone.
     pub fn open(&self, number: usize) -> Result<Unit<'a>> {
-        self.opened(self.slot(number))
+        self.open_slot(self.slot(number))
     }
 
-    fn opened(&self, slot: &Slot<'a>) -> Result<Unit<'a>> {
+    fn open_slot(&self, slot: &Slot<'a>) -> Result<Unit<'a>> {
         let mut inner = self.dwarf(slot.start >> FILE).unit(slot.header)?;
         if let Some(skeleton) = slot.skeleton {
             let place = self.slots.partition_point(|slot| slot.start < skeleton);
@@ -206,7 +206,7 @@ impl<'a> Debug<'a> {
         let slot = number.checked_sub(1).map(|number| &self.slots[number]);
         match slot {
             Some(slot) if key < slot.end => {
-                let opened = slot.opened.get_or_init(|| self.opened(slot));
+                let opened = slot.opened.get_or_init(|| self.open_slot(slot));
                 opened.as_ref().map_err(|error| crate::error::Error(error.0.clone()))
             }
             _ => refuse("an entry outside of all units: damage"),
