@@ -194,59 +194,70 @@ impl<'a> Section<'a> {
 
     fn entry(&mut self) -> Result<Entry<'a>> {
         let (place, info, field) = (self.types.word()?, self.types.word()?, self.types.word()?);
-        let (kind, length, has_flag) = (info >> 24 & 0x1f, info & 0xffff, info >> 31 != 0);
+        let (kind, count, has_flag) = (info >> 24 & 0x1f, info & 0xffff, info >> 31 != 0);
         let name = self.name(place)?;
-        let mut record = Record::new(kind_of(kind), name);
         match kind {
-            1 => self.integer(&mut record, field)?,
-            2 | 8 | 9 | 10 | 11 => {
-                if kind != 8 {
-                    record.name = Cow::Borrowed(b"");
-                }
-                record.of = field;
+            12 => return Ok(Entry::Function(name, field)),
+            14 => {
+                self.types.word()?;
+                return Ok(Entry::Variable(name, field));
             }
-            3 => {
+            15 | 17 => {
+                let length = if kind == 15 { 12 * count } else { 4 };
+                self.types.take(length as usize)?;
+                return Ok(Entry::Other);
+            }
+            18 => return Ok(Entry::Alias(field)),
+            1..=19 => {}
+            _ => {
+                return refuse(format!(
+                    "it has a type of kind {kind}, which is newer than this program: kinds 1 to 19 \
+                     are read"
+                ))
+            }
+        }
+        let mut record = Record::new(kind_of(kind), name);
+        self.fields(&mut record, field, count, (kind, has_flag))?;
+        Ok(Entry::Type(record))
+    }
+
+    /// What a type says behind its name; `field` is its size, or what it names.
+    fn fields(
+        &mut self,
+        record: &mut Record<'a>,
+        field: u32,
+        count: u32,
+        (kind, has_flag): (u32, bool),
+    ) -> Result<()> {
+        match record.kind {
+            Kind::Integer => self.integer(record, field)?,
+            Kind::Float => {
+                record.size = field.into();
+                record.encoding.bits = 8 * u64::from(field);
+            }
+            Kind::Struct | Kind::Union => {
+                record.size = field.into();
+                record.parts = Parts::Members(self.members(count, has_flag)?);
+            }
+            Kind::Enum => {
+                record.size = field.into();
+                record.parts = Parts::Values(self.values(count, kind == 19, has_flag)?);
+            }
+            Kind::Forward => record.tag = if has_flag { Kind::Union } else { Kind::Struct },
+            Kind::Typedef => record.of = field,
+            Kind::Array => {
                 record.name = Cow::Borrowed(b"");
                 record.of = self.types.word()?;
                 record.index = self.types.word()?;
                 record.elements = self.types.word()?.into();
             }
-            4 | 5 => {
-                record.size = field.into();
-                record.parts = Parts::Members(self.members(length, has_flag)?);
-            }
-            6 | 19 => {
-                record.size = field.into();
-                record.parts = Parts::Values(self.values(length, kind == 19, has_flag)?);
-            }
-            7 => record.tag = if has_flag { Kind::Union } else { Kind::Struct },
-            12 => return Ok(Entry::Function(record.name, field)),
-            13 => self.function(&mut record, field, length)?,
-            14 => {
-                self.types.word()?;
-                return Ok(Entry::Variable(record.name, field));
-            }
-            15 => {
-                self.types.take(12 * length as usize)?;
-                return Ok(Entry::Other);
-            }
-            16 => {
-                record.size = field.into();
-                record.encoding.bits = 8 * u64::from(field);
-            }
-            17 => {
-                self.types.word()?;
-                return Ok(Entry::Other);
-            }
-            18 => return Ok(Entry::Alias(field)),
+            Kind::Function => self.function(record, field, count)?,
             _ => {
-                return refuse(format!(
-                "has a type of kind {kind} of BTF, which is newer than this program: kinds 1 to \
-                     19 are read"
-            ))
+                record.name = Cow::Borrowed(b"");
+                record.of = field;
             }
         }
-        Ok(Entry::Type(record))
+        Ok(())
     }
 
     fn integer(&mut self, record: &mut Record<'a>, size: u32) -> Result<()> {

@@ -285,12 +285,16 @@ impl<'a> Section<'a> {
         let count = usize::from(info & 0x3ff);
         let mut record = Record::new(kind, self.name(name)?);
         record.root = info >> 10 & 1 != 0;
-        match kind {
+        self.fields(&mut record, size, count)?;
+        Ok(record)
+    }
+
+    /// What a record says behind its name.
+    fn fields(&mut self, record: &mut Record<'a>, size: u64, count: usize) -> Result<()> {
+        match record.kind {
             Kind::Integer | Kind::Float => {
                 record.size = size;
-                let [low, high, offset, flags] = self.types.word()?.to_le_bytes();
-                let bits = u64::from(u16::from_le_bytes([low, high]));
-                record.encoding = Encoding { flags, offset, bits };
+                record.encoding = Encoding::of_word(self.types.word()?);
             }
             Kind::Array => {
                 record.size = size;
@@ -303,7 +307,7 @@ impl<'a> Section<'a> {
                 record.of = self.number(size as u16);
                 let listed = self.types.take(2 * (count + count % 2))?;
                 let listed: Vec<u16> = halves(listed).take(count).collect();
-                self.arguments(&mut record, &listed);
+                self.arguments(record, &listed);
             }
             Kind::Struct | Kind::Union => {
                 record.size = size;
@@ -313,17 +317,11 @@ impl<'a> Section<'a> {
                 record.size = size;
                 record.parts = Parts::Values(self.values(count)?);
             }
-            Kind::Forward => {
-                record.tag = match size {
-                    7 => Kind::Union,
-                    8 => Kind::Enum,
-                    _ => Kind::Struct,
-                };
-            }
+            Kind::Forward => record.tag = Kind::of_forward(size),
             Kind::Unknown | Kind::Atomic => {}
             _ => record.of = self.number(size as u16),
         }
-        Ok(record)
+        Ok(())
     }
 
     fn members(&mut self, size: u64, count: usize) -> Result<Box<[Member<'a>]>> {

@@ -315,12 +315,16 @@ impl<'a> Dictionary<'a> {
             _ => self.name(name)?,
         };
         let mut record = Record::new(kind, name);
-        match kind {
+        self.fields(&mut record, size, count)?;
+        Ok(Some(record))
+    }
+
+    /// What a record says behind its name.
+    fn fields(&mut self, record: &mut Record<'a>, size: u64, count: u32) -> Result<()> {
+        match record.kind {
             Kind::Integer | Kind::Float => {
                 record.size = size;
-                let [low, high, offset, flags] = self.types.word()?.to_le_bytes();
-                let bits = u64::from(u16::from_le_bytes([low, high]));
-                record.encoding = Encoding { flags, offset, bits };
+                record.encoding = Encoding::of_word(self.types.word()?);
             }
             Kind::Array => {
                 record.of = self.types.word()?;
@@ -329,7 +333,7 @@ impl<'a> Dictionary<'a> {
             }
             Kind::Function => {
                 record.of = size as u32;
-                self.arguments(&mut record, count as usize)?;
+                self.arguments(record, count as usize)?;
             }
             Kind::Struct | Kind::Union => {
                 record.size = size;
@@ -339,17 +343,11 @@ impl<'a> Dictionary<'a> {
                 record.size = size;
                 record.parts = Parts::Values(self.values(count)?);
             }
-            Kind::Forward => {
-                record.tag = match size {
-                    7 => Kind::Union,
-                    8 => Kind::Enum,
-                    _ => Kind::Struct,
-                };
-            }
+            Kind::Forward => record.tag = Kind::of_forward(size),
             Kind::Unknown | Kind::Atomic => {}
             _ => record.of = size as u32,
         }
-        Ok(Some(record))
+        Ok(())
     }
 
     fn arguments(&mut self, record: &mut Record<'a>, count: usize) -> Result<()> {

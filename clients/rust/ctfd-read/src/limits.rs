@@ -48,7 +48,7 @@ fn float(table: &mut Table<'_>, record: &mut Record<'_>) {
     if record.encoding.flags == 0 {
         let name = record.tagged();
         table.losses.push(format!(
-            "{name}: CTF has no word for how this float is encode; its encoding is 0"
+            "{name}: CTF has no word for how this float is encoded; its encoding is 0"
         ));
     }
 }

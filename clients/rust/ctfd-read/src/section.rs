@@ -80,23 +80,7 @@ pub fn encode(table: &Table<'_>) -> Result<Vec<u8>> {
     for record in &table.records[bases as usize..] {
         write(record, &number, &mut names, &mut types)?;
     }
-    let mut objects = Bytes::default();
-    table.objects.iter().for_each(|&n| objects.half(number(n).into()));
-    let mut functions = Bytes::default();
-    for one in &table.functions {
-        match one {
-            None => functions.half(0),
-            Some(function) => {
-                let listed = arguments(function, &number);
-                functions.half((Kind::Function as u64) << 11 | 1 << 10 | listed.len() as u64);
-                functions.half(number(function.of).into());
-                listed.into_iter().for_each(|n| functions.half(n));
-            }
-        }
-    }
-    while (objects.0.len() + functions.0.len()) % 4 != 0 {
-        functions.0.push(0);
-    }
+    let (objects, functions) = symbols(table, &number);
     let mut labels = Bytes::default();
     for (label, last) in &table.labels {
         labels.word(names.append(label));
@@ -119,6 +103,26 @@ pub fn encode(table: &Table<'_>) -> Result<Vec<u8>> {
     Ok(made.0)
 }
 
+/// The entries of objects, and those of functions, padded to four bytes together.
+fn symbols(table: &Table<'_>, number: &impl Fn(u32) -> u32) -> (Bytes, Bytes) {
+    let (mut objects, mut functions) = (Bytes::default(), Bytes::default());
+    table.objects.iter().for_each(|&n| objects.half(number(n).into()));
+    for one in &table.functions {
+        let Some(function) = one else {
+            functions.half(0);
+            continue;
+        };
+        let listed = arguments(function, number);
+        functions.half((Kind::Function as u64) << 11 | 1 << 10 | listed.len() as u64);
+        functions.half(number(function.of).into());
+        listed.into_iter().for_each(|n| functions.half(n));
+    }
+    while (objects.0.len() + functions.0.len()) % 4 != 0 {
+        functions.0.push(0);
+    }
+    (objects, functions)
+}
+
 /// The arguments; a 0 behind them says that more may follow.
 fn arguments(function: &Record<'_>, number: &impl Fn(u32) -> u32) -> Vec<u64> {
     let mut listed: Vec<u64> = function.arguments().iter().map(|&n| number(n).into()).collect();
@@ -133,9 +137,8 @@ fn write<'t>(
     names: &mut Names<'t>,
     made: &mut Bytes,
 ) -> Result<()> {
-    let arguments = arguments(record, number);
     let length = match record.kind {
-        Kind::Function => arguments.len(),
+        Kind::Function => arguments(record, number).len(),
         _ => record.members().len() + record.values().len(),
     };
     let field = match record.kind {
@@ -146,6 +149,23 @@ fn write<'t>(
         _ => number(record.of).into(),
     };
     // The head stands in front, but its name comes behind those of members in the strings.
+    let tail = tail_of(record, number, names)?;
+    made.word(names.place(&record.name));
+    made.half((record.kind as u64) << 11 | u64::from(record.root) << 10 | length as u64);
+    made.half(field.min(LONG_SIZE));
+    if field >= LONG_SIZE {
+        made.two(field);
+    }
+    made.0.extend(tail.0);
+    Ok(())
+}
+
+/// What stands behind the head of a record.
+fn tail_of<'t>(
+    record: &'t Record<'_>,
+    number: &impl Fn(u32) -> u32,
+    names: &mut Names<'t>,
+) -> Result<Bytes> {
     let mut tail = Bytes::default();
     match record.kind {
         Kind::Integer | Kind::Float => {
@@ -165,8 +185,9 @@ fn write<'t>(
             tail.word(record.elements);
         }
         Kind::Function => {
-            arguments.iter().for_each(|&n| tail.half(n));
-            if arguments.len() % 2 != 0 {
+            let listed = arguments(record, number);
+            listed.iter().for_each(|&n| tail.half(n));
+            if listed.len() % 2 != 0 {
                 tail.half(0);
             }
         }
@@ -178,14 +199,7 @@ fn write<'t>(
             }
         }
     }
-    made.word(names.place(&record.name));
-    made.half((record.kind as u64) << 11 | u64::from(record.root) << 10 | length as u64);
-    made.half(field.min(LONG_SIZE));
-    if field >= LONG_SIZE {
-        made.two(field);
-    }
-    made.0.extend(tail.0);
-    Ok(())
+    Ok(tail)
 }
 
 fn members<'t>(
@@ -204,7 +218,7 @@ fn members<'t>(
             tail.half(one.offset);
         } else {
             let tagged = record.tagged();
-            return refuse(format!("{tagged}: a member encoding outside of it: damage"));
+            return refuse(format!("{tagged}: a member lies outside of it: damage"));
         }
     }
     Ok(())

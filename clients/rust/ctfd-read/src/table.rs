@@ -65,6 +65,15 @@ impl Kind {
         })
     }
 
+    /// What a forward declares, by the number of its kind.
+    pub fn of_forward(number: u64) -> Kind {
+        match number {
+            7 => Kind::Union,
+            8 => Kind::Enum,
+            _ => Kind::Struct,
+        }
+    }
+
     /// Its name, as the service has it.
     pub fn name(self) -> &'static str {
         match self {
@@ -114,6 +123,14 @@ pub struct Encoding {
     pub offset: u8,
     /// Its width in bits.
     pub bits: u64,
+}
+
+impl Encoding {
+    /// That of a word of CTF: flags, offset and bits from the highest byte on.
+    pub fn of_word(word: u32) -> Encoding {
+        let [low, high, offset, flags] = word.to_le_bytes();
+        Encoding { flags, offset, bits: u16::from_le_bytes([low, high]).into() }
+    }
 }
 
 /// A member; `offset` is in bits, and `width` that of a bit-field.

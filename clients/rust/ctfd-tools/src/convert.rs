@@ -138,12 +138,19 @@ fn is_same(one: &Path, other: &Path) -> bool {
     real(one) == real(other)
 }
 
+fn path(name: &'static str) -> Arg {
+    Arg::new(name).value_parser(value_parser!(PathBuf))
+}
+
+fn word(name: &'static str, listed: &[&'static str]) -> Arg {
+    Arg::new(name).long(name).value_parser(PossibleValuesParser::new(listed.iter().copied()))
+}
+
+fn flag(name: &'static str) -> Arg {
+    Arg::new(name).long(name).action(ArgAction::SetTrue)
+}
+
 fn options() -> Command {
-    let path = |name: &'static str| Arg::new(name).value_parser(value_parser!(PathBuf));
-    let word = |name: &'static str, listed: &[&'static str]| {
-        Arg::new(name).long(name).value_parser(PossibleValuesParser::new(listed.iter().copied()))
-    };
-    let flag = |name: &'static str| Arg::new(name).long(name).action(ArgAction::SetTrue);
     let command = Command::new(NAME)
         .version(env!("CARGO_PKG_VERSION"))
         .about(ABOUT)
@@ -154,7 +161,12 @@ fn options() -> Command {
                 .help("an ELF file, an archive of object files, or a section of BTF or CTF"),
         )
         .arg(path("OUT").required(true).help("the dictionary to write; - is standard output"));
-    let reading = [
+    command.args(of_reading()).args(of_writing())
+}
+
+/// The options that say what is read.
+fn of_reading() -> [Arg; 8] {
+    [
         word("from", &["ctf", "btf", "dwarf", "gnu"]).help("the form to read"),
         Arg::new("dictionary")
             .long("dictionary")
@@ -186,8 +198,12 @@ fn options() -> Command {
             .value_name("N")
             .value_parser(value_parser!(usize))
             .help("how many threads read; as many as there are processors without it"),
-    ];
-    let writing = [
+    ]
+}
+
+/// The options that say what is written.
+fn of_writing() -> [Arg; 6] {
+    [
         path("parent").long("parent").value_name("FILE").help(
             "a dictionary: OUT is a child of it, with only the types that it lacks",
         ),
@@ -203,8 +219,7 @@ fn options() -> Command {
             .value_name("FILE")
             .help("report what was read, written and lost; - is standard output"),
         flag("lossy").help("end with status 0 even if CTF can't hold everything"),
-    ];
-    command.args(reading).args(writing)
+    ]
 }
 
 /// Runs the command; what was lost, a line each.
