@@ -362,6 +362,30 @@ pub fn loss_lines(losses: &[String]) -> Vec<String> {
     lines.into_iter().map(told).collect()
 }
 
+/// What a user is told of losses: that types, symbols or files are left out comes first, and of what
+/// else is many, how many there are, and how to see them.
+pub fn notice(losses: &[String], most: usize, how: &str) -> Vec<String> {
+    let (mut first, mut others): (Vec<String>, Vec<String>) =
+        loss_lines(losses).into_iter().partition(|line| is_grave(line));
+    if others.len() > most {
+        let left = others.len() - most + 1;
+        others.truncate(most - 1);
+        others.push(format!(
+            "{left} constructs more that CTF cannot represent were changed or left out: {how}"
+        ));
+    }
+    first.append(&mut others);
+    first
+}
+
+/// Whether a line says that types, symbols or files are left out.
+fn is_grave(line: &str) -> bool {
+    let mut words = line.split(' ');
+    let is_count = words.next().is_some_and(|word| word.bytes().all(|byte| byte.is_ascii_digit()));
+    let is_of_many = matches!(words.next(), Some("types" | "functions" | "unit" | "units"));
+    is_count && is_of_many || line.contains(": symbols are left out")
+}
+
 impl Table<'_> {
     /// The data model of its program.
     pub fn model(&self) -> Model {

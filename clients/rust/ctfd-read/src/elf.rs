@@ -21,6 +21,18 @@ pub fn has_debug(file: &Elf<'_>) -> bool {
         .is_some_and(|one| matches!(one.file_range(), Some((_, size)) if size > 0))
 }
 
+/// What to do with an object file of -flto.
+pub const LINK_IT: &str = "an object file of -flto has none of its own before it is linked: name \
+                           the linked program, or compile with -ffat-lto-objects";
+
+/// Whether it is an object file of -flto, without code of its own as a rule.
+pub fn is_lto(file: &Elf<'_>) -> bool {
+    let is_of_lto =
+        |name: &[u8]| name.starts_with(b".gnu.lto_") || name.starts_with(b".gnu.debuglto_");
+    file.kind() == ObjectKind::Relocatable
+        && file.sections().any(|one| one.name_bytes().is_ok_and(is_of_lto))
+}
+
 /// Where the debug information of a file is: in a file of its own, or in the file itself.
 pub struct DebugFile {
     /// The file that has it, where that is another.
@@ -69,6 +81,9 @@ pub fn debug_file(image: &Image, folders: &[PathBuf]) -> Result<DebugFile> {
         if is_debug {
             return Ok(DebugFile { debug: Some(found) });
         }
+    }
+    if is_lto(&file) {
+        return refuse(format!("it has no debug information: {LINK_IT}"));
     }
     let looked: Vec<String> = tried.iter().map(|path| path.display().to_string()).collect();
     let place = match looked.is_empty() {

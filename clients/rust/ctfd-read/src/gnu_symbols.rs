@@ -138,8 +138,17 @@ pub fn describe<'a>(
     };
     table.objects = of_kind(false).collect();
     table.functions = of_kind(true).map(|n| (n != 0).then(|| table.get(n).clone())).collect();
-    let kept = pairs.iter().filter(|&&(_, number)| number != 0).map(|(one, _)| key(one)).collect();
-    tell_losses(table, &known, &kept, file.is_some(), wanted);
+    let mut names: HashSet<Key<'a>> = known.by_name.keys().cloned().collect();
+    names.extend(known.by_place.keys().map(|(key, _)| key.clone()));
+    if file.is_some() {
+        // What is declared alone, or was optimized away, has no symbol.
+        let symbols: HashSet<Key<'a>> = pairs.iter().map(|(one, _)| key(one)).collect();
+        names.retain(|name| symbols.contains(name));
+    }
+    for (one, _) in pairs.iter().filter(|&&(_, number)| number != 0) {
+        names.remove(&key(one));
+    }
+    tell_losses(table, known.lost, names.len(), file.is_some(), wanted);
     let listed = pairs.into_iter().map(|(one, _)| one).collect();
     Ok(Symbols { table: if file.is_some() { wanted } else { SymbolTable::Names }, listed })
 }
@@ -158,30 +167,26 @@ fn of_file<'a>(
     symbols.listed.iter().map(pair).collect()
 }
 
-/// What was told and is left out.
-fn tell_losses<'a>(
+/// What was told and is left out: for want of the symbol table, or of a name of its own.
+fn tell_losses(
     table: &mut Table<'_>,
-    known: &Known<'a>,
-    kept: &HashSet<Key<'a>>,
+    lost: usize,
+    shared: usize,
     has_file: bool,
     wanted: SymbolTable,
 ) {
-    if known.lost != 0 {
+    if lost != 0 {
         let why = if has_file { "is not there" } else { "the section alone has not" };
         table.losses.push(format!(
-            "{} functions and objects of its GNU CTF are in the order of a symbol table that {why}: \
-             they are left out",
-            known.lost
+            "{lost} functions and objects of its GNU CTF are in the order of a symbol table that \
+             {why}: they are left out"
         ));
     }
-    let all: HashSet<&Key<'a>> =
-        known.by_name.keys().chain(known.by_place.keys().map(|(key, _)| key)).collect();
-    let left = all.into_iter().filter(|&key| !kept.contains(key)).count();
-    if left != 0 && (!kept.is_empty() || !has_file) {
+    if shared != 0 {
         let place = if has_file { wanted.word() } else { "it" };
         table.losses.push(format!(
-            "{left} functions and objects of its GNU CTF have no symbol of their own in {place}: \
-             they are left out"
+            "{shared} functions and objects of its GNU CTF have a name that several have in \
+             {place}: they are left out"
         ));
     }
 }

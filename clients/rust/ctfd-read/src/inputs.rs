@@ -268,12 +268,24 @@ fn symbols_of<'a>(file: Option<&'a Image>, sections: &Sections<'a>) -> Result<Op
     Ok(found.filter(|found| found.identity() == wanted))
 }
 
+/// Refuses the number of a dictionary where there are none to choose from.
+fn judge_number(form: Form, options: &Options) -> Result<()> {
+    match options.number {
+        Some(number) if form != Form::Ctf => refuse(format!(
+            "--dictionary {number} chooses one of several dictionaries of CTF version 2, and its \
+             types are read from {form}: leave it out"
+        )),
+        _ => Ok(()),
+    }
+}
+
 fn with_section(
     form: Form,
     section: &Section<'_>,
     options: &Options,
     run: &mut Use<'_>,
 ) -> Result<()> {
+    judge_number(form, options)?;
     let is_of_file = section.file.map(|file| file.elf().map(|file| !file.is_64())).transpose()?;
     let is_ilp32 = match options.model {
         Some(model) => model == Model::Ilp32,
@@ -307,6 +319,7 @@ fn has_short_longs(table: &Table<'_>) -> bool {
 
 fn with_dwarf(image: &Image, options: &Options, run: &mut Use<'_>) -> Result<()> {
     let path = image.path().display().to_string();
+    judge_number(Form::Dwarf, options).map_err(|error| error.of(&path))?;
     let files = elf::debug_file(image, &options.folders).map_err(|error| error.of(&path))?;
     let debug = files.debug.as_ref().unwrap_or(image);
     let file = image.elf().map_err(|error| error.of(&path))?;
@@ -371,6 +384,7 @@ fn note(image: &Image, symbols: &Symbols<'_>, debug: &Image) -> Result<String> {
 /// that a dictionary could go by.
 fn with_archive(image: &Image, data: &[u8], options: &Options, run: &mut Use<'_>) -> Result<()> {
     let path = image.path();
+    judge_number(Form::Dwarf, options).map_err(|error| error.of(path.display()))?;
     let members = members(path, data).map_err(|error| error.of(path.display()))?;
     let mut model = options.model;
     let mut with_debug = Vec::new();
@@ -399,8 +413,13 @@ fn with_archive(image: &Image, data: &[u8], options: &Options, run: &mut Use<'_>
         read_named(read, member.path())?;
     }
     if with_debug.is_empty() {
+        let is_lto = |member: &Image| member.elf().is_ok_and(|file| elf::is_lto(&file));
+        let advice = match members.iter().any(is_lto) {
+            true => elf::LINK_IT,
+            false => "compile these with -g",
+        };
         return refuse(format!(
-            "{}: an archive in which no object file has debug information: compile these with -g",
+            "{}: an archive in which no object file has debug information: {advice}",
             path.display()
         ));
     }

@@ -15,6 +15,9 @@ use std::path::{Path, PathBuf};
 use std::process::ExitCode;
 
 const NAME: &str = "ctfd-convert";
+/// How many lines tell losses of a user, and how to see all.
+const MOST_LINES: usize = 12;
+const ALL_LINES: &str = "--report - lists them all";
 const ABOUT: &str = "\
 Writes a program's types as a dictionary of CTF version 2.
 
@@ -29,7 +32,8 @@ pub fn main(words: Vec<OsString>) -> ExitCode {
     let words = Words::of(&options().get_matches_from(words));
     match convert(&words) {
         Ok(losses) => {
-            dictionary::loss_lines(&losses).iter().for_each(|line| warn(NAME, line));
+            let lines = dictionary::notice(&losses, MOST_LINES, ALL_LINES);
+            lines.iter().for_each(|line| warn(NAME, line));
             let is_lossy = !losses.is_empty() && !words.is_lossy;
             ExitCode::from(if is_lossy { LOSSY } else { 0 })
         }
