@@ -45,7 +45,7 @@ pub struct Collector<'a> {
     roots: Vec<u32>,
     losses: Vec<String>,
     units: usize,
-    foreign: BTreeMap<&'static str, usize>,
+    foreign: BTreeMap<String, usize>,
 }
 
 impl<'a> Collector<'a> {
@@ -97,8 +97,11 @@ impl<'a> Collector<'a> {
         is_linked: bool,
         is_ilp32: bool,
     ) -> Result<(Table<'a>, Vec<u32>)> {
-        let listed = self.foreign.iter().map(|(name, units)| format!("{units} units in {name}"));
-        let listed: Vec<String> = listed.collect();
+        let described = |(name, units): (&String, &usize)| match units {
+            1 => format!("1 unit in {name}"),
+            _ => format!("{units} units in {name}"),
+        };
+        let listed: Vec<String> = self.foreign.iter().map(described).collect();
         if self.units == 0 && !listed.is_empty() {
             let listed = listed.join(" and ");
             return refuse(format!(
@@ -116,7 +119,9 @@ impl<'a> Collector<'a> {
         }
         table.is_ilp32 = is_ilp32;
         table.losses = self.losses;
-        table.losses.extend(listed.iter().map(|one| format!("{one}: left out")));
+        table.losses.extend(listed.iter().map(|one| {
+            format!("{one} of the program: types of C alone are read; what it tells is left out")
+        }));
         Ok((table, self.roots))
     }
 }
@@ -135,7 +140,7 @@ fn read_unit<'a>(
         return Ok(Outcome::Nothing);
     }
     match top.constant(dw::DW_AT_language).map(|said| DwLang(said as u16)) {
-        Some(dw::DW_LANG_Mips_Assembler) => return Ok(Outcome::Nothing),
+        Some(dw::DW_LANG_Mips_Assembler | DwLang(0x31)) => return Ok(Outcome::Nothing),
         Some(language) if !is_of_c(language) => return Ok(Outcome::Foreign(language)),
         _ => {}
     }
@@ -211,11 +216,25 @@ fn is_of_c(language: DwLang) -> bool {
     )
 }
 
-fn language_name(language: DwLang) -> &'static str {
-    match language.static_string() {
-        Some(name) => name.trim_start_matches("DW_LANG_"),
-        None => "another language",
-    }
+/// How a language is called.
+fn language_name(language: DwLang) -> String {
+    let name = match language.0 {
+        0x04 | 0x1a | 0x21 | 0x2b => "C++",
+        0x1c => "Rust",
+        0x16 => "Go",
+        0x13 => "D",
+        0x03 | 0x0d | 0x2e | 0x2f => "Ada",
+        0x07 | 0x08 | 0x0e | 0x22 | 0x23 => "Fortran",
+        0x09 => "Pascal",
+        0x10 => "Objective-C",
+        0x11 => "Objective-C++",
+        0x1e => "Swift",
+        0x0b => "Java",
+        0x0a => "Modula-2",
+        0x17 => "Modula-3",
+        other => return format!("language 0x{other:x}"),
+    };
+    name.to_owned()
 }
 
 /// Reads one unit, with those that it imports. An entry has a number from when it is first named.
