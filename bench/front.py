@@ -1,9 +1,10 @@
 #!/usr/bin/env python3
 """Measures how many lines pass through ctfd-front in a second, beside a pipe to `ctfd serve`.
 
-usage: front.py PROGRAM [--lines N] [--library libctfd.a] [--nginx /usr/sbin/nginx]
+usage: front.py PROGRAM [--word kind|record] [--lines N] [--library libctfd.a]
+                [--nginx /usr/sbin/nginx]
 
-The lines are questions of `kind` on a dictionary of one type: 200,000 in all, by one client and by
+The lines are questions of `kind`, or of `record`, on a dictionary of one type: 200,000 in all, by one client and by
 50, written without waiting for replies, while replies are read. The pipe is written and read in the
 same way. Then 50 clients each wait for a reply before they ask again, and then lines are written to
 four services behind one front. The clock counts, and the best of three runs, since three processes
@@ -31,7 +32,9 @@ from streams import INT
 
 TOP = Path(__file__).resolve().parents[1]
 COMMAND = TOP / "clients" / "python" / "ctfd-front"
-KIND = b'{"s":7,"op":"kind","d":1,"t":1}\n'
+# The line that is asked, which --word names. The front batches `kind` in this spelling alone.
+ASKED = {word: b'{"s":7,"op":"%s","d":1,"t":1}\n' % word.encode() for word in ("kind", "record")}
+asked = ASKED["kind"]
 BEGIN = b'{"s":7,"op":"part","section":"ctf","bytes":"%s"}\n{"s":7,"op":"open"}\n' % INT.encode()
 PIECE = 65_536
 RUNS = 3
@@ -58,7 +61,7 @@ class Measured:
 
 def pipelined(ends: Sequence[Ends], lines: int) -> None:
     """Writes so many lines to each end, and reads their replies meanwhile."""
-    data = BEGIN + lines * KIND
+    data = BEGIN + lines * asked
     left = {written: memoryview(data) for written, _ in ends}
     owed = {read: lines + 2 for _, read in ends}
     with selectors.DefaultSelector() as ready:
@@ -87,13 +90,13 @@ def one_by_one(ends: Sequence[Ends], lines: int) -> None:
     with selectors.DefaultSelector() as ready:
         for written, read in ends:
             ready.register(read, selectors.EVENT_READ)
-            os.write(written, KIND)
+            os.write(written, asked)
         while left:
             for key, _ in ready.select():
                 os.read(key.fd, PIECE)
                 left[key.fd] -= 1
                 if left[key.fd]:
-                    os.write(writes[key.fd], KIND)
+                    os.write(writes[key.fd], asked)
                 else:
                     ready.unregister(key.fd)
                     del left[key.fd]
@@ -227,20 +230,23 @@ def in_process(archive: str, lines: int) -> Measured:
             replied(line)
         before, began = time.process_time(), time.monotonic()
         for _ in range(lines):
-            replied(KIND[:-1])
+            replied(asked[:-1])
         measured = Measured(time.monotonic() - began, time.process_time() - before)
         library.ctfd_end(ctypes.byref(handle))
     return measured
 
 
 def main() -> int:
+    global asked
     parser = argparse.ArgumentParser(description=__doc__,
                                      formatter_class=argparse.RawDescriptionHelpFormatter)
     parser.add_argument("program")
+    parser.add_argument("--word", choices=list(ASKED), default="kind")
     parser.add_argument("--lines", type=int, default=200_000)
     parser.add_argument("--library", metavar="libctfd.a")
     parser.add_argument("--nginx", metavar="nginx")
     given = parser.parse_args()
+    asked = ASKED[given.word]
     program, lines = os.path.abspath(given.program), given.lines
     ways: Dict[str, Callable[[], Measured]] = {
         "pipe": lambda: by_pipe(program, lines),

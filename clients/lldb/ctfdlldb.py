@@ -13,9 +13,11 @@ from typing import Any
 
 import lldb
 
-sys.path.append(str(pathlib.Path(__file__).resolve().parents[1] / "python"))
+# First: lldb looks for modules in the current folder too, where anybody's ctfd.py may be.
+sys.path.insert(0, str(pathlib.Path(__file__).resolve().parents[1] / "python"))
 
 import ctfd  # noqa: E402
+from ctfd.client import aliases  # noqa: E402
 from ctfd.debuginfo.command import Wanted  # noqa: E402
 from ctfd.debuginfo.keeping import Writer  # noqa: E402
 from ctfd.text import printable  # noqa: E402
@@ -36,9 +38,12 @@ def load(debugger: lldb.SBDebugger, words: str, result: lldb.SBCommandReturnObje
         refuse_object_file(path)
         with ctfd.Client() as client:
             made = WRITER.written(client, Wanted(path))
+            names = aliases.of_dictionary(ctfd.open_file(client.session(), path)).told()
     except ctfd.Error as error:
         result.SetError(printable(str(error)))
         return
+    if names:
+        result.AppendMessage(printable(names))
     words = f"--shlib {shlex.quote(path)} {shlex.quote(str(made))}"
     debugger.HandleCommand(f"target symbols add {words}")
 

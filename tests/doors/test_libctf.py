@@ -8,7 +8,7 @@ from pathlib import Path
 
 from .sections import (CONST, NOBITS, POINTER, PROGBITS, STRTAB, SYMTAB, Part, array, elf, integer,
                        record, section, symbol)
-from .support import CLIENTS, LIBRARY, Case, Outcome, Word, has, run
+from .support import CLIENTS, LIBRARY, Case, Outcome, Word, run
 
 OPENS = Path(__file__).with_name("opens.c")
 NAMES = b"\0char\0"
@@ -69,8 +69,7 @@ class Libctf(Case):
         self.assertEqual((beside.status, beside.output), (alone.status, alone.output))
 
     def test_exports_have_a_version(self) -> None:
-        if not has("readelf"):
-            self.skipTest("there is no readelf here")
+        self.needs("readelf")
         done = run("readelf", "-W", "--dyn-syms", LIBRARY)
         exported = [line.split()[-1] for line in done.output.splitlines() if "ctf_open" in line]
         self.assertTrue(exported)
@@ -112,8 +111,7 @@ class Libctf(Case):
     def test_a_file_that_is_cut_while_it_is_open(self) -> None:
         """The file is read, so that cutting it harms nobody."""
         maps = self.folder / "strace"
-        if not has("strace"):
-            self.skipTest("there is no strace here")
+        self.needs("strace")
         file = self.folder / "cut"
         file.write_bytes(self.file_of(ROWS, symbol(1), Part(".strtab", STRTAB, b"\0one\0")))
         run("strace", "-f", "-o", maps, "-e", "trace=mmap,openat", self.program, file)

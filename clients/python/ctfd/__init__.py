@@ -9,21 +9,26 @@ if sys.version_info < (3, 9):
     sys.exit("ctfd: %s is Python %d.%d, and 3.9 or later is needed: put another first on the PATH,"
              " such as Debian's python3" % ((sys.executable,) + sys.version_info[:2]))
 
-from typing import TYPE_CHECKING, Any
+from .client import startup  # first, and it imports nothing
 
-from . import text
-from .client.dictionary import Dictionary, open_file, open_source, taken, withdraw
-from .client.easy import open_path as open
-from .client.faults import (BadDictionary, BadSymbols, Error, Gone, Incomplete, NoMemory, NoParent,
-                            NoSuchType, NotFound, Refused, Unreadable)
-from .client.model import Model
-from .client.types import Encoding, Enumerator, Member, PointerTo, Signature, Type
-from .client.wire import Client, Session
-from .files.source import Source, read
-from .layout.places import Layout, Place, layout
-from .version import VERSION as __version__
-from .view.declare import declaration
-from .view.listing import definition, listing
+if startup.is_command():
+    startup.begin_command()
+with startup.AbsoluteFolders():
+    from typing import TYPE_CHECKING, Any
+
+    from . import text
+    from .client.dictionary import Dictionary, open_file, open_source, taken, withdraw
+    from .client.easy import open_path as open
+    from .client.faults import (BadDictionary, BadSymbols, Error, Gone, Incomplete, NoMemory,
+                                NoParent, NoSuchType, NotFound, Refused, Unreadable)
+    from .client.model import Model
+    from .client.types import Encoding, Enumerator, Member, PointerTo, Signature, Type
+    from .client.wire import Client, Session
+    from .files.source import Source, read
+    from .layout.places import Layout, Place, layout
+    from .version import VERSION as __version__
+    from .view.declare import declaration
+    from .view.listing import definition, listing
 
 __all__ = [
     "BadDictionary", "BadSymbols", "Client", "Dictionary", "Encoding", "Enumerator", "Error",
@@ -42,5 +47,6 @@ else:
         import importlib
 
         if name in __all__:
-            return importlib.import_module(f"{__name__}.{name}")
+            with startup.AbsoluteFolders():
+                return importlib.import_module(f"{__name__}.{name}")
         raise AttributeError(f"module {__name__!r} has no attribute {name!r}")

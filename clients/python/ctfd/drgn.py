@@ -2,8 +2,10 @@
 
     program.add_type_finder(ctfd.drgn.type_finder(program, dictionary))
 
-drgn then finds structs, unions, enums, typedefs and numbers by their names. Members and arguments
-are made when drgn asks for them. Types have no addresses: those are drgn's own, or a debug file's.
+drgn then finds structs, unions, enums, typedefs and numbers by their names. Where types of one name
+differ, that finds the first, and `struct dict__17` the one that is type 17: `names_of_several` tells
+of which there are. Members and arguments are made when drgn asks for them. Types have no addresses:
+those are drgn's own, or a debug file's.
 """
 from __future__ import annotations
 
@@ -11,6 +13,7 @@ from typing import Any, Callable, Dict, List, Optional
 
 import drgn
 
+from .client import aliases
 from .client.dictionary import Dictionary
 from .client.faults import NotFound
 from .client.types import QUALIFIERS, Type
@@ -30,6 +33,11 @@ QUALIFIED = {"const": drgn.Qualifiers.CONST, "volatile": drgn.Qualifiers.VOLATIL
 def type_finder(program: Any, dictionary: Dictionary) -> Finder:
     """What `program.add_type_finder` takes: it finds the types of a dictionary."""
     return Types(program, dictionary).find
+
+
+def names_of_several(dictionary: Dictionary) -> str:
+    """A line on names that stand for several types; "" where each stands for one."""
+    return aliases.of_dictionary(dictionary).told()
 
 
 class Types:
@@ -59,7 +67,8 @@ class Types:
 
     def _whole(self, name: str, kind: str) -> Optional[Type]:
         """A type that stands behind a forward of its name."""
-        return next((one for one in self.dictionary.find_all(name) if one.kind == kind), None)
+        return next((one for one in self.dictionary.find_all(name)
+                     if one.kind == kind and one.is_root), None)
 
     def of(self, t: Type) -> Any:
         """A type as drgn has it. What wraps others is made from the innermost on."""
@@ -76,7 +85,7 @@ class Types:
         if t.kind == "pointer":
             return self.program.pointer_type(inner, self.dictionary.pointer_size)
         if t.kind == "typedef":
-            return self.program.typedef_type(t.name, inner)
+            return self.program.typedef_type(aliases.name_of(t), inner)
         if t.kind == "array":
             return self.program.array_type(inner, t.count or None)
         return inner.qualified(inner.qualifiers | QUALIFIED[t.kind])
@@ -89,16 +98,16 @@ class Types:
         program = self.program
         if kind in ("struct", "union"):
             make = program.struct_type if kind == "struct" else program.union_type
-            return make(t.name or None, t.size or 0, [
+            return make(aliases.name_of(t) or None, t.size or 0, [
                 drgn.TypeMember(self._later(one.type, True), one.name or None, one.offset)
                 for one in t.members])
         if kind == "enum":
             return self._enum(t)
         if kind == "forward":
             if t.tag == "enum":
-                return program.enum_type(t.name or None)
+                return program.enum_type(aliases.name_of(t) or None)
             make = program.union_type if t.tag == "union" else program.struct_type
-            return make(t.name or None)
+            return make(aliases.name_of(t) or None)
         if kind == "function":
             told = t.signature
             return program.function_type(self.of(told.returns), [
@@ -122,15 +131,16 @@ class Types:
         name = {1: "char", 2: "short", 8: "long"}.get(t.size or 4, "int")
         number = self.program.int_type(name if is_signed else f"unsigned {name}", t.size or 4,
                                        is_signed)
-        return self.program.enum_type(t.name or None, number, [
+        return self.program.enum_type(aliases.name_of(t) or None, number, [
             drgn.TypeEnumerator(one.name, one.value) for one in listed])
 
     def _number(self, t: Type, kind: str) -> Any:
+        name = aliases.name_of(t)
         if kind == "float" and t.encoding.flags not in COMPLEX:
-            return self.program.float_type(t.name, t.size or 0)
+            return self.program.float_type(name, t.size or 0)
         if kind == "integer" and t.size:
             flags = t.encoding.flags
             if flags & BOOLEAN:
-                return self.program.bool_type(t.name, t.size)
-            return self.program.int_type(t.name, t.size, bool(flags & SIGNED))
+                return self.program.bool_type(name, t.size)
+            return self.program.int_type(name, t.size, bool(flags & SIGNED))
         return self.program.void_type()

@@ -5,6 +5,7 @@ import sys
 from typing import Any, Callable, Dict, List, Optional, Sequence, Tuple
 
 from ..client.faults import Error
+from ..client.startup import AbsoluteFolders
 from . import abi
 from .attributes import Attributes, MARK, Plain, plain
 from .types import CType, Member, Types, VOID
@@ -32,7 +33,8 @@ ESCAPES = {"n": 10, "t": 9, "r": 13, "0": 0, "\\": 92, "'": 39, '"': 34, "a": 7,
 def read(text: str, into: Types) -> Types:
     """The types of some declarations, added to others. Raises Error."""
     try:
-        from pycparser import CParser
+        with AbsoluteFolders():
+            from pycparser import CParser
     except ImportError as error:
         raise Error(f"reading declarations needs pycparser, which {sys.executable} has not: install"
                     " Debian's python3-pycparser, or by pip pycparser") from error

@@ -6,6 +6,7 @@ from typing import Any, Callable, Dict, Iterable, Iterator, List, Optional, Tupl
 from ..files import identity, source
 from ..files.source import Source
 from .. import text
+from . import aliases
 from .faults import BadSymbols, NoMemory, NoSuchType, NotFound, Refused, Unreadable
 from .gather import Gathering
 from .model import Model, POINTER_SIZES
@@ -267,7 +268,8 @@ class Dictionary:
     def find(self, name: Name) -> Type:
         """The type that C's name says, as "struct x **"; the least, where several have the name.
 
-        Qualifiers are left out, and pointers that the dictionary has not are made here.
+        Qualifiers are left out, and pointers that the dictionary has not are made here. Another
+        one of the name is found by that and its number, as "struct x__17".
         """
         base, stars = normal(name)
         found = self.type(0) if base == "void" else self._found(base)
@@ -281,8 +283,20 @@ class Dictionary:
         outcomes = self.session.ask_all([("find", fields) for fields in asked])
         found = next((one for one in outcomes if not isinstance(one, Refused)), outcomes[0])
         if isinstance(found, Refused):
-            raise found
+            other = self._other(base)
+            if other is None:
+                raise found
+            return other
         return self.type(found["t"])
+
+    def _other(self, base: str) -> Optional[Type]:
+        """A type that is named by its name and its number, since the name alone leads to none or
+        to another."""
+        name, number = aliases.parsed(base) or ("", 0)
+        if not name or number not in self.numbers and not self._is_parents(number):
+            return None
+        found = self.type(number)
+        return found if _called(found) in spellings(WORDS.get(name, name)) else None
 
     def find_all(self, name: Name) -> List[Type]:
         """All own types with a name, hidden ones among them: one name may stand for several.

@@ -1,9 +1,9 @@
 """The service in this process: the lines of the protocol, answered by libctfd.so.
 
 Where the library is found no process is started, and what is asked is answered the same. It is the
-one that CTFD_LIBRARY in the environment names, else the one beside this package, beside the command
-that runs, or of the clone that this package stands in, else the one that the system's loader or
-pkg-config knows.
+one that CTFD_LIBRARY in the environment names, else the one beside this package, beside the ctfd
+command that runs, or of the clone that this package stands in, else the one that the system's
+loader or pkg-config knows. One that another user could have put there does not count (trust.py).
 
 Each line is one call, which holds the interpreter's lock: so threads take turns, and an exception
 amid many requests leaves none half answered.
@@ -12,11 +12,10 @@ from __future__ import annotations
 
 import ctypes
 import os
-import sys
 from typing import Iterable, Iterator, List, Optional, cast
 
 from ..version import VERSION
-from . import service
+from . import trust
 from .faults import Gone
 
 NAME = f"libctfd.so.{VERSION.split('.')[0]}"
@@ -52,26 +51,33 @@ def find() -> Optional[Library]:
 
 def _places() -> Iterator[str]:
     """Where a library may be, the nearest first."""
-    package = os.path.dirname(os.path.dirname(os.path.realpath(__file__)))
-    command = os.path.realpath(sys.argv[0] if sys.argv else "")
-    installed = os.path.dirname(os.path.dirname(command))
-    for path in (os.path.join(package, NAME), os.path.join(package, "libctfd.so"),
-                 os.path.join(installed, "lib", NAME),
-                 *(os.path.join(folder, BUILT) for folder in service.above(package))):
-        if os.path.isfile(path):
-            yield path
-    yield NAME
-    folder = _of_pkg_config()
-    if folder:
-        yield os.path.join(folder, NAME)
+    package = os.path.dirname(os.path.dirname(trust.HERE))
+    found = [os.path.join(package, NAME), os.path.join(package, "libctfd.so")]
+    command, clone = trust.folder_of_command(), trust.folder_of_clone()
+    if command:
+        found.append(os.path.join(os.path.dirname(command), "lib", NAME))
+    if clone:
+        found.append(os.path.join(clone, BUILT))
+    yield from filter(_is_there, found)
+    yield NAME  # of the system's loader, which looks in no current folder
+    path = os.path.join(_of_pkg_config(), NAME)
+    if _is_there(path):
+        yield path
+
+
+def _is_there(path: str) -> bool:
+    return os.path.isfile(path) and trust.is_trusted(path)
 
 
 def _of_pkg_config() -> str:
     """The folder of the library that pkg-config knows, or ""."""
     import subprocess  # which takes longer than most questions
 
+    asked = trust.program("pkg-config")
+    if asked is None:
+        return ""
     try:
-        said = subprocess.run(["pkg-config", "--variable=libdir", "ctfd"], text=True,
+        said = subprocess.run([asked, "--variable=libdir", "ctfd"], text=True,
                               stdin=subprocess.DEVNULL, capture_output=True, timeout=PATIENCE)
     except (OSError, subprocess.TimeoutExpired):
         return ""

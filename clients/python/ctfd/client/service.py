@@ -1,18 +1,19 @@
 """Where the service is, and whether it speaks the protocol of this client.
 
 It is the program that the caller names, else the one that CTFD in the environment names, else the
-one beside the command that runs, else `ctfd` on the path, else the one that the clone with this
-package in it has built. CTFD_SOCKET in the environment names a socket in place of a program, where
+one beside the ctfd command that runs, else `ctfd` on the path, else the one that the clone with
+this package in it has built. Where none is named, one that another user could have put there does
+not count (trust.py). CTFD_SOCKET in the environment names a socket in place of a program, where
 none is named by the caller; behind a socket, CTFD_ROOM names the room.
 """
 from __future__ import annotations
 
 import os
 import re
-import sys
-from typing import Iterator, Optional
+from typing import Optional
 
 from ..version import VERSION
+from . import trust
 from .faults import Error, Gone
 
 BUILT = "crates/ctfd/out/ctfd"
@@ -23,20 +24,36 @@ _SAYS = re.compile(r"ctfd (\d+)\.(\d+)\.(\d+)\s*\Z")
 
 def find(name: Optional[str] = None) -> str:
     """The program to start, once it has told a version that this client speaks. Raises Error."""
-    import shutil  # here and below: who asks the library needs neither
-
     program = name or named()
     if program:
         why = "named by --service" if name else "named by CTFD in the environment"
-        found = shutil.which(os.path.expanduser(program))
+        found = path_of(os.path.expanduser(program))
         if found is None:
             raise Gone(f"{program}, {why}, is no program: name the built ctfd")
         return _judged(found)
-    found = _beside() or shutil.which("ctfd") or _built()
+    found = _beside() or trust.program("ctfd") or _built()
     if found is None:
         raise Gone("the service ctfd is not found: name it by --service or by CTFD in the"
-                   " environment, put it on the PATH, or build it (`make`)")
+                   " environment, put it on the PATH, or build it (`make`); one that another user"
+                   " could have put there is not run")
     return _judged(found)
+
+
+def to_start(name: str) -> str:
+    """The program of a client; one that is named is not judged, and "" stands for none."""
+    if not name:
+        return find()
+    found = path_of(name)
+    if found is None and not os.path.dirname(name):
+        raise Gone(f"the service {name} can't be started: it is not on the PATH")
+    return found or name
+
+
+def path_of(program: str) -> Optional[str]:
+    """A program that somebody names: by a path, or by a name that is looked for on the PATH."""
+    if not os.path.dirname(program):
+        return trust.program(program)
+    return program if _runs(program) else None
 
 
 def named() -> Optional[str]:
@@ -56,22 +73,22 @@ def room() -> Optional[str]:
 
 def _beside() -> Optional[str]:
     """The program that was installed with the command that runs, or None."""
-    command = os.path.realpath(sys.argv[0] if sys.argv else "")
-    program = os.path.join(os.path.dirname(command), "ctfd")
-    return program if os.path.isfile(program) and os.access(program, os.X_OK) else None
+    folder = trust.folder_of_command()
+    return _trusted(os.path.join(folder, "ctfd")) if folder else None
 
 
 def _built() -> Optional[str]:
     """The program of the clone that this file stands in, or None."""
-    places = (os.path.join(folder, BUILT) for folder in above(os.path.realpath(__file__)))
-    return next((place for place in places if os.access(place, os.X_OK)), None)
+    clone = trust.folder_of_clone()
+    return _trusted(os.path.join(clone, BUILT)) if clone else None
 
 
-def above(path: str) -> Iterator[str]:
-    """The folders that a path lies in, the nearest first."""
-    while path != os.path.dirname(path):
-        path = os.path.dirname(path)
-        yield path
+def _trusted(path: str) -> Optional[str]:
+    return path if _runs(path) and trust.is_trusted(path) else None
+
+
+def _runs(path: str) -> bool:
+    return os.path.isfile(path) and os.access(path, os.X_OK)
 
 
 def _judged(program: str) -> str:

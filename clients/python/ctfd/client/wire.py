@@ -90,7 +90,7 @@ class Client:
         from .channel import Pipes, Socket
 
         if self._socket is None:
-            return Pipes([command[0] or service.find(), *command[1:]])
+            return Pipes([service.to_start(command[0]), *command[1:]])
         return Socket(self._socket, self.patience, self._room)
 
     def __enter__(self) -> Client:

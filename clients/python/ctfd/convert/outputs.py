@@ -10,6 +10,7 @@ import tempfile
 from collections import Counter
 from typing import Iterator, List, Optional
 
+from ..client import trust
 from ..client.faults import BadSymbols, Error, Refused
 from ..replies import Opened
 from ..text import printable
@@ -94,12 +95,14 @@ def _write_standard(data: bytes) -> None:
         sys.stdout.buffer.flush()
     except OSError as error:
         os.dup2(os.open(os.devnull, os.O_WRONLY), sys.stdout.fileno())
+        if isinstance(error, BrokenPipeError):
+            raise
         raise Error(f"standard output: it can't be written: {error.strerror}") from error
 
 
 def add_section(path: str, made: Made, output: str) -> None:
     """Writes a copy of an ELF file with the dictionary in it, in place of one that it has."""
-    tools = [found for found in (shutil.which(one) for one in TOOLS) if found]
+    tools = [found for found in map(trust.program, TOOLS) if found]
     if not tools:
         raise Error("--section needs objcopy, which is not on the PATH: install binutils")
     with tempfile.TemporaryDirectory() as folder:

@@ -57,13 +57,15 @@ class Wanted:
 
 @dataclass
 class Made:
-    """The bytes of a debug file, what is in it, and what is to be known of it."""
+    """The bytes of a debug file, what is in it, and what is to be known of it: of its symbols, and
+    of names that stand for several types."""
 
     data: bytes
     types: int
     told: List[Told]
     build_id: bytes
     notes: List[str] = field(default_factory=list)
+    names: str = ""
 
     @property
     def counts(self) -> str:
@@ -107,6 +109,8 @@ def _run(session: Session, said: argparse.Namespace) -> int:
     for note in made.notes:
         running.warn(NAME, note)
     print(f"{printable(output)}: {made.counts}")
+    if made.names:
+        print(printable(made.names))
     return 0
 
 
@@ -133,6 +137,7 @@ def make(session: Session, wanted: Wanted) -> Made:
     producer = Producer(f"{NAME} {VERSION}", f"{os.path.basename(wanted.path)}.types.c")
     writer = UnitWriter(table, producer, places)
     debug = debugfile.Debug(writer.sections(made.told), writer.relocations())
+    made.names = writer.types.names.told()
     made.data = (debugfile.beside(image, twin, debug) if image and twin
                  else debugfile.of_types(table.model, debug))
     return made

@@ -51,7 +51,6 @@ class At(enum.IntEnum):
     PROTOTYPED = 0x27
     COUNT = 0x37
     MEMBER_LOCATION = 0x38
-    LINE = 0x3B
     DECLARATION = 0x3C
     ENCODING = 0x3E
     EXTERNAL = 0x3F

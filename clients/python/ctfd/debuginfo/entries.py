@@ -4,7 +4,7 @@ from __future__ import annotations
 import struct
 from typing import Callable, Dict, Iterable, List, NamedTuple, Optional, Tuple, Union
 
-from ..text import raw
+from ..text import printable, raw
 from .dwarf import ADDRESS, Address, At, Attribute, Form, Tag, VERSION, signed, unsigned
 from .relocations import Relocation
 
@@ -86,7 +86,8 @@ class Entries:
         self.info += b"\0\0\0\0"
 
     def _string(self, text: str) -> None:
-        data = raw(text)
+        """A name; debuggers print it as it is, so it has nothing that a terminal would obey."""
+        data = raw(printable(text))
         place = self._strings.get(data)
         if place is None:
             place = self._strings[data] = len(self.strings)

@@ -29,25 +29,32 @@ class Writer:
         read = [contents(path) for path in (wanted.path, wanted.symbols, wanted.parent) if path]
         name = cache.key(Image(read[0], wanted.path).build_id, read)
         place = self._place()
-        if not cache.known(place, name):
-            session = client.session()
-            try:
-                made = make(session, wanted)
-            finally:
-                session.ask("reset")
-            for note in made.notes:
-                self.say(printable(note))
-            cache.keep(place, name, made.data)
-        return place / name
+        if cache.known(place, name):
+            return place / name
+        session = client.session()
+        try:
+            made = make(session, wanted)
+        finally:
+            session.ask("reset")
+        for note in made.notes:
+            self.say(printable(note))
+        try:
+            return cache.keep(place, name, made.data)
+        except Error as error:  # as where the disk is full
+            return cache.keep(self._own(error), name, made.data)
 
     def _place(self) -> Path:
         try:
             return cache.folder()
         except Error as error:
-            if self._folder is None:
-                self.say(printable(str(error)))
-                self._folder = tempfile.TemporaryDirectory(prefix="ctfd-")
-            return Path(self._folder.name)
+            return self._own(error)
+
+    def _own(self, why: Error) -> Path:
+        """A folder that goes with the debugger, and why it is not the user's."""
+        if self._folder is None:
+            self.say(printable(str(why)))
+            self._folder = tempfile.TemporaryDirectory(prefix="ctfd-")
+        return Path(self._folder.name)
 
 
 def has_types(path: str) -> bool:

@@ -1,8 +1,10 @@
 """The types of a table as entries of DWARF."""
 from __future__ import annotations
 
-from typing import List
+from typing import Dict, Iterator, List, Set
 
+from ..client.aliases import Named, Names, TAGGED, alias, widest
+from ..client.dictionary import OWN_OF_CHILD
 from ..client.model import POINTER_SIZES
 from ..convert.held import size_of
 from ..layout.records import BOOLEAN, CHARACTER, Part, QUALIFIERS, Record, SIGNED, Table
@@ -25,6 +27,8 @@ class TypeWriter:
         self.table = table
         self.entries = Entries(POINTER_SIZES[table.model])
         self.widths = Widths(table)
+        self.names = Names(self._named())
+        self.clashes = self._clashes()
         self.added = 0
 
     @property
@@ -40,6 +44,43 @@ class TypeWriter:
     def _own(self) -> List[int]:
         """All but those for which a wider one stands."""
         return [n for n in self.table.numbers() if self.widths.wide(n) == n]
+
+    def _named(self) -> Iterator[Named]:
+        """The types with a name, those of a child before its parent's, as look-ups go; without the
+        integers that bit-fields have, of no more bits than another of their name."""
+        order = sorted(self._own(), key=lambda n: (n <= self.table.bases, n))
+        listed = [(n, self.table[n]) for n in order]
+        seen = widest((n, one.name, one.encoding.bits) for n, one in listed
+                      if one.kind == "integer" and one.root)
+        for number, record in listed:
+            found, bits = seen.get(record.name, (number, 0))
+            is_copy = (record.kind == "integer" and found != number
+                       and record.encoding.bits <= bits)
+            if record.name and not is_copy:
+                word = record.tag if record.kind == "forward" else record.kind
+                yield Named(self._in_dictionary(number), word if word in TAGGED else "",
+                            record.name, record.root, record.kind == "forward",
+                            self.widths.narrow[number])
+
+    def _clashes(self) -> Set[str]:
+        """The enumerators that have several values, if the name of an enum leads to another."""
+        enums = [n for n in self._own() if self.table[n].kind == "enum"]
+        if not any(self._is_other(n) for n in enums):
+            return set()
+        values: Dict[str, Set[int]] = {}
+        for number in enums:
+            for one in self.table[number].enumerators:
+                values.setdefault(one.name, set()).add(one.value)
+        return {name for name, known in values.items() if len(known) > 1}
+
+    def _is_other(self, number: int) -> bool:
+        """Whether a type's own name leads to none or to another."""
+        return self._in_dictionary(number) in self.names.aliases
+
+    def _in_dictionary(self, number: int) -> int:
+        """The number that a type has in the dictionary."""
+        bases = self.table.bases
+        return number - bases + OWN_OF_CHILD if 0 < bases < number else number
 
     def of(self, number: int) -> List[Attribute]:
         """The attribute that names a type; none for void."""
@@ -58,21 +99,19 @@ class TypeWriter:
         if not self._is_void(number):
             _WRITERS.get(record.kind, TypeWriter._reference)(self, number, record)
 
-    def named(self, record: Record, number: int = 0) -> List[Attribute]:
-        """The name. A hidden type has its number as its line: lldb takes two structs of one name
-        and size for one where they have not two lines."""
+    def named(self, record: Record, number: int) -> List[Attribute]:
+        """The name. A debugger that meets several types of one name takes any, so those to which
+        the name does not lead have another."""
         if not record.name:
             return []
-        said = [Attribute(At.NAME, Form.STRING, record.name)]
-        if number and not record.root:
-            said.append(Attribute(At.LINE, Form.UNSIGNED, number))
-        return said
+        name = self.names.aliases.get(self._in_dictionary(number), record.name)
+        return [Attribute(At.NAME, Form.STRING, name)]
 
     def _reference(self, number: int, record: Record) -> None:
         if record.kind == "typedef" and record.name.startswith(ATOMIC):
             self.entries.add(Tag.ATOMIC, self.of(record.type), number=number)
             return
-        said = self.named(record)
+        said = self.named(record, number)
         if record.kind == "pointer":
             said.append(Attribute(At.BYTE_SIZE, Form.DATA1, self.entries.address_size))
         self.entries.add(TAGS[record.kind], [*said, *self.of(record.type)], number=number)
@@ -102,7 +141,7 @@ class TypeWriter:
         self._base(number, record, encoding)
 
     def _base(self, number: int, record: Record, encoding: Encoding) -> None:
-        self.entries.add(Tag.BASE, [*self.named(record),
+        self.entries.add(Tag.BASE, [*self.named(record, number),
                                     Attribute(At.BYTE_SIZE, Form.UNSIGNED, record.size),
                                     Attribute(At.ENCODING, Form.DATA1, encoding)], number=number)
 
@@ -161,16 +200,19 @@ class TypeWriter:
         self.entries.add(Tag.MEMBER, [*said, *self.of(part.type), *place])
 
     def _enum(self, number: int, record: Record) -> None:
-        said = [*self.named(record), Attribute(At.BYTE_SIZE, Form.UNSIGNED, record.size)]
+        said = [*self.named(record, number), Attribute(At.BYTE_SIZE, Form.UNSIGNED, record.size)]
         self.entries.add(Tag.ENUMERATION, said, bool(record.enumerators), number)
+        renames = self._is_other(number)
         for one in record.enumerators:
-            self.entries.add(Tag.ENUMERATOR, [Attribute(At.NAME, Form.STRING, one.name),
+            name = (alias(one.name, self._in_dictionary(number))
+                    if renames and one.name in self.clashes else one.name)
+            self.entries.add(Tag.ENUMERATOR, [Attribute(At.NAME, Form.STRING, name),
                                               Attribute(At.CONST_VALUE, Form.SIGNED, one.value)])
         if record.enumerators:
             self.entries.end()
 
     def _forward(self, number: int, record: Record) -> None:
-        said = [*self.named(record), Attribute(At.DECLARATION, Form.PRESENT, None)]
+        said = [*self.named(record, number), Attribute(At.DECLARATION, Form.PRESENT, None)]
         self.entries.add(TAGS[record.tag], said, number=number)
 
     def whole_array(self, number: int, size: int) -> List[Attribute]:

@@ -9,7 +9,7 @@ from ..client.model import Model
 from .mapped import Mapped
 from .strings import Strings
 
-MAGIC = b"\x7fELF"
+MAGIC, HEAD = b"\x7fELF", 64
 NOBITS, SYMTAB, STRTAB, DYNSYM = 8, 2, 3, 11
 COMPRESSED = 0x800
 EXTENDED = 0xFFFF
@@ -43,6 +43,19 @@ FORMS = {
 }
 
 
+def form_of(data: bytes, path: str) -> Form:
+    """How a file is written, by its first bytes. Raises Unreadable where that is not read."""
+    if data[:4] != MAGIC:
+        raise Unreadable(f"{path}: no ELF file")
+    if data[5:6] == b"\x02":
+        raise Unreadable(f"{path}: a big-endian ELF file, which is not read: take a"
+                         " little-endian build of the program")
+    form = FORMS.get(data[4:5])
+    if form is None or data[5:6] != b"\x01":
+        raise Unreadable(f"{path}: an ELF file whose header is damaged or cut off")
+    return form
+
+
 class Section(NamedTuple):
     """A section's header, with its name found."""
 
@@ -71,22 +84,11 @@ class Elf:
     def __init__(self, data: Mapped, path: str = "the file") -> None:
         self.data = data
         self.path = path
-        self.form = self._judged()
+        self.form = form_of(data[:HEAD], path)
         try:
             self.sections = self._sections()
         except (struct.error, IndexError, OverflowError) as error:
             raise Unreadable(f"{path}: an ELF file whose section headers are cut off") from error
-
-    def _judged(self) -> Form:
-        if self.data[:4] != MAGIC:
-            raise Unreadable(f"{self.path}: no ELF file")
-        if self.data[5:6] == b"\x02":
-            raise Unreadable(f"{self.path}: a big-endian ELF file, which is not read: take a"
-                             " little-endian build of the program")
-        form = FORMS.get(self.data[4:5])
-        if form is None or self.data[5:6] != b"\x01":
-            raise Unreadable(f"{self.path}: an ELF file whose header is damaged or cut off")
-        return form
 
     @property
     def model(self) -> Model:

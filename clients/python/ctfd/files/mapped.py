@@ -1,18 +1,17 @@
-"""The bytes of files: mapped, where the system can, so that a large one takes no memory."""
+"""The bytes of files, read whole: who maps a file ends by SIGBUS once another user cuts it off."""
 from __future__ import annotations
 
-import mmap
 import os
 import stat
-from typing import Iterable, Union
+from typing import Iterable
 
 from ..client.faults import Unreadable
 from . import bounded
 
-LONGEST = 1 << 32  # of what tells no size of its own, as a pipe
+LONGEST = 1 << 32  # of a file, and of what tells no size of its own, as a pipe
 PIECE = 1 << 20
 
-Mapped = Union[bytes, mmap.mmap]
+Mapped = bytes
 
 
 def contents(path: str) -> Mapped:
@@ -42,31 +41,29 @@ def _opened(path: str, takes_pipe: bool) -> Mapped:
             raise Unreadable(f"{path}: it is no file with contents of its own, but a device or the"
                              " like, which is not read")
         with open(path, "rb") as file:
-            data = _mapped(file.fileno()) or _read(path, file.fileno())
-            bounded.read(len(data))
-            return data
+            return _read(path, file.fileno())
     except (OSError, ValueError) as error:  # ValueError: a name with a zero byte
         why = error.strerror if isinstance(error, OSError) else error
         raise Unreadable(f"{path}: {why}") from error
 
 
-def _mapped(handle: int) -> Mapped:
-    """A regular file, b"" where it is none or can't be mapped, as those of the kernel."""
-    found = os.fstat(handle)
-    if not stat.S_ISREG(found.st_mode) or not found.st_size:
-        return b""
-    try:
-        return mmap.mmap(handle, 0, access=mmap.ACCESS_READ)
-    except (OSError, ValueError):
-        return b""
-
-
 def _read(path: str, handle: int) -> bytes:
-    """All that comes, up to a bound."""
-    made = bytearray()
+    """All of a file: no more than a regular one has now, and no more than a bound of others, as
+    pipes and those of the kernel. What is read may take memory, so it counts before."""
+    found = os.fstat(handle)
+    length = found.st_size if stat.S_ISREG(found.st_mode) else 0
+    if length > LONGEST:
+        raise Unreadable(f"{path}: more than {LONGEST} bytes, which is not read")
+    bounded.read(length)
+    first = os.read(handle, length) if length else b""
+    if length and len(first) == length:  # one that grows or shrinks meanwhile is read as it was
+        return first
+    made = bytearray(first)
     while len(made) <= LONGEST:
-        piece = os.read(handle, PIECE)
+        piece = os.read(handle, min(PIECE, length - len(made)) if length else PIECE)
         if not piece:
             return bytes(made)
+        if not length:
+            bounded.read(len(piece))
         made += piece
     raise Unreadable(f"{path}: more than {LONGEST} bytes come from it")

@@ -9,12 +9,16 @@ from __future__ import annotations
 import argparse
 import asyncio
 import dataclasses
+import os
 import resource
+import shlex
+import stat
 import sys
 from typing import Callable, Optional, Sequence
 
 from ..client import service
 from ..client.faults import Error
+from ..files import archives, elf
 from ..tools.running import Help, add_version
 from . import listening
 from .front import Front, Options, TROUBLE
@@ -24,6 +28,7 @@ from .scanning import LAST_SESSION
 from .signals import Signals
 from .tagging import LONGEST
 
+REFUSED = 1
 SPARE_FILES = 32
 FILES_OF_A_PROCESS = 4
 MOST_PROCESSES = 256
@@ -48,6 +53,13 @@ def main(arguments: Optional[Sequence[str]] = None) -> int:
 
 
 async def _run(words: argparse.Namespace, signals: Signals) -> int:
+    programs = list(filter(_is_program, words.files))
+    for word in programs:
+        name, _, path = word.partition("=")
+        say(f"{path} is a program, and a service takes types alone: `ctfd-convert"
+            f" {shlex.quote(path)} OUT` writes them, then name {name}=OUT", Level.ERROR)
+    if programs:
+        return REFUSED
     command = [service.find(words.service), "serve", "--", *words.files]
     limits = Limits(**{field.name: getattr(words, field.name)
                        for field in dataclasses.fields(Limits)})
@@ -56,6 +68,18 @@ async def _run(words: argparse.Namespace, signals: Signals) -> int:
     options = Options(words.processes, words.withdraw, words.restart, words.stats, words.metrics,
                       words.stats or Options.metrics_every)
     return await Front(command, listener, limits, options).run(signals)
+
+
+def _is_program(word: str) -> bool:
+    """Whether the file of NAME=FILE is a program, a library, an object file or an archive."""
+    path = word.partition("=")[2]
+    try:
+        if not stat.S_ISREG(os.stat(path).st_mode):
+            return False
+        with open(path, "rb") as file:
+            return file.read(8).startswith((elf.MAGIC, archives.MAGIC, archives.THIN))
+    except (OSError, ValueError):  # the service tells why
+        return False
 
 
 def _listener(words: argparse.Namespace) -> listening.Listener:

@@ -26,6 +26,7 @@ from .told import families
 from .users import Account, Users, user_of
 
 ACCEPTED_AT_ONCE = 64
+LEAST_PATIENCE = 0.2  # seconds in which a service that answers ends by itself
 LEAST_TICK, LONGEST_TICK = 0.02, 1.0
 TOLD_AGAIN = 60.0  # seconds after which it is told again that a user is refused
 TROUBLE, NUMBERS_ENDED = 5, 7
@@ -132,7 +133,8 @@ class Front:
         self._change()
 
     async def _finish(self, running: Sequence["asyncio.Task[None]"]) -> None:
-        """Answers what was read, and ends."""
+        """Answers what was read, and ends: within the time that clients have to read."""
+        until = self._loop.time() + self._limits.grace
         self._is_stopping = True
         self._listen_on()
         self._listener.close()
@@ -141,13 +143,14 @@ class Front:
             connection.finish()
         await self._until(lambda: not self._open, self._limits.grace)
         if self._open:
-            say(f"{len(self._open)} connections did not read their replies, and are closed",
-                Level.WARNING)
+            say(f"{len(self._open)} connections were not answered, or did not read their replies,"
+                " and are closed", Level.WARNING)
         for connection in list(self._open):
             connection.close("unread")
         for task in running:
             task.cancel()
-        await asyncio.gather(*(service.finish() for service in self._services))
+        left = max(LEAST_PATIENCE, until - self._loop.time())
+        await asyncio.gather(*(service.finish(left) for service in self._services))
 
     def _stop(self) -> None:
         self._is_stopping = True

@@ -31,6 +31,8 @@ class Lines(logging.Handler):
     def emit(self, record: logging.LogRecord) -> None:
         level = getattr(record, "journal", Level.NOTICE)
         prefix = f"<{int(level)}>" if _is_journal() else ""
+        if sys.stderr is None:  # closed; print would take standard output
+            return
         try:
             print(f"{prefix}{NAME}: {record.getMessage()}", file=sys.stderr, flush=True)
         except OSError:

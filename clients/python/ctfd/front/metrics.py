@@ -1,7 +1,9 @@
 """What the front has seen, as a file for the textfile collector of Prometheus' node exporter."""
 from __future__ import annotations
 
+import contextlib
 import os
+import tempfile
 from dataclasses import dataclass
 from typing import Iterable, List, Tuple, Union
 
@@ -46,15 +48,29 @@ def gauge(name: str, help: str, *samples: Sample) -> Family:
 
 
 def write(path: str, families: Iterable[Family]) -> None:
-    """Puts the file in place whole, so that no reader finds half of it. Raises Error."""
+    """Puts the file in place whole, so that no reader finds half of it. It is written under a name
+    that nobody can know before: what another user put there may be a link. Raises Error."""
     text = "".join(f"{line}\n" for family in families for line in family.lines())
-    new = f"{path}.new"
+    new = None
     try:
-        with open(new, "w", encoding="ascii", errors="backslashreplace") as file:
+        handle, new = tempfile.mkstemp(dir=os.path.dirname(path) or ".", suffix=".new",
+                                       prefix=f".{os.path.basename(path)}-")
+        with open(handle, "w", encoding="ascii", errors="backslashreplace") as file:
+            os.fchmod(handle, 0o666 & ~_mask())
             file.write(text)
         os.replace(new, path)
     except OSError as error:
+        if new is not None:
+            with contextlib.suppress(OSError):
+                os.unlink(new)
         raise Error(f"{path}: {error.strerror}: statistics can't be written there") from error
+
+
+def _mask() -> int:
+    """What others may not do with a new file."""
+    found = os.umask(0o077)
+    os.umask(found)
+    return found
 
 
 def _escaped(value: str) -> str:

@@ -63,7 +63,9 @@ class Service:
         what = " before it answered"
         if self.is_ready:
             what = f", and {connections} connections with it"
-        advice = "; start ctfd-front again, or give it --restart" if is_last else ""
+        advice = "; start ctfd-front again" if is_last else ""
+        if is_last and self.has_served:
+            advice += ", or give it --restart"
         say(f"the service ended {cause(status)}{what}: see its message above{advice}",
             Level.ERROR)
         return status or ENDED_UNASKED
@@ -74,11 +76,11 @@ class Service:
         self._pause = 0.0 if has_lived else min(LONGEST_PAUSE, self._pause * 2 or 0.1)
         return self._pause
 
-    async def finish(self) -> None:
-        """Nothing more is asked: it ends by itself."""
+    async def finish(self, patience: float) -> None:
+        """Nothing more is asked: it ends by itself, or is killed after so many seconds."""
         if self._process:
             self._process.finish()
-            await self._process.status(self._limits.grace)
+            await self._process.status(patience)
 
     def kill(self) -> None:
         """Ends its process, whatever it does."""

@@ -9,8 +9,8 @@ from typing import Dict, Iterator, List, NamedTuple, Optional
 from ..client.faults import Unreadable
 from ..client.model import POINTER_SIZES
 from ..debuginfo.image import FORMS, Head
-from ..files.elf import Elf, MAGIC
-from ..files.mapped import contents
+from ..files.elf import HEAD, MAGIC, form_of
+from ..files.pieces import Pieces
 from .space import MappedFile, Mapping
 
 CORE, LOAD, NOTE = 4, 1, 4
@@ -38,16 +38,16 @@ class Core:
 
     def __init__(self, path: str, program: Optional[str] = None) -> None:
         self.path = path
-        self.data = contents(path)
-        if self.data[:4] != MAGIC:
+        self.file = Pieces(path)
+        head = self.file.read(0, HEAD)
+        if head[:4] != MAGIC:
             raise Unreadable(f"{path}: no core file, which is an ELF file")
-        self.elf = Elf(self.data, path)
-        self.model = self.elf.model
+        self.model = form_of(head, path).model
         self.form = FORMS[self.model]
         self.notes: List[Note] = []
         self.parts: List[Part] = []
         try:
-            self._read()
+            self._read(head)
             self.files = self._files(program)
         except (struct.error, OverflowError, IndexError) as error:
             raise Unreadable(f"{path}: a core file that is cut off or damaged") from error
@@ -66,27 +66,31 @@ class Core:
             if part is None or at >= part.start + part.length:
                 break
             behind = part.offset + at - part.start
-            made += self.data[behind:min(behind + length - len(made), part.offset + part.length)]
+            end = min(behind + length - len(made), part.offset + part.length)
+            piece = self.file.read(behind, end - behind)
+            if not piece:  # it was cut off meanwhile
+                break
+            made += piece
         return bytes(made)
 
     def close(self) -> None:
-        """A file needs none."""
+        self.file.close()
 
-    def _read(self) -> None:
-        head = Head(*self.form.head.unpack_from(self.data, 16))
+    def _read(self, begin: bytes) -> None:
+        head = Head(*self.form.head.unpack_from(begin, 16))
         if head.kind != CORE:
             raise Unreadable(f"{self.path}: an ELF file that is no core file")
+        listed = self.file.read(head.segments_at, head.segments * self.form.segment.size)
         for number in range(head.segments):
-            at = head.segments_at + number * self.form.segment.size
-            fields = self.form.segment.unpack_from(self.data, at)
+            fields = self.form.segment.unpack_from(listed, number * self.form.segment.size)
             kind, offset, address, size = (
                 (fields[0], fields[2], fields[3], fields[5]) if self.model == "lp64"
                 else (fields[0], fields[1], fields[2], fields[4]))
-            size = max(0, min(size, len(self.data) - offset))  # one may be cut off
+            size = max(0, min(size, self.file.length - offset))  # one may be cut off
             if kind == LOAD and size:
                 self.parts.append(Part(address, offset, size))
             elif kind == NOTE:
-                self.notes += _notes(self.data[offset:offset + size])
+                self.notes += _notes(self.file.read(offset, size))
         self.parts.sort()
 
     def _note(self, kind: int) -> bytes:

@@ -14,7 +14,7 @@ from ..values.operands import BadExpression, Code, Located, Number, Operand, Ste
 from ..view.declare import declaration, declarator, function
 
 from . import native
-from .inferior import Inferior
+from .inferior import Inferior, has_program
 from .loaded import Loaded
 from .state import STATE, bounds, style
 
@@ -146,7 +146,7 @@ class Load(Command):
                                 " \"ctf load FILE\".")
         found = STATE.open(words[0])
         parent = STATE.open(words[1], found.types.model) if len(words) > 1 else None
-        one = Loaded(found, parent)
+        one = Loaded(found, parent, found.image is None and not has_program())
         try:
             if parent:
                 found.types.import_parent(parent.types)
@@ -155,7 +155,7 @@ class Load(Command):
             raise
         STATE.forget([old for old in STATE.loaded if old.program.path == found.path])
         STATE.loaded.insert(0, one)
-        print("\n".join(filter(None, [one.told(), one.warning()])))
+        print("\n".join([one.told(), *one.warnings()]))
         if GIVEN.value:
             self.give(found.path, parent.path if parent else None)
 

@@ -6,6 +6,6 @@ FOLDER = pathlib.Path((lambda: None).__code__.co_filename).resolve().parents[2]
 if str(FOLDER) not in sys.path:
     sys.path.append(str(FOLDER))
 
-from . import commands  # noqa: E402
+from ctfd.plugin import commands  # noqa: E402  (gdb runs this file by itself)
 
 commands.register()

@@ -24,8 +24,17 @@ def pointer_size() -> int:
     return int(gdb.lookup_type("void").pointer().sizeof)
 
 
+def has_program() -> bool:
+    """Whether gdb's architecture is a program's, or one that the user has set: else it is that of
+    gdb's own default, of 32 bits on some machines of 64."""
+    return bool(gdb.current_progspace().filename or gdb.selected_inferior().pid
+                or gdb.parameter("architecture") != "auto")
+
+
 def model_of_program() -> Model:
-    """The data model of the program."""
+    """The data model of the program; without one a section by itself is taken for lp64."""
+    if not has_program():
+        return "lp64"
     size = pointer_size()
     found = of_pointers(size)
     if found is None:

@@ -3,11 +3,12 @@ from __future__ import annotations
 
 import os
 import re
-from typing import Iterator, Optional
+from typing import Iterator, List, Optional
 
 import gdb
 
 import ctfd
+from ..client import aliases
 from ..text import printable
 from ..files import source
 from ..files.elf import RELOCATABLE, Elf
@@ -28,12 +29,16 @@ _PLACED = re.compile(r"Entry point: (0x[0-9a-f]+)")
 
 
 class Loaded:
-    """A file whose types were loaded; `parent` was loaded for it, if it is a child."""
+    """A file whose types were loaded; `parent` was loaded for it, if it is a child. Alone is a
+    section by itself where gdb has no program."""
 
-    def __init__(self, program: Program, parent: Optional[Program]) -> None:
+    def __init__(self, program: Program, parent: Optional[Program], is_alone: bool = False
+                 ) -> None:
         self.program = program
         self.parent = parent
         self.is_main = _is_main(program)
+        self.is_alone = is_alone
+        self.names = aliases.of_dictionary(program.types)
 
     def slide(self) -> int:
         """How far from its file's addresses it is in memory."""
@@ -84,6 +89,8 @@ class Loaded:
         said = f"{self.program.path}: {types.own} types, {len(self.program.symbols)} symbols"
         if types.model != "lp64":
             said += f", {types.model}"
+        elif self.is_alone:
+            said += ", lp64 (gdb has no program)"
         if types.is_child and not self.parent:
             said += f", without its parent {types.parent_name}"
         try:
@@ -92,21 +99,26 @@ class Loaded:
             slide = 0
         return printable(said) + (f", at 0x{slide:x}" if slide else "")
 
-    def warning(self) -> str:
-        """What is to be known of its symbols, or ""."""
-        return WARNINGS.get(self.program.types.how, "")
+    def warnings(self) -> List[str]:
+        """What is to be known of its symbols, and of names that stand for several types."""
+        known = (WARNINGS.get(self.program.types.how, ""), printable(self.names.told()))
+        return [one for one in known if one]
 
     def named(self, part: str) -> Iterator[str]:
         """Lines on the types and symbols that have a text in their names."""
         types = self.program.types
         own = types.types() + (self.parent.types.types() if self.parent else [])
         types.fetch([("record", t.number) for t in own])
-        found = [t for t in own if t.kind in NAMED and part in t.name]
+        known = self.names.aliases
+        found = [t for t in own if t.kind in NAMED and part in known.get(t.number, t.name)]
         types.fetch([(op, t.number) for t in found for op in ("name", "size")])
         for t in found:
             size = "" if t.size is None else f", {t.size} bytes"
             word = "typedef " if t.kind == "typedef" else ""
-            yield f"{word}{printable(t.spelled)}{size}"
+            name = t.spelled
+            if t.number in known:
+                name = name[:len(name) - len(t.name)] + known[t.number]
+            yield f"{word}{printable(name)}{size}"
         for name in self.program.symbols:
             if part in name:
                 yield self._symbol(name)

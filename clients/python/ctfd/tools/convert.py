@@ -21,7 +21,7 @@ from ..convert.made import Made
 from ..files import bounded
 from ..files.elf import MAGIC
 from ..files.mapped import contents
-from . import convert_words, running
+from . import convert_words, ending, running
 from .convert_words import TABLES
 
 NAME = "ctfd-convert"
@@ -31,11 +31,17 @@ FAITHFUL, LOSSY, FAILED, INTERRUPTED = 0, 1, 2, 130
 def main(arguments: Optional[Sequence[str]] = None) -> int:
     """The command; its exit status."""
     said = words(arguments)
+    return ending.outcome(_warn, FAILED, lambda: _status(said))
+
+
+def _status(said: argparse.Namespace) -> int:
     try:
         with running.keeping(), bounded.memory():
             losses = convert(said)
     except KeyboardInterrupt:
         return INTERRUPTED
+    except BrokenPipeError:
+        return ending.UNREAD
     except Exception as error:
         _warn(_why(said.input, error))
         return FAILED

@@ -4,6 +4,7 @@ the logger `ctfd`.
 """
 from __future__ import annotations
 
+import contextlib
 import logging
 import sys
 
@@ -18,7 +19,9 @@ class Lines(logging.Handler):
         self.command = command
 
     def emit(self, record: logging.LogRecord) -> None:
-        print(f"{self.command}: {printable(record.getMessage())}", file=sys.stderr)
+        if sys.stderr is not None:  # closed; print would take standard output
+            with contextlib.suppress(OSError):  # its reader has left
+                print(f"{self.command}: {printable(record.getMessage())}", file=sys.stderr)
 
 
 def log(command: str) -> logging.Logger:

@@ -12,6 +12,7 @@ from typing import Callable, Iterator, Optional
 from ..client.faults import Error
 from ..client.wire import Session, connected
 from ..version import VERSION
+from . import ending
 
 # New objects that are looked through, and how often that is done before older ones are.
 SELDOM = (100_000, 50, 1000)
@@ -52,12 +53,17 @@ def add_version(parser: argparse.ArgumentParser) -> None:
 
 def run(command: str, program: Optional[str], work: Callable[[Session], int], trouble: int) -> int:
     """The status of what `work` does in a session of its own, or that of trouble."""
+    return ending.outcome(lambda said: warn(command, said), trouble,
+                          lambda: _status(command, program, work, trouble))
+
+
+def _status(command: str, program: Optional[str], work: Callable[[Session], int],
+            trouble: int) -> int:
     if isinstance(sys.stdout, io.TextIOWrapper):
         sys.stdout.reconfigure(errors="backslashreplace")
     try:
         with keeping(), connected(program) as client:
             status = work(client.session())
-        sys.stdout.flush()
         return status
     except BrokenPipeError:  # a reader such as head has left
         os.dup2(os.open(os.devnull, os.O_WRONLY), sys.stdout.fileno())

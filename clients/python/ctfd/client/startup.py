@@ -1,0 +1,67 @@
+"""What comes before the package's other modules are imported, so that those are Python's and ours.
+
+Python run with `-c`, with `-`, or interactively looks for modules in the current folder first, and
+a debugger may too. Whoever could put a `json.py` there would have it run here. This module imports
+nothing that Python has not imported yet.
+"""
+import os
+import sys
+
+# What is imported when it is first needed, by this package or by what it imports.
+LATE = ("argparse", "bisect", "copy", "ctypes", "dataclasses", "decimal", "difflib", "enum",
+        "errno", "fcntl", "gc", "grp", "gzip", "hashlib", "html", "importlib", "io", "logging",
+        "lzma", "operator", "platform", "pwd", "random", "re", "resource", "selectors", "shlex",
+        "shutil", "signal", "socket", "stat", "subprocess", "tempfile", "time", "traceback",
+        "weakref", "zlib")
+
+
+class AbsoluteFolders:
+    """Within it modules come from folders alone that are named from the root on."""
+
+    def __enter__(self) -> None:
+        self.before = sys.path[:]
+        sys.path[:] = [one for one in self.before if os.path.isabs(one)]
+        if len(sys.path) == len(self.before):
+            return
+        for name in LATE:
+            try:
+                __import__(name)
+            except ImportError:  # Python was built without it
+                pass
+
+    def __exit__(self, *_: object) -> None:
+        sys.path[:] = self.before
+
+
+def is_command() -> bool:
+    """Whether a command of this package is what Python runs."""
+    path = getattr(sys.modules.get("__main__"), "__file__", None) or ""
+    return os.path.basename(os.path.realpath(path)).startswith("ctfd-")
+
+
+def begin_command() -> None:
+    """Until a command has begun, an interrupt ends it as it would a program that catches none. No
+    file that it opens takes the number of one of the three that each program has."""
+    import atexit
+    import signal
+
+    atexit.register(_end_command)
+    if signal.getsignal(signal.SIGINT) is signal.default_int_handler:
+        signal.signal(signal.SIGINT, signal.SIG_DFL)
+    while True:
+        handle = os.open(os.devnull, os.O_RDWR)
+        if handle > 2:
+            os.close(handle)
+            return
+
+
+def _end_command() -> None:
+    """What was printed last, as by --help, may find no reader or no room either."""
+    from ..tools import ending
+
+    why = ending.lost() if sys.stdout is not None else None
+    if why and sys.stderr is not None:
+        sys.stderr.write(f"{os.path.basename(sys.argv[0])}: {why}\n")
+        sys.stderr.flush()
+    if why is not None:
+        os._exit(2 if why else ending.UNREAD)
