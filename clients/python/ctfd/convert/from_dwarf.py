@@ -17,7 +17,8 @@ from .joining import Joiner
 
 KINDS = {
     tags.STRUCTURE: "struct", tags.CLASS: "struct", tags.UNION: "union",
-    tags.ENUMERATION: "enum", tags.POINTER: "pointer", tags.TYPEDEF: "typedef",
+    tags.ENUMERATION: "enum", tags.POINTER: "pointer", tags.REFERENCE: "pointer",
+    tags.RVALUE_REFERENCE: "pointer", tags.TYPEDEF: "typedef",
     tags.CONST: "const", tags.VOLATILE: "volatile", tags.RESTRICT: "restrict",
     tags.ATOMIC: "atomic",
 }
@@ -176,6 +177,11 @@ class Reader:
             return self._array(entry)
         if tag == tags.SUBROUTINE:
             return self._function(list(entry.children()), self.type(entry))
+        if tag == tags.UNSPECIFIED:
+            return Record("unknown", name)
+        called = f" {name}" if name else ""
+        self._lost(f"a type{called} of tag 0x{tag:x} in the debug information, which is none of C:"
+                   " an unknown type stands in its place")
         return Record("unknown", name)
 
     def _members(self, entry: Entry) -> Tuple[Part, ...]:
