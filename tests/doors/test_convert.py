@@ -46,6 +46,28 @@ abbreviations:
 	.uleb128 0, 0
 	.byte 0
 """
+# Two files of which each has a struct of one name, and symbols that others see or not.
+ONE = """
+struct pair { int a; char *b; };
+struct pair both; static int hidden = 3; int (*hook)(struct pair *, int);
+int add(struct pair *p, int by) { return p->a += by + hidden; }
+static void quiet(void) { hidden++; }
+int many(const char *f, ...) { quiet(); return *f; }
+int main(void) { return many("x"); }
+"""
+TWO = """
+struct pair { long c; };
+static struct pair other; struct pair *where = &other;
+struct half { char *hook; };
+double half(double x, struct half *y) { return x / 2; }
+"""
+EXPORTED = {
+    "both": "struct pair both;", "hook": "int (*hook)(struct pair *, int);",
+    "where": "struct pair *where;", "add": "int add(struct pair *, int);",
+    "many": "int many(const char *, ...);", "main": "int main(void);",
+    "half": "double half(double, struct half *);",
+}
+OWN = {"hidden": "int hidden;", "quiet": "void quiet(void);"}
 
 
 class Conversion(Case):
@@ -87,6 +109,106 @@ class Tags(Conversion):
         self.assertEqual(done.status, 1, done.text)
         self.assertRegex(done.errors, "tag 0x44.*unknown")
         self.assertIn("unknown", self.dumped())
+
+
+class SymbolsOfGnu(Conversion):
+    """What `gcc -gctf` tells of symbols, in an object file by their names, in what ld links by
+    their order. The peer is objdump."""
+
+    def linked(self, *options: str) -> Path:
+        objects = [self.compiled(code, "-gctf", "-fPIC", name=f"{name}.o")
+                   for name, code in (("one", ONE), ("two", TWO))]
+        made = self.folder / "linked"
+        subprocess.run(["gcc", *options, "-o", made, *objects], check=True)
+        return made
+
+    def assert_told(self, file: Path, wanted: "dict[str, str]") -> None:
+        for name, text in wanted.items():
+            self.assertEqual(run(tool("types"), file, name).output, text + "\n", name)
+
+    def assert_report(self, file: Path, told: str, *words: str) -> Outcome:
+        done = self.converted(file, "--report", "-", *words)
+        self.assertIn(f"symbols: {told}", done.output)
+        return done
+
+    def peer(self, file: Path) -> str:
+        done = subprocess.run(["objdump", "--ctf=.ctf", "--ctf-parent=.ctf", file],
+                              capture_output=True, text=True)
+        return done.stdout
+
+    def test_an_object_file(self) -> None:
+        made = self.compiled(ONE, "-gctf", name="one.o")
+        self.assertRegex(self.peer(made), r"(?s)Data objects:.*hidden ->.*Function objects:.*add ->")
+        done = self.assert_report(made, "3 of 3 objects, 4 of 4 functions, by .symtab")
+        self.assertEqual((done.status, done.errors), (0, ""))
+        names = ("both", "hook", "add", "many", "main")
+        self.assert_told(made, {**{name: EXPORTED[name] for name in names}, **OWN})
+
+    def test_a_library(self) -> None:
+        made = self.linked("-shared")
+        self.assertRegex(self.peer(made), r"(?s)hook ->.*where ->.*many ->.*add ->.*both ->")
+        done = self.assert_report(made, "3 of 13 objects, 4 of 11 functions, by .symtab")
+        self.assertEqual((done.status, done.errors), (0, ""))
+        self.assert_told(made, EXPORTED)
+        self.assert_report(made, "3 of 3 objects, 4 of 4 functions, by .dynsym",
+                           "--symbols", "dynsym")
+        subprocess.run(["strip", made], check=True)
+        done = self.assert_report(made, "0 of 0 objects, 0 of 0 functions, by .symtab")
+        self.assertRegex(done.errors, "stripped of .symtab.*--symbols dynsym")
+        self.assert_told(made, EXPORTED)
+
+    def test_a_program_of_which_nothing_is_told(self) -> None:
+        made = self.linked()
+        self.assertNotIn("add ->", self.peer(made))
+        done = self.converted(made)
+        self.assertRegex(done.errors, "its GNU CTF tells nothing of the .* functions and objects")
+
+    def bare(self, file: Path) -> Path:
+        """The section by itself."""
+        made = self.folder / "bare"
+        subprocess.run(["objcopy", "-O", "binary", "--only-section=.ctf", "--set-section-flags",
+                        ".ctf=alloc", file, made], check=True)
+        return made
+
+    def test_a_section_alone(self) -> None:
+        done = self.assert_report(self.bare(self.compiled(ONE, "-gctf", name="one.o")),
+                                  "3 of 3 objects, 4 of 4 functions, by names")
+        self.assertEqual((done.status, done.errors), (0, ""))
+        self.assert_told(self.folder / "bare", OWN)
+
+    def test_a_section_whose_symbols_are_elsewhere(self) -> None:
+        made = self.compiled(ONE, "-gctf", "-fPIC", "-shared", name="one.so")
+        done = self.converted(self.bare(made))
+        self.assertEqual(done.status, 1)
+        self.assertRegex(done.errors, "5 functions and objects of its GNU CTF are in the order of")
+        done = self.converted(self.bare(self.linked("-shared")))  # names of types are there too
+        self.assertEqual(done.status, 2)
+        self.assertRegex(done.errors, "names stand in the strings of the ELF file")
+
+
+class SymbolsOfStripped(Conversion):
+    def test_those_of_the_debug_file(self) -> None:
+        self.needs("objcopy", "strip")
+        made = self.compiled(ONE, "-g", name="made.exe")
+        debug = self.folder / "made.debug"
+        subprocess.run(["objcopy", "--only-keep-debug", made, debug], check=True)
+        subprocess.run(["strip", made], check=True)
+        subprocess.run(["objcopy", f"--add-gnu-debuglink={debug}", made], check=True)
+        self.assertNotRegex(subprocess.run(["readelf", "-SW", made], capture_output=True,
+                                           text=True).stdout, r"\.symtab")
+        done = self.converted(made, "--report", "-")
+        self.assertEqual(done.status, 0)
+        self.assertIn("symbols: 3 of 3 objects, 4 of 4 functions, by names", done.output)
+        self.assertRegex(done.errors, f"stripped of .symtab: the 7 functions and objects are those"
+                                      f" of {debug}, by their names")
+        for file in (self.folder / "out.ctf", self.with_section(made)):
+            for name, text in OWN.items():
+                self.assertEqual(run(tool("types"), file, name).output, text + "\n")
+
+    def with_section(self, program: Path) -> Path:
+        made = self.folder / "with"
+        self.assertEqual(run(tool("convert"), "--section", program, made).status, 0)
+        return made
 
 
 if __name__ == "__main__":

@@ -13,7 +13,7 @@ from ..layout.records import Table
 from . import outputs
 from .choose import fitting, named, shared, told_left_out
 from .held import held
-from .inputs import Input, Options, read
+from .inputs import Input, Options, read, symbols_told
 from .made import Made
 from .merge import merged, named_once
 from .written import MOST_TYPES
@@ -91,15 +91,12 @@ def _pruned(table: Table, symbols: Symbols) -> Symbols:
     own; the table's entries with them."""
     if symbols.table != NAMES:
         return symbols
-    objects = [(one, n) for one, n in zip(symbols.objects, table.objects) if n]
-    functions = [(one, told) for one, told in zip(symbols.functions, table.functions) if told]
-    left = len(symbols.listed) - len(objects) - len(functions)
+    kept = symbols_told(table, symbols)
+    left = len(symbols.listed) - len(kept.listed)
     if left:
         table.losses.append(f"{left} functions and variables are left out, because the types that"
                             " they name are")
-    table.objects = [n for _, n in objects]
-    table.functions = [told for _, told in functions]
-    return Symbols(NAMES, (*(one for one, _ in objects), *(one for one, _ in functions)))
+    return kept
 
 
 def _roots(table: Table) -> Set[int]:

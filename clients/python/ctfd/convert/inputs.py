@@ -12,7 +12,7 @@ from ..files.elf import Elf
 from ..files.mapped import Mapped, contents
 from ..files.symbols import DYNSYM, NAMES, SYMTAB, Symbols, Wanted, considered, table_of
 from ..layout.records import Record, Table
-from . import from_btf, from_ctf, from_dwarf, from_gnu
+from . import from_btf, from_ctf, from_dwarf, from_gnu, gnu_symbols
 from .dwarf.files import Debug
 from .dwarf.sections import Sections
 from .progress import Progress
@@ -161,21 +161,39 @@ def _strings(file: Elf, link: int) -> Optional[bytes]:
 # Debug information.
 
 def _of_dwarf(whole: Elf, options: Options) -> Input:
+    found = with_debug(whole, options.folders)
     symbols = considered(whole, options.symbols)
     if options.symbols == DYNSYM and not symbols.listed:
         raise Unreadable("it has no .dynsym with functions or objects, as a program has that"
                          " exports some: leave --symbols out")
+    is_stripped = options.symbols == SYMTAB and table_of(whole, SYMTAB) is None
+    if is_stripped and found is not whole:
+        symbols = Symbols(NAMES, considered(found, SYMTAB).listed)
     reader = from_dwarf.Reader(Table(whole.model), symbols.listed)
-    _take(reader, whole, options)
+    _take(reader, found, options)
     reader.tell(whole.kind != elf.RELOCATABLE)
-    return Input(reader.table, reader.roots, 0, "DWARF", symbols, _note(whole, symbols))
+    if symbols.table == NAMES:
+        symbols = symbols_told(reader.table, symbols)
+    return Input(reader.table, reader.roots, 0, "DWARF", symbols, _note(whole, symbols, found.path))
 
 
-def _note(file: Elf, symbols: Symbols) -> str:
+def symbols_told(table: Table, symbols: Symbols) -> Symbols:
+    """Those alone of which something is told, as where names are the dictionary's own."""
+    objects = [(one, n) for one, n in zip(symbols.objects, table.objects) if n]
+    functions = [(one, told) for one, told in zip(symbols.functions, table.functions) if told]
+    table.objects = [n for _, n in objects]
+    table.functions = [told for _, told in functions]
+    return Symbols(symbols.table, (*(one for one, _ in objects), *(one for one, _ in functions)))
+
+
+def _note(file: Elf, symbols: Symbols, debug: str = "") -> str:
     """What is to be known of the symbols of a program."""
     if symbols.table == DYNSYM:
         return (f"its types are for the {len(symbols.listed)} functions and objects of .dynsym,"
                 " which strip keeps; those that are not exported are left out")
+    if symbols.table == NAMES and symbols.listed:
+        return (f"it is stripped of .symtab: the {len(symbols.listed)} functions and objects are"
+                f" those of {debug}, by their names")
     if not symbols.listed and table_of(file, DYNSYM):
         return ("it is stripped of .symtab: symbols are left out; --symbols dynsym has those that"
                 " it exports")
@@ -205,9 +223,8 @@ def _of_archive(path: str, data: Mapped, options: Options) -> Input:
     return Input(reader.table, reader.roots, 0, "DWARF")
 
 
-def _take(reader: from_dwarf.Reader, whole: Elf, options: Options) -> None:
-    """Reads the debug information of a file, wherever it is. Raises Unreadable."""
-    found = with_debug(whole, options.folders)
+def _take(reader: from_dwarf.Reader, found: Elf, options: Options) -> None:
+    """Reads the debug information in a file. Raises Unreadable."""
     progress = Progress(f"reading {found.path}")
     try:
         sections = Sections(found, [*options.folders, *FOLDERS])
@@ -255,8 +272,23 @@ def _types_label(path: Optional[str]) -> Optional[str]:
 
 
 def _of_gnu(held: Held, table: Table, options: Options) -> Input:
-    from_gnu.read(held.data, held.strings or b"", table)
-    return Input(table, named(table), 0, "GNU's CTF")
+    strings = held.strings
+    if held.file is not None and from_gnu.is_dynamic(held.data):
+        found = held.file.named(".dynstr")
+        strings = held.file.bytes(found) if found else b""
+    entries = from_gnu.read(held.data, strings or b"", table)
+    symbols = gnu_symbols.told(table, entries, held.file, options.symbols)
+    return Input(table, named(table), 0, "GNU's CTF", symbols, _gnu_note(table, held.file, symbols))
+
+
+def _gnu_note(table: Table, file: Optional[Elf], symbols: Symbols) -> str:
+    """What is to be known of symbols of which GNU's CTF tells nothing."""
+    if any(table.objects) or any(table.functions) or file is None:
+        return ""
+    if not symbols.listed:
+        return _note(file, symbols)
+    return (f"its GNU CTF tells nothing of the {len(symbols.listed)} functions and objects of"
+            f" {symbols.table}: ld keeps that of what a file exports; -g tells of all")
 
 
 def _of_btf(held: Held, table: Table, options: Options) -> Input:
