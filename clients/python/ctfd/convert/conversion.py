@@ -52,9 +52,8 @@ def made_of(words: argparse.Namespace, found: Input) -> Made:
     return _alone(table, found.symbols)
 
 
-def _selected(found: Input, names: List[str]) -> "tuple[Table, Set[int]]":
-    """What is wanted of a file, each type once and as CTF holds it; which of these are the base's.
-    """
+def selected(found: Input, names: List[str]) -> "tuple[Table, Set[int]]":
+    """What is wanted of a file, each type once; which of these are the base's."""
     table = found.table
     if table.lacks_parent:
         _refuse(f"it is a child of {table.parent_name or 'a parent without a name'}, whose types it"
@@ -70,9 +69,13 @@ def _selected(found: Input, names: List[str]) -> "tuple[Table, Set[int]]":
         table = named_once(table)
     if not len(table):
         _refuse("nothing is to be written: the file tells no type of C with a name")
-    if found.form != "CTF version 2":
-        table = held(table)
     return table, set(range(1, bases + 1))
+
+
+def _selected(found: Input, names: List[str]) -> "tuple[Table, Set[int]]":
+    """As `selected`, as CTF holds it."""
+    table, bases = selected(found, names)
+    return table if found.form == "CTF version 2" else held(table), bases
 
 
 def _alone(table: Table, symbols: Symbols) -> Made:

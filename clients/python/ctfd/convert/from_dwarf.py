@@ -5,6 +5,7 @@ from typing import Dict, List, NamedTuple, Optional, Sequence, Set, Tuple
 
 from ..client.faults import Unreadable
 from ..client.types import Encoding, Enumerator
+from ..files import bounded
 from ..files.symbols import Wanted
 from ..layout.records import BOOLEAN, CHARACTER, Part, Record, SIGNED, Table
 from . import debug_symbols
@@ -196,6 +197,7 @@ class Reader:
                 width = one.constant(attributes.BIT_SIZE)
                 parts.append(Part(one.name, self.type(one), self._offset(entry, one, width),
                                   width))
+        bounded.looked(bounded.STEP * len(parts))
         return tuple(parts)
 
     def _offset(self, whole: Entry, member: Entry, width: Optional[int]) -> int:
@@ -265,6 +267,7 @@ class Reader:
 
     def _function(self, parts: List[Entry], returns: int) -> Record:
         """What a function takes and returns."""
+        bounded.looked(bounded.STEP * len(parts))
         arguments: List[int] = []
         varargs = False
         for one in parts:
@@ -362,8 +365,10 @@ def _base(entry: Entry, name: str, size: int) -> Record:
 
 
 def _enumerators(entry: Entry) -> Tuple[Enumerator, ...]:
-    return tuple(Enumerator(one.name, one.constant(attributes.CONST_VALUE) or 0)
+    made = tuple(Enumerator(one.name, one.constant(attributes.CONST_VALUE) or 0)
                  for one in entry.children() if one.tag == tags.ENUMERATOR)
+    bounded.looked(bounded.STEP * len(made))
+    return made
 
 
 def _location(member: Entry) -> int:

@@ -11,6 +11,7 @@ from typing import Dict, List, NamedTuple, Optional, Tuple
 
 from ..client.faults import Unreadable
 from ..client.types import Encoding, Enumerator
+from ..files import bounded
 from ..files.source import ARCHIVE, LONGEST
 from ..files.strings import Strings
 from ..layout.records import Part, Record, Table
@@ -198,6 +199,7 @@ def _dictionaries(ctf: bytes) -> List[bytes]:
         name, at = struct.unpack_from("<QQ", ctf, 40 + 16 * number)
         size = struct.unpack_from("<Q", ctf, start + at)[0]
         called = ctf[names + name:ctf.index(b"\0", names + name)]
+        bounded.looked(size + len(called))
         found.append((called != b".ctf", number, ctf[start + at + 8:start + at + 8 + size]))
     return [one for _, _, one in sorted(found)]
 
@@ -214,6 +216,7 @@ def _body(ctf: bytes, length: int) -> bytes:
     body = ctf[HEADER:]
     if not ctf[3] & COMPRESSED:
         return body
+    bounded.looked(length)
     if length > LONGEST:
         raise Unreadable(f"its body inflates to {length} bytes, more than a dictionary may have")
     try:

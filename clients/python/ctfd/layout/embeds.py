@@ -4,6 +4,7 @@ from __future__ import annotations
 from functools import cached_property
 from typing import Callable, Dict, Iterator, List, NamedTuple, Set, Tuple
 
+from ..files import bounded
 from .catalog import Catalog, RENAMES
 from .naming import Names
 from .records import AGGREGATES
@@ -75,6 +76,7 @@ class Embeds:
             if not todo:
                 return
             here = todo.pop()
+            bounded.looked(bounded.STEP * (1 + len(here.path)))
             if here.path:
                 yield here
             todo += reversed(self._inside(here))
@@ -93,32 +95,34 @@ class Embeds:
         """The members of a member, where it is walked through."""
         number, elements, _ = self.catalog.reached(held.type)
         record = self.catalog[number]
-        if record.kind not in AGGREGATES or len(held.path) >= DEEPEST:
+        if record.kind not in AGGREGATES:
             return []
         if held.path and not self.is_walked_through(held.type):
+            return []
+        if len(held.path) >= DEEPEST:
+            self.cut += [held.owner] if self.cut[-1:] != [held.owner] else []
             return []
         return [Held(held.owner, (*held.path, part.name), part.type, held.offset + part.offset,
                      held.elements * elements) for part in record.members]
 
     def _reaches(self, targets: Set[int], pointers: bool) -> Callable[[int], bool]:
         """Whether a type leads to one of these, through pointers or without."""
-        known = {}
+        known: Dict[Tuple[int, bool], bool] = {}
 
         def reaches(number: int) -> bool:
-            if number not in known:
-                known[number] = self._leads(number, targets, pointers)
-            return known[number]
+            passed: List[Tuple[int, bool]] = []  # each with whether it is behind a pointer
+            here = number, False
+            while here not in known:
+                passed.append(here)
+                record = self.catalog[here[0]]
+                is_star = record.kind == "pointer" and pointers
+                if here[0] in targets and here[1] == pointers:
+                    known[here] = True
+                elif is_star or record.kind in RENAMES or record.kind == "array":
+                    here = record.type, here[1] or is_star
+                else:
+                    known[here] = False
+            known.update(dict.fromkeys(passed, known[here]))
+            return known[number, False]
 
         return reaches
-
-    def _leads(self, number: int, targets: Set[int], pointers: bool) -> bool:
-        stars = 0
-        while True:
-            record = self.catalog[number]
-            if number in targets and bool(stars) == pointers:
-                return True
-            if record.kind == "pointer" and pointers:
-                stars += 1
-            elif record.kind not in RENAMES and record.kind != "array":
-                return False
-            number = record.type

@@ -32,7 +32,7 @@ def main(arguments: Optional[Sequence[str]] = None) -> int:
     """The command; its exit status."""
     said = words(arguments)
     try:
-        with running.keeping(), bounded.memory():
+        with running.keeping(), bounded.within():
             losses = convert(said)
     except KeyboardInterrupt:
         return INTERRUPTED

@@ -11,6 +11,7 @@ from typing import Callable, Iterator, Optional
 
 from ..client.faults import Error
 from ..client.wire import Session, connected
+from ..files import bounded
 from ..version import VERSION
 
 # New objects that are looked through, and how often that is done before older ones are.
@@ -55,7 +56,7 @@ def run(command: str, program: Optional[str], work: Callable[[Session], int], tr
     if isinstance(sys.stdout, io.TextIOWrapper):
         sys.stdout.reconfigure(errors="backslashreplace")
     try:
-        with keeping(), connected(program) as client:
+        with keeping(), connected(program) as client, bounded.within():
             status = work(client.session())
         sys.stdout.flush()
         return status
@@ -65,7 +66,8 @@ def run(command: str, program: Optional[str], work: Callable[[Session], int], tr
     except KeyboardInterrupt:
         return INTERRUPTED
     except MemoryError:
-        warn(command, "memory ran out")
+        warn(command, f"it takes more memory than {bounded.FOR_ALL}, or than there is: a file is"
+             " made or damaged, or too large for this machine")
     except (Error, OSError) as error:
         warn(command, str(error))
     except Exception as error:  # a file that nobody thought of: no user is shown where in the code

@@ -7,12 +7,14 @@ from __future__ import annotations
 import struct
 from typing import Any, Callable, Dict, NamedTuple, Optional, Tuple, Union
 
+from ...files import bounded
 from ...files.strings import Data, cut
 from . import forms
 
 Read = Callable[[Data, int], Tuple[Any, int]]
 
 MOST_BITS = 128
+LONG_BLOCK = 64
 
 
 def uleb(data: Data, at: int) -> Tuple[int, int]:
@@ -61,13 +63,22 @@ def _block(length: str) -> Read:
     def read(data: Data, at: int) -> Tuple[bytes, int]:
         start = at + form.size
         end = start + form.unpack_from(data, at)[0]
-        return bytes(data[start:end]), end
+        return _cut(data, start, end), end
     return read
+
+
+def _cut(data: Data, start: int, end: int) -> bytes:
+    """The bytes of a block: entries that overlap may have the same long one."""
+    if end > len(data):
+        raise ValueError("a block that is cut off")
+    if end - start > LONG_BLOCK:
+        bounded.looked(end - start)
+    return bytes(data[start:end])
 
 
 def _uleb_block(data: Data, at: int) -> Tuple[bytes, int]:
     count, start = uleb(data, at)
-    return bytes(data[start:start + count]), start + count
+    return _cut(data, start, start + count), start + count
 
 
 _READERS: Dict[int, Read] = {

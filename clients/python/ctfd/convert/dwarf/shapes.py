@@ -4,6 +4,7 @@ from __future__ import annotations
 import struct
 from typing import Any, Dict, List, NamedTuple, Optional, Tuple
 
+from ...files import bounded
 from ...files.strings import Data
 from . import attributes, forms
 from .encoding import Read, Sizes, reader, sleb, uleb
@@ -150,6 +151,7 @@ def shapes(data: Data, at: int, sizes: Sizes, known: Dict[Key, Shape]) -> Dict[i
     """The shapes of a list of abbreviations by their codes; `known` has those of lists before."""
     made: Dict[int, Shape] = {}
     while True:
+        begin = at
         code, at = uleb(data, at)
         if not code:
             return made
@@ -161,6 +163,7 @@ def shapes(data: Data, at: int, sizes: Sizes, known: Dict[Key, Shape]) -> Dict[i
         if shape is None:
             shape = known[key] = Shape(key)
         made[code] = shape
+        bounded.looked(2 * bounded.STEP * (at - begin))
 
 
 def _attributes(data: Data, at: int) -> Tuple[Tuple[Attribute, ...], int]:
