@@ -1,14 +1,23 @@
 #!/usr/bin/env python3
 """Files that are made so that who reads them takes long, or much memory, for their bytes. Each
 function takes how large its own is to be."""
+import os
+import resource
 import struct
+import subprocess
 import sys
+import tempfile
+from dataclasses import dataclass
 from pathlib import Path
+from typing import Callable
 
-sys.path.insert(0, str(Path(__file__).resolve().parents[1] / "tests"))
+TOP = Path(__file__).resolve().parents[1]
+sys.path.insert(0, str(TOP / "tests"))
 
 from doors import writers as w  # noqa: E402
 
+TOOLS = Path(os.environ.get("CTFD_TOOLS", TOP / "clients/python"))
+MOST_SECONDS = 5
 BASE_OF_INT = w.abbreviation(3, 0x24, False, [(0x0B, 0x0B), (0x3E, 0x0B), (0x03, 0x08)])
 UNIT_OF_C = w.abbreviation(1, 0x11, True, [(0x13, 0x0B)])
 TOP = b"\1\x0c"
@@ -98,3 +107,54 @@ def entries_of_one_byte(count):
     table = w.symbols((w.symbol(1, w.OBJECT, 1, 4 * n) for n in range(count)), b"\0n\0", 3)
     return w.elf([made, *[one._replace(entry_size=1) for one in table],
                   w.Section(".dynsym", table[0].data, w.DYNSYM, 3, entry_size=1)])
+
+
+CONVERT = ("convert", "{}", "{}.ctf")
+HOLDERS = ("types", "--no-cache", "{}", "--contains", "int", "--recursive")
+USERS = ("types", "--no-cache", "{}", "--uses", "int", "--recursive")
+
+
+@dataclass(frozen=True)
+class FileCase:
+    """A file of a size, and the command that reads it: a name behind `ctfd-`, and its words."""
+
+    name: str
+    size: int
+    make: Callable
+    command: tuple = CONVERT
+
+    def seconds(self, program, size):
+        """The processor time that the command takes on a file of a size. It may refuse it."""
+        with tempfile.TemporaryDirectory() as folder:
+            path = os.path.join(folder, "file")
+            Path(path).write_bytes(self.make(size))
+            words = [word.replace("{}", path) for word in self.command[1:]]
+            done = subprocess.Popen([TOOLS / f"ctfd-{self.command[0]}", *words],
+                                    env={**os.environ, "CTFD": program, "CTFD_LIBRARY": ""},
+                                    stdout=subprocess.DEVNULL, stderr=subprocess.DEVNULL,
+                                    preexec_fn=_bounded)
+            _, status, used = os.wait4(done.pid, 0)
+        if os.WIFSIGNALED(status):
+            return float("inf")
+        return used.ru_utime + used.ru_stime
+
+
+def _bounded():
+    resource.setrlimit(resource.RLIMIT_CPU, (4 * MOST_SECONDS, 4 * MOST_SECONDS))
+
+
+FILES = [
+    FileCase("convert: 40,000 typedefs in a chain, DWARF", 40_000, chained_typedefs),
+    FileCase("convert: the same, BTF", 40_000, chained_typedefs_of_btf),
+    FileCase("convert: 200,000 symbols of one name of 8 MB", 200_000,
+             debug_with_symbols_of_one_name),
+    FileCase("diff: 100,000 symbols of one name of 8 MB", 100_000, symbols_of_one_name,
+             ("diff", "--no-cache", "--all", "{}", "{}")),
+    FileCase("convert: 200,000 labels of a text without an end", 200_000, unended_labels),
+    FileCase("convert: the same, of a text of 4,000 bytes", 200_000, ended_labels),
+    FileCase("types: who holds, 30 structs of two each", 30, doubled_structs, HOLDERS),
+    FileCase("types: who points, 400 structs of two each", 400, doubled_structs, USERS),
+    FileCase("convert: 20,000 units in one abbreviation table", 20_000,
+             overlapping_abbreviations),
+    FileCase("types: tables whose entries say one byte", 2_000, entries_of_one_byte, HOLDERS),
+]

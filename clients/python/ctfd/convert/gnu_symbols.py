@@ -56,8 +56,9 @@ class _Known:
 
     def type(self, one: Wanted, is_only: bool) -> int:
         """The type of a symbol, 0 where it is not told."""
-        found = self.by_place.get((_key(one), one.address))
-        number = found or (self.by_name.get(_key(one), 0) if is_only else 0)
+        number = self.by_place.get((_key(one), one.address), 0)
+        if not number and is_only:
+            number = self.by_name.get(_key(one), 0)
         is_function = bool(number) and self.table[number].kind == "function"
         return number if is_function == one.is_function else 0
 

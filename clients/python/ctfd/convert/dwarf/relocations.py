@@ -5,7 +5,7 @@ import struct
 from typing import Dict, List
 
 from ...client.faults import Unreadable
-from ...files import elf
+from ...files import bounded, elf
 from ...files.elf import Elf, Section
 
 RELA, REL = 4, 9
