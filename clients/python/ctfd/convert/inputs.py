@@ -7,7 +7,7 @@ from typing import Callable, Dict, List, NamedTuple, Optional, Set
 from ..client.faults import Unreadable
 from ..client.model import Model
 from ..files import archives, elf, identity, several, source
-from ..files.debugfiles import FOLDERS, has_debug, with_debug
+from ..files.debugfiles import FOLDERS, LINK_IT, has_debug, is_lto, with_debug
 from ..files.elf import Elf
 from ..files.mapped import Mapped, contents
 from ..files.symbols import DYNSYM, NAMES, SYMTAB, Symbols, Wanted, considered, table_of
@@ -24,6 +24,8 @@ SECTIONS = {"ctf": source.SECTIONS, "btf": (".BTF",), "gnu": (".ctf",)}
 LARGE = 100 << 20
 SLOW = ("{} MB of debug information are read, which takes minutes: pahole -J, and --from btf here,"
         " are faster, without objects, _Atomic types and a part of the functions")
+NAMED = {"dwarf": "DWARF", "btf": "BTF", "gnu": "GNU's CTF"}
+DAMAGED = "its debug information is damaged or of a form that is not read"
 LONGS = ("long int", "long", "long unsigned int", "unsigned long")
 
 
@@ -101,11 +103,18 @@ def _form(data: Mapped) -> Optional[str]:
 def _of_section(form: str, held: Held, options: Options) -> Input:
     """A section by itself, or of an ELF file. Of one by itself the size of a long tells the model,
     where nothing else does."""
+    _judge_number(form, options)
     table = Table(options.model or (held.file.model if held.file else "lp64"))
     found = _READERS[form](held, table, options)
     if held.file is None and options.model is None and _is_of_32_bits(found.table):
         found.table.model = "ilp32"
     return found
+
+
+def _judge_number(form: str, options: Options) -> None:
+    if options.number is not None and form != "ctf":
+        raise Unreadable(f"--dictionary {options.number} chooses one of several dictionaries of CTF"
+                         f" version 2, and its types are read from {NAMED[form]}: leave it out")
 
 
 def _is_of_32_bits(table: Table) -> bool:
@@ -161,6 +170,7 @@ def _strings(file: Elf, link: int) -> Optional[bytes]:
 # Debug information.
 
 def _of_dwarf(whole: Elf, options: Options) -> Input:
+    _judge_number("dwarf", options)
     found = with_debug(whole, options.folders)
     symbols = considered(whole, options.symbols)
     if options.symbols == DYNSYM and not symbols.listed:
@@ -203,7 +213,9 @@ def _note(file: Elf, symbols: Symbols, debug: str = "") -> str:
 def _of_archive(path: str, data: Mapped, options: Options) -> Input:
     """The types of all object files in an archive. Of symbols nothing is told: it has no table of
     them that a dictionary could go by."""
+    _judge_number("dwarf", options)
     reader: Optional[from_dwarf.Reader] = None
+    has_lto = False
     for name, held in archives.members(path, data):
         if held[:4] != elf.MAGIC:
             continue
@@ -214,11 +226,12 @@ def _of_archive(path: str, data: Mapped, options: Options) -> Input:
             raise Unreadable(f"{file.path} is of {file.model}, and not of"
                              f" {options.model or reader.table.model}: take the members of one"
                              " model out by ar x")
+        has_lto = has_lto or is_lto(file)
         if has_debug(file):
             _take(reader, file, options)
     if reader is None or not reader.has_units:
-        raise Unreadable("an archive in which no object file has debug information: compile these"
-                         " with -g")
+        raise Unreadable("an archive in which no object file has debug information: "
+                         + (LINK_IT if has_lto else "compile these with -g"))
     reader.tell(False)
     return Input(reader.table, reader.roots, 0, "DWARF")
 
@@ -233,10 +246,11 @@ def _take(reader: from_dwarf.Reader, found: Elf, options: Options) -> None:
         reader.read(Debug(sections, progress.told))
     except Unreadable as error:
         raise Unreadable(f"{found.path}: {error}") from error
-    except (struct.error, IndexError, KeyError, ValueError, OverflowError) as error:
-        why = f"{type(error).__name__} {error}".strip()
-        raise Unreadable(f"{found.path}: its debug information is damaged or of a form that is"
-                         f" not read ({why})") from error
+    except (struct.error, IndexError, KeyError, OverflowError) as error:
+        raise Unreadable(f"{found.path}: {DAMAGED} (it is cut off, or names what is not there)"
+                         ) from error
+    except ValueError as error:  # a reader's own words
+        raise Unreadable(f"{found.path}: {DAMAGED} ({error})") from error
     finally:
         progress.end()
 

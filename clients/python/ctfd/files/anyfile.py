@@ -214,10 +214,9 @@ def _attached(path: str, data: Mapped, kept: Kept) -> Optional[Source]:
 
 def _tell(path: str, losses: Sequence[str], asked: Asked) -> None:
     """What CTF can't hold of a file: each where it is little."""
-    told = list(dict.fromkeys(losses))
-    if len(told) <= FEW:
-        for line in told:
-            asked.warn(f"{path}: {line}")
-    else:
-        asked.warn(f"{path}: {len(told)} constructs that CTF cannot represent were changed or left"
-                   f" out: `ctfd-convert {path} /dev/null` lists them")
+    if not losses:
+        return
+    from ..convert.outputs import notice
+
+    for line in notice(losses, FEW, f"`ctfd-convert --report - {path} /dev/null` lists them all"):
+        asked.warn(f"{path}: {line}")

@@ -97,6 +97,13 @@ def reader(form: int) -> Read:
     return found
 
 
+def _letter(size: int) -> str:
+    """The letter that `struct` has for an address."""
+    if size not in (4, 8):
+        raise ValueError(f"addresses of {size} bytes")
+    return "I" if size == 4 else "Q"
+
+
 class Sizes(NamedTuple):
     """What the header of a unit says of the sizes in it."""
 
@@ -110,7 +117,7 @@ class Sizes(NamedTuple):
         if form in forms.OFFSETS:
             return "I" if self.offset == 4 else "Q"
         if form == forms.REF_ADDR:
-            return {4: "I", 8: "Q"}[self.address if self.version == 2 else self.offset]
+            return _letter(self.address if self.version == 2 else self.offset)
         if form == forms.ADDR:
-            return {4: "I", 8: "Q"}[self.address]
+            return _letter(self.address)
         return forms.FIXED.get(form)

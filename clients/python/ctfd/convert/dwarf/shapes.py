@@ -147,9 +147,16 @@ def _given(key: Key) -> Dict[int, int]:
             and one.form in (forms.FLAG_PRESENT, forms.IMPLICIT_CONST)}
 
 
-def shapes(data: Data, at: int, sizes: Sizes, known: Dict[Key, Shape]) -> Dict[int, Shape]:
+class Shapes(Dict[int, Shape]):
+    """The shapes of a list of abbreviations by their codes."""
+
+    def __missing__(self, code: int) -> Shape:
+        raise ValueError(f"an entry of abbreviation {code}, which is not there")
+
+
+def shapes(data: Data, at: int, sizes: Sizes, known: Dict[Key, Shape]) -> Shapes:
     """The shapes of a list of abbreviations by their codes; `known` has those of lists before."""
-    made: Dict[int, Shape] = {}
+    made = Shapes()
     while True:
         begin = at
         code, at = uleb(data, at)
