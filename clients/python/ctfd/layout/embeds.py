@@ -4,12 +4,12 @@ from __future__ import annotations
 from functools import cached_property
 from typing import Callable, Dict, Iterator, List, NamedTuple, Set, Tuple
 
-from ..files import bounded
 from .catalog import Catalog, RENAMES
 from .naming import Names
 from .records import AGGREGATES
 
 DEEPEST, MOST = 64, 100_000
+LEAST, EACH = 400_000, 64
 
 
 class Held(NamedTuple):
@@ -42,6 +42,8 @@ class Embeds:
         self.names = names
         self.is_deep = is_deep
         self.cut: List[int] = []
+        # What is walked in all follows the number of members, each level of one counted.
+        self._left = LEAST + EACH * sum(len(catalog[n].members) for n in catalog.aggregates())
         self._through: Dict[int, bool] = {}
 
     def containing(self, targets: Set[int]) -> Iterator[Held]:
@@ -76,7 +78,9 @@ class Embeds:
             if not todo:
                 return
             here = todo.pop()
-            bounded.looked(bounded.STEP * (1 + len(here.path)))
+            self._left -= 1 + len(here.path)
+            if self._left < 0:
+                break
             if here.path:
                 yield here
             todo += reversed(self._inside(here))

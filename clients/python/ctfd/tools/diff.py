@@ -90,8 +90,10 @@ def _changes(session: Session, words: argparse.Namespace, left: List[str]) -> It
     skipped = _skipped(words.suppress)
     old = opener.whole(words.old, words.old_parent or words.parent, ALL_LISTS)
     new = opener.whole(words.new, words.new_parent or words.parent, ALL_LISTS)
+    if _are_one(opener, words):
+        return
     if old.catalog.dictionary.model != new.catalog.dictionary.model:
-        _warn("the pointers of the two differ in size")
+        left.append("the pointers of the two differ in size")
     wanted = Meaning(one for name in words.name for one in pattern_of(name))
     for one in (old, new):
         how = one.catalog.dictionary.how
@@ -104,10 +106,17 @@ def _changes(session: Session, words: argparse.Namespace, left: List[str]) -> It
     left += [f"{one.path}: {cut}" for one in (old, new) for cut in one.cut]
 
 
+def _are_one(opener: Opener, words: argparse.Namespace) -> bool:
+    """Whether both are the same bytes, over the same parent: nothing differs then."""
+    parents = [one or words.parent for one in (words.old_parent, words.new_parent)]
+    old, new = opener.read[words.old].data, opener.read[words.new].data
+    return parents[0] == parents[1] and len(old) == len(new) and old[:] == new[:]
+
+
 def _completed(opener: Opener, old: Whole, new: Whole) -> List[str]:
     """Puts what CTF does not hold of converted files back; lines on what is not compared."""
     found = [opener.read[one.path] for one in (old, new)]
-    if not any(one.losses for one in found) or found[0].data[:] == found[1].data[:]:
+    if not any(one.losses for one in found):
         return []
     from ..diff import complete  # with all that converts
 
