@@ -29,7 +29,7 @@ FAR = (0, 1, 0x7FFFFFFF, 0x80000000, 0xFFFFFFFF, 0xFFFFFFF8, 1 << 32, (1 << 63) 
 DEEP = (2, 3, 64, 513, 3000)
 
 
-class Damaged(NamedTuple):
+class DamagedFile(NamedTuple):
     """A file, the sound file that it was made of, and what was done."""
 
     data: bytes
@@ -133,7 +133,8 @@ def dwarf_units(chance: random.Random) -> Tuple[bytes, str]:
     for _ in range(count):
         one = bytearray(info)
         place = chance.choice((0, 4, 6, 8, 10))
-        struct.pack_into("<I", one, place, chance.choice((far(chance), chance.randrange(len(info)))))
+        value = chance.choice((far(chance), chance.randrange(len(info))))
+        struct.pack_into("<I", one, place, value)
         units.append(bytes(one))
     if chance.random() < 0.5:
         listed = bytearray(listed)
@@ -181,7 +182,8 @@ def bare_ctf(chance: random.Random) -> Tuple[bytes, str]:
     labels = b""
     if chance.random() < 0.3:
         place = chance.choice((1, len(strings) - 1, far(chance)))
-        labels = struct.pack("<II", place, chance.choice((1, far(chance)))) * chance.choice((1, 500))
+        last, count = chance.choice((1, far(chance))), chance.choice((1, 500))
+        labels = struct.pack("<II", place, last) * count
         what += f", labels of the text at {place:#x}"
     data = bytearray(w.ctf(b"".join(listed), strings, labels))
     if chance.random() < 0.3:
@@ -323,7 +325,7 @@ def of_cut(data: bytes, chance: random.Random) -> Tuple[bytes, str]:
     return data[:end], f"cut off at {end}"
 
 
-def files(count: int, seed: int) -> Iterator[Damaged]:
+def files(count: int, seed: int) -> Iterator[DamagedFile]:
     """So many damaged files: the first ones are the same whatever the count is."""
     whole = sound.all_files()
     names = sorted(whole)
@@ -338,10 +340,10 @@ def files(count: int, seed: int) -> Iterator[Damaged]:
                                         of_cut))(data, chance)
         else:
             made, what = of_cut(data, chance)
-        yield Damaged(made, base, what)
+        yield DamagedFile(made, base, what)
 
 
-def write(folder: Path, count: int, seed: int) -> List[Tuple[Path, Damaged]]:
+def write(folder: Path, count: int, seed: int) -> List[Tuple[Path, DamagedFile]]:
     """Writes the files and what is said of them."""
     (folder / "sound").mkdir(parents=True, exist_ok=True)
     for name, data in sound.all_files().items():

@@ -117,8 +117,8 @@ def entries(version: int) -> Tuple[Entries, Dict[str, int]]:
     made.add(14, "o", Reference(known["to opaque"])), made.add(0)
     known["to call"] = made.add(9, 8, Reference(known["call"]))
     known["c"] = made.array(known["char"], 2, known["long int"])
-    known["witness"] = made.struct("witness", 40, ("a", known["int"], 0), ("b", known["long int"], 8),
-                                   ("c", known["c"], 16), ("node", known["next"], 24),
+    known["witness"] = made.struct("witness", 40, ("a", known["int"], 0),
+                                   ("b", known["long int"], 8), ("c", known["c"], 16), ("node", known["next"], 24),
                                    ("call", known["to call"], 32))
     made.add(15, "shown", Reference(known["witness"]))
     known["work"] = made.add(13, "work", Reference(known["int"]), bytes(8))
@@ -195,15 +195,15 @@ def archive(members: Sequence[Tuple[str, bytes]], is_thin: bool = False) -> byte
     return made
 
 
-def compiled(*options: str) -> bytes:
+def compile_code(*options: str) -> bytes:
     """What gcc makes of `CODE`, the same wherever that is."""
     # gcc -gctf has an order of its own by where things are in memory.
     still = ["setarch", "-R"] if shutil.which("setarch") else []
     with tempfile.TemporaryDirectory(dir="/tmp") as folder:
         Path(folder, "made.c").write_text(CODE)
         kind = [] if "-shared" in options else ["-c"]
-        subprocess.run([*still, "gcc", "-w", *kind, f"-ffile-prefix-map={folder}=.", *options, "made.c",
-                        "-o", "made.o"], cwd=folder, check=True)
+        subprocess.run([*still, "gcc", "-w", *kind, f"-ffile-prefix-map={folder}=.", *options,
+                        "made.c", "-o", "made.o"], cwd=folder, check=True)
         # GNU's CTF has the folder as it is.
         return Path(folder, "made.o").read_bytes().replace(folder.encode(), b"/" * len(folder))
 
@@ -218,6 +218,6 @@ def all_files() -> Dict[str, bytes]:
     made.update({"bare.ctf": w.ctf(b"".join(listed), strings), "ctf.o": with_ctf(ctf),
                  "bare.btf": btf, "btf.o": w.elf([w.Section(".BTF", btf)]),
                  "lib.a": archive([("one.o", made["dwarf4.o"]), ("two.o", made["dwarf5.o"])])})
-    made.update({"gcc4.o": compiled("-gdwarf-4"), "gcc5.o": compiled("-gdwarf-5"),
-                 "gcc.so": compiled("-g", "-shared", "-fPIC"), "gnu.o": compiled("-gctf")})
+    made.update({"gcc4.o": compile_code("-gdwarf-4"), "gcc5.o": compile_code("-gdwarf-5"),
+                 "gcc.so": compile_code("-g", "-shared", "-fPIC"), "gnu.o": compile_code("-gctf")})
     return made

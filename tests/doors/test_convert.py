@@ -138,7 +138,8 @@ class SymbolsOfGnu(Conversion):
 
     def test_an_object_file(self) -> None:
         made = self.compiled(ONE, "-gctf", name="one.o")
-        self.assertRegex(self.peer(made), r"(?s)Data objects:.*hidden ->.*Function objects:.*add ->")
+        self.assertRegex(self.peer(made),
+                         r"(?s)Data objects:.*hidden ->.*Function objects:.*add ->")
         done = self.assert_report(made, "3 of 3 objects, 4 of 4 functions, by .symtab")
         self.assertEqual((done.status, done.errors), (0, ""))
         names = ("both", "hook", "add", "many", "main")

@@ -1,11 +1,11 @@
 #!/usr/bin/env python3
-"""Damaged files through every command: no crash, no hang, no bug, and no wrong answer with status 0.
+"""Damaged files through every command: no crash, no hang, no bug, no wrong answer with status 0.
 
 usage: test_damaged.py [--all | COUNT [FIRST]]
 
 As a test it tries a share of the files; --all tries 2,000. What is answered with status 0 is judged
-by others: llvm-dwarfdump and objdump tell the structs of the same file, and the service reads what
-was converted.
+by others: llvm-dwarfdump, readelf and objdump tell the structs of the same file, and the service
+reads what was converted.
 """
 from __future__ import annotations
 
@@ -35,7 +35,8 @@ ADDRESS_SPACE = 4000  # megabytes
 # The name of a command, a word that tells its forms apart, and the words: {} is the file, {s} the
 # sound one, {o} a place for what is written.
 COMMANDS: List[Tuple[str, str, List[str]]] = [
-    ("convert", "", ["{}", "{o}.ctf"]), ("types", "", ["{}"]), ("types", "sizes", ["--sizes", "{}"]),
+    ("convert", "", ["{}", "{o}.ctf"]), ("types", "", ["{}"]),
+    ("types", "sizes", ["--sizes", "{}"]),
     ("types", "c", ["--c", "{}"]), ("types", "json", ["--json", "{}"]),
     ("types", "contains", ["{}", "--contains", "int", "--recursive"]),
     ("types", "names", ["{}", "struct witness", "work", "shown"]),
@@ -44,10 +45,11 @@ COMMANDS: List[Tuple[str, str, List[str]]] = [
 ]
 WRONG = re.compile(TRACE.pattern + "|a bug in ctfd")
 ODD = re.compile("[\x00-\x08\x0b-\x1f\x7f]")
-PLAIN = re.compile(r"[A-Za-z_]\w*\Z")
+PLAIN = re.compile(r"[A-Za-z_]\w*\Z", re.ASCII)
 Named = Set[Tuple[str, str, int]]
 _TYPE = re.compile(r'^type \d+ (struct|union) "([^"]*)" .*?size=(\d+)', re.M)
 _DWARF = re.compile(r"DW_TAG_(structure|union)_type\n((?:\s+DW_AT_.*\n)*)")
+_READELF = re.compile(r"\(DW_TAG_(structure|union)_type\)\n((?:\s+<\w+>\s+DW_AT_.*\n)*)")
 _GNU = re.compile(r"\(kind [67]\) (struct|union) (\w+) \(size (0x[0-9a-f]+)\)")
 
 
@@ -89,6 +91,17 @@ def of_peer(path: Path, base: str) -> Optional[Named]:
         if name and size:
             found.add(({"structure": "struct"}.get(tag, tag), name[1], int(size[1], 0)))
     return plain(found) or None
+
+
+def of_other_peer(path: Path) -> Named:
+    """What readelf says of debug information: it goes on where llvm-dwarfdump ends."""
+    found: Named = set()
+    for tag, lines in _READELF.findall(_said("readelf", "-wi", path)):
+        name = re.search(r"DW_AT_name\s+: (?:\(.*\): )?(.*)", lines)
+        size = re.search(r"DW_AT_byte_size\s+: (\w+)", lines)
+        if name and size:
+            found.add(({"structure": "struct"}.get(tag, tag), name[1].strip(), int(size[1], 0)))
+    return plain(found)
 
 
 def _said(*words: object) -> str:
@@ -163,8 +176,12 @@ class Judge:
                 return
         peer = of_peer(self.path, self.sound.name)
         if convert.status == 0 and ours is not None and peer is not None and ours != peer:
-            self._tell("convert", f"ours alone {sorted(ours - peer)}, the peer's alone"
-                                  f" {sorted(peer - ours)}")
+            other = peer if "btf" in self.sound.name or self.sound.name == "gnu.o" \
+                else of_other_peer(self.path)
+            alone, missing = ours - (peer | other), (peer & other) - ours
+            if alone or missing:
+                self._tell("convert", f"ours alone {sorted(alone)}, the peers' alone"
+                                      f" {sorted(missing)}")
         self._judge_types(ours, convert.status)
         if self.done["diff", "all"].status == 0 and ours is not None:
             there = run(tool("convert"), self.sound, self.folder / "sound.ctf").status
@@ -174,7 +191,8 @@ class Judge:
     def _judge_types(self, ours: Optional[Named], converted: int) -> None:
         listed = self.done["types", ""]
         if listed.status == 0 and converted == 2:
-            self._tell("types", f"it answers what is not converted: {self.done['convert', ''].errors}")
+            self._tell("types", "it answers what is not converted: "
+                                + self.done["convert", ""].errors)
         if listed.status == 0 and ours is not None:
             lines = [line.split(None, 2) for line in listed.output.splitlines()]
             found = {(*line[2].split(" ", 1), line[1]) for line in lines
@@ -186,12 +204,12 @@ class Judge:
                 self._tell("types", f"it lists {sorted(named ^ wanted)} otherwise than converted")
 
 
-def judged(folder: Path, count: int, first: int = 0) -> Tuple[List[Problem], Counter[str]]:
+def judge_all(folder: Path, count: int, first: int = 0) -> Tuple[List[Problem], Counter[str]]:
     """What is wrong with what the commands say of so many files, and how often each status came."""
     listed = damaged.write(folder / "files", first + count, SEED)[first:]
     statuses: Counter[str] = Counter()
 
-    def one(given: Tuple[Path, damaged.Damaged]) -> Judge:
+    def one(given: Tuple[Path, damaged.DamagedFile]) -> Judge:
         path, told = given
         own = folder / f"of-{path.name}"
         own.mkdir()
@@ -212,7 +230,7 @@ class Damaged(unittest.TestCase):
         if not has("gcc", "llvm-dwarfdump", "objdump") or not os.access(SERVICE, os.X_OK):
             self.skipTest("no gcc, llvm-dwarfdump or objdump here, or the service is not built")
         with tempfile.TemporaryDirectory() as folder:
-            problems, _ = judged(Path(folder), SHARE)
+            problems, _ = judge_all(Path(folder), SHARE)
         self.assertEqual([], problems)
 
     def test_the_same_seed_makes_the_same_files(self) -> None:
@@ -229,7 +247,7 @@ def main() -> int:
     if not numbers or len(numbers) > 2:
         sys.exit(__doc__)
     with tempfile.TemporaryDirectory() as folder:
-        problems, statuses = judged(Path(folder), *numbers)
+        problems, statuses = judge_all(Path(folder), *numbers)
     for one in problems:
         print(f"{one.file} ({one.what}): ctfd-{one.command}: {one.why}")
     print(", ".join(f"{name}: {count}" for name, count in sorted(statuses.items())))

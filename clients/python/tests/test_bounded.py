@@ -24,13 +24,13 @@ class Memory(unittest.TestCase):
 
     def test_work(self) -> None:
         with bounded.within():
-            bounded.looked(bounded.LEAST_WORK)
+            bounded.charge(bounded.LEAST_WORK)
             with self.assertRaisesRegex(ctfd.Unreadable, "more work than"):
-                bounded.looked(1)
+                bounded.charge(1)
         with bounded.within():
             bounded.read(3)
-            bounded.looked(bounded.LEAST_WORK + 3 * bounded.TIMES_WORK)
-        bounded.looked(1 << 60)  # nothing bounds who uses the package
+            bounded.charge(bounded.LEAST_WORK + 3 * bounded.TIMES_WORK)
+        bounded.charge(1 << 60)  # nothing bounds who uses the package
 
     def test_none_outside(self) -> None:
         before = resource.getrlimit(resource.RLIMIT_DATA)

@@ -29,7 +29,8 @@ class Bugs(unittest.TestCase):
         lines = self.told("").splitlines()
         self.assertEqual(len(lines), 2)
         self.assertRegex(lines[0], r"^ctfd-convert: .*lua\.ctf: a bug in ctfd [\d.]+"
-                                   r" \(ZeroDivisionError: one two\): please report it .*CTFD_TRACE=1")
+                                   r" \(ZeroDivisionError: one two\): please report it "
+                                   r".*CTFD_TRACE=1")
         self.assertRegex(lines[1], r"^ctfd-types: a bug in ctfd [\d.]+ \(KeyError: 99\)")
         self.assertNotIn("damaged", "".join(lines))
 

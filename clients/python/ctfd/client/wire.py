@@ -133,7 +133,7 @@ class Client:
             self.requests += len(lines)
             self.rounds += 1
             answers = self._library.answers(lines)
-            bounded.looked(sum(map(len, answers)))
+            bounded.charge(sum(map(len, answers)))
             return _all_decoded(answers)
         mine = [Owed() for _ in lines]
         written = b"".join(lines)
@@ -144,7 +144,7 @@ class Client:
         self.requests += len(lines)
         self.rounds += 1
         self._run(mine)
-        bounded.looked(self._taken)
+        bounded.charge(self._taken)
         self._taken = 0
         return [owed.reply for owed in mine if owed.reply is not None]
 

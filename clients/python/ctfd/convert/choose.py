@@ -66,7 +66,7 @@ def _take(table: Table, root: int, chosen: "dict[int, None]", later: List[int]) 
                 mine[number] = None
                 todo.append(number)
         if len(chosen) + len(mine) > MOST_TYPES:
-            bounded.looked(bounded.STEP * len(mine))
+            bounded.charge(bounded.STEP * len(mine))
             return
     chosen.update(mine)
     later += outside
@@ -103,7 +103,7 @@ def _closed(table: Table, root: int, kept: Set[int], never: Set[int]) -> Set[int
                 mine.add(number)
                 todo.append(number)
         if len(kept) + len(mine) > MOST_TYPES:
-            bounded.looked(bounded.STEP * len(mine))
+            bounded.charge(bounded.STEP * len(mine))
             return set()
     return mine
 

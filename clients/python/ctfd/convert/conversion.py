@@ -13,7 +13,7 @@ from ..layout.records import Table
 from . import outputs
 from .choose import fitting, named, shared, told_left_out
 from .held import held
-from .inputs import Input, Options, read, symbols_told
+from .inputs import Input, Options, read, told_symbols
 from .made import Made
 from .merge import merged, named_once
 from .written import MOST_TYPES
@@ -52,7 +52,7 @@ def made_of(words: argparse.Namespace, found: Input) -> Made:
     return _alone(table, found.symbols)
 
 
-def selected(found: Input, names: List[str]) -> "tuple[Table, Set[int]]":
+def selection(found: Input, names: List[str]) -> "tuple[Table, Set[int]]":
     """What is wanted of a file, each type once; which of these are the base's."""
     table = found.table
     if table.lacks_parent:
@@ -73,8 +73,8 @@ def selected(found: Input, names: List[str]) -> "tuple[Table, Set[int]]":
 
 
 def _selected(found: Input, names: List[str]) -> "tuple[Table, Set[int]]":
-    """As `selected`, as CTF holds it."""
-    table, bases = selected(found, names)
+    """As `selection`, as CTF holds it."""
+    table, bases = selection(found, names)
     return table if found.form == "CTF version 2" else held(table), bases
 
 
@@ -94,7 +94,7 @@ def _pruned(table: Table, symbols: Symbols) -> Symbols:
     own; the table's entries with them."""
     if symbols.table != NAMES:
         return symbols
-    kept = symbols_told(table, symbols)
+    kept = told_symbols(table, symbols)
     left = len(symbols.listed) - len(kept.listed)
     if left:
         table.losses.append(f"{left} functions and variables are left out, because the types that"

@@ -197,7 +197,7 @@ class Reader:
                 width = one.constant(attributes.BIT_SIZE)
                 parts.append(Part(one.name, self.type(one), self._offset(entry, one, width),
                                   width))
-        bounded.looked(bounded.STEP * len(parts))
+        bounded.charge(bounded.STEP * len(parts))
         return tuple(parts)
 
     def _offset(self, whole: Entry, member: Entry, width: Optional[int]) -> int:
@@ -267,7 +267,7 @@ class Reader:
 
     def _function(self, parts: List[Entry], returns: int) -> Record:
         """What a function takes and returns."""
-        bounded.looked(bounded.STEP * len(parts))
+        bounded.charge(bounded.STEP * len(parts))
         arguments: List[int] = []
         varargs = False
         for one in parts:
@@ -367,7 +367,7 @@ def _base(entry: Entry, name: str, size: int) -> Record:
 def _enumerators(entry: Entry) -> Tuple[Enumerator, ...]:
     made = tuple(Enumerator(one.name, one.constant(attributes.CONST_VALUE) or 0)
                  for one in entry.children() if one.tag == tags.ENUMERATOR)
-    bounded.looked(bounded.STEP * len(made))
+    bounded.charge(bounded.STEP * len(made))
     return made
 
 

@@ -199,7 +199,7 @@ def _dictionaries(ctf: bytes) -> List[bytes]:
         name, at = struct.unpack_from("<QQ", ctf, 40 + 16 * number)
         size = struct.unpack_from("<Q", ctf, start + at)[0]
         called = ctf[names + name:ctf.index(b"\0", names + name)]
-        bounded.looked(size + len(called))
+        bounded.charge(size + len(called))
         found.append((called != b".ctf", number, ctf[start + at + 8:start + at + 8 + size]))
     return [one for _, _, one in sorted(found)]
 
@@ -216,7 +216,7 @@ def _body(ctf: bytes, length: int) -> bytes:
     body = ctf[HEADER:]
     if not ctf[3] & COMPRESSED:
         return body
-    bounded.looked(length)
+    bounded.charge(length)
     if length > LONGEST:
         raise Unreadable(f"its body inflates to {length} bytes, more than a dictionary may have")
     try:

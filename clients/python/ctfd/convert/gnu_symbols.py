@@ -74,7 +74,7 @@ def _key(one: Wanted) -> Name:
     return one.name.split("@")[0], one.is_function
 
 
-def told(table: Table, found: List[Entries], file: Optional[Elf], wanted: str) -> Symbols:
+def symbols_of(table: Table, found: List[Entries], file: Optional[Elf], wanted: str) -> Symbols:
     """The symbols of which something is told, whose types the table has then: those of a symbol
     table of the file, or without a file the names that are in the section."""
     known = _Known(table)

@@ -183,11 +183,11 @@ def _of_dwarf(whole: Elf, options: Options) -> Input:
     _take(reader, found, options)
     reader.tell(whole.kind != elf.RELOCATABLE)
     if symbols.table == NAMES:
-        symbols = symbols_told(reader.table, symbols)
+        symbols = told_symbols(reader.table, symbols)
     return Input(reader.table, reader.roots, 0, "DWARF", symbols, _note(whole, symbols, found.path))
 
 
-def symbols_told(table: Table, symbols: Symbols) -> Symbols:
+def told_symbols(table: Table, symbols: Symbols) -> Symbols:
     """Those alone of which something is told, as where names are the dictionary's own."""
     objects = [(one, n) for one, n in zip(symbols.objects, table.objects) if n]
     functions = [(one, told) for one, told in zip(symbols.functions, table.functions) if told]
@@ -291,7 +291,7 @@ def _of_gnu(held: Held, table: Table, options: Options) -> Input:
         found = held.file.named(".dynstr")
         strings = held.file.bytes(found) if found else b""
     entries = from_gnu.read(held.data, strings or b"", table)
-    symbols = gnu_symbols.told(table, entries, held.file, options.symbols)
+    symbols = gnu_symbols.symbols_of(table, entries, held.file, options.symbols)
     return Input(table, named(table), 0, "GNU's CTF", symbols, _gnu_note(table, held.file, symbols))
 
 

@@ -190,7 +190,7 @@ class Image:
             kind, text = info & 15, names.get(name)
             if text is None:
                 text = names[name] = _text(strings, name)
-            bounded.looked(bounded.STEP + TIMES_NAME * len(text))
+            bounded.charge(bounded.STEP + TIMES_NAME * len(text))
             if kind == SOURCE_FILE:
                 source = text
             is_told = kind in (OBJECT, FUNCTION) and section and text and text not in MARKS

@@ -26,13 +26,13 @@ class Incomplete(NamedTuple):
     lines: List[str]
 
 
-def completed(whole: Whole, read: Read, asked: Asked) -> Incomplete:
+def restore(whole: Whole, read: Read, asked: Asked) -> Incomplete:
     """Puts back what a converted file says; what is lost even so."""
     losses = list(read.losses)
     if not losses:
         return Incomplete(whole.path, [])
     found = inputs.read(whole.path, options_of(whole.path, read.data, asked))
-    full, _ = conversion.selected(found, [])
+    full, _ = conversion.selection(found, [])
     before = Counter(full.losses)
     if not _fits(full, whole.catalog):
         return Incomplete(whole.path, losses)
@@ -41,7 +41,7 @@ def completed(whole: Whole, read: Read, asked: Asked) -> Incomplete:
     return Incomplete(whole.path, [*before.elements(), *of_floats])
 
 
-def uncompared(old: Incomplete, new: Incomplete) -> List[str]:
+def incomparable(old: Incomplete, new: Incomplete) -> List[str]:
     """Lines on what is not compared: what is left out of one, and what is lost of one alone."""
     made: List[str] = []
     for one, other in ((old, new), (new, old)):

@@ -39,7 +39,7 @@ def symbols(types: Dictionary, found: Source) -> Told:
 
 
 def _declared(types: Dictionary, symbol: Symbol, answer: Answer) -> str:
-    bounded.looked(bounded.STEP * len(symbol.name))
+    bounded.charge(bounded.STEP * len(symbol.name))
     if symbol.is_function:
         said = declare.function(types.signature(answer), symbol.name)
     else:

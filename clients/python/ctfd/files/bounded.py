@@ -2,7 +2,7 @@
 memory, or of work.
 
 Work is counted in bytes that are looked at. Who reads a byte once need not count it; what may look
-at the same bytes again and again does, by `looked`, and so do walks, each step of which is so many
+at the same bytes again and again does, by `charge`, and so do walks, each step of which is so many
 bytes as a record has.
 """
 from __future__ import annotations
@@ -69,9 +69,9 @@ def read(length: int) -> None:
         _bound.add(length)
 
 
-def looked(length: int) -> None:
-    """So many bytes are looked at, maybe not for the first time. Raises Unreadable where these are
-    too many."""
+def charge(length: int) -> None:
+    """Counts so many bytes as looked at, maybe not for the first time. Raises Unreadable where
+    these are too many."""
     if _bound is not None:
         _bound.left -= length
         if _bound.left < 0:

@@ -207,7 +207,7 @@ def text(strings: bytes, offset: int) -> str:
     last = min(len(strings), offset + LONGEST_NAME)
     end = strings.find(b"\0", offset, last)
     end = end if end >= 0 else last
-    bounded.looked(bounded.STEP + 4 * max(0, end - offset))
+    bounded.charge(bounded.STEP + 4 * max(0, end - offset))
     return strings[offset:end].decode("utf-8", "backslashreplace")
 
 

@@ -122,7 +122,7 @@ def _entries(file: Elf, found: SymbolTable) -> Iterator[_Entry]:
         else:
             name, address, size, info, other, section = one
         called = strings.at(name) if name else ""
-        bounded.looked(bounded.STEP + TIMES_NAME * len(called))
+        bounded.charge(bounded.STEP + TIMES_NAME * len(called))
         yield _Entry(called, address, size, info & 15, info >> 4, other & 3, section)
 
 
@@ -138,7 +138,7 @@ def _numbers(sym: Optional[bytes], strings: Optional[bytes]) -> Dict[Tuple[str, 
             if name and section and (info >> 4 == 0) == is_local and info & 15 in (
                     elf.OBJECT, elf.FUNCTION):
                 called = named.at(name)
-                bounded.looked(bounded.STEP + TIMES_NAME * len(called))
+                bounded.charge(bounded.STEP + TIMES_NAME * len(called))
                 made.setdefault((called.partition("@")[0], address), number)
     return made
 

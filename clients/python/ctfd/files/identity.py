@@ -63,7 +63,7 @@ def labels(ctf: bytes) -> Iterator[Label]:
         start = places.strings + name
         if ctf[start:start + len(PREFIX)] == PREFIX:
             end = ctf.find(b"\0", start, start + LONGEST)
-            bounded.looked(end - start if end >= 0 else LONGEST)
+            bounded.charge(end - start if end >= 0 else LONGEST)
             if end >= 0:
                 yield Label(ctf[start:end].decode("ascii", "replace"), end + 1)
 

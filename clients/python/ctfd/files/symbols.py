@@ -129,7 +129,7 @@ def _considered(file: Elf, table: Section, names: Section) -> Iterator[Wanted]:
         except ValueError as error:
             raise Unreadable(f"{file.path}: the names of {table.name} are damaged: {error}"
                              ) from error
-        bounded.looked(bounded.STEP + TIMES_NAME * len(name))
+        bounded.charge(bounded.STEP + TIMES_NAME * len(name))
         is_nothing = kind == elf.OBJECT and section == ABSOLUTE and not address
         if name and name not in MARKS and not is_nothing:
             place = places[section] if section < len(places) else 0

@@ -140,7 +140,7 @@ class Table:
         for steps in range(len(self.records)):
             if not number or self[number].kind not in ("typedef", *QUALIFIERS):
                 if steps > FEW_STEPS:
-                    bounded.looked(bounded.STEP * steps)
+                    bounded.charge(bounded.STEP * steps)
                 return number
             number = self[number].type
         return 0

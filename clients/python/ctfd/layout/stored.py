@@ -35,7 +35,7 @@ class Names(Dict[int, str]):
         if reference >= OUTER:
             data, start = self.outer, reference - OUTER
         end = data.index(b"\0", start)
-        bounded.looked(4 * (end - start))
+        bounded.charge(4 * (end - start))
         name = self[reference] = data[start:end].decode("utf-8", "surrogateescape")
         return name
 

@@ -120,8 +120,8 @@ def _completed(opener: Opener, old: Whole, new: Whole) -> List[str]:
         return []
     from ..diff import complete  # with all that converts
 
-    both = [complete.completed(one, read, opener.asked) for one, read in zip((old, new), found)]
-    return complete.uncompared(both[0], both[1])
+    both = [complete.restore(one, read, opener.asked) for one, read in zip((old, new), found)]
+    return complete.incomparable(both[0], both[1])
 
 
 def _compared(opener: Opener, old: Whole, new: Whole, words: argparse.Namespace,

@@ -72,7 +72,7 @@ def _cut(data: Data, start: int, end: int) -> bytes:
     if end > len(data):
         raise ValueError("a block that is cut off")
     if end - start > LONG_BLOCK:
-        bounded.looked(end - start)
+        bounded.charge(end - start)
     return bytes(data[start:end])
 
 

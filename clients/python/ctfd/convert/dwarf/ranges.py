@@ -38,7 +38,7 @@ def starts(unit: Unit, form: int, raw: int) -> List[int]:
             base = one.base
         elif not one.is_empty:
             made.append(one.start + base * one.is_relative)
-        bounded.looked(bounded.STEP)
+        bounded.charge(bounded.STEP)
     return made
 
 

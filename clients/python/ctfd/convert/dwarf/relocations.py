@@ -53,7 +53,7 @@ def _apply(file: Elf, section: Section, table: Section, forms: Dict[int, str],
     entry = struct.Struct(("<QQq" if wide else "<IIi") if has_addend else
                           ("<QQ" if wide else "<II"))
     raw = file.bytes(table)
-    bounded.looked(len(raw))
+    bounded.charge(len(raw))
     for one in entry.iter_unpack(raw[:len(raw) // entry.size * entry.size]):
         kind, symbol = (one[1] & 0xFFFFFFFF, one[1] >> 32) if wide else \
             (one[1] & 0xFF, one[1] >> 8)
@@ -74,6 +74,6 @@ def _symbol_values(file: Elf, number: int) -> List[int]:
     form = elf.SYMBOL if file.model == "lp64" else elf.SYMBOL_32
     value, section = (4, 3) if file.model == "lp64" else (1, 5)
     places = file.places()
-    bounded.looked(table.size)
+    bounded.charge(table.size)
     return [one[value] + (places[one[section]] if one[section] < len(places) else 0)
             for one in form.iter_unpack(elf.whole(file.bytes(table), form))]

@@ -48,7 +48,7 @@ class Sections:
         names = (f".debug_{name}{last}", f".zdebug_{name}{last}")
         found = [one for one in self.file.sections if one.name in names and one.kind != elf.NOBITS]
         if len(found) > 1:
-            bounded.looked(sum(one.size for one in found))
+            bounded.charge(sum(one.size for one in found))
         made = [self._ready_one(one, name) for one in found]
         return made[0] if len(made) == 1 else b"".join(made)
 
@@ -143,7 +143,7 @@ def inflated(file: Elf, section: Section) -> Data:
 
 def _inflated(name: str, raw: memoryview, size: int) -> bytes:
     """The bound is what the header says, as far as so many bytes can inflate to it."""
-    bounded.looked(size)
+    bounded.charge(size)
     inflater = zlib.decompressobj()
     try:
         data = inflater.decompress(raw, size) if 0 < size <= MOST_INFLATED * len(raw) else b""

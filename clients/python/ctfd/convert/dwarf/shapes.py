@@ -170,7 +170,7 @@ def shapes(data: Data, at: int, sizes: Sizes, known: Dict[Key, Shape]) -> Shapes
         if shape is None:
             shape = known[key] = Shape(key)
         made[code] = shape
-        bounded.looked(2 * bounded.STEP * (at - begin))
+        bounded.charge(2 * bounded.STEP * (at - begin))
 
 
 def _attributes(data: Data, at: int) -> Tuple[Tuple[Attribute, ...], int]:

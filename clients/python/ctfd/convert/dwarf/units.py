@@ -286,7 +286,7 @@ class Unit:
                 depth += shape.has_children
             else:
                 depth -= 1
-        bounded.looked(4 * (at - entry.inside))
+        bounded.charge(4 * (at - entry.inside))
         return at
 
     def _forward(self, at: int, behind: int) -> int:
