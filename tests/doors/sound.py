@@ -118,8 +118,8 @@ def entries(version: int) -> Tuple[Entries, Dict[str, int]]:
     known["to call"] = made.add(9, 8, Reference(known["call"]))
     known["c"] = made.array(known["char"], 2, known["long int"])
     known["witness"] = made.struct("witness", 40, ("a", known["int"], 0),
-                                   ("b", known["long int"], 8), ("c", known["c"], 16), ("node", known["next"], 24),
-                                   ("call", known["to call"], 32))
+                                   ("b", known["long int"], 8), ("c", known["c"], 16),
+                                   ("node", known["next"], 24), ("call", known["to call"], 32))
     made.add(15, "shown", Reference(known["witness"]))
     known["work"] = made.add(13, "work", Reference(known["int"]), bytes(8))
     made.add(14, "by", Reference(known["u32"])), made.add(0)

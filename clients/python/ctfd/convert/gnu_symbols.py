@@ -87,7 +87,10 @@ def symbols_of(table: Table, found: List[Entries], file: Optional[Elf], wanted: 
     kept = pairs if file else [(one, number) for one, number in pairs if number]
     table.objects = [number for one, number in kept if not one.is_function]
     table.functions = [_function(table, number) for one, number in kept if one.is_function]
-    _tell_losses(table, known, {_key(one) for one, number in kept if number}, file, wanted)
+    names = {name for name in known.by_name} | {name for name, _ in known.by_place}
+    if file is not None:  # what is declared alone, or was optimized away, has no symbol
+        names &= {_key(one) for one, _ in kept}
+    _tell_losses(table, known.lost, len(names - {_key(one) for one, n in kept if n}), file, wanted)
     return Symbols(wanted if file else NAMES, tuple(one for one, _ in kept))
 
 
@@ -101,15 +104,13 @@ def _function(table: Table, number: int) -> Optional[Record]:
     return table[number] if number else None
 
 
-def _tell_losses(table: Table, known: _Known, kept: "set[Name]", file: Optional[Elf], wanted: str
-                 ) -> None:
-    """What was told and is left out."""
-    if known.lost:
-        table.losses.append(f"{known.lost} functions and objects of its GNU CTF are in the order of"
+def _tell_losses(table: Table, lost: int, shared: int, file: Optional[Elf], wanted: str) -> None:
+    """What was told and is left out: for want of the symbol table, or of a name of its own."""
+    if lost:
+        table.losses.append(f"{lost} functions and objects of its GNU CTF are in the order of"
                             " a symbol table that " + ("is not there" if file else "the section"
                             " alone has not") + ": they are left out")
-    left = {name for name in known.by_name} | {name for name, _ in known.by_place}
-    if left - kept and (kept or file is None):
+    if shared:
         where = wanted if file else "it"
-        table.losses.append(f"{len(left - kept)} functions and objects of its GNU CTF have no"
-                            f" symbol of their own in {where}: they are left out")
+        table.losses.append(f"{shared} functions and objects of its GNU CTF have a name that"
+                            f" several have in {where}: they are left out")
