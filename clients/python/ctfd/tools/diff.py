@@ -77,6 +77,8 @@ def _run(session: Session, words: argparse.Namespace) -> int:
         if not change.said:
             continue
         status = max(status, BREAKING if change.breaks else COMPATIBLE)
+        if any(one.what == "untold" for one in change.said):
+            status = max(status, TROUBLE)
         print(objects.line(_object(change)) if words.json else _lines(change))
     for line in left:
         _warn(line)
