@@ -24,6 +24,8 @@ ALL: Words = {
     "debuginfo": ["{}", "{}.debug"], "diff": ["{}", "{}"], "diff all": ["--all", "{}", "{}.two"],
 }
 SOME = {name: ALL[name] for name in ("convert", "types", "types one", "diff all", "debuginfo")}
+DEEP = {name: ALL[name] for name in ("types", "types contains", "types uses", "types c", "diff all",
+                                     "explore")}
 
 
 class Hostile(Case):
@@ -66,8 +68,8 @@ class Hostile(Case):
 
     def test_structs_of_two_of_the_one_before(self) -> None:
         for make in (made.doubled_structs, made.doubled_unnamed):
-            for size in (30, 400):
-                done = self.asked(make, size, ALL)
+            for size, words in ((30, ALL), (400, DEEP)):
+                done = self.asked(make, size, words)
                 self.assertEqual(done["types"].status, 0)
                 self.assert_refused(done, "types contains", says="more work|more members")
         # What can be told is: each of ten levels twice as often as the one before.
