@@ -98,8 +98,8 @@ def of_file(file: Elf, sym: Optional[bytes], strings: Optional[bytes]) -> Export
     made = Exports(soname=_soname(file))
     if found is None:
         return made
-    numbers = _numbers(sym, strings)
     try:
+        numbers = _numbers(sym, strings)
         versions = _Versions(file)
         for place, one in enumerate(_entries(file, found)):
             if one.is_seen:
@@ -109,7 +109,7 @@ def of_file(file: Elf, sym: Optional[bytes], strings: Optional[bytes]) -> Export
                     plain, version, KINDS[one.kind], one.address, one.size,
                     numbers.get((plain, one.address)), one.kind == TLS))
     except (struct.error, IndexError, ValueError) as error:
-        raise Unreadable(f"{file.path}: its dynamic symbols are damaged: {error}") from error
+        raise Unreadable(f"{file.path}: its symbols are damaged: {error}") from error
     return made
 
 
