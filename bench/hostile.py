@@ -10,7 +10,8 @@ megabyte. Wanted are at most 10 ms for each MB; what takes no more than 5 ms in 
 With --limit, the status is 1 where a case takes more than FACTOR times as long.
 
 Then come requests of so many sessions, slots and pending types, and how much longer they take than
-those of half as many: with --limit, more than three times as long is too much.
+those of half as many: with --limit, more than three times as long is too much. So it is with files
+that the Python commands read (hostile_files.py), and with 5 seconds for one.
 
 With --growth, instructions are counted by valgrind for each case that has a size, and for one of
 half its size: twice as many are linear. WORDs pick cases by their names.
@@ -29,6 +30,7 @@ import hostile_dictionaries as made
 from asking import Service
 from charging import EMPTY
 from dictionaries import all_parts
+from hostile_files import FILES, MOST_SECONDS
 from hostile_sessions import GROWTHS, SESSIONS
 
 WANTED, LEAST = 10.0, 5.0
@@ -288,6 +290,14 @@ def growth_row(program, case, is_counted, limit):
            f"{'  TOO SLOW' if is_over else ''}", is_over
 
 
+def file_row(program, case, limit):
+    """A row of a file that a command reads, and whether that takes too long."""
+    half, whole = (case.seconds(program, size) for size in (case.size // 2, case.size))
+    is_over = limit is not None and (whole > GROWN * half or whole > MOST_SECONDS)
+    return f"{case.name:52}{case.size:8}   {1000 * whole:9.1f} ms  x{whole / half:.2f}" \
+           f"{'  TOO SLOW' if is_over else ''}", is_over
+
+
 def rows(program, options):
     """Each row, and whether it is over."""
 
@@ -302,6 +312,8 @@ def rows(program, options):
         yield row.told(options.limit), row.is_over(options.limit)
     for case in filter(is_picked, GROWTHS):
         yield growth_row(program, case, options.growth, options.limit)
+    for case in filter(is_picked, FILES):
+        yield file_row(program, case, options.limit)
 
 
 def main():

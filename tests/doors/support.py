@@ -31,6 +31,9 @@ SECONDS, MEGABYTES = 5, 300
 # Traces of Python, of Rust and of a sanitizer: no user is to see one.
 TRACE = re.compile(r"Traceback \(most recent|panicked at|AddressSanitizer|runtime error:")
 
+# What one run keeps for the next is this process's own.
+CACHE = tempfile.TemporaryDirectory()
+
 Word = Union[str, Path]
 
 
@@ -56,7 +59,8 @@ def tool(name: str) -> str:
 
 def clean(environment: Optional[Mapping[str, str]] = None) -> dict[str, str]:
     """The environment of a door, with words of the caller's over it."""
-    return {**os.environ, "CTFD": SERVICE, "LC_ALL": "C.UTF-8", **(environment or {})}
+    return {**os.environ, "CTFD": SERVICE, "LC_ALL": "C.UTF-8", "XDG_CACHE_HOME": CACHE.name,
+            **(environment or {})}
 
 
 def run(*words: Word, stdin: bytes = b"", folder: Optional[Word] = None,

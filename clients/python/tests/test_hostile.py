@@ -71,9 +71,12 @@ class Hostile(WithService):
         self.paths: Dict[str, str] = {name: written(self, make()) for name, make in MADE.items()}
 
     def ended(self, name: str, *words: str) -> str:
-        """What a command printed, once it is judged how it ended: 4 is of what breaks."""
+        """What a command printed, once it is judged how it ended: of `ctfd-diff` 4 is of what
+        breaks, and 2 of what could not be compared, which is told."""
         done = within(name, *words)
-        statuses = (0, 1, 4) if name == "ctfd-diff" else (0, 1)
+        statuses = (0, 1, 2, 4) if name == "ctfd-diff" else (0, 1)
+        if name == "ctfd-diff" and done.returncode == 2:
+            self.assertRegex(done.stderr, "than are compared|more work than")
         self.assertIn(done.returncode, statuses, (words, done.stderr[-300:]))
         for said in (done.stdout, done.stderr):
             self.assertNotIn("\x1b", said)

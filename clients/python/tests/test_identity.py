@@ -85,6 +85,12 @@ class Symbols(WithPrograms):
         subprocess.run(["strip", path], check=True)
         subprocess.run(["objcopy", f"--add-gnu-debuglink={path}.debug", path], check=True)
         out, told = self.converted(path, "--section")
+        self.assertIn(f"functions and objects are those of {path}.debug, by their names", told)
+        self.assertEqual(self.declared(out, "add"), "int add(struct node *, u32);")
+        other = self.program("other", "-rdynamic")  # and one of which nothing has them
+        subprocess.run(["objcopy", "-w", "--strip-all", "--keep-section=.debug_*", other],
+                       check=True)
+        out, told = self.converted(other, "--section")
         self.assertIn("it is stripped of .symtab: symbols are left out", told)
         self.assertIn("symbols are left out", self.declared(out, "add"))
 
@@ -123,7 +129,7 @@ class Symbols(WithPrograms):
         shutil.copy(made, f"{made}.stripped")
         subprocess.run(["strip", f"{made}.stripped"], check=True)
         done = command("ctfd-diff", made, f"{made}.stripped")
-        self.assertEqual((done.returncode, done.stdout), (0, ""))
+        self.assertEqual((done.returncode, done.stdout), (2, ""))
         self.assertIn("symbols are left out", done.stderr)
 
 

@@ -19,6 +19,7 @@ from . import library, service
 from .faults import Error, Gone, Refused, refused
 from .library import Inside, Library
 from .model import Model
+from ..files import bounded
 from ..text import Name
 
 if TYPE_CHECKING:
@@ -73,6 +74,7 @@ class Client:
         self._others: List[Client] = []
         self._unsent = bytearray()
         self._unread = bytearray()
+        self._taken = 0  # bytes of replies that are not counted as work yet
         self._lines: Deque[bytearray] = collections.deque()
         self._pieces: Deque[bytes] = collections.deque()
         self._written: Deque[int] = collections.deque()
@@ -130,7 +132,9 @@ class Client:
         if self._library is not None:
             self.requests += len(lines)
             self.rounds += 1
-            return _all_decoded(self._library.answers(lines))
+            answers = self._library.answers(lines)
+            bounded.charge(sum(map(len, answers)))
+            return _all_decoded(answers)
         mine = [Owed() for _ in lines]
         written = b"".join(lines)
         self._torn = True
@@ -140,6 +144,8 @@ class Client:
         self.requests += len(lines)
         self.rounds += 1
         self._run(mine)
+        bounded.charge(self._taken)
+        self._taken = 0
         return [owed.reply for owed in mine if owed.reply is not None]
 
     def close(self) -> None:
@@ -207,6 +213,7 @@ class Client:
         while self._pieces:
             if not self._pieces[0]:
                 self._end(self._channel.how_it_ended())
+            self._taken += len(self._pieces[0])
             self._torn = True
             self._unread += self._pieces[0]
             del self._pieces[0]

@@ -6,6 +6,7 @@ from typing import Iterable, List, NamedTuple, Set
 from ..client.dictionary import normal, spellings
 from ..client.faults import Error
 from ..client.nearest import offered
+from ..files import bounded
 from ..layout.records import Record, Table
 from .written import MOST_TYPES
 
@@ -65,6 +66,7 @@ def _take(table: Table, root: int, chosen: "dict[int, None]", later: List[int]) 
                 mine[number] = None
                 todo.append(number)
         if len(chosen) + len(mine) > MOST_TYPES:
+            bounded.charge(bounded.STEP * len(mine))
             return
     chosen.update(mine)
     later += outside
@@ -101,6 +103,7 @@ def _closed(table: Table, root: int, kept: Set[int], never: Set[int]) -> Set[int
                 mine.add(number)
                 todo.append(number)
         if len(kept) + len(mine) > MOST_TYPES:
+            bounded.charge(bounded.STEP * len(mine))
             return set()
     return mine
 

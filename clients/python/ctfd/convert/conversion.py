@@ -13,7 +13,7 @@ from ..layout.records import Table
 from . import outputs
 from .choose import fitting, named, shared, told_left_out
 from .held import held
-from .inputs import Input, Options, read
+from .inputs import Input, Options, read, told_symbols
 from .made import Made
 from .merge import merged, named_once
 from .written import MOST_TYPES
@@ -52,9 +52,8 @@ def made_of(words: argparse.Namespace, found: Input) -> Made:
     return _alone(table, found.symbols)
 
 
-def _selected(found: Input, names: List[str]) -> "tuple[Table, Set[int]]":
-    """What is wanted of a file, each type once and as CTF holds it; which of these are the base's.
-    """
+def selection(found: Input, names: List[str]) -> "tuple[Table, Set[int]]":
+    """What is wanted of a file, each type once; which of these are the base's."""
     table = found.table
     if table.lacks_parent:
         _refuse(f"it is a child of {table.parent_name or 'a parent without a name'}, whose types it"
@@ -70,9 +69,13 @@ def _selected(found: Input, names: List[str]) -> "tuple[Table, Set[int]]":
         table = named_once(table)
     if not len(table):
         _refuse("nothing is to be written: the file tells no type of C with a name")
-    if found.form != "CTF version 2":
-        table = held(table)
     return table, set(range(1, bases + 1))
+
+
+def _selected(found: Input, names: List[str]) -> "tuple[Table, Set[int]]":
+    """As `selection`, as CTF holds it."""
+    table, bases = selection(found, names)
+    return table if found.form == "CTF version 2" else held(table), bases
 
 
 def _alone(table: Table, symbols: Symbols) -> Made:
@@ -91,15 +94,12 @@ def _pruned(table: Table, symbols: Symbols) -> Symbols:
     own; the table's entries with them."""
     if symbols.table != NAMES:
         return symbols
-    objects = [(one, n) for one, n in zip(symbols.objects, table.objects) if n]
-    functions = [(one, told) for one, told in zip(symbols.functions, table.functions) if told]
-    left = len(symbols.listed) - len(objects) - len(functions)
+    kept = told_symbols(table, symbols)
+    left = len(symbols.listed) - len(kept.listed)
     if left:
         table.losses.append(f"{left} functions and variables are left out, because the types that"
                             " they name are")
-    table.objects = [n for _, n in objects]
-    table.functions = [told for _, told in functions]
-    return Symbols(NAMES, (*(one for one, _ in objects), *(one for one, _ in functions)))
+    return kept
 
 
 def _roots(table: Table) -> Set[int]:

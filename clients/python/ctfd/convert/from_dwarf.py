@@ -5,6 +5,7 @@ from typing import Dict, List, NamedTuple, Optional, Sequence, Set, Tuple
 
 from ..client.faults import Unreadable
 from ..client.types import Encoding, Enumerator
+from ..files import bounded
 from ..files.symbols import Wanted
 from ..layout.records import BOOLEAN, CHARACTER, Part, Record, SIGNED, Table
 from . import debug_symbols
@@ -17,7 +18,8 @@ from .joining import Joiner
 
 KINDS = {
     tags.STRUCTURE: "struct", tags.CLASS: "struct", tags.UNION: "union",
-    tags.ENUMERATION: "enum", tags.POINTER: "pointer", tags.TYPEDEF: "typedef",
+    tags.ENUMERATION: "enum", tags.POINTER: "pointer", tags.REFERENCE: "pointer",
+    tags.RVALUE_REFERENCE: "pointer", tags.TYPEDEF: "typedef",
     tags.CONST: "const", tags.VOLATILE: "volatile", tags.RESTRICT: "restrict",
     tags.ATOMIC: "atomic",
 }
@@ -176,6 +178,11 @@ class Reader:
             return self._array(entry)
         if tag == tags.SUBROUTINE:
             return self._function(list(entry.children()), self.type(entry))
+        if tag == tags.UNSPECIFIED:
+            return Record("unknown", name)
+        called = f" {name}" if name else ""
+        self._lost(f"a type{called} of tag 0x{tag:x} in the debug information, which is none of C:"
+                   " an unknown type stands in its place")
         return Record("unknown", name)
 
     def _members(self, entry: Entry) -> Tuple[Part, ...]:
@@ -190,6 +197,7 @@ class Reader:
                 width = one.constant(attributes.BIT_SIZE)
                 parts.append(Part(one.name, self.type(one), self._offset(entry, one, width),
                                   width))
+        bounded.charge(bounded.STEP * len(parts))
         return tuple(parts)
 
     def _offset(self, whole: Entry, member: Entry, width: Optional[int]) -> int:
@@ -259,6 +267,7 @@ class Reader:
 
     def _function(self, parts: List[Entry], returns: int) -> Record:
         """What a function takes and returns."""
+        bounded.charge(bounded.STEP * len(parts))
         arguments: List[int] = []
         varargs = False
         for one in parts:
@@ -356,8 +365,10 @@ def _base(entry: Entry, name: str, size: int) -> Record:
 
 
 def _enumerators(entry: Entry) -> Tuple[Enumerator, ...]:
-    return tuple(Enumerator(one.name, one.constant(attributes.CONST_VALUE) or 0)
+    made = tuple(Enumerator(one.name, one.constant(attributes.CONST_VALUE) or 0)
                  for one in entry.children() if one.tag == tags.ENUMERATOR)
+    bounded.charge(bounded.STEP * len(made))
+    return made
 
 
 def _location(member: Entry) -> int:

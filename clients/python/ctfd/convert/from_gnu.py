@@ -11,14 +11,16 @@ from typing import Dict, List, NamedTuple, Optional, Tuple
 
 from ..client.faults import Unreadable
 from ..client.types import Encoding, Enumerator
+from ..files import bounded
 from ..files.source import ARCHIVE, LONGEST
 from ..files.strings import Strings
 from ..layout.records import Part, Record, Table
+from .gnu_symbols import Entries, Listed
 
 MAGIC = b"\xf2\xdf"
 VERSION = 4  # of the bytes: the format calls it 3
 HEADER = 4 + 12 * 4
-COMPRESSED = 1
+COMPRESSED, NEW_FUNCTIONS, DYNAMIC = 1, 2, 8  # flags of a header
 KINDS = ("unknown", "integer", "float", "pointer", "array", "function", "struct", "union", "enum",
          "forward", "typedef", "volatile", "const", "restrict", "slice")
 LONG = 0xFFFFFFFF
@@ -39,8 +41,11 @@ class _Dictionary:
 
     def __init__(self, ctf: bytes, strings: bytes, parent: Optional[_Dictionary],
                  table: Table) -> None:
-        (_, parname, _, *_, types, names, length) = struct.unpack_from("<12I", ctf, 4)
+        head = struct.unpack_from("<12I", ctf, 4)
+        parname, (types, names, length) = head[1], head[9:]
         body = _body(ctf, names + length)
+        self.flags = ctf[3]
+        self._symbols = [body[start:end] for start, end in zip(head[4:8], head[5:9])]
         self.types, self.names = body[types:names], Strings(body[names:names + length])
         self.strings = Strings(strings)
         self.parent = parent if parname else None
@@ -57,6 +62,18 @@ class _Dictionary:
             members = tuple(self._part(part) for part in record.members)
             plain = record._replace(members=()).renumbered(self._number)
             self.table.put(number, plain._replace(members=members))
+
+    def entries(self) -> Entries:
+        """What is told of symbols. Functions are told otherwise by tools of before 2021."""
+        objects, functions, *names = self._symbols
+        if not self.flags & NEW_FUNCTIONS:
+            functions = b""
+        return Entries(self._listed(objects, names[0]), self._listed(functions, names[1]),
+                       bool(self.flags & DYNAMIC))
+
+    def _listed(self, types: bytes, names: bytes) -> Listed:
+        numbers = [self._number(n) for n in _words(types)]
+        return Listed(numbers, [self._name(one) for one in _words(names)] if names else None)
 
     def _number(self, n: int) -> int:
         if self.parent is not None and n < CHILD:
@@ -83,6 +100,9 @@ class _Dictionary:
 
     def _name(self, reference: int) -> str:
         names = self.strings if reference >> 31 else self.names
+        if reference >> 31 and not self.strings.data:
+            raise Unreadable("its names stand in the strings of the ELF file that it was taken"
+                             " from: name that file in place of the section")
         start = reference & 0x7FFFFFFF
         return names.at(start)
 
@@ -92,7 +112,8 @@ class _Dictionary:
             high, low = self._take("II")
             field = high << 32 | low
         kind, length = KINDS[info >> 26], info & 0x1FFFFFF
-        record: Optional[Record] = Record(kind, self._name(name))
+        # gcc gives the type of a function that function's name, by which C has no type.
+        record: Optional[Record] = Record(kind, "" if kind == "function" else self._name(name))
         assert record is not None
         if kind in ("integer", "float"):
             lies = self._take("I")[0]
@@ -138,8 +159,19 @@ class _Dictionary:
         return tuple(parts)
 
 
-def read(ctf: bytes, strings: bytes, table: Table) -> None:
-    """Puts the types of a section into a table. Raises Unreadable."""
+def _words(data: bytes) -> List[int]:
+    return [one for one, in struct.iter_unpack("<I", data[:len(data) // 4 * 4])]
+
+
+def is_dynamic(ctf: bytes) -> bool:
+    """Whether names that a section has not itself are those of dynamic symbols."""
+    return any(bool(one[3:4] and one[3] & DYNAMIC) for one in _dictionaries(ctf)[:1])
+
+
+def read(ctf: bytes, strings: bytes, table: Table) -> List[Entries]:
+    """Puts the types of a section into a table; what each dictionary tells of symbols. Raises
+    Unreadable."""
+    found: List[Entries] = []
     try:
         parent: Optional[_Dictionary] = None
         for one in _dictionaries(ctf):
@@ -147,12 +179,14 @@ def read(ctf: bytes, strings: bytes, table: Table) -> None:
             made = _Dictionary(one, strings, parent, table)
             made.run()
             parent = parent or made
+            found.append(made.entries())
     except (struct.error, IndexError, ValueError, KeyError, RecursionError) as error:
         raise Unreadable("its GNU CTF is damaged or cut off") from error
     if any(one.kind == "array" and one.type and table[one.type].kind == "array"
            for one in table.records):
         table.losses.append("an array of arrays: gcc before 14 writes the dimensions of such in the"
                             " other order, and they are taken as they stand; DWARF tells them")
+    return found
 
 
 def _dictionaries(ctf: bytes) -> List[bytes]:
@@ -165,6 +199,7 @@ def _dictionaries(ctf: bytes) -> List[bytes]:
         name, at = struct.unpack_from("<QQ", ctf, 40 + 16 * number)
         size = struct.unpack_from("<Q", ctf, start + at)[0]
         called = ctf[names + name:ctf.index(b"\0", names + name)]
+        bounded.charge(size + len(called))
         found.append((called != b".ctf", number, ctf[start + at + 8:start + at + 8 + size]))
     return [one for _, _, one in sorted(found)]
 
@@ -181,6 +216,7 @@ def _body(ctf: bytes, length: int) -> bytes:
     body = ctf[HEADER:]
     if not ctf[3] & COMPRESSED:
         return body
+    bounded.charge(length)
     if length > LONGEST:
         raise Unreadable(f"its body inflates to {length} bytes, more than a dictionary may have")
     try:

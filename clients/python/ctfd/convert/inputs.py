@@ -7,12 +7,12 @@ from typing import Callable, Dict, List, NamedTuple, Optional, Set
 from ..client.faults import Unreadable
 from ..client.model import Model
 from ..files import archives, elf, identity, several, source
-from ..files.debugfiles import FOLDERS, has_debug, with_debug
+from ..files.debugfiles import FOLDERS, LINK_IT, has_debug, is_lto, with_debug
 from ..files.elf import Elf
 from ..files.mapped import Mapped, contents
 from ..files.symbols import DYNSYM, NAMES, SYMTAB, Symbols, Wanted, considered, table_of
 from ..layout.records import Record, Table
-from . import from_btf, from_ctf, from_dwarf, from_gnu
+from . import from_btf, from_ctf, from_dwarf, from_gnu, gnu_symbols
 from .dwarf.files import Debug
 from .dwarf.sections import Sections
 from .progress import Progress
@@ -24,6 +24,8 @@ SECTIONS = {"ctf": source.SECTIONS, "btf": (".BTF",), "gnu": (".ctf",)}
 LARGE = 100 << 20
 SLOW = ("{} MB of debug information are read, which takes minutes: pahole -J, and --from btf here,"
         " are faster, without objects, _Atomic types and a part of the functions")
+NAMED = {"dwarf": "DWARF", "btf": "BTF", "gnu": "GNU's CTF"}
+DAMAGED = "its debug information is damaged or of a form that is not read"
 LONGS = ("long int", "long", "long unsigned int", "unsigned long")
 
 
@@ -101,11 +103,18 @@ def _form(data: Mapped) -> Optional[str]:
 def _of_section(form: str, held: Held, options: Options) -> Input:
     """A section by itself, or of an ELF file. Of one by itself the size of a long tells the model,
     where nothing else does."""
+    _judge_number(form, options)
     table = Table(options.model or (held.file.model if held.file else "lp64"))
     found = _READERS[form](held, table, options)
     if held.file is None and options.model is None and _is_of_32_bits(found.table):
         found.table.model = "ilp32"
     return found
+
+
+def _judge_number(form: str, options: Options) -> None:
+    if options.number is not None and form != "ctf":
+        raise Unreadable(f"--dictionary {options.number} chooses one of several dictionaries of CTF"
+                         f" version 2, and its types are read from {NAMED[form]}: leave it out")
 
 
 def _is_of_32_bits(table: Table) -> bool:
@@ -161,21 +170,40 @@ def _strings(file: Elf, link: int) -> Optional[bytes]:
 # Debug information.
 
 def _of_dwarf(whole: Elf, options: Options) -> Input:
+    _judge_number("dwarf", options)
+    found = with_debug(whole, options.folders)
     symbols = considered(whole, options.symbols)
     if options.symbols == DYNSYM and not symbols.listed:
         raise Unreadable("it has no .dynsym with functions or objects, as a program has that"
                          " exports some: leave --symbols out")
+    is_stripped = options.symbols == SYMTAB and table_of(whole, SYMTAB) is None
+    if is_stripped and found is not whole:
+        symbols = Symbols(NAMES, considered(found, SYMTAB).listed)
     reader = from_dwarf.Reader(Table(whole.model), symbols.listed)
-    _take(reader, whole, options)
+    _take(reader, found, options)
     reader.tell(whole.kind != elf.RELOCATABLE)
-    return Input(reader.table, reader.roots, 0, "DWARF", symbols, _note(whole, symbols))
+    if symbols.table == NAMES:
+        symbols = told_symbols(reader.table, symbols)
+    return Input(reader.table, reader.roots, 0, "DWARF", symbols, _note(whole, symbols, found.path))
 
 
-def _note(file: Elf, symbols: Symbols) -> str:
+def told_symbols(table: Table, symbols: Symbols) -> Symbols:
+    """Those alone of which something is told, as where names are the dictionary's own."""
+    objects = [(one, n) for one, n in zip(symbols.objects, table.objects) if n]
+    functions = [(one, told) for one, told in zip(symbols.functions, table.functions) if told]
+    table.objects = [n for _, n in objects]
+    table.functions = [told for _, told in functions]
+    return Symbols(symbols.table, (*(one for one, _ in objects), *(one for one, _ in functions)))
+
+
+def _note(file: Elf, symbols: Symbols, debug: str = "") -> str:
     """What is to be known of the symbols of a program."""
     if symbols.table == DYNSYM:
         return (f"its types are for the {len(symbols.listed)} functions and objects of .dynsym,"
                 " which strip keeps; those that are not exported are left out")
+    if symbols.table == NAMES and symbols.listed:
+        return (f"it is stripped of .symtab: the {len(symbols.listed)} functions and objects are"
+                f" those of {debug}, by their names")
     if not symbols.listed and table_of(file, DYNSYM):
         return ("it is stripped of .symtab: symbols are left out; --symbols dynsym has those that"
                 " it exports")
@@ -185,7 +213,9 @@ def _note(file: Elf, symbols: Symbols) -> str:
 def _of_archive(path: str, data: Mapped, options: Options) -> Input:
     """The types of all object files in an archive. Of symbols nothing is told: it has no table of
     them that a dictionary could go by."""
+    _judge_number("dwarf", options)
     reader: Optional[from_dwarf.Reader] = None
+    has_lto = False
     for name, held in archives.members(path, data):
         if held[:4] != elf.MAGIC:
             continue
@@ -196,18 +226,18 @@ def _of_archive(path: str, data: Mapped, options: Options) -> Input:
             raise Unreadable(f"{file.path} is of {file.model}, and not of"
                              f" {options.model or reader.table.model}: take the members of one"
                              " model out by ar x")
+        has_lto = has_lto or is_lto(file)
         if has_debug(file):
             _take(reader, file, options)
     if reader is None or not reader.has_units:
-        raise Unreadable("an archive in which no object file has debug information: compile these"
-                         " with -g")
+        raise Unreadable("an archive in which no object file has debug information: "
+                         + (LINK_IT if has_lto else "compile these with -g"))
     reader.tell(False)
     return Input(reader.table, reader.roots, 0, "DWARF")
 
 
-def _take(reader: from_dwarf.Reader, whole: Elf, options: Options) -> None:
-    """Reads the debug information of a file, wherever it is. Raises Unreadable."""
-    found = with_debug(whole, options.folders)
+def _take(reader: from_dwarf.Reader, found: Elf, options: Options) -> None:
+    """Reads the debug information in a file. Raises Unreadable."""
     progress = Progress(f"reading {found.path}")
     try:
         sections = Sections(found, [*options.folders, *FOLDERS])
@@ -216,10 +246,11 @@ def _take(reader: from_dwarf.Reader, whole: Elf, options: Options) -> None:
         reader.read(Debug(sections, progress.told))
     except Unreadable as error:
         raise Unreadable(f"{found.path}: {error}") from error
-    except (struct.error, IndexError, KeyError, ValueError, OverflowError) as error:
-        why = f"{type(error).__name__} {error}".strip()
-        raise Unreadable(f"{found.path}: its debug information is damaged or of a form that is"
-                         f" not read ({why})") from error
+    except (struct.error, IndexError, KeyError, OverflowError) as error:
+        raise Unreadable(f"{found.path}: {DAMAGED} (it is cut off, or names what is not there)"
+                         ) from error
+    except ValueError as error:  # a reader's own words
+        raise Unreadable(f"{found.path}: {DAMAGED} ({error})") from error
     finally:
         progress.end()
 
@@ -255,8 +286,23 @@ def _types_label(path: Optional[str]) -> Optional[str]:
 
 
 def _of_gnu(held: Held, table: Table, options: Options) -> Input:
-    from_gnu.read(held.data, held.strings or b"", table)
-    return Input(table, named(table), 0, "GNU's CTF")
+    strings = held.strings
+    if held.file is not None and from_gnu.is_dynamic(held.data):
+        found = held.file.named(".dynstr")
+        strings = held.file.bytes(found) if found else b""
+    entries = from_gnu.read(held.data, strings or b"", table)
+    symbols = gnu_symbols.symbols_of(table, entries, held.file, options.symbols)
+    return Input(table, named(table), 0, "GNU's CTF", symbols, _gnu_note(table, held.file, symbols))
+
+
+def _gnu_note(table: Table, file: Optional[Elf], symbols: Symbols) -> str:
+    """What is to be known of symbols of which GNU's CTF tells nothing."""
+    if any(table.objects) or any(table.functions) or file is None:
+        return ""
+    if not symbols.listed:
+        return _note(file, symbols)
+    return (f"its GNU CTF tells nothing of the {len(symbols.listed)} functions and objects of"
+            f" {symbols.table}: ld keeps that of what a file exports; -g tells of all")
 
 
 def _of_btf(held: Held, table: Table, options: Options) -> Input:

@@ -3,12 +3,13 @@ from __future__ import annotations
 
 import contextlib
 import os
+import re
 import shutil
 import subprocess
 import sys
 import tempfile
 from collections import Counter
-from typing import Iterator, List, Optional
+from typing import Iterator, List, Optional, Sequence
 
 from ..client import trust
 from ..client.faults import BadSymbols, Error, Refused
@@ -24,6 +25,7 @@ from .made import Made
 
 SECTION = ".SUNW_ctf"
 STANDARD_OUTPUT = "-"
+_GRAVE = re.compile(r"\d+ (types|functions|units?) |.*: symbols are left out")
 TOOLS = ("objcopy", "llvm-objcopy")  # that of GNU knows the machines that it was built for
 
 
@@ -163,10 +165,23 @@ def _mask() -> int:
 
 # What is told.
 
-def told_once(losses: List[str]) -> List[str]:
+def told_once(losses: Sequence[str]) -> List[str]:
     """Each line once, with how often it was told."""
     return [line if count == 1 else f"{line} ({count} times)"
             for line, count in Counter(losses).items()]
+
+
+def notice(losses: Sequence[str], most: int, how: str) -> List[str]:
+    """What a user is told: that types, symbols or files are left out comes first, and of what else
+    is many, how many there are, and how to see them."""
+    lines = told_once(losses)
+    first = [line for line in lines if _GRAVE.match(line)]
+    others = [line for line in lines if not _GRAVE.match(line)]
+    if len(others) > most:
+        left = len(others) - most + 1
+        others = others[:most - 1] + [f"{left} constructs more that CTF cannot represent were"
+                                      f" changed or left out: {how}"]
+    return first + others
 
 
 def report(path: str, source_path: str, found: Input, made: Made) -> None:

@@ -6,8 +6,10 @@ from typing import Dict, Iterator, List, NamedTuple, Optional, Tuple
 
 from ..client.faults import Unreadable
 from ..client.model import Model
+from ..files import bounded
 from ..files.elf import DYNSYM, Elf, FUNCTION, NOBITS, OBJECT, SYMTAB, Section
 from ..files.mapped import Mapped
+from ..files.symbols import TIMES_NAME
 
 NOTE, PROGBITS, ALLOCATED = 7, 1, 2
 ABSOLUTE, RESERVED = 0xFFF1, 0xFF00
@@ -179,12 +181,16 @@ class Image:
         strings, data = self.strings(table), self.elf.bytes(table)
         whole = len(data) // self.form.symbol.size * self.form.symbol.size
         source = ""
+        names: Dict[int, str] = {}  # many symbols may have one
         for number, fields in enumerate(self.form.symbol.iter_unpack(data[:whole])):
             if self.elf.model == "lp64":
                 name, info, other, section, value, size = fields
             else:
                 name, value, size, info, other, section = fields
-            kind, text = info & 15, _text(strings, name)
+            kind, text = info & 15, names.get(name)
+            if text is None:
+                text = names[name] = _text(strings, name)
+            bounded.charge(bounded.STEP + TIMES_NAME * len(text))
             if kind == SOURCE_FILE:
                 source = text
             is_told = kind in (OBJECT, FUNCTION) and section and text and text not in MARKS

@@ -9,6 +9,7 @@ from __future__ import annotations
 from typing import Any, Callable, Dict, Iterator, List, NamedTuple, Optional, Tuple
 
 from ..client.dictionary import WORDS
+from ..client.types import Enumerator
 from ..text import printable
 from ..layout.catalog import RENAMES
 from ..layout.embeds import Embeds
@@ -73,13 +74,15 @@ class Change(NamedTuple):
 
 
 class Place(NamedTuple):
-    """A member: where it lies in bits, how its type is written, and what kind of value it is."""
+    """A member: where it lies in bits, how its type is written, what kind of value it is, and which
+    values of it have names."""
 
     path: str
     start: int
     bits: int
     text: str
     value: Tuple[Any, ...]
+    named: Tuple[Enumerator, ...] = ()
 
     @property
     def at(self) -> str:
@@ -96,7 +99,10 @@ class Side:
         self.catalog = whole.catalog
         self.embeds = Embeds(whole.catalog, whole.names)
         self._names = TypeNames(whole.catalog, usual)
-        self._types: Dict[int, Tuple[int, int, str, Tuple[Any, ...]]] = {}
+        self._types: Dict[int, Place] = {}
+        self._enums = {(record.tagged, record.size or 4): number for number, record in
+                       ((n, self.catalog[n]) for n in reversed(self.catalog.numbers))
+                       if record.kind == "enum" and record.name}
         self.own = self._by_key(self.catalog.own)
         self.all = self.own if self.catalog.own == self.catalog.numbers else \
             self._by_key(self.catalog.numbers)
@@ -168,17 +174,30 @@ class Side:
                 for held in self.embeds.walked(number)]
 
     def _place(self, name: str, number: int, offset: int) -> Place:
-        lies, bits, text, value = self._told(number)
-        return Place(printable(name), offset + lies, bits, text, value)
+        return self._told(number)._replace(path=printable(name), start=offset
+                                           + self._told(number).start)
 
-    def _told(self, number: int) -> Tuple[int, int, str, Tuple[Any, ...]]:
-        """What is told of a member by its type alone: where in its storage it lies, its bits, how C
-        writes it, and what its value is."""
+    def _told(self, number: int) -> Place:
+        """What is told of a member by its type alone, where it lies in its storage."""
         known = self._types.get(number)
         if known is None:
             lies, bits, _ = self.catalog.span(number)
-            known = self._types[number] = lies, bits, self.text(number), self.value(number)
+            enum = self.enum_of(self.catalog.resolved(number))
+            known = self._types[number] = Place("", lies, bits, self.text(number),
+                                                self.value(number), self.catalog[enum].enumerators)
         return known
+
+    def enum_of(self, number: int) -> int:
+        """The enum that a type is, or a bit-field of which it is the type; 0 where it is none.
+
+        A dictionary has no widths of enums: an integer with the enum's name stands there.
+        """
+        record = self.catalog[number]
+        if record.kind == "enum":
+            return number
+        if record.kind != "integer" or not record.name.startswith("enum "):
+            return 0
+        return record.type or self._enums.get((record.name, record.size), 0)
 
 
 def compared(old: Whole, new: Whole) -> Iterator[Change]:
@@ -192,8 +211,14 @@ def compared(old: Whole, new: Whole) -> Iterator[Change]:
     for key, numbers in after.own.items():
         if key not in before.all and key[0] not in BASE:
             yield from (_added(after, key, number) for number in numbers[:1])
-    old.cut.extend(f"{old.names.label(n)} has more members of members than are compared"
-                   for n in before.embeds.cut)
+    tell_cut(before, after)
+
+
+def tell_cut(*sides: Side) -> None:
+    """Says what was not compared, since it has too many members of members."""
+    for side in sides:
+        side.whole.cut.extend(f"{side.whole.names.label(n)} has more members of members than are"
+                              " compared" for n in side.embeds.cut)
 
 
 def _matched(before: Side, after: Side, key: Key, old: List[int], new: List[int]
@@ -300,7 +325,8 @@ def _member_types(one: Place, other: Place) -> Iterator[Said]:
                    one.bits, other.bits)
     elif (one.text, one.value) != (other.text, other.value):
         text = f"{one.path} is {other.text}, was {one.text}"
-        yield Said("type", text, one.value != other.value, one.path, one.text, other.text)
+        breaks = one.value != other.value or bool(other.named and set(one.named) - set(other.named))
+        yield Said("type", text, breaks, one.path, one.text, other.text)
 
 
 def _wide(bits: int) -> str:

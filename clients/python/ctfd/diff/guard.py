@@ -15,7 +15,7 @@ from ..text import printable
 from ..client.wire import Answer, Outcome, Request
 from ..files.exports import Exported, Exports
 from ..layout.whole import Whole
-from .changes import Change, Reach, Said, Side
+from .changes import Change, Reach, Said, Side, tell_cut
 from .structure import Found, Pair, Signed, Structures
 
 AT_ONCE = 8192
@@ -59,7 +59,8 @@ class Guard:
         self.new = new
         self.skipped = skipped
         self.before = Side(old.whole)
-        self.structures = Structures(self.before, Side(new.whole))
+        self.after = Side(new.whole)
+        self.structures = Structures(self.before, self.after)
         self.nodes: List[Node] = []
         self.symbols: List[int] = []
         self._numbers: Dict[Pair, int] = {}
@@ -78,6 +79,7 @@ class Guard:
             if node.found.said:
                 yield Change(node.label, node.kind, "changed", tuple(node.found.said))
         yield from self._added()
+        tell_cut(self.before, self.after)
 
     # Symbols.
 
@@ -102,11 +104,17 @@ class Guard:
         if kinds == {"function", "object"}:
             text = f"{one.kind} -> {other.kind}"
             return Found([Said("kind", text, True, one.label, one.kind, other.kind)], [])
+        if one.is_of_threads != other.is_of_threads:
+            text = f"{'each thread has its own' if other.is_of_threads else 'all threads have one'}"
+            return Found([Said("threads", f"now {text}", True, one.label, one.is_of_threads,
+                               other.is_of_threads)], [])
         if was is None or now is None:
             return Found(_untold(one, other, was, now), [])
         if one.kind == "function":
             return self.structures.signature(_signed(was), _signed(now))
-        return self.structures.value("it", was["t"], now["t"], "is")
+        found = self.structures.value("it", was["t"], now["t"], "is")
+        return found._replace(said=[*found.said,
+                                    *self.structures.qualifiers(was["t"], now["t"])])
 
     def _soname(self) -> Iterator[Change]:
         old, new = self.old.exports.soname, self.new.exports.soname
@@ -244,7 +252,10 @@ def _untold(one: Exported, other: Exported, was: Optional[Answer], now: Optional
     if one.kind == "object" and one.size != other.size:
         said.append(Said("size", f"size {one.size} -> {other.size}", True, one.label, one.size,
                          other.size))
-    if (was is None) != (now is None):
+    if one.is_of_threads and other.is_of_threads:
+        said.append(Said("untold", "CTF tells no type of what each thread has its own of: it is not"
+                         " compared", False, one.label))
+    elif (was is None) != (now is None):
         which = "new" if now is None else "old"
         said.append(Said("untold", f"its type is not told in the {which}, and not compared", False,
                          one.label))

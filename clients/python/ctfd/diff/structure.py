@@ -6,7 +6,7 @@ types goes wrong with the new.
 """
 from __future__ import annotations
 
-from typing import Callable, Dict, List, NamedTuple, Optional, Sequence, Tuple
+from typing import Callable, Dict, List, NamedTuple, Optional, Sequence, Set, Tuple
 
 from ..layout.records import BOOLEAN, QUALIFIERS, Record, SIGNED
 from . import changes
@@ -86,6 +86,9 @@ class Structures:
             old, new = one.type, other.type
         if one.kind in KEPT and one.kind == other.kind or _is_told_once(one, other):
             return Ends(breaks, differs, (old, new))
+        enums = self.before.enum_of(old), self.after.enum_of(new)
+        if one.kind == other.kind == "integer" and all(enums):  # bit-fields of these
+            return Ends(breaks, differs, enums)
         harm = _harm(one, other, self.before.catalog.size(old), self.after.catalog.size(new),
                      is_pointed)
         return Ends(breaks or harm is True, differs or harm is not None, None)
@@ -99,6 +102,17 @@ class Structures:
             number = record.type
             record = side.catalog[number]
         return number, is_const
+
+    def qualifiers(self, old: int, new: int) -> List[Said]:
+        """What differs in how an object itself, or each of its elements, may be used: one that is
+        const is in memory that is not written to, and its value is one that does not change."""
+        was, now = self._qualifiers(self.before, old), self._qualifiers(self.after, new)
+        return [Said(word, f"it is {'' if word in now else 'no longer '}{word}", word == "const",
+                     "it", word in was, word in now)
+                for word in ("const", "volatile") if (word in was) != (word in now)]
+
+    def _qualifiers(self, side: Side, number: int) -> Set[str]:
+        return {side.catalog[one].kind for one in side.catalog.reached(number).through}
 
     # What has parts.
 

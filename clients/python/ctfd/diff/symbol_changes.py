@@ -8,7 +8,7 @@ from ..client.dictionary import Dictionary
 from ..client.faults import Refused
 from ..text import printable
 from ..client.wire import Answer, Request
-from ..files import elf
+from ..files import bounded, elf
 from ..files.elf import Symbol
 from ..files.source import Source
 from ..view import declare
@@ -39,6 +39,7 @@ def symbols(types: Dictionary, found: Source) -> Told:
 
 
 def _declared(types: Dictionary, symbol: Symbol, answer: Answer) -> str:
+    bounded.charge(bounded.STEP * len(symbol.name))
     if symbol.is_function:
         said = declare.function(types.signature(answer), symbol.name)
     else:

@@ -40,14 +40,17 @@ class Asked(NamedTuple):
     number: Optional[int] = None
     cache: Optional[Callable[[], Optional[Cache]]] = None
     warn: Callable[[str], None] = lambda said: None
+    tells_losses: bool = True
 
 
 class Read(NamedTuple):
-    """What is handed in for a file of some bytes, and whether it was converted here."""
+    """What is handed in for a file of some bytes, and whether it was converted here: `losses` tells
+    then what CTF does not hold of it."""
 
     source: Source
     data: Mapped
     is_made: bool = False
+    losses: Sequence[str] = ()
 
 
 def asked(words: argparse.Namespace, warn: Callable[[str], None]) -> Asked:
@@ -84,9 +87,10 @@ def read(path: str, asked: Asked, has_symbols: bool = True) -> Read:
         except Unreadable:
             if not _is_converted(data, path):
                 raise
+    losses: List[str] = []
     with _Place(path, data) as place:
-        made = place.told(lambda: _made(place.path, data, asked))
-    return Read(source.with_symbols(made) if has_symbols else made, data, True)
+        made = place.told(lambda: _made(place.path, data, asked, losses))
+    return Read(source.with_symbols(made) if has_symbols else made, data, True, losses)
 
 
 def _is_converted(data: Mapped, path: str) -> bool:
@@ -145,8 +149,8 @@ def converted(path: str, options: Options) -> Tuple[Source, List[str]]:
     return conversion.converted(path, options.model, options)
 
 
-def _made(path: str, data: Mapped, asked: Asked) -> Source:
-    """The dictionary of a file that is converted, or that was."""
+def _made(path: str, data: Mapped, asked: Asked, losses: List[str]) -> Source:
+    """The dictionary of a file that is converted, or that was; what was lost goes to `losses`."""
     from .cache import Kept, key
 
     said = (asked.model, asked.form, list(asked.folders), asked.number, _table(path, data))
@@ -159,16 +163,23 @@ def _made(path: str, data: Mapped, asked: Asked) -> Source:
         kept = cache.get(named)
         found = _attached(path, data, kept) if kept else None
     if kept is None or found is None:
-        from ..convert.inputs import Options  # with all that converts
-
-        options = Options(said[0], said[1], asked.base, *said[2:], asked.warn)
-        made, losses = converted(path, options)
-        kept = Kept(made.ctf, made.model, losses)
+        made, lost = converted(path, options_of(path, data, asked))
+        kept = Kept(made.ctf, made.model, lost)
         found = _attached(path, data, kept) or made
         if cache is not None:
             cache.put(named, kept)
-    _tell(path, kept.losses, asked)
+    losses += kept.losses
+    if asked.tells_losses:
+        _tell(path, kept.losses, asked)
     return found
+
+
+def options_of(path: str, data: Mapped, asked: Asked) -> Options:
+    """What the converter is told of a file."""
+    from ..convert.inputs import Options  # with all that converts
+
+    return Options(asked.model, asked.form, asked.base, list(asked.folders), asked.number,
+                   _table(path, data), asked.warn)
 
 
 def _sum_of(path: Optional[str]) -> str:
@@ -203,10 +214,9 @@ def _attached(path: str, data: Mapped, kept: Kept) -> Optional[Source]:
 
 def _tell(path: str, losses: Sequence[str], asked: Asked) -> None:
     """What CTF can't hold of a file: each where it is little."""
-    told = list(dict.fromkeys(losses))
-    if len(told) <= FEW:
-        for line in told:
-            asked.warn(f"{path}: {line}")
-    else:
-        asked.warn(f"{path}: {len(told)} constructs that CTF cannot represent were changed or left"
-                   f" out: `ctfd-convert {path} /dev/null` lists them")
+    if not losses:
+        return
+    from ..convert.outputs import notice
+
+    for line in notice(losses, FEW, f"`ctfd-convert --report - {path} /dev/null` lists them all"):
+        asked.warn(f"{path}: {line}")

@@ -12,11 +12,14 @@ from typing import Iterator, List, Optional
 
 from ..client.faults import Unreadable
 from . import mapped
-from .elf import Elf, NOBITS, build_id
+from .elf import Elf, NOBITS, RELOCATABLE, build_id
 
 FOLDERS = ("/usr/lib/debug",)
 SECTIONS = (".debug_info", ".zdebug_info")
 PIECE = 1 << 20
+LTO = (".gnu.lto_", ".gnu.debuglto_")
+LINK_IT = ("an object file of -flto has none of its own before it is linked: name the linked"
+           " program, or compile with -ffat-lto-objects")
 
 
 def with_debug(whole: Elf, folders: List[str]) -> Elf:
@@ -32,6 +35,8 @@ def with_debug(whole: Elf, folders: List[str]) -> Elf:
         found = _fitting(whole, path)
         if found is not None and has_debug(found):
             return found
+    if is_lto(whole):
+        raise Unreadable(f"{whole.path}: it has no debug information: {LINK_IT}")
     where = f"; no debug file is at {' or '.join(looked)}" if looked else ""
     raise Unreadable(f"{whole.path}: it has no debug information{where}: compile it with -g, or"
                      " install the debug symbols of its package")
@@ -41,6 +46,11 @@ def has_debug(file: Elf) -> bool:
     """Whether a file has DWARF that is more than a name: `strip` leaves empty sections."""
     sections = map(file.named, SECTIONS)
     return any(one is not None and one.kind != NOBITS and one.size for one in sections)
+
+
+def is_lto(file: Elf) -> bool:
+    """Whether it is an object file of -flto, without code of its own as a rule."""
+    return file.kind == RELOCATABLE and any(one.name.startswith(LTO) for one in file.sections)
 
 
 def _candidates(whole: Elf, folders: List[str]) -> Iterator[str]:

@@ -2,10 +2,11 @@
 from __future__ import annotations
 
 import struct
-from typing import Iterator, List, NamedTuple, Optional, Tuple
+from typing import Dict, Iterator, List, NamedTuple, Optional, Tuple
 
 from ..client.faults import Unreadable
 from ..client.model import Model
+from . import bounded
 from .mapped import Mapped
 from .strings import Strings
 
@@ -189,10 +190,13 @@ class Elf:
 
 def symbols(table: bytes, strings: bytes) -> Iterator[Symbol]:
     """The functions and objects of a table of 64 bits that have a name and a section."""
+    names: Dict[int, str] = {}  # many may have one
     for number, (name, info, _, section, value, _) in enumerate(
             SYMBOL.iter_unpack(whole(table, SYMBOL))):
         if name and section and info & 15 in (OBJECT, FUNCTION):
-            yield Symbol(number, text(strings, name), value, info & 15 == FUNCTION)
+            if name not in names:
+                names[name] = text(strings, name)
+            yield Symbol(number, names[name], value, info & 15 == FUNCTION)
 
 
 def whole(table: bytes, form: struct.Struct) -> bytes:
@@ -204,7 +208,9 @@ def text(strings: bytes, offset: int) -> str:
     """The string at an offset, as it is shown, or as much of it as a name may have."""
     last = min(len(strings), offset + LONGEST_NAME)
     end = strings.find(b"\0", offset, last)
-    return strings[offset:end if end >= 0 else last].decode("utf-8", "backslashreplace")
+    end = end if end >= 0 else last
+    bounded.charge(bounded.STEP + 4 * max(0, end - offset))
+    return strings[offset:end].decode("utf-8", "backslashreplace")
 
 
 def build_id(file: Elf) -> str:

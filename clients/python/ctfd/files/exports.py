@@ -7,10 +7,10 @@ from functools import cached_property
 from typing import Dict, Iterator, List, NamedTuple, Optional, Tuple
 
 from ..client.faults import Unreadable
-from . import elf
+from . import bounded, elf
 from .elf import Elf, Section
 from .strings import Strings
-from .symbols import SymbolTable, table_of
+from .symbols import SymbolTable, TIMES_NAME, table_of
 
 GLOBAL, WEAK, UNIQUE = 1, 2, 10
 DEFAULT, PROTECTED = 0, 3
@@ -28,7 +28,7 @@ LINKERS = {"_init", "_fini", "_edata", "edata", "_end", "end", "_etext", "etext"
 
 class Exported(NamedTuple):
     """A symbol that others see: `number` is its place in the table that types go by, None where it
-    is not there."""
+    is not there. `is_of_threads` says that each thread has one of its own."""
 
     name: str
     version: str
@@ -36,6 +36,7 @@ class Exported(NamedTuple):
     address: int
     size: int
     number: Optional[int] = None
+    is_of_threads: bool = False
 
     @property
     def label(self) -> str:
@@ -97,8 +98,8 @@ def of_file(file: Elf, sym: Optional[bytes], strings: Optional[bytes]) -> Export
     made = Exports(soname=_soname(file))
     if found is None:
         return made
-    numbers = _numbers(sym, strings)
     try:
+        numbers = _numbers(sym, strings)
         versions = _Versions(file)
         for place, one in enumerate(_entries(file, found)):
             if one.is_seen:
@@ -106,9 +107,9 @@ def of_file(file: Elf, sym: Optional[bytes], strings: Optional[bytes]) -> Export
                 version = versions.of(place) or version.lstrip("@")
                 made.listed.setdefault((plain, version), Exported(
                     plain, version, KINDS[one.kind], one.address, one.size,
-                    numbers.get((plain, one.address))))
+                    numbers.get((plain, one.address)), one.kind == TLS))
     except (struct.error, IndexError, ValueError) as error:
-        raise Unreadable(f"{file.path}: its dynamic symbols are damaged: {error}") from error
+        raise Unreadable(f"{file.path}: its symbols are damaged: {error}") from error
     return made
 
 
@@ -120,8 +121,9 @@ def _entries(file: Elf, found: SymbolTable) -> Iterator[_Entry]:
             name, info, other, section, address, size = one
         else:
             name, address, size, info, other, section = one
-        yield _Entry(strings.at(name) if name else "", address, size, info & 15, info >> 4,
-                     other & 3, section)
+        called = strings.at(name) if name else ""
+        bounded.charge(bounded.STEP + TIMES_NAME * len(called))
+        yield _Entry(called, address, size, info & 15, info >> 4, other & 3, section)
 
 
 def _numbers(sym: Optional[bytes], strings: Optional[bytes]) -> Dict[Tuple[str, int], int]:
@@ -135,7 +137,9 @@ def _numbers(sym: Optional[bytes], strings: Optional[bytes]) -> Dict[Tuple[str, 
         for number, (name, info, _, section, address, _) in listed:
             if name and section and (info >> 4 == 0) == is_local and info & 15 in (
                     elf.OBJECT, elf.FUNCTION):
-                made.setdefault((named.at(name).partition("@")[0], address), number)
+                called = named.at(name)
+                bounded.charge(bounded.STEP + TIMES_NAME * len(called))
+                made.setdefault((called.partition("@")[0], address), number)
     return made
 
 

@@ -18,6 +18,7 @@ from typing import Iterator, List, NamedTuple, Optional
 
 from ..client.faults import Unreadable
 from ..client.model import Model, POINTER_SIZES
+from . import bounded
 from .symbols import Identity, NAMES, Names, Symbols, Wanted
 
 HEADER = 36
@@ -62,6 +63,7 @@ def labels(ctf: bytes) -> Iterator[Label]:
         start = places.strings + name
         if ctf[start:start + len(PREFIX)] == PREFIX:
             end = ctf.find(b"\0", start, start + LONGEST)
+            bounded.charge(end - start if end >= 0 else LONGEST)
             if end >= 0:
                 yield Label(ctf[start:end].decode("ascii", "replace"), end + 1)
 

@@ -2,7 +2,7 @@
 from __future__ import annotations
 
 import contextlib
-from typing import TYPE_CHECKING, Dict, Iterable, Iterator, Optional
+from typing import TYPE_CHECKING, Dict, Iterable, Iterator, Optional, Set
 
 from ..client.dictionary import Dictionary, open_file, open_found, open_source
 from ..client.faults import BadSymbols, Error, Refused, Unreadable
@@ -27,6 +27,7 @@ class Opener:
         self.session = session
         self.asked = asked
         self.read: Dict[str, Read] = {}
+        self.cut: Set[str] = set()  # the files of which not all is told
         self._parents: Dict[str, Dictionary] = {}
 
     def open(self, path: str, parent: Optional[str] = None, sym: Optional[bytes] = None,

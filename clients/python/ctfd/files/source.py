@@ -109,6 +109,9 @@ def foreign(ctf: bytes) -> str:
                 " of the program")
     if magic in (b"\x9f\xeb", b"\xeb\x9f"):
         return "BTF, which is not read as it is; ctfd-convert makes CTF of version 2 of it"
+    if ctf[:4] == b"BC\xc0\xde":
+        return ("LLVM's bitcode, as clang -flto writes it, which has no types that are read before"
+                " it is linked: name the linked program")
     if magic != b"\xf1\xcf":
         begins = ctf[:4].hex() or "nothing"
         return (f"neither an ELF file nor a CTF section: it begins with {begins}, and CTF with"

@@ -6,7 +6,7 @@ from itertools import accumulate, chain, repeat
 from typing import Iterable, Iterator, List, NamedTuple, Optional, Sequence, Tuple
 
 from ..client.faults import Unreadable
-from . import elf
+from . import bounded, elf
 from .elf import Elf, Section
 from .strings import Strings
 
@@ -14,7 +14,7 @@ SYMTAB, DYNSYM = ".symtab", ".dynsym"
 NAMES = "names"  # in place of a table's name: the dictionary has the names itself
 MARKS = ("_START_", "_END_")
 ABSOLUTE, DEFINED = 0xFFF1, 1
-
+TIMES_NAME = 8  # how often a symbol's name is looked at: many may have one long name
 
 
 class Wanted(NamedTuple):
@@ -89,8 +89,11 @@ class Names(NamedTuple):
 def _checksum(listed: Iterable[Wanted]) -> int:
     """CRC-32 as zlib has it, of a byte for the kind (1 object, 2 function), the name and a zero
     for each symbol."""
-    return zlib.crc32(b"".join(bytes([elf.FUNCTION if one.is_function else elf.OBJECT])
-                               + one.raw + b"\0" for one in listed))
+    made = 0
+    for one in listed:
+        kind = elf.FUNCTION if one.is_function else elf.OBJECT
+        made = zlib.crc32(bytes([kind]) + one.raw + b"\0", made)
+    return made
 
 
 def considered(file: Elf, name: str = SYMTAB) -> Symbols:
@@ -126,6 +129,7 @@ def _considered(file: Elf, table: Section, names: Section) -> Iterator[Wanted]:
         except ValueError as error:
             raise Unreadable(f"{file.path}: the names of {table.name} are damaged: {error}"
                              ) from error
+        bounded.charge(bounded.STEP + TIMES_NAME * len(name))
         is_nothing = kind == elf.OBJECT and section == ABSOLUTE and not address
         if name and name not in MARKS and not is_nothing:
             place = places[section] if section < len(places) else 0

@@ -47,6 +47,7 @@ class Catalog:
         self._told = told
         self._records: Dict[int, Record] = {0: Record("void")}
         self._sizes: Dict[int, Optional[int]] = {0: None}
+        self._ends: Dict[int, int] = {}
         self._spans: Dict[int, Span] = {}
         self._reached: Dict[int, Reached] = {}
         self._layouts: Dict[int, Layout] = {}
@@ -63,6 +64,16 @@ class Catalog:
 
     def __contains__(self, number: int) -> bool:
         return number in self._records
+
+    def put(self, number: int, record: Record) -> None:
+        """Says more of a type than its dictionary can."""
+        self._records[number] = record
+
+    def add(self, record: Record) -> int:
+        """A type that the dictionary has not; its number is above all of these."""
+        number = max(self._records) + 1
+        self._records[number] = record
+        return number
 
     @property
     def is_orphan(self) -> bool:
@@ -115,11 +126,13 @@ class Catalog:
 
     def resolved(self, number: int) -> int:
         """Without typedefs and qualifiers."""
-        record = self[number]
-        while record.kind in RENAMES:
-            number = record.type
-            record = self[number]
-        return number
+        passed: List[int] = []
+        while number not in self._ends and self[number].kind in RENAMES:
+            passed.append(number)
+            number = self[number].type
+        end = self._ends.get(number, number)
+        self._ends.update(dict.fromkeys(passed, end))
+        return end
 
     def reached(self, number: int) -> Reached:
         """Without typedefs, qualifiers and arrays; which types it led through."""

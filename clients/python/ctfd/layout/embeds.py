@@ -9,6 +9,7 @@ from .naming import Names
 from .records import AGGREGATES
 
 DEEPEST, MOST = 64, 100_000
+LEAST, EACH = 400_000, 64
 
 
 class Held(NamedTuple):
@@ -41,6 +42,8 @@ class Embeds:
         self.names = names
         self.is_deep = is_deep
         self.cut: List[int] = []
+        # What is walked in all follows the number of members, each level of one counted.
+        self._left = LEAST + EACH * sum(len(catalog[n].members) for n in catalog.aggregates())
         self._through: Dict[int, bool] = {}
 
     def containing(self, targets: Set[int]) -> Iterator[Held]:
@@ -75,6 +78,9 @@ class Embeds:
             if not todo:
                 return
             here = todo.pop()
+            self._left -= 1 + len(here.path)
+            if self._left < 0:
+                break
             if here.path:
                 yield here
             todo += reversed(self._inside(here))
@@ -93,32 +99,34 @@ class Embeds:
         """The members of a member, where it is walked through."""
         number, elements, _ = self.catalog.reached(held.type)
         record = self.catalog[number]
-        if record.kind not in AGGREGATES or len(held.path) >= DEEPEST:
+        if record.kind not in AGGREGATES:
             return []
         if held.path and not self.is_walked_through(held.type):
+            return []
+        if len(held.path) >= DEEPEST:
+            self.cut += [held.owner] if self.cut[-1:] != [held.owner] else []
             return []
         return [Held(held.owner, (*held.path, part.name), part.type, held.offset + part.offset,
                      held.elements * elements) for part in record.members]
 
     def _reaches(self, targets: Set[int], pointers: bool) -> Callable[[int], bool]:
         """Whether a type leads to one of these, through pointers or without."""
-        known = {}
+        known: Dict[Tuple[int, bool], bool] = {}
 
         def reaches(number: int) -> bool:
-            if number not in known:
-                known[number] = self._leads(number, targets, pointers)
-            return known[number]
+            passed: List[Tuple[int, bool]] = []  # each with whether it is behind a pointer
+            here = number, False
+            while here not in known:
+                passed.append(here)
+                record = self.catalog[here[0]]
+                is_star = record.kind == "pointer" and pointers
+                if here[0] in targets and here[1] == pointers:
+                    known[here] = True
+                elif is_star or record.kind in RENAMES or record.kind == "array":
+                    here = record.type, here[1] or is_star
+                else:
+                    known[here] = False
+            known.update(dict.fromkeys(passed, known[here]))
+            return known[number, False]
 
         return reaches
-
-    def _leads(self, number: int, targets: Set[int], pointers: bool) -> bool:
-        stars = 0
-        while True:
-            record = self.catalog[number]
-            if number in targets and bool(stars) == pointers:
-                return True
-            if record.kind == "pointer" and pointers:
-                stars += 1
-            elif record.kind not in RENAMES and record.kind != "array":
-                return False
-            number = record.type

@@ -10,7 +10,7 @@ from typing import Any, Callable, Dict, List, Tuple
 
 from ..client.types import Encoding
 from ..convert.written import KINDS, LONG_MEMBERS, LONG_SIZE
-from ..files import identity
+from ..files import bounded, identity
 from ..files.source import Source
 from .records import AGGREGATES, Part, Record
 
@@ -34,8 +34,9 @@ class Names(Dict[int, str]):
         data, start = self.own, reference
         if reference >= OUTER:
             data, start = self.outer, reference - OUTER
-        name = data[start:data.index(b"\0", start)].decode("utf-8", "surrogateescape")
-        self[reference] = name
+        end = data.index(b"\0", start)
+        bounded.charge(4 * (end - start))
+        name = self[reference] = data[start:end].decode("utf-8", "surrogateescape")
         return name
 
 

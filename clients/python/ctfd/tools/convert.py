@@ -26,6 +26,8 @@ from .convert_words import TABLES
 
 NAME = "ctfd-convert"
 FAITHFUL, LOSSY, FAILED, INTERRUPTED = 0, 1, 2, 130
+MOST_LINES = 12
+ALL_LINES = "--report - lists them all"
 
 
 def main(arguments: Optional[Sequence[str]] = None) -> int:
@@ -36,7 +38,7 @@ def main(arguments: Optional[Sequence[str]] = None) -> int:
 
 def _status(said: argparse.Namespace) -> int:
     try:
-        with running.keeping(), bounded.memory():
+        with running.keeping(), bounded.within():
             losses = convert(said)
     except KeyboardInterrupt:
         return INTERRUPTED
@@ -45,14 +47,13 @@ def _status(said: argparse.Namespace) -> int:
     except Exception as error:
         _warn(_why(said.input, error))
         return FAILED
-    for line in outputs.told_once(losses):
+    for line in outputs.notice(losses, MOST_LINES, ALL_LINES):
         _warn(line)
     return LOSSY if losses and not said.lossy else FAITHFUL
 
 
 def _why(path: str, error: Exception) -> str:
-    """Why nothing was written, in a line. An error that nobody thought of is told too, by its name:
-    what it was made by is a file that nobody thought of."""
+    """Why nothing was written, in a line."""
     if isinstance(error, Error):
         return str(error)
     if isinstance(error, MemoryError):
@@ -62,8 +63,7 @@ def _why(path: str, error: Exception) -> str:
         return f"{path}: its types lie too deep in each other: no C program has such"
     if isinstance(error, OSError):
         return f"{error.filename or path}: {error.strerror or error}"
-    return (f"{path}: it is damaged, or of a form that is not read"
-            f" ({type(error).__name__}: {' '.join(str(error).split())})")
+    return f"{path}: {running.bug(error)}"
 
 
 def _warn(line: str) -> None:

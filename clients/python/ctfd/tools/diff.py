@@ -5,7 +5,8 @@ OLD and NEW are what ctfd-convert takes: libraries and programs with debug infor
 files, archives, or sections of CTF or BTF. If both export functions and objects, these are
 compared, with all types that they reach; otherwise, or with --all, all types. Offsets and sizes are
 in bytes, `96:3` is bit 3 of byte 96. The status is 0 if nothing differs, 1 if all changes are
-compatible, 4 if something breaks, and 2 if something is refused.
+compatible, 4 if something breaks, and 2 if something is refused, or nothing breaks as far as can be
+told and something could not be compared.
 """
 from __future__ import annotations
 
@@ -31,6 +32,7 @@ from . import running
 
 NAME = "ctfd-diff"
 SAME, COMPATIBLE, TROUBLE, BREAKING = 0, 1, 2, 4
+UNCOMPARED = ("untold", "undefined")
 
 
 def main(arguments: Optional[Sequence[str]] = None) -> int:
@@ -66,37 +68,66 @@ def _parser() -> argparse.ArgumentParser:
 
 def _run(session: Session, words: argparse.Namespace) -> int:
     status = SAME
-    for change in _changes(session, words):
+    left: List[str] = []  # what is not compared
+    for change in _changes(session, words, left):
         if words.breaking:
+            left += [f"{change.label}: {one.text}" for one in change.said
+                     if one.what in UNCOMPARED and not one.breaks]
             change = change.breaking()
         if not change.said:
             continue
         status = max(status, BREAKING if change.breaks else COMPATIBLE)
+        if any(one.what == "untold" for one in change.said):
+            status = max(status, TROUBLE)
         print(objects.line(_object(change)) if words.json else _lines(change))
-    return status
+    for line in left:
+        _warn(line)
+    return max(status, TROUBLE) if left else status
 
 
-def _changes(session: Session, words: argparse.Namespace) -> Iterator[Change]:
-    opener = Opener(session, anyfile.asked(words, _warn))
+def _changes(session: Session, words: argparse.Namespace, left: List[str]) -> Iterator[Change]:
+    """All changes; lines on what could not be compared are put into `left`."""
+    asked = anyfile.asked(words, _warn)._replace(tells_losses=False)
+    opener = Opener(session, asked)
     skipped = _skipped(words.suppress)
     old = opener.whole(words.old, words.old_parent or words.parent, ALL_LISTS)
     new = opener.whole(words.new, words.new_parent or words.parent, ALL_LISTS)
+    if _are_one(opener, words):
+        return
     if old.catalog.dictionary.model != new.catalog.dictionary.model:
-        _warn("the pointers of the two differ in size")
+        left.append("the pointers of the two differ in size")
     wanted = Meaning(one for name in words.name for one in pattern_of(name))
     for one in (old, new):
         how = one.catalog.dictionary.how
         if how in source.WARNINGS and how != "guessed":
-            _warn(f"{one.path}: {source.WARNINGS[how]}")
-    for change in _compared(opener, old, new, words, skipped):
+            left.append(f"{one.path}: {source.WARNINGS[how]}")
+    left += _completed(opener, old, new)
+    for change in _compared(opener, old, new, words, skipped, left):
         if not skipped(change.label) and (not words.name or _is_meant(change.label, wanted)):
             yield change
-    for cut in old.cut:
-        _warn(cut)
+    left += [f"{one.path}: {cut}" for one in (old, new) for cut in one.cut]
+
+
+def _are_one(opener: Opener, words: argparse.Namespace) -> bool:
+    """Whether both are the same bytes, over the same parent: nothing differs then."""
+    parents = [one or words.parent for one in (words.old_parent, words.new_parent)]
+    old, new = opener.read[words.old].data, opener.read[words.new].data
+    return parents[0] == parents[1] and len(old) == len(new) and old[:] == new[:]
+
+
+def _completed(opener: Opener, old: Whole, new: Whole) -> List[str]:
+    """Puts what CTF does not hold of converted files back; lines on what is not compared."""
+    found = [opener.read[one.path] for one in (old, new)]
+    if not any(one.losses for one in found):
+        return []
+    from ..diff import complete  # with all that converts
+
+    both = [complete.restore(one, read, opener.asked) for one, read in zip((old, new), found)]
+    return complete.incomparable(both[0], both[1])
 
 
 def _compared(opener: Opener, old: Whole, new: Whole, words: argparse.Namespace,
-              skipped: Callable[[str], bool]) -> Iterator[Change]:
+              skipped: Callable[[str], bool], left: List[str]) -> Iterator[Change]:
     """What differs in what both export, or in all where that is wanted or one exports nothing."""
     if not words.all:
         told = [_exported(opener, one) for one in (old, new)]
@@ -108,8 +139,12 @@ def _compared(opener: Opener, old: Whole, new: Whole, words: argparse.Namespace,
             path = words.new if told[0] else words.old
             _warn(f"{path}: it exports no function with known types: all types are compared")
     yield from changes.compared(old, new)
-    symbols = (symbol_changes.symbols(one.catalog.dictionary, opener.read[one.path].source)
-               for one in (old, new))
+    symbols = [symbol_changes.symbols(one.catalog.dictionary, opener.read[one.path].source)
+               for one in (old, new)]
+    if any(symbols) and not all(symbols):
+        path = words.new if symbols[0] else words.old
+        left.append(f"{path}: nothing is told of its functions and objects, and they are not"
+                    " compared")
     yield from symbol_changes.compared(*symbols)
 
 

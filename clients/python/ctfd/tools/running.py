@@ -11,11 +11,13 @@ from typing import Callable, Iterator, Optional
 
 from ..client.faults import Error
 from ..client.wire import Session, connected
+from ..files import bounded
 from ..version import VERSION
 from . import ending
 
 # New objects that are looked through, and how often that is done before older ones are.
 SELDOM = (100_000, 50, 1000)
+TRACE = "CTFD_TRACE"
 COLUMNS = 80  # where there is no terminal
 INTERRUPTED, UNREAD = 130, 141  # as a shell has it of SIGINT and SIGPIPE
 
@@ -62,7 +64,7 @@ def _status(command: str, program: Optional[str], work: Callable[[Session], int]
     if isinstance(sys.stdout, io.TextIOWrapper):
         sys.stdout.reconfigure(errors="backslashreplace")
     try:
-        with keeping(), connected(program) as client:
+        with keeping(), connected(program) as client, bounded.within():
             status = work(client.session())
         return status
     except BrokenPipeError:  # a reader such as head has left
@@ -71,13 +73,34 @@ def _status(command: str, program: Optional[str], work: Callable[[Session], int]
     except KeyboardInterrupt:
         return INTERRUPTED
     except MemoryError:
-        warn(command, "memory ran out")
-    except (Error, OSError) as error:
+        warn(command, f"it takes more memory than {bounded.FOR_ALL}, or than there is: a file is"
+             " made or damaged, or too large for this machine")
+    except Error as error:
         warn(command, str(error))
-    except Exception as error:  # a file that nobody thought of: no user is shown where in the code
-        warn(command, f"a file is damaged, or of a form that is not read"
-             f" ({type(error).__name__}: {' '.join(str(error).split())})")
+    except OSError as error:
+        warn(command, of_system(error))
+    except Exception as error:
+        warn(command, bug(error))
     return trouble
+
+
+def of_system(error: OSError) -> str:
+    """What the system refused, and of which file."""
+    why = error.strerror or str(error)
+    return f"{error.filename}: {why}" if error.filename else why
+
+
+def bug(error: Exception) -> str:
+    """What is told of an error that nobody thought of: it is ours, whatever the file is. Where in
+    the code it came up is shown to who asks for that."""
+    if os.environ.get(TRACE):
+        import traceback
+
+        traceback.print_exception(type(error), error, error.__traceback__)
+    said = " ".join(str(error).split())
+    return (f"a bug in ctfd {VERSION} ({type(error).__name__}{': ' + said if said else ''}): please"
+            f" report it with this line, the command and, if you may, the file; {TRACE}=1 in the"
+            " environment shows where it is")
 
 
 @contextlib.contextmanager

@@ -20,7 +20,7 @@ from ..text import printable
 from ..client.types import Signature, Type
 from ..client.wire import Session
 from ..files import anyfile, source
-from ..files.opening import Opener
+from ..files.opening import Opener, told_of
 from ..files.source import Source
 from ..layout import repeated
 from ..layout.patterns import Unknown, is_pattern
@@ -47,9 +47,11 @@ def _run(session: Session, wanted: argparse.Namespace) -> int:
     """
     opener = Opener(session, anyfile.asked(wanted, _warn))
     missed: List[Unknown] = []
+    status = 0
     for path in wanted.files:
         try:
-            lines = list(_lines(opener, wanted, path))
+            with told_of(path):
+                lines = list(_lines(opener, wanted, path))
         except Unknown as error:
             missed.append(error)
             continue
@@ -57,9 +59,11 @@ def _run(session: Session, wanted: argparse.Namespace) -> int:
             print(f"{printable(path)}:")
         for line in lines:
             print(line)
+        if path in opener.cut and not wanted.show:
+            status = FAILED
     if len(missed) == len(wanted.files):
         raise missed[0]
-    return 0
+    return status
 
 
 def _lines(opener: Opener, wanted: argparse.Namespace, path: str) -> Iterator[str]:
@@ -76,6 +80,7 @@ def _lines(opener: Opener, wanted: argparse.Namespace, path: str) -> Iterator[st
         yield from _reported(told, opener.read[path].source, wanted)
         for cut in told.cut:
             _warn(f"{path}: {cut}")
+            opener.cut.add(path)
         return
     if types.is_child and not wanted.parent:
         _warn(f"{path} is a child of {types.parent_name or 'a parent without a name'}, whose types"

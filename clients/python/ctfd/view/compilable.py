@@ -86,6 +86,8 @@ class Compilable:
         name = record.name if is_identifier(record.name) else f"ctfd_{number}"
         other = taken.setdefault(name, number)
         if other == number or self._same(record, self.catalog[other]):
+            if self.catalog[other].kind == "forward" != record.kind:
+                taken[name] = number  # one definition has the forward's name, no second one
             return name
         return f"{name}__{number}"
 

@@ -7,12 +7,14 @@ from __future__ import annotations
 import struct
 from typing import Any, Callable, Dict, NamedTuple, Optional, Tuple, Union
 
+from ...files import bounded
 from ...files.strings import Data, cut
 from . import forms
 
 Read = Callable[[Data, int], Tuple[Any, int]]
 
 MOST_BITS = 128
+LONG_BLOCK = 64
 
 
 def uleb(data: Data, at: int) -> Tuple[int, int]:
@@ -61,13 +63,22 @@ def _block(length: str) -> Read:
     def read(data: Data, at: int) -> Tuple[bytes, int]:
         start = at + form.size
         end = start + form.unpack_from(data, at)[0]
-        return bytes(data[start:end]), end
+        return _cut(data, start, end), end
     return read
+
+
+def _cut(data: Data, start: int, end: int) -> bytes:
+    """The bytes of a block: entries that overlap may have the same long one."""
+    if end > len(data):
+        raise ValueError("a block that is cut off")
+    if end - start > LONG_BLOCK:
+        bounded.charge(end - start)
+    return bytes(data[start:end])
 
 
 def _uleb_block(data: Data, at: int) -> Tuple[bytes, int]:
     count, start = uleb(data, at)
-    return bytes(data[start:start + count]), start + count
+    return _cut(data, start, start + count), start + count
 
 
 _READERS: Dict[int, Read] = {
@@ -86,6 +97,13 @@ def reader(form: int) -> Read:
     return found
 
 
+def _letter(size: int) -> str:
+    """The letter that `struct` has for an address."""
+    if size not in (4, 8):
+        raise ValueError(f"addresses of {size} bytes")
+    return "I" if size == 4 else "Q"
+
+
 class Sizes(NamedTuple):
     """What the header of a unit says of the sizes in it."""
 
@@ -99,7 +117,7 @@ class Sizes(NamedTuple):
         if form in forms.OFFSETS:
             return "I" if self.offset == 4 else "Q"
         if form == forms.REF_ADDR:
-            return {4: "I", 8: "Q"}[self.address if self.version == 2 else self.offset]
+            return _letter(self.address if self.version == 2 else self.offset)
         if form == forms.ADDR:
-            return {4: "I", 8: "Q"}[self.address]
+            return _letter(self.address)
         return forms.FIXED.get(form)

@@ -4,6 +4,7 @@ from __future__ import annotations
 import struct
 from typing import TYPE_CHECKING, Callable, Dict, Iterator, List, NamedTuple, Optional, Tuple
 
+from ...files import bounded
 from ...files.strings import Data
 from . import attributes, forms
 from .encoding import uleb
@@ -37,6 +38,7 @@ def starts(unit: Unit, form: int, raw: int) -> List[int]:
             base = one.base
         elif not one.is_empty:
             made.append(one.start + base * one.is_relative)
+        bounded.charge(bounded.STEP)
     return made
 
 

@@ -5,7 +5,7 @@ import struct
 from typing import Dict, List
 
 from ...client.faults import Unreadable
-from ...files import elf
+from ...files import bounded, elf
 from ...files.elf import Elf, Section
 
 RELA, REL = 4, 9
@@ -53,6 +53,7 @@ def _apply(file: Elf, section: Section, table: Section, forms: Dict[int, str],
     entry = struct.Struct(("<QQq" if wide else "<IIi") if has_addend else
                           ("<QQ" if wide else "<II"))
     raw = file.bytes(table)
+    bounded.charge(len(raw))
     for one in entry.iter_unpack(raw[:len(raw) // entry.size * entry.size]):
         kind, symbol = (one[1] & 0xFFFFFFFF, one[1] >> 32) if wide else \
             (one[1] & 0xFF, one[1] >> 8)
@@ -73,5 +74,6 @@ def _symbol_values(file: Elf, number: int) -> List[int]:
     form = elf.SYMBOL if file.model == "lp64" else elf.SYMBOL_32
     value, section = (4, 3) if file.model == "lp64" else (1, 5)
     places = file.places()
+    bounded.charge(table.size)
     return [one[value] + (places[one[section]] if one[section] < len(places) else 0)
             for one in form.iter_unpack(elf.whole(file.bytes(table), form))]

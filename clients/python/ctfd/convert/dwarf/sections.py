@@ -8,7 +8,7 @@ import zlib
 from typing import Dict, List, Optional
 
 from ...client.faults import Unreadable
-from ...files import elf, mapped
+from ...files import bounded, elf, mapped
 from ...files.elf import Elf, Section, build_id
 from ...files.strings import Data
 from . import packages
@@ -46,8 +46,10 @@ class Sections:
         units."""
         last = ".dwo" if self.is_split and not name.endswith("_index") else ""
         names = (f".debug_{name}{last}", f".zdebug_{name}{last}")
-        made = [self._ready_one(one, name) for one in self.file.sections
-                if one.name in names and one.kind != elf.NOBITS]
+        found = [one for one in self.file.sections if one.name in names and one.kind != elf.NOBITS]
+        if len(found) > 1:
+            bounded.charge(sum(one.size for one in found))
+        made = [self._ready_one(one, name) for one in found]
         return made[0] if len(made) == 1 else b"".join(made)
 
     def _ready_one(self, section: Section, name: str) -> Data:
@@ -141,6 +143,7 @@ def inflated(file: Elf, section: Section) -> Data:
 
 def _inflated(name: str, raw: memoryview, size: int) -> bytes:
     """The bound is what the header says, as far as so many bytes can inflate to it."""
+    bounded.charge(size)
     inflater = zlib.decompressobj()
     try:
         data = inflater.decompress(raw, size) if 0 < size <= MOST_INFLATED * len(raw) else b""

@@ -4,6 +4,7 @@ from __future__ import annotations
 import struct
 from typing import Any, Dict, List, NamedTuple, Optional, Tuple
 
+from ...files import bounded
 from ...files.strings import Data
 from . import attributes, forms
 from .encoding import Read, Sizes, reader, sleb, uleb
@@ -146,10 +147,18 @@ def _given(key: Key) -> Dict[int, int]:
             and one.form in (forms.FLAG_PRESENT, forms.IMPLICIT_CONST)}
 
 
-def shapes(data: Data, at: int, sizes: Sizes, known: Dict[Key, Shape]) -> Dict[int, Shape]:
+class Shapes(Dict[int, Shape]):
+    """The shapes of a list of abbreviations by their codes."""
+
+    def __missing__(self, code: int) -> Shape:
+        raise ValueError(f"an entry of abbreviation {code}, which is not there")
+
+
+def shapes(data: Data, at: int, sizes: Sizes, known: Dict[Key, Shape]) -> Shapes:
     """The shapes of a list of abbreviations by their codes; `known` has those of lists before."""
-    made: Dict[int, Shape] = {}
+    made = Shapes()
     while True:
+        begin = at
         code, at = uleb(data, at)
         if not code:
             return made
@@ -161,6 +170,7 @@ def shapes(data: Data, at: int, sizes: Sizes, known: Dict[Key, Shape]) -> Dict[i
         if shape is None:
             shape = known[key] = Shape(key)
         made[code] = shape
+        bounded.charge(2 * bounded.STEP * (at - begin))
 
 
 def _attributes(data: Data, at: int) -> Tuple[Tuple[Attribute, ...], int]:

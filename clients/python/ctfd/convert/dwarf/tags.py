@@ -6,6 +6,7 @@ FORMAL = 0x05
 LEXICAL_BLOCK = 0x0B
 MEMBER = 0x0D
 POINTER = 0x0F
+REFERENCE = 0x10  # gcc writes them in C too: what a block of OpenMP is handed
 STRUCTURE = 0x13
 SUBROUTINE = 0x15
 TYPEDEF = 0x16
@@ -20,7 +21,9 @@ VARIABLE = 0x34
 VOLATILE = 0x35
 RESTRICT = 0x37
 PARTIAL_UNIT = 0x3C
+UNSPECIFIED = 0x3B
 IMPORTED_UNIT = 0x3D
+RVALUE_REFERENCE = 0x42
 ATOMIC = 0x47
 
 # What a unit, a function or a block has in it that is wanted by itself.

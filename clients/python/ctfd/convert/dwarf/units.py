@@ -13,6 +13,7 @@ import struct
 from functools import cached_property
 from typing import TYPE_CHECKING, Any, Dict, Iterator, List, NamedTuple, Optional, Tuple
 
+from ...files import bounded
 from ...files.strings import Data
 from . import attributes, forms, operations, ranges, tags
 from .encoding import Sizes, decoded, index, uleb
@@ -285,6 +286,7 @@ class Unit:
                 depth += shape.has_children
             else:
                 depth -= 1
+        bounded.charge(4 * (at - entry.inside))
         return at
 
     def _forward(self, at: int, behind: int) -> int:

@@ -1,0 +1,49 @@
+"""How commands end: a bug is told as ours, and what the system refuses without its number."""
+import contextlib
+import io
+import os
+import unittest
+from unittest import mock
+
+from ctfd.tools import convert, running, types
+
+from .support import EXAMPLES, PROGRAM
+
+LUA = str(EXAMPLES / "lua.ctf")
+
+
+@unittest.skipUnless(PROGRAM, "CTFD names no built service")
+class Bugs(unittest.TestCase):
+    def told(self, trace: str) -> str:
+        """What `ctfd-convert` and `ctfd-types` say of an error that nobody thought of."""
+        errors = io.StringIO()
+        with mock.patch("ctfd.convert.inputs._form", side_effect=ZeroDivisionError("one\n two")), \
+                mock.patch("ctfd.files.anyfile.contents", side_effect=KeyError(99)), \
+                mock.patch.dict(os.environ, {running.TRACE: trace}), \
+                contextlib.redirect_stderr(errors):
+            self.assertEqual(convert.main([LUA, "/dev/null"]), convert.FAILED)
+            self.assertEqual(types.main([LUA]), types.FAILED)
+        return errors.getvalue()
+
+    def test_a_bug_is_ours(self) -> None:
+        lines = self.told("").splitlines()
+        self.assertEqual(len(lines), 2)
+        self.assertRegex(lines[0], r"^ctfd-convert: .*lua\.ctf: a bug in ctfd [\d.]+"
+                                   r" \(ZeroDivisionError: one two\): please report it "
+                                   r".*CTFD_TRACE=1")
+        self.assertRegex(lines[1], r"^ctfd-types: a bug in ctfd [\d.]+ \(KeyError: 99\)")
+        self.assertNotIn("damaged", "".join(lines))
+
+    def test_where_it_is_can_be_seen(self) -> None:
+        told = self.told("1")
+        self.assertEqual(told.count("Traceback (most recent call last)"), 2)
+
+    def test_what_the_system_refuses(self) -> None:
+        self.assertEqual(running.of_system(OSError(13, "Permission denied", "/x")),
+                         "/x: Permission denied")
+        self.assertEqual(running.of_system(OSError(5, "Input/output error")),
+                         "Input/output error")
+
+
+if __name__ == "__main__":
+    unittest.main()

@@ -1,0 +1,125 @@
+"""What `ctfd-diff` answers beside abidiff: a change that breaks is never status 0 or 1."""
+from __future__ import annotations
+
+import subprocess
+import unittest
+from pathlib import Path
+
+from . import writers as w
+from .support import Case, Outcome, run, tool
+
+SAME, COMPATIBLE, TROUBLE, BREAKING = 0, 1, 2, 4
+EXPORTED = "int get(void) { return 1; }\n"
+MANY = "enum many { %s, LAST = %%s }; enum many many;" % ", ".join(f"E{n}" for n in range(1100))
+WIDE = "enum wide { SMALL = 1, BIG = 0x%s00000000 }; enum wide wide;"
+BITS = ("enum color { RED, GREEN }; enum shape { ROUND = 1, SQUARE, LONG };"
+        " struct s { enum %s a : 4; unsigned b : 4; }; struct s s; enum color c; enum shape h;")
+UNNAMED = "struct s { enum { %s } a : 4; }; struct s s;"
+# Each with what abidiff answers as `ctfd-diff` is to: 4 breaks.
+BREAKS = {
+    "an object that becomes const": ("int x = 1;", "const int x = 1;"),
+    "a pointer that becomes const": ("char *p;", "char *const p;"),
+    "elements that become const": ("char *n[2];", "const char *const n[2];"),
+    "a thread's own": ("int t;", "_Thread_local int t;"),
+    "a wide enumerator": (WIDE % 1, WIDE % 2),
+    "a wide enumerator that is gone": (WIDE % 1, WIDE.replace(", BIG = 0x%s00000000", "")),
+    "the 1,100th enumerator": (MANY % 5000, MANY % 6000),
+    "a bit-field of another enum": (BITS % "color", BITS % "shape"),
+    "a bit-field of another enum without a name": (UNNAMED % "RED, GREEN", UNNAMED % "RED = 2"),
+}
+
+
+class Diff(Case):
+    def library(self, code: str, name: str) -> Path:
+        return self.compiled(EXPORTED + code, "-g", "-shared", "-fPIC", name=name)
+
+    def asked(self, old: Path, new: Path, *words: str) -> Outcome:
+        done = run(tool("diff"), *words, old, new)
+        self.assert_tame(done, old.name)
+        return done
+
+    def peer(self, old: Path, new: Path) -> "subprocess.CompletedProcess[str]":
+        return subprocess.run(["abidiff", old, new], capture_output=True, text=True)
+
+
+class BesideAbidiff(Diff):
+    def test_what_breaks(self) -> None:
+        self.needs("abidiff")
+        for what, (before, after) in BREAKS.items():
+            with self.subTest(what):
+                old, new = self.library(before, "old.so"), self.library(after, "new.so")
+                peer = self.peer(old, new)
+                self.assertTrue(peer.returncode & 4, f"{what}: {peer.stdout}")
+                for words in ((), ("--breaking",), ("--all",)):
+                    done = self.asked(old, new, *words)
+                    self.assertEqual(done.status, BREAKING, (what, words, done.text, peer.stdout))
+
+    def test_the_same(self) -> None:
+        self.needs("abidiff")
+        for what, (before, _) in BREAKS.items():
+            with self.subTest(what):
+                old = self.library(before, "old.so")
+                new = self.library(before + "\nstatic int unused;", "new.so")
+                self.assertEqual(self.peer(old, new).returncode, 0, what)
+                done = self.asked(old, new)
+                self.assertEqual((done.status, done.output), (SAME, ""), (what, done.text))
+
+
+class Uncompared(Diff):
+    """What could not be compared is never status 0, unless both are the same bytes."""
+
+    def assert_uncompared(self, old: Path, new: Path, says: str, status: int = TROUBLE) -> None:
+        done = self.asked(old, new)
+        self.assertEqual(done.status, status, done.text)
+        self.assertRegex(done.text, says)
+        done = self.asked(old, new, "--breaking")
+        self.assertEqual(done.status, TROUBLE, done.text)
+        self.assertRegex(done.errors, says)
+        self.assertEqual(self.asked(old, old).status, SAME)
+
+    def test_units_of_other_languages(self) -> None:
+        self.needs("g++")
+        plus = self.compiled('extern "C" int more(int x) { return x; }', "-g", "-fPIC",
+                             name="more.o", compiler="g++")
+        made = []
+        for name in ("old", "new"):
+            one = self.compiled(EXPORTED + f"static int {name};", "-g", "-fPIC", name=f"{name}.o")
+            made.append(self.folder / f"{name}.so")
+            subprocess.run(["gcc", "-shared", "-o", made[-1], one, plus], check=True)
+        self.assert_uncompared(made[0], made[1], "not compared: 1 unit in C")
+
+    def test_what_each_thread_has_for_itself(self) -> None:
+        old = self.library("_Thread_local int t;", "old.so")
+        new = self.library("_Thread_local float t;", "new.so")
+        self.assertEqual(self.peer(old, new).returncode & 4, 4)
+        self.assert_uncompared(old, new, "object t: .*not compared")
+
+    def test_a_struct_that_is_only_declared_now(self) -> None:
+        use = "struct s *p; int of(struct s *q) { return q == p; }"
+        old = self.library("struct s { int a; };" + use, "old.so")
+        new = self.library(use, "new.so")
+        self.assert_uncompared(old, new, "struct s: only declared now, and not compared",
+                               COMPATIBLE)
+
+    def test_structs_that_are_cut(self) -> None:
+        paths = [self.folder / "old.ctf", self.folder / "new.ctf"]
+        for path, levels in zip(paths, (30, 30)):
+            path.write_bytes(doubled(levels))
+        paths[1].write_bytes(paths[0].read_bytes() + b"\0")  # other bytes of the same types
+        for words in ((), ("--all",), ("--breaking",)):
+            done = self.asked(paths[0], paths[1], *words)
+            self.assertEqual((done.status, done.output), (TROUBLE, ""), done.text)
+            self.assertRegex(done.errors, "more members of members than are compared|more work")
+
+
+def doubled(levels: int) -> bytes:
+    """Structs without names of which each holds the one before twice, in one that has a name."""
+    types = [w.record(1, w.INTEGER, 0, 4, w.INT)]
+    for n in range(levels):
+        members = w.member(5, n + 1, 0) + w.member(7, n + 1, 0)
+        types.append(w.record(0 if n < levels - 1 else 9, w.STRUCT, 2, 8, members))
+    return w.ctf(b"".join(types), b"\0int\0a\0b\0s\0")
+
+
+if __name__ == "__main__":
+    unittest.main()

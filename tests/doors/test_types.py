@@ -1,0 +1,49 @@
+"""What `ctfd-types` prints: C that a compiler lays out so, and answers in bounded time."""
+from __future__ import annotations
+
+import subprocess
+import unittest
+from pathlib import Path
+
+from .support import Case, run, tool
+
+# One tag as a forward in one file, and as two definitions in others.
+LISTS = {
+    "one.c": "struct list { unsigned length; void *nodes; };\n"
+             "struct list first; unsigned size_one = sizeof(struct list);\n",
+    "two.c": "struct node { int n; };\n"
+             "struct list { unsigned length, room; struct node *nodes; };\n"
+             "struct list second; enum kind { A, B }; enum kind kind;\n",
+    "three.c": "struct list; struct user { struct list *held; enum kind *kind; } user;\n"
+               "union list_of { struct user user; } of;\n",
+    "main.c": "int main(void) { return 0; }\n",
+}
+
+
+class Compilable(Case):
+    def linked(self, codes: "dict[str, str]") -> Path:
+        """A program of several files, with debug information."""
+        self.needs("gcc")
+        for name, code in codes.items():
+            (self.folder / name).write_text(code)
+        subprocess.run(["gcc", "-g", "-w", "-o", "made", *codes], cwd=self.folder, check=True)
+        return self.folder / "made"
+
+    def assert_compiles(self, text: str) -> None:
+        done = subprocess.run(["gcc", "-fsyntax-only", "-x", "c", "-"], input=text, text=True,
+                              capture_output=True)
+        self.assertEqual(done.returncode, 0, f"{done.stderr}\n{text}")
+
+    def test_a_forward_and_two_definitions(self) -> None:
+        for names in (LISTS, dict(reversed(LISTS.items()))):
+            made = run(tool("types"), "--c", self.linked(names))
+            self.assertEqual(made.status, 0, made.text)
+            self.assert_compiles(made.output + "_Static_assert(sizeof(struct user) == 16, \"\");\n")
+            tags = [line for line in made.output.splitlines() if line.startswith("struct list")
+                    and line.endswith("{")]
+            self.assertEqual(len(tags), 2, made.output)
+            self.assertIn("struct list {", tags)
+
+
+if __name__ == "__main__":
+    unittest.main()
