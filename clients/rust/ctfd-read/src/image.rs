@@ -5,15 +5,46 @@ use crate::error::{refuse, Error, Result};
 use flate2::Crc;
 use object::read::{ReadCache, ReadRef};
 use std::fs::File;
-use std::io::{Cursor, Read, Seek};
+use std::io::{Cursor, Read, Seek, SeekFrom};
+use std::ops::Range;
 use std::path::{Path, PathBuf};
 
 /// What the bytes of a file come from: the file, or all that came through a pipe.
 pub trait Source: Read + Seek {}
 impl<T: Read + Seek> Source for T {}
 
-/// The bytes of a file, read where they are asked for.
-pub type Data<'a> = &'a ReadCache<Box<dyn Source>>;
+/// The bytes of a file, read where they are asked for, and none behind its end: the cache makes room
+/// before it reads, as much as a damaged file says.
+#[derive(Clone, Copy)]
+pub struct Data<'a> {
+    cache: &'a ReadCache<Box<dyn Source>>,
+    length: u64,
+}
+
+impl<'a> ReadRef<'a> for Data<'a> {
+    fn len(self) -> std::result::Result<u64, ()> {
+        Ok(self.length)
+    }
+
+    fn read_bytes_at(self, offset: u64, size: u64) -> std::result::Result<&'a [u8], ()> {
+        match offset.checked_add(size) {
+            Some(end) if end <= self.length => self.cache.read_bytes_at(offset, size),
+            _ => Err(()),
+        }
+    }
+
+    fn read_bytes_at_until(
+        self,
+        range: Range<u64>,
+        delimiter: u8,
+    ) -> std::result::Result<&'a [u8], ()> {
+        if range.start > range.end || range.start > self.length {
+            return Err(());
+        }
+        self.cache.read_bytes_at_until(range, delimiter)
+    }
+}
+
 /// An ELF file.
 pub type Elf<'a> = object::File<'a, Data<'a>>;
 /// A section of an ELF file.
@@ -28,6 +59,7 @@ const PIECE: u64 = 1 << 20;
 pub struct Image {
     path: PathBuf,
     cache: ReadCache<Box<dyn Source>>,
+    length: u64,
 }
 
 impl Image {
@@ -52,8 +84,10 @@ impl Image {
             File::open(path)?.take(LONGEST_PIPE).read_to_end(&mut bytes)?;
             Ok(Box::new(Cursor::new(bytes)))
         };
-        let source = open().map_err(|error| error.of(path.display()))?;
-        Ok(Image { path: path.to_owned(), cache: ReadCache::new(source) })
+        let of_path = |error: Error| error.of(path.display());
+        let mut source = open().map_err(of_path)?;
+        let length = source.seek(SeekFrom::End(0)).map_err(|error| of_path(error.into()))?;
+        Ok(Image { path: path.to_owned(), cache: ReadCache::new(source), length })
     }
 
     /// Opens a regular file that another file names; anybody may have written that name.
@@ -64,14 +98,13 @@ impl Image {
 
     /// Bytes that are no file of their own, as a member of an archive.
     pub fn of_bytes(path: PathBuf, bytes: Vec<u8>) -> Image {
-        Image { path, cache: ReadCache::new(Box::new(Cursor::new(bytes))) }
+        let length = bytes.len() as u64;
+        Image { path, cache: ReadCache::new(Box::new(Cursor::new(bytes))), length }
     }
 
     /// All its bytes.
     pub fn all(&self) -> Result<&[u8]> {
-        let data = self.data();
-        let length = data.len().map_err(|()| Error("can't be read".to_owned()))?;
-        data.read_bytes_at(0, length).map_err(|()| Error("can't be read".to_owned()))
+        self.data().read_bytes_at(0, self.length).map_err(|()| Error("can't be read".to_owned()))
     }
 
     /// Where the file is.
@@ -81,7 +114,7 @@ impl Image {
 
     /// Its bytes, which are read where they are asked for.
     pub fn data(&self) -> Data<'_> {
-        &self.cache
+        Data { cache: &self.cache, length: self.length }
     }
 
     /// Whether it begins as ELF files do.

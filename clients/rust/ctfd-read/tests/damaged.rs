@@ -3,6 +3,7 @@
 use ctfd_read::dictionary;
 use ctfd_read::image::Image;
 use ctfd_read::inputs::{with_types, Options};
+use object::read::ReadRef as _;
 use std::path::PathBuf;
 
 /// Numbers that are the same in each run.
@@ -48,6 +49,16 @@ fn damage(whole: &[u8], rounds: usize) {
 fn damaged_dictionaries_are_read_or_refused() {
     let path = concat!(env!("CARGO_MANIFEST_DIR"), "/../../../examples/zlib.ctf");
     damage(&std::fs::read(path).unwrap(), 2000);
+}
+
+#[test]
+fn nothing_is_read_behind_the_end() {
+    let image = Image::of_bytes(PathBuf::from("short"), vec![7; 16]);
+    for (place, size) in [(0, 17), (8, 1 << 32), (64, u64::MAX - 63), (17, 0), (1, u64::MAX)] {
+        assert!(image.data().read_bytes_at(place, size).is_err(), "{size} bytes at {place}");
+    }
+    assert_eq!(image.data().read_bytes_at(8, 8), Ok(&[7u8; 8][..]));
+    assert!(image.data().read_bytes_at_until(9..8, 0).is_err());
 }
 
 /// BTF of `int` and of `struct node { struct node *next; int value : 3; }`.

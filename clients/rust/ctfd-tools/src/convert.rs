@@ -2,6 +2,7 @@
 
 use crate::messages::{warn, LOSSY, REFUSED};
 use crate::output::{self, STANDARD_OUTPUT};
+use crate::standard;
 use clap::builder::PossibleValuesParser;
 use clap::{value_parser, Arg, ArgAction, ArgMatches, Command};
 use ctfd::Model;
@@ -30,6 +31,10 @@ is as it was.";
 /// The command; its exit status.
 pub fn main(words: Vec<OsString>) -> ExitCode {
     let words = Words::of(&options().get_matches_from(words));
+    if standard::is_output_closed() {
+        warn(NAME, standard::CLOSED);
+        return ExitCode::from(REFUSED);
+    }
     match convert(&words) {
         Ok(losses) => {
             let lines = dictionary::notice(&losses, MOST_LINES, ALL_LINES);
@@ -56,7 +61,6 @@ struct Words {
     is_section: bool,
     is_self_contained: bool,
     is_lossy: bool,
-    threads: usize,
 }
 
 impl Words {
@@ -93,7 +97,6 @@ impl Words {
             is_section: matches.get_flag("section"),
             is_self_contained: matches.get_flag("self-contained"),
             is_lossy: matches.get_flag("lossy"),
-            threads: matches.get_one("threads").copied().unwrap_or(0),
         }
     }
 
@@ -146,8 +149,10 @@ fn path(name: &'static str) -> Arg {
     Arg::new(name).value_parser(value_parser!(PathBuf))
 }
 
-fn word(name: &'static str, listed: &[&'static str]) -> Arg {
-    Arg::new(name).long(name).value_parser(PossibleValuesParser::new(listed.iter().copied()))
+/// An option of one of some words, which stand apart by `|`.
+fn word(name: &'static str, listed: &'static str) -> Arg {
+    let words = PossibleValuesParser::new(listed.split('|'));
+    Arg::new(name).long(name).value_name(listed).value_parser(words).hide_possible_values(true)
 }
 
 fn flag(name: &'static str) -> Arg {
@@ -159,6 +164,7 @@ fn options() -> Command {
         .version(env!("CARGO_PKG_VERSION"))
         .about(ABOUT)
         .max_term_width(100)
+        .infer_long_args(true)
         .arg(
             path("IN")
                 .required(true)
@@ -169,9 +175,9 @@ fn options() -> Command {
 }
 
 /// The options that say what is read.
-fn of_reading() -> [Arg; 8] {
+fn of_reading() -> [Arg; 7] {
     [
-        word("from", &["ctf", "btf", "dwarf", "gnu"]).help("the form to read"),
+        word("from", "ctf|btf|dwarf|gnu").help("the form to read"),
         Arg::new("dictionary")
             .long("dictionary")
             .value_name("N")
@@ -186,9 +192,9 @@ fn of_reading() -> [Arg; 8] {
             .value_name("NAMES")
             .action(ArgAction::Append)
             .help("only the types that these reach: 'struct list_head,size_t'"),
-        word("model", &["lp64", "ilp32"])
+        word("model", "lp64|ilp32")
             .help("whether pointers have 8 bytes or 4; an ELF file says so itself"),
-        word("symbols", &["symtab", "dynsym"]).default_value("symtab").help(
+        word("symbols", "symtab|dynsym").default_value("symtab").help(
             "the symbol table to write for: dynsym survives strip, and has only what the program \
              exports",
         ),
@@ -197,16 +203,11 @@ fn of_reading() -> [Arg; 8] {
             .value_name("FOLDER")
             .action(ArgAction::Append)
             .help("where to look for debug files, before /usr/lib/debug"),
-        Arg::new("threads")
-            .long("threads")
-            .value_name("N")
-            .value_parser(value_parser!(usize))
-            .help("how many threads read; as many as there are processors without it"),
     ]
 }
 
 /// The options that say what is written.
-fn of_writing() -> [Arg; 6] {
+fn of_writing() -> [Arg; 7] {
     [
         path("parent").long("parent").value_name("FILE").help(
             "a dictionary: OUT is a child of it, with only the types that it lacks",
@@ -223,6 +224,10 @@ fn of_writing() -> [Arg; 6] {
             .value_name("FILE")
             .help("report what was read, written and lost; - is standard output"),
         flag("lossy").help("end with status 0 even if CTF can't hold everything"),
+        path("service")
+            .long("service")
+            .value_name("CTFD")
+            .help("for the command in Python: this one checks OUT by the library in it"),
     ]
 }
 
@@ -231,7 +236,6 @@ fn convert(words: &Words) -> Result<Vec<String>> {
     words.judge()?;
     words.outputs().into_iter().try_for_each(output::judge)?;
     rayon::ThreadPoolBuilder::new()
-        .num_threads(words.threads)
         .build_global()
         .map_err(|error| Error(format!("the threads can't be started: {error}")))?;
     let image = Image::open(&words.input)?;

@@ -6,6 +6,7 @@
 mod convert;
 mod messages;
 mod output;
+mod standard;
 
 use std::ffi::OsString;
 use std::path::Path;

@@ -2,12 +2,14 @@
 
 use ctfd_read::error::{reason, refuse, Error, Result};
 use std::fs::{self, OpenOptions};
-use std::io::Write as _;
+use std::io::{ErrorKind, Write as _};
 use std::path::{Path, PathBuf};
 use std::process::Command;
 
 /// The word for standard output in place of a file's name.
 pub const STANDARD_OUTPUT: &str = "-";
+/// The status of a command whose output nobody reads, as a shell has it of SIGPIPE.
+const UNREAD: i32 = 141;
 const SECTION: &str = ".SUNW_ctf";
 /// That of GNU knows the machines that it was built for.
 const COPIERS: [&str; 2] = ["objcopy", "llvm-objcopy"];
@@ -37,10 +39,7 @@ pub fn judge(path: &Path) -> Result<()> {
 /// Writes a file whole, or leaves what was there.
 pub fn write(path: &Path, bytes: &[u8]) -> Result<()> {
     if is_standard(path) {
-        let mut output = std::io::stdout().lock();
-        return output.write_all(bytes).and_then(|()| output.flush()).map_err(|error| {
-            Error(format!("standard output: it can't be written: {}", reason(&error)))
-        });
+        return print(bytes);
     }
     if fs::metadata(path).is_ok_and(|about| !about.is_file()) {
         let open = || OpenOptions::new().append(true).open(path)?.write_all(bytes);
@@ -50,6 +49,15 @@ pub fn write(path: &Path, bytes: &[u8]) -> Result<()> {
     fs::write(&beside.path, bytes)
         .and_then(|()| fs::rename(&beside.path, path))
         .map_err(|error| error_of(path, &error))
+}
+
+/// Writes to standard output. Where its reader has left, there is nobody to tell: the process ends.
+fn print(bytes: &[u8]) -> Result<()> {
+    let mut output = std::io::stdout().lock();
+    match output.write_all(bytes).and_then(|()| output.flush()) {
+        Err(error) if error.kind() == ErrorKind::BrokenPipe => std::process::exit(UNREAD),
+        done => done.map_err(|error| Error(format!("standard output: {}", reason(&error)))),
+    }
 }
 
 /// A new file beside another, which takes its place or goes.
@@ -65,7 +73,7 @@ impl Beside {
             let path = folder.join(format!(".ctfd-{process}-{turn}"));
             match OpenOptions::new().write(true).create_new(true).open(&path) {
                 Ok(_) => return Ok(Beside { path }),
-                Err(error) if error.kind() == std::io::ErrorKind::AlreadyExists => {}
+                Err(error) if error.kind() == ErrorKind::AlreadyExists => {}
                 Err(error) => return Err(error_of(&folder.join(path), &error)),
             }
         }
