@@ -5,8 +5,8 @@ use crate::error::{refuse, Result};
 use crate::image::{Data, Elf, ElfSection, Image};
 use crate::symbols::{Symbol, SymbolTable, Symbols};
 use object::read::elf::{FileHeader, SectionHeader, Sym as _};
-use object::{elf, Endianness, Object, ObjectKind, ObjectSection, ObjectSymbol, RelocationTarget};
-use object::{RelocationKind, SectionIndex, SymbolSection};
+use object::{elf, Architecture, Endianness, Object, ObjectKind, ObjectSection, ObjectSymbol};
+use object::{Relocation, RelocationKind, RelocationTarget, SectionIndex};
 use std::borrow::Cow;
 use std::path::{Path, PathBuf};
 
@@ -136,7 +136,7 @@ pub fn section<'a>(file: &Elf<'a>, name: &str) -> Result<Cow<'a, [u8]>> {
         }
         let mut data = packed.decompress()?;
         if file.kind() == ObjectKind::Relocatable {
-            relocate(file, &one, data.to_mut());
+            relocate(file, &one, data.to_mut())?;
         }
         made = Some(match made {
             None => data,
@@ -147,30 +147,65 @@ pub fn section<'a>(file: &Elf<'a>, name: &str) -> Result<Cow<'a, [u8]>> {
 }
 
 /// Writes in an object file what the linker would.
-fn relocate(file: &Elf<'_>, section: &ElfSection<'_, '_>, data: &mut [u8]) {
+fn relocate(file: &Elf<'_>, section: &ElfSection<'_, '_>, data: &mut [u8]) -> Result<()> {
     let places = places(file);
     for (at, one) in section.relocations() {
-        if one.kind() != RelocationKind::Absolute {
-            continue;
-        }
-        let RelocationTarget::Symbol(index) = one.target() else { continue };
-        let Ok(symbol) = file.symbol_by_index(index) else { continue };
-        let place = match symbol.section() {
-            SymbolSection::Section(index) => places.get(index.0).copied().unwrap_or(0),
+        let Some(length) = relocated_bytes(file.architecture(), &one)? else { continue };
+        let place = match one.target() {
+            RelocationTarget::Symbol(index) => {
+                let symbol = file.symbol_by_index(index)?;
+                let place = symbol.section_index().and_then(|index| places.get(index.0));
+                symbol.address().wrapping_add(place.copied().unwrap_or(0))
+            }
             _ => 0,
         };
-        let length = usize::from(one.size() / 8);
-        let Some(cell) = usize::try_from(at).ok().and_then(|at| data.get_mut(at..)) else {
-            continue;
+        let cell = usize::try_from(at).ok().and_then(|at| data.get_mut(at..));
+        let Some(cell) = cell.and_then(|cell| cell.get_mut(..length)) else {
+            return refuse("a relocation lies outside of its section: damage");
         };
-        let Some(cell) = cell.get_mut(..length) else { continue };
-        let mut value = symbol.address().wrapping_add(place).wrapping_add(one.addend() as u64);
+        let mut value = place.wrapping_add(one.addend() as u64);
         if one.has_implicit_addend() {
             let mut there = [0; 8];
             there[..length].copy_from_slice(cell);
             value = value.wrapping_add(u64::from_le_bytes(there));
         }
         cell.copy_from_slice(&value.to_le_bytes()[..length]);
+    }
+    Ok(())
+}
+
+/// How many bytes a relocation of debug information writes; none where it keeps what is there.
+///
+/// Offsets within thread-local storage and in the global offset table are no addresses, and the
+/// sums and differences of RISC-V are lengths of code, which no type has.
+fn relocated_bytes(machine: Architecture, one: &Relocation) -> Result<Option<usize>> {
+    use Architecture::{Aarch64, Arm, Bpf, I386, PowerPc64, Riscv32, Riscv64, X86_64, X86_64_X32};
+    let number = match one.kind() {
+        RelocationKind::Absolute if matches!(one.size(), 8 | 16 | 32 | 64) => {
+            return Ok(Some(usize::from(one.size() / 8)));
+        }
+        RelocationKind::Elf(number) => number,
+        _ => u32::MAX,
+    };
+    match (machine, number) {
+        (Bpf, 2) => Ok(Some(8)),
+        (Bpf, 3) => Ok(Some(4)),
+        (Architecture::Unknown, _) => refuse(
+            "an object file of a machine whose relocations are not known: name the linked program",
+        ),
+        (_, elf::R_X86_64_NONE) // 0 for each machine
+        | (X86_64 | X86_64_X32, elf::R_X86_64_DTPOFF64 | elf::R_X86_64_DTPOFF32)
+        | (I386, elf::R_386_GOTOFF | elf::R_386_TLS_LDO_32 | elf::R_386_TLS_DTPOFF32)
+        | (Aarch64, 1028 | 1029)
+        | (Arm, elf::R_ARM_TLS_DTPOFF32 | elf::R_ARM_TLS_LDO32)
+        | (Riscv32 | Riscv64, 8 | 9 | 33..=40 | 52..=61)
+        | (PowerPc64, elf::R_PPC64_DTPREL64) => Ok(None),
+        _ if one.kind() == RelocationKind::GotBaseOffset => Ok(None),
+        _ => refuse(format!(
+            "its debug information has a relocation of a kind that is not known ({:?}): name the \
+             linked program",
+            one.kind()
+        )),
     }
 }
 
