@@ -8,7 +8,7 @@ use object::read::elf::{FileHeader, SectionHeader, Sym as _};
 use object::{elf, Architecture, Endianness, Object, ObjectKind, ObjectSection, ObjectSymbol};
 use object::{Relocation, RelocationKind, RelocationTarget, SectionIndex};
 use std::borrow::Cow;
-use std::path::{Path, PathBuf};
+use std::path::{Component, Path, PathBuf};
 
 /// What deflate makes of one byte at most: a header that says more is damaged.
 const MOST_INFLATED: u64 = 1032;
@@ -96,24 +96,50 @@ pub fn debug_file(image: &Image, folders: &[PathBuf]) -> Result<DebugFile> {
     ))
 }
 
-/// The file that `dwz -m` moved common parts to, where a file names one.
+/// The file that `dwz -m` moved common parts to, where a file names one. Anybody may have written
+/// that name, so it counts beside the file and in folders for debug files alone.
 pub fn alternate_file(image: &Image, folders: &[PathBuf]) -> Result<Option<Image>> {
     let file = image.elf()?;
     let Some((name, build)) = file.gnu_debugaltlink()? else { return Ok(None) };
     let beside = image.path().canonicalize()?;
     let beside = beside.parent().unwrap_or(Path::new("/"));
-    let mut tried = vec![beside.join(std::str::from_utf8(name).unwrap_or_default())];
+    let name = Path::new(std::str::from_utf8(name).unwrap_or_default());
+    let folders: Vec<&Path> =
+        folders.iter().map(PathBuf::as_path).chain([Path::new(FOLDER)]).collect();
+    let mut tried = vec![beside.join(name)];
     if build.len() > 1 {
-        let folders = folders.iter().map(PathBuf::as_path).chain([Path::new(FOLDER)]);
-        tried.extend(folders.map(|folder| by_build_id(folder, build)));
+        tried.extend(folders.iter().map(|folder| by_build_id(folder, build)));
     }
-    for path in &tried {
+    if let Some(inner) = in_dwz(name) {
+        tried.extend(folders.iter().map(|folder| folder.join(&inner)));
+    }
+    let is_within = |path: &Path| {
+        let roots = folders.iter().copied().chain([beside]);
+        let real = path.canonicalize().ok();
+        real.is_some_and(|path| {
+            roots.filter_map(|root| root.canonicalize().ok()).any(|root| path.starts_with(root))
+        })
+    };
+    for path in tried.iter().filter(|path| is_within(path)) {
         let Some(found) = Image::linked(path) else { continue };
         if found.elf().ok().and_then(|other| other.build_id().ok().flatten()) == Some(build) {
             return Ok(Some(found));
         }
     }
-    refuse("parts of its debug information are in a file that dwz made, which is not there")
+    let tried: Vec<String> = tried.iter().map(|path| path.display().to_string()).collect();
+    refuse(format!(
+        "parts of its debug information are in a file that dwz made, which is not at {}, or is \
+         another one: name its folder by --debug-folder",
+        tried.join(" or ")
+    ))
+}
+
+/// The part of a path from the folder on that Debian's packages have for dwz's files.
+fn in_dwz(name: &Path) -> Option<PathBuf> {
+    let mut parts = name.components().skip_while(|part| part.as_os_str() != ".dwz");
+    parts.clone().next()?;
+    let is_plain = parts.clone().all(|part| matches!(part, Component::Normal(_)));
+    is_plain.then(|| parts.by_ref().collect())
 }
 
 fn by_build_id(folder: &Path, build: &[u8]) -> PathBuf {
