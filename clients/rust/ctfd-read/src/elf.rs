@@ -205,7 +205,7 @@ fn relocate(file: &Elf<'_>, section: &ElfSection<'_, '_>, data: &mut [u8]) -> Re
 /// Offsets within thread-local storage and in the global offset table are no addresses, and the
 /// sums and differences of RISC-V are lengths of code, which no type has.
 fn relocated_bytes(machine: Architecture, one: &Relocation) -> Result<Option<usize>> {
-    use Architecture::{Aarch64, Arm, Bpf, I386, PowerPc64, Riscv32, Riscv64, X86_64, X86_64_X32};
+    use Architecture::{Aarch64, Arm, Bpf, PowerPc64, Riscv32, Riscv64, I386, X86_64, X86_64_X32};
     let number = match one.kind() {
         RelocationKind::Absolute if matches!(one.size(), 8 | 16 | 32 | 64) => {
             return Ok(Some(usize::from(one.size() / 8)));
