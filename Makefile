@@ -6,9 +6,11 @@ CTFD_ARCHIVE ?= crates/ctf_c/out/libctfd.a
 PROGRAM = $(if $(CTFD),$(CTFD),crates/ctfd/out/ctfd)
 .PHONY: all check check-all prove install uninstall deb dist release help
 
-# The program and the library, without checking proofs; nothing where they are built.
+# The program and the library, without checking proofs, and the compiled commands; nothing where
+# they are built.
 all:
 	@scripts/quick.py
+	@scripts/rust.py --quiet
 
 # Over what is built, or over the program that CTFD names.
 check: $(if $(CTFD),,all)
@@ -38,7 +40,8 @@ deb dist release:
 help:
 	@echo 'make              builds the program crates/ctfd/out/ctfd and the library'
 	@echo '                  crates/ctf_c/out/libctfd.a, without checking proofs; beside that'
-	@echo '                  libctfd.so, and the part for ELF files. It tells each of its steps'
+	@echo '                  libctfd.so, and the part for ELF files. It tells each of its steps.'
+	@echo '                  Where cargo is, clients/rust/target/release/ctfd-tools too'
 	@echo 'make check        runs every test over these, JOBS=$(JOBS) at a time: the last line is'
 	@echo '                  "N passed, M failed"'
 	@echo 'make check CTFD=P runs the tests over the program P'

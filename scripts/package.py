@@ -97,8 +97,10 @@ def describe(stage: Path, made: Made) -> None:
     """Writes what dpkg reads of a package whose files stand in a folder."""
     listed = [path for path in files(stage) if path.is_file() and not path.is_symlink()]
     size = sum(-(-path.stat().st_size // 1024) for path in listed)
+    compiled = made.compiled.values()
     control = (DEBIAN / "control").read_text(encoding="utf-8").format(
-        version=version(), size=size, libc=libc(made.program, *made.shared), how=how_built(made))
+        version=version(), size=size, libc=libc(made.program, *made.shared, *compiled),
+        gcc="libgcc-s1, " if compiled else "", how=how_built(made))
     sums = "".join(f"{hashlib.md5(path.read_bytes()).hexdigest()}  {path.relative_to(stage)}\n"
                    for path in listed)
     write(stage / "DEBIAN" / "control", control.encode())

@@ -5,8 +5,9 @@ usage: scripts/tree.py --prefix PREFIX [--root FOLDER] [--program PROGRAM] [--ar
                        [--packages FOLDER] [--remove]
 
 That is the program, the libraries for C with their headers and a file for pkg-config, the manual
-pages, the units for systemd, the Python package and its commands. FOLDER of --root, if it is given,
-goes in front of all, as DESTDIR does.
+pages, the units for systemd, the Python package and its commands. A command that is compiled, as
+scripts/rust.py does where cargo is, goes there in place of the one in Python. FOLDER of --root, if
+it is given, goes in front of all, as DESTDIR does.
 
 pip installs the package. It and setuptools and wheel are those of the Python that PYTHON in the
 environment names, else of `python3` or Debian's, whichever has them. The package goes where that
@@ -28,6 +29,7 @@ from typing import Iterator, Optional
 
 import built
 import libctf
+import rust
 from version import TOP, differing, version
 
 CLIENT = TOP / "clients" / "python"
@@ -83,6 +85,12 @@ class Made:
         beside = (self.archive.with_name(name) for name in (libctf.SHARED, libctf.ELF_SHARED))
         return [path for path in beside if path.exists()]
 
+    @property
+    def compiled(self) -> dict[str, Path]:
+        """The compiled commands by name: one program, which goes by the name that it has."""
+        program = rust.folder() / rust.PROGRAM
+        return {name: program for name in rust.COMMANDS if program.exists()}
+
     def judge(self) -> None:
         """Raises Lacking where something is not there, or tells another version."""
         for place in differing():
@@ -90,11 +98,17 @@ class Made:
         for path in (self.program, self.archive, self.archive.with_name(libctf.SHARED)):
             if not path.exists():
                 raise Lacking(f"there is no {path}: `make` builds it")
-        said = subprocess.run([self.program, "--version"], stdout=subprocess.PIPE, text=True,
-                              check=False).stdout.partition("\n")[0]
-        if said != f"ctfd {version()}":
-            raise Lacking(f"{self.program} tells {said!r}, and VERSION has {version()}: "
-                          "`make` builds it anew")
+        judge_version("ctfd", self.program)
+        for name, path in self.compiled.items():
+            judge_version(name, path, name)
+
+
+def judge_version(name: str, path: Path, *words: str) -> None:
+    """Raises Lacking where a program tells another version."""
+    said = subprocess.run([path, *words, "--version"], stdout=subprocess.PIPE, text=True,
+                          check=False).stdout.partition("\n")[0]
+    if said != f"{name} {version()}":
+        raise Lacking(f"{path} tells {said!r}, and VERSION has {version()}: `make` builds it anew")
 
 
 @dataclass(frozen=True)
@@ -232,12 +246,15 @@ def put(made: Made, places: Places) -> None:
     """Puts everything in its place."""
     made.judge()
     put_package(places)
-    for path, source, mode in ((places.prefix / "bin" / "ctfd", made.program, 0o755),
-                               (places.libraries / "libctfd.a", made.archive, 0o644)):
+    commands = {"ctfd": made.program, **made.compiled}
+    binaries = [(places.prefix / "bin" / name, path, 0o755) for name, path in commands.items()]
+    for path, source, mode in (*binaries, (places.libraries / "libctfd.a", made.archive, 0o644)):
         built.put(source, places.real(path))
         places.real(path).chmod(mode)
     put_shared(made, places.real(places.libraries))
     for path, source, mode in places.texts():
+        if source in (CLIENT / name for name in made.compiled):
+            continue
         real = places.real(path)
         real.parent.mkdir(parents=True, exist_ok=True)
         real.write_text(places.text(path, source), encoding="utf-8")

@@ -37,7 +37,7 @@ PLACES = (
     Place("crates/ctfd/src/commands.rt", 'const VERSION: &str = "', '\\n'),
     Place("clients/c/ctfd.h", '#define CTFD_VERSION "', '"'),
     Place("clients/python/ctfd/version.py", 'VERSION = "', '"'),
-    Place("clients/rust/Cargo.toml", 'name = "ctfd"\nversion = "', '"'),
+    Place("clients/rust/Cargo.toml", '[workspace.package]\nversion = "', '"'),
     Place("CHANGELOG.md", "# Changes\n\n## ", "\n"),
 )
 

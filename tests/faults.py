@@ -60,7 +60,7 @@ def of_code() -> Names:
 
 def lists() -> dict[str, Names]:
     """The names of each list, by where it stands."""
-    header, rust = read("clients/c/ctfd.h"), read("clients/rust/src/faults.rs")
+    header, rust = read("clients/c/ctfd.h"), read("clients/rust/ctfd/src/faults.rs")
     libctf, manual = read("clients/c/libctf/errors.c"), read("docs/man/ctfd-protocol.5")
     messages = quoted(part(libctf, "const messages[] = {", "};"))
     faults = part(manual, ".Sh FAULTS", ".Sh EXAMPLES")
@@ -83,7 +83,7 @@ def lists() -> dict[str, Names]:
 
 def words() -> dict[str, dict[str, str]]:
     """What each list that has words says is wrong, by the fault's name."""
-    rust = re.findall(r"/// ([^\n]*)\n +(\w+) = \d+,", read("clients/rust/src/faults.rs"))
+    rust = re.findall(r"/// ([^\n]*)\n +(\w+) = \d+,", read("clients/rust/ctfd/src/faults.rs"))
     header = re.findall(r"CTFD_([A-Z_]+) = [1-9]\d*,? /\* (.*?) \*/", read("clients/c/ctfd.h"))
     messages = quoted(part(read("clients/c/libctf/errors.c"), "const messages[] = {", "};"))
     return {

@@ -21,6 +21,7 @@ archive=$("$top/tests/archive.py" --kept)
 work=$(mktemp -d)
 trap 'rm -r "$work"' EXIT
 checks=0 wrong=0
+compiled=${CARGO_TARGET_DIR:-$top/clients/rust/target}/release/ctfd-tools
 
 # count WHAT COMMAND..: runs it, and shows what it said where it failed.
 count() {
@@ -64,7 +65,7 @@ version = "0.1.0"
 edition = "2021"
 
 [dependencies]
-ctfd = { path = "$top/clients/rust" }
+ctfd = { path = "$top/clients/rust/ctfd" }
 END
 cat > "$work/own/src/main.rs" << 'END'
 fn main() -> Result<(), Box<dyn std::error::Error>> {
@@ -86,6 +87,9 @@ used() {
     for command in "$top"/clients/python/ctfd-*; do
         count "${command##*/}" "$below/bin/${command##*/}" --help
     done
+    [ ! -f "$compiled" ] || count "the compiled command" cmp "$compiled" "$below/bin/ctfd-convert"
+    count "a conversion" env -u CTFD PATH="/usr/bin:/bin" "$below/bin/ctfd-convert" "$lua" \
+        "$work/converted"
     # It finds the program beside it, under each Python that is here.
     for python in python3 /usr/bin/python3; do
         count "a type by ctfd-types" env -u CTFD PATH="/usr/bin:/bin" "$(command -v $python)" \
@@ -126,6 +130,9 @@ cd /
 ln -s "$work/prefix/bin/ctfd-types" "$work/linked"
 count "a command by a link" env -u CTFD PATH="/usr/bin:/bin" \
     "$work/linked" "$top/examples/lua.ctf" "struct luaL_Reg"
+ln -s "$work/prefix/bin/ctfd-convert" "$work/to_ctf"
+count "ctfd-convert by a link" env -u CTFD PATH="/usr/bin:/bin" \
+    "$work/to_ctf" "$top/examples/lua.ctf" "$work/converted"
 count "uninstall" made uninstall PREFIX="$work/prefix"
 count "nothing is left" says "" find "$work/prefix" ! -type d
 

@@ -22,6 +22,7 @@ trap 'rm -r "$work"' EXIT
 checks=0 wrong=0
 version=$(cat "$top/VERSION")
 unset CTFD CTFD_SOCKET PYTHONPATH
+compiled=${CARGO_TARGET_DIR:-$top/clients/rust/target}/release/ctfd-tools
 
 # count WHAT COMMAND..: runs it, and shows what it said where it failed.
 count() {
@@ -62,6 +63,7 @@ used() {
     local below=$1 libraries=$2
     count "ctfd-convert in $below" env PATH=/usr/bin:/bin "$below/bin/ctfd-convert" \
         "$work/own" "$work/own.ctf"
+    [ ! -f "$compiled" ] || count "compiled, in $below" cmp "$compiled" "$below/bin/ctfd-convert"
     env PATH=/usr/bin:/bin "$below/bin/ctfd-types" "$work/own.ctf" "struct point" > "$work/types" \
         2>&1 || true
     count "ctfd-types in $below" grep -q 'size: 32, cachelines: 1, members: 4' "$work/types"
@@ -103,7 +105,7 @@ count "dpkg-deb -x" dpkg-deb -x "$deb" "$work/unpacked"
 used "$work/unpacked/usr" "$work/unpacked/usr/lib/x86_64-linux-gnu"
 count "the deb's version" says "$version" dpkg-deb -f "$deb" Version
 count "the deb's dependencies" sh -c \
-    "dpkg-deb -f '$deb' Depends | grep -Eq '^libc6 \(>= 2\.[0-9]+\), python3 \(>= 3\.9\)$'"
+    "dpkg-deb -f '$deb' Depends | grep -Eq '^libc6 \(>= 2\.[0-9]+\), (libgcc-s1, )?python3 \(>= 3\.9\)$'"
 count "all of it is root's" says "" sh -c "dpkg-deb -c '$deb' | grep -v ' root/root ' || true"
 
 # The scripts in the package are run outside the root, which has no shell.

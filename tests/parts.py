@@ -85,6 +85,7 @@ def parts(program: str) -> list[Part]:
         Part("debuginfo", ["tests/debuginfo.sh", program]),
         Part("show", ["tests/show.sh", program]),
         Part("convert", ["tests/convert.sh", program]),
+        Part("reader", ["tests/reader/compare.py", program], after=of_library),
         Part("c_library", ["tests/c_library.sh", program], after=of_library),
         Part("packages", ["tests/packages.sh", program], after=of_library),
         Part("install", ["tests/install.sh", program], after=of_library),

@@ -6,9 +6,10 @@ _ctfd()
     if [[ $word == -* ]]; then
         options=$("$1" --help 2> /dev/null | grep -oE -e '--[a-z][a-z-]*' | sort -u)
     elif [[ $before == --* ]]; then
-        options=$("$1" --help 2> /dev/null | grep -m1 -oE -e "$before \{[a-z0-9,]+\}")
-        options=${options#*\{}
-        options=${options//[\},]/ }
+        options=$("$1" --help 2> /dev/null |
+            grep -m1 -oE -e "$before [{<][a-z0-9,|]+[,|][a-z0-9]+[}>]")
+        options=${options#*[\{<]}
+        options=${options//[\}>,|]/ }
     elif [[ ${1##*/} == ctfd && $COMP_CWORD == 1 ]]; then
         options="serve dump"
     fi

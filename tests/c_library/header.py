@@ -9,7 +9,7 @@ each struct behind a pointer; the names and numbers of statuses, against those o
 numbers of kinds. With an archive, the names that it defines are compared too: those of the
 crates, and those of clients/c/ctfd_libctf.h. Of libctfd.so beside it nothing else is seen.
 
-clients/rust/src/raw.rs, which declares the same for Rust, is compared in the same way. Each call of
+clients/rust/ctfd/src/raw.rs, which declares the same for Rust, is compared in the same way. Each call of
 illumos' libctf and of GNU's (illumos_calls.txt, gnu_calls.txt) has a row in docs/C.md.
 
 Then the header is broken on purpose, in a dozen ways, and each has to be found. Prints what
@@ -282,7 +282,7 @@ def main() -> int:
     wanted = of_crates(asked.crates)
     header = (TOP / "clients" / "c" / "ctfd.h").read_text(encoding="utf-8")
     wrong = differences(wanted, of_header(header))
-    rust = (TOP / "clients" / "rust" / "src" / "raw.rs").read_text(encoding="utf-8")
+    rust = (TOP / "clients" / "rust" / "ctfd" / "src" / "raw.rs").read_text(encoding="utf-8")
     wrong += differences(for_rust(wanted), for_rust(of_rust(rust)))
     if asked.archive:
         wrong += not_as_declared(Path(asked.archive), set(wanted.calls))

@@ -60,7 +60,7 @@ class Hostile(Case):
         self.asked(made.symbols_of_one_name, 200_000)
         done = self.asked(made.debug_with_symbols_of_one_name, 200_000,
                           {name: SOME[name] for name in ("convert", "types", "types one")})
-        self.assert_refused(done, says="more work than")
+        self.assert_refused(done, says="more work than|names of .symtab are damaged")
 
     def test_labels(self) -> None:
         self.assert_refused(self.asked(made.unended_labels, 200_000), says="more work than|damaged")
@@ -80,7 +80,7 @@ class Hostile(Case):
     def test_units_that_overlap_in_their_abbreviations(self) -> None:
         words = {name: SOME[name] for name in ("convert", "types", "types one")}
         done = self.asked(made.overlapping_abbreviations, 20_000, words)
-        self.assert_refused(done, says="more work than")
+        self.assert_refused(done, says="more work than|damaged.*abbreviation code")
         self.asked(made.overlapping_abbreviations, 10, CONVERT)
 
     def test_entries_that_say_one_byte(self) -> None:

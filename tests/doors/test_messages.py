@@ -27,16 +27,17 @@ class Messages(Case):
 
     def test_refusals_have_no_words_of_python(self) -> None:
         listed = w.abbreviation(1, 0x11, True, [(0x13, 0x0B)]) + b"\0"
+        unknown = "an unknown abbreviation code"  # as gimli has it
         for entries, says in ((TOP + b"\x63", "an entry of abbreviation 99, which is not there"),
-                              (TOP[:1], "cut off"), (b"\2", "abbreviation 2,")):
+                              (TOP[:1], "cut off|the end of input"), (b"\2", "abbreviation 2,")):
             done = self.converted(self.made(w.debug(w.unit(entries), listed)))
             self.assertEqual(done.status, 2, done.text)
-            self.assertIn(says, done.errors)
+            self.assertRegex(done.errors, f"{says}|{unknown}")
             self.assertIn("damaged", done.errors)
             self.assertNotRegex(done.errors, PYTHON)
         odd = w.abbreviation(1, 0x11, True, [(0x11, 0x01)]) + b"\0"
         done = self.converted(self.made(w.debug(w.unit(TOP, address=3), odd)))
-        self.assertIn("addresses of 3 bytes", done.errors)
+        self.assertRegex(done.errors, "addresses of 3 bytes|address size is not supported")
 
     def test_what_the_system_refuses(self) -> None:
         for name in ("types", "explore", "debuginfo", "diff"):

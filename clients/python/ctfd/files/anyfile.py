@@ -151,7 +151,7 @@ def converted(path: str, options: Options) -> Tuple[Source, List[str]]:
 
 def _made(path: str, data: Mapped, asked: Asked, losses: List[str]) -> Source:
     """The dictionary of a file that is converted, or that was; what was lost goes to `losses`."""
-    from .cache import Kept, key
+    from .cache import key
 
     said = (asked.model, asked.form, list(asked.folders), asked.number, _table(path, data))
     is_thin = data[:len(archives.THIN)] == archives.THIN
@@ -163,15 +163,27 @@ def _made(path: str, data: Mapped, asked: Asked, losses: List[str]) -> Source:
         kept = cache.get(named)
         found = _attached(path, data, kept) if kept else None
     if kept is None or found is None:
-        made, lost = converted(path, options_of(path, data, asked))
-        kept = Kept(made.ctf, made.model, lost)
-        found = _attached(path, data, kept) or made
+        kept, found = _converted(path, data, options_of(path, data, asked))
         if cache is not None:
             cache.put(named, kept)
     losses += kept.losses
     if asked.tells_losses:
         _tell(path, kept.losses, asked)
     return found
+
+
+def _converted(path: str, data: Mapped, options: Options) -> Tuple[Kept, Source]:
+    """What is made of a file, to be kept and handed in: by the compiled converter, where it is."""
+    from . import compiled
+    from .cache import Kept
+
+    kept = compiled.converted(path, options)
+    found = _attached(path, data, kept) if kept else None
+    if kept is None or found is None:
+        made, losses = converted(path, options)
+        kept = Kept(made.ctf, made.model, losses)
+        found = _attached(path, data, kept) or made
+    return kept, found
 
 
 def options_of(path: str, data: Mapped, asked: Asked) -> Options:

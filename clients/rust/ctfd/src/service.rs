@@ -25,11 +25,7 @@ impl Service {
         let mut raw = raw::Handle::NONE;
         // SAFETY: the handle is this value's own; so it is in the calls below.
         told(unsafe { raw::ctfd_begin(&mut raw) })?;
-        Ok(Service {
-            raw,
-            room: Vec::with_capacity(4096),
-            here: PhantomData,
-        })
+        Ok(Service { raw, room: Vec::with_capacity(4096), here: PhantomData })
     }
 
     /// Answers a line; neither that nor the reply has a newline at its end. What is refused is told

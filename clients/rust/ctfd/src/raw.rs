@@ -11,10 +11,7 @@ pub struct Handle {
 
 impl Handle {
     /// What each handle begins as.
-    pub const NONE: Handle = Handle {
-        full: false,
-        at: std::ptr::null_mut(),
-    };
+    pub const NONE: Handle = Handle { full: false, at: std::ptr::null_mut() };
 }
 
 #[repr(C)]

@@ -149,11 +149,7 @@ impl<'d> Members<'d> {
         let mut room = Vec::new();
         let lent = self.0.of.member_in(index, &mut room)?;
         let (offset, kind) = (lent.offset, lent.kind);
-        Ok(Member {
-            name: Name(room),
-            offset,
-            kind,
-        })
+        Ok(Member { name: Name(room), offset, kind })
     }
 }
 

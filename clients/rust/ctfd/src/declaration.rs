@@ -13,10 +13,7 @@ pub struct Declaration<'d> {
 
 impl<'d> Declaration<'d> {
     pub(crate) fn new(of: Option<Type<'d>>, name: &[u8]) -> Declaration<'d> {
-        Declaration {
-            of,
-            name: name.to_vec(),
-        }
+        Declaration { of, name: name.to_vec() }
     }
 
     /// What stands round the name, and the type that the declaration begins with.

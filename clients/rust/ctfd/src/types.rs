@@ -311,11 +311,7 @@ impl<'d> Type<'d> {
             *told = raw.name_len;
             status
         })?;
-        Ok(Member {
-            name: room,
-            offset: raw.offset,
-            kind: Type::some(self.of, raw.tnum),
-        })
+        Ok(Member { name: room, offset: raw.offset, kind: Type::some(self.of, raw.tnum) })
     }
 
     /// The name of the first enumerator that has a value.
@@ -366,14 +362,7 @@ impl<'d> Type<'d> {
         let (name, mut offset, mut to) = (name.as_ref(), 0, 0);
         let handle = self.of.handle();
         told(unsafe {
-            raw::ctfd_field(
-                handle,
-                self.number,
-                name.as_ptr(),
-                name.len(),
-                &mut offset,
-                &mut to,
-            )
+            raw::ctfd_field(handle, self.number, name.as_ptr(), name.len(), &mut offset, &mut to)
         })?;
         Ok((offset, Type::some(self.of, to)))
     }
@@ -382,11 +371,8 @@ impl<'d> Type<'d> {
     /// of its step, from 0.
     pub fn path(self, names: &[&[u8]]) -> Result<(u64, Option<Type<'d>>), Refusal> {
         let (mut offset, mut to, mut place) = (0, 0, 0);
-        let steps: Vec<u8> = names
-            .iter()
-            .flat_map(|name| name.iter().chain(&[0]))
-            .copied()
-            .collect();
+        let steps: Vec<u8> =
+            names.iter().flat_map(|name| name.iter().chain(&[0])).copied().collect();
         let handle = self.of.handle();
         let status = unsafe {
             raw::ctfd_path(
@@ -408,16 +394,7 @@ impl<'d> Type<'d> {
         text(|at, len, told| unsafe {
             let handle = self.of.handle();
             let memory_at = memory.as_ptr();
-            raw::ctfd_show(
-                handle,
-                self.number,
-                memory_at,
-                memory.len(),
-                offset,
-                at,
-                len,
-                told,
-            )
+            raw::ctfd_show(handle, self.number, memory_at, memory.len(), offset, at, len, told)
         })
     }
 }

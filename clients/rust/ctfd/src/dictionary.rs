@@ -47,10 +47,7 @@ impl Dictionary<'static> {
     }
 
     /// Opens the CTF section of a program with what stands beside it.
-    pub fn open_with(
-        ctf: &[u8],
-        options: Options<'_>,
-    ) -> Result<Dictionary<'static>, Refusal> {
+    pub fn open_with(ctf: &[u8], options: Options<'_>) -> Result<Dictionary<'static>, Refusal> {
         let symbols = apart(options.symbols.unwrap_or_default(), &[ctf]);
         let strings = apart(options.strings.unwrap_or_default(), &[ctf, &symbols]);
         let made = Dictionary::none();
@@ -82,7 +79,7 @@ impl<'b> Dictionary<'b> {
     /// files that are mapped. Lists that share bytes with each other are copied.
     ///
     /// ```
-    /// let bytes = std::fs::read("../../examples/lua.ctf").unwrap();
+    /// let bytes = std::fs::read("../../../examples/lua.ctf").unwrap();
     /// let types = ctfd::Dictionary::open_lent(&bytes, Default::default()).unwrap();
     /// assert!(types.find("struct lua_State").is_ok());
     /// ```
@@ -90,7 +87,7 @@ impl<'b> Dictionary<'b> {
     /// The bytes are borrowed for as long as the dictionary, or a child of it, is open:
     ///
     /// ```compile_fail,E0505
-    /// let bytes = std::fs::read("../../examples/lua.ctf").unwrap();
+    /// let bytes = std::fs::read("../../../examples/lua.ctf").unwrap();
     /// let types = ctfd::Dictionary::open_lent(&bytes, Default::default()).unwrap();
     /// drop(bytes);
     /// types.count();
@@ -197,11 +194,7 @@ impl<'b> Dictionary<'b> {
     /// Its own types, in the order of their numbers.
     pub fn types(&self) -> Types<'_> {
         let first = if self.is_child() { 32_769 } else { 1 };
-        Types {
-            of: self,
-            next: first,
-            end: first + self.count() as u32,
-        }
+        Types { of: self, next: first, end: first + self.count() as u32 }
     }
 
     /// The type of a number.
@@ -247,22 +240,14 @@ impl<'b> Dictionary<'b> {
             })?;
             arguments.push(Type::some(self, number));
         }
-        Ok(Function {
-            returns: Type::some(self, raw.ret),
-            arguments,
-            varargs: raw.varargs != 0,
-        })
+        Ok(Function { returns: Type::some(self, raw.ret), arguments, varargs: raw.varargs != 0 })
     }
 
     /// Its labels, in order.
     pub fn labels(&self) -> Labels<'_> {
         let mut count = 0;
         certain(unsafe { raw::ctfd_label_count(self.handle(), &mut count) });
-        Labels {
-            of: self,
-            next: 0,
-            end: count as usize,
-        }
+        Labels { of: self, next: 0, end: count as usize }
     }
 
     /// The last type that the first label of a name covers.
@@ -280,13 +265,7 @@ impl<'b> Dictionary<'b> {
             made.resize(from + from.max(4096), 0);
             let (room, mut len) = (&mut made[from..], 0);
             certain(unsafe {
-                raw::ctfd_bytes(
-                    self.handle(),
-                    from as u64,
-                    room.as_mut_ptr(),
-                    room.len(),
-                    &mut len,
-                )
+                raw::ctfd_bytes(self.handle(), from as u64, room.as_mut_ptr(), room.len(), &mut len)
             });
             if len as usize <= made.len() {
                 made.truncate(len as usize);
@@ -392,10 +371,7 @@ impl Labels<'_> {
             *told = raw.name_len;
             status
         })?;
-        Ok(Label {
-            name,
-            last: raw.last,
-        })
+        Ok(Label { name, last: raw.last })
     }
 }
 

@@ -5,7 +5,7 @@ use ctfd::{
 };
 use std::fs;
 
-const EXAMPLES: &str = concat!(env!("CARGO_MANIFEST_DIR"), "/../../examples");
+const EXAMPLES: &str = concat!(env!("CARGO_MANIFEST_DIR"), "/../../../examples");
 
 fn read(name: &str) -> Vec<u8> {
     fs::read(format!("{EXAMPLES}/{name}")).expect(name)
@@ -39,10 +39,7 @@ fn lines_of_types(types: &Dictionary) -> Vec<String> {
         ));
         for member in t.members().into_iter().flatten() {
             let kind = member.kind.map_or(0, |t| t.number());
-            lines.push(format!(
-                "  member {:?} offset={} type={kind}",
-                member.name, member.offset
-            ));
+            lines.push(format!("  member {:?} offset={} type={kind}", member.name, member.offset));
         }
         for one in t.enumerators().into_iter().flatten() {
             lines.push(format!("  value {:?} {}", one.name, one.value));
@@ -54,9 +51,7 @@ fn lines_of_types(types: &Dictionary) -> Vec<String> {
 /// The same of the file that `ctfd dump` wrote.
 fn lines_of_dump() -> Vec<String> {
     let dump = String::from_utf8(read("lua.dump")).unwrap();
-    let lines = dump
-        .lines()
-        .filter(|line| line.starts_with("type ") || line.starts_with(' '));
+    let lines = dump.lines().filter(|line| line.starts_with("type ") || line.starts_with(' '));
     lines
         .map(|line| match line.split_once(" : ") {
             Some((front, back)) => {
@@ -96,19 +91,10 @@ fn declarations_without_a_name_are_names() {
 fn declarations_stand_round_their_names() {
     let types = lua();
     let state = types.find("struct lua_State").unwrap();
-    let shown: Vec<String> = state
-        .members()
-        .unwrap()
-        .map(|one| one.to_string())
-        .collect();
+    let shown: Vec<String> = state.members().unwrap().map(|one| one.to_string()).collect();
     assert_eq!(shown[0], "struct GCObject *next");
     assert!(shown.contains(&"volatile lua_Hook hook".to_string()));
-    let call = types
-        .find("lua_CFunction")
-        .unwrap()
-        .reference()
-        .unwrap()
-        .unwrap();
+    let call = types.find("lua_CFunction").unwrap().reference().unwrap().unwrap();
     assert_eq!(call.declare("f").to_string(), "int (*f)()");
     let array = types.types().find(|t| t.kind() == Kind::Array).unwrap();
     let spelled = array.to_string();
@@ -124,19 +110,11 @@ fn names_find_their_types() {
     assert_eq!(state.pointer().unwrap().to_string(), "struct lua_State *");
     assert_eq!(state.field("hook").unwrap().0, 160 * 8);
     assert_eq!(
-        state
-            .path(&[b"base_ci", b"next"])
-            .unwrap()
-            .1
-            .unwrap()
-            .to_string(),
+        state.path(&[b"base_ci", b"next"]).unwrap().1.unwrap().to_string(),
         "struct CallInfo *"
     );
     assert_eq!(state.path(&[]).unwrap(), (0, Some(state)));
-    assert_eq!(
-        types.find("struct nothing").unwrap_err().fault,
-        Fault::NotFound
-    );
+    assert_eq!(types.find("struct nothing").unwrap_err().fault, Fault::NotFound);
     assert_eq!(types.get(527).unwrap_err().fault, Fault::NoType);
     assert_eq!(state.enumerators().unwrap_err().fault, Fault::WrongKind);
     assert_eq!(state.field("none").unwrap_err().fault, Fault::NoMember);
@@ -197,12 +175,8 @@ fn lying_in(t: Type<'_>, offset: u64, depth: u32, rows: &mut Vec<VisitRow>) {
 fn a_visit_fills_rows_with_all_that_lies_in_a_type() {
     let types = lua();
     for t in types.types() {
-        let outermost = VisitRow {
-            name_list: 2,
-            tnum: t.number(),
-            holder: t.number(),
-            ..VisitRow::default()
-        };
+        let outermost =
+            VisitRow { name_list: 2, tnum: t.number(), holder: t.number(), ..VisitRow::default() };
         let mut wanted = vec![outermost];
         lying_in(t, 0, 0, &mut wanted);
         let mut rows = vec![VisitRow::default(); wanted.len()];
@@ -290,10 +264,7 @@ fn values_are_shown() {
 
 #[test]
 fn pointers_may_have_four_bytes() {
-    let options = Options {
-        model: Model::Ilp32,
-        ..Options::default()
-    };
+    let options = Options { model: Model::Ilp32, ..Options::default() };
     let types = Dictionary::open_with(&read("lua.ctf"), options).unwrap();
     assert_eq!(types.find("struct lua_State *").unwrap().size(), Ok(4));
     assert_eq!(types.model(), Model::Ilp32);

@@ -118,11 +118,7 @@ impl<'b> Draft<'b> {
 
     /// An empty draft over a parent, which is fixed for good, with the names that its header will
     /// have for that and for its label.
-    pub fn child(
-        parent: &Dictionary<'b>,
-        name: &str,
-        label: &str,
-    ) -> Result<Draft<'b>, Refusal> {
+    pub fn child(parent: &Dictionary<'b>, name: &str, label: &str) -> Result<Draft<'b>, Refusal> {
         let (made, mut place) = (Dictionary::none(), 0);
         let label = apart(label.as_bytes(), &[name.as_bytes()]);
         let status = unsafe {
@@ -300,10 +296,7 @@ impl<'b> Draft<'b> {
     pub fn into_dictionary(self) -> Result<Dictionary<'static>, Refusal> {
         Dictionary::open_with(
             &self.bytes(),
-            crate::Options {
-                model: self.model(),
-                ..crate::Options::default()
-            },
+            crate::Options { model: self.model(), ..crate::Options::default() },
         )
     }
 }

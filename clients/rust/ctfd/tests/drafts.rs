@@ -2,11 +2,7 @@
 
 use ctfd::{Dictionary, Draft, Encoding, Fault, Kind, Model, Named};
 
-const INT: Encoding = Encoding {
-    encoding: 1,
-    offset: 0,
-    bits: 32,
-};
+const INT: Encoding = Encoding { encoding: 1, offset: 0, bits: 32 };
 
 /// `int`, and `struct node { int value; struct node *next; }`.
 fn nodes() -> Draft<'static> {
@@ -33,17 +29,7 @@ fn what_is_added_is_told_after_an_update() {
 #[test]
 fn all_kinds_are_added() {
     let mut draft = nodes();
-    draft
-        .float(
-            "double",
-            Encoding {
-                encoding: 2,
-                offset: 0,
-                bits: 64,
-            },
-            8,
-        )
-        .unwrap();
+    draft.float("double", Encoding { encoding: 2, offset: 0, bits: 64 }, 8).unwrap();
     draft.typedef("number", 1).unwrap();
     draft.volatile("", 1).unwrap();
     let constant = draft.constant("", 3).unwrap();
@@ -94,14 +80,8 @@ fn what_is_discarded_is_gone() {
     assert_eq!(draft.structure("gone", 0), Ok(4));
     draft.discard().unwrap();
     draft.update().unwrap();
-    assert_eq!(
-        (draft.count(), draft.get(4).unwrap_err().fault),
-        (3, Fault::NoType)
-    );
-    assert_eq!(
-        draft.member(2, "x", 1, None).unwrap_err().fault,
-        Fault::Settled
-    );
+    assert_eq!((draft.count(), draft.get(4).unwrap_err().fault), (3, Fault::NoType));
+    assert_eq!(draft.member(2, "x", 1, None).unwrap_err().fault, Fault::Settled);
     assert_eq!(draft.typedef("t", 99).unwrap_err().fault, Fault::BadRef);
 }
 

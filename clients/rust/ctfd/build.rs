@@ -21,7 +21,7 @@ fn installed(name: &str) -> Option<PathBuf> {
 
 /// The one of the clone that this crate stands in.
 fn built(name: &str) -> Option<PathBuf> {
-    let top = Path::new(&env::var_os("CARGO_MANIFEST_DIR")?).join("../..");
+    let top = Path::new(&env::var_os("CARGO_MANIFEST_DIR")?).join("../../..");
     Some(top.join("crates/ctf_c/out").join(name)).filter(|library| library.exists())
 }
 

@@ -8,7 +8,7 @@
 //! use ctfd::{Dictionary, Kind};
 //!
 //! # fn main() -> Result<(), Box<dyn std::error::Error>> {
-//! let types = Dictionary::open(&std::fs::read("../../examples/lua.ctf")?)?;
+//! let types = Dictionary::open(&std::fs::read("../../../examples/lua.ctf")?)?;
 //! let node = types.find("struct luaL_Reg")?;
 //! assert_eq!(node.kind(), Kind::Struct);
 //! assert_eq!(node.size()?, 16);

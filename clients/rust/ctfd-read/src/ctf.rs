@@ -1,0 +1,356 @@
+//! CTF of version 2: its sections, inflated, and its records as a table, behind those of a parent.
+//!
+//! A dictionary that is read here is judged by the library before it is used, so nothing is judged
+//! but that it can be read.
+
+use crate::bytes::{part, Names, Reader};
+use crate::error::{refuse, Error, Result};
+use crate::section::{LONG_MEMBERS, LONG_SIZE};
+use crate::table::{Encoding, Enumerator, Kind, Member, Name, Parts, Record, Table};
+use flate2::{Decompress, FlushDecompress, Status};
+use object::endian::Endianness;
+use std::borrow::Cow;
+
+/// The bytes of a header.
+pub const HEADER: usize = 36;
+/// The most bytes of a dictionary.
+pub const LONGEST: u64 = 67_108_864;
+/// How a little-endian dictionary of version 2 begins.
+pub const BEGINS: [u8; 3] = [0xf1, 0xcf, 2];
+/// From this number on a child's types are its own.
+const CHILD: u32 = 0x8000;
+const COMPRESSED: u8 = 1;
+const MOST_PADDING: usize = 16;
+const WHAT: &str = "dictionary";
+
+/// The sections of a dictionary that is not compressed.
+pub struct Sections<'a> {
+    /// The name of its parent's label, as a reference.
+    pub parent_label: u32,
+    /// The name of its parent, as a reference; 0 where it has none.
+    pub parent_name: u32,
+    /// Labels: a reference to a name and a type's number each.
+    pub labels: &'a [u8],
+    /// The types of objects.
+    pub objects: &'a [u8],
+    /// The entries of functions.
+    pub functions: &'a [u8],
+    /// The records of types.
+    pub types: &'a [u8],
+    /// The names.
+    pub names: &'a [u8],
+}
+
+impl<'a> Sections<'a> {
+    /// Those of a dictionary.
+    pub fn of(bytes: &'a [u8]) -> Result<Sections<'a>> {
+        let mut head = Reader::new(bytes, Endianness::Little, WHAT);
+        head.take(4)?;
+        let (parent_label, parent_name) = (head.word()?, head.word()?);
+        let mut ends = [0; 6];
+        for end in &mut ends {
+            *end = u64::from(head.word()?);
+        }
+        let body = part(bytes, HEADER as u64, (bytes.len() - HEADER) as u64, WHAT)?;
+        let between = |from: u64, to: u64| {
+            let length = to.checked_sub(from).ok_or_else(|| head.damage())?;
+            part(body, from, length, WHAT)
+        };
+        Ok(Sections {
+            parent_label,
+            parent_name,
+            labels: between(ends[0], ends[1])?,
+            objects: between(ends[1], ends[2])?,
+            functions: between(ends[2], ends[3])?,
+            types: between(ends[3], ends[4])?,
+            names: part(body, ends[4], ends[5], WHAT)?,
+        })
+    }
+}
+
+/// The dictionaries that stand behind each other in a section, as ld leaves those of object files;
+/// all of it where it is one, or none.
+pub fn each(section: &[u8]) -> Vec<&[u8]> {
+    let mut found = Vec::new();
+    let mut at = 0;
+    while section[at..].starts_with(&BEGINS) {
+        let Some(length) = length_of(&section[at..]) else {
+            found.push(&section[at..]);
+            break;
+        };
+        found.push(&section[at..at + length]);
+        at += length;
+        at += section[at..].iter().take(MOST_PADDING).take_while(|&&byte| byte == 0).count();
+    }
+    if found.len() > 1 {
+        found
+    } else {
+        vec![section]
+    }
+}
+
+/// How many bytes the dictionary at the front has; None where that is not told.
+fn length_of(bytes: &[u8]) -> Option<usize> {
+    let (names, length) = lengths(bytes)?;
+    if bytes[3] & COMPRESSED == 0 {
+        let end = HEADER as u64 + names + length;
+        return usize::try_from(end).ok().filter(|&end| end <= bytes.len());
+    }
+    let mut inflater = Decompress::new(true);
+    let mut out = vec![0; 1 << 16];
+    loop {
+        let from = &bytes[HEADER + inflater.total_in() as usize..];
+        let before = (inflater.total_in(), inflater.total_out());
+        match inflater.decompress(from, &mut out, FlushDecompress::None).ok()? {
+            Status::StreamEnd => return Some(HEADER + inflater.total_in() as usize),
+            _ if before == (inflater.total_in(), inflater.total_out()) => return None,
+            _ if inflater.total_out() > LONGEST => return None,
+            _ => {}
+        }
+    }
+}
+
+/// Where the names begin behind the header, and their length, as a header says.
+fn lengths(bytes: &[u8]) -> Option<(u64, u64)> {
+    let number = |at: usize| {
+        let bytes = bytes.get(at..at + 4)?;
+        Some(u64::from(u32::from_le_bytes([bytes[0], bytes[1], bytes[2], bytes[3]])))
+    };
+    (bytes.len() >= HEADER).then(|| Some((number(28)?, number(32)?)))?
+}
+
+/// A dictionary with its body inflated, and the flag of that cleared; one without the flag as it is.
+/// What the header says is the bound: a small body may inflate to anything.
+pub fn inflate(bytes: &[u8]) -> Result<Cow<'_, [u8]>> {
+    if bytes.len() < HEADER || bytes[3] & COMPRESSED == 0 {
+        return Ok(Cow::Borrowed(bytes));
+    }
+    let (names, length) = lengths(bytes).unwrap_or_default();
+    let wanted = names + length;
+    if HEADER as u64 + wanted > LONGEST {
+        return refuse(format!(
+            "its body inflates to {wanted} bytes, and the service takes {LONGEST} in all"
+        ));
+    }
+    let mut body = vec![0; wanted as usize + 1];
+    let mut inflater = Decompress::new(true);
+    inflater
+        .decompress(&bytes[HEADER..], &mut body, FlushDecompress::Finish)
+        .map_err(|error| Error(format!("its body does not inflate ({error}): damage")))?;
+    let count = inflater.total_out();
+    if count != wanted {
+        let said = if count > wanted { format!("more than {wanted}") } else { count.to_string() };
+        return refuse(format!(
+            "its body inflates to {said} bytes, where its header says {wanted}"
+        ));
+    }
+    body.truncate(wanted as usize);
+    let mut whole = bytes[..HEADER].to_vec();
+    whole[3] &= !COMPRESSED;
+    whole.append(&mut body);
+    Ok(Cow::Owned(whole))
+}
+
+/// The records of a section as a table: behind those of its parent; behind as many that are unknown
+/// as a parent may have, where a child's is not there. `strings` are those of its ELF file.
+pub fn table_of<'a>(
+    sections: &Sections<'a>,
+    strings: &'a [u8],
+    parent: Option<Table<'a>>,
+) -> Result<Table<'a>> {
+    let is_child = sections.parent_name != 0;
+    let mut table = Table { lacks_parent: is_child && parent.is_none(), ..Table::default() };
+    if is_child {
+        table.records = match parent {
+            Some(parent) => parent.records,
+            None => vec![Record::unknown(); CHILD as usize - 1],
+        };
+    }
+    table.bases = table.len();
+    let mut section = Section {
+        names: Names(sections.names),
+        strings: Names(strings),
+        has_outer_names: false,
+        is_child,
+        parents: table.bases,
+        types: Reader::new(sections.types, Endianness::Little, WHAT),
+    };
+    while !section.types.is_empty() {
+        let record = section.record()?;
+        table.records.push(record);
+    }
+    section.symbols(sections, &mut table)?;
+    table.has_outer_names = section.has_outer_names;
+    Ok(table)
+}
+
+/// What is known while the records of a section are read.
+struct Section<'a> {
+    names: Names<'a>,
+    strings: Names<'a>,
+    has_outer_names: bool,
+    is_child: bool,
+    parents: u32,
+    types: Reader<'a>,
+}
+
+impl<'a> Section<'a> {
+    /// What is told of symbols, and the labels. What names no type of the dictionary is none of its
+    /// entries: it is judged with the symbols alone.
+    fn symbols(&mut self, sections: &Sections<'a>, table: &mut Table<'a>) -> Result<()> {
+        let count = table.len();
+        table.objects = halves(sections.objects)
+            .map(|n| self.number(n))
+            .map(|n| if n <= count { n } else { 0 })
+            .collect();
+        table.functions = self
+            .entries(sections.functions)
+            .into_iter()
+            .map(|one| one.filter(|one| one.references().all(|n| n <= count)))
+            .collect();
+        for label in sections.labels.chunks_exact(8) {
+            let mut label = Reader::new(label, Endianness::Little, WHAT);
+            let (name, last) = (label.word()?, label.word()?);
+            let last = self.number(last as u16);
+            table.labels.push((self.name(name)?, last));
+        }
+        table.parent_name = self.name(sections.parent_name)?;
+        table.parent_label = self.name(sections.parent_label)?;
+        Ok(())
+    }
+
+    /// The entries of functions; what is left of the section may be none.
+    fn entries(&self, functions: &[u8]) -> Vec<Option<Record<'a>>> {
+        let words: Vec<u16> = halves(functions).collect();
+        let mut found = Vec::new();
+        let mut at = 0;
+        while at < words.len() {
+            let count = usize::from(words[at] & 0x3ff);
+            if words[at] == 0 {
+                found.push(None);
+                at += 1;
+                continue;
+            }
+            let Some(listed) = words.get(at + 2..at + 2 + count) else { break };
+            let mut record = Record::new(Kind::Function, Cow::Borrowed(b""));
+            record.of = self.number(words[at + 1]);
+            self.arguments(&mut record, listed);
+            found.push(Some(record));
+            at += 2 + count;
+        }
+        found
+    }
+
+    /// The arguments of a function; a 0 behind them says that more may follow.
+    fn arguments(&self, record: &mut Record<'a>, listed: &[u16]) {
+        record.varargs = listed.last() == Some(&0);
+        let listed = &listed[..listed.len() - usize::from(record.varargs)];
+        record.parts = Parts::Arguments(listed.iter().map(|&n| self.number(n)).collect());
+    }
+
+    /// A name, from the dictionary's strings or from those beside it.
+    fn name(&mut self, reference: u32) -> Result<Name<'a>> {
+        let (place, is_outer) = (reference & 0x7fff_ffff, reference >> 31 != 0);
+        if place == 0 {
+            return Ok(Cow::Borrowed(b""));
+        }
+        if is_outer && self.strings.0.is_empty() {
+            return refuse(
+                "its names stand in the strings of the ELF file that it was taken from: name that \
+                 file in place of the section",
+            );
+        }
+        self.has_outer_names |= is_outer;
+        let names = if is_outer { self.strings } else { self.names };
+        names.at(place.into()).map(Cow::Borrowed).ok_or_else(|| self.types.damage())
+    }
+
+    /// The number in the table of a type that a record names.
+    fn number(&self, n: u16) -> u32 {
+        let n = u32::from(n);
+        if self.is_child && n > CHILD {
+            n - CHILD + self.parents
+        } else {
+            n
+        }
+    }
+
+    fn record(&mut self) -> Result<Record<'a>> {
+        let (name, info, field) = (self.types.word()?, self.types.half()?, self.types.half()?);
+        let mut size = u64::from(field);
+        if size == LONG_SIZE {
+            size = u64::from(self.types.word()?) << 32 | u64::from(self.types.word()?);
+        }
+        let Some(kind) = Kind::of_number(info >> 11) else { return Err(self.types.damage()) };
+        let count = usize::from(info & 0x3ff);
+        let mut record = Record::new(kind, self.name(name)?);
+        record.root = info >> 10 & 1 != 0;
+        self.fields(&mut record, size, count)?;
+        Ok(record)
+    }
+
+    /// What a record says behind its name.
+    fn fields(&mut self, record: &mut Record<'a>, size: u64, count: usize) -> Result<()> {
+        match record.kind {
+            Kind::Integer | Kind::Float => {
+                record.size = size;
+                record.encoding = Encoding::of_word(self.types.word()?);
+            }
+            Kind::Array => {
+                record.size = size;
+                let (contents, index) = (self.types.half()?, self.types.half()?);
+                record.of = self.number(contents);
+                record.index = self.number(index);
+                record.elements = self.types.word()?.into();
+            }
+            Kind::Function => {
+                record.of = self.number(size as u16);
+                let listed = self.types.take(2 * (count + count % 2))?;
+                let listed: Vec<u16> = halves(listed).take(count).collect();
+                self.arguments(record, &listed);
+            }
+            Kind::Struct | Kind::Union => {
+                record.size = size;
+                record.parts = Parts::Members(self.members(size, count)?);
+            }
+            Kind::Enum => {
+                record.size = size;
+                record.parts = Parts::Values(self.values(count)?);
+            }
+            Kind::Forward => record.tag = Kind::of_forward(size),
+            Kind::Unknown | Kind::Atomic => {}
+            _ => record.of = self.number(size as u16),
+        }
+        Ok(())
+    }
+
+    fn members(&mut self, size: u64, count: usize) -> Result<Box<[Member<'a>]>> {
+        let mut members = Vec::new();
+        for _ in 0..count {
+            let (name, of) = (self.types.word()?, self.types.half()?);
+            let offset = if size < LONG_MEMBERS {
+                self.types.half()?.into()
+            } else {
+                self.types.half()?;
+                u64::from(self.types.word()?) << 32 | u64::from(self.types.word()?)
+            };
+            let (name, of) = (self.name(name)?, self.number(of));
+            members.push(Member { name, of, offset, width: None });
+        }
+        Ok(members.into())
+    }
+
+    fn values(&mut self, count: usize) -> Result<Box<[Enumerator<'a>]>> {
+        let mut values = Vec::new();
+        for _ in 0..count {
+            let (name, value) = (self.types.word()?, self.types.word()?);
+            values.push(Enumerator { name: self.name(name)?, value: i128::from(value as i32) });
+        }
+        Ok(values.into())
+    }
+}
+
+/// The numbers of 16 bits that some bytes are.
+fn halves(bytes: &[u8]) -> impl Iterator<Item = u16> + '_ {
+    bytes.chunks_exact(2).map(|half| u16::from_le_bytes([half[0], half[1]]))
+}

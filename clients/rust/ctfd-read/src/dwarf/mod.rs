@@ -1,0 +1,5 @@
+//! Debug information in DWARF, of versions 2 to 5.
+
+pub mod sections;
+pub mod types;
+pub mod units;

@@ -1,0 +1,238 @@
+//! The sections of debug information: of a program, of the common file that dwz made, and of the
+//! .dwo files, or the packages of these, that `-gsplit-dwarf` leaves the greater part in.
+
+use crate::dwarf::units::Slice;
+use crate::elf;
+use crate::error::{refuse, Result};
+use crate::image::Image;
+use gimli::{constants as dw, SectionId, UnitHeader, UnitType};
+use gimli::{AttributeValue, DwarfFileType, DwarfPackage, DwoId, EndianSlice, LittleEndian};
+use std::borrow::Cow;
+use std::collections::HashMap;
+use std::path::{Path, PathBuf};
+
+/// The sections of a file, borrow_all where they are not compressed.
+pub type OwnedSections<'a> = gimli::Dwarf<Cow<'a, [u8]>>;
+
+/// A unit that stands for another in a .dwo file has one entry: longer ones are none.
+const LONGEST_SKELETON: usize = 4096;
+
+/// The sections of a program, of dwz's common file if there is one, and of .dwo files.
+pub struct Sections<'a> {
+    /// Those of the program.
+    pub main: OwnedSections<'a>,
+    /// Those of dwz's common file.
+    pub common: Option<OwnedSections<'a>>,
+    /// Those of .dwo files and packages.
+    pub splits: Vec<Split>,
+    /// By the offset of a unit that stands for another, which that is.
+    pub skeletons: HashMap<u64, Skeleton>,
+}
+
+/// A unit that stands for one in a .dwo file.
+pub struct Skeleton {
+    /// The place of the file among all.
+    pub split: usize,
+    /// What tells the unit in it.
+    pub id: DwoId,
+    /// The name of the file, as the unit has it.
+    pub name: String,
+}
+
+/// A .dwo file, or a package of such.
+pub struct Split {
+    /// Where it is.
+    pub path: PathBuf,
+    data: HashMap<&'static str, Vec<u8>>,
+    is_package: bool,
+}
+
+/// The sections as gimli reads them.
+pub fn borrow_all<'a>(sections: &'a OwnedSections<'a>) -> gimli::Dwarf<Slice<'a>> {
+    sections.borrow(|section: &'a Cow<'a, [u8]>| EndianSlice::new(section, LittleEndian))
+}
+
+impl<'a> Sections<'a> {
+    /// Those of a file, and of the others that it names: dwz's, which is looked for beside it and in
+    /// some folders, and .dwo files.
+    pub fn load(image: &'a Image, folders: &[PathBuf]) -> Result<Self> {
+        let file = image.elf()?;
+        let main = gimli::Dwarf::load(|id: SectionId| elf::section(&file, id.name()))?;
+        let mut sections =
+            Sections { main, common: None, splits: Vec::new(), skeletons: HashMap::new() };
+        if let Some(common) = elf::alternate_file(image, folders)? {
+            let file = common.elf()?;
+            let owned = |id: SectionId| -> Result<Cow<'a, [u8]>> {
+                Ok(Cow::Owned(elf::section(&file, id.name())?.into_owned()))
+            };
+            sections.common = Some(gimli::Dwarf::load(owned)?);
+        }
+        let named = skeletons(&borrow_all(&sections.main))?;
+        let mut places: HashMap<PathBuf, usize> = HashMap::new();
+        for (start, one) in named {
+            let split = sections.split_of(image, &one, &mut places)?;
+            sections.skeletons.insert(start, Skeleton { split, id: one.id, name: one.name });
+        }
+        Ok(sections)
+    }
+
+    /// The place of the .dwo file of a unit, or of the package that has it.
+    fn split_of(
+        &mut self,
+        image: &Image,
+        named: &Named,
+        places: &mut HashMap<PathBuf, usize>,
+    ) -> Result<usize> {
+        let beside = image.path().canonicalize()?;
+        let beside = beside.parent().unwrap_or(Path::new("/")).to_owned();
+        let name = Path::new(&named.name);
+        let mut package = image.path().as_os_str().to_owned();
+        package.push(".dwp");
+        let bare = name.file_name().unwrap_or_default();
+        let folder = Path::new(&named.folder);
+        let mut tried =
+            vec![folder.join(name), beside.join(name), beside.join(bare), PathBuf::from(package)];
+        tried.dedup();
+        for path in &tried {
+            if let Some(&place) = places.get(path) {
+                return Ok(place);
+            }
+            if let Some(split) = Split::load(path)? {
+                let place = self.splits.len();
+                self.splits.push(split);
+                places.insert(path.clone(), place);
+                return Ok(place);
+            }
+        }
+        let tried: Vec<String> = tried.iter().map(|path| path.display().to_string()).collect();
+        refuse(format!(
+            "its debug information is in .dwo files (-gsplit-dwarf), and there is none at {}",
+            tried.join(" or ")
+        ))
+    }
+}
+
+/// What a unit says of the .dwo file that it stands for.
+struct Named {
+    name: String,
+    folder: String,
+    id: DwoId,
+}
+
+/// The units of a program that stand for others, by their offsets.
+fn skeletons(dwarf: &gimli::Dwarf<Slice<'_>>) -> Result<Vec<(u64, Named)>> {
+    let mut found = Vec::new();
+    let mut units = dwarf.units();
+    while let Some(header) = units.next()? {
+        let is_likely = match header.type_() {
+            UnitType::Skeleton(_) => true,
+            UnitType::Compilation => {
+                header.version() < 5 && header.length_including_self() <= LONGEST_SKELETON
+            }
+            _ => false,
+        };
+        if !is_likely {
+            continue;
+        }
+        let unit = dwarf.unit(header)?;
+        let mut entries = unit.entries();
+        let Some((_, top)) = entries.next_dfs()? else { continue };
+        let text = |name| -> Result<Option<String>> {
+            let Some(value) = top.attr_value(name)? else { return Ok(None) };
+            let text = dwarf.attr_string(&unit, value)?;
+            Ok(Some(String::from_utf8_lossy(text.slice()).into_owned()))
+        };
+        let name = match text(dw::DW_AT_dwo_name)? {
+            Some(name) => Some(name),
+            None => text(dw::DW_AT_GNU_dwo_name)?,
+        };
+        let Some((name, id)) = name.zip(dwo_id(dwarf, &header)?) else { continue };
+        let folder = text(dw::DW_AT_comp_dir)?.unwrap_or_default();
+        let start = header.offset().as_debug_info_offset().map_or(0, |at| at.0 as u64);
+        found.push((start, Named { name, folder, id }));
+    }
+    Ok(found)
+}
+
+/// What tells a unit that is divided: its header has it, or, before DWARF 5, its entry.
+pub fn dwo_id<'a>(
+    dwarf: &gimli::Dwarf<Slice<'a>>,
+    header: &UnitHeader<Slice<'a>>,
+) -> Result<Option<DwoId>> {
+    match header.type_() {
+        UnitType::Skeleton(id) | UnitType::SplitCompilation(id) => return Ok(Some(id)),
+        _ if header.version() >= 5 => return Ok(None),
+        _ => {}
+    }
+    let unit = dwarf.unit(*header)?;
+    let mut entries = unit.entries();
+    let Some((_, top)) = entries.next_dfs()? else { return Ok(None) };
+    Ok(match top.attr_value(dw::DW_AT_GNU_dwo_id)? {
+        Some(AttributeValue::DwoId(id)) => Some(id),
+        _ => None,
+    })
+}
+
+/// The sections of .dwo files that are read.
+const SPLIT: [SectionId; 13] = [
+    SectionId::DebugAbbrev,
+    SectionId::DebugCuIndex,
+    SectionId::DebugInfo,
+    SectionId::DebugLine,
+    SectionId::DebugLoc,
+    SectionId::DebugLocLists,
+    SectionId::DebugMacinfo,
+    SectionId::DebugMacro,
+    SectionId::DebugRngLists,
+    SectionId::DebugStr,
+    SectionId::DebugStrOffsets,
+    SectionId::DebugTuIndex,
+    SectionId::DebugTypes,
+];
+
+impl Split {
+    /// The sections of a file that another names; None where it is not there, or is no ELF file.
+    fn load(path: &Path) -> Result<Option<Split>> {
+        let Some(image) = Image::linked(path) else { return Ok(None) };
+        let Ok(file) = image.elf() else { return Ok(None) };
+        let mut data = HashMap::new();
+        for id in SPLIT {
+            if let Some(name) = id.dwo_name() {
+                data.insert(name, elf::section(&file, name)?.into_owned());
+            }
+        }
+        let is_package = data.get(".debug_cu_index").is_some_and(|index| !index.is_empty());
+        Ok(Some(Split { path: path.to_owned(), data, is_package }))
+    }
+
+    fn section(&self, id: SectionId) -> gimli::Result<Slice<'_>> {
+        let data = id.dwo_name().and_then(|name| self.data.get(name));
+        Ok(EndianSlice::new(data.map_or(&[][..], Vec::as_slice), LittleEndian))
+    }
+
+    /// The parts of it that a unit is in: all of a .dwo file; of a package the unit's own, and with
+    /// the first unit all type units.
+    pub fn parts<'a>(
+        &'a self,
+        main: &gimli::Dwarf<Slice<'a>>,
+        id: DwoId,
+        has_types: bool,
+    ) -> Result<Vec<gimli::Dwarf<Slice<'a>>>> {
+        if !self.is_package {
+            let mut dwarf = gimli::Dwarf::load(|id| self.section(id))?;
+            dwarf.file_type = DwarfFileType::Dwo;
+            dwarf.debug_addr = main.debug_addr;
+            dwarf.ranges.set_debug_ranges(*main.ranges.debug_ranges());
+            return Ok(vec![dwarf]);
+        }
+        let empty = EndianSlice::new(&[], LittleEndian);
+        let package = DwarfPackage::load(|id| self.section(id), empty)?;
+        let mut parts: Vec<_> = package.find_cu(id, main)?.into_iter().collect();
+        if has_types {
+            for row in 1..=package.tu_index.unit_count() {
+                parts.push(package.tu_sections(row, main)?);
+            }
+        }
+        Ok(parts)
+    }
+}

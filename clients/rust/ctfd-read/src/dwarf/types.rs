@@ -1,0 +1,704 @@
+//! The types of C in a program's debug information, as a table.
+
+use crate::descriptions::{Description, Descriptions, Statement, SymbolFilter};
+use crate::dwarf::units::{scopes, Debug, Entry, Scope, Unit};
+use crate::error::{refuse, Result};
+use crate::join::{Joiner, NumberHasher, Piece};
+use crate::symbols::{Symbol, Symbols};
+use crate::table::{Encoding, Enumerator, Kind, Member, Parts, Record, Table};
+use gimli::{constants as dw, DwLang, DwTag, LittleEndian, Reader as _, UnitOffset};
+use rayon::prelude::*;
+use std::borrow::Cow;
+use std::collections::{BTreeMap, HashMap, HashSet};
+use std::hash::BuildHasherDefault;
+
+/// A declaration, an abstract function and a copy of it are three; damage may lead round.
+const LONGEST_CHAIN: usize = 16;
+const LONGEST_TYPE: usize = 512;
+/// How many units are read before they are joined.
+const AT_ONCE: usize = 64;
+
+const SIGNED: u8 = 1;
+const CHARACTER: u8 = 2;
+const BOOLEAN: u8 = 4;
+
+/// What one unit tells.
+#[derive(Default)]
+struct UnitTypes<'a> {
+    records: Vec<Record<'a>>,
+    roots: Vec<u32>,
+    told: Vec<Statement<'a>>,
+    losses: Vec<String>,
+}
+
+enum Outcome<'a> {
+    OfC(Piece<'a>, UnitTypes<'a>),
+    Foreign(DwLang),
+    Nothing,
+}
+
+/// What all units told so far.
+#[derive(Default)]
+pub struct Collector<'a> {
+    joiner: Joiner<'a>,
+    symbols: Descriptions<'a>,
+    roots: Vec<u32>,
+    losses: Vec<String>,
+    units: usize,
+    foreign: BTreeMap<String, usize>,
+}
+
+impl<'a> Collector<'a> {
+    /// Reads all units of a program: many at a time, joined one after the other in their order.
+    pub fn read(&mut self, debug: &Debug<'a>, wanted: &[Symbol<'a>], is_ilp32: bool) -> Result<()> {
+        let filter = SymbolFilter::new(wanted);
+        let imports = imports(debug)?;
+        let read = |number: usize| read_unit(debug, number, &filter, &imports, is_ilp32);
+        let numbers: Vec<usize> = (0..debug.units()).collect();
+        let mut ready: Vec<Result<Outcome>> = Vec::new();
+        for some in numbers.chunks(AT_ONCE).chain([&[][..]]) {
+            let before = std::mem::take(&mut ready);
+            let (next, joined) = rayon::join(
+                || some.par_iter().map(|&number| read(number)).collect(),
+                || before.into_iter().try_for_each(|one| one.map(|one| self.take(one))),
+            );
+            joined?;
+            ready = next;
+        }
+        Ok(())
+    }
+
+    fn take(&mut self, outcome: Outcome<'a>) {
+        match outcome {
+            Outcome::Nothing => {}
+            Outcome::Foreign(language) => {
+                *self.foreign.entry(language_name(language)).or_default() += 1;
+            }
+            Outcome::OfC(piece, unit_types) => {
+                self.units += 1;
+                let to = self.joiner.join(piece);
+                self.roots.extend(unit_types.roots.iter().map(|&n| to[n as usize]));
+                self.losses.extend(unit_types.losses);
+                for mut told in unit_types.told {
+                    told.said.of = to[told.said.of as usize];
+                    if let Some(function) = &mut told.said.function {
+                        function.renumber(|n| to[n as usize]);
+                    }
+                    self.symbols.tell(told);
+                }
+            }
+        }
+    }
+
+    /// The table, with what is told of symbols, and the types that are wanted for themselves.
+    pub fn finish(
+        self,
+        wanted: &Symbols<'_>,
+        is_linked: bool,
+        is_ilp32: bool,
+    ) -> Result<(Table<'a>, Vec<u32>)> {
+        let described = |(name, units): (&String, &usize)| match units {
+            1 => format!("1 unit in {name}"),
+            _ => format!("{units} units in {name}"),
+        };
+        let listed: Vec<String> = self.foreign.iter().map(described).collect();
+        if self.units == 0 && !listed.is_empty() {
+            let listed = listed.join(" and ");
+            return refuse(format!(
+                "its debug information is of {listed}: types of C alone are read"
+            ));
+        }
+        let mut table = self.joiner.table;
+        for one in &wanted.listed {
+            let said = self.symbols.description_of(one, is_linked);
+            if one.is_function {
+                table.functions.push(said.and_then(|said| said.function.clone()));
+            } else {
+                table.objects.push(said.map_or(0, |said| said.of));
+            }
+        }
+        table.is_ilp32 = is_ilp32;
+        table.losses = self.losses;
+        table.losses.extend(listed.iter().map(|one| {
+            format!("{one} of the program: types of C alone are read; what it tells is left out")
+        }));
+        Ok((table, self.roots))
+    }
+}
+
+/// What a unit tells, and the units that it imports.
+fn read_unit<'a>(
+    debug: &Debug<'a>,
+    number: usize,
+    filter: &SymbolFilter<'_>,
+    imports: &HashMap<u64, Vec<u64>>,
+    is_ilp32: bool,
+) -> Result<Outcome<'a>> {
+    let unit = debug.open(number)?;
+    let top = Entry::top(&unit)?;
+    if top.tag == dw::DW_TAG_partial_unit {
+        return Ok(Outcome::Nothing);
+    }
+    match top.constant(dw::DW_AT_language).map(|said| DwLang(said as u16)) {
+        Some(dw::DW_LANG_Mips_Assembler | DwLang(0x31)) => return Ok(Outcome::Nothing),
+        Some(language) if !is_of_c(language) => return Ok(Outcome::Foreign(language)),
+        _ => {}
+    }
+    let mut reader = Reader::new(debug, filter, is_ilp32);
+    reader.unit(&unit)?;
+    for &key in imports.get(&debug.start(number)).into_iter().flatten() {
+        reader.unit(debug.unit_of(key)?)?;
+    }
+    let mut unit_types = reader.unit_types;
+    Ok(Outcome::OfC(Piece::new(std::mem::take(&mut unit_types.records)), unit_types))
+}
+
+/// For each unit those that dwz made of what several have in common, and that it imports first.
+fn imports(debug: &Debug<'_>) -> Result<HashMap<u64, Vec<u64>>> {
+    let numbers = 0..debug.units();
+    let mut made = HashMap::new();
+    let is_partial = |number: usize| -> Result<bool> {
+        if debug.version(number) >= 5 {
+            return Ok(debug.is_partial(number));
+        }
+        let unit = debug.open(number)?;
+        let top = Entry::top(&unit)?;
+        Ok(top.tag == dw::DW_TAG_partial_unit)
+    };
+    let partial: Vec<bool> =
+        numbers.clone().into_par_iter().map(is_partial).collect::<Result<_>>()?;
+    if !debug.has_common() && !partial.contains(&true) {
+        return Ok(made);
+    }
+    let whole = numbers.into_par_iter().filter(|&number| !partial[number]);
+    let listed: Vec<(u64, Vec<u64>)> = whole
+        .map(|number| Ok((debug.start(number), imported_units(debug, &debug.open(number)?)?)))
+        .collect::<Result<_>>()?;
+    let mut met = HashSet::new();
+    for (start, named_by) in listed {
+        let mut own = Vec::new();
+        let mut todo: Vec<u64> = named_by.into_iter().filter(|&key| met.insert(key)).collect();
+        while let Some(key) = todo.pop() {
+            own.push(key);
+            todo.extend(
+                imported_units(debug, debug.unit_of(key)?)?.into_iter().filter(|&k| met.insert(k)),
+            );
+        }
+        made.insert(start, own);
+    }
+    Ok(made)
+}
+
+/// The units that one imports.
+fn imported_units<'a>(debug: &Debug<'a>, unit: &Unit<'a>) -> Result<Vec<u64>> {
+    let mut made = Vec::new();
+    let top = Entry::top(unit)?;
+    for one in top.children()?.iter().filter(|one| one.tag == dw::DW_TAG_imported_unit) {
+        if let Some(key) = debug.key(one, dw::DW_AT_import)? {
+            made.push(debug.unit_of(key)?.start);
+        }
+    }
+    Ok(made)
+}
+
+fn is_of_c(language: DwLang) -> bool {
+    const C17: DwLang = DwLang(0x2c);
+    const C23: DwLang = DwLang(0x3e);
+    matches!(
+        language,
+        dw::DW_LANG_C89
+            | dw::DW_LANG_C
+            | dw::DW_LANG_C99
+            | dw::DW_LANG_UPC
+            | dw::DW_LANG_C11
+            | C17
+            | C23
+    )
+}
+
+/// How a language is called.
+fn language_name(language: DwLang) -> String {
+    let name = match language.0 {
+        0x04 | 0x1a | 0x21 | 0x2b => "C++",
+        0x1c => "Rust",
+        0x16 => "Go",
+        0x13 => "D",
+        0x03 | 0x0d | 0x2e | 0x2f => "Ada",
+        0x07 | 0x08 | 0x0e | 0x22 | 0x23 => "Fortran",
+        0x09 => "Pascal",
+        0x10 => "Objective-C",
+        0x11 => "Objective-C++",
+        0x1e => "Swift",
+        0x0b => "Java",
+        0x0a => "Modula-2",
+        0x17 => "Modula-3",
+        other => return format!("language 0x{other:x}"),
+    };
+    name.to_owned()
+}
+
+/// Reads one unit, with those that it imports. An entry has a number from when it is first named.
+struct Reader<'d, 'a> {
+    debug: &'d Debug<'a>,
+    asked: &'d SymbolFilter<'d>,
+    is_ilp32: bool,
+    unit_types: UnitTypes<'a>,
+    numbers: HashMap<u64, u32, BuildHasherDefault<NumberHasher>>,
+    todo: Vec<(&'d Unit<'a>, UnitOffset, u32)>,
+    index: u32,
+}
+
+impl<'d, 'a> Reader<'d, 'a> {
+    fn new(debug: &'d Debug<'a>, asked: &'d SymbolFilter<'d>, is_ilp32: bool) -> Reader<'d, 'a> {
+        Reader {
+            debug,
+            asked,
+            is_ilp32,
+            unit_types: UnitTypes::default(),
+            numbers: HashMap::default(),
+            todo: Vec::new(),
+            index: 0,
+        }
+    }
+
+    /// The types, functions and objects in a unit and in its functions.
+    fn unit(&mut self, unit: &'d Unit<'a>) -> Result<()> {
+        let scopes = scopes(unit)?;
+        for &(offset, tag) in scopes.iter().flat_map(|scope| &scope.entries) {
+            match tag {
+                dw::DW_TAG_variable => self.variable(Entry::read(unit, offset)?)?,
+                dw::DW_TAG_subprogram => {
+                    self.subprogram(Entry::read(unit, offset)?, &scopes)?;
+                }
+                dw::DW_TAG_formal_parameter
+                | dw::DW_TAG_unspecified_parameters
+                | dw::DW_TAG_imported_unit => {}
+                _ => {
+                    let root = self.number(unit, offset);
+                    self.unit_types.roots.push(root);
+                }
+            }
+        }
+        self.finish()
+    }
+
+    /// Reads all that was named and not read yet.
+    fn finish(&mut self) -> Result<()> {
+        while let Some((unit, offset, number)) = self.todo.pop() {
+            let record = self.record(Entry::read(unit, offset)?)?;
+            self.unit_types.records[number as usize - 1] = record;
+        }
+        Ok(())
+    }
+
+    fn add(&mut self, record: Record<'a>) -> u32 {
+        self.unit_types.records.push(record);
+        self.unit_types.records.len() as u32
+    }
+
+    fn number(&mut self, unit: &'d Unit<'a>, offset: UnitOffset) -> u32 {
+        let key = unit.key(offset);
+        if let Some(&known) = self.numbers.get(&key) {
+            return known;
+        }
+        let made = self.add(Record::unknown());
+        self.numbers.insert(key, made);
+        self.todo.push((unit, offset, made));
+        made
+    }
+
+    /// The number of the type that an entry names; 0 where it names none.
+    fn of(&mut self, entry: &Entry<'d, 'a>) -> Result<u32> {
+        let Some(key) = self.debug.key(entry, dw::DW_AT_type)? else { return Ok(0) };
+        if let Some(&known) = self.numbers.get(&key) {
+            return Ok(known);
+        }
+        let unit = if entry.unit.has(key) { entry.unit } else { self.debug.unit_of(key)? };
+        Ok(self.number(unit, UnitOffset((key - unit.start) as usize)))
+    }
+
+    fn record(&mut self, mut entry: Entry<'d, 'a>) -> Result<Record<'a>> {
+        if let Some(target) = self.debug.target(&entry, dw::DW_AT_signature)? {
+            entry = target;
+        }
+        let kind = kind(entry.tag);
+        let name = self.debug.name(&entry)?;
+        let mut made = Record::new(kind, name);
+        match kind {
+            Kind::Struct | Kind::Union | Kind::Enum if entry.has(dw::DW_AT_declaration) => {
+                made.kind = Kind::Forward;
+            }
+            Kind::Struct | Kind::Union => {
+                made.size = size(&entry)?.unwrap_or(0);
+                made.parts = Parts::Members(self.members(&entry)?);
+            }
+            Kind::Enum => {
+                made.size = size(&entry)?.unwrap_or(0);
+                made.parts = Parts::Values(self.enumerators(&entry)?);
+            }
+            Kind::Integer => base(&entry, &mut made)?,
+            Kind::Array => return self.array(&entry),
+            Kind::Function => return self.function(&entry.children()?, &entry),
+            Kind::Unknown if entry.tag == dw::DW_TAG_unspecified_type => {}
+            Kind::Unknown => self.lost_tag(&entry, &made),
+            _ => {
+                if kind != Kind::Typedef {
+                    made.name = Cow::Borrowed(b"");
+                }
+                made.of = self.of(&entry)?;
+            }
+        }
+        Ok(made)
+    }
+
+    fn members(&mut self, entry: &Entry<'d, 'a>) -> Result<Box<[Member<'a>]>> {
+        let mut made = Vec::new();
+        for one in entry.children()? {
+            if one.tag != dw::DW_TAG_member || one.has(dw::DW_AT_external) {
+                continue;
+            }
+            let name = self.debug.name(&one)?;
+            let width = one.constant(dw::DW_AT_bit_size).map(natural).transpose()?;
+            let of = self.of(&one)?;
+            let offset = natural(self.offset(entry, &one, width)?)?;
+            made.push(Member { name, of, offset, width });
+        }
+        Ok(made.into())
+    }
+
+    /// Where a member begins, in bits.
+    fn offset(
+        &self,
+        whole: &Entry<'d, 'a>,
+        member: &Entry<'d, 'a>,
+        width: Option<u64>,
+    ) -> Result<i128> {
+        if let Some(bits) = member.constant(dw::DW_AT_data_bit_offset) {
+            return Ok(bits);
+        }
+        let begins = 8 * location(member)?;
+        // gcc says a wrong DW_AT_bit_offset in a union where the type is less aligned.
+        let from_the_left = member.constant(dw::DW_AT_bit_offset);
+        match (from_the_left, width) {
+            (Some(left), Some(width)) if whole.tag != dw::DW_TAG_union_type => {
+                let size = match member.constant(dw::DW_AT_byte_size) {
+                    Some(size) if size != 0 => size,
+                    _ => self.size_of(member)?,
+                };
+                Ok(begins + 8 * size - left - i128::from(width))
+            }
+            _ => Ok(begins),
+        }
+    }
+
+    /// The bytes of what an entry has as its type.
+    fn size_of(&self, entry: &Entry<'d, 'a>) -> Result<i128> {
+        let mut next = self.debug.target(entry, dw::DW_AT_type)?;
+        for _ in 0..LONGEST_TYPE {
+            let Some(one) = next else { break };
+            if let Some(size) = one.constant(dw::DW_AT_byte_size) {
+                return Ok(size);
+            }
+            next = self.debug.target(&one, dw::DW_AT_type)?;
+        }
+        Ok(0)
+    }
+
+    fn enumerators(&self, entry: &Entry<'d, 'a>) -> Result<Box<[Enumerator<'a>]>> {
+        let mut made = Vec::new();
+        for one in entry.children()? {
+            if one.tag == dw::DW_TAG_enumerator {
+                let value = one.constant(dw::DW_AT_const_value).unwrap_or(0);
+                made.push(Enumerator { name: self.debug.name(&one)?, value });
+            }
+        }
+        Ok(made.into())
+    }
+
+    /// An array, the outermost of several dimensions; the others get numbers here.
+    fn array(&mut self, entry: &Entry<'d, 'a>) -> Result<Record<'a>> {
+        if entry.has(dw::DW_AT_GNU_vector) {
+            self.lost("a vector: CTF has none; an array of its elements stands in its place");
+        }
+        let mut ranges = entry.children()?;
+        ranges.retain(|one| one.tag == dw::DW_TAG_subrange_type);
+        let mut made = Record::new(Kind::Array, Cow::Borrowed(b""));
+        made.of = self.of(entry)?;
+        made.index = self.index(ranges.last())?;
+        made.elements = ranges.last().map_or(Ok(0), |one| self.count(one))?;
+        for one in ranges.iter().rev().skip(1) {
+            let inner = self.add(made);
+            made = Record::new(Kind::Array, Cow::Borrowed(b""));
+            made.of = inner;
+            made.index = self.index(Some(one))?;
+            made.elements = self.count(one)?;
+        }
+        Ok(made)
+    }
+
+    /// The type by which an array is indexed; without one it is the type of sizes.
+    fn index(&mut self, range: Option<&Entry<'d, 'a>>) -> Result<u32> {
+        let found = range.map_or(Ok(0), |one| self.of(one))?;
+        if found != 0 {
+            return Ok(found);
+        }
+        if self.index == 0 {
+            let (size, name): (u64, &[u8]) =
+                if self.is_ilp32 { (4, b"unsigned int") } else { (8, b"long unsigned int") };
+            let mut made = Record::new(Kind::Integer, Cow::Borrowed(name));
+            made.size = size;
+            made.encoding.bits = 8 * size;
+            self.index = self.add(made);
+        }
+        Ok(self.index)
+    }
+
+    /// How many elements a dimension has; 0 where that is not said.
+    fn count(&mut self, dimension: &Entry<'d, 'a>) -> Result<u64> {
+        for (name, more) in [(dw::DW_AT_count, 0), (dw::DW_AT_upper_bound, 1)] {
+            if !dimension.has(name) {
+                continue;
+            }
+            let Some(value) = dimension.constant(name) else {
+                self.lost(
+                    "an array whose length is known only as the program runs: CTF has none; its \
+                     count is 0",
+                );
+                return Ok(0);
+            };
+            let is_none = value == -1
+                || value == i128::from(u64::MAX)
+                || self.is_ilp32 && value == i128::from(u32::MAX);
+            return if more == 1 && is_none { Ok(0) } else { natural(value + more) };
+        }
+        Ok(0)
+    }
+
+    /// What a function takes, which stands in its parts, and returns.
+    fn function(&mut self, parts: &[Entry<'d, 'a>], of: &Entry<'d, 'a>) -> Result<Record<'a>> {
+        let mut made = Record::new(Kind::Function, Cow::Borrowed(b""));
+        made.of = self.of(of)?;
+        let mut arguments = Vec::new();
+        for one in parts {
+            match one.tag {
+                dw::DW_TAG_formal_parameter => arguments.push(self.argument(one)?),
+                dw::DW_TAG_unspecified_parameters => made.varargs = true,
+                _ => {}
+            }
+        }
+        made.parts = Parts::Arguments(arguments.into());
+        Ok(made)
+    }
+
+    /// The type of an argument, which an entry of its declaration may say.
+    fn argument(&mut self, entry: &Entry<'d, 'a>) -> Result<u32> {
+        let mut found = None;
+        for _ in 0..LONGEST_CHAIN {
+            let one = found.as_ref().unwrap_or(entry);
+            if one.has(dw::DW_AT_type) {
+                break;
+            }
+            match self.debug.target(one, dw::DW_AT_abstract_origin)? {
+                Some(next) => found = Some(next),
+                None => break,
+            }
+        }
+        self.of(found.as_ref().unwrap_or(entry))
+    }
+
+    fn lost_tag(&mut self, entry: &Entry<'d, 'a>, record: &Record<'a>) {
+        let name = String::from_utf8_lossy(&record.name);
+        let name = if name.is_empty() { String::new() } else { format!(" {name}") };
+        self.lost(&format!(
+            "a type{name} of tag 0x{:x} in the debug information, which is none of C: an unknown \
+             type stands in its place",
+            entry.tag.0
+        ));
+    }
+
+    fn lost(&mut self, line: &str) {
+        self.unit_types.losses.push(line.to_owned());
+    }
+
+    // Symbols.
+
+    fn variable(&mut self, entry: Entry<'d, 'a>) -> Result<()> {
+        let place = self.place(&entry);
+        let is_whole = entry.has(dw::DW_AT_location); // of a thread's own too, without an address
+        let is_seen = entry.has(dw::DW_AT_external) || entry.has(dw::DW_AT_specification);
+        if !is_whole && !is_seen {
+            return Ok(());
+        }
+        let chain = self.chain(entry)?;
+        let is_external = chain.iter().any(|one| one.has(dw::DW_AT_external));
+        if place.is_none() && !is_external {
+            return Ok(());
+        }
+        let name = self.name_in(&chain)?;
+        if self.asked.has(&name, place) {
+            let of = type_source(&chain).map_or(Ok(0), |one| self.of(one))?;
+            let said = Description { of, function: None, is_whole };
+            let is_own = place.is_some() && !is_external;
+            self.unit_types.told.push(Statement { name, place, said, others: Vec::new(), is_own });
+        }
+        Ok(())
+    }
+
+    /// The address of an object.
+    fn place(&self, entry: &Entry<'d, 'a>) -> Option<u64> {
+        let said = entry.block(dw::DW_AT_location)?;
+        let mut rest = gimli::EndianSlice::new(said.get(1..)?, LittleEndian);
+        match dw::DwOp(said[0]) {
+            dw::DW_OP_addr => rest.read_address(entry.unit.inner.encoding().address_size).ok(),
+            dw::DW_OP_addrx | dw::DW_OP_GNU_addr_index => {
+                let index = gimli::DebugAddrIndex(rest.read_uleb128().ok()? as usize);
+                self.debug.address(entry, gimli::AttributeValue::DebugAddrIndex(index))
+            }
+            _ => None,
+        }
+    }
+
+    fn subprogram(&mut self, entry: Entry<'d, 'a>, scopes: &[Scope]) -> Result<()> {
+        let mut starts = self.debug.starts(&entry)?.into_iter();
+        let place = starts.next();
+        let chain = self.chain(entry)?;
+        let is_external = chain.iter().any(|one| one.has(dw::DW_AT_external));
+        if place.is_none() && !is_external {
+            return Ok(());
+        }
+        let name = self.name_in(&chain)?;
+        if !self.asked.has(&name, place) {
+            return Ok(());
+        }
+        let is_copy = |one: &&Entry<'d, 'a>| !one.has(dw::DW_AT_abstract_origin);
+        let own = chain.iter().find(is_copy).unwrap_or(&chain[chain.len() - 1]);
+        let own_scope = scopes.binary_search_by_key(&own.offset, |scope| scope.offset);
+        let parts = match own_scope {
+            Ok(scope) if std::ptr::eq(own.unit, chain[0].unit) => scopes[scope]
+                .entries
+                .iter()
+                .filter(|(_, tag)| is_argument(*tag))
+                .map(|&(offset, _)| Entry::read(own.unit, offset))
+                .collect::<Result<_>>()?,
+            _ => own.children()?,
+        };
+        let function = self.function(&parts, type_source(&chain).unwrap_or(own))?;
+        let said = Description { of: 0, function: Some(function), is_whole: place.is_some() };
+        let is_own = place.is_some() && !is_external;
+        self.unit_types.told.push(Statement {
+            name,
+            place,
+            said,
+            others: starts.collect(),
+            is_own,
+        });
+        Ok(())
+    }
+
+    /// An entry of a function or object, and those that say what it does not: the declaration of a
+    /// definition, and what a copy of an inlined function is a copy of.
+    fn chain(&self, entry: Entry<'d, 'a>) -> Result<Vec<Entry<'d, 'a>>> {
+        let mut made = vec![entry];
+        for _ in 0..LONGEST_CHAIN {
+            let last = &made[made.len() - 1];
+            let more = match self.debug.target(last, dw::DW_AT_abstract_origin)? {
+                None => self.debug.target(last, dw::DW_AT_specification)?,
+                found => found,
+            };
+            match more {
+                Some(more) => made.push(more),
+                None => return Ok(made),
+            }
+        }
+        refuse("its debug information is damaged: its entries lead round")
+    }
+
+    /// The name of the first entry that has one.
+    fn name_in(&self, chain: &[Entry<'d, 'a>]) -> Result<Cow<'a, [u8]>> {
+        match chain.iter().find(|one| one.has(dw::DW_AT_name)) {
+            Some(one) => self.debug.name(one),
+            None => Ok(Cow::Borrowed(b"")),
+        }
+    }
+}
+
+/// The entry that says the type of a function or object: a definition before what declares it,
+/// which may lack the length of an array.
+fn type_source<'e, 'd, 'a>(chain: &'e [Entry<'d, 'a>]) -> Option<&'e Entry<'d, 'a>> {
+    chain.iter().find(|one| one.has(dw::DW_AT_type))
+}
+
+fn is_argument(tag: DwTag) -> bool {
+    tag == dw::DW_TAG_formal_parameter || tag == dw::DW_TAG_unspecified_parameters
+}
+
+fn kind(tag: DwTag) -> Kind {
+    match tag {
+        dw::DW_TAG_structure_type | dw::DW_TAG_class_type => Kind::Struct,
+        dw::DW_TAG_union_type => Kind::Union,
+        dw::DW_TAG_enumeration_type => Kind::Enum,
+        // gcc writes references in C too: what a block of OpenMP is handed.
+        dw::DW_TAG_pointer_type | dw::DW_TAG_reference_type | dw::DW_TAG_rvalue_reference_type => {
+            Kind::Pointer
+        }
+        dw::DW_TAG_typedef => Kind::Typedef,
+        dw::DW_TAG_const_type => Kind::Const,
+        dw::DW_TAG_volatile_type => Kind::Volatile,
+        dw::DW_TAG_restrict_type => Kind::Restrict,
+        dw::DW_TAG_atomic_type => Kind::Atomic,
+        dw::DW_TAG_base_type => Kind::Integer,
+        dw::DW_TAG_array_type => Kind::Array,
+        dw::DW_TAG_subroutine_type => Kind::Function,
+        _ => Kind::Unknown,
+    }
+}
+
+/// A number that no damage made negative or too large.
+fn natural(value: i128) -> Result<u64> {
+    match u64::try_from(value) {
+        Ok(value) if value < 1 << 63 => Ok(value),
+        _ => refuse("a type has a place or a size that no type of C has: damage"),
+    }
+}
+
+fn size(entry: &Entry<'_, '_>) -> Result<Option<u64>> {
+    entry.constant(dw::DW_AT_byte_size).map(natural).transpose()
+}
+
+fn base(entry: &Entry<'_, '_>, made: &mut Record<'_>) -> Result<()> {
+    made.size = size(entry)?.unwrap_or(0);
+    let bits = entry.constant(dw::DW_AT_bit_size).map(natural).transpose()?.unwrap_or(0);
+    let bits = if bits != 0 { bits } else { made.size.saturating_mul(8) };
+    let mut flags = 0;
+    match dw::DwAte(entry.constant(dw::DW_AT_encoding).unwrap_or(0) as u8) {
+        dw::DW_ATE_boolean => flags = BOOLEAN,
+        dw::DW_ATE_signed => flags = SIGNED,
+        dw::DW_ATE_signed_char => flags = SIGNED | CHARACTER,
+        dw::DW_ATE_unsigned_char => flags = CHARACTER,
+        dw::DW_ATE_float
+        | dw::DW_ATE_complex_float
+        | dw::DW_ATE_imaginary_float
+        | dw::DW_ATE_decimal_float
+        | dw::DW_ATE_lo_user => {
+            made.kind = Kind::Float;
+            made.tag = Kind::Float;
+        }
+        _ => {}
+    }
+    made.encoding = Encoding { flags, offset: 0, bits };
+    Ok(())
+}
+
+/// The byte at which a member begins; older DWARF has an expression for it.
+fn location(member: &Entry<'_, '_>) -> Result<i128> {
+    let Some(said) = member.block(dw::DW_AT_data_member_location) else {
+        return Ok(member.constant(dw::DW_AT_data_member_location).unwrap_or(0));
+    };
+    match said.split_first() {
+        Some((&op, rest)) if dw::DwOp(op) == dw::DW_OP_plus_uconst => {
+            let mut rest = gimli::EndianSlice::new(rest, LittleEndian);
+            Ok(rest.read_uleb128()?.into())
+        }
+        _ => Ok(0),
+    }
+}

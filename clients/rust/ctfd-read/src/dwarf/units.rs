@@ -1,0 +1,565 @@
+//! Debug information: the files that it is spread over, the units in them, and their entries.
+//!
+//! Each entry of all files has a number of its own, its key: which file and which section it is in,
+//! and its place there.
+
+use crate::dwarf::sections::{borrow_all, dwo_id, Sections, Skeleton};
+use crate::error::{refuse, Result};
+use gimli::{constants as dw, DwAt, DwForm, DwTag, UnitType};
+use gimli::{Abbreviation, AttributeValue, EndianSlice, LittleEndian, UnitHeader, UnitOffset};
+use smallvec::SmallVec;
+use std::borrow::Cow;
+use std::collections::{HashMap, HashSet};
+use std::sync::OnceLock;
+
+pub type Slice<'a> = EndianSlice<'a, LittleEndian>;
+pub type Attribute<'a> = gimli::Attribute<Slice<'a>>;
+
+/// From this bit on a key has the number of a file.
+const FILE: u32 = 40;
+/// The bit of a key that says that an entry is in .debug_types.
+const TYPES: u64 = 1 << (FILE - 1);
+/// The number of dwz's common file.
+const COMMON: u64 = 1;
+
+/// A unit that is not opened yet.
+struct Slot<'a> {
+    header: UnitHeader<Slice<'a>>,
+    start: u64,
+    end: u64,
+    /// The start of the unit of the program that stands for this one, which is in a .dwo file.
+    skeleton: Option<u64>,
+    opened: OnceLock<Result<Unit<'a>>>,
+}
+
+/// A unit. `start` is the key of its first byte, and `end` that of the byte behind it.
+pub struct Unit<'a> {
+    pub inner: gimli::Unit<Slice<'a>>,
+    pub start: u64,
+    end: u64,
+}
+
+impl Unit<'_> {
+    fn file(&self) -> u64 {
+        self.start >> FILE
+    }
+
+    pub fn has(&self, key: u64) -> bool {
+        (self.start..self.end).contains(&key)
+    }
+
+    pub fn key(&self, offset: UnitOffset) -> u64 {
+        self.start + offset.0 as u64
+    }
+}
+
+/// The debug information of a program with that of all files that it is spread over: the program's
+/// own, dwz's common one, and those of .dwo files. `order` has the units that are read, in their
+/// order, as places among all, which stand by their keys.
+pub struct Debug<'a> {
+    files: Vec<gimli::Dwarf<Slice<'a>>>,
+    has_common: bool,
+    slots: Vec<Slot<'a>>,
+    order: Vec<usize>,
+    signatures: HashMap<u64, u64>,
+}
+
+impl<'a> Debug<'a> {
+    pub fn new(sections: &'a Sections<'a>) -> Result<Debug<'a>> {
+        let main = borrow_all(&sections.main);
+        let common = match &sections.common {
+            Some(common) => borrow_all(common),
+            None => {
+                gimli::Dwarf::load(|_| Ok::<_, gimli::Error>(EndianSlice::new(&[], LittleEndian)))?
+            }
+        };
+        let mut debug = Debug {
+            files: vec![main, common],
+            has_common: sections.common.is_some(),
+            slots: Vec::new(),
+            order: Vec::new(),
+            signatures: HashMap::new(),
+        };
+        debug.take_units(sections)?;
+        for slot in &debug.slots {
+            if let UnitType::Type { type_signature, type_offset }
+            | UnitType::SplitType { type_signature, type_offset } = slot.header.type_()
+            {
+                let key = slot.start + type_offset.0 as u64;
+                debug.signatures.entry(type_signature.0).or_insert(key);
+            }
+        }
+        Ok(debug)
+    }
+
+    /// All units: those of the program, in place of a skeleton those that it stands for.
+    fn take_units(&mut self, sections: &'a Sections<'a>) -> Result<()> {
+        let mut ordered: Vec<u64> = Vec::new();
+        let mut met = HashSet::new();
+        for slot in slots(&self.files[0], 0, None)? {
+            match sections.skeletons.get(&slot.start) {
+                None => ordered.push(slot.start),
+                Some(skeleton) => {
+                    let is_first = met.insert(skeleton.split);
+                    let units = self.split_units(sections, skeleton, slot.start, is_first)?;
+                    ordered.extend(units.iter().map(|one| one.start));
+                    self.slots.extend(units);
+                }
+            }
+            self.slots.push(slot);
+        }
+        self.slots.extend(slots(&self.files[COMMON as usize], COMMON << FILE, None)?);
+        self.slots.sort_by_key(|slot| slot.start);
+        let place = |key: u64| self.slots.partition_point(|slot| slot.start < key);
+        self.order = ordered.into_iter().map(place).collect();
+        Ok(())
+    }
+
+    /// The units that a skeleton stands for: those of its .dwo file, or its own in a package of such
+    /// files, from which the type units come with the first.
+    fn split_units(
+        &mut self,
+        sections: &'a Sections<'a>,
+        skeleton: &Skeleton,
+        start: u64,
+        is_first: bool,
+    ) -> Result<Vec<Slot<'a>>> {
+        let split = &sections.splits[skeleton.split];
+        let parts = split.parts(&self.files[0], skeleton.id, is_first)?;
+        let (mut own, mut of_types) = (Vec::new(), Vec::new());
+        for dwarf in parts {
+            let file = (self.files.len() as u64) << FILE;
+            for slot in slots(&dwarf, file, Some(start))? {
+                let is_type = matches!(
+                    slot.header.type_(),
+                    UnitType::Type { .. } | UnitType::SplitType { .. }
+                );
+                if is_type {
+                    of_types.push(slot);
+                } else if dwo_id(&dwarf, &slot.header)? == Some(skeleton.id) {
+                    own.push(slot);
+                }
+            }
+            self.files.push(dwarf);
+        }
+        if own.is_empty() {
+            return refuse(format!(
+                "{} is of another build: it has not the unit that {} is named for",
+                split.path.display(),
+                skeleton.name
+            ));
+        }
+        own.truncate(1);
+        own.append(&mut of_types);
+        Ok(own)
+    }
+
+    /// How many units are read.
+    pub fn units(&self) -> usize {
+        self.order.len()
+    }
+
+    pub fn has_common(&self) -> bool {
+        self.has_common
+    }
+
+    fn slot(&self, number: usize) -> &Slot<'a> {
+        &self.slots[self.order[number]]
+    }
+
+    /// The start of the unit of a number.
+    pub fn start(&self, number: usize) -> u64 {
+        self.slot(number).start
+    }
+
+    pub fn version(&self, number: usize) -> u16 {
+        self.slot(number).header.version()
+    }
+
+    /// Whether the header of a unit of DWARF 5 says that dwz made it.
+    pub fn is_partial(&self, number: usize) -> bool {
+        self.slot(number).header.type_() == UnitType::Partial
+    }
+
+    fn dwarf(&self, file: u64) -> &gimli::Dwarf<Slice<'a>> {
+        &self.files[file as usize]
+    }
+
+    /// The unit of a number, opened for who asks alone.
+    pub fn open(&self, number: usize) -> Result<Unit<'a>> {
+        self.open_slot(self.slot(number))
+    }
+
+    fn open_slot(&self, slot: &Slot<'a>) -> Result<Unit<'a>> {
+        let mut inner = self.dwarf(slot.start >> FILE).unit(slot.header)?;
+        if let Some(skeleton) = slot.skeleton {
+            let place = self.slots.partition_point(|slot| slot.start < skeleton);
+            let skeleton = self.dwarf(0).unit(self.slots[place].header)?;
+            inner.copy_relocated_attributes(&skeleton);
+        }
+        Ok(Unit { inner, start: slot.start, end: slot.end })
+    }
+
+    /// The unit in which an entry is, opened once for all.
+    pub fn unit_of(&self, key: u64) -> Result<&Unit<'a>> {
+        let number = self.slots.partition_point(|slot| slot.start <= key);
+        let slot = number.checked_sub(1).map(|number| &self.slots[number]);
+        match slot {
+            Some(slot) if key < slot.end => {
+                let opened = slot.opened.get_or_init(|| self.open_slot(slot));
+                opened.as_ref().map_err(|error| crate::error::Error(error.0.clone()))
+            }
+            _ => refuse("an entry outside of all units: damage"),
+        }
+    }
+
+    /// The entry of a key; `near` is the unit in which it most often is.
+    pub fn entry<'d>(&'d self, near: &'d Unit<'a>, key: u64) -> Result<Entry<'d, 'a>> {
+        let unit = if near.has(key) { near } else { self.unit_of(key)? };
+        Entry::read(unit, UnitOffset((key - unit.start) as usize))
+    }
+
+    /// The key of the entry that an attribute names, without reading it.
+    pub fn key(&self, entry: &Entry<'_, 'a>, name: DwAt) -> Result<Option<u64>> {
+        let Some(value) = entry.value(name) else { return Ok(None) };
+        Ok(Some(match value {
+            AttributeValue::UnitRef(at) => entry.unit.key(at),
+            AttributeValue::DebugInfoRef(at) => entry.unit.file() << FILE | at.0 as u64,
+            AttributeValue::DebugInfoRefSup(at) => COMMON << FILE | at.0 as u64,
+            AttributeValue::DebugTypesRef(signature) => match self.signatures.get(&signature.0) {
+                Some(&key) => key,
+                None => return refuse("a type unit that is not there: damage"),
+            },
+            _ => return Ok(None),
+        }))
+    }
+
+    /// The entry that an attribute names.
+    pub fn target<'d>(
+        &'d self,
+        entry: &Entry<'d, 'a>,
+        name: DwAt,
+    ) -> Result<Option<Entry<'d, 'a>>> {
+        self.key(entry, name)?.map(|key| self.entry(entry.unit, key)).transpose()
+    }
+
+    /// The name of an entry, empty without one.
+    pub fn name(&self, entry: &Entry<'_, 'a>) -> Result<Cow<'a, [u8]>> {
+        self.text(entry, dw::DW_AT_name)
+    }
+
+    pub fn text(&self, entry: &Entry<'_, 'a>, name: DwAt) -> Result<Cow<'a, [u8]>> {
+        let Some(value) = entry.value(name) else { return Ok(Cow::Borrowed(b"")) };
+        let found = match value {
+            AttributeValue::DebugStrRefSup(at) => self.dwarf(COMMON).string(at)?,
+            value => self.dwarf(entry.unit.file()).attr_string(&entry.unit.inner, value)?,
+        };
+        Ok(Cow::Borrowed(found.slice()))
+    }
+
+    /// An address of the program.
+    pub fn address(&self, entry: &Entry<'_, 'a>, value: AttributeValue<Slice<'a>>) -> Option<u64> {
+        let dwarf = self.dwarf(entry.unit.file());
+        dwarf.attr_address(&entry.unit.inner, value).ok().flatten()
+    }
+
+    /// The addresses where a function and its parts begin, in most cases its own first; none where
+    /// it is declared or inlined alone.
+    pub fn starts(&self, entry: &Entry<'_, 'a>) -> Result<Vec<u64>> {
+        let low = entry.value(dw::DW_AT_low_pc);
+        if let Some(at) = low.and_then(|value| self.address(entry, value)) {
+            return Ok(vec![at]);
+        }
+        let Some(listed) = entry.find(dw::DW_AT_ranges) else { return Ok(Vec::new()) };
+        let dwarf = self.dwarf(entry.unit.file());
+        let mut made = Vec::new();
+        if let Some(mut ranges) = dwarf.attr_ranges(&entry.unit.inner, listed.value())? {
+            while let Some(range) = ranges.next()? {
+                if range.begin != range.end {
+                    made.push(range.begin);
+                }
+            }
+        }
+        Ok(made)
+    }
+}
+
+/// All units of a file, whose keys begin at `file`.
+fn slots<'a>(
+    dwarf: &gimli::Dwarf<Slice<'a>>,
+    file: u64,
+    skeleton: Option<u64>,
+) -> Result<Vec<Slot<'a>>> {
+    let mut made = Vec::new();
+    let mut add = |header: UnitHeader<Slice<'a>>, start: u64| {
+        let end = start + header.length_including_self() as u64;
+        made.push(Slot { header, start, end, skeleton, opened: OnceLock::new() });
+    };
+    let mut units = dwarf.units();
+    while let Some(header) = units.next()? {
+        let at = header.offset().as_debug_info_offset().map_or(0, |at| at.0 as u64);
+        add(header, file | at);
+    }
+    let mut units = dwarf.type_units();
+    while let Some(header) = units.next()? {
+        let at = header.offset().as_debug_types_offset().map_or(0, |at| at.0 as u64);
+        add(header, file | TYPES | at);
+    }
+    Ok(made)
+}
+
+/// The attributes that are looked at, as bits by their numbers; all others are skipped.
+const KEPT: u128 = {
+    let listed = [
+        dw::DW_AT_name,
+        dw::DW_AT_type,
+        dw::DW_AT_byte_size,
+        dw::DW_AT_data_member_location,
+        dw::DW_AT_bit_size,
+        dw::DW_AT_bit_offset,
+        dw::DW_AT_data_bit_offset,
+        dw::DW_AT_encoding,
+        dw::DW_AT_const_value,
+        dw::DW_AT_upper_bound,
+        dw::DW_AT_count,
+        dw::DW_AT_declaration,
+        dw::DW_AT_external,
+        dw::DW_AT_specification,
+        dw::DW_AT_abstract_origin,
+        dw::DW_AT_signature,
+        dw::DW_AT_location,
+        dw::DW_AT_low_pc,
+        dw::DW_AT_ranges,
+        dw::DW_AT_language,
+        dw::DW_AT_import,
+        dw::DW_AT_dwo_name,
+    ];
+    let (mut bits, mut at) = (0, 0);
+    while at < listed.len() {
+        bits |= 1 << listed[at].0;
+        at += 1;
+    }
+    bits
+};
+
+fn is_kept(name: DwAt) -> bool {
+    match name {
+        dw::DW_AT_GNU_vector | dw::DW_AT_GNU_dwo_name => true,
+        DwAt(number) => number < 128 && KEPT >> number & 1 != 0,
+    }
+}
+
+/// An entry with those of its attributes that are looked at.
+pub struct Entry<'d, 'a> {
+    pub unit: &'d Unit<'a>,
+    pub offset: UnitOffset,
+    pub tag: DwTag,
+    said: SmallVec<[Attribute<'a>; 6]>,
+    has_children: bool,
+    inside: UnitOffset,
+}
+
+impl<'d, 'a> Entry<'d, 'a> {
+    pub fn read(unit: &'d Unit<'a>, offset: UnitOffset) -> Result<Entry<'d, 'a>> {
+        let mut raw = unit.inner.entries_raw(Some(offset))?;
+        match raw.read_abbreviation()? {
+            Some(shape) => Entry::read_on(unit, offset, shape, &mut raw),
+            None => refuse("a reference to no entry: damage"),
+        }
+    }
+
+    /// The entry that has all others of a unit in it.
+    pub fn top(unit: &'d Unit<'a>) -> Result<Entry<'d, 'a>> {
+        Entry::read(unit, unit.inner.entries_raw(None)?.next_offset())
+    }
+
+    /// Reads the attributes behind the number of an abbreviation.
+    fn read_on(
+        unit: &'d Unit<'a>,
+        offset: UnitOffset,
+        shape: &Abbreviation,
+        raw: &mut gimli::EntriesRaw<'_, '_, Slice<'a>>,
+    ) -> Result<Entry<'d, 'a>> {
+        let mut said = SmallVec::new();
+        let mut specs = shape.attributes();
+        while !specs.is_empty() {
+            let skipped = specs.iter().take_while(|one| !is_kept(one.name())).count();
+            raw.skip_attributes(&specs[..skipped])?;
+            specs = &specs[skipped..];
+            if let [spec, rest @ ..] = specs {
+                said.push(raw.read_attribute(*spec)?);
+                specs = rest;
+            }
+        }
+        let (tag, has_children) = (shape.tag(), shape.has_children());
+        Ok(Entry { unit, offset, tag, said, has_children, inside: raw.next_offset() })
+    }
+
+    fn find(&self, name: DwAt) -> Option<&Attribute<'a>> {
+        self.said.iter().find(|one| one.name() == name)
+    }
+
+    pub fn has(&self, name: DwAt) -> bool {
+        self.find(name).is_some()
+    }
+
+    /// What an attribute has, by its form alone.
+    pub fn value(&self, name: DwAt) -> Option<AttributeValue<Slice<'a>>> {
+        self.find(name).map(Attribute::raw_value)
+    }
+
+    /// A number that an attribute has; None where it has none, or another sort of value.
+    pub fn constant(&self, name: DwAt) -> Option<i128> {
+        Some(match self.value(name)? {
+            AttributeValue::Data1(value) => value.into(),
+            AttributeValue::Data2(value) => value.into(),
+            AttributeValue::Data4(value) => value.into(),
+            AttributeValue::Data8(value) => value.into(),
+            AttributeValue::Udata(value) => value.into(),
+            AttributeValue::Sdata(value) => value.into(),
+            _ => return None,
+        })
+    }
+
+    /// The bytes of an expression.
+    pub fn block(&self, name: DwAt) -> Option<&'a [u8]> {
+        match self.value(name)? {
+            AttributeValue::Exprloc(found) => Some(found.0.slice()),
+            AttributeValue::Block(found) => Some(found.slice()),
+            _ => None,
+        }
+    }
+
+    /// The entries in this one, in order, without those in them.
+    pub fn children(&self) -> Result<Vec<Entry<'d, 'a>>> {
+        let mut made = Vec::new();
+        if !self.has_children {
+            return Ok(made);
+        }
+        let mut raw = self.unit.inner.entries_raw(Some(self.inside))?;
+        let mut depth = 0;
+        while !raw.is_empty() {
+            let offset = raw.next_offset();
+            match raw.read_abbreviation()? {
+                None if depth == 0 => break,
+                None => depth -= 1,
+                Some(shape) if depth == 0 => {
+                    let child = Entry::read_on(self.unit, offset, shape, &mut raw)?;
+                    depth += usize::from(child.has_children);
+                    made.push(child);
+                }
+                Some(shape) => {
+                    raw.skip_attributes(shape.attributes())?;
+                    depth += usize::from(shape.has_children());
+                }
+            }
+        }
+        Ok(made)
+    }
+}
+
+/// What stands in a unit, function or block that begins at an offset: where an entry begins, and
+/// its tag.
+pub struct Scope {
+    pub offset: UnitOffset,
+    pub entries: Vec<(UnitOffset, DwTag)>,
+}
+
+/// What stands in the unit itself, its functions and the blocks of these, in order of their
+/// beginnings: types that are looked up by name, objects, functions, arguments.
+pub fn scopes(unit: &Unit<'_>) -> Result<Vec<Scope>> {
+    let mut made: Vec<Scope> = Vec::new();
+    let mut outer: Vec<Option<usize>> = Vec::new();
+    let mut inner: Option<usize> = None; // None within what is no scope
+    let mut raw = unit.inner.entries_raw(None)?;
+    while !raw.is_empty() {
+        let offset = raw.next_offset();
+        let Some(shape) = raw.read_abbreviation()? else {
+            if outer.len() < 2 {
+                break;
+            }
+            inner = outer.pop().flatten();
+            continue;
+        };
+        if let Some(scope) = inner.filter(|_| is_listed(shape)) {
+            made[scope].entries.push((offset, shape.tag()));
+        }
+        let sibling = behind(shape, &mut raw)?;
+        let is_scope = matches!(shape.tag(), dw::DW_TAG_subprogram | dw::DW_TAG_lexical_block);
+        if !shape.has_children() {
+            if outer.is_empty() {
+                break;
+            }
+        } else if is_scope || outer.is_empty() {
+            outer.push(inner);
+            inner = Some(made.len());
+            made.push(Scope { offset, entries: Vec::new() });
+        } else if let Some(behind) = sibling {
+            if behind < raw.next_offset() {
+                return refuse("its entries lead round: damage");
+            }
+            raw = unit.inner.entries_raw(Some(behind))?;
+        } else {
+            outer.push(inner);
+            inner = None;
+        }
+    }
+    Ok(made)
+}
+
+/// Reads over attributes; where what is behind all that is in the entry begins, if it says that.
+fn behind(
+    shape: &Abbreviation,
+    raw: &mut gimli::EntriesRaw<'_, '_, Slice<'_>>,
+) -> Result<Option<UnitOffset>> {
+    let specs = shape.attributes();
+    let place = specs.iter().position(|one| one.name() == dw::DW_AT_sibling);
+    let Some(place) = place.filter(|_| shape.has_children()) else {
+        raw.skip_attributes(specs)?;
+        return Ok(None);
+    };
+    raw.skip_attributes(&specs[..place])?;
+    let sibling = raw.read_attribute(specs[place])?.raw_value();
+    raw.skip_attributes(&specs[place + 1..])?;
+    match sibling {
+        AttributeValue::UnitRef(at) => Ok(Some(at)),
+        _ => Ok(None),
+    }
+}
+
+/// Whether entries of a shape can be wanted: of variables those that may be objects, of enums those
+/// that name something.
+fn is_listed(shape: &Abbreviation) -> bool {
+    let form =
+        |name: DwAt| shape.attributes().iter().find(|one| one.name() == name).map(|one| one.form());
+    let has = |name: DwAt| form(name).is_some();
+    match shape.tag() {
+        dw::DW_TAG_structure_type
+        | dw::DW_TAG_class_type
+        | dw::DW_TAG_union_type
+        | dw::DW_TAG_typedef
+        | dw::DW_TAG_base_type => has(dw::DW_AT_name),
+        dw::DW_TAG_enumeration_type => shape.has_children() || has(dw::DW_AT_name),
+        dw::DW_TAG_variable => {
+            has(dw::DW_AT_external)
+                || has(dw::DW_AT_specification)
+                || form(dw::DW_AT_location).is_some_and(is_block)
+        }
+        dw::DW_TAG_subprogram
+        | dw::DW_TAG_formal_parameter
+        | dw::DW_TAG_unspecified_parameters
+        | dw::DW_TAG_imported_unit => true,
+        _ => false,
+    }
+}
+
+fn is_block(form: DwForm) -> bool {
+    matches!(
+        form,
+        dw::DW_FORM_block1
+            | dw::DW_FORM_block2
+            | dw::DW_FORM_block4
+            | dw::DW_FORM_block
+            | dw::DW_FORM_exprloc
+    )
+}

@@ -1,0 +1,192 @@
+//! What GNU's CTF tells of functions and objects, and which symbols of its file these are.
+//!
+//! An object file names them. In what ld links they stand in the order of a symbol table, the
+//! dynamic one as a rule: what is not exported is not told there.
+
+use crate::error::Result;
+use crate::gnu::{Entries, Listed};
+use crate::symbols::{Symbol, SymbolTable, Symbols};
+use crate::table::{Kind, Name, Table};
+use std::borrow::Cow;
+use std::collections::{HashMap, HashSet};
+
+/// A symbol's name without its version, and whether it is a function.
+type Key<'a> = (Name<'a>, bool);
+
+fn key<'a>(symbol: &Symbol<'a>) -> Key<'a> {
+    let end = symbol.name.iter().position(|&byte| byte == b'@').unwrap_or(symbol.name.len());
+    let name = match &symbol.name {
+        Cow::Borrowed(name) => Cow::Borrowed(&name[..end]),
+        Cow::Owned(name) => Cow::Owned(name[..end].to_vec()),
+    };
+    (name, symbol.is_function)
+}
+
+/// The types of symbols: by place where that is known, else by name, 0 where a name has several.
+#[derive(Default)]
+struct Known<'a> {
+    by_place: HashMap<(Key<'a>, u64), u32>,
+    by_name: HashMap<Key<'a>, u32>,
+    names: Vec<Key<'a>>,
+    lost: usize,
+}
+
+impl<'a> Known<'a> {
+    /// Takes the functions or objects of a dictionary in; those of a file's table in their order.
+    fn take<'s>(
+        &mut self,
+        listed: &Listed<'a>,
+        symbols: impl Iterator<Item = &'s Symbol<'a>>,
+        is_function: bool,
+    ) where
+        'a: 's,
+    {
+        let Some(names) = &listed.names else {
+            let mut types = listed.types.iter();
+            for (one, &number) in symbols.zip(types.by_ref()) {
+                if number != 0 {
+                    self.by_place.insert((key(one), one.address), number);
+                }
+            }
+            self.lost += types.filter(|&&number| number != 0).count();
+            return;
+        };
+        for (name, &number) in names.iter().zip(&listed.types).filter(|(_, &number)| number != 0) {
+            let key = (name.clone(), is_function);
+            match self.by_name.get_mut(&key) {
+                Some(known) if *known != number => *known = 0,
+                Some(_) => {}
+                None => {
+                    self.names.push(key.clone());
+                    self.by_name.insert(key, number);
+                }
+            }
+        }
+    }
+
+    /// The type of a symbol, 0 where it is not told.
+    fn type_of(&self, table: &Table<'_>, one: &Symbol<'a>, is_only: bool) -> u32 {
+        let key = key(one);
+        let by_name = || if is_only { self.by_name.get(&key).copied() } else { None };
+        let by_place = self.by_place.get(&(key.clone(), one.address)).copied();
+        let number = by_place.or_else(by_name).unwrap_or(0);
+        let is_function = number != 0 && table.get(number).kind == Kind::Function;
+        if is_function == one.is_function {
+            number
+        } else {
+            0
+        }
+    }
+
+    /// Each name with its type, objects first.
+    fn named(&self, table: &Table<'_>) -> Vec<(Symbol<'a>, u32)> {
+        let symbol = |(name, is_function): &Key<'a>| {
+            let one = Symbol { name: name.clone(), address: 0, is_function: *is_function };
+            let number = self.type_of(table, &one, true);
+            (one, number)
+        };
+        let mut found: Vec<_> = self.names.iter().map(symbol).collect();
+        found.sort_by_key(|(one, _)| one.is_function); // a stable sort
+        found
+    }
+}
+
+/// The symbol tables of a file by name.
+pub struct FileSymbols<'a> {
+    /// `.symtab`.
+    pub symtab: Symbols<'a>,
+    /// `.dynsym`.
+    pub dynsym: Symbols<'a>,
+}
+
+impl<'a> FileSymbols<'a> {
+    /// One of them.
+    pub fn of(&self, table: SymbolTable) -> &Symbols<'a> {
+        if table == SymbolTable::Dynsym {
+            &self.dynsym
+        } else {
+            &self.symtab
+        }
+    }
+}
+
+/// The symbols of which something is told, whose types the table has then: those of a symbol table
+/// of the file, or without a file the names that are in the section.
+pub fn describe<'a>(
+    table: &mut Table<'a>,
+    found: &[Entries<'a>],
+    file: Option<&FileSymbols<'a>>,
+    wanted: SymbolTable,
+) -> Result<Symbols<'a>> {
+    let mut known = Known::default();
+    let none = Symbols::default();
+    for one in found {
+        let order = if one.is_dynamic { SymbolTable::Dynsym } else { SymbolTable::Symtab };
+        let symbols = file.map_or(&none, |file| file.of(order));
+        known.take(&one.objects, symbols.objects(), false);
+        known.take(&one.functions, symbols.functions(), true);
+    }
+    let pairs = match file {
+        None => known.named(table).into_iter().filter(|&(_, number)| number != 0).collect(),
+        Some(file) => of_file(&known, table, file.of(wanted)),
+    };
+    let of_kind = |is_function: bool| {
+        pairs
+            .iter()
+            .filter(move |(one, _)| one.is_function == is_function)
+            .map(|&(_, number)| number)
+    };
+    table.objects = of_kind(false).collect();
+    table.functions = of_kind(true).map(|n| (n != 0).then(|| table.get(n).clone())).collect();
+    let mut names: HashSet<Key<'a>> = known.by_name.keys().cloned().collect();
+    names.extend(known.by_place.keys().map(|(key, _)| key.clone()));
+    if file.is_some() {
+        // What is declared alone, or was optimized away, has no symbol.
+        let symbols: HashSet<Key<'a>> = pairs.iter().map(|(one, _)| key(one)).collect();
+        names.retain(|name| symbols.contains(name));
+    }
+    for (one, _) in pairs.iter().filter(|&&(_, number)| number != 0) {
+        names.remove(&key(one));
+    }
+    tell_losses(table, known.lost, names.len(), file.is_some(), wanted);
+    let listed = pairs.into_iter().map(|(one, _)| one).collect();
+    Ok(Symbols { table: if file.is_some() { wanted } else { SymbolTable::Names }, listed })
+}
+
+/// Each symbol of a table with its type. By its name alone one is known that no other has.
+fn of_file<'a>(
+    known: &Known<'a>,
+    table: &Table<'_>,
+    symbols: &Symbols<'a>,
+) -> Vec<(Symbol<'a>, u32)> {
+    let mut counts: HashMap<Key<'a>, usize> = HashMap::new();
+    for one in &symbols.listed {
+        *counts.entry(key(one)).or_default() += 1;
+    }
+    let pair = |one: &Symbol<'a>| (one.clone(), known.type_of(table, one, counts[&key(one)] == 1));
+    symbols.listed.iter().map(pair).collect()
+}
+
+/// What was told and is left out: for want of the symbol table, or of a name of its own.
+fn tell_losses(
+    table: &mut Table<'_>,
+    lost: usize,
+    shared: usize,
+    has_file: bool,
+    wanted: SymbolTable,
+) {
+    if lost != 0 {
+        let why = if has_file { "is not there" } else { "the section alone has not" };
+        table.losses.push(format!(
+            "{lost} functions and objects of its GNU CTF are in the order of a symbol table that \
+             {why}: they are left out"
+        ));
+    }
+    if shared != 0 {
+        let place = if has_file { wanted.word() } else { "it" };
+        table.losses.push(format!(
+            "{shared} functions and objects of its GNU CTF have a name that several have in \
+             {place}: they are left out"
+        ));
+    }
+}

@@ -1,0 +1,160 @@
+//! Files that are read: as much of them as is asked for. None is mapped, since somebody may cut a
+//! file while it is read.
+
+use crate::error::{refuse, Error, Result};
+use flate2::Crc;
+use object::read::{ReadCache, ReadRef};
+use std::fs::File;
+use std::io::{Cursor, Read, Seek, SeekFrom};
+use std::ops::Range;
+use std::path::{Path, PathBuf};
+
+/// What the bytes of a file come from: the file, or all that came through a pipe.
+pub trait Source: Read + Seek {}
+impl<T: Read + Seek> Source for T {}
+
+/// The bytes of a file, read where they are asked for, and none behind its end: the cache makes room
+/// before it reads, as much as a damaged file says.
+#[derive(Clone, Copy)]
+pub struct Data<'a> {
+    cache: &'a ReadCache<Box<dyn Source>>,
+    length: u64,
+}
+
+impl<'a> ReadRef<'a> for Data<'a> {
+    fn len(self) -> std::result::Result<u64, ()> {
+        Ok(self.length)
+    }
+
+    fn read_bytes_at(self, offset: u64, size: u64) -> std::result::Result<&'a [u8], ()> {
+        match offset.checked_add(size) {
+            Some(end) if end <= self.length => self.cache.read_bytes_at(offset, size),
+            _ => Err(()),
+        }
+    }
+
+    fn read_bytes_at_until(
+        self,
+        range: Range<u64>,
+        delimiter: u8,
+    ) -> std::result::Result<&'a [u8], ()> {
+        if range.start > range.end || range.start > self.length {
+            return Err(());
+        }
+        self.cache.read_bytes_at_until(range, delimiter)
+    }
+}
+
+/// An ELF file.
+pub type Elf<'a> = object::File<'a, Data<'a>>;
+/// A section of an ELF file.
+pub type ElfSection<'a, 'f> = object::Section<'a, 'f, Data<'a>>;
+
+/// The most that is read of a pipe, which tells no length.
+const LONGEST_PIPE: u64 = 1 << 32;
+/// How many bytes a check sum reads at a time.
+const PIECE: u64 = 1 << 20;
+
+/// A file, and where it is.
+pub struct Image {
+    path: PathBuf,
+    cache: ReadCache<Box<dyn Source>>,
+    length: u64,
+}
+
+impl Image {
+    /// Opens a regular file, or reads a pipe to its end. Anything else is refused: a device may
+    /// have no end.
+    pub fn open(path: &Path) -> Result<Image> {
+        let open = || -> Result<Box<dyn Source>> {
+            let kind = std::fs::metadata(path)?.file_type();
+            if kind.is_file() {
+                return Ok(Box::new(File::open(path)?));
+            }
+            if kind.is_dir() {
+                return refuse("it is a folder");
+            }
+            if !is_pipe(&kind) {
+                return refuse(
+                    "it is no file with contents of its own, but a device or the like, which is not \
+                     read",
+                );
+            }
+            let mut bytes = Vec::new();
+            File::open(path)?.take(LONGEST_PIPE).read_to_end(&mut bytes)?;
+            Ok(Box::new(Cursor::new(bytes)))
+        };
+        let of_path = |error: Error| error.of(path.display());
+        let mut source = open().map_err(of_path)?;
+        let length = source.seek(SeekFrom::End(0)).map_err(|error| of_path(error.into()))?;
+        Ok(Image { path: path.to_owned(), cache: ReadCache::new(source), length })
+    }
+
+    /// Opens a regular file that another file names; anybody may have written that name.
+    pub fn linked(path: &Path) -> Option<Image> {
+        let is_file = std::fs::metadata(path).is_ok_and(|about| about.is_file());
+        is_file.then(|| Image::open(path).ok()).flatten()
+    }
+
+    /// Bytes that are no file of their own, as a member of an archive.
+    pub fn of_bytes(path: PathBuf, bytes: Vec<u8>) -> Image {
+        let length = bytes.len() as u64;
+        Image { path, cache: ReadCache::new(Box::new(Cursor::new(bytes))), length }
+    }
+
+    /// All its bytes.
+    pub fn all(&self) -> Result<&[u8]> {
+        self.data().read_bytes_at(0, self.length).map_err(|()| Error("can't be read".to_owned()))
+    }
+
+    /// Where the file is.
+    pub fn path(&self) -> &Path {
+        &self.path
+    }
+
+    /// Its bytes, which are read where they are asked for.
+    pub fn data(&self) -> Data<'_> {
+        Data { cache: &self.cache, length: self.length }
+    }
+
+    /// Whether it begins as ELF files do.
+    pub fn is_elf(&self) -> bool {
+        self.data().read_bytes_at(0, 4) == Ok(&object::elf::ELFMAG[..])
+    }
+
+    /// The file as ELF, of little-endian machines.
+    pub fn elf(&self) -> Result<Elf<'_>> {
+        let file = object::File::parse(self.data())?;
+        if !object::Object::is_little_endian(&file) {
+            return refuse(
+                "a big-endian ELF file, which is not read: take a little-endian build of the program",
+            );
+        }
+        Ok(file)
+    }
+
+    /// The check sum by which `.gnu_debuglink` knows a file.
+    pub fn crc(&self) -> Result<u32> {
+        let mut crc = Crc::new();
+        let mut file = File::open(&self.path)?.take(LONGEST_PIPE);
+        let mut piece = vec![0; PIECE as usize];
+        loop {
+            let count = file.read(&mut piece)?;
+            if count == 0 {
+                return Ok(crc.sum());
+            }
+            crc.update(&piece[..count]);
+        }
+    }
+}
+
+#[cfg(unix)]
+fn is_pipe(kind: &std::fs::FileType) -> bool {
+    use std::os::unix::fs::FileTypeExt as _;
+    kind.is_fifo()
+}
+
+#[cfg(not(unix))]
+fn is_pipe(_: &std::fs::FileType) -> bool {
+    false
+}

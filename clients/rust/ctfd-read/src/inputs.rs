@@ -1,0 +1,745 @@
+//! A file's types as a table, whatever they are written in: DWARF, BTF, GNU's CTF or CTF itself.
+
+use crate::btf;
+use crate::bytes::Names;
+use crate::ctf::{self, Sections};
+use crate::dictionary::keep_described;
+use crate::dwarf::sections;
+use crate::dwarf::types::Collector;
+use crate::dwarf::units::Debug;
+use crate::elf;
+use crate::error::{refuse, Error, Result};
+use crate::gnu;
+use crate::gnu_symbols::{describe, FileSymbols};
+use crate::image::Image;
+use crate::labels;
+use crate::symbols::{Symbol, SymbolTable, Symbols};
+use crate::table::{Kind, Record, Table};
+use ctfd::Model;
+use object::read::archive::ArchiveFile;
+use object::{Object as _, ObjectKind, ObjectSection as _};
+use std::borrow::Cow;
+use std::collections::{HashMap, HashSet};
+use std::fmt;
+use std::path::{Path, PathBuf};
+
+/// What types are written in.
+#[derive(Clone, Copy, Debug, PartialEq, Eq)]
+pub enum Form {
+    /// CTF of version 2.
+    Ctf,
+    /// The kernel's BTF.
+    Btf,
+    /// The debug information of compilers.
+    Dwarf,
+    /// GNU's CTF, of version 3.
+    Gnu,
+}
+
+impl Form {
+    /// All of them, in the order in which they are looked for.
+    pub const ALL: [Form; 4] = [Form::Ctf, Form::Btf, Form::Dwarf, Form::Gnu];
+
+    /// The word for it on a command line.
+    pub fn word(self) -> &'static str {
+        match self {
+            Form::Ctf => "ctf",
+            Form::Btf => "btf",
+            Form::Dwarf => "dwarf",
+            Form::Gnu => "gnu",
+        }
+    }
+
+    /// The sections of an ELF file that have it.
+    fn sections(self) -> &'static [&'static str] {
+        match self {
+            Form::Ctf => &[".SUNW_ctf", ".ctf"],
+            Form::Btf => &[".BTF"],
+            Form::Dwarf => &[],
+            Form::Gnu => &[".ctf"],
+        }
+    }
+
+    /// The form that first bytes say.
+    fn of(bytes: &[u8]) -> Option<Form> {
+        if btf::is_btf(bytes) {
+            Some(Form::Btf)
+        } else if bytes.starts_with(&gnu::MAGIC) || bytes.starts_with(&gnu::ARCHIVE) {
+            Some(Form::Gnu)
+        } else {
+            bytes.starts_with(&ctf::BEGINS).then_some(Form::Ctf)
+        }
+    }
+}
+
+impl fmt::Display for Form {
+    fn fmt(&self, to: &mut fmt::Formatter<'_>) -> fmt::Result {
+        to.write_str(match self {
+            Form::Ctf => "CTF version 2",
+            Form::Btf => "BTF",
+            Form::Dwarf => "DWARF",
+            Form::Gnu => "GNU's CTF",
+        })
+    }
+}
+
+/// What the caller says of a file.
+#[derive(Clone, Debug, Default)]
+pub struct Options {
+    /// The data model; an ELF file says its own.
+    pub model: Option<Model>,
+    /// The form to read.
+    pub form: Option<Form>,
+    /// The BTF of a module's kernel, or the parent of a child.
+    pub base: Option<PathBuf>,
+    /// Folders of debug files, searched before the system's own.
+    pub folders: Vec<PathBuf>,
+    /// Which of several dictionaries, counted from 1.
+    pub number: Option<usize>,
+    /// The symbol table that is wanted.
+    pub symbols: SymbolTable,
+}
+
+/// What a file has: its types, those of them that are wanted for themselves, and the number of types
+/// of its base or parent, which come first. What is told of symbols goes by `symbols`; `note` is
+/// what a user should know of that.
+pub struct ProgramTypes<'a> {
+    /// All its types, and what is told of symbols.
+    pub table: Table<'a>,
+    /// The types that are wanted for themselves.
+    pub roots: Vec<u32>,
+    /// How many of the types, the first, are those of its base or parent.
+    pub bases: u32,
+    /// What they were read from.
+    pub form: Form,
+    /// The symbols that the entries of the table go by.
+    pub symbols: Symbols<'a>,
+    /// What should be known of these; empty where it is nothing.
+    pub note: String,
+}
+
+/// A section with types, in its ELF file where it is in one, with the strings that go with it.
+struct Section<'a> {
+    data: &'a [u8],
+    file: Option<&'a Image>,
+    strings: &'a [u8],
+}
+
+/// What is run on the types of a file, while all that they lie in is there.
+type Use<'u> = dyn FnMut(ProgramTypes<'_>) -> Result<()> + 'u;
+
+/// Reads the types of a file, and runs something on them.
+pub fn with_types<T>(
+    image: &Image,
+    options: &Options,
+    run: impl FnOnce(ProgramTypes<'_>) -> Result<T>,
+) -> Result<T> {
+    let (mut run, mut made) = (Some(run), None);
+    read(image, options, &mut |found| {
+        crate::sound::judge(&found.table).map_err(|error| error.of(image.path().display()))?;
+        if let Some(run) = run.take() {
+            made = Some(run(found)?);
+        }
+        Ok(())
+    })?;
+    made.ok_or_else(|| Error(format!("{}: nothing was read", image.path().display())))
+}
+
+fn read(image: &Image, options: &Options, run: &mut Use<'_>) -> Result<()> {
+    let path = image.path().display().to_string();
+    if image.is_elf() {
+        return with_elf(image, options, run);
+    }
+    let data = image.all().map_err(|error| error.of(&path))?;
+    if data.is_empty() {
+        return refuse(format!("{path}: it is empty"));
+    }
+    if data.starts_with(b"!<arch>\n") || data.starts_with(b"!<thin>\n") {
+        return with_archive(image, data, options, run);
+    }
+    let Some(form) = Form::of(data) else { return refuse(format!("{path}: {}", foreign(data))) };
+    let section = Section { data, file: None, strings: &[] };
+    with_section(form, &section, options, run).map_err(|error| error.within(&path))
+}
+
+/// What bytes are that nothing here reads.
+fn foreign(bytes: &[u8]) -> String {
+    let version = bytes.get(2).copied().unwrap_or(0);
+    match bytes.get(..2) {
+        Some([0xdf, 0xf2]) => "big-endian GNU CTF, which is not read".to_owned(),
+        Some([0xcf, 0xf1]) => "CTF of a big-endian machine, which is not read: take that of a \
+                               little-endian build of the program"
+            .to_owned(),
+        Some([0xf1, 0xcf]) => {
+            let writer = if version == 1 { "very old tools" } else { "newer releases of FreeBSD" };
+            format!(
+                "CTF version {version}, as {writer} write it, which is not read; ctfd-convert makes \
+                 CTF of version 2 from the program's debug information"
+            )
+        }
+        _ => {
+            let begins: String = bytes.iter().take(4).map(|byte| format!("{byte:02x}")).collect();
+            format!(
+                "neither an ELF file nor a CTF section: it begins with {begins}, and CTF with f1cf02"
+            )
+        }
+    }
+}
+
+/// The first of the forms that an ELF file has, or the one asked for; DWARF may be elsewhere.
+fn with_elf(image: &Image, options: &Options, run: &mut Use<'_>) -> Result<()> {
+    let path = image.path().display().to_string();
+    let file = image.elf().map_err(|error| error.of(&path))?;
+    let model = model_of(&file);
+    if options.model.is_some_and(|wanted| wanted != model) {
+        let wanted = options.model.map_or("", labels::model_word);
+        return refuse(format!(
+            "{path}: its program is of {}, and {wanted} was asked for",
+            labels::model_word(model)
+        ));
+    }
+    for form in Form::ALL {
+        if options.form.is_some_and(|wanted| wanted != form) {
+            continue;
+        }
+        if form == Form::Dwarf && elf::has_debug(&file) {
+            break;
+        }
+        for name in form.sections() {
+            let Some(section) = file.section_by_name(name) else { continue };
+            let data = section.uncompressed_data().map_err(|error| Error::from(error).of(&path))?;
+            if Form::of(&data) != Some(form) {
+                continue;
+            }
+            let strings = elf::linked_strings(image, name).map_err(|error| error.of(&path))?;
+            let section = Section { data: &data, file: Some(image), strings };
+            if !is_of_its_objects(&section, &file, options)? {
+                return with_section(form, &section, options, run)
+                    .map_err(|error| error.within(&path));
+            }
+        }
+    }
+    if let Some(form) = options.form.filter(|&form| form != Form::Dwarf) {
+        let names = form.sections().join(" or ");
+        return refuse(format!(
+            "{path}: it has no section {names} with what --from {} asks for: leave that out, and \
+             what it has is read",
+            form.word()
+        ));
+    }
+    with_dwarf(image, options, run)
+}
+
+fn model_of(file: &crate::image::Elf<'_>) -> Model {
+    if file.is_64() {
+        Model::Lp64
+    } else {
+        Model::Ilp32
+    }
+}
+
+/// Whether dictionaries are those of the object files that a program was linked of, and its debug
+/// information tells of all of it.
+fn is_of_its_objects(
+    section: &Section<'_>,
+    file: &crate::image::Elf<'_>,
+    options: &Options,
+) -> Result<bool> {
+    let is_plain = options.form.is_none() && options.number.is_none();
+    if Form::of(section.data) != Some(Form::Ctf) || !is_plain || !elf::has_debug(file) {
+        return Ok(false);
+    }
+    if ctf::each(section.data).len() > 1 {
+        return Ok(true);
+    }
+    let plain = ctf::inflate(section.data)?;
+    let Ok(sections) = Sections::of(&plain) else { return Ok(false) };
+    let is_named = labels::symbols(&sections).is_some();
+    Ok(is_named && symbols_of(section.file, &sections)?.is_none())
+}
+
+/// The symbols that a dictionary says that its entries go by, if they are those of its file.
+fn symbols_of<'a>(file: Option<&'a Image>, sections: &Sections<'a>) -> Result<Option<Symbols<'a>>> {
+    let Some(wanted) = labels::symbols(sections) else { return Ok(None) };
+    if wanted.table == SymbolTable::Names {
+        return Ok(labels::own_symbols(sections));
+    }
+    let found = file.map(|file| elf::symbols_of(file, wanted.table)).transpose()?.flatten();
+    Ok(found.filter(|found| found.identity() == wanted))
+}
+
+/// Refuses the number of a dictionary where there are none to choose from.
+fn judge_number(form: Form, options: &Options) -> Result<()> {
+    match options.number {
+        Some(number) if form != Form::Ctf => refuse(format!(
+            "--dictionary {number} chooses one of several dictionaries of CTF version 2, and its \
+             types are read from {form}: leave it out"
+        )),
+        _ => Ok(()),
+    }
+}
+
+fn with_section(
+    form: Form,
+    section: &Section<'_>,
+    options: &Options,
+    run: &mut Use<'_>,
+) -> Result<()> {
+    judge_number(form, options)?;
+    let is_of_file = section.file.map(|file| file.elf().map(|file| !file.is_64())).transpose()?;
+    let is_ilp32 = match options.model {
+        Some(model) => model == Model::Ilp32,
+        None => is_of_file.unwrap_or(false),
+    };
+    // Of a section by itself the size of a long tells the model, where nothing else does.
+    let is_told = section.file.is_some() || options.model.is_some();
+    let mut run = |mut found: ProgramTypes<'_>| {
+        found.table.is_ilp32 |= !is_told && has_short_longs(&found.table);
+        run(found)
+    };
+    match form {
+        Form::Btf => with_btf(section, is_ilp32, options, &mut run),
+        Form::Gnu => with_gnu(section, is_ilp32, options, &mut run),
+        _ => with_ctf(section, is_ilp32, options, &mut run),
+    }
+}
+
+fn has_short_longs(table: &Table<'_>) -> bool {
+    table.records.iter().any(|record| {
+        record.kind == Kind::Integer
+            && record.size == 4
+            && matches!(
+                &*record.name,
+                b"long int" | b"long" | b"long unsigned int" | b"unsigned long"
+            )
+    })
+}
+
+// Debug information.
+
+fn with_dwarf(image: &Image, options: &Options, run: &mut Use<'_>) -> Result<()> {
+    let path = image.path().display().to_string();
+    judge_number(Form::Dwarf, options).map_err(|error| error.of(&path))?;
+    let files = elf::debug_file(image, &options.folders).map_err(|error| error.of(&path))?;
+    let debug = files.debug.as_ref().unwrap_or(image);
+    let file = image.elf().map_err(|error| error.of(&path))?;
+    let symbols = || -> Result<Symbols<'_>> {
+        let own = elf::symbols_of(image, options.symbols)?;
+        let is_stripped = own.is_none() && options.symbols == SymbolTable::Symtab;
+        if is_stripped && files.debug.is_some() {
+            let found = elf::symbols_of(debug, SymbolTable::Symtab)?.unwrap_or_default();
+            return Ok(Symbols { table: SymbolTable::Names, ..found });
+        }
+        Ok(own.unwrap_or(Symbols { table: options.symbols, listed: Vec::new() }))
+    };
+    let symbols = symbols().map_err(|error| error.of(&path))?;
+    if options.symbols == SymbolTable::Dynsym && symbols.listed.is_empty() {
+        return refuse(format!(
+            "{path}: it has no .dynsym with functions or objects, as a program has that exports \
+             some: leave --symbols out"
+        ));
+    }
+    let debug_path = debug.path().display().to_string();
+    let sections =
+        sections::Sections::load(debug, &options.folders).map_err(|error| error.of(&debug_path))?;
+    let units = Debug::new(&sections).map_err(|error| error.of(&debug_path))?;
+    let mut collector = Collector::default();
+    collector
+        .read(&units, &symbols.listed, !file.is_64())
+        .map_err(|error| error.of(&debug_path))?;
+    let is_linked = file.kind() != ObjectKind::Relocatable;
+    let (mut table, roots) =
+        collector.finish(&symbols, is_linked, !file.is_64()).map_err(|error| error.of(&path))?;
+    let symbols = match symbols.table {
+        SymbolTable::Names => keep_described(&mut table, symbols),
+        _ => symbols,
+    };
+    let note = note(image, &symbols, debug)?;
+    run(ProgramTypes { table, roots, bases: 0, form: Form::Dwarf, symbols, note })
+}
+
+/// What is to be known of the symbols of a program.
+fn note(image: &Image, symbols: &Symbols<'_>, debug: &Image) -> Result<String> {
+    let count = symbols.listed.len();
+    Ok(match symbols.table {
+        SymbolTable::Dynsym => format!(
+            "its types are for the {count} functions and objects of .dynsym, which strip keeps; \
+             those that are not exported are left out"
+        ),
+        SymbolTable::Names if count != 0 => format!(
+            "it is stripped of .symtab: the {count} functions and objects are those of {}, by their \
+             names",
+            debug.path().display()
+        ),
+        _ if count == 0 && elf::symbols_of(image, SymbolTable::Dynsym)?.is_some() => {
+            "it is stripped of .symtab: symbols are left out; --symbols dynsym has those that it \
+             exports"
+                .to_owned()
+        }
+        _ => String::new(),
+    })
+}
+
+/// The types of all object files in an archive. Of symbols nothing is told: it has no table of them
+/// that a dictionary could go by.
+fn with_archive(image: &Image, data: &[u8], options: &Options, run: &mut Use<'_>) -> Result<()> {
+    let path = image.path();
+    judge_number(Form::Dwarf, options).map_err(|error| error.of(path.display()))?;
+    let members = members(path, data).map_err(|error| error.of(path.display()))?;
+    let mut model = options.model;
+    let mut with_debug = Vec::new();
+    for member in &members {
+        let name = member.path().display().to_string();
+        let file = member.elf().map_err(|error| error.of(&name))?;
+        let own = model_of(&file);
+        let wanted = *model.get_or_insert(own);
+        if own != wanted {
+            return refuse(format!(
+                "{name} is of {}, and not of {}: take the members of one model out by ar x",
+                labels::model_word(own),
+                labels::model_word(wanted)
+            ));
+        }
+        if elf::has_debug(&file) {
+            let sections = sections::Sections::load(member, &options.folders)
+                .map_err(|error| error.of(&name))?;
+            with_debug.push((member, sections));
+        }
+    }
+    let is_ilp32 = model == Some(Model::Ilp32);
+    let mut collector = Collector::default();
+    for (member, sections) in &with_debug {
+        let read = || collector.read(&Debug::new(sections)?, &[], is_ilp32);
+        read_named(read, member.path())?;
+    }
+    if with_debug.is_empty() {
+        let is_lto = |member: &Image| member.elf().is_ok_and(|file| elf::is_lto(&file));
+        let advice = match members.iter().any(is_lto) {
+            true => elf::LINK_IT,
+            false => "compile these with -g",
+        };
+        return refuse(format!(
+            "{}: an archive in which no object file has debug information: {advice}",
+            path.display()
+        ));
+    }
+    let symbols = Symbols::default();
+    let (table, roots) =
+        collector.finish(&symbols, false, is_ilp32).map_err(|error| error.of(path.display()))?;
+    let note = String::new();
+    run(ProgramTypes { table, roots, bases: 0, form: Form::Dwarf, symbols, note })
+}
+
+fn read_named(mut read: impl FnMut() -> Result<()>, path: &Path) -> Result<()> {
+    read().map_err(|error| error.of(path.display()))
+}
+
+/// The object files of an archive; those of a thin one are files beside it.
+fn members(path: &Path, data: &[u8]) -> Result<Vec<Image>> {
+    if data.starts_with(THIN) {
+        return thin_members(path, data);
+    }
+    let archive = ArchiveFile::parse(data).map_err(|_| Error("a damaged archive".to_owned()))?;
+    let mut found = Vec::new();
+    for member in archive.members() {
+        let member = member.map_err(|_| Error("a damaged archive".to_owned()))?;
+        let name = String::from_utf8_lossy(member.name()).into_owned();
+        let path = PathBuf::from(format!("{}({name})", path.display()));
+        let held = member.data(data).map_err(|_| Error("an archive that is cut off".to_owned()))?;
+        found.push(Image::of_bytes(path, held.to_vec()));
+    }
+    found.retain(Image::is_elf);
+    Ok(found)
+}
+
+const THIN: &[u8] = b"!<thin>\n";
+const MEMBER: usize = 60;
+
+/// The object files of a thin archive, which the crate for archives does not read: a header for each,
+/// and of bytes only those of the list of long names.
+fn thin_members(path: &Path, data: &[u8]) -> Result<Vec<Image>> {
+    let damage = || Error("a damaged archive".to_owned());
+    let (mut names, mut found, mut at) = (&[][..], Vec::new(), THIN.len());
+    while let Some(header) = data.get(at..at + MEMBER) {
+        at += MEMBER;
+        let name = std::str::from_utf8(&header[..16]).map_err(|_| damage())?.trim_end();
+        let size =
+            std::str::from_utf8(&header[48..58]).ok().and_then(|size| size.trim().parse().ok());
+        let size: usize = size.filter(|_| header[58..] == *b"`\n").ok_or_else(damage)?;
+        if matches!(name, "/" | "/SYM64/" | "//") {
+            let held = at.checked_add(size).and_then(|end| data.get(at..end)).ok_or_else(damage)?;
+            if name == "//" {
+                names = held;
+            }
+            at += size + size % 2;
+            continue;
+        }
+        let long = name.strip_prefix('/').and_then(|place| place.parse::<usize>().ok());
+        let name = match long {
+            Some(place) => {
+                let rest = names.get(place..).ok_or_else(damage)?;
+                let end = rest.iter().position(|&byte| byte == b'\n').unwrap_or(rest.len());
+                String::from_utf8_lossy(&rest[..end]).into_owned()
+            }
+            None => name.to_owned(),
+        };
+        let beside = path.parent().unwrap_or(Path::new("")).join(name.trim_end_matches('/'));
+        let member = Image::linked(&beside).ok_or_else(|| {
+            Error(format!("its member {} is no regular file that can be read", beside.display()))
+        })?;
+        found.push(member);
+    }
+    found.retain(Image::is_elf);
+    Ok(found)
+}
+
+// Sections.
+
+fn with_ctf(
+    section: &Section<'_>,
+    is_ilp32: bool,
+    options: &Options,
+    run: &mut Use<'_>,
+) -> Result<()> {
+    let plain = ctf::inflate(choose(section.data, options.number)?)?;
+    let sections = Sections::of(&plain)?;
+    let told = if is_ilp32 { Model::Ilp32 } else { Model::Lp64 };
+    let model = labels::model(&sections).unwrap_or(told);
+    let of_file = section.file.map(|file| file.elf().map(|file| model_of(&file))).transpose()?;
+    if options.model.or(of_file).is_some_and(|wanted| wanted != model) {
+        return refuse(format!(
+            "it says that it is of {}, and {} was asked for",
+            labels::model_word(model),
+            labels::model_word(options.model.or(of_file).unwrap_or(told))
+        ));
+    }
+    let mut of_table = |parent: Option<Table<'_>>| -> Result<()> {
+        let mut table = ctf::table_of(&sections, section.strings, parent)?;
+        table.is_ilp32 = model == Model::Ilp32;
+        let symbols = symbols_of(section.file, &sections)?;
+        if symbols.is_none() && labels::symbols(&sections).is_some() {
+            table.objects.clear();
+            table.functions.clear();
+        }
+        let (roots, bases) = ((table.bases + 1..=table.len()).collect(), table.bases);
+        let (symbols, note) = (symbols.unwrap_or_default(), String::new());
+        run(ProgramTypes { table, roots, bases, form: Form::Ctf, symbols, note })
+    };
+    let Some(base) = &options.base else { return of_table(None) };
+    let image = Image::open(base)?;
+    let of_parent = Options { model: Some(model), ..Options::default() };
+    with_types(&image, &of_parent, |parent| {
+        let bytes = plain_bytes(&image, None)?;
+        let of_parent = labels::of_types(&Sections::of(&bytes)?);
+        let label = Names(sections.names).at(u64::from(sections.parent_label & 0x7fff_ffff));
+        if let Some(why) = labels::not_its_parent(label.unwrap_or_default(), &of_parent) {
+            return refuse(format!("{}, as its parent: {why}", base.display()));
+        }
+        of_table(Some(parent.table))
+    })
+}
+
+/// The dictionary of a number, which counts from 1, or the only one.
+fn choose(section: &[u8], number: Option<usize>) -> Result<&[u8]> {
+    let found = ctf::each(section);
+    match number {
+        None if found.len() == 1 => Ok(found[0]),
+        Some(number) if (1..=found.len()).contains(&number) => Ok(found[number - 1]),
+        Some(number) => refuse(format!(
+            "its section: it has {}: there is no number {number}",
+            description_of_all(&found)
+        )),
+        None => refuse(format!(
+            "its section: it has {}: one is chosen by --dictionary N (ctfd-convert takes it out), \
+             and ctfd-convert --from dwarf makes one of all",
+            description_of_all(&found)
+        )),
+    }
+}
+
+/// How many dictionaries a line describes.
+const LISTED: usize = 10;
+
+/// How many dictionaries there are, each with its number, its types and the first name of one.
+fn description_of_all(found: &[&[u8]]) -> String {
+    let described =
+        |(place, ctf): (usize, &&[u8])| format!("{} ({})", place + 1, description_of(ctf));
+    let each: Vec<String> = found.iter().take(LISTED).enumerate().map(described).collect();
+    let more = match found.len() {
+        count if count > LISTED => format!(" and {} more", count - LISTED),
+        _ => String::new(),
+    };
+    let plural = match found.len() {
+        1 => "dictionary",
+        _ => "dictionaries, one behind the other",
+    };
+    format!("{} {plural}: {}{more}", found.len(), each.join(", "))
+}
+
+fn description_of(ctf: &[u8]) -> String {
+    let describe = || -> Result<String> {
+        let plain = ctf::inflate(ctf)?;
+        let table = ctf::table_of(&Sections::of(&plain)?, &[], None)?;
+        let own = &table.records[table.bases as usize..];
+        let is_telling = |record: &&Record<'_>| {
+            let is_tagged = record.kind.is_aggregate() || record.kind == Kind::Enum;
+            !record.name.is_empty() && (is_tagged || record.kind == Kind::Typedef)
+        };
+        let named = own.iter().filter(is_telling).min_by_key(|record| !record.kind.is_aggregate());
+        let name = named.map(|record| format!(", {}", record.tagged())).unwrap_or_default();
+        Ok(format!("{} types{name}", own.len()))
+    };
+    describe().unwrap_or_else(|_| format!("{} bytes, damaged", ctf.len()))
+}
+
+/// The bytes of a file's dictionary, inflated: of its section, or of a section by itself.
+pub fn plain_bytes(image: &Image, number: Option<usize>) -> Result<Vec<u8>> {
+    if !image.is_elf() {
+        return Ok(ctf::inflate(choose(image.all()?, number)?)?.into_owned());
+    }
+    let file = image.elf()?;
+    for name in Form::Ctf.sections() {
+        if let Some(section) = file.section_by_name(name) {
+            let data = section.uncompressed_data()?;
+            return Ok(ctf::inflate(choose(&data, number)?)?.into_owned());
+        }
+    }
+    refuse("an ELF file without .SUNW_ctf or .ctf")
+}
+
+fn with_gnu(
+    section: &Section<'_>,
+    is_ilp32: bool,
+    options: &Options,
+    run: &mut Use<'_>,
+) -> Result<()> {
+    let dictionaries = gnu::dictionaries(section.data)?;
+    let mut strings = section.strings;
+    if let Some(file) = section.file.filter(|_| gnu::is_dynamic(&dictionaries)) {
+        strings = elf::section_bytes(file, ".dynstr")?;
+    }
+    let mut table = Table { is_ilp32, ..Table::default() };
+    let entries = gnu::read(&dictionaries, strings, &mut table)?;
+    let of_file = |file| -> Result<FileSymbols<'_>> {
+        let of = |table| Ok::<_, Error>(elf::symbols_of(file, table)?.unwrap_or_default());
+        Ok(FileSymbols { symtab: of(SymbolTable::Symtab)?, dynsym: of(SymbolTable::Dynsym)? })
+    };
+    let file = section.file.map(of_file).transpose()?;
+    let symbols = describe(&mut table, &entries, file.as_ref(), options.symbols)?;
+    let note = match section.file {
+        Some(file) => gnu_note(&table, file, &symbols)?,
+        None => String::new(),
+    };
+    let roots = (1..=table.len()).filter(|&n| is_wanted(table.get(n))).collect();
+    run(ProgramTypes { table, roots, bases: 0, form: Form::Gnu, symbols, note })
+}
+
+/// What is wanted for itself: what has a name, and the names of an enum.
+fn is_wanted(record: &Record<'_>) -> bool {
+    !record.name.is_empty() || record.kind == Kind::Enum
+}
+
+/// What is to be known of symbols of which GNU's CTF tells nothing.
+fn gnu_note(table: &Table<'_>, file: &Image, symbols: &Symbols<'_>) -> Result<String> {
+    if table.objects.iter().any(|&n| n != 0) || table.functions.iter().any(Option::is_some) {
+        return Ok(String::new());
+    }
+    if symbols.listed.is_empty() {
+        return note(file, symbols, file);
+    }
+    Ok(format!(
+        "its GNU CTF tells nothing of the {} functions and objects of {}: ld keeps that of what a \
+         file exports; -g tells of all",
+        symbols.listed.len(),
+        symbols.table.word()
+    ))
+}
+
+fn with_btf(
+    section: &Section<'_>,
+    is_ilp32: bool,
+    options: &Options,
+    run: &mut Use<'_>,
+) -> Result<()> {
+    let base = options.base.as_deref().map(btf_of).transpose()?;
+    let mut table = Table { is_ilp32, ..Table::default() };
+    let base = base.as_ref().map(|bytes| btf::read(bytes, &mut table, None)).transpose()?;
+    let bases = table.len();
+    let found = btf::read(section.data, &mut table, base.as_ref())?;
+    let symbols = match section.file {
+        Some(file) => elf::symbols_of(file, options.symbols)?.unwrap_or_default(),
+        None => Symbols::default(),
+    };
+    let symbols = if symbols.listed.is_empty() {
+        by_names(&mut table, &found)
+    } else {
+        by_symbols(&mut table, &found, &symbols);
+        symbols
+    };
+    let note = String::new();
+    run(ProgramTypes { table, roots: found.roots, bases, form: Form::Btf, symbols, note })
+}
+
+/// What BTF tells of the symbols of its file.
+fn by_symbols(table: &mut Table<'_>, found: &btf::Btf<'_>, symbols: &Symbols<'_>) {
+    let of = |listed: &'_ [btf::NamedSymbol<'_>]| -> HashMap<Vec<u8>, u32> {
+        listed.iter().map(|one| (one.name.to_vec(), one.of)).collect()
+    };
+    let (objects, functions) = (of(&found.objects), of(&found.functions));
+    table.objects =
+        symbols.objects().map(|one| objects.get(&*one.name).copied().unwrap_or(0)).collect();
+    let told: Vec<u32> =
+        symbols.functions().map(|one| functions.get(&*one.name).copied().unwrap_or(0)).collect();
+    table.functions = told.into_iter().map(|n| prototype(table, n)).collect();
+    let known: HashSet<&[u8]> = symbols.listed.iter().map(|one| &*one.name).collect();
+    let all: HashSet<&[u8]> = objects.keys().chain(functions.keys()).map(Vec::as_slice).collect();
+    let missing = all.difference(&known).count();
+    if missing != 0 {
+        table.losses.push(format!(
+            "{missing} functions and variables of its BTF have no symbol in the file, and are left \
+             out"
+        ));
+    }
+}
+
+/// What BTF tells of functions and variables of which it has the names alone.
+fn by_names<'a>(table: &mut Table<'a>, found: &btf::Btf<'a>) -> Symbols<'a> {
+    let objects: Vec<&btf::NamedSymbol<'a>> =
+        found.objects.iter().filter(|one| one.of != 0).collect();
+    let functions: Vec<(&btf::NamedSymbol<'a>, Record<'a>)> =
+        found.functions.iter().filter_map(|one| Some((one, prototype(table, one.of)?))).collect();
+    let symbol =
+        |name: &Cow<'a, [u8]>, is_function| Symbol { name: name.clone(), address: 0, is_function };
+    let listed = objects
+        .iter()
+        .map(|one| symbol(&one.name, false))
+        .chain(functions.iter().map(|(one, _)| symbol(&one.name, true)))
+        .collect();
+    table.objects = objects.iter().map(|one| one.of).collect();
+    table.functions = functions.into_iter().map(|(_, record)| Some(record)).collect();
+    Symbols { table: SymbolTable::Names, listed }
+}
+
+fn prototype<'a>(table: &Table<'a>, number: u32) -> Option<Record<'a>> {
+    let record = (number != 0).then(|| table.get(number))?;
+    (record.kind == Kind::Function).then(|| record.clone())
+}
+
+/// The BTF of a base: the bytes of such a section, or an ELF file that has one.
+fn btf_of(path: &Path) -> Result<Vec<u8>> {
+    let image = Image::open(path)?;
+    if image.is_elf() {
+        let file = image.elf().map_err(|error| error.of(path.display()))?;
+        let Some(section) = file.section_by_name(".BTF") else {
+            return refuse(format!("{}: the base has no section .BTF", path.display()));
+        };
+        let data =
+            section.uncompressed_data().map_err(|error| Error::from(error).of(path.display()))?;
+        return Ok(data.into_owned());
+    }
+    let data = image.all().map_err(|error| error.of(path.display()))?;
+    if !btf::is_btf(data) {
+        return refuse(format!("{}: the base is no BTF", path.display()));
+    }
+    Ok(data.to_vec())
+}

@@ -1,0 +1,287 @@
+//! What one unit tells, joined to what all before it told: most units repeat the types of others.
+//!
+//! Two types become one where no walk along their references shows a difference. A struct or union
+//! of a name is compared with those that look like it; what has none follows from what it names,
+//! since without names nothing in C leads round. What a bound leaves apart, `merge` finds.
+
+use crate::table::{Record, Table};
+use std::collections::{HashMap, HashSet};
+use std::hash::{BuildHasherDefault, Hash, Hasher};
+
+/// With how many that look alike a struct is compared, and how many members and types are looked at
+/// for each type of a unit.
+const MOST_ALIKE: usize = 32;
+const MOST_STEPS: u64 = 256;
+
+/// A hasher of numbers that are hashes already, or places.
+#[derive(Default)]
+pub struct NumberHasher(u64);
+
+impl Hasher for NumberHasher {
+    fn finish(&self) -> u64 {
+        self.0
+    }
+
+    fn write(&mut self, _: &[u8]) {
+        unreachable!("numbers alone are hashed here");
+    }
+
+    fn write_u64(&mut self, number: u64) {
+        self.0 = number.wrapping_mul(0x9e37_79b9_7f4a_7c15);
+        self.0 ^= self.0 >> 32;
+    }
+}
+
+/// Types by a hash: the first of each, and for each type the next.
+#[derive(Default)]
+struct Chains {
+    first: HashMap<u64, u32, BuildHasherDefault<NumberHasher>>,
+    next: Vec<u32>,
+}
+
+impl Chains {
+    fn of(&self, hash: u64) -> impl Iterator<Item = u32> + '_ {
+        let first = self.first.get(&hash).copied().filter(|&n| n != 0);
+        std::iter::successors(first, |&n| Some(self.next[n as usize]).filter(|&n| n != 0))
+    }
+
+    fn add(&mut self, hash: u64, number: u32) {
+        if self.next.len() <= number as usize {
+            self.next.resize(number as usize + 1, 0);
+        }
+        self.next[number as usize] = self.first.insert(hash, number).unwrap_or(0);
+    }
+}
+
+/// The types of one unit, with numbers of its own from 1 on, and how each shape.
+pub struct Piece<'a> {
+    pub records: Vec<Record<'a>>,
+    pub shape: Vec<u64>,
+}
+
+impl<'a> Piece<'a> {
+    pub fn new(records: Vec<Record<'a>>) -> Piece<'a> {
+        let shape = records.iter().map(Record::shape).collect();
+        Piece { records, shape }
+    }
+
+    fn get(&self, number: u32) -> &Record<'a> {
+        &self.records[number as usize - 1]
+    }
+
+    fn shape(&self, number: u32) -> u64 {
+        self.shape[number as usize - 1]
+    }
+}
+
+/// The types of a table that are known so far, each once.
+#[derive(Default)]
+pub struct Joiner<'a> {
+    pub table: Table<'a>,
+    shape: Vec<u64>,
+    known: Chains,
+    named: Chains,
+}
+
+/// What a unit's types were found to be: 0 for what is not known yet, a number of the table, or one
+/// behind all of these for the unit's own.
+struct Found {
+    is: Vec<u32>,
+    pairs: Vec<u32>,
+    differ: HashSet<(u32, u32)>,
+    steps: u64,
+}
+
+impl<'a> Joiner<'a> {
+    /// Takes the types of a unit in. For each of its numbers, 0 too, that of the table.
+    pub fn join(&mut self, piece: Piece<'a>) -> Vec<u32> {
+        let count = piece.records.len() as u32;
+        let mut found = Found {
+            is: vec![0; count as usize + 1],
+            pairs: vec![0; count as usize + 1],
+            differ: HashSet::new(),
+            steps: MOST_STEPS * u64::from(count) + MOST_STEPS,
+        };
+        for number in 1..=count {
+            if found.is[number as usize] == 0 && piece.get(number).is_named_aggregate() {
+                self.compare(&piece, number, &mut found);
+            }
+        }
+        for number in 1..=count {
+            if found.is[number as usize] == 0 && piece.get(number).is_named_aggregate() {
+                found.is[number as usize] = self.table.len() + number;
+            }
+        }
+        let mut fresh = Chains::default();
+        for number in 1..=count {
+            self.look_up(&piece, number, &mut found, &mut fresh);
+        }
+        self.take(piece, found.is)
+    }
+
+    /// Writes what is new behind what is known, in the order of its first copies.
+    fn take(&mut self, piece: Piece<'a>, is: Vec<u32>) -> Vec<u32> {
+        let known = self.table.len();
+        let mut to = vec![0; is.len()];
+        let mut kept = vec![0; is.len()];
+        let mut order = Vec::new();
+        for number in 1..is.len() {
+            let mut same = is[number];
+            if same > known {
+                let own = &mut kept[(same - known) as usize];
+                if *own == 0 {
+                    order.push(same - known);
+                    *own = known + order.len() as u32;
+                }
+                same = *own;
+            }
+            to[number] = same;
+        }
+        let mut records: Vec<Option<Record>> = piece.records.into_iter().map(Some).collect();
+        for own in order {
+            let mut record = records[own as usize - 1].take().expect("each is kept once");
+            record.renumber(|n| to[n as usize]);
+            let shape = piece.shape[own as usize - 1];
+            let hash = with_references(shape, record.references());
+            let is_named = record.is_named_aggregate();
+            let number = self.table.add(record);
+            self.shape.push(shape);
+            self.known.add(hash, number);
+            if is_named {
+                self.named.add(shape, number);
+            }
+        }
+        to
+    }
+
+    /// Finds a struct or union, with all that it names, among those that are known.
+    fn compare(&mut self, piece: &Piece<'a>, number: u32, found: &mut Found) {
+        let alike: Vec<u32> = self.named.of(piece.shape(number)).take(MOST_ALIKE).collect();
+        for other in alike {
+            if !found.differ.contains(&(number, other)) && self.is_same(piece, number, other, found)
+            {
+                return;
+            }
+        }
+    }
+
+    /// Whether a new type, and all that it names, are the same as known ones; if so these are found.
+    /// Where two differ, so do all on the way to them: none of these is compared again.
+    fn is_same(&self, piece: &Piece<'a>, number: u32, other: u32, found: &mut Found) -> bool {
+        found.pairs[number as usize] = other;
+        let mut met = vec![(number, 0)];
+        let mut at = 0;
+        let mut differs = None;
+        while at < met.len() && differs.is_none() {
+            let one = met[at].0;
+            let same = found.pairs[one as usize];
+            let (mine, theirs) = (piece.get(one), self.table.get(same));
+            let cost = 1 + mine.members().len() as u64;
+            let is_alike = piece.shape(one) == self.shape[same as usize - 1];
+            if found.steps < cost || !is_alike || !mine.has_shape_of(theirs) {
+                differs = Some(at);
+            }
+            found.steps = found.steps.saturating_sub(cost);
+            if differs.is_none() && !pair_all(mine, theirs, at, found, &mut met) {
+                differs = Some(at);
+            }
+            at += 1;
+        }
+        if let Some(mut at) = differs {
+            loop {
+                let one = met[at].0;
+                found.differ.insert((one, found.pairs[one as usize]));
+                if at == 0 {
+                    break;
+                }
+                at = met[at].1;
+            }
+        }
+        for &(one, _) in &met {
+            let same = std::mem::take(&mut found.pairs[one as usize]);
+            if differs.is_none() {
+                found.is[one as usize] = same;
+            }
+        }
+        differs.is_none()
+    }
+
+    /// Finds a type, and before it all that it names, among those that are known.
+    fn look_up(&self, piece: &Piece<'a>, number: u32, found: &mut Found, fresh: &mut Chains) {
+        const BEGUN: u32 = u32::MAX;
+        let mut todo = vec![number];
+        while let Some(&number) = todo.last() {
+            let place = number as usize;
+            let record = piece.get(number);
+            if found.is[place] != 0 {
+                todo.pop();
+            } else if found.pairs[place] != BEGUN {
+                found.pairs[place] = BEGUN;
+                let is_open = |n: &u32| {
+                    *n != 0 && found.is[*n as usize] == 0 && found.pairs[*n as usize] != BEGUN
+                };
+                todo.extend(record.references().filter(is_open));
+            } else {
+                todo.pop();
+                found.is[place] = self.of_record(piece, number, found, fresh);
+            }
+        }
+    }
+
+    /// A type whose references are found.
+    fn of_record(&self, piece: &Piece<'a>, number: u32, found: &Found, fresh: &mut Chains) -> u32 {
+        let record = piece.get(number);
+        let of = |n: u32| found.is[n as usize];
+        let hash = with_references(piece.shape(number), record.references().map(of));
+        let known = self.known.of(hash).find(|&other| {
+            let other = self.table.get(other);
+            record.has_shape_of(other) && record.references().map(of).eq(other.references())
+        });
+        let own = || {
+            fresh.of(hash).find(|&other| {
+                let other = piece.get(other);
+                let references = other.references().map(of);
+                record.has_shape_of(other) && record.references().map(of).eq(references)
+            })
+        };
+        if let Some(known) = known {
+            return known;
+        }
+        if let Some(own) = own() {
+            return self.table.len() + own;
+        }
+        fresh.add(hash, number);
+        self.table.len() + number
+    }
+}
+
+/// Pairs what two types name; false where that differs.
+fn pair_all(
+    mine: &Record<'_>,
+    theirs: &Record<'_>,
+    at: usize,
+    found: &mut Found,
+    met: &mut Vec<(u32, usize)>,
+) -> bool {
+    for (x, y) in mine.references().zip(theirs.references()) {
+        let known = match found.is[x as usize] {
+            0 => found.pairs[x as usize],
+            known => known,
+        };
+        let is_open = x != 0 && known == 0;
+        if is_open && y != 0 && !found.differ.contains(&(x, y)) {
+            found.pairs[x as usize] = y;
+            met.push((x, at));
+        } else if is_open || known != y {
+            return false;
+        }
+    }
+    true
+}
+
+fn with_references(shape: u64, references: impl Iterator<Item = u32>) -> u64 {
+    let mut hasher = ahash::AHasher::new_with_keys(1, 2);
+    shape.hash(&mut hasher);
+    references.for_each(|n| n.hash(&mut hasher));
+    hasher.finish()
+}

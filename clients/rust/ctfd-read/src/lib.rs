@@ -1,0 +1,30 @@
+//! The types of C programs from their debug information, as CTF dictionaries.
+//!
+//! [`inputs::with_types`] reads a file of any form. The units of debug information are read many at
+//! a time by [`gimli`] and [`rayon`], each into records of its own; `join` makes one table of them,
+//! in which each type stands once, and `limits` makes that say no more than CTF holds.
+//! [`dictionary`] makes a dictionary of it, alone or over a parent, whose bytes `section` writes
+//! and the library of this project, which is proved, opens before anybody gets them.
+
+mod btf;
+mod bytes;
+mod ctf;
+mod descriptions;
+pub mod dictionary;
+mod dwarf;
+mod elf;
+pub mod error;
+mod gnu;
+mod gnu_symbols;
+pub mod image;
+pub mod inputs;
+mod join;
+mod labels;
+mod limits;
+mod merge;
+mod nearest;
+mod section;
+mod select;
+mod sound;
+pub mod symbols;
+pub mod table;

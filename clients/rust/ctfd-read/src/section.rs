@@ -1,0 +1,225 @@
+//! The bytes of a dictionary of CTF version 2, from a table that says no more than that holds.
+
+use crate::error::{refuse, Result};
+use crate::table::{Kind, Record, Table};
+use std::collections::HashMap;
+
+const MAGIC: u16 = 0xcff1;
+const VERSION: u8 = 2;
+/// Structs and unions of so many bytes or more have members in the long form.
+pub const LONG_MEMBERS: u64 = 8192;
+/// Stands in the field of a record whose size does not fit it.
+pub const LONG_SIZE: u64 = 0xffff;
+/// The number from which on a child's types are its own.
+const CHILD: u32 = 0x8000;
+/// How many types a dictionary has at most.
+pub const MOST_TYPES: u32 = 32_766;
+
+/// Bytes that are appended to, little-endian.
+#[derive(Default)]
+struct Bytes(Vec<u8>);
+
+impl Bytes {
+    fn half(&mut self, value: u64) {
+        self.0.extend((value as u16).to_le_bytes());
+    }
+
+    fn word(&mut self, value: u64) {
+        self.0.extend((value as u32).to_le_bytes());
+    }
+
+    /// The high and the low half of a number of 64 bits.
+    fn two(&mut self, value: u64) {
+        self.word(value >> 32);
+        self.word(value);
+    }
+}
+
+/// The string section; each name stands there once.
+struct Names<'t> {
+    bytes: Vec<u8>,
+    known: HashMap<&'t [u8], u64>,
+}
+
+impl<'t> Names<'t> {
+    fn place(&mut self, name: &'t [u8]) -> u64 {
+        let name = name.split(|&byte| byte == 0).next().unwrap_or(name);
+        if name.is_empty() {
+            return 0;
+        }
+        let end = self.bytes.len() as u64;
+        let place = *self.known.entry(name).or_insert(end);
+        if place == end {
+            self.bytes.extend(name);
+            self.bytes.push(0);
+        }
+        place
+    }
+
+    fn append(&mut self, name: &[u8]) -> u64 {
+        let place = self.bytes.len() as u64;
+        self.bytes.extend(name);
+        self.bytes.push(0);
+        place
+    }
+}
+
+/// The section of a table. One whose `parent_name` is not empty is a child: the first `bases` types
+/// of the table are then those of its parent, and are not written.
+pub fn encode(table: &Table<'_>) -> Result<Vec<u8>> {
+    let is_child = !table.parent_name.is_empty();
+    let bases = if is_child { table.bases } else { 0 };
+    if table.len() - bases > MOST_TYPES {
+        let count = table.len() - bases;
+        return refuse(format!("{count} types are more than the {MOST_TYPES} of a dictionary"));
+    }
+    let number = |n: u32| if is_child && n > bases { n - bases + CHILD } else { n };
+    let mut names = Names { bytes: vec![0], known: HashMap::new() };
+    let (parent, label) = (names.place(&table.parent_name), names.place(&table.parent_label));
+    let mut types = Bytes::default();
+    for record in &table.records[bases as usize..] {
+        write(record, &number, &mut names, &mut types)?;
+    }
+    let (objects, functions) = symbols(table, &number);
+    let mut labels = Bytes::default();
+    for (label, last) in &table.labels {
+        labels.word(names.append(label));
+        labels.word(number(*last).into());
+    }
+    let mut made = Bytes::default();
+    made.half(MAGIC.into());
+    made.0.extend([VERSION, 0]);
+    made.word(label);
+    made.word(parent);
+    let mut end = 0;
+    made.word(end);
+    for section in [&labels, &objects, &functions, &types] {
+        end += section.0.len() as u64;
+        made.word(end);
+    }
+    made.word(names.bytes.len() as u64);
+    let sections = [labels.0, objects.0, functions.0, types.0, names.bytes];
+    made.0.extend(sections.concat());
+    Ok(made.0)
+}
+
+/// The entries of objects, and those of functions, padded to four bytes together.
+fn symbols(table: &Table<'_>, number: &impl Fn(u32) -> u32) -> (Bytes, Bytes) {
+    let (mut objects, mut functions) = (Bytes::default(), Bytes::default());
+    table.objects.iter().for_each(|&n| objects.half(number(n).into()));
+    for one in &table.functions {
+        let Some(function) = one else {
+            functions.half(0);
+            continue;
+        };
+        let listed = arguments(function, number);
+        functions.half((Kind::Function as u64) << 11 | 1 << 10 | listed.len() as u64);
+        functions.half(number(function.of).into());
+        listed.into_iter().for_each(|n| functions.half(n));
+    }
+    while (objects.0.len() + functions.0.len()) % 4 != 0 {
+        functions.0.push(0);
+    }
+    (objects, functions)
+}
+
+/// The arguments; a 0 behind them says that more may follow.
+fn arguments(function: &Record<'_>, number: &impl Fn(u32) -> u32) -> Vec<u64> {
+    let mut listed: Vec<u64> = function.arguments().iter().map(|&n| number(n).into()).collect();
+    listed.extend(function.varargs.then_some(0));
+    listed
+}
+
+/// One record, in the long form where its size needs it.
+fn write<'t>(
+    record: &'t Record<'_>,
+    number: &impl Fn(u32) -> u32,
+    names: &mut Names<'t>,
+    made: &mut Bytes,
+) -> Result<()> {
+    let length = match record.kind {
+        Kind::Function => arguments(record, number).len(),
+        _ => record.members().len() + record.values().len(),
+    };
+    let field = match record.kind {
+        Kind::Forward => record.tag as u64,
+        Kind::Integer | Kind::Float | Kind::Array | Kind::Struct | Kind::Union | Kind::Enum => {
+            record.size
+        }
+        _ => number(record.of).into(),
+    };
+    // The head stands in front, but its name comes behind those of members in the strings.
+    let tail = tail_of(record, number, names)?;
+    made.word(names.place(&record.name));
+    made.half((record.kind as u64) << 11 | u64::from(record.root) << 10 | length as u64);
+    made.half(field.min(LONG_SIZE));
+    if field >= LONG_SIZE {
+        made.two(field);
+    }
+    made.0.extend(tail.0);
+    Ok(())
+}
+
+/// What stands behind the head of a record.
+fn tail_of<'t>(
+    record: &'t Record<'_>,
+    number: &impl Fn(u32) -> u32,
+    names: &mut Names<'t>,
+) -> Result<Bytes> {
+    let mut tail = Bytes::default();
+    match record.kind {
+        Kind::Integer | Kind::Float => {
+            if record.encoding.bits > 0xffff {
+                return refuse(format!(
+                    "{}: a width that no type of C has: damage",
+                    record.tagged()
+                ));
+            }
+            let (flags, offset) =
+                (u64::from(record.encoding.flags), u64::from(record.encoding.offset));
+            tail.word(flags << 24 | offset << 16 | record.encoding.bits);
+        }
+        Kind::Array => {
+            tail.half(number(record.of).into());
+            tail.half(number(record.index).into());
+            tail.word(record.elements);
+        }
+        Kind::Function => {
+            let listed = arguments(record, number);
+            listed.iter().for_each(|&n| tail.half(n));
+            if listed.len() % 2 != 0 {
+                tail.half(0);
+            }
+        }
+        Kind::Struct | Kind::Union => members(record, number, names, &mut tail)?,
+        _ => {
+            for one in record.values() {
+                tail.word(names.place(&one.name));
+                tail.word(one.value as u64);
+            }
+        }
+    }
+    Ok(tail)
+}
+
+fn members<'t>(
+    record: &'t Record<'_>,
+    number: &impl Fn(u32) -> u32,
+    names: &mut Names<'t>,
+    tail: &mut Bytes,
+) -> Result<()> {
+    for one in record.members() {
+        tail.word(names.place(&one.name));
+        tail.half(number(one.of).into());
+        if record.size >= LONG_MEMBERS {
+            tail.half(0);
+            tail.two(one.offset);
+        } else if one.offset <= 0xffff {
+            tail.half(one.offset);
+        } else {
+            let tagged = record.tagged();
+            return refuse(format!("{tagged}: a member lies outside of it: damage"));
+        }
+    }
+    Ok(())
+}

@@ -1,0 +1,107 @@
+//! Whether a table can be written at all: what is read of damaged files may say what no program has.
+
+use crate::error::{refuse, Result};
+use crate::table::{Kind, Record, Table};
+
+/// Refuses a table in which a type names one that is not there, or has a place or a size that no
+/// type of C has.
+pub fn judge(table: &Table<'_>) -> Result<()> {
+    let count = table.len();
+    for record in &table.records {
+        if record.references().any(|n| n > count) {
+            return refuse(format!("{} names a type that is not there: damage", name_of(record)));
+        }
+        if record.size >= LONGEST || record.elements >= LONGEST || record.encoding.bits > 0xffff {
+            return refuse(format!("{} has a size that no type of C has: damage", name_of(record)));
+        }
+        if record.kind.is_aggregate() {
+            judge_members(record)?;
+        }
+    }
+    if table.symbol_roots().iter().any(|&n| n > count) {
+        return refuse("a symbol has a type that is not there: damage");
+    }
+    judge_depth(table, by_value)?;
+    judge_depth(table, as_declared)
+}
+
+/// What a value of a type is made of.
+fn by_value(record: &Record<'_>) -> Vec<u32> {
+    match record.kind {
+        kind if kind.is_aggregate() => record.members().iter().map(|one| one.of).collect(),
+        Kind::Typedef | Kind::Array => vec![record.of],
+        kind if kind.is_qualifier() => vec![record.of],
+        _ => Vec::new(),
+    }
+}
+
+/// What a declaration goes on with.
+fn as_declared(record: &Record<'_>) -> Vec<u32> {
+    match record.kind {
+        Kind::Typedef | Kind::Pointer | Kind::Function | Kind::Array => vec![record.of],
+        kind if kind.is_qualifier() => vec![record.of],
+        _ => Vec::new(),
+    }
+}
+
+/// Refuses a table in which types lead on further than those of a program, or without end: all that
+/// looks at them would take a step for each pair of them.
+fn judge_depth(table: &Table<'_>, leads: fn(&Record<'_>) -> Vec<u32>) -> Result<()> {
+    const BEGUN: u32 = u32::MAX;
+    // From each type, and one more; 0 while that is not known.
+    let mut steps = vec![0u32; table.len() as usize + 1];
+    for number in 1..=table.len() {
+        let mut todo = vec![number];
+        while let Some(&here) = todo.last() {
+            let inner: Vec<u32> = leads(table.get(here)).into_iter().filter(|&n| n != 0).collect();
+            let place = here as usize;
+            if steps[place] == 0 {
+                steps[place] = BEGUN;
+                if inner.iter().any(|&n| steps[n as usize] == BEGUN) {
+                    return refuse("a type leads back to itself: damage");
+                }
+                todo.extend(inner.iter().filter(|&&n| steps[n as usize] == 0));
+                continue;
+            }
+            if steps[place] == BEGUN {
+                steps[place] = 1 + inner.iter().map(|&n| steps[n as usize]).max().unwrap_or(0);
+            }
+            todo.pop();
+            if steps[place] > DEEPEST + 1 {
+                return refuse(format!(
+                    "more than {DEEPEST} types lead from one to the next: no C program has such"
+                ));
+            }
+        }
+    }
+    Ok(())
+}
+
+/// How many types lead from one to the next at most, as a dictionary's rules have it.
+const DEEPEST: u32 = 512;
+
+const LONGEST: u64 = 1 << 60;
+
+/// A member of a struct that is not large has 16 bits for its place.
+fn judge_members(record: &Record<'_>) -> Result<()> {
+    let last = if record.size < crate::section::LONG_MEMBERS { 0xffff } else { 8 * LONGEST - 1 };
+    for one in record.members() {
+        if one.offset > last || one.width.unwrap_or(0) > 0xffff {
+            let name = String::from_utf8_lossy(&one.name);
+            let name = if name.is_empty() { "(anon)".into() } else { name };
+            return refuse(format!(
+                "{}: its member {name} lies at bit {}, outside of it: damage",
+                name_of(record),
+                one.offset
+            ));
+        }
+    }
+    Ok(())
+}
+
+fn name_of(record: &Record<'_>) -> String {
+    match record.tagged() {
+        name if name.is_empty() => format!("a type of kind {}", record.kind.name()),
+        name => name,
+    }
+}

@@ -1,0 +1,118 @@
+//! The symbols of which a dictionary can tell something, in the order in which it tells.
+
+use flate2::Crc;
+use std::borrow::Cow;
+
+/// The checksum's byte for an object, as ELF's `STT_OBJECT` is.
+const OBJECT: u8 = 1;
+/// That for a function.
+const FUNCTION: u8 = 2;
+/// Bytes of a symbol of ELF64, which is what the library takes.
+const ENTRY: usize = 24;
+
+/// Which symbols a dictionary's entries go by.
+#[derive(Clone, Copy, Debug, Default, PartialEq, Eq)]
+pub enum SymbolTable {
+    /// Those of `.symtab`.
+    #[default]
+    Symtab,
+    /// Those of `.dynsym`, which `strip` keeps.
+    Dynsym,
+    /// Those whose names the dictionary has itself.
+    Names,
+}
+
+impl SymbolTable {
+    /// The word for it in a dictionary's label, and the name of its section.
+    pub fn word(self) -> &'static str {
+        match self {
+            SymbolTable::Symtab => ".symtab",
+            SymbolTable::Dynsym => ".dynsym",
+            SymbolTable::Names => "names",
+        }
+    }
+
+    /// The table of a word.
+    pub fn of_word(word: &str) -> Option<SymbolTable> {
+        [SymbolTable::Symtab, SymbolTable::Dynsym, SymbolTable::Names]
+            .into_iter()
+            .find(|table| table.word() == word)
+    }
+}
+
+/// A symbol: what the debug information says of it is looked for by name and address.
+#[derive(Clone, Debug, PartialEq, Eq)]
+pub struct Symbol<'a> {
+    /// Its name.
+    pub name: Cow<'a, [u8]>,
+    /// Its address in the file.
+    pub address: u64,
+    /// Whether it is a function; else it is an object.
+    pub is_function: bool,
+}
+
+/// The symbols that a dictionary's entries go by, of a table of its file, or of none.
+#[derive(Clone, Debug, Default)]
+pub struct Symbols<'a> {
+    /// Where they are listed.
+    pub table: SymbolTable,
+    /// All of them, in the table's order.
+    pub listed: Vec<Symbol<'a>>,
+}
+
+/// What tells the symbols of a table from those of any other.
+#[derive(Clone, Copy, Debug, PartialEq, Eq)]
+pub struct Identity {
+    /// Where they are listed.
+    pub table: SymbolTable,
+    /// How many of them are objects.
+    pub objects: usize,
+    /// How many of them are functions.
+    pub functions: usize,
+    /// CRC-32 of a byte for the kind, the name and a zero for each, in their order.
+    pub checksum: u32,
+}
+
+impl<'a> Symbols<'a> {
+    /// Those that are objects.
+    pub fn objects(&self) -> impl Iterator<Item = &Symbol<'a>> {
+        self.listed.iter().filter(|one| !one.is_function)
+    }
+
+    /// Those that are functions.
+    pub fn functions(&self) -> impl Iterator<Item = &Symbol<'a>> {
+        self.listed.iter().filter(|one| one.is_function)
+    }
+
+    /// What tells them from those of any other table.
+    pub fn identity(&self) -> Identity {
+        let mut crc = Crc::new();
+        for one in &self.listed {
+            crc.update(&[if one.is_function { FUNCTION } else { OBJECT }]);
+            crc.update(&one.name);
+            crc.update(&[0]);
+        }
+        let functions = self.functions().count();
+        Identity {
+            table: self.table,
+            objects: self.listed.len() - functions,
+            functions,
+            checksum: crc.sum(),
+        }
+    }
+
+    /// A table of ELF64 for symbols that no file has, and its names.
+    pub fn made_table(&self) -> (Vec<u8>, Vec<u8>) {
+        let (mut table, mut names) = (vec![0; ENTRY], vec![0]);
+        for one in &self.listed {
+            table.extend((names.len() as u32).to_le_bytes());
+            table.extend([if one.is_function { FUNCTION } else { OBJECT }, 0]);
+            table.extend(1u16.to_le_bytes());
+            table.extend(one.address.to_le_bytes());
+            table.extend([0; 8]);
+            names.extend(&*one.name);
+            names.push(0);
+        }
+        (table, names)
+    }
+}

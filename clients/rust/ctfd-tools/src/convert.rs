@@ -1,0 +1,333 @@
+//! `ctfd-convert`: writes a program's types as a dictionary of CTF version 2.
+
+use crate::messages::{warn, LOSSY, REFUSED};
+use crate::output::{self, STANDARD_OUTPUT};
+use crate::standard;
+use clap::builder::PossibleValuesParser;
+use clap::{value_parser, Arg, ArgAction, ArgMatches, Command};
+use ctfd::Model;
+use ctfd_read::dictionary::{self, Dictionary, Parent};
+use ctfd_read::error::{refuse, Error, Result};
+use ctfd_read::image::Image;
+use ctfd_read::inputs::{plain_bytes, with_types, Form, Options, ProgramTypes};
+use ctfd_read::symbols::SymbolTable;
+use std::ffi::OsString;
+use std::path::{Path, PathBuf};
+use std::process::ExitCode;
+
+const NAME: &str = "ctfd-convert";
+/// How many lines tell losses of a user, and how to see all.
+const MOST_LINES: usize = 12;
+const ALL_LINES: &str = "--report - lists them all";
+const ABOUT: &str = "\
+Writes a program's types as a dictionary of CTF version 2.
+
+IN is an ELF file with debug information (DWARF, here or in a debug file of its own), with BTF,
+GNU's CTF or CTF, an archive of object files, or the bytes of such a section; the first of CTF, BTF,
+DWARF and GNU's CTF that it has is read. Each construct that CTF cannot represent is reported, with
+what replaces it: the status is then 1, and OUT is written. It is 2 if nothing was written, and OUT
+is as it was.";
+
+/// The command; its exit status.
+pub fn main(words: Vec<OsString>) -> ExitCode {
+    let words = Words::of(&options().get_matches_from(words));
+    if standard::is_output_closed() {
+        warn(NAME, standard::CLOSED);
+        return ExitCode::from(REFUSED);
+    }
+    match convert(&words) {
+        Ok(losses) => {
+            let lines = dictionary::notice(&losses, MOST_LINES, ALL_LINES);
+            lines.iter().for_each(|line| warn(NAME, line));
+            let is_lossy = !losses.is_empty() && !words.is_lossy;
+            ExitCode::from(if is_lossy { LOSSY } else { 0 })
+        }
+        Err(error) => {
+            warn(NAME, error);
+            ExitCode::from(REFUSED)
+        }
+    }
+}
+
+/// What a command line says.
+struct Words {
+    input: PathBuf,
+    output: PathBuf,
+    reading: Options,
+    only: Vec<String>,
+    parent: Option<PathBuf>,
+    split: Option<PathBuf>,
+    report: Option<PathBuf>,
+    is_section: bool,
+    is_self_contained: bool,
+    is_lossy: bool,
+}
+
+impl Words {
+    fn of(matches: &ArgMatches) -> Words {
+        let path = |name: &str| matches.get_one::<PathBuf>(name).cloned();
+        let word = |name: &str| matches.get_one::<String>(name).map(String::as_str);
+        let only = matches.get_many::<String>("only").unwrap_or_default();
+        Words {
+            input: path("IN").unwrap_or_default(),
+            output: path("OUT").unwrap_or_default(),
+            reading: Options {
+                model: word("model").map(|word| match word {
+                    "ilp32" => Model::Ilp32,
+                    _ => Model::Lp64,
+                }),
+                form: word("from")
+                    .and_then(|word| Form::ALL.into_iter().find(|form| form.word() == word)),
+                base: path("base"),
+                folders: matches.get_many("debug-folder").unwrap_or_default().cloned().collect(),
+                number: matches.get_one("dictionary").copied(),
+                symbols: match word("symbols") {
+                    Some("dynsym") => SymbolTable::Dynsym,
+                    _ => SymbolTable::Symtab,
+                },
+            },
+            only: only
+                .flat_map(|listed| listed.split(','))
+                .map(|name| name.trim().to_owned())
+                .filter(|name| !name.is_empty())
+                .collect(),
+            parent: path("parent"),
+            split: path("split"),
+            report: path("report"),
+            is_section: matches.get_flag("section"),
+            is_self_contained: matches.get_flag("self-contained"),
+            is_lossy: matches.get_flag("lossy"),
+        }
+    }
+
+    /// The files that are written.
+    fn outputs(&self) -> Vec<&Path> {
+        let others = [&self.split, &self.report].into_iter().flatten();
+        std::iter::once(&self.output).chain(others).map(PathBuf::as_path).collect()
+    }
+
+    /// Refuses words that contradict each other.
+    fn judge(&self) -> Result<()> {
+        if self.parent.is_some() && self.split.is_some() {
+            return refuse(
+                "--parent and --split: give one of them, for a parent that is there or one to write",
+            );
+        }
+        if self.is_section && self.split.is_some() {
+            return refuse(
+                "--section and --split: a file has one dictionary; leave --section out, and add the \
+                 sections by objcopy",
+            );
+        }
+        let outputs = self.outputs();
+        let inputs = [Some(&self.input), self.reading.base.as_ref(), self.parent.as_ref()];
+        for input in inputs.into_iter().flatten() {
+            let is_written = |out: &&Path| **out != *STANDARD_OUTPUT && is_same(input, out);
+            if outputs.iter().any(is_written) {
+                return refuse(format!(
+                    "{}: it is an input, and would be overwritten: name another file",
+                    input.display()
+                ));
+            }
+        }
+        for (place, one) in outputs.iter().enumerate() {
+            if outputs[place + 1..].iter().any(|other| is_same(one, other)) {
+                return refuse("--report, --split and OUT must be different files");
+            }
+        }
+        Ok(())
+    }
+}
+
+/// Whether two paths name one file, links followed.
+fn is_same(one: &Path, other: &Path) -> bool {
+    let real = |path: &Path| path.canonicalize().unwrap_or_else(|_| path.to_owned());
+    real(one) == real(other)
+}
+
+fn path(name: &'static str) -> Arg {
+    Arg::new(name).value_parser(value_parser!(PathBuf))
+}
+
+/// An option of one of some words, which stand apart by `|`.
+fn word(name: &'static str, listed: &'static str) -> Arg {
+    let words = PossibleValuesParser::new(listed.split('|'));
+    Arg::new(name).long(name).value_name(listed).value_parser(words).hide_possible_values(true)
+}
+
+fn flag(name: &'static str) -> Arg {
+    Arg::new(name).long(name).action(ArgAction::SetTrue)
+}
+
+fn options() -> Command {
+    let command = Command::new(NAME)
+        .version(env!("CARGO_PKG_VERSION"))
+        .about(ABOUT)
+        .max_term_width(100)
+        .infer_long_args(true)
+        .arg(
+            path("IN")
+                .required(true)
+                .help("an ELF file, an archive of object files, or a section of BTF or CTF"),
+        )
+        .arg(path("OUT").required(true).help("the dictionary to write; - is standard output"));
+    command.args(of_reading()).args(of_writing())
+}
+
+/// The options that say what is read.
+fn of_reading() -> [Arg; 7] {
+    [
+        word("from", "ctf|btf|dwarf|gnu").help("the form to read"),
+        Arg::new("dictionary")
+            .long("dictionary")
+            .value_name("N")
+            .value_parser(value_parser!(usize))
+            .help("which of several dictionaries in IN, such as ld leaves; counted from 1"),
+        path("base")
+            .long("base")
+            .value_name("FILE")
+            .help("the BTF of a module's kernel, or the parent of a child"),
+        Arg::new("only")
+            .long("only")
+            .value_name("NAMES")
+            .action(ArgAction::Append)
+            .help("only the types that these reach: 'struct list_head,size_t'"),
+        word("model", "lp64|ilp32")
+            .help("whether pointers have 8 bytes or 4; an ELF file says so itself"),
+        word("symbols", "symtab|dynsym").default_value("symtab").help(
+            "the symbol table to write for: dynsym survives strip, and has only what the program \
+             exports",
+        ),
+        path("debug-folder")
+            .long("debug-folder")
+            .value_name("FOLDER")
+            .action(ArgAction::Append)
+            .help("where to look for debug files, before /usr/lib/debug"),
+    ]
+}
+
+/// The options that say what is written.
+fn of_writing() -> [Arg; 7] {
+    [
+        path("parent").long("parent").value_name("FILE").help(
+            "a dictionary: OUT is a child of it, with only the types that it lacks",
+        ),
+        path("split").long("split").value_name("FILE").help(
+            "write the types of the base, or as many as a dictionary holds, to FILE, and the rest to \
+             OUT, a child of it",
+        ),
+        flag("section").help("OUT is a copy of the ELF file IN with the dictionary in it"),
+        flag("self-contained")
+            .help("for CTF version 2: copy names from the strings of the ELF file"),
+        path("report")
+            .long("report")
+            .value_name("FILE")
+            .help("report what was read, written and lost; - is standard output"),
+        flag("lossy").help("end with status 0 even if CTF can't hold everything"),
+        path("service")
+            .long("service")
+            .value_name("CTFD")
+            .help("for the command in Python: this one checks OUT by the library in it"),
+    ]
+}
+
+/// Runs the command; what was lost, a line each.
+fn convert(words: &Words) -> Result<Vec<String>> {
+    words.judge()?;
+    words.outputs().into_iter().try_for_each(output::judge)?;
+    rayon::ThreadPoolBuilder::new()
+        .build_global()
+        .map_err(|error| Error(format!("the threads can't be started: {error}")))?;
+    let image = Image::open(&words.input)?;
+    if words.is_section && !image.is_elf() {
+        return refuse(format!(
+            "{}: --section needs an ELF file, and this is none: leave --section out",
+            words.input.display()
+        ));
+    }
+    with_types(&image, &words.reading, |found| {
+        if !found.note.is_empty() {
+            warn(NAME, format!("{}: {}", words.input.display(), found.note));
+        }
+        let (form, count) = (found.form, found.table.len());
+        with_dictionary(words, &image, found, |mut made| {
+            let bytes = made.checked_bytes(&image, &words.output)?;
+            write(words, &made, &bytes)?;
+            if let Some(path) = &words.report {
+                let mut text = String::new();
+                for line in dictionary::report(&words.input, form, count, &made) {
+                    text.extend(line.chars().map(crate::messages::printable));
+                    text.push('\n');
+                }
+                output::write(path, text.as_bytes())?;
+            }
+            Ok(made.table.losses)
+        })
+    })
+}
+
+/// Makes the dictionary that the words want, and runs something on it.
+fn with_dictionary<T>(
+    words: &Words,
+    image: &Image,
+    found: ProgramTypes<'_>,
+    run: impl FnOnce(Dictionary<'_>) -> Result<T>,
+) -> Result<T> {
+    let is_plain = words.only.is_empty() && words.parent.is_none() && words.split.is_none();
+    if found.form == Form::Ctf && is_plain {
+        return run(plain(words, image, found)?);
+    }
+    let named = |error: Error| error.within(&words.input.display().to_string());
+    let (found, bases) = dictionary::select(found, &words.only).map_err(named)?;
+    let ProgramTypes { table, symbols, .. } = found;
+    if let Some(path) = &words.split {
+        return run(dictionary::split(dictionary::parent_name(path), table, bases, symbols)?);
+    }
+    let Some(path) = &words.parent else { return run(dictionary::alone(table, symbols)) };
+    let parent = Image::open(path)?;
+    let reading =
+        Options { model: Some(table.model()), form: Some(Form::Ctf), ..Options::default() };
+    with_types(&parent, &reading, |of_parent| {
+        if of_parent.bases != 0 {
+            return refuse(format!(
+                "{}: it is a child itself, and a parent has none",
+                path.display()
+            ));
+        }
+        let ctf = plain_bytes(&parent, None)?;
+        let name = dictionary::parent_name(path);
+        run(dictionary::child(Parent { table: of_parent.table, ctf: &ctf, name }, table, symbols)?)
+    })
+}
+
+/// A dictionary as it is, inflated; or one with its names in its own strings.
+fn plain<'a>(words: &Words, image: &Image, found: ProgramTypes<'a>) -> Result<Dictionary<'a>> {
+    let ProgramTypes { table, symbols, .. } = found;
+    let parent = match &words.reading.base {
+        Some(base) => Some(plain_bytes(&Image::open(base)?, None)?),
+        None => None,
+    };
+    let mut plain = None;
+    if !words.is_self_contained {
+        if table.has_outer_names {
+            return refuse(format!(
+                "{}: its names stand in the strings of the ELF file, which a section alone has not: \
+                 --self-contained takes them into the dictionary",
+                words.input.display()
+            ));
+        }
+        plain = Some(plain_bytes(image, words.reading.number)?);
+    }
+    Ok(Dictionary { table, symbols, parent, has_own_parent: false, plain })
+}
+
+fn write(words: &Words, made: &Dictionary<'_>, bytes: &[u8]) -> Result<()> {
+    if let (Some(path), true, Some(parent)) = (&words.split, made.has_own_parent, &made.parent) {
+        output::write(path, parent)?;
+    }
+    if words.is_section {
+        output::add_section(&words.input, bytes, &words.output)
+    } else {
+        output::write(&words.output, bytes)
+    }
+}

@@ -1,0 +1,139 @@
+//! Files that a command writes: whole, or not at all.
+
+use ctfd_read::error::{reason, refuse, Error, Result};
+use std::fs::{self, OpenOptions};
+use std::io::{ErrorKind, Write as _};
+use std::path::{Path, PathBuf};
+use std::process::Command;
+
+/// The word for standard output in place of a file's name.
+pub const STANDARD_OUTPUT: &str = "-";
+/// The status of a command whose output nobody reads, as a shell has it of SIGPIPE.
+const UNREAD: i32 = 141;
+const SECTION: &str = ".SUNW_ctf";
+/// That of GNU knows the machines that it was built for.
+const COPIERS: [&str; 2] = ["objcopy", "llvm-objcopy"];
+
+fn is_standard(path: &Path) -> bool {
+    path.as_os_str() == STANDARD_OUTPUT
+}
+
+fn error_of(path: &Path, error: &std::io::Error) -> Error {
+    Error(format!("{}: it can't be written: {}", path.display(), reason(error)))
+}
+
+/// Refuses a file that can't be written, before what is to be in it is made.
+pub fn judge(path: &Path) -> Result<()> {
+    if is_standard(path) {
+        return Ok(());
+    }
+    match fs::metadata(path) {
+        Ok(about) if about.is_dir() => {
+            refuse(format!("{}: it can't be written: it is a folder", path.display()))
+        }
+        Ok(about) if !about.is_file() => Ok(()), // a device or a pipe: to open it is to write to it
+        _ => Beside::new(path).map(drop),
+    }
+}
+
+/// Writes a file whole, or leaves what was there.
+pub fn write(path: &Path, bytes: &[u8]) -> Result<()> {
+    if is_standard(path) {
+        return print(bytes);
+    }
+    if fs::metadata(path).is_ok_and(|about| !about.is_file()) {
+        let open = || OpenOptions::new().append(true).open(path)?.write_all(bytes);
+        return open().map_err(|error| error_of(path, &error));
+    }
+    let beside = Beside::new(path)?;
+    fs::write(&beside.path, bytes)
+        .and_then(|()| fs::rename(&beside.path, path))
+        .map_err(|error| error_of(path, &error))
+}
+
+/// Writes to standard output. Where its reader has left, there is nobody to tell: the process ends.
+fn print(bytes: &[u8]) -> Result<()> {
+    let mut output = std::io::stdout().lock();
+    match output.write_all(bytes).and_then(|()| output.flush()) {
+        Err(error) if error.kind() == ErrorKind::BrokenPipe => std::process::exit(UNREAD),
+        done => done.map_err(|error| Error(format!("standard output: {}", reason(&error)))),
+    }
+}
+
+/// A new file beside another, which takes its place or goes.
+struct Beside {
+    path: PathBuf,
+}
+
+impl Beside {
+    fn new(path: &Path) -> Result<Beside> {
+        let folder = path.parent().unwrap_or(Path::new(""));
+        let process = std::process::id();
+        for turn in 0..u32::MAX {
+            let path = folder.join(format!(".ctfd-{process}-{turn}"));
+            match OpenOptions::new().write(true).create_new(true).open(&path) {
+                Ok(_) => return Ok(Beside { path }),
+                Err(error) if error.kind() == ErrorKind::AlreadyExists => {}
+                Err(error) => return Err(error_of(&folder.join(path), &error)),
+            }
+        }
+        refuse("no name is left for a file")
+    }
+}
+
+impl Drop for Beside {
+    fn drop(&mut self) {
+        let _ = fs::remove_file(&self.path); // it has taken the other's place, as a rule
+    }
+}
+
+/// Writes a copy of an ELF file with the dictionary in it, in place of one that it has.
+pub fn add_section(input: &Path, bytes: &[u8], output: &Path) -> Result<()> {
+    let folder = std::env::temp_dir();
+    let section = Beside::new(&folder.join("section"))?;
+    let copy = Beside::new(&folder.join("copy"))?;
+    fs::write(&section.path, bytes).map_err(|error| error_of(&section.path, &error))?;
+    let mut said = Vec::new();
+    for copier in COPIERS {
+        match copied(copier, input, &section.path, &copy.path) {
+            None => {}
+            Some(Ok(())) => {
+                let whole = fs::read(&copy.path).map_err(|error| error_of(&copy.path, &error))?;
+                write(output, &whole)?;
+                if !is_standard(output) && output.is_file() {
+                    let mode = fs::metadata(input)
+                        .and_then(|about| fs::set_permissions(output, about.permissions()));
+                    mode.map_err(|error| error_of(output, &error))?;
+                }
+                return Ok(());
+            }
+            Some(Err(words)) => said.push(words),
+        }
+    }
+    match said.first() {
+        Some(words) => refuse(format!("{}: objcopy failed: {words}", output.display())),
+        None => refuse("--section needs objcopy, which is not on the PATH: install binutils"),
+    }
+}
+
+/// Copies a file with a section in it; what the tool said in vain. None where it is not there.
+fn copied(
+    copier: &str,
+    input: &Path,
+    section: &Path,
+    copy: &Path,
+) -> Option<std::result::Result<(), String>> {
+    let input = input.canonicalize().unwrap_or_else(|_| input.to_owned());
+    let done = Command::new(copier)
+        .args(["--remove-section", SECTION, "--add-section"])
+        .arg(format!("{SECTION}={}", section.display()))
+        .args([input.as_path(), copy])
+        .output()
+        .ok()?;
+    if done.status.success() {
+        return Some(Ok(()));
+    }
+    let said = String::from_utf8_lossy(&done.stderr);
+    let said = said.split_whitespace().collect::<Vec<_>>().join(" ");
+    Some(Err(if said.is_empty() { "no word on why".to_owned() } else { said }))
+}

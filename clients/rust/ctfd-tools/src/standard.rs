@@ -1,0 +1,35 @@
+//! Whether standard output was closed when this process began.
+//!
+//! Rust opens `/dev/null` in place of what is closed before `main` runs, and then what is printed
+//! would be lost with status 0. So it is looked at before that, as a shared library begins.
+#![allow(unsafe_code)]
+
+use std::sync::atomic::{AtomicBool, Ordering};
+
+/// What is told of it.
+pub const CLOSED: &str =
+    "standard output is closed, so nothing can be printed: redirect it, to /dev/null if need be";
+const OUTPUT: i32 = 1;
+/// The command of `fcntl` that answers the flags of an open file, and changes nothing.
+const F_GETFD: i32 = 1;
+
+static IS_CLOSED: AtomicBool = AtomicBool::new(false);
+
+extern "C" {
+    fn fcntl(file: i32, command: i32, ...) -> i32;
+}
+
+#[used]
+#[link_section = ".init_array"]
+static BEFORE_MAIN: extern "C" fn() = look;
+
+extern "C" fn look() {
+    // SAFETY: `F_GETFD` takes no argument, and any number may stand for a file.
+    let flags = unsafe { fcntl(OUTPUT, F_GETFD) };
+    IS_CLOSED.store(flags == -1, Ordering::Relaxed);
+}
+
+/// Whether nothing can be printed.
+pub fn is_output_closed() -> bool {
+    IS_CLOSED.load(Ordering::Relaxed)
+}

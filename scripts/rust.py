@@ -1,0 +1,107 @@
+#!/usr/bin/env python3
+"""Builds the compiled commands in Rust, over the library that is built.
+
+usage: scripts/rust.py [--quiet] [CARGO-WORD..]
+
+Without words it builds clients/rust/target/release/ctfd-tools, and beside it a link for each command
+that it is. With words it runs cargo with these: `scripts/rust.py test`.
+
+The crates that these stand on are taken from Debian's packages (librust-*-dev) where they are
+installed, else from the folder clients/rust/vendor that a release has, else from crates.io. Needs
+cargo and rustc 1.82 or later; without them, or without the crates, nothing is built, and a line says
+so.
+"""
+from __future__ import annotations
+
+import os
+import re
+import shutil
+import subprocess
+import sys
+from pathlib import Path
+from typing import Optional, Sequence
+
+TOP = Path(__file__).resolve().parents[1]
+WORKSPACE = TOP / "clients" / "rust"
+ARCHIVE = TOP / "crates" / "ctf_c" / "out" / "libctfd.a"
+PROGRAM = "ctfd-tools"
+COMMANDS = ("ctfd-convert",)
+DEBIAN = Path("/usr/share/cargo/registry")
+# The packages of Debian with what the crates name, which bring what these name themselves.
+PACKAGES = tuple(f"librust-{name}-dev" for name in ("ahash-0.7", "clap", "flate2", "gimli",
+                                                    "object", "rayon", "smallvec"))
+LEAST = (1, 82)
+
+
+class NotBuilt(Exception):
+    """What is missing here."""
+
+
+def sources() -> list[str]:
+    """The words for cargo that say where crates come from."""
+    if list(DEBIAN.glob("gimli-*")):
+        return [*_replaced("debian", DEBIAN), "--offline"]
+    vendor = WORKSPACE / "vendor"
+    return [*_replaced("vendored", vendor), "--offline"] if vendor.is_dir() else []
+
+
+def _replaced(name: str, folder: Path) -> list[str]:
+    return ["--config", f'source.crates-io.replace-with="{name}"',
+            "--config", f'source.{name}.directory="{folder}"']
+
+
+def cargo() -> str:
+    """The program cargo. Raises NotBuilt."""
+    found = shutil.which("cargo")
+    if not found:
+        raise NotBuilt("there is no cargo: install Rust 1.82 or later")
+    said = subprocess.run([found, "--version"], capture_output=True, text=True, check=False)
+    version = re.search(r"(\d+)\.(\d+)", said.stdout)
+    if not version or (int(version[1]), int(version[2])) < LEAST:
+        raise NotBuilt(f"cargo is {said.stdout.strip() or 'not installed'}: install Rust 1.82 or"
+                       " later")
+    return found
+
+
+def run(words: Sequence[str], archive: Optional[Path] = None) -> int:
+    """Runs cargo in the workspace; its status. Raises NotBuilt."""
+    environment = dict(os.environ)
+    if "DOCS_RS" not in environment:
+        environment.setdefault("CTFD_ARCHIVE", str(archive or ARCHIVE))
+    command = [cargo(), words[0], *sources(), *words[1:]]
+    return subprocess.run(command, cwd=WORKSPACE, env=environment, check=False).returncode
+
+
+def folder() -> Path:
+    """Where the compiled commands are."""
+    return Path(os.environ.get("CARGO_TARGET_DIR") or WORKSPACE / "target") / "release"
+
+
+def build(*words: str) -> Path:
+    """Builds the commands; the folder with them. Raises NotBuilt."""
+    if run(["build", "--release", "--package", PROGRAM, *words]) != 0:
+        raise NotBuilt("cargo has failed: are all of Debian's packages installed that"
+                       f" scripts/rust.py needs ({' '.join(PACKAGES)})?")
+    for name in COMMANDS:
+        link = folder() / name
+        link.unlink(missing_ok=True)
+        link.symlink_to(PROGRAM)
+    return folder()
+
+
+def main() -> int:
+    words = sys.argv[1:]
+    try:
+        if words and words[0] not in ("--quiet", "-h", "--help"):
+            return run(words)
+        if words[:1] in (["-h"], ["--help"]):
+            print(__doc__)
+            return 0
+        print(f"{build(*words)}: the compiled commands, {', '.join(COMMANDS)}")
+    except NotBuilt as why:
+        print(f"without the compiled commands: {why}", file=sys.stderr)
+    return 0
+
+
+if __name__ == "__main__":
+    sys.exit(main())
