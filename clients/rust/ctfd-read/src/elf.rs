@@ -327,7 +327,7 @@ pub fn symbols_of<'a>(image: &'a Image, table: SymbolTable) -> Result<Option<Sym
 }
 
 /// A symbol table and its strings as the library takes them: tables of 64 bits alone.
-pub fn symbol_lists<'a>(image: &'a Image, table: SymbolTable) -> Option<(&'a [u8], &'a [u8])> {
+pub fn symbol_lists(image: &Image, table: SymbolTable) -> Option<(&[u8], &[u8])> {
     let data = image.data();
     let header = elf::FileHeader64::<Endianness>::parse(data).ok()?;
     let endian = header.endian().ok()?;

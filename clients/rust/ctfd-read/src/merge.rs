@@ -35,9 +35,9 @@ pub fn merge(table: &mut Table<'_>, fixed: u32) {
             let keeps = |n: usize, to: u32| {
                 to != n as u32 && left > 1 && !ambiguous.contains(&tag(&table.records[n - 1]))
             };
-            for n in 1..resolved.len() {
-                if !keeps(n, resolved[n]) {
-                    resolved[n] = n as u32;
+            for (n, to) in resolved.iter_mut().enumerate().skip(1) {
+                if !keeps(n, *to) {
+                    *to = n as u32;
                 }
             }
             None
