@@ -37,7 +37,7 @@ FOR_USERS = {
     "docs/LIMITS.md": 1470,
     "docs/PROTOCOL.md": 6670,
     "docs/SERVING.md": 3470,
-    "docs/THEOREM.md": 1400,
+    "docs/THEOREM.md": 1600,
 }
 FOR_MAINTAINERS = {
     "docs/ARCHITECTURE.md": 4670,
