@@ -74,10 +74,10 @@ def parts(program: str) -> list[Part]:
         Part("shown", [python, "tests/shown.py", program], after=of_library),
         Part("lending", ["tests/lending.sh"], after=of_library),
         Part("client", [python, "-m", "unittest", "discover", "-v", "-s", "tests", "-t", "."],
-             CLIENT, over),
+             CLIENT, over, ("compiled",)),
         # The same tests over the library in process, where the parts above ask a `ctfd serve`.
         Part("client_in_process", ["bash", "-c", IN_PROCESS, python], CLIENT,
-             {**over, "CTFD_LIBRARY": str(library())}, of_library),
+             {**over, "CTFD_LIBRARY": str(library())}, ("archive", "compiled")),
         Part("front", ["tests/front.sh", program], is_alone=True),
         Part("gdb", ["tests/gdb.sh", program]),
         Part("drgn", [with_package("drgn"), "-m", "unittest", "-v", "tests.test_drgn"],

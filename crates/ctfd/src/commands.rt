@@ -112,17 +112,14 @@ fn tell(rt: &HostRuntime, error: &Error) -> u8 {
     if error.kind() == ErrorKind::OutOfMemory {
         return end(rt, Err(RunFault::Memory));
     }
-    if matches!(
-        error.kind(),
-        ErrorKind::DisplayHelp | ErrorKind::DisplayVersion
-    ) {
-        return match error.print(rt) {
-            Ok(()) => usage_status(error.kind()),
-            Err(_) => end(rt, Err(RunFault::Write)),
-        };
+    let printed = match error.kind() {
+        ErrorKind::DisplayHelp | ErrorKind::DisplayVersion => error.print(rt),
+        _ => complain(rt, error),
+    };
+    match printed {
+        Ok(()) => usage_status(error.kind()),
+        Err(_) => end(rt, Err(RunFault::Write)),
     }
-    complain(rt, error);
-    usage_status(error.kind())
 }
 
 /// Does what the words say, and answers the exit status.

@@ -96,7 +96,7 @@ pub fn run(rt: &HostRuntime, words: &ArgMatches<'_>) -> u8 {
         Ok(status) => status,
         Err(end) => {
             let status = end.status();
-            complain(rt, format_args!("ctfd: {end}\n"));
+            let _ = complain(rt, format_args!("ctfd: {end}\n"));
             status
         }
     }

@@ -35,10 +35,10 @@ impl<W: Write> Write for Printable<W> {
     }
 }
 
-/// Writes a text to standard error. Where that can't be written nobody can be told.
-pub fn complain<D: Display + Drop>(rt: &HostRuntime, text: D) {
+/// Writes a text to standard error.
+pub fn complain<D: Display + Drop>(rt: &HostRuntime, text: D) -> io::Result<()> {
     let mut errors = Printable {
         writer: rt.stderr(),
     };
-    let _ = write!(errors, "{text}");
+    write!(errors, "{text}")
 }

@@ -19,7 +19,7 @@ pub fn run(rt: &HostRuntime, words: &ArgMatches<'_>) -> u8 {
         }
         Err(why) => {
             let status = why.status();
-            complain(rt, format_args!("ctfd: {why}\n"));
+            let _ = complain(rt, format_args!("ctfd: {why}\n"));
             status
         }
     }
