@@ -3,7 +3,7 @@ from __future__ import annotations
 
 import unittest
 
-from .support import COMMANDS, Case, run, tool
+from .support import COMMANDS, SERVICE, Case, run, tool
 
 
 class Help(Case):
@@ -13,6 +13,15 @@ class Help(Case):
                 done = run(tool(name), word)
                 self.assert_tame(done, (name, word))
                 self.assertEqual(done.status, status, (name, word, done.text))
+
+    def test_words_are_shown_and_not_obeyed(self) -> None:
+        """The service's own messages have no control characters of names and words."""
+        for words in (("dump", "\x1b[31mred"), ("serve", "own=\x1b[2J"),
+                      ("\x1b[2J",), ("dump", "--model", "\x07", "x")):
+            done = run(SERVICE, *words)
+            self.assert_tame(done, words)
+            self.assertIn(done.status, (1, 2, 3), (words, done.text))
+            self.assertIn("?", done.errors)
 
 
 if __name__ == "__main__":
